@@ -1,0 +1,7 @@
+pub mod Columns
+pub mod Number
+pub mod Numbered
+pub mod Names
+pub mod Rows
+pub mod Records
+pub mod Tables

@@ -1,0 +1,64 @@
+//! Rows of whole numbers.
+ghost use Rattle.std.specs.Prelude.{◌≡◌, ◌<◌, ◌≤◌, ℕ, ℤ, pos, length, slice_index_or, MatchResult, Ok, Err};
+ghost use Rattle.pref_table.specs.Numbered.{all_from};
+ghost use Rattle.pref_table.specs.Rows.{cell_in, line_row, numbers_row};
+
+use crate::fault::TableFault;
+use crate::number::{NumberFault, number};
+use crate::schema::{MAX_COLUMNS, Schema};
+use std::marker::Model;
+
+/// A row: 16 numbers from -2^63 to 2^63 - 1, those past the schema's width 0. Contracts see the list of them.
+#[derive(Clone, Copy, Debug, PartialEq, Eq)]
+pub struct Row {
+    cells: [i64; 16],
+}
+
+impl Model for Row {
+    ghost use Rattle.std.specs.Prelude.{List, ℤ, length, ◌≡◌};
+
+    ghost Value = { List ℤ };
+
+    ghost view = { λ row. row.cells };
+
+    ghost invariant = { λ row. length row.cells ≡ 16 };
+
+    ghost inverse = { λ cells. record { cells = cells } };
+}
+
+impl Row {
+    /// The row of these numbers, one for each column of the schema. Takes no memory.
+    ///
+    /// Refused `Width { row: 0 }` where there are more or fewer numbers than columns.
+    pub fn of(schema: &Schema, numbers: &[i64]) -> Result<Row, TableFault>
+        ensures { result ≡ numbers_row (length schema.now) numbers.now }
+    {
+        let width = schema.width();
+        if numbers.len() != width {
+            return Err(TableFault::Width { row: 0 });
+        }
+        let mut cells = [0; MAX_COLUMNS];
+        cells[..width].copy_from_slice(numbers);
+        Ok(Row { cells })
+    }
+
+    /// The number in a column, which counts from 0.
+    pub fn cell(&self, col: usize) -> i64
+        requires { col < 16 }
+        ensures value { result ≡ slice_index_or self.now col (pos 0) }
+        ensures sixteen { length self.now ≡ 16 }
+    {
+        self.cells[col]
+    }
+}
+
+/// The number of a field, which stands in this row and column.
+pub(crate) fn cell_at(row: u64, col: u64, field: &[u8]) -> Result<i64, TableFault>
+    ensures { result ≡ cell_in row col field.now }
+{
+    match number(field) {
+        Ok(number) => Ok(number),
+        Err(NumberFault::NotWhole) => Err(TableFault::NotWhole { row, col }),
+        Err(NumberFault::OutOfRange) => Err(TableFault::OutOfRange { row, col }),
+    }
+}
