@@ -1,0 +1,438 @@
+-- What the parts of the reader promise that read what stands around a term, and skyline clauses.
+use Rattle.std.proofs.Common.{◌≡◌, ◌<◌, ◌≤◌, ◌+◌, ℕ, List, [], ◌∷◌, ◌++◌, length, map, fold, Bool, true, false, Option, Some, None, Result, Ok, Err, refl, sym, ap, subst, ◌∙◌, append-nil}
+use Rattle.std.specs.Prelude.{All, ◌≢◌, IfSome, cond, unwrap_or}
+use Rattle.std.specs.List.{flat_map}
+use Rattle.std.specs.Option.{option_map}
+use Rattle.std.proofs.lemmas.List.{map-append}
+use Rattle.std.proofs.lemmas.List.Elements.{All-append, All-nil}
+use Rattle.std.proofs.lemmas.List.Sums.{fold-append}
+use Rattle.std.proofs.lemmas.Grind.{flat_map-append}
+use Rattle.pref_table.specs.Columns.{column_of}
+use Rattle.pref_term.specs.Token.{Sign, comma, star, ampersand, Token, word, digits, sign, finish, Placed}
+use Rattle.pref_term.specs.Grammar.{Keyword, best_word, top_level_word, at_least_word, by_word, keyword_of, CasedWord, skyline_word, of_word, cased_of, Direction, minimal, maximal, different, direction_word, DimText, HeadText, best_head, top_level_head, at_least_head, PriorText, one_product, then_product, AskText, rated, skyline, Leaf, name, mark, column_name, count_digits, cased, last}
+use Rattle.pref_term.specs.Spells.{Names, UnlessMemory, own_fault, column_at, decimal_value, is_count, mode_of, order_by, group_by, orders_of, groups_of, product_of, prior_meaning, question, bad_count}
+use Rattle.pref_term.specs.Reading.{State, start, operand, first_factor, first_product, whole, in_whole, after, ranked, top_level_named, at_least_named, group_due, group_listed, skyline_named, dim_due, dim_named, dims_listed, done, listed_column, listed_dim, directed, begun, of_named, grouped_by, next, run, led, judged}
+use Rattle.pref_term.specs.Asked.{ordered, meant}
+use Rattle.pref_term.specs.Led.{Goes, Fails, IsOther, Passes, NotNext, IsNoWord, LacksWord, IsKnown, IsTermOf, IsColumn, WantsColumn, TakesColumn, FailsColumn, ReadsPrior, FailsPrior, Asks, AsksNothing, IsNoDigits, WantsCount, TakesCount, FailsCount, left_over, behind_column, ReadsGroupColumn, FailsGroupColumn, ReadsColumns, FailsColumns, ReadsGrouping, FailsGrouping, TakesDirection, FailsDirection, behind_dim, ReadsDim, FailsDim, joined, with_order, ReadsDims, ReadsClause, FailsClause, PassesOf, FailsOf}
+use Rattle.pref_term.specs.Preference.{Preference, scored, low, high, pareto, prior, reverse}
+use Rattle.pref_term.specs.Columns.{ReadsBelow}
+use Rattle.pref_term.specs.Writable.{IsWritable}
+use Rattle.pref_term.specs.Question.{Question, FitsWidth, IsAsk, IsCount, cut_of}
+use Rattle.pref_term.specs.declared.ask.Mode.{Mode}
+use Rattle.pref_term.specs.declared.ask.Mode.TheVariants.{Best, TopLevel, AtLeast}
+use Rattle.pref_term.specs.declared.fault.TermFault.{TermFault}
+use Rattle.pref_term.specs.declared.fault.TermFault.TheVariants.{Unexpected, OutOfMemory, NoMinOrMax}
+use Rattle.pref_term.proofs.Complete.{ranked_whole}
+use Rattle.pref_term.proofs.LedLemmas.{at_place, goes_then, goes_fails, passes_goes, stuck_fails, column_good, unless_map, all_one}
+
+-- ---- a column of a group
+
+wants_group : (head : HeadText) (r : PriorText) (some : List (List ℕ)) → WantsColumn (group_due head r some) (λ letters. listed_column head r some letters)
+wants_group head r some = record { takes = λ letters. refl; only = only }
+  where
+    only : (t : Token) → IsNoWord t → next (group_due head r some) t ≡ None
+    only (word letters) n = absurd n
+    only _ n = refl
+
+column_goes : (names : Names) (ts us : List Placed) (col : ℕ) (s : State) (behind : List ℕ → State) → WantsColumn s behind → (t : TakesColumn names ts col us) → Goes names s ts (behind t.letters) us
+column_goes names ts us col s behind w t = passes_goes names (word t.letters) ts us s (behind t.letters) (column_name t.letters) t.passes (w.takes t.letters) (column_good names t.letters col t.found.place)
+
+group_comma : (head : HeadText) (r : PriorText) (some : List (List ℕ)) (letters : List ℕ) → next (listed_column head r some letters) (sign comma) ≡ Some (mark comma, group_due head r (some ++ letters ∷ []))
+group_comma head r [] letters = refl
+group_comma head r (c ∷ cs) letters = refl
+
+group_finish : (head : HeadText) (r : PriorText) (some : List (List ℕ)) (letters : List ℕ) → next (listed_column head r some letters) finish ≡ Some (last, done (rated head r (some ++ letters ∷ [])))
+group_finish head r [] letters = refl
+group_finish head r (c ∷ cs) letters = refl
+
+group_stuck : (head : HeadText) (r : PriorText) (some : List (List ℕ)) (letters : List ℕ) (u : Token) → u ≢ sign comma → u ≢ finish → next (listed_column head r some letters) u ≡ None
+group_stuck head r [] letters (sign comma) nc nf = absurd (nc refl)
+group_stuck head r [] letters finish nc nf = absurd (nf refl)
+group_stuck head r [] letters _ nc nf = refl
+group_stuck head r (c ∷ cs) letters (sign comma) nc nf = absurd (nc refl)
+group_stuck head r (c ∷ cs) letters finish nc nf = absurd (nf refl)
+group_stuck head r (c ∷ cs) letters _ nc nf = refl
+
+pub group_more : (names : Names) (ts us vs : List Placed) (col : ℕ) → TakesColumn names ts col us → Passes (sign comma) us vs → ReadsGroupColumn names ts col true vs
+group_more names ts us vs col t c =
+    record {
+      letters = t.letters;
+      found = t.found;
+      goes = λ head r some. goes_then names _ _ _ ts us vs (column_goes names ts us col _ _ (wants_group head r some) t)
+          (passes_goes names (sign comma) us vs _ _ (mark comma) c (group_comma head r some t.letters) refl);
+    }
+
+pub group_last : (names : Names) (ts us vs : List Placed) (col at : ℕ) → TakesColumn names ts col us → us ≡ at_place finish at ∷ [] → ReadsGroupColumn names ts col false vs
+group_last names ts us vs col at t e =
+    record {
+      letters = t.letters;
+      found = t.found;
+      goes = λ head r some. goes_then names _ (listed_column head r some t.letters) (done (rated head r (some ++ t.letters ∷ []))) ts us [] (column_goes names ts us col _ _ (wants_group head r some) t)
+          (passes_goes names finish us [] (listed_column head r some t.letters) (done (rated head r (some ++ t.letters ∷ []))) last (at, e) (group_finish head r some t.letters) refl);
+    }
+
+pub group_column_fails : (names : Names) (ts : List Placed) (f : TermFault) → FailsColumn names ts f → FailsGroupColumn names ts f
+group_column_fails names ts f h head r some = h (group_due head r some) (λ letters. listed_column head r some letters) (wants_group head r some)
+
+pub group_end_fails : (names : Names) (ts us vs : List Placed) (col : ℕ) (t : Token) (at : ℕ) → TakesColumn names ts col us → us ≡ at_place t at ∷ vs → t ≢ sign comma → t ≢ finish → FailsGroupColumn names ts (Unexpected at)
+group_end_fails names ts us vs col t at k e nc nf head r some =
+    goes_fails names _ _ ts us (Unexpected at) (column_goes names ts us col _ _ (wants_group head r some) k)
+    (stuck_fails names t at vs us _ e (group_stuck head r some k.letters t nc nf))
+
+-- ---- the columns of a group
+
+pub columns_none : (names : Names) (ts : List Placed) → ReadsColumns names ts [] true ts
+columns_none names ts = record { some = []; meaning = refl; known = All-nil (IsKnown names); goes = λ head r p. (p, refl) }
+
+column_is : (names : Names) (letters : List ℕ) (col : ℕ) → IsColumn names letters col → column_at names letters ≡ col
+column_is names letters col h = ap (λ o. unwrap_or o 0) h.place
+
+mapped_more : (names : Names) (some : List (List ℕ)) (letters : List ℕ) (columns : List ℕ) (col : ℕ) → map (column_at names) some ≡ columns → column_at names letters ≡ col → map (column_at names) (some ++ letters ∷ []) ≡ columns ++ col ∷ []
+mapped_more names some letters columns col e f = map-append (column_at names) some (letters ∷ []) ∙ (ap (λ xs. xs ++ column_at names letters ∷ []) e ∙ ap (λ x. columns ++ x ∷ []) f)
+
+pub columns_more : (names : Names) (ts us vs : List Placed) (columns : List ℕ) (col : ℕ) (more : Bool) → ReadsColumns names ts columns true us → ReadsGroupColumn names us col more vs → ReadsColumns names ts (columns ++ col ∷ []) more vs
+columns_more names ts us vs columns col more r l =
+    record {
+      some = r.some ++ l.letters ∷ [];
+      meaning = mapped_more names r.some l.letters columns col r.meaning (column_is names l.letters col l.found);
+      known = All-append (IsKnown names) columns (col ∷ []) r.known (all_one (IsKnown names) col l.found.known);
+      goes = λ head p. goes_then names _ _ _ ts us (left_over more vs) (r.goes head p) (l.goes head p r.some);
+    }
+
+pub columns_fail : (names : Names) (ts us : List Placed) (columns : List ℕ) (f : TermFault) → ReadsColumns names ts columns true us → FailsGroupColumn names us f → FailsColumns names ts f
+columns_fail names ts us columns f r l head p = goes_fails names _ _ ts us f (r.goes head p) (l head p r.some)
+
+-- ---- the group
+
+ranked_by_word : (head : HeadText) (r : PriorText) (letters : List ℕ) → keyword_of letters ≡ Some by_word → next (ranked (whole head) r) (word letters) ≡ Some (name by_word, group_due head r [])
+ranked_by_word head (one_product p) letters e = ap (grouped_by (whole head) (one_product p)) e
+ranked_by_word head (then_product r p) letters e = ap (grouped_by (whole head) (then_product r p)) e
+
+pub grouping_none : (names : Names) (ts : List Placed) (at : ℕ) → ts ≡ at_place finish at ∷ [] → ReadsGrouping names ts []
+grouping_none names ts at e =
+    record {
+      some = [];
+      meaning = refl;
+      known = All-nil (IsKnown names);
+      goes = λ head r p. let g = passes_goes names finish ts [] (ranked (whole head) r) (done (rated head r [])) last (at, e) (ranked_whole head r) refl p in g.1;
+    }
+
+pub grouping_read : (names : Names) (letters : List ℕ) (ts us : List Placed) (columns : List ℕ) → Passes (word letters) ts us → keyword_of letters ≡ Some by_word → ReadsColumns names us columns false [] → ReadsGrouping names ts columns
+grouping_read names letters ts us columns c e r =
+    record {
+      some = r.some;
+      meaning = r.meaning;
+      known = r.known;
+      goes = λ head p q. let g = goes_then names (ranked (whole head) p) (group_due head p []) (done (rated head p r.some)) ts us [] (passes_goes names (word letters) ts us (ranked (whole head) p) (group_due head p []) (name by_word) c (ranked_by_word head p letters e) refl) (r.goes head p) q in g.1;
+    }
+
+pub grouping_fails : (names : Names) (letters : List ℕ) (ts us : List Placed) (f : TermFault) → Passes (word letters) ts us → keyword_of letters ≡ Some by_word → FailsColumns names us f → FailsGrouping names ts f
+grouping_fails names letters ts us f c e r ns na head p =
+    goes_fails names _ _ ts us f (passes_goes names (word letters) ts us (ranked (whole head) p) (group_due head p []) (name by_word) c (ranked_by_word head p letters e) refl) (r head p)
+
+-- ---- what stands behind a head
+
+goes_asks : (names : Names) (s m : State) (ts us : List Placed) (q : Question) → Goes names s ts m us → Asks names m us q → Asks names s ts q
+goes_asks names s m ts us q h k p = let a = h p in ap (meant names) a.1 ∙ k a.0
+
+goes_asks_nothing : (names : Names) (s m : State) (ts us : List Placed) (f : TermFault) → Goes names s ts m us → AsksNothing names m us f → AsksNothing names s ts f
+goes_asks_nothing names s m ts us f h k = unless_map f (λ k p. let a = h p in ap (meant names) a.1 ∙ k a.0) k
+
+fails_asks : (names : Names) (s : State) (ts : List Placed) (f : TermFault) → Fails names s ts f → AsksNothing names s ts f
+fails_asks names s ts f h = unless_map f (λ k p. ap (meant names) (k p)) h
+
+pub rated_read : (names : Names) (ts us : List Placed) (p : Preference) (group : List ℕ) (mode : Mode) → ReadsPrior names 0 ts p us → ReadsGrouping names us group → (head : HeadText) → mode_of head ≡ mode → Asks names (operand (in_whole head)) ts (record { preference = p; group = group; mode = mode })
+rated_read names ts us p group mode r g head e =
+    goes_asks names _ (ranked (whole head) r.products.tree) ts us _ (r.products.goes (whole head) refl)
+    (λ k. ap (meant names) (g.goes head r.products.tree k)
+    ∙ (ap (λ x. Ok (record { preference = x; group = map (column_at names) g.some; mode = mode_of head })) r.products.meaning
+    ∙ (ap (λ x. Ok (record { preference = p; group = x; mode = mode_of head })) g.meaning
+    ∙ ap (λ x. Ok (record { preference = p; group = group; mode = x })) e)))
+
+pub rated_prior_fails : (names : Names) (ts : List Placed) (f : TermFault) → FailsPrior names 0 ts f → (head : HeadText) → AsksNothing names (operand (in_whole head)) ts f
+rated_prior_fails names ts f h head = fails_asks names _ ts f (h (whole head) refl)
+
+pub rated_group_fails : (names : Names) (ts us : List Placed) (p : Preference) (f : TermFault) → ReadsPrior names 0 ts p us → FailsGrouping names us f → (head : HeadText) → AsksNothing names (operand (in_whole head)) ts f
+rated_group_fails names ts us p f r g head =
+    fails_asks names _ ts f (goes_fails names _ _ ts us f (r.products.goes (whole head) refl) (g r.stops r.stops_too head r.products.tree))
+
+-- ---- dimensions
+
+wants_dim : (s o : List ℕ) (some : List DimText) → WantsColumn (dim_due s o some) (λ letters. dim_named s o some letters)
+wants_dim s o some = record { takes = λ letters. refl; only = only }
+  where
+    only : (t : Token) → IsNoWord t → next (dim_due s o some) t ≡ None
+    only (word letters) n = absurd n
+    only _ n = refl
+
+abbrev dim_of : List ℕ → Direction → List ℕ → DimText
+dim_of column direction written = record { column = column; direction = direction; written = written }
+
+direction_next : (s o : List ℕ) (some : List DimText) (column letters : List ℕ) (d : Direction) → directed s o some column letters (Some (direction_word d)) ≡ Some (cased (direction_word d) letters, listed_dim s o some (dim_of column d letters))
+direction_next s o some column letters minimal = refl
+direction_next s o some column letters maximal = refl
+direction_next s o some column letters different = refl
+
+direction_goes : (names : Names) (ts us : List Placed) (d : Direction) (s o : List ℕ) (some : List DimText) (column : List ℕ) → (t : TakesDirection ts d us) → Goes names (dim_named s o some column) ts (listed_dim s o some (dim_of column d t.letters)) us
+direction_goes names ts us d s o some column t =
+    passes_goes names (word t.letters) ts us _ _ (cased (direction_word d) t.letters) t.passes (ap (directed s o some column t.letters) t.found ∙ direction_next s o some column t.letters d) refl
+
+dim_comma : (s o : List ℕ) (some : List DimText) (d : DimText) → next (listed_dim s o some d) (sign comma) ≡ Some (mark comma, dim_due s o (some ++ d ∷ []))
+dim_comma s o [] d = refl
+dim_comma s o (e ∷ es) d = refl
+
+dim_finish : (s o : List ℕ) (some : List DimText) (d : DimText) → next (listed_dim s o some d) finish ≡ Some (last, behind_dim s o (some ++ d ∷ []) false)
+dim_finish s o [] d = refl
+dim_finish s o (e ∷ es) d = refl
+
+dim_stuck : (s o : List ℕ) (some : List DimText) (d : DimText) (u : Token) → u ≢ sign comma → u ≢ finish → next (listed_dim s o some d) u ≡ None
+dim_stuck s o [] d (sign comma) nc nf = absurd (nc refl)
+dim_stuck s o [] d finish nc nf = absurd (nf refl)
+dim_stuck s o [] d _ nc nf = refl
+dim_stuck s o (e ∷ es) d (sign comma) nc nf = absurd (nc refl)
+dim_stuck s o (e ∷ es) d finish nc nf = absurd (nf refl)
+dim_stuck s o (e ∷ es) d _ nc nf = refl
+
+two_goes : (names : Names) (ts us vs : List Placed) (col : ℕ) (d : Direction) (s o : List ℕ) (some : List DimText) → (t : TakesColumn names ts col us) → (g : TakesDirection us d vs) → Goes names (dim_due s o some) ts (listed_dim s o some (dim_of t.letters d g.letters)) vs
+two_goes names ts us vs col d s o some t g =
+    goes_then names _ (dim_named s o some t.letters) _ ts us vs (column_goes names ts us col _ _ (wants_dim s o some) t) (direction_goes names us vs d s o some t.letters g)
+
+pub dim_more : (names : Names) (ts us vs ws : List Placed) (col : ℕ) (d : Direction) → TakesColumn names ts col us → TakesDirection us d vs → Passes (sign comma) vs ws → ReadsDim names ts col d true ws
+dim_more names ts us vs ws col d t g c =
+    record {
+      dim = dim_of t.letters d g.letters;
+      said = refl;
+      found = t.found;
+      goes = λ s o some. goes_then names _ _ _ ts vs ws (two_goes names ts us vs col d s o some t g)
+          (passes_goes names (sign comma) vs ws _ _ (mark comma) c (dim_comma s o some (dim_of t.letters d g.letters)) refl);
+    }
+
+pub dim_last : (names : Names) (ts us vs ws : List Placed) (col : ℕ) (d : Direction) (at : ℕ) → TakesColumn names ts col us → TakesDirection us d vs → vs ≡ at_place finish at ∷ [] → ReadsDim names ts col d false ws
+dim_last names ts us vs ws col d at t g e =
+    record {
+      dim = dim_of t.letters d g.letters;
+      said = refl;
+      found = t.found;
+      goes = λ s o some. goes_then names _ _ _ ts vs [] (two_goes names ts us vs col d s o some t g)
+          (passes_goes names finish vs [] _ _ last (at, e) (dim_finish s o some (dim_of t.letters d g.letters)) refl);
+    }
+
+pub dim_column_fails : (names : Names) (ts : List Placed) (f : TermFault) → FailsColumn names ts f → FailsDim names ts f
+dim_column_fails names ts f h s o some = h (dim_due s o some) (λ letters. dim_named s o some letters) (wants_dim s o some)
+
+pub dim_direction_fails : (names : Names) (ts us : List Placed) (col : ℕ) (f : TermFault) → TakesColumn names ts col us → FailsDirection us f → FailsDim names ts f
+dim_direction_fails names ts us col f t h s o some =
+    goes_fails names _ _ ts us f (column_goes names ts us col _ _ (wants_dim s o some) t) (h names s o some t.letters)
+
+pub dim_end_fails : (names : Names) (ts us vs ws : List Placed) (col : ℕ) (d : Direction) (u : Token) (at : ℕ) → TakesColumn names ts col us → TakesDirection us d vs → vs ≡ at_place u at ∷ ws → u ≢ sign comma → u ≢ finish → FailsDim names ts (Unexpected at)
+dim_end_fails names ts us vs ws col d u at t g e nc nf s o some =
+    goes_fails names _ _ ts vs (Unexpected at) (two_goes names ts us vs col d s o some t g)
+    (stuck_fails names u at ws vs _ e (dim_stuck s o some (dim_of t.letters d g.letters) u nc nf))
+
+-- ---- some dimensions
+
+pub dims_none : (names : Names) (ts : List Placed) → ReadsDims names ts None [] true ts
+dims_none names ts = record { dims = []; product_is = refl; group_is = refl; product_known = tt; group_known = All-nil (IsKnown names); goes = λ s o p. (p, refl) }
+
+product_more : (orders : List Preference) (d : Direction) (col : ℕ) → product_of (orders ++ order_by d col) ≡ with_order (product_of orders) d col
+product_more [] minimal col = refl
+product_more [] maximal col = refl
+product_more [] different col = refl
+product_more (p ∷ ps) minimal col = ap Some (fold-append pareto p ps (scored (low col) ∷ []))
+product_more (p ∷ ps) maximal col = ap Some (fold-append pareto p ps (scored (high col) ∷ []))
+product_more (p ∷ ps) different col = ap product_of (append-nil (p ∷ ps))
+
+product_known_more : (names : Names) (product : Option Preference) (d : Direction) (col : ℕ) → IsKnown names col → IfSome product (IsTermOf names) → IfSome (with_order product d col) (IsTermOf names)
+product_known_more names None minimal col k h = (k, tt)
+product_known_more names None maximal col k h = (k, tt)
+product_known_more names None different col k h = h
+product_known_more names (Some p) minimal col k h = (h, (k, tt))
+product_known_more names (Some p) maximal col k h = (h, (k, tt))
+product_known_more names (Some p) different col k h = h
+
+group_known_more : (names : Names) (group : List ℕ) (d : Direction) (col : ℕ) → IsKnown names col → All (IsKnown names) group → All (IsKnown names) (group ++ group_by d col)
+group_known_more names group minimal col k h = subst (All (IsKnown names)) (sym (append-nil group)) h
+group_known_more names group maximal col k h = subst (All (IsKnown names)) (sym (append-nil group)) h
+group_known_more names group different col k h = All-append (IsKnown names) group (col ∷ []) h (all_one (IsKnown names) col k)
+
+orders_more : (names : Names) (dims : List DimText) (dim : DimText) (product : Option Preference) (d : Direction) (col : ℕ) → product_of (orders_of names dims) ≡ product → dim.direction ≡ d → column_at names dim.column ≡ col → product_of (orders_of names (dims ++ dim ∷ [])) ≡ with_order product d col
+orders_more names dims dim product d col e f g =
+    ap product_of (flat_map-append (λ x. order_by x.direction (column_at names x.column)) dims (dim ∷ []) ∙ ap (λ xs. orders_of names dims ++ xs) (append-nil (order_by dim.direction (column_at names dim.column))))
+    ∙ (product_more (orders_of names dims) dim.direction (column_at names dim.column)
+    ∙ (ap (λ x. with_order x dim.direction (column_at names dim.column)) e ∙ (ap (λ x. with_order product x (column_at names dim.column)) f ∙ ap (with_order product d) g)))
+
+groups_more : (names : Names) (dims : List DimText) (dim : DimText) (group : List ℕ) (d : Direction) (col : ℕ) → groups_of names dims ≡ group → dim.direction ≡ d → column_at names dim.column ≡ col → groups_of names (dims ++ dim ∷ []) ≡ group ++ group_by d col
+groups_more names dims dim group d col e f g =
+    flat_map-append (λ x. group_by x.direction (column_at names x.column)) dims (dim ∷ []) ∙ (ap (λ xs. groups_of names dims ++ xs) (append-nil (group_by dim.direction (column_at names dim.column)))
+    ∙ (ap (λ x. x ++ group_by dim.direction (column_at names dim.column)) e ∙ (ap (λ x. group ++ group_by x (column_at names dim.column)) f ∙ ap (λ x. group ++ group_by d x) g)))
+
+pub dims_more : (names : Names) (ts us vs : List Placed) (product : Option Preference) (group : List ℕ) (col : ℕ) (d : Direction) (more : Bool) → ReadsDims names ts product group true us → ReadsDim names us col d more vs → ReadsDims names ts (with_order product d col) (group ++ group_by d col) more vs
+dims_more names ts us vs product group col d more r l =
+    record {
+      dims = r.dims ++ l.dim ∷ [];
+      product_is = orders_more names r.dims l.dim product d col r.product_is l.said (column_is names l.dim.column col l.found);
+      group_is = groups_more names r.dims l.dim group d col r.group_is l.said (column_is names l.dim.column col l.found);
+      product_known = product_known_more names product d col l.found.known r.product_known;
+      group_known = group_known_more names group d col l.found.known r.group_known;
+      goes = λ s o. goes_then names _ _ _ ts us (left_over more vs) (r.goes s o) (l.goes s o r.dims);
+    }
+
+pub dims_fail : (names : Names) (ts us : List Placed) (product : Option Preference) (group : List ℕ) (f : TermFault) → ReadsDims names ts product group true us → FailsDim names us f → FailsClause names ts f
+dims_fail names ts us product group f r l s o = goes_fails names _ _ ts us f (r.goes s o) (l s o r.dims)
+
+-- the last dimension ends a clause that has one
+pub dims_all : (names : Names) (ts us vs : List Placed) (product : Option Preference) (group : List ℕ) (col : ℕ) (d : Direction) → ReadsDims names ts product group true us → ReadsDim names us col d false vs → ReadsClause names ts (with_order product d col) (group ++ group_by d col)
+dims_all names ts us vs product group col d r l =
+    go (product_known_more names product d col l.found.known r.product_known) (group_known_more names group d col l.found.known r.group_known)
+    r.dims (orders_more names r.dims l.dim product d col r.product_is l.said (column_is names l.dim.column col l.found))
+    (groups_more names r.dims l.dim group d col r.group_is l.said (column_is names l.dim.column col l.found))
+    (λ s o. goes_then names (dim_due s o []) (dim_due s o r.dims) (behind_dim s o (r.dims ++ l.dim ∷ []) false) ts us [] (r.goes s o) (l.goes s o r.dims))
+  where
+    go : IfSome (with_order product d col) (IsTermOf names) → All (IsKnown names) (group ++ group_by d col) → (dims : List DimText) → product_of (orders_of names (dims ++ l.dim ∷ [])) ≡ with_order product d col → groups_of names (dims ++ l.dim ∷ []) ≡ group ++ group_by d col → ((s o : List ℕ) → Goes names (dim_due s o []) ts (behind_dim s o (dims ++ l.dim ∷ []) false) []) → ReadsClause names ts (with_order product d col) (group ++ group_by d col)
+    go k m [] e f g = record { first = l.dim; others = []; product_is = e; group_is = f; product_known = k; group_known = m; goes = λ s o p. let a = g s o p in a.1 }
+    go k m (x ∷ xs) e f g = record { first = x; others = xs ++ l.dim ∷ []; product_is = e; group_is = f; product_known = k; group_known = m; goes = λ s o p. let a = g s o p in a.1 }
+
+-- ---- a skyline clause
+
+of_goes : (names : Names) (s : List ℕ) (ts us : List Placed) → (c : PassesOf ts us) → Goes names (skyline_named s) ts (dim_due s c.0 []) us
+of_goes names s ts us c = passes_goes names (word c.0) ts us (skyline_named s) (dim_due s c.0 []) (cased of_word c.0) c.2 (ap (of_named s c.0) c.1) refl
+
+pub clause_read : (names : Names) (ts us : List Placed) (p : Preference) (group : List ℕ) → PassesOf ts us → ReadsClause names us (Some p) group → (s : List ℕ) → Asks names (skyline_named s) ts (record { preference = p; group = group; mode = Best })
+clause_read names ts us p group c r s =
+    goes_asks names _ (dim_due s c.0 []) ts us _ (of_goes names s ts us c)
+    (λ k. ap (meant names) (r.goes s c.0 k)
+    ∙ (ap (λ o. ordered (option_map (λ x. record { preference = x; group = groups_of names (r.first ∷ r.others); mode = Best }) o)) r.product_is
+    ∙ ap (λ g. Ok (record { preference = p; group = g; mode = Best })) r.group_is))
+
+pub clause_unordered : (names : Names) (ts us : List Placed) (group : List ℕ) → PassesOf ts us → ReadsClause names us None group → (s : List ℕ) → AsksNothing names (skyline_named s) ts NoMinOrMax
+clause_unordered names ts us group c r s =
+    goes_asks_nothing names _ (dim_due s c.0 []) ts us NoMinOrMax (of_goes names s ts us c)
+    (λ k. ap (meant names) (r.goes s c.0 k)
+    ∙ ap (λ o. ordered (option_map (λ x. record { preference = x; group = groups_of names (r.first ∷ r.others); mode = Best }) o)) r.product_is)
+
+pub clause_fails : (names : Names) (ts us : List Placed) (f : TermFault) → PassesOf ts us → FailsClause names us f → (s : List ℕ) → AsksNothing names (skyline_named s) ts f
+clause_fails names ts us f c r s = fails_asks names _ ts f (goes_fails names _ _ ts us f (of_goes names s ts us c) (r s c.0))
+
+pub of_fails : (names : Names) (ts : List Placed) (f : TermFault) → FailsOf ts f → (s : List ℕ) → AsksNothing names (skyline_named s) ts f
+of_fails names ts f h s = fails_asks names _ ts f (h names s)
+
+-- ---- the first word
+
+skyline_goes : (names : Names) (letters : List ℕ) (ts us : List Placed) → Passes (word letters) ts us → keyword_of letters ≡ None → cased_of letters ≡ Some skyline_word → Goes names start ts (skyline_named letters) us
+skyline_goes names letters ts us c e f =
+    passes_goes names (word letters) ts us start (skyline_named letters) (cased skyline_word letters) c (ap (λ k. begun letters k (cased_of letters)) e ∙ ap (begun letters None) f) refl
+
+pub skyline_read : (names : Names) (letters : List ℕ) (ts us : List Placed) (q : Question) → Passes (word letters) ts us → keyword_of letters ≡ None → cased_of letters ≡ Some skyline_word → ((s : List ℕ) → Asks names (skyline_named s) us q) → Asks names start ts q
+skyline_read names letters ts us q c e f h = goes_asks names start (skyline_named letters) ts us q (skyline_goes names letters ts us c e f) (h letters)
+
+pub skyline_fails : (names : Names) (letters : List ℕ) (ts us : List Placed) (g : TermFault) → Passes (word letters) ts us → keyword_of letters ≡ None → cased_of letters ≡ Some skyline_word → ((s : List ℕ) → AsksNothing names (skyline_named s) us g) → AsksNothing names start ts g
+skyline_fails names letters ts us g c e f h = goes_asks_nothing names start (skyline_named letters) ts us g (skyline_goes names letters ts us c e f) (h letters)
+
+best_goes : (names : Names) (letters : List ℕ) (ts us : List Placed) → Passes (word letters) ts us → keyword_of letters ≡ Some best_word → Goes names start ts (operand (in_whole best_head)) us
+best_goes names letters ts us c e = passes_goes names (word letters) ts us start (operand (in_whole best_head)) (name best_word) c (ap (λ k. begun letters k (cased_of letters)) e) refl
+
+pub best_read : (names : Names) (letters : List ℕ) (ts us : List Placed) (q : Question) → Passes (word letters) ts us → keyword_of letters ≡ Some best_word → ((head : HeadText) → mode_of head ≡ Best → Asks names (operand (in_whole head)) us q) → Asks names start ts q
+best_read names letters ts us q c e h = goes_asks names start _ ts us q (best_goes names letters ts us c e) (h best_head refl)
+
+pub best_fails : (names : Names) (letters : List ℕ) (ts us : List Placed) (f : TermFault) → Passes (word letters) ts us → keyword_of letters ≡ Some best_word → ((head : HeadText) → mode_of head ≡ Best → AsksNothing names (operand (in_whole head)) us f) → AsksNothing names start ts f
+best_fails names letters ts us f c e h = goes_asks_nothing names start _ ts us f (best_goes names letters ts us c e) (h best_head refl)
+
+-- ---- a word and a count
+
+pub data CountKind : Type 0 where
+  levels : CountKind
+  rows : CountKind
+
+abbrev pub count_word : CountKind → Keyword
+count_word levels = top_level_word
+count_word rows = at_least_word
+
+abbrev pub count_head : CountKind → List ℕ → HeadText
+count_head levels ds = top_level_head ds
+count_head rows ds = at_least_head ds
+
+abbrev pub count_mode : CountKind → ℕ → Mode
+count_mode levels k = TopLevel k
+count_mode rows k = AtLeast k
+
+count_named : CountKind → State
+count_named levels = top_level_named
+count_named rows = at_least_named
+
+wants_count : (k : CountKind) → WantsCount (count_named k) (count_head k)
+unfolding count_named
+wants_count levels = record { takes = λ ds. refl; only = only }
+  where
+    only : (t : Token) → IsNoDigits t → next top_level_named t ≡ None
+    only (digits ds) n = absurd n
+    only _ n = refl
+wants_count rows = record { takes = λ ds. refl; only = only }
+  where
+    only : (t : Token) → IsNoDigits t → next at_least_named t ≡ None
+    only (digits ds) n = absurd n
+    only _ n = refl
+
+count_word_goes : (names : Names) (k : CountKind) (letters : List ℕ) (ts us : List Placed) → Passes (word letters) ts us → keyword_of letters ≡ Some (count_word k) → Goes names start ts (count_named k) us
+unfolding count_named
+count_word_goes names levels letters ts us c e = passes_goes names (word letters) ts us start top_level_named (name top_level_word) c (ap (λ k. begun letters k (cased_of letters)) e) refl
+count_word_goes names rows letters ts us c e = passes_goes names (word letters) ts us start at_least_named (name at_least_word) c (ap (λ k. begun letters k (cased_of letters)) e) refl
+
+count_good : (names : Names) (ds : List ℕ) → is_count (decimal_value ds) ≡ true → own_fault names (count_digits ds) ≡ None
+count_good names ds h = ap (λ b. cond b None (Some bad_count)) h
+
+count_goes : (names : Names) (k : CountKind) (letters : List ℕ) (ts us vs : List Placed) (n : ℕ) → Passes (word letters) ts us → keyword_of letters ≡ Some (count_word k) → (t : TakesCount us n vs) → Goes names start ts (operand (in_whole (count_head k t.digits_are))) vs
+count_goes names k letters ts us vs n c e t =
+    goes_then names start (count_named k) _ ts us vs (count_word_goes names k letters ts us c e)
+    (passes_goes names (digits t.digits_are) us vs (count_named k) _ (count_digits t.digits_are) t.passes ((wants_count k).takes t.digits_are) (count_good names t.digits_are t.good))
+
+mode_said : (k : CountKind) (ds : List ℕ) (n : ℕ) → decimal_value ds ≡ n → mode_of (count_head k ds) ≡ count_mode k n
+mode_said levels ds n e = ap TopLevel e
+mode_said rows ds n e = ap AtLeast e
+
+pub count_read : (names : Names) (k : CountKind) (letters : List ℕ) (ts us vs : List Placed) (n : ℕ) (q : Question) → Passes (word letters) ts us → keyword_of letters ≡ Some (count_word k) → TakesCount us n vs → ((head : HeadText) → mode_of head ≡ count_mode k n → Asks names (operand (in_whole head)) vs q) → Asks names start ts q
+count_read names k letters ts us vs n q c e t h = goes_asks names start _ ts vs q (count_goes names k letters ts us vs n c e t) (h (count_head k t.digits_are) (mode_said k t.digits_are n t.value))
+
+pub count_behind_fails : (names : Names) (k : CountKind) (letters : List ℕ) (ts us vs : List Placed) (n : ℕ) (f : TermFault) → Passes (word letters) ts us → keyword_of letters ≡ Some (count_word k) → TakesCount us n vs → ((head : HeadText) → mode_of head ≡ count_mode k n → AsksNothing names (operand (in_whole head)) vs f) → AsksNothing names start ts f
+count_behind_fails names k letters ts us vs n f c e t h = goes_asks_nothing names start _ ts vs f (count_goes names k letters ts us vs n c e t) (h (count_head k t.digits_are) (mode_said k t.digits_are n t.value))
+
+pub count_fails : (names : Names) (k : CountKind) (letters : List ℕ) (ts us : List Placed) (f : TermFault) → Passes (word letters) ts us → keyword_of letters ≡ Some (count_word k) → FailsCount us f → AsksNothing names start ts f
+count_fails names k letters ts us f c e h =
+    fails_asks names start ts f (goes_fails names start (count_named k) ts us f (count_word_goes names k letters ts us c e) (h names (count_named k) (count_head k) (wants_count k)))
+
+-- ---- what is so of each ask
+
+term_columns : (names : Names) (p : Preference) → IsTermOf names p → ReadsBelow 16 p
+term_columns names (scored b) h = h.0.0
+term_columns names (pareto p q) h = (term_columns names p h.0, term_columns names q h.1)
+term_columns names (prior p q) h = (term_columns names p h.0, term_columns names q h.1)
+term_columns names (reverse p) h = term_columns names p h
+
+term_known : (names : Names) (p : Preference) → IsTermOf names p → ReadsBelow (length names) p
+term_known names (scored b) h = h.0.1
+term_known names (pareto p q) h = (term_known names p h.0, term_known names q h.1)
+term_known names (prior p q) h = (term_known names p h.0, term_known names q h.1)
+term_known names (reverse p) h = term_known names p h
+
+term_writable : (names : Names) (p : Preference) → IsTermOf names p → IsWritable p
+term_writable names (scored b) h = h.1
+term_writable names (pareto p q) h = (term_writable names p h.0, term_writable names q h.1)
+term_writable names (prior p q) h = (term_writable names p h.0, term_writable names q h.1)
+term_writable names (reverse p) h = term_writable names p h
+
+pub is_ask : (names : Names) (p : Preference) (group : List ℕ) (mode : Mode) → IsTermOf names p → All (IsKnown names) group → IsCount (cut_of mode) → IsAsk (record { preference = p; group = group; mode = mode })
+is_ask names p group mode h g k =
+    record {
+      columns = record { preference = term_columns names p h; group = λ i d b. let a = g i d b in a.0 };
+      writable = term_writable names p h;
+      count = k;
+    }
+
+pub fits_width : (names : Names) (p : Preference) (group : List ℕ) (mode : Mode) → IsTermOf names p → All (IsKnown names) group → FitsWidth (length names) (record { preference = p; group = group; mode = mode })
+fits_width names p group mode h g = record { preference = term_known names p h; group = λ i d b. let a = g i d b in a.1 }
+
+-- the same product and group, in other words
+pub reads_dims : (names : Names) (ts us : List Placed) (more : Bool) (p q : Option Preference) (g h : List ℕ) → p ≡ q → g ≡ h → ReadsDims names ts q h more us → ReadsDims names ts p g more us
+reads_dims names ts us more p q g h e f r = subst (λ (x : Option Preference). ReadsDims names ts x g more us) (sym e) (subst (λ (x : List ℕ). ReadsDims names ts q x more us) (sym f) r)
+
+pub reads_clause : (names : Names) (ts : List Placed) (p q : Option Preference) (g h : List ℕ) → p ≡ q → g ≡ h → ReadsClause names ts q h → ReadsClause names ts p g
+reads_clause names ts p q g h e f r = subst (λ (x : Option Preference). ReadsClause names ts x g) (sym e) (subst (λ (x : List ℕ). ReadsClause names ts q x) (sym f) r)

@@ -1,0 +1,128 @@
+-- The ask that is computed is the one that the text spells, and the fault the one that it has.
+use Rattle.std.proofs.Common.{◌≡◌, ◌≤◌, ◌<◌, ◌+◌, ℕ, zero, suc, List, [], ◌∷◌, Bool, true, false, cond, length, nat_lt, Option, Some, None, Result, Ok, Err, refl, sym, ap, subst, ◌∙◌, ◌⊎◌, inl, inr, arith}
+use Rattle.std.specs.Prelude.{MatchResult, IfOk, IfErr}
+use Rattle.std.proofs.lemmas.Bool.Decides.{nat_tests}
+use Rattle.pref_term.specs.Token.{Placed, is_blank, more_bytes, token_from, tokens_from, tokens_of}
+use Rattle.pref_term.specs.Grammar.{AskText}
+use Rattle.pref_term.specs.Spells.{Names, Spells, Faults, LacksOrder, FirstFault, UnlessMemory, question}
+use Rattle.pref_term.specs.Question.{Question, FitsWidth}
+use Rattle.pref_term.specs.Reading.{start, run}
+use Rattle.pref_term.specs.Asked.{ordered, meant, asked}
+use Rattle.pref_term.specs.declared.fault.TermFault.{TermFault}
+use Rattle.pref_term.specs.declared.fault.TermFault.TheVariants.{TooLong, NoMinOrMax}
+use Rattle.pref_term.specs.Led.{Asks, AsksNothing}
+use Rattle.pref_term.proofs.LedLemmas.{unless_map}
+use Rattle.pref_term.proofs.Exact.{Finishes, Due, Spelt, Answers, run_answers, reached_start, spelt_run, fault_run}
+
+-- ---- the tokens of a text end with its end
+
+finishes_more : (t : Placed) (ts : List Placed) → Finishes ts → Finishes (t ∷ ts)
+finishes_more t [] h = absurd h
+finishes_more t (u ∷ us) h = h
+
+pub tokens_finish : (told p : ℕ) (bs : List ℕ) → Finishes (tokens_from told p bs)
+tokens_finish told p [] = refl
+tokens_finish (suc k) p (b ∷ bs) = tokens_finish k (p + 1) bs
+tokens_finish zero p (b ∷ bs) = go (is_blank b) (tokens_finish 0 (p + 1) bs) (tokens_finish (more_bytes b bs) (p + 1) bs)
+  where
+    go : (t : Bool) → Finishes (tokens_from 0 (p + 1) bs) → Finishes (tokens_from (more_bytes b bs) (p + 1) bs) → Finishes (cond t (tokens_from 0 (p + 1) bs) (record { token = token_from b bs; place = p } ∷ tokens_from (more_bytes b bs) (p + 1) bs))
+    go true h k = h
+    go false h k = finishes_more (record { token = token_from b bs; place = p }) (tokens_from (more_bytes b bs) (p + 1) bs) k
+
+text_answers : (names : Names) (text : List ℕ) → Answers names (tokens_of text) (run names (tokens_of text) 0 start)
+text_answers names text = run_answers names (tokens_of text) [] start (reached_start names) (go (tokens_of text) (tokens_finish 0 0 text))
+  where
+    go : (ts : List Placed) → Finishes ts → Due ts start
+    go [] h = absurd h
+    go (t ∷ ts) h = h
+
+-- ---- what is computed
+
+pub asked_long : (names : Names) (text : List ℕ) → 4096 < length text → asked names text ≡ Err TooLong
+unfolding asked
+asked_long names text h =
+    let e : nat_lt 4096 (length text) ≡ true = grind (arith, nat_tests) in
+    ap (λ (b : Bool). cond b (Err TooLong) (meant names (run names (tokens_of text) 0 start))) e
+
+pub asked_short : (names : Names) (text : List ℕ) → length text ≤ 4096 → asked names text ≡ meant names (run names (tokens_of text) 0 start)
+unfolding asked
+asked_short names text h =
+    let e : nat_lt 4096 (length text) ≡ false = grind (arith, nat_tests) in
+    ap (λ (b : Bool). cond b (Err TooLong) (meant names (run names (tokens_of text) 0 start))) e
+
+-- ---- and what the grammar says
+
+abbrev IsAnswer : Names → List ℕ → Result Question TermFault → Type 0
+IsAnswer names text r = MatchResult r (Spells names text) (Faults names text)
+
+tree_answer : (names : Names) (text : List ℕ) (tree : AskText) → length text ≤ 4096 → Spelt names (tokens_of text) tree → IsAnswer names text (meant names (Ok tree))
+tree_answer names text tree short s = go (question names tree) refl
+  where
+    go : (o : Option Question) → question names tree ≡ o → IsAnswer names text (ordered o)
+    go (Some q) e = record { tree = tree; written = s.written; short = short; tokens = s.tokens_are; good = s.good; meaning = e }
+    go None e = inr (short, inr (record { tree = tree; written = s.written; played = s.tokens_are; good = s.good; none = e }, refl))
+
+short_answer : (names : Names) (text : List ℕ) → length text ≤ 4096 → IsAnswer names text (meant names (run names (tokens_of text) 0 start))
+short_answer names text short = go (run names (tokens_of text) 0 start) (text_answers names text)
+  where
+    go : (r : Result AskText TermFault) → Answers names (tokens_of text) r → IsAnswer names text (meant names r)
+    go (Ok tree) s = tree_answer names text tree short s
+    go (Err f) h = inr (short, inl h)
+
+pub asked_answer : (names : Names) (text : List ℕ) → MatchResult (asked names text) (Spells names text) (Faults names text)
+asked_answer names text = go (nat_lt 4096 (length text)) refl
+  where
+    go : (b : Bool) → nat_lt 4096 (length text) ≡ b → IsAnswer names text (asked names text)
+    go true e =
+        let long : 4096 < length text = grind (arith, nat_tests) in
+        subst (IsAnswer names text) (sym (asked_long names text long)) (inl (long, refl))
+    go false e =
+        let short : length text ≤ 4096 = grind (arith, nat_tests) in
+        subst (IsAnswer names text) (sym (asked_short names text short)) (short_answer names text short)
+
+-- what is spelled is computed, and what is wrong
+pub spelled_asked : (names : Names) (text : List ℕ) (q : Question) → Spells names text q → asked names text ≡ Ok q
+spelled_asked names text q s =
+    asked_short names text s.short
+    ∙ (ap (meant names) (spelt_run names (tokens_of text) s.tree (record { written = s.written; tokens_are = s.tokens; good = s.good })) ∙ ap ordered s.meaning)
+
+pub fault_asked : (names : Names) (text : List ℕ) (f : TermFault) → Faults names text f → asked names text ≡ Err f
+fault_asked names text f (inl h) = asked_long names text h.0 ∙ ap Err (sym h.1)
+fault_asked names text f (inr h) = asked_short names text h.0 ∙ go h.1
+  where
+    go : FirstFault names (tokens_of text) f ⊎ (LacksOrder names (tokens_of text) × (f ≡ NoMinOrMax)) → meant names (run names (tokens_of text) 0 start) ≡ Err f
+    go (inl k) = ap (meant names) (fault_run names (tokens_of text) f k)
+    go (inr k) =
+        ap (meant names) (spelt_run names (tokens_of text) k.0.tree (record { written = k.0.written; tokens_are = k.0.played; good = k.0.good }))
+        ∙ (ap ordered k.0.none ∙ ap Err (sym k.1))
+
+-- ---- one reading
+
+pub one_ask : (names : Names) (text : List ℕ) (p q : Question) → Spells names text p → Spells names text q → p ≡ q
+one_ask names text p q s t = let a = spelled_asked names text p s in let b = spelled_asked names text q t in cc (a, b)
+
+pub no_both : (names : Names) (text : List ℕ) (p : Question) (f : TermFault) → Spells names text p → Faults names text f → ⊥
+no_both names text p f s t = let a = spelled_asked names text p s in let b = fault_asked names text f t in cc (a, b)
+
+pub one_fault : (names : Names) (text : List ℕ) (f g : TermFault) → Faults names text f → Faults names text g → f ≡ g
+one_fault names text f g s t = let a = fault_asked names text f s in let b = fault_asked names text g t in cc (a, b)
+
+-- ---- what the reader promises
+
+pub ok_spells : (names : Names) (text : List ℕ) (q : Question) → asked names text ≡ Ok q → Spells names text q
+ok_spells names text q e = subst (IsAnswer names text) e (asked_answer names text)
+
+pub err_faults : (names : Names) (text : List ℕ) (f : TermFault) → asked names text ≡ Err f → Faults names text f
+err_faults names text f e = subst (IsAnswer names text) e (asked_answer names text)
+
+pub read_exact : (names : Names) (text : List ℕ) (r : Result Question TermFault) → length text ≤ 4096 → IfOk r (Asks names start (tokens_of text)) → IfErr r (AsksNothing names start (tokens_of text)) → MatchResult r (λ a. asked names text ≡ Ok a) (λ f. UnlessMemory f (asked names text ≡ Err f))
+read_exact names text (Ok a) short h k = asked_short names text short ∙ h 0
+read_exact names text (Err f) short h k = unless_map f (λ e. asked_short names text short ∙ e 0) k
+
+pub read_ok : (names : Names) (text : List ℕ) (r : Result Question TermFault) → MatchResult r (λ a. asked names text ≡ Ok a) (λ f. UnlessMemory f (asked names text ≡ Err f)) → IfOk r (FitsWidth (length names)) → IfOk r (λ a. Spells names text a × FitsWidth (length names) a)
+read_ok names text (Ok a) e h = (ok_spells names text a e, h)
+read_ok names text (Err f) e h = tt
+
+pub read_err : (names : Names) (text : List ℕ) (r : Result Question TermFault) → MatchResult r (λ a. asked names text ≡ Ok a) (λ f. UnlessMemory f (asked names text ≡ Err f)) → IfErr r (λ f. UnlessMemory f (Faults names text f))
+read_err names text (Ok a) e = tt
+read_err names text (Err f) e = unless_map f (err_faults names text f) e

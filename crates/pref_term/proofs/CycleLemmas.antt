@@ -1,0 +1,194 @@
+-- What the parts of the reader that call each other promise.
+use Rattle.std.proofs.Common.{◌≡◌, ◌<◌, ◌≤◌, ◌+◌, ℕ, ℤ, List, [], ◌∷◌, ◌++◌, map, Bool, true, false, cond, Option, Some, None, Result, Ok, Err, nat_lt, refl, sym, ap, subst, ◌∙◌, ◌⊎◌, inl, inr, arith}
+use Rattle.std.specs.Prelude.{◌≢◌, IsErrAnd, IfErr}
+use Rattle.std.proofs.lemmas.Bool.Decides.{nat_tests}
+use Rattle.pref_term.specs.Token.{Sign, left, right, comma, star, ampersand, minus, Token, word, digits, sign, other, finish, Placed}
+use Rattle.pref_term.specs.Grammar.{Keyword, best_word, low_word, high_word, around_word, pos_word, reverse_word, keyword_of, BaseText, based, grouped, reversed, negated, UnaryText, ProductText, one_factor, then_factor, PriorText, one_product, then_product, Leaf, name, mark, opens}
+use Rattle.pref_term.specs.Spells.{Names, own_fault, OwnFault, told, told_at, too_deep, unary_meaning, product_meaning, prior_meaning}
+use Rattle.pref_term.specs.Reading.{BaseKind, low_kind, high_kind, around_kind, pos_kind, kind_word, named, UnaryHole, in_minus, first_factor, next_factor, ProductHole, first_product, next_product, PriorHole, in_group, in_reverse, whole, unary_depth, product_depth, prior_depth, State, operand, reverse_named, reading, after, completed, ranked, run, led, judged, next, operand_word}
+use Rattle.pref_term.specs.Led.{Goes, Fails, IsOther, NotNext, Passes, ReadsBase, ReadsUnary, ReadsFactors, ReadsProducts, ReadsProduct, ReadsPrior, ReadsGroup, ReadsReverse, FailsBase, FailsUnary, FailsReverse, FailsGroup, FailsProduct, FailsPrior}
+use Rattle.pref_term.specs.Preference.{Preference, scored, pareto, prior, reverse}
+use Rattle.pref_term.specs.declared.fault.TermFault.{TermFault}
+use Rattle.pref_term.specs.declared.fault.TermFault.TheVariants.{Unexpected, TooDeep, OutOfMemory}
+use Rattle.pref_term.proofs.Complete.{ranked_goes_on, ranked_group, ranked_reverse}
+use Rattle.pref_term.proofs.LedLemmas.{at_place, goes_then, goes_fails, passes_goes, stuck_fails, other_fails}
+
+-- ---- nestings
+
+depth_good : (names : Names) (depth : ℕ) (s : Sign) → depth < 64 → own_fault names (opens depth s) ≡ None
+depth_good names depth s h = let e : nat_lt depth 64 ≡ true = grind (arith, nat_tests) in ap (λ b. cond b None (Some too_deep)) e
+
+depth_bad : (names : Names) (depth : ℕ) (s : Sign) → 64 ≤ depth → own_fault names (opens depth s) ≡ Some too_deep
+depth_bad names depth s h = let e : nat_lt depth 64 ≡ false = grind (arith, nat_tests) in ap (λ b. cond b None (Some too_deep)) e
+
+-- a nesting that opens where there is room
+opens_goes : (names : Names) (depth : ℕ) (g : Sign) (ts us : List Placed) (s m : State) (open_here : ℕ) → open_here ≡ depth → depth < 64 → Passes (sign g) ts us → next s (sign g) ≡ Some (opens open_here g, m) → Goes names s ts m us
+opens_goes names depth g ts us s m here e h c f = passes_goes names (sign g) ts us s m (opens here g) c f (depth_good names here g (subst (λ (d : ℕ). d < 64) (sym e) h))
+
+-- the 65th
+opens_fails : (names : Names) (depth : ℕ) (g : Sign) (at : ℕ) (ts us : List Placed) (s m : State) (here : ℕ) → here ≡ depth → 64 ≤ depth → ts ≡ at_place (sign g) at ∷ us → next s (sign g) ≡ Some (opens here g, m) → Fails names s ts (TooDeep at)
+opens_fails names depth g at ts us s m here e h c f p =
+    ap (λ xs. run names xs p s) c
+    ∙ (ap (led names p at (run names us at)) f
+    ∙ ap (judged (opens here g) p at (run names us at m)) (depth_bad names here g (subst (λ (d : ℕ). 64 ≤ d) (sym e) h)))
+
+pub minus_read : (names : Names) (depth : ℕ) (ts us vs : List Placed) (p : Preference) → depth < 64 → Passes (sign minus) ts us → ReadsUnary names (depth + 1) us p vs → ReadsUnary names depth ts (reverse p) vs
+minus_read names depth ts us vs p h c r =
+    record {
+      tree = negated r.tree;
+      meaning = ap reverse r.meaning;
+      known = r.known;
+      goes = λ k e. goes_then names _ _ _ ts us vs (opens_goes names depth minus ts us (operand k) (operand (in_minus k)) (unary_depth k) e h c refl) (r.goes (in_minus k) (ap (λ d. d + 1) e));
+    }
+
+pub minus_fails : (names : Names) (depth : ℕ) (ts us : List Placed) (f : TermFault) → depth < 64 → Passes (sign minus) ts us → FailsUnary names (depth + 1) us f → FailsUnary names depth ts f
+minus_fails names depth ts us f h c r k e =
+    goes_fails names _ _ ts us f (opens_goes names depth minus ts us (operand k) (operand (in_minus k)) (unary_depth k) e h c refl) (r (in_minus k) (ap (λ d. d + 1) e))
+
+pub minus_deep : (names : Names) (depth at : ℕ) (ts us : List Placed) (f : TermFault) → 64 ≤ depth → ts ≡ at_place (sign minus) at ∷ us → f ≡ TooDeep at → FailsUnary names depth ts f
+minus_deep names depth at ts us f h c e k d =
+    subst (Fails names (operand k) ts) (sym e) (opens_fails names depth minus at ts us (operand k) (operand (in_minus k)) (unary_depth k) d h c refl)
+
+pub left_read : (names : Names) (depth : ℕ) (ts us vs : List Placed) (p : Preference) → depth < 64 → Passes (sign left) ts us → ReadsGroup names (depth + 1) us p vs → ReadsUnary names depth ts p vs
+left_read names depth ts us vs p h c r =
+    record {
+      tree = grouped r.tree;
+      meaning = r.meaning;
+      known = r.known;
+      goes = λ k e. goes_then names _ _ _ ts us vs (opens_goes names depth left ts us (operand k) (operand (first_factor (first_product (in_group k)))) (unary_depth k) e h c refl) (r.goes k (ap (λ d. d + 1) e));
+    }
+
+pub left_fails : (names : Names) (depth : ℕ) (ts us : List Placed) (f : TermFault) → depth < 64 → Passes (sign left) ts us → FailsGroup names (depth + 1) us f → FailsUnary names depth ts f
+left_fails names depth ts us f h c r k e =
+    goes_fails names _ _ ts us f (opens_goes names depth left ts us (operand k) (operand (first_factor (first_product (in_group k)))) (unary_depth k) e h c refl) (r.plain k (ap (λ d. d + 1) e))
+
+pub left_deep : (names : Names) (depth at : ℕ) (ts us : List Placed) (f : TermFault) → 64 ≤ depth → ts ≡ at_place (sign left) at ∷ us → f ≡ TooDeep at → FailsUnary names depth ts f
+left_deep names depth at ts us f h c e k d =
+    subst (Fails names (operand k) ts) (sym e) (opens_fails names depth left at ts us (operand k) (operand (first_factor (first_product (in_group k)))) (unary_depth k) d h c refl)
+
+pub reverse_read : (names : Names) (depth : ℕ) (ts us vs : List Placed) (p : Preference) → depth < 64 → Passes (sign left) ts us → ReadsGroup names (depth + 1) us p vs → ReadsReverse names depth ts (reverse p) vs
+reverse_read names depth ts us vs p h c r =
+    record {
+      tree = r.tree;
+      meaning = ap reverse r.meaning;
+      known = r.known;
+      goes = λ k e. goes_then names _ _ _ ts us vs (opens_goes names depth left ts us (reverse_named k) (operand (first_factor (first_product (in_reverse k)))) (unary_depth k) e h c refl) (r.goes_reversed k (ap (λ d. d + 1) e));
+    }
+
+pub reverse_fails : (names : Names) (depth : ℕ) (ts us : List Placed) (f : TermFault) → depth < 64 → Passes (sign left) ts us → FailsGroup names (depth + 1) us f → FailsReverse names depth ts f
+reverse_fails names depth ts us f h c r k e =
+    goes_fails names _ _ ts us f (opens_goes names depth left ts us (reverse_named k) (operand (first_factor (first_product (in_reverse k)))) (unary_depth k) e h c refl) (r.reversed k (ap (λ d. d + 1) e))
+
+pub reverse_deep : (names : Names) (depth at : ℕ) (ts us : List Placed) (f : TermFault) → 64 ≤ depth → ts ≡ at_place (sign left) at ∷ us → f ≡ TooDeep at → FailsReverse names depth ts f
+reverse_deep names depth at ts us f h c e k d =
+    subst (Fails names (reverse_named k) ts) (sym e) (opens_fails names depth left at ts us (reverse_named k) (operand (first_factor (first_product (in_reverse k)))) (unary_depth k) d h c refl)
+
+reverse_only : (h : UnaryHole) (u : Token) → u ≢ sign left → next (reverse_named h) u ≡ None
+reverse_only h (sign left) ne = absurd (ne refl)
+reverse_only h _ ne = refl
+
+pub reverse_other : (names : Names) (depth at : ℕ) (t : Token) (ts us : List Placed) → ts ≡ at_place t at ∷ us → t ≢ sign left → FailsReverse names depth ts (Unexpected at)
+reverse_other names depth at t ts us c ne k e = stuck_fails names t at us ts (reverse_named k) c (reverse_only k t ne)
+
+-- ---- a group
+
+stuck_within : (h : UnaryHole) (r : PriorText) (u : Token) → u ≢ sign right → u ≢ sign star → u ≢ sign ampersand → (next (ranked (in_group h) r) u ≡ None) × (next (ranked (in_reverse h) r) u ≡ None)
+stuck_within h (one_product p) (sign right) a b c = absurd (a refl)
+stuck_within h (one_product p) (sign star) a b c = absurd (b refl)
+stuck_within h (one_product p) (sign ampersand) a b c = absurd (c refl)
+stuck_within h (one_product p) _ a b c = (refl, refl)
+stuck_within h (then_product r p) (sign right) a b c = absurd (a refl)
+stuck_within h (then_product r p) (sign star) a b c = absurd (b refl)
+stuck_within h (then_product r p) (sign ampersand) a b c = absurd (c refl)
+stuck_within h (then_product r p) _ a b c = (refl, refl)
+
+pub group_read : (names : Names) (inside : ℕ) (ts us vs : List Placed) (p : Preference) → ReadsPrior names inside ts p us → Passes (sign right) us vs → ReadsGroup names inside ts p vs
+group_read names inside ts us vs p r c =
+    let q = r.products in
+    record {
+      tree = q.tree;
+      meaning = q.meaning;
+      known = q.known;
+      goes = λ h e. goes_then names _ _ _ ts us vs (q.goes (in_group h) e) (passes_goes names (sign right) us vs _ _ (mark right) c (ranked_group h q.tree) refl);
+      goes_reversed = λ h e. goes_then names _ _ _ ts us vs (q.goes (in_reverse h) e) (passes_goes names (sign right) us vs _ _ (mark right) c (ranked_reverse h q.tree) refl);
+    }
+
+pub group_fails : (names : Names) (inside : ℕ) (ts : List Placed) (f : TermFault) → FailsPrior names inside ts f → FailsGroup names inside ts f
+group_fails names inside ts f r = record { plain = λ h e. r (in_group h) e; reversed = λ h e. r (in_reverse h) e }
+
+pub group_end_fails : (names : Names) (inside : ℕ) (ts us : List Placed) (p : Preference) (f : TermFault) → ReadsPrior names inside ts p us → IsOther (sign right) us f → FailsGroup names inside ts f
+group_end_fails names inside ts [] p f r o = absurd o
+group_end_fails names inside ts (u ∷ us) p f r o =
+    let q = r.products in
+    record {
+      plain = λ h e. goes_fails names _ _ ts (u ∷ us) f (q.goes (in_group h) e)
+          (subst (Fails names (ranked (in_group h) q.tree) (u ∷ us)) (sym o.1) (stuck_fails names u.token u.place us (u ∷ us) _ refl (stuck_within h q.tree u.token o.0 r.stops r.stops_too).0));
+      reversed = λ h e. goes_fails names _ _ ts (u ∷ us) f (q.goes (in_reverse h) e)
+          (subst (Fails names (ranked (in_reverse h) q.tree) (u ∷ us)) (sym o.1) (stuck_fails names u.token u.place us (u ∷ us) _ refl (stuck_within h q.tree u.token o.0 r.stops r.stops_too).1));
+    }
+
+-- ---- words
+
+by_kind : (h : UnaryHole) (k : BaseKind) → operand_word h (Some (kind_word k)) ≡ Some (name (kind_word k), reading h (named k))
+by_kind h low_kind = refl
+by_kind h high_kind = refl
+by_kind h around_kind = refl
+by_kind h pos_kind = refl
+
+word_goes : (names : Names) (letters : List ℕ) (k : BaseKind) (ts us : List Placed) (h : UnaryHole) → Passes (word letters) ts us → keyword_of letters ≡ Some (kind_word k) → Goes names (operand h) ts (reading h (named k)) us
+word_goes names letters k ts us h c e = passes_goes names (word letters) ts us (operand h) (reading h (named k)) (name (kind_word k)) c (ap (operand_word h) e ∙ by_kind h k) refl
+
+pub base_read : (names : Names) (depth : ℕ) (letters : List ℕ) (k : BaseKind) (ts us vs : List Placed) (p : Preference) → Passes (word letters) ts us → keyword_of letters ≡ Some (kind_word k) → ReadsBase names k us p vs → ReadsUnary names depth ts p vs
+base_read names depth letters k ts us vs p c e r =
+    record { tree = based r.tree; meaning = r.meaning; known = r.known; goes = λ h _. goes_then names _ _ _ ts us vs (word_goes names letters k ts us h c e) (r.goes h) }
+
+pub base_fails : (names : Names) (depth : ℕ) (letters : List ℕ) (k : BaseKind) (ts us : List Placed) (f : TermFault) → Passes (word letters) ts us → keyword_of letters ≡ Some (kind_word k) → FailsBase names k us f → FailsUnary names depth ts f
+base_fails names depth letters k ts us f c e r h _ = goes_fails names _ _ ts us f (word_goes names letters k ts us h c e) (r h)
+
+pub word_reverse_read : (names : Names) (depth : ℕ) (letters : List ℕ) (ts us vs : List Placed) (p : Preference) → Passes (word letters) ts us → keyword_of letters ≡ Some reverse_word → ReadsReverse names depth us p vs → ReadsUnary names depth ts p vs
+word_reverse_read names depth letters ts us vs p c e r =
+    record {
+      tree = reversed r.tree;
+      meaning = r.meaning;
+      known = r.known;
+      goes = λ h d. goes_then names _ _ _ ts us vs (passes_goes names (word letters) ts us (operand h) (reverse_named h) (name reverse_word) c (ap (operand_word h) e) refl) (r.goes h d);
+    }
+
+pub word_reverse_fails : (names : Names) (depth : ℕ) (letters : List ℕ) (ts us : List Placed) (f : TermFault) → Passes (word letters) ts us → keyword_of letters ≡ Some reverse_word → FailsReverse names depth us f → FailsUnary names depth ts f
+word_reverse_fails names depth letters ts us f c e r h d =
+    goes_fails names _ _ ts us f (passes_goes names (word letters) ts us (operand h) (reverse_named h) (name reverse_word) c (ap (operand_word h) e) refl) (r h d)
+
+-- ---- products and priors
+
+pub one_factor_read : (names : Names) (depth : ℕ) (ts us : List Placed) (p : Preference) → ReadsUnary names depth ts p us → ReadsFactors names depth ts p us
+one_factor_read names depth ts us p r = record { tree = one_factor r.tree; meaning = r.meaning; known = r.known; goes = λ h e. r.goes (first_factor h) e }
+
+pub more_factors : (names : Names) (depth : ℕ) (ts us vs ws : List Placed) (p q : Preference) → ReadsFactors names depth ts p us → Passes (sign star) us vs → ReadsUnary names depth vs q ws → ReadsFactors names depth ts (pareto p q) ws
+more_factors names depth ts us vs ws p q r c u =
+    record {
+      tree = then_factor r.tree u.tree;
+      meaning = ap (λ x. pareto x (unary_meaning u.tree names)) r.meaning ∙ ap (pareto p) u.meaning;
+      known = (r.known, u.known);
+      goes = λ h e. goes_then names _ _ _ ts vs ws (goes_then names _ _ _ ts us vs (r.goes h e) (passes_goes names (sign star) us vs (after h r.tree) (operand (next_factor h r.tree)) (mark star) c refl refl)) (u.goes (next_factor h r.tree) e);
+    }
+
+pub more_factors_fail : (names : Names) (depth : ℕ) (ts us vs : List Placed) (p : Preference) (f : TermFault) → ReadsFactors names depth ts p us → Passes (sign star) us vs → FailsUnary names depth vs f → FailsProduct names depth ts f
+more_factors_fail names depth ts us vs p f r c u h e =
+    goes_fails names _ _ ts vs f (goes_then names _ _ _ ts us vs (r.goes h e) (passes_goes names (sign star) us vs (after h r.tree) (operand (next_factor h r.tree)) (mark star) c refl refl)) (u (next_factor h r.tree) e)
+
+pub one_product_read : (names : Names) (depth : ℕ) (ts us : List Placed) (p : Preference) → ReadsProduct names depth ts p us → ReadsProducts names depth ts p us
+one_product_read names depth ts us p r = let q = r.factors in record { tree = one_product q.tree; meaning = q.meaning; known = q.known; goes = λ h e. q.goes (first_product h) e }
+
+pub more_products : (names : Names) (depth : ℕ) (ts us vs ws : List Placed) (p q : Preference) → ReadsProducts names depth ts p us → Passes (sign ampersand) us vs → ReadsProduct names depth vs q ws → ReadsProducts names depth ts (prior p q) ws
+more_products names depth ts us vs ws p q r c u =
+    let v = u.factors in
+    record {
+      tree = then_product r.tree v.tree;
+      meaning = ap (λ x. prior x (product_meaning v.tree names)) r.meaning ∙ ap (prior p) v.meaning;
+      known = (r.known, v.known);
+      goes = λ h e. goes_then names _ _ _ ts vs ws (goes_then names _ _ _ ts us vs (r.goes h e) (passes_goes names (sign ampersand) us vs (ranked h r.tree) (operand (first_factor (next_product h r.tree))) (mark ampersand) c (ranked_goes_on h r.tree) refl)) (v.goes (next_product h r.tree) e);
+    }
+
+pub more_products_fail : (names : Names) (depth : ℕ) (ts us vs : List Placed) (p : Preference) (f : TermFault) → ReadsProducts names depth ts p us → Passes (sign ampersand) us vs → FailsProduct names depth vs f → FailsPrior names depth ts f
+more_products_fail names depth ts us vs p f r c u h e =
+    goes_fails names _ _ ts vs f (goes_then names _ _ _ ts us vs (r.goes h e) (passes_goes names (sign ampersand) us vs (ranked h r.tree) (operand (first_factor (next_product h r.tree))) (mark ampersand) c (ranked_goes_on h r.tree) refl)) (u (next_product h r.tree) e)

@@ -1,0 +1,320 @@
+-- What the parts of the reader promise, from the tokens that they take.
+use Rattle.std.proofs.Common.{◌≡◌, ◌<◌, ◌≤◌, ◌+◌, ℕ, ℤ, List, [], ◌∷◌, ◌++◌, map, Bool, true, false, cond, Option, Some, None, Result, Ok, Err, refl, sym, ap, subst, ◌∙◌, ◌⊎◌, inl, inr, arith}
+use Rattle.pref_table.specs.Columns.{column_of}
+use Rattle.pref_term.specs.Token.{Sign, left, right, comma, star, ampersand, minus, Token, word, digits, sign, other, finish, Placed}
+use Rattle.pref_term.specs.Grammar.{based, NumberText, BaseText, low_text, high_text, around_text, pos_text, UnaryText, ProductText, PriorText, Leaf, mark, column_name, number_digits, opens}
+use Rattle.pref_term.specs.Spells.{Names, UnlessMemory, own_fault, in_range, signed_value, number_value, column_at, OwnFault, told, told_at, too_deep, number_range, unknown_column}
+use Rattle.pref_term.specs.Reading.{BaseKind, low_kind, high_kind, around_kind, pos_kind, NumberHole, centre_of, first_of, next_of, named, opened, columned, number_due, number_signed, centred, listed, filled, UnaryHole, ProductHole, PriorHole, State, operand, reading, after, completed, run, led, judged, next}
+use Rattle.pref_term.specs.Seen.{seen}
+use Rattle.pref_term.specs.Ahead.{ahead, taken, behind_token}
+use Rattle.pref_term.specs.declared.cursor.Taken.{Taken}
+use Rattle.pref_term.specs.declared.front.Token as code
+use Rattle.pref_term.specs.declared.front.Token.TheVariants.{Sign as code_sign}
+use Rattle.pref_term.specs.Led.{Goes, Fails, IsOther, Passes, WantsColumn, TakesColumn, ReadsOpened, IsNoWord, LacksWord, FailsColumn, FailsOpened, IsColumn, IsKnown, ReadsNumber, ReadsListed, ReadsSome, ReadsNumbers, ReadsBase, FailsListed, FailsNumber, FailsNumbers, FailsBase, set_hole, set_text, behind_number}
+use Rattle.pref_term.specs.declared.fault.TermFault.{TermFault}
+use Rattle.pref_term.specs.declared.fault.TermFault.TheVariants.{Unexpected, UnknownColumn, OutOfMemory}
+use Rattle.std.specs.Prelude.{All, FitsSigned, ◌≢◌, IsErrAnd, IfErr, unwrap_or}
+use Rattle.pref_term.specs.Preference.{Preference, scored, low, high, around, one_of, pareto, prior, reverse}
+use Rattle.std.proofs.lemmas.List.{map-append}
+use Rattle.std.proofs.lemmas.List.Elements.{All-append, All-cons, All-nil}
+use Rattle.std.specs.Int.{w64}
+
+-- a token, as a record of its two parts
+abbrev pub at_place : Token → ℕ → Placed
+at_place t p = record { token = t; place = p }
+
+-- one token on
+pub run_step : (names : Names) (t : Token) (at : ℕ) (ts : List Placed) (p : ℕ) (s : State) (leaf : Leaf) (m : State) → next s t ≡ Some (leaf, m) → own_fault names leaf ≡ None → run names (at_place t at ∷ ts) p s ≡ run names ts at m
+run_step names t at ts p s leaf m e own =
+    ap (led names p at (run names ts at)) e ∙ ap (judged leaf p at (run names ts at m)) own
+
+pub column_good : (names : Names) (letters : List ℕ) (col : ℕ) → column_of names letters ≡ Some col → own_fault names (column_name letters) ≡ None
+column_good names letters col h = rw h
+
+pub number_good : (names : Names) (negative : Bool) (ds : List ℕ) → in_range negative ds ≡ true → own_fault names (number_digits negative ds) ≡ None
+number_good names negative ds h = ap (λ b. cond b None (Some number_range)) h
+
+-- ---- one part behind another
+
+pub goes_then : (names : Names) (s m n : State) (ts us vs : List Placed) → Goes names s ts m us → Goes names m us n vs → Goes names s ts n vs
+goes_then names s m n ts us vs h k = λ p. let a = h p in let b = k a.0 in (b.0, a.1 ∙ b.1)
+
+pub unless_map : {P Q : Type 0} (f : TermFault) → (P → Q) → UnlessMemory f P → UnlessMemory f Q
+unless_map OutOfMemory g h = tt
+unless_map _ g h = g h
+
+pub goes_fails : (names : Names) (s m : State) (ts us : List Placed) (f : TermFault) → Goes names s ts m us → Fails names m us f → Fails names s ts f
+goes_fails names s m ts us f h k = unless_map f (λ k p. let a = h p in a.1 ∙ k a.0) k
+
+pub passes_goes : (names : Names) (t : Token) (ts us : List Placed) (s m : State) (leaf : Leaf) → Passes t ts us → next s t ≡ Some (leaf, m) → own_fault names leaf ≡ None → Goes names s ts m us
+passes_goes names t ts us s m leaf h e own = λ p. (h.0, ap (λ xs. run names xs p s) h.1 ∙ run_step names t h.0 us p s leaf m e own)
+
+-- a token that can't follow
+pub stuck_fails : (names : Names) (t : Token) (at : ℕ) (us ts : List Placed) (s : State) → ts ≡ at_place t at ∷ us → next s t ≡ None → Fails names s ts (Unexpected at)
+stuck_fails names t at us ts s e stuck = λ p. ap (λ xs. run names xs p s) e ∙ ap (led names p at (run names us at)) stuck
+
+pub other_fails : (names : Names) (t : Token) (ts : List Placed) (f : TermFault) (s : State) → IsOther t ts f → ((u : Token) → u ≢ t → next s u ≡ None) → Fails names s ts f
+other_fails names t [] f s h stuck = absurd h
+other_fails names t (u ∷ us) f s h stuck =
+    subst (λ (g : TermFault). Fails names s (u ∷ us) g) (sym h.1) (λ p. ap (led names p u.place (run names us u.place)) (stuck u.token h.0))
+
+pub opened_read : (names : Names) (ts us vs : List Placed) (col : ℕ) → Passes (sign left) ts us → TakesColumn names us col vs → ReadsOpened names ts col vs
+opened_read names ts us vs col c t =
+    record {
+      letters = t.letters;
+      found = t.found;
+      goes = λ h k. goes_then names _ (reading h (opened k)) _ ts us vs (passes_goes names (sign left) ts us (reading h (named k)) (reading h (opened k)) (mark left) c refl refl)
+          (passes_goes names (word t.letters) us vs (reading h (opened k)) (reading h (columned k t.letters)) (column_name t.letters) t.passes refl (column_good names t.letters col t.found.place));
+    }
+
+wants_opened : (h : UnaryHole) (k : BaseKind) → WantsColumn (reading h (opened k)) (λ letters. reading h (columned k letters))
+wants_opened h k = record { takes = λ letters. refl; only = only }
+  where
+    only : (t : Token) → IsNoWord t → next (reading h (opened k)) t ≡ None
+    only (word letters) n = absurd n
+    only _ n = refl
+
+named_only : (h : UnaryHole) (k : BaseKind) (u : Token) → u ≢ sign left → next (reading h (named k)) u ≡ None
+named_only h k (sign left) ne = absurd (ne refl)
+named_only h k _ ne = refl
+
+pub opened_other : (names : Names) (ts : List Placed) (f : TermFault) → IsOther (sign left) ts f → FailsOpened names ts f
+opened_other names ts f o h k = other_fails names (sign left) ts f (reading h (named k)) o (named_only h k)
+
+pub opened_fails : (names : Names) (ts us : List Placed) (f : TermFault) → Passes (sign left) ts us → FailsColumn names us f → FailsOpened names ts f
+opened_fails names ts us f c r h k =
+    goes_fails names _ (reading h (opened k)) ts us f (passes_goes names (sign left) ts us (reading h (named k)) (reading h (opened k)) (mark left) c refl refl)
+    (r (reading h (opened k)) (λ letters. reading h (columned k letters)) (wants_opened h k))
+
+-- a word that is no column
+pub unknown_fails : (names : Names) (letters : List ℕ) (at : ℕ) (ts us : List Placed) → ts ≡ at_place (word letters) at ∷ us → column_of names letters ≡ None → FailsColumn names ts (UnknownColumn at)
+unknown_fails names letters at ts us e n s behind w p =
+    let own : own_fault names (column_name letters) ≡ Some unknown_column = rw n in
+    ap (λ xs. run names xs p s) e
+    ∙ (ap (led names p at (run names us at)) (w.takes letters)
+    ∙ ap (judged (column_name letters) p at (run names us at (behind letters))) own)
+
+-- no word where a column is due
+pub lacks_column : (names : Names) (ts : List Placed) (f : TermFault) → LacksWord ts f → FailsColumn names ts f
+lacks_column names [] f l s behind w = absurd l
+lacks_column names (u ∷ us) f l s behind w =
+    subst (λ (g : TermFault). Fails names s (u ∷ us) g) (sym l.1) (λ p. ap (led names p u.place (run names us u.place)) (w.only u.token l.0))
+
+pub plain_number_read : (names : Names) (ts us : List Placed) (a : ℕ) (ds : List ℕ) (value : ℤ) → ts ≡ at_place (digits ds) a ∷ us → in_range false ds ≡ true → value ≡ signed_value false ds → FitsSigned w64 value → ReadsNumber names ts value us
+plain_number_read names ts us a ds value e fits v held =
+    let n : NumberText = record { negative = false; digits = ds } in
+    record {
+      number = n;
+      fits = held;
+      value_is = sym v;
+      goes = λ h hole p. (
+        a,
+        ap (λ xs. run names xs p (reading h (number_due hole))) e
+            ∙ run_step names (digits ds) a us p (reading h (number_due hole)) (number_digits false ds) (reading h (filled hole n)) refl (number_good names false ds fits),
+      );
+    }
+
+pub signed_number_read : (names : Names) (ts us vs : List Placed) (a b : ℕ) (ds : List ℕ) (value : ℤ) → ts ≡ at_place (sign minus) a ∷ us → us ≡ at_place (digits ds) b ∷ vs → in_range true ds ≡ true → value ≡ signed_value true ds → FitsSigned w64 value → ReadsNumber names ts value vs
+signed_number_read names ts us vs a b ds value e f fits v held =
+    let n : NumberText = record { negative = true; digits = ds } in
+    record {
+      number = n;
+      fits = held;
+      value_is = sym v;
+      goes = λ h hole p. (
+        b,
+        ap (λ xs. run names xs p (reading h (number_due hole))) e
+            ∙ (run_step names (sign minus) a us p (reading h (number_due hole)) (mark minus) (reading h (number_signed hole)) refl refl
+            ∙ (ap (λ xs. run names xs a (reading h (number_signed hole))) f
+            ∙ run_step names (digits ds) b vs a (reading h (number_signed hole)) (number_digits true ds) (reading h (filled hole n)) refl (number_good names true ds fits))),
+      );
+    }
+
+-- what was taken, where the token is known
+pub taken_is : (ts : List Placed) (t : Taken) (k : code.Token) → ts ≡ taken t → t.token ≡ k → ts ≡ at_place (seen k) t.at ∷ behind_token k (ahead t.next)
+taken_is ts t k e f = e ∙ ap (λ (x : code.Token). at_place (seen x) t.at ∷ behind_token x (ahead t.next)) f
+
+-- a sign that was taken
+pub sign_taken : (ts : List Placed) (t : Taken) (found s : Sign) → ts ≡ taken t → t.token ≡ code_sign found → found ≡ s → ts ≡ at_place (sign s) t.at ∷ ahead t.next
+sign_taken ts t found s e f g = taken_is ts t (code_sign s) e (f ∙ ap code_sign g)
+
+-- what a `?` hands on
+pub err_exit : {T : Type 0} (r : Result T TermFault) (f : TermFault) (P : TermFault → Type 0) → IsErrAnd r (λ g. g ≡ f) → P f → IfErr r P
+err_exit (Ok x) f P h k = absurd h
+err_exit (Err g) f P h k = subst P (sym h) k
+
+pub if_err_map : {T : Type 0} (r : Result T TermFault) (P Q : TermFault → Type 0) → ((f : TermFault) → P f → Q f) → IfErr r P → IfErr r Q
+if_err_map (Ok x) P Q g h = tt
+if_err_map (Err f) P Q g h = g f h
+
+-- ---- the last sign of a base term, and the comma behind its column
+
+pub low_closes : (h : UnaryHole) (column : List ℕ) (u : Token) → u ≢ sign right → next (reading h (columned low_kind column)) u ≡ None
+low_closes h column (sign right) ne = absurd (ne refl)
+low_closes h column _ ne = refl
+
+pub high_closes : (h : UnaryHole) (column : List ℕ) (u : Token) → u ≢ sign right → next (reading h (columned high_kind column)) u ≡ None
+high_closes h column (sign right) ne = absurd (ne refl)
+high_closes h column _ ne = refl
+
+pub around_goes_on : (h : UnaryHole) (column : List ℕ) (u : Token) → u ≢ sign comma → next (reading h (columned around_kind column)) u ≡ None
+around_goes_on h column (sign comma) ne = absurd (ne refl)
+around_goes_on h column _ ne = refl
+
+pub around_closes : (h : UnaryHole) (column : List ℕ) (centre : NumberText) (u : Token) → u ≢ sign right → next (reading h (centred column centre)) u ≡ None
+around_closes h column centre (sign right) ne = absurd (ne refl)
+around_closes h column centre _ ne = refl
+
+pub pos_goes_on : (h : UnaryHole) (column : List ℕ) (u : Token) → u ≢ sign comma → next (reading h (columned pos_kind column)) u ≡ None
+pos_goes_on h column (sign comma) ne = absurd (ne refl)
+pos_goes_on h column _ ne = refl
+
+pub listed_stuck : (h : UnaryHole) (column : List ℕ) (first : NumberText) (others : List NumberText) (u : Token) → u ≢ sign comma → u ≢ sign right → next (reading h (listed column first others)) u ≡ None
+listed_stuck h column first others (sign comma) ne nr = absurd (ne refl)
+listed_stuck h column first others (sign right) ne nr = absurd (nr refl)
+listed_stuck h column first others _ ne nr = refl
+
+-- ---- the numbers of a set
+
+pub all_one : {X : Type 0} (P : X → Type 0) (x : X) → P x → All P (x ∷ [])
+all_one P x h = All-cons P x [] h (All-nil P)
+
+cons_not_none : {A : Type 0} {x : A} {xs : List A} → (x ∷ xs) ≢ []
+cons_not_none h = cc
+
+set_comma : (h : UnaryHole) (column : List ℕ) (some : List NumberText) (n : NumberText) → next (reading h (filled (set_hole column some) n)) (sign comma) ≡ Some (mark comma, reading h (number_due (set_hole column (some ++ n ∷ []))))
+set_comma h column [] n = refl
+set_comma h column (f ∷ os) n = refl
+
+set_right : (h : UnaryHole) (column : List ℕ) (some : List NumberText) (n : NumberText) → next (reading h (filled (set_hole column some) n)) (sign right) ≡ Some (mark right, completed h (based (set_text column (some ++ n ∷ []))))
+set_right h column [] n = refl
+set_right h column (f ∷ os) n = refl
+
+set_stuck : (h : UnaryHole) (column : List ℕ) (some : List NumberText) (n : NumberText) (u : Token) → u ≢ sign comma → u ≢ sign right → next (reading h (filled (set_hole column some) n)) u ≡ None
+set_stuck h column [] n u nc nr = listed_stuck h column n [] u nc nr
+set_stuck h column (f ∷ os) n u nc nr = listed_stuck h column f (os ++ n ∷ []) u nc nr
+
+pub listed_more : (names : Names) (ts us vs : List Placed) (value v : ℤ) → ReadsNumber names ts value us → v ≡ value → Passes (sign comma) us vs → ReadsListed names ts v true vs
+listed_more names ts us vs value v r e c =
+    record {
+      number = r.number;
+      fits = subst (FitsSigned w64) (sym e) r.fits;
+      value_is = r.value_is ∙ sym e;
+      goes = λ h column some. goes_then names _ (reading h (filled (set_hole column some) r.number)) _ ts us vs (r.goes h (set_hole column some))
+          (passes_goes names (sign comma) us vs _ _ (mark comma) c (set_comma h column some r.number) refl);
+    }
+
+pub listed_last : (names : Names) (ts us vs : List Placed) (value v : ℤ) → ReadsNumber names ts value us → v ≡ value → Passes (sign right) us vs → ReadsListed names ts v false vs
+listed_last names ts us vs value v r e c =
+    record {
+      number = r.number;
+      fits = subst (FitsSigned w64) (sym e) r.fits;
+      value_is = r.value_is ∙ sym e;
+      goes = λ h column some. goes_then names _ (reading h (filled (set_hole column some) r.number)) _ ts us vs (r.goes h (set_hole column some))
+          (passes_goes names (sign right) us vs _ _ (mark right) c (set_right h column some r.number) refl);
+    }
+
+pub listed_fails : (names : Names) (ts us vs : List Placed) (value : ℤ) (t : Token) (at : ℕ) → ReadsNumber names ts value us → us ≡ at_place t at ∷ vs → t ≢ sign comma → t ≢ sign right → FailsListed names ts (Unexpected at)
+listed_fails names ts us vs value t at r e nc nr h column some =
+    goes_fails names _ (reading h (filled (set_hole column some) r.number)) ts us (Unexpected at) (r.goes h (set_hole column some))
+    (stuck_fails names t at vs us _ e (set_stuck h column some r.number t nc nr))
+
+-- the first number is due
+pub some_none : (names : Names) (ts : List Placed) → ReadsSome names ts [] true ts
+some_none names ts = record { some = []; fits = All-nil (FitsSigned w64); values_are = refl; goes = λ h column p. (p, refl) }
+
+mapped_more : (some : List NumberText) (n : NumberText) (values : List ℤ) (v : ℤ) → map number_value some ≡ values → number_value n ≡ v → map number_value (some ++ n ∷ []) ≡ values ++ v ∷ []
+mapped_more some n values v e f = map-append number_value some (n ∷ []) ∙ (ap (λ xs. xs ++ number_value n ∷ []) e ∙ ap (λ x. values ++ x ∷ []) f)
+
+pub some_more : (names : Names) (ts us vs : List Placed) (values : List ℤ) (v : ℤ) (more : Bool) → ReadsSome names ts values true us → ReadsListed names us v more vs → ReadsSome names ts (values ++ v ∷ []) more vs
+some_more names ts us vs values v more r l =
+    record {
+      some = r.some ++ l.number ∷ [];
+      fits = All-append (FitsSigned w64) values (v ∷ []) r.fits (all_one (FitsSigned w64) v l.fits);
+      values_are = mapped_more r.some l.number values v r.values_are l.value_is;
+      goes = λ h column. goes_then names _ _ _ ts us vs (r.goes h column) (l.goes h column r.some);
+    }
+
+pub some_fails : (names : Names) (ts us : List Placed) (values : List ℤ) (f : TermFault) → ReadsSome names ts values true us → FailsListed names us f → FailsNumbers names ts f
+some_fails names ts us values f r l h column = goes_fails names _ _ ts us f (r.goes h column) (l h column r.some)
+
+-- the last number ends a set that has one
+pub some_all : (names : Names) (ts us vs : List Placed) (values : List ℤ) (v : ℤ) → ReadsSome names ts values true us → ReadsListed names us v false vs → ReadsNumbers names ts (values ++ v ∷ []) vs
+some_all names ts us vs values v r l = go r.some r.values_are (λ h column. goes_then names _ _ _ ts us vs (r.goes h column) (l.goes h column r.some))
+  where
+    go : (some : List NumberText) → map number_value some ≡ values → ((h : UnaryHole) (column : List ℕ) → Goes names (reading h (number_due (first_of column))) ts (behind_number h column (some ++ l.number ∷ []) false) vs) → ReadsNumbers names ts (values ++ v ∷ []) vs
+    go [] e goes = record { first = l.number; others = []; fits = All-append (FitsSigned w64) values (v ∷ []) r.fits (all_one (FitsSigned w64) v l.fits); values_are = mapped_more [] l.number values v e l.value_is; goes = goes }
+    go (f ∷ os) e goes = record { first = f; others = os ++ l.number ∷ []; fits = All-append (FitsSigned w64) values (v ∷ []) r.fits (all_one (FitsSigned w64) v l.fits); values_are = mapped_more (f ∷ os) l.number values v e l.value_is; goes = goes }
+
+-- ---- base terms
+
+-- a sign behind a part
+pub sign_behind : (names : Names) (ts us vs : List Placed) (s m n : State) (g : Sign) → Goes names s ts m us → Passes (sign g) us vs → next m (sign g) ≡ Some (mark g, n) → Goes names s ts n vs
+sign_behind names ts us vs s m n g h c e = goes_then names s m n ts us vs h (passes_goes names (sign g) us vs m n (mark g) c e refl)
+
+column_is : (names : Names) (letters : List ℕ) (col : ℕ) → column_of names letters ≡ Some col → column_at names letters ≡ col
+column_is names letters col h = ap (λ o. unwrap_or o 0) h
+
+pub low_read : (names : Names) (ts us vs : List Placed) (col : ℕ) → ReadsOpened names ts col us → Passes (sign right) us vs → ReadsBase names low_kind ts (scored (low col)) vs
+low_read names ts us vs col r c =
+    record {
+      tree = low_text r.letters;
+      meaning = ap (λ n. scored (low n)) (column_is names r.letters col r.found.place);
+      known = (r.found.known, tt);
+      goes = λ h. sign_behind names ts us vs _ _ (completed h (based (low_text r.letters))) right (r.goes h low_kind) c refl;
+    }
+
+pub high_read : (names : Names) (ts us vs : List Placed) (col : ℕ) → ReadsOpened names ts col us → Passes (sign right) us vs → ReadsBase names high_kind ts (scored (high col)) vs
+high_read names ts us vs col r c =
+    record {
+      tree = high_text r.letters;
+      meaning = ap (λ n. scored (high n)) (column_is names r.letters col r.found.place);
+      known = (r.found.known, tt);
+      goes = λ h. sign_behind names ts us vs _ _ (completed h (based (high_text r.letters))) right (r.goes h high_kind) c refl;
+    }
+
+pub around_read : (names : Names) (ts us vs ws xs : List Placed) (col : ℕ) (centre : ℤ) → ReadsOpened names ts col us → Passes (sign comma) us vs → ReadsNumber names vs centre ws → Passes (sign right) ws xs → ReadsBase names around_kind ts (scored (around col centre)) xs
+around_read names ts us vs ws xs col centre r c n d =
+    record {
+      tree = around_text r.letters n.number;
+      meaning = ap (λ i. scored (around i (number_value n.number))) (column_is names r.letters col r.found.place) ∙ ap (λ v. scored (around col v)) n.value_is;
+      known = (r.found.known, n.fits);
+      goes = λ h. sign_behind names ts ws xs _ _ (completed h (based (around_text r.letters n.number))) right
+          (goes_then names _ _ _ ts vs ws (sign_behind names ts us vs _ _ (reading h (number_due (centre_of r.letters))) comma (r.goes h around_kind) c refl) (n.goes h (centre_of r.letters))) d refl;
+    }
+
+pub pos_read : (names : Names) (ts us vs ws : List Placed) (col : ℕ) (set : List ℤ) → ReadsOpened names ts col us → Passes (sign comma) us vs → ReadsNumbers names vs set ws → ReadsBase names pos_kind ts (scored (one_of col set)) ws
+pos_read names ts us vs ws col set r c n =
+    record {
+      tree = pos_text r.letters n.first n.others;
+      meaning = ap (λ i. scored (one_of i (number_value n.first ∷ map number_value n.others))) (column_is names r.letters col r.found.place) ∙ ap (λ v. scored (one_of col v)) n.values_are;
+      known = (r.found.known, (subst (λ (set : List ℤ). set ≢ []) n.values_are cons_not_none, n.fits));
+      goes = λ h. goes_then names _ _ _ ts vs ws (sign_behind names ts us vs _ _ (reading h (number_due (first_of r.letters))) comma (r.goes h pos_kind) c refl) (n.goes h r.letters);
+    }
+
+-- and their faults
+pub low_fails : (names : Names) (ts us : List Placed) (col : ℕ) (f : TermFault) → ReadsOpened names ts col us → IsOther (sign right) us f → FailsBase names low_kind ts f
+low_fails names ts us col f r o h = goes_fails names _ _ ts us f (r.goes h low_kind) (other_fails names (sign right) us f _ o (low_closes h r.letters))
+
+pub high_fails : (names : Names) (ts us : List Placed) (col : ℕ) (f : TermFault) → ReadsOpened names ts col us → IsOther (sign right) us f → FailsBase names high_kind ts f
+high_fails names ts us col f r o h = goes_fails names _ _ ts us f (r.goes h high_kind) (other_fails names (sign right) us f _ o (high_closes h r.letters))
+
+pub around_fails : (names : Names) (ts us : List Placed) (col : ℕ) (f : TermFault) → ReadsOpened names ts col us → IsOther (sign comma) us f → FailsBase names around_kind ts f
+around_fails names ts us col f r o h = goes_fails names _ _ ts us f (r.goes h around_kind) (other_fails names (sign comma) us f _ o (around_goes_on h r.letters))
+
+pub around_number_fails : (names : Names) (ts us vs : List Placed) (col : ℕ) (f : TermFault) → ReadsOpened names ts col us → Passes (sign comma) us vs → FailsNumber names vs f → FailsBase names around_kind ts f
+around_number_fails names ts us vs col f r c n h =
+    goes_fails names _ _ ts vs f (sign_behind names ts us vs _ _ (reading h (number_due (centre_of r.letters))) comma (r.goes h around_kind) c refl) (n h (centre_of r.letters))
+
+pub around_end_fails : (names : Names) (ts us vs ws : List Placed) (col : ℕ) (centre : ℤ) (f : TermFault) → ReadsOpened names ts col us → Passes (sign comma) us vs → ReadsNumber names vs centre ws → IsOther (sign right) ws f → FailsBase names around_kind ts f
+around_end_fails names ts us vs ws col centre f r c n o h =
+    goes_fails names _ _ ts ws f
+    (goes_then names _ _ _ ts vs ws (sign_behind names ts us vs _ _ (reading h (number_due (centre_of r.letters))) comma (r.goes h around_kind) c refl) (n.goes h (centre_of r.letters)))
+    (other_fails names (sign right) ws f _ o (around_closes h r.letters n.number))
+
+pub pos_fails : (names : Names) (ts us : List Placed) (col : ℕ) (f : TermFault) → ReadsOpened names ts col us → IsOther (sign comma) us f → FailsBase names pos_kind ts f
+pos_fails names ts us col f r o h = goes_fails names _ _ ts us f (r.goes h pos_kind) (other_fails names (sign comma) us f _ o (pos_goes_on h r.letters))
+
+pub pos_numbers_fails : (names : Names) (ts us vs : List Placed) (col : ℕ) (f : TermFault) → ReadsOpened names ts col us → Passes (sign comma) us vs → FailsNumbers names vs f → FailsBase names pos_kind ts f
+pos_numbers_fails names ts us vs col f r c n h =
+    goes_fails names _ _ ts vs f (sign_behind names ts us vs _ _ (reading h (number_due (first_of r.letters))) comma (r.goes h pos_kind) c refl) (n h r.letters)

@@ -1,0 +1,11 @@
+pub mod WalkLaws
+pub mod WorkedTerms
+pub mod Sound
+pub mod TokenLemmas
+pub mod Values
+pub mod Complete
+pub mod Exact
+pub mod LedLemmas
+pub mod CycleLemmas
+pub mod AskedLemmas
+pub mod AskLemmas

@@ -1,0 +1,164 @@
+-- What was read up to a state grows by the leaf of each token.
+use Rattle.std.proofs.Common.{◌≡◌, ℕ, ◌+◌, List, [], ◌∷◌, ◌++◌, Bool, true, false, Option, Some, None, cond, refl, sym, ap, subst, ◌∙◌, append_assoc, append-nil}
+use Rattle.std.specs.Prelude.{IfSome}
+use Rattle.std.specs.List.{find}
+use Rattle.std.specs.Str.{bytes_eq, str_to_ascii_lowercase}
+use Rattle.std.proofs.lemmas.Slice.Eq.{bytes_eq-Decides}
+use Rattle.pref_term.specs.Token.{Sign, left, right, comma, star, ampersand, minus, Token, word, digits, sign, other, finish, Placed}
+use Rattle.pref_term.specs.Grammar.{Keyword, best_word, low_word, high_word, around_word, pos_word, reverse_word, top_level_word, at_least_word, by_word, CasedWord, skyline_word, of_word, min_word, max_word, diff_word, letters_of, keyword_of, cased_letters, cased_in, cased_of, HeadText, best_head, top_level_head, at_least_head, head_leaves, Direction, minimal, maximal, different, direction_word, DimText, dim_leaves, more_dims, group_leaves, more_columns, AskText, rated, skyline, IsWritten, IsText, NumberText, BaseText, low_text, high_text, around_text, pos_text, PriorText, one_product, then_product, ProductText, one_factor, then_factor, UnaryText, negated, grouped, reversed, based, Leaf, name, mark, opens, column_name, number_digits, count_digits, cased, last, signed_leaves, number_leaves, others_leaves, base_leaves, prior_leaves, product_leaves, unary_leaves, ask_leaves, token_of}
+use Rattle.pref_term.specs.Reading.{BaseKind, low_kind, high_kind, around_kind, pos_kind, kind_word, NumberHole, centre_of, first_of, next_of, BasePart, named, opened, columned, number_due, number_signed, centred, listed, hole_leaves, part_leaves, BaseStep, part, whole_base, filled, after_column, base_next, PriorHole, whole, in_group, in_reverse, ProductHole, first_product, next_product, UnaryHole, first_factor, next_factor, in_minus, prior_depth, product_depth, unary_depth, before_prior, before_product, before_unary, State, start, operand, reverse_named, reading, after, top_level_named, at_least_named, group_due, group_listed, skyline_named, dim_due, dim_named, dims_listed, done, before_column, before_dim, read_of, completed, outer, closed, ranked, in_whole, begun, of_named, listed_column, listed_dim, directed, grouped_by, operand_word, carried, parted, finished, next}
+
+-- one more number at the end of a list of them
+pub others_more : (ns : List NumberText) (n : NumberText) → others_leaves (ns ++ n ∷ []) ≡ others_leaves ns ++ mark comma ∷ number_leaves n
+others_more [] n = simp append-nil
+others_more (m ∷ ns) n = rw (others_more ns n) (simp append_assoc)
+
+pub hole_filled : (h : NumberHole) (n : NumberText) → part_leaves (filled h n) ≡ hole_leaves h ++ number_leaves n
+hole_filled (centre_of column) n = refl
+hole_filled (first_of column) n = simp append-nil
+hole_filled (next_of column first others) n = rw (others_more others n) (simp append_assoc)
+
+abbrev pub step_leaves : BaseStep → List Leaf
+step_leaves (part b) = part_leaves b
+step_leaves (whole_base b) = base_leaves b
+
+-- a leaf is played by the token, and what was read grows by it
+abbrev pub Grows : List Leaf → Token → Leaf → List Leaf → Type 0
+Grows before t leaf now = (token_of leaf ≡ t) × (now ≡ before ++ leaf ∷ []) × IsWritten leaf
+
+pub base_grows : (b : BasePart) (t : Token) → IfSome (base_next b t) (λ r. Grows (part_leaves b) t r.0 (step_leaves r.1))
+base_grows (named k) (sign left) = (refl, refl, tt)
+base_grows (opened k) (word letters) = (refl, refl, tt)
+base_grows (columned low_kind column) (sign right) = (refl, refl, tt)
+base_grows (columned high_kind column) (sign right) = (refl, refl, tt)
+base_grows (columned around_kind column) (sign comma) = (refl, refl, tt)
+base_grows (columned pos_kind column) (sign comma) = (refl, refl, tt)
+base_grows (number_due n) (sign minus) = (refl, refl, tt)
+base_grows (number_due n) (digits ds) = (refl, hole_filled n (record { negative = false; digits = ds }), tt)
+base_grows (number_signed n) (digits ds) = (refl, hole_filled n (record { negative = true; digits = ds }) ∙ simp append_assoc, tt)
+base_grows (centred column centre) (sign right) = (refl, refl, tt)
+base_grows (listed column first others) (sign right) = (refl, simp append_assoc, tt)
+base_grows (listed column first others) (sign comma) = (refl, simp append_assoc, tt)
+base_grows _ _ = tt
+
+-- a whole factor stands behind what was read before it
+pub completed_read : (h : UnaryHole) (u : UnaryText) → read_of (completed h u) ≡ before_unary h ++ unary_leaves u (unary_depth h)
+completed_read (first_factor h) u = refl
+completed_read (next_factor h p) u = simp append_assoc
+completed_read (in_minus h) u = completed_read h (negated u) ∙ simp append_assoc
+
+-- a product ends the prior that it stands in
+pub closed_read : (h : ProductHole) (p : ProductText) → before_product h ++ product_leaves p (product_depth h) ≡ before_prior (outer h) ++ prior_leaves (closed h p) (prior_depth (outer h))
+closed_read (first_product h) p = refl
+closed_read (next_product h r) p = simp append_assoc
+
+-- what a search finds passes the test
+pub find_passes : {A : Type 0} (test : A → Bool) (xs : List A) → IfSome (find test xs) (λ x. test x ≡ true)
+find_passes test [] = tt
+find_passes {A} test (x ∷ xs) = go (test x) refl (find_passes test xs)
+  where
+    go : (b : Bool) → test x ≡ b → IfSome (find test xs) (λ y. test y ≡ true) → IfSome (cond b (Some x) (find test xs)) (λ y. test y ≡ true)
+    go true e h = e
+    go false e h = h
+
+pub keyword_letters : (letters : List ℕ) → IfSome (keyword_of letters) (λ k. letters_of k ≡ letters)
+keyword_letters letters = go (keyword_of letters) (find_passes (λ k. bytes_eq (letters_of k) letters) (best_word ∷ low_word ∷ high_word ∷ around_word ∷ pos_word ∷ reverse_word ∷ top_level_word ∷ at_least_word ∷ by_word ∷ []))
+  where
+    go : (o : Option Keyword) → IfSome o (λ k. bytes_eq (letters_of k) letters ≡ true) → IfSome o (λ k. letters_of k ≡ letters)
+    go None h = tt
+    go (Some k) h = (bytes_eq-Decides (letters_of k) letters).0 h
+
+-- the word that a search finds is written so
+pub cased_written : (letters : List ℕ) → IfSome (cased_of letters) (λ k. IsWritten (cased k letters))
+cased_written letters = go (cased_of letters) (find_passes (λ k. bytes_eq (cased_letters k) (str_to_ascii_lowercase letters)) (skyline_word ∷ of_word ∷ min_word ∷ max_word ∷ diff_word ∷ []))
+  where
+    go : (o : Option CasedWord) → IfSome o (λ k. bytes_eq (cased_letters k) (str_to_ascii_lowercase letters) ≡ true) → IfSome o (λ k. IsWritten (cased k letters))
+    go None h = tt
+    go (Some k) h = (bytes_eq-Decides (cased_letters k) (str_to_ascii_lowercase letters)).0 h
+
+begun_grows : (letters : List ℕ) (o : Option Keyword) (c : Option CasedWord) → IfSome o (λ k. letters_of k ≡ letters) → IfSome c (λ k. IsWritten (cased k letters)) → IfSome (begun letters o c) (λ r. Grows (read_of start) (word letters) r.0 (read_of r.1))
+begun_grows letters (Some best_word) c h w = (ap word h, refl, tt)
+begun_grows letters (Some top_level_word) c h w = (ap word h, refl, tt)
+begun_grows letters (Some at_least_word) c h w = (ap word h, refl, tt)
+begun_grows letters None (Some skyline_word) h w = (refl, refl, w)
+begun_grows letters _ _ h w = tt
+
+of_grows : (s letters : List ℕ) (c : Option CasedWord) → IfSome c (λ k. IsWritten (cased k letters)) → IfSome (of_named s letters c) (λ r. Grows (read_of (skyline_named s)) (word letters) r.0 (read_of r.1))
+of_grows s letters (Some of_word) w = (refl, refl, w)
+of_grows s letters _ w = tt
+
+-- one more column or dimension at the end of some
+more_columns_end : (columns : List (List ℕ)) (column : List ℕ) → more_columns (columns ++ column ∷ []) ≡ more_columns columns ++ mark comma ∷ column_name column ∷ []
+more_columns_end [] column = refl
+more_columns_end (c ∷ cs) column = rw (more_columns_end cs column)
+
+more_dims_end : (ds : List DimText) (d : DimText) → more_dims (ds ++ d ∷ []) ≡ more_dims ds ++ mark comma ∷ dim_leaves d
+more_dims_end [] d = simp append-nil
+more_dims_end (e ∷ es) d = rw (more_dims_end es d) (simp append_assoc)
+
+column_listed : (head : HeadText) (r : PriorText) (columns : List (List ℕ)) (column : List ℕ) → read_of (listed_column head r columns column) ≡ read_of (group_due head r columns) ++ column_name column ∷ []
+column_listed head r [] column = simp append_assoc
+column_listed head r (c ∷ cs) column = rw (more_columns_end cs column) (simp append_assoc)
+
+dim_listed : (s o : List ℕ) (dims : List DimText) (d : DimText) → read_of (listed_dim s o dims d) ≡ cased skyline_word s ∷ cased of_word o ∷ before_dim dims ++ dim_leaves d
+dim_listed s o [] d = simp append-nil
+dim_listed s o (e ∷ es) d = rw (more_dims_end es d) (simp append_assoc)
+
+directed_grows : (s o : List ℕ) (dims : List DimText) (column letters : List ℕ) (c : Option CasedWord) → IfSome c (λ k. IsWritten (cased k letters)) → IfSome (directed s o dims column letters c) (λ r. Grows (read_of (dim_named s o dims column)) (word letters) r.0 (read_of r.1))
+directed_grows s o dims column letters (Some min_word) w = (refl, dim_listed s o dims (record { column = column; direction = minimal; written = letters }) ∙ simp append_assoc, w)
+directed_grows s o dims column letters (Some max_word) w = (refl, dim_listed s o dims (record { column = column; direction = maximal; written = letters }) ∙ simp append_assoc, w)
+directed_grows s o dims column letters (Some diff_word) w = (refl, dim_listed s o dims (record { column = column; direction = different; written = letters }) ∙ simp append_assoc, w)
+directed_grows s o dims column letters _ w = tt
+
+grouped_by_grows : (h : PriorHole) (r : PriorText) (o : Option Keyword) (letters : List ℕ) → IfSome o (λ k. letters_of k ≡ letters) → IfSome (grouped_by h r o) (λ x. Grows (before_prior h ++ prior_leaves r (prior_depth h)) (word letters) x.0 (read_of x.1))
+grouped_by_grows (whole head) r (Some by_word) letters e = (ap word e, simp append_assoc, tt)
+grouped_by_grows _ r _ letters e = tt
+
+operand_word_grows : (h : UnaryHole) (o : Option Keyword) (letters : List ℕ) → IfSome o (λ k. letters_of k ≡ letters) → IfSome (operand_word h o) (λ r. Grows (before_unary h) (word letters) r.0 (read_of r.1))
+operand_word_grows h (Some low_word) letters e = (ap word e, refl, tt)
+operand_word_grows h (Some high_word) letters e = (ap word e, refl, tt)
+operand_word_grows h (Some around_word) letters e = (ap word e, refl, tt)
+operand_word_grows h (Some pos_word) letters e = (ap word e, refl, tt)
+operand_word_grows h (Some reverse_word) letters e = (ap word e, refl, tt)
+operand_word_grows h _ letters e = tt
+
+carried_grows : (h : UnaryHole) (b : BasePart) (t : Token) (o : Option (Leaf × BaseStep)) → IfSome o (λ r. Grows (part_leaves b) t r.0 (step_leaves r.1)) → IfSome (carried h o) (λ r. Grows (before_unary h ++ part_leaves b) t r.0 (read_of r.1))
+carried_grows h b t None e = tt
+carried_grows h b t (Some (leaf, part c)) e = (e.0, ap (λ ls. before_unary h ++ ls) e.1 ∙ simp append_assoc, e.2)
+carried_grows h b t (Some (leaf, whole_base c)) e = (e.0, completed_read h (based c) ∙ (ap (λ ls. before_unary h ++ ls) e.1 ∙ simp append_assoc), e.2)
+
+parted_grows : (h : PriorHole) (r : PriorText) → IfSome (parted h r) (λ x. Grows (before_prior h ++ prior_leaves r (prior_depth h)) (sign right) x.0 (read_of x.1))
+parted_grows (whole head) r = tt
+parted_grows (in_group h) r = (refl, completed_read h (grouped r) ∙ simp append_assoc, tt)
+parted_grows (in_reverse h) r = (refl, completed_read h (reversed r) ∙ simp append_assoc, tt)
+
+finished_grows : (h : PriorHole) (r : PriorText) → IfSome (finished h r) (λ x. Grows (before_prior h ++ prior_leaves r (prior_depth h)) finish x.0 (read_of x.1))
+finished_grows (whole head) r = (refl, simp append_assoc, tt)
+finished_grows _ r = tt
+
+pub next_grows : (s : State) (t : Token) → IfSome (next s t) (λ r. Grows (read_of s) t r.0 (read_of r.1))
+next_grows start (word letters) = begun_grows letters (keyword_of letters) (cased_of letters) (keyword_letters letters) (cased_written letters)
+next_grows (operand h) (sign minus) = (refl, refl, tt)
+next_grows (operand h) (sign left) = (refl, refl, tt)
+next_grows (operand h) (word letters) = operand_word_grows h (keyword_of letters) letters (keyword_letters letters)
+next_grows (reverse_named h) (sign left) = (refl, simp append_assoc, tt)
+next_grows (reading h b) t = carried_grows h b t (base_next b t) (base_grows b t)
+next_grows (after h p) (sign star) = (refl, simp append_assoc, tt)
+next_grows (after h p) (sign ampersand) = (refl, sym (ap (λ ls. ls ++ mark ampersand ∷ []) (closed_read h p) ∙ append_assoc (before_prior (outer h)) (prior_leaves (closed h p) (prior_depth (outer h))) (mark ampersand ∷ [])), tt)
+next_grows (after h p) (sign right) =
+    subst (λ (ls : List Leaf). IfSome (parted (outer h) (closed h p)) (λ r. Grows ls (sign right) r.0 (read_of r.1))) (sym (closed_read h p)) (parted_grows (outer h) (closed h p))
+next_grows (after h p) finish =
+    subst (λ (ls : List Leaf). IfSome (finished (outer h) (closed h p)) (λ r. Grows ls finish r.0 (read_of r.1))) (sym (closed_read h p)) (finished_grows (outer h) (closed h p))
+next_grows (after h p) (word letters) =
+    subst (λ (ls : List Leaf). IfSome (grouped_by (outer h) (closed h p) (keyword_of letters)) (λ r. Grows ls (word letters) r.0 (read_of r.1))) (sym (closed_read h p)) (grouped_by_grows (outer h) (closed h p) (keyword_of letters) letters (keyword_letters letters))
+next_grows top_level_named (digits ds) = (refl, refl, tt)
+next_grows at_least_named (digits ds) = (refl, refl, tt)
+next_grows (group_due head r columns) (word letters) = (refl, column_listed head r columns letters, tt)
+next_grows (group_listed head r first others) (sign comma) = (refl, simp append_assoc, tt)
+next_grows (group_listed head r first others) finish = (refl, simp append_assoc, tt)
+next_grows (skyline_named s) (word letters) = of_grows s letters (cased_of letters) (cased_written letters)
+next_grows (dim_due s o dims) (word letters) = (refl, refl, tt)
+next_grows (dim_named s o dims column) (word letters) = directed_grows s o dims column letters (cased_of letters) (cased_written letters)
+next_grows (dims_listed s o first others) (sign comma) = (refl, simp append_assoc, tt)
+next_grows (dims_listed s o first others) finish = (refl, simp append_assoc, tt)
+next_grows _ _ = tt

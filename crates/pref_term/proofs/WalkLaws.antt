@@ -1,0 +1,165 @@
+-- What one walk tells of both directions of a pair.
+use Rattle.std.proofs.Common.{◌≡◌, ℤ, List, Bool, true, false, refl, sym, ap, ◌∙◌, arith}
+use Rattle.std.specs.Prelude.{◌&&◌, ◌||◌, int_lt, if◌then◌else◌}
+use Rattle.std.specs.Ordering.{int_eq}
+use Rattle.std.proofs.lemmas.Int.{ints}
+use Rattle.pref_term.specs.Better.{better, same, score}
+use Rattle.pref_term.specs.Order.{is_better, is_same, is_worse}
+use Rattle.pref_term.specs.Preference.{Preference, scored, pareto, prior, reverse}
+use Rattle.pref_term.specs.Walk.{by_scores, in_product, in_priority, walked}
+use Rattle.pref_term.specs.declared.relation.Relation.{Relation}
+use Rattle.pref_term.specs.declared.relation.Relation.TheVariants.{Better, Worse, Same, Neither}
+
+scores-better : (x y : ℤ) → is_better (by_scores x y) ≡ int_lt x y
+scores-better x y = go (int_lt x y) (int_lt y x)
+  where
+    go : (less more : Bool) → is_better (if less then Better else if more then Worse else Same) ≡ less
+    go true more = refl
+    go false true = refl
+    go false false = refl
+
+lower_once : (x y : ℤ) → int_lt x y ≡ true → int_lt y x ≡ false
+lower_once x y h = grind (arith, ints)
+
+lower_apart : (x y : ℤ) → int_lt x y ≡ true → int_eq x y ≡ false
+lower_apart x y h = grind (arith, ints)
+
+higher_apart : (x y : ℤ) → int_lt y x ≡ true → int_eq x y ≡ false
+higher_apart x y h = grind (arith, ints)
+
+neither_lower : (x y : ℤ) → int_lt x y ≡ false → int_lt y x ≡ false → int_eq x y ≡ true
+neither_lower x y h k = grind (arith, ints)
+
+scores-worse : (x y : ℤ) → is_worse (by_scores x y) ≡ int_lt y x
+scores-worse x y = go (int_lt x y) (int_lt y x) refl refl
+  where
+    go : (less more : Bool) → int_lt x y ≡ less → int_lt y x ≡ more → is_worse (if less then Better else if more then Worse else Same) ≡ more
+    go true more h k = sym (lower_once x y h) ∙ k
+    go false true h k = refl
+    go false false h k = refl
+
+scores-same : (x y : ℤ) → is_same (by_scores x y) ≡ int_eq x y
+scores-same x y = go (int_lt x y) (int_lt y x) refl refl
+  where
+    go : (less more : Bool) → int_lt x y ≡ less → int_lt y x ≡ more → is_same (if less then Better else if more then Worse else Same) ≡ int_eq x y
+    go true more h k = sym (lower_apart x y h)
+    go false true h k = sym (higher_apart x y k)
+    go false false h k = sym (neither_lower x y h k)
+
+product-better : (r s : Relation) → is_better (in_product r s) ≡ ((is_better r && (is_better s || is_same s)) || (is_better s && (is_better r || is_same r)))
+product-better Better Better = refl
+product-better Better Worse = refl
+product-better Better Same = refl
+product-better Better Neither = refl
+product-better Worse Better = refl
+product-better Worse Worse = refl
+product-better Worse Same = refl
+product-better Worse Neither = refl
+product-better Same Better = refl
+product-better Same Worse = refl
+product-better Same Same = refl
+product-better Same Neither = refl
+product-better Neither Better = refl
+product-better Neither Worse = refl
+product-better Neither Same = refl
+product-better Neither Neither = refl
+
+-- the relation of the second row to the first
+flipped : Relation → Relation
+flipped Better = Worse
+flipped Worse = Better
+flipped Same = Same
+flipped Neither = Neither
+
+flipped-product : (r s : Relation) → flipped (in_product r s) ≡ in_product (flipped r) (flipped s)
+unfolding flipped
+flipped-product Better Better = refl
+flipped-product Better Worse = refl
+flipped-product Better Same = refl
+flipped-product Better Neither = refl
+flipped-product Worse Better = refl
+flipped-product Worse Worse = refl
+flipped-product Worse Same = refl
+flipped-product Worse Neither = refl
+flipped-product Same s = refl
+flipped-product Neither s = refl
+
+flipped-priority : (r s : Relation) → flipped (in_priority r s) ≡ in_priority (flipped r) (flipped s)
+unfolding flipped
+flipped-priority Better s = refl
+flipped-priority Worse s = refl
+flipped-priority Same s = refl
+flipped-priority Neither s = refl
+
+flipped-scores : (x y : ℤ) → flipped (by_scores x y) ≡ by_scores y x
+unfolding flipped
+flipped-scores x y = go (int_lt x y) (int_lt y x) refl refl
+  where
+    go : (less more : Bool) → int_lt x y ≡ less → int_lt y x ≡ more
+        → flipped (if less then Better else if more then Worse else Same) ≡ (if more then Better else if less then Worse else Same)
+    go true true h k = absurd (cc (lower_once x y h))
+    go true false h k = refl
+    go false true h k = refl
+    go false false h k = refl
+
+walked-flipped : (p : Preference) (a b : List ℤ) → flipped (walked p a b) ≡ walked p b a
+walked-flipped (scored t) a b = flipped-scores (score t a) (score t b)
+walked-flipped (pareto p q) a b = flipped-product (walked p a b) (walked q a b) ∙ cc (walked-flipped p a b, walked-flipped q a b)
+walked-flipped (prior p q) a b = flipped-priority (walked p a b) (walked q a b) ∙ cc (walked-flipped p a b, walked-flipped q a b)
+walked-flipped (reverse p) a b = walked-flipped p b a
+
+product-same : (r s : Relation) → is_same (in_product r s) ≡ (is_same r && is_same s)
+product-same Better Better = refl
+product-same Better Worse = refl
+product-same Better Same = refl
+product-same Better Neither = refl
+product-same Worse Better = refl
+product-same Worse Worse = refl
+product-same Worse Same = refl
+product-same Worse Neither = refl
+product-same Same s = refl
+product-same Neither s = refl
+
+priority-better : (r s : Relation) → is_better (in_priority r s) ≡ (is_better r || (is_same r && is_better s))
+priority-better Better s = refl
+priority-better Worse s = refl
+priority-better Same s = refl
+priority-better Neither s = refl
+
+priority-same : (r s : Relation) → is_same (in_priority r s) ≡ (is_same r && is_same s)
+priority-same Better s = refl
+priority-same Worse s = refl
+priority-same Same s = refl
+priority-same Neither s = refl
+
+same-flipped : (r : Relation) → is_same (flipped r) ≡ is_same r
+unfolding flipped
+same-flipped Better = refl
+same-flipped Worse = refl
+same-flipped Same = refl
+same-flipped Neither = refl
+
+better-flipped : (r : Relation) → is_better (flipped r) ≡ is_worse r
+unfolding flipped
+better-flipped Better = refl
+better-flipped Worse = refl
+better-flipped Same = refl
+better-flipped Neither = refl
+
+pub walked-same : (p : Preference) (a b : List ℤ) → is_same (walked p a b) ≡ same p a b
+walked-same (scored t) a b = scores-same (score t a) (score t b)
+walked-same (pareto p q) a b = product-same (walked p a b) (walked q a b) ∙ cc (walked-same p a b, walked-same q a b)
+walked-same (prior p q) a b = priority-same (walked p a b) (walked q a b) ∙ cc (walked-same p a b, walked-same q a b)
+walked-same (reverse p) a b = ap is_same (sym (walked-flipped p a b)) ∙ (same-flipped (walked p a b) ∙ walked-same p a b)
+
+pub walked-better : (p : Preference) (a b : List ℤ) → is_better (walked p a b) ≡ better p a b
+walked-better (scored t) a b = scores-better (score t a) (score t b)
+walked-better (pareto p q) a b =
+    product-better (walked p a b) (walked q a b)
+    ∙ cc (walked-better p a b, walked-better q a b, walked-same p a b, walked-same q a b)
+walked-better (prior p q) a b =
+    priority-better (walked p a b) (walked q a b) ∙ cc (walked-better p a b, walked-better q a b, walked-same p a b)
+walked-better (reverse p) a b = walked-better p b a
+
+pub walked-worse : (p : Preference) (a b : List ℤ) → is_worse (walked p a b) ≡ better p b a
+walked-worse p a b = sym (better-flipped (walked p a b)) ∙ (ap is_better (walked-flipped p a b) ∙ walked-better p b a)

@@ -1,0 +1,63 @@
+-- Worked examples, by computation: rows that a term ranks, as a reader would rank them by hand.
+use Rattle.std.proofs.Common.{◌≡◌, true, false, ℤ, pos, List, [], ◌∷◌, refl}
+use Rattle.std.specs.Prelude.{negsuc, ◌^◌, ◌-◌}
+use Rattle.pref_term.specs.Better.{better, same}
+use Rattle.pref_term.specs.Preference.{Preference, low, high, around, one_of, scored, pareto, prior, reverse}
+
+abbrev x_low : Preference
+x_low = scored (low 0)
+
+abbrev y_low : Preference
+y_low = scored (low 1)
+
+abbrev z_low : Preference
+z_low = scored (low 2)
+
+-- cheaper is better, and equal rows are the same
+pub smaller_is_better : better x_low (pos 10 ∷ []) (pos 30 ∷ []) ≡ true
+smaller_is_better = refl
+
+pub equal_rows_are_the_same : same (pareto x_low y_low) (pos 1 ∷ pos 2 ∷ []) (pos 1 ∷ pos 2 ∷ []) ≡ true
+equal_rows_are_the_same = refl
+
+pub equal_rows_are_both_kept : better (pareto x_low y_low) (pos 1 ∷ pos 2 ∷ []) (pos 1 ∷ pos 2 ∷ []) ≡ false
+equal_rows_are_both_kept = refl
+
+-- from the greatest number, the least is one further away than the one above it: distances 2^64 - 1 and 2^64 - 2
+abbrev from_the_greatest : Preference
+from_the_greatest = scored (around 0 (pos (2 ^ 63 - 1)))
+
+pub a_distance_does_not_wrap : better from_the_greatest (negsuc (2 ^ 63 - 2) ∷ []) (negsuc (2 ^ 63 - 1) ∷ []) ≡ true
+a_distance_does_not_wrap = refl
+
+-- the product binds tighter: x first, then y and z at once
+abbrev x_then_both : Preference
+x_then_both = prior x_low (pareto y_low z_low)
+
+pub first_column_decides : better x_then_both (pos 0 ∷ pos 9 ∷ pos 9 ∷ []) (pos 1 ∷ pos 5 ∷ pos 5 ∷ []) ≡ true
+first_column_decides = refl
+
+pub neither_of_both_decides : better x_then_both (pos 1 ∷ pos 5 ∷ pos 5 ∷ []) (pos 1 ∷ pos 4 ∷ pos 6 ∷ []) ≡ false
+neither_of_both_decides = refl
+
+-- in the other grouping the last column has a say at once
+pub grouping_matters : better (pareto (prior x_low y_low) z_low) (pos 0 ∷ pos 9 ∷ pos 9 ∷ []) (pos 1 ∷ pos 5 ∷ pos 5 ∷ []) ≡ false
+grouping_matters = refl
+
+-- "the same" asks each base term; two rows of which neither is better need not be the same
+pub neither_better_is_not_same : better (prior (pareto x_low y_low) z_low) (pos 1 ∷ pos 2 ∷ pos 0 ∷ []) (pos 2 ∷ pos 1 ∷ pos 9 ∷ []) ≡ false
+neither_better_is_not_same = refl
+
+-- the converse of smaller x and larger y at once
+pub converse_of_a_product : better (reverse (pareto x_low (scored (high 1)))) (pos 3 ∷ pos 7 ∷ []) (pos 1 ∷ pos 9 ∷ []) ≡ true
+converse_of_a_product = refl
+
+-- a wanted value first, and then the smaller y
+abbrev wanted : Preference
+wanted = prior (scored (one_of 0 (pos 2 ∷ pos 5 ∷ []))) y_low
+
+pub a_member_is_better : better wanted (pos 2 ∷ pos 7 ∷ []) (pos 1 ∷ pos 0 ∷ []) ≡ true
+a_member_is_better = refl
+
+pub of_two_members_the_smaller : better wanted (pos 5 ∷ pos 6 ∷ []) (pos 2 ∷ pos 7 ∷ []) ≡ true
+of_two_members_the_smaller = refl

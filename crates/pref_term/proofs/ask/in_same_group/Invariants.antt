@@ -1,0 +1,7 @@
+use Rattle.std.proofs.Common.{◌≡◌, drop}
+use Rattle.pref_term.specs.Better.{in_same_group}
+use Rattle.pref_term.proofs.ask.in_same_group.Given as goal
+
+-- the columns that are left decide
+abbrev pub invariant-loop-col : goal.invariant-loop-col
+invariant-loop-col l = in_same_group (drop l.col-index l.columns) l.a l.b ≡ in_same_group l.columns l.a l.b

@@ -1,0 +1,7 @@
+use Rattle.std.proofs.Common.{refl}
+use Rattle.pref_term.specs.Asked.{asked}
+use Rattle.pref_term.proofs.laws.worked_texts.Goals as goal
+
+pub returns : goal.returns
+unfolding asked
+returns c = record { best = refl; skyline = refl; unknown = refl; unordered = refl }

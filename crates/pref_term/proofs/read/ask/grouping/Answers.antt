@@ -1,0 +1,21 @@
+use Rattle.std.proofs.Common.{Some, sym, ap, ◌∙◌}
+use Rattle.std.proofs.lemmas.Result.{IfOk-weaker}
+use Rattle.pref_term.specs.Ahead.{ahead}
+use Rattle.pref_term.specs.Led.{FailsColumns, FailsGrouping}
+use Rattle.pref_term.proofs.LedLemmas.{if_err_map}
+use Rattle.pref_term.proofs.AskLemmas.{grouping_read, grouping_fails}
+use Rattle.pref_term.proofs.read.ask.grouping.Goals as goal
+
+pub returns-clause-ok : goal.returns-clause-ok
+returns-clause-ok c =
+    let w = c.in_ok-by in
+    IfOk-weaker c.group_columns.result _ _
+    (λ columns h. grouping_read c.args.schema.now w.by.letters.now (ahead c.args.cursor) (ahead w.by.next) columns.items (w.by.at, w.ensures.ok) (sym c.in-Some.ensures ∙ ap Some c.in-By.is) h)
+    c.group_columns.ensures.ok
+
+pub returns-clause-err : goal.returns-clause-err
+returns-clause-err c =
+    let w = c.in_ok-by in
+    if_err_map c.group_columns.result (FailsColumns c.args.schema.now (ahead w.by.next)) (FailsGrouping c.args.schema.now (ahead c.args.cursor))
+    (λ f h. grouping_fails c.args.schema.now w.by.letters.now (ahead c.args.cursor) (ahead w.by.next) f (w.by.at, w.ensures.ok) (sym c.in-Some.ensures ∙ ap Some c.in-By.is) h)
+    c.group_columns.ensures.err

@@ -1,0 +1,171 @@
+use Rattle.std.proofs.Common.{◌≡◌, ◌≤◌, ◌<◌, ◌+◌, ℕ, List, ◌∷◌, Some, arith, sym, ap, subst, ◌∙◌, length}
+use Rattle.std.proofs.lemmas.Result.{IfOk-weaker}
+use Rattle.pref_term.specs.Token.{sign, star, ampersand, Placed}
+use Rattle.pref_term.specs.Grammar.{keyword_of}
+use Rattle.pref_term.specs.Reading.{low_kind, high_kind, around_kind, pos_kind}
+use Rattle.pref_term.specs.Ahead.{ahead}
+use Rattle.pref_term.specs.Led.{NotNext, FailsUnary, FailsGroup, FailsProduct, FailsPrior, FailsBase, FailsReverse, ReadsBase, ReadsReverse, ReadsUnary, ReadsGroup, ReadsFactors, ReadsProducts}
+use Rattle.pref_term.specs.Preference.{Preference, preference_of, pareto, prior, reverse}
+use Rattle.pref_term.proofs.LedLemmas.{err_exit, if_err_map, taken_is}
+use Rattle.pref_term.proofs.CycleLemmas.{group_read, group_end_fails, one_factor_read, more_factors, more_factors_fail, one_product_read, more_products, more_products_fail, minus_read, minus_fails, left_read, left_fails, reverse_read, reverse_fails, base_read, base_fails, word_reverse_read, word_reverse_fails}
+use Rattle.pref_term.proofs.read.term.+term.Goals as goal
+
+pub group-returns-in_err-rest-clause-err : goal.group-returns-in_err-rest-clause-err
+group-returns-in_err-rest-clause-err t c =
+    let f = c.in_err-rest.field-0.0 in
+    err_exit c.from_residual-in_err-rest.result f (FailsGroup c.args.schema.now c.args.inside (ahead c.args.cursor)) c.from_residual-in_err-rest.ensures.1
+    (group_end_fails c.args.schema.now c.args.inside _ (ahead c.in_ok-term.next) (preference_of c.in_ok-term.term) f c.in_ok-term.ensures.ok c.in_err-rest.ensures.err)
+
+pub group-returns-clause-ok : goal.group-returns-clause-ok
+group-returns-clause-ok t c =
+    group_read c.args.schema.now c.args.inside _ (ahead c.in_ok-term.next) (ahead c.in_ok-rest.rest) (preference_of c.in_ok-term.term) c.in_ok-term.ensures.ok c.in_ok-rest.ensures.ok
+
+pub prior-loop-taken-init : goal.prior-loop-taken-init
+prior-loop-taken-init t c =
+    let v = c.in_ok-term in
+    record {
+      so_far = one_product_read c.args.schema.now c.args.depth _ (ahead v.place) (preference_of v.term) v.ensures.ok;
+      stops = v.ensures.ok.stops;
+      shorter = omega (arith, v.ensures.shorter);
+    }
+
+pub prior-returns-in_err-last-clause-err : goal.prior-returns-in_err-last-clause-err
+prior-returns-in_err-last-clause-err t c =
+    let f = c.in_err-last.field-0.0 in
+    err_exit c.from_residual-in_err-last.result f (FailsPrior c.args.schema.now c.args.depth (ahead c.args.cursor)) c.from_residual-in_err-last.ensures.1
+    (more_products_fail c.args.schema.now c.args.depth _ (ahead c.loop-taken.place) (ahead c.take-taken.result.next) (preference_of c.loop-taken.term) f c.loop-taken.invariant.so_far (c.take-taken.result.at, c.take-taken.ensures ∙ c.if-not-is.ensures.yes) c.in_err-last.ensures.err)
+
+pub prior-loop-taken-preserved : goal.prior-loop-taken-preserved
+prior-loop-taken-preserved t c =
+    let v = c.in_ok-last in
+    let u = c.take-taken.result in
+    let e = c.take-taken.ensures ∙ c.if-not-is.ensures.yes in
+    let k = ap (λ (xs : List Placed). length xs) e in
+    let so_far = more_products c.args.schema.now c.args.depth (ahead c.args.cursor) (ahead c.loop-taken.place) (ahead u.next) (ahead v.next) (preference_of c.loop-taken.term) (preference_of v.last) c.loop-taken.invariant.so_far (u.at, e) v.ensures.ok in
+    record {
+      so_far = subst (λ (p : Preference). ReadsProducts c.args.schema.now c.args.depth (ahead c.args.cursor) p (ahead v.next)) (sym c.in_ok-term-2.ensures.ok) so_far;
+      stops = v.ensures.ok.stops;
+      shorter = omega (arith, v.ensures.shorter, c.loop-taken.invariant.shorter, k);
+    }
+
+pub product-loop-taken-init : goal.product-loop-taken-init
+product-loop-taken-init t c =
+    let v = c.in_ok-term in
+    record {
+      so_far = one_factor_read c.args.schema.now c.args.depth _ (ahead v.place) (preference_of v.term) v.ensures.ok;
+      shorter = omega (arith, v.ensures.shorter);
+    }
+
+pub product-returns-in_err-factor-clause-err : goal.product-returns-in_err-factor-clause-err
+product-returns-in_err-factor-clause-err t c =
+    let f = c.in_err-factor.field-0.0 in
+    err_exit c.from_residual-in_err-factor.result f (FailsProduct c.args.schema.now c.args.depth (ahead c.args.cursor)) c.from_residual-in_err-factor.ensures.1
+    (more_factors_fail c.args.schema.now c.args.depth _ (ahead c.loop-taken.place) (ahead c.take-taken.result.next) (preference_of c.loop-taken.term) f c.loop-taken.invariant.so_far (c.take-taken.result.at, c.take-taken.ensures ∙ c.if-not-is.ensures.yes) c.in_err-factor.ensures.err)
+
+pub product-loop-taken-preserved : goal.product-loop-taken-preserved
+product-loop-taken-preserved t c =
+    let v = c.in_ok-factor in
+    let u = c.take-taken.result in
+    let e = c.take-taken.ensures ∙ c.if-not-is.ensures.yes in
+    let k = ap (λ (xs : List Placed). length xs) e in
+    let so_far = more_factors c.args.schema.now c.args.depth (ahead c.args.cursor) (ahead c.loop-taken.place) (ahead u.next) (ahead v.next) (preference_of c.loop-taken.term) (preference_of v.factor) c.loop-taken.invariant.so_far (u.at, e) v.ensures.ok in
+    record {
+      so_far = subst (λ (p : Preference). ReadsFactors c.args.schema.now c.args.depth (ahead c.args.cursor) p (ahead v.next)) (sym c.in_ok-term-2.ensures.ok) so_far;
+      shorter = omega (arith, v.ensures.shorter, c.loop-taken.invariant.shorter, k);
+    }
+
+pub reverse-returns-clause-ok : goal.reverse-returns-clause-ok
+reverse-returns-clause-ok t c =
+    let u = c.take-taken.result in
+    let i = c.in_ok-inside.ensures.ok in
+    let v = c.in_ok-part in
+    let r = subst (λ (n : ℕ). ReadsGroup c.args.schema.now n (ahead u.next) (preference_of v.part) (ahead v.next)) i.1 v.ensures.ok in
+    subst (λ (p : Preference). ReadsReverse c.args.schema.now c.args.depth (ahead c.args.cursor) p (ahead v.next)) (sym c.in_ok-reversed.ensures.ok)
+    (reverse_read c.args.schema.now c.args.depth (ahead c.args.cursor) (ahead u.next) (ahead v.next) (preference_of v.part) i.0 (u.at, c.take-taken.ensures ∙ c.if-not-is.ensures.yes) r)
+
+pub unary-returns-in_err-part-clause-err : goal.unary-returns-in_err-part-clause-err
+unary-returns-in_err-part-clause-err t c =
+    let f = c.in_err-part.field-0.0 in
+    err_exit c.from_residual-in_err-part.result f (FailsUnary c.args.schema.now c.args.depth (ahead c.args.cursor)) c.from_residual-in_err-part.ensures.1
+    (minus_fails c.args.schema.now c.args.depth _ (ahead c.take-taken.result.next) f c.in_ok-inside.ensures.ok.0 (c.take-taken.result.at, c.take-taken.ensures ∙ c.if-is.ensures.yes) (subst (λ (n : ℕ). FailsUnary c.args.schema.now n (ahead c.take-taken.result.next) f) c.in_ok-inside.ensures.ok.1 c.in_err-part.ensures.err))
+
+pub unary-returns-then-is-clause-ok : goal.unary-returns-then-is-clause-ok
+unary-returns-then-is-clause-ok t c =
+    let u = c.take-taken.result in
+    let i = c.in_ok-inside.ensures.ok in
+    let v = c.in_ok-part in
+    let r = subst (λ (n : ℕ). ReadsUnary c.args.schema.now n (ahead u.next) (preference_of v.part) (ahead v.next)) i.1 v.ensures.ok in
+    subst (λ (p : Preference). ReadsUnary c.args.schema.now c.args.depth (ahead c.args.cursor) p (ahead v.next)) (sym c.in_ok-reversed.ensures.ok)
+    (minus_read c.args.schema.now c.args.depth (ahead c.args.cursor) (ahead u.next) (ahead v.next) (preference_of v.part) i.0 (u.at, c.take-taken.ensures ∙ c.if-is.ensures.yes) r)
+
+pub unary-returns-then-is-2-clause-ok : goal.unary-returns-then-is-2-clause-ok
+unary-returns-then-is-2-clause-ok t c =
+    let u = c.take-taken.result in
+    let i = c.in_ok-inside-2.ensures.ok in
+    IfOk-weaker c.group.result _ _
+    (λ x h. left_read c.args.schema.now c.args.depth (ahead c.args.cursor) (ahead u.next) (ahead x.1) (preference_of x.0) i.0 (u.at, c.take-taken.ensures ∙ c.if-is-2.ensures.yes)
+    (subst (λ (n : ℕ). ReadsGroup c.args.schema.now n (ahead u.next) (preference_of x.0) (ahead x.1)) i.1 h))
+    c.group.ensures.ok
+
+pub unary-returns-in-Low-clause-ok : goal.unary-returns-in-Low-clause-ok
+unary-returns-in-Low-clause-ok t c =
+    let u = c.take-taken.result in
+    IfOk-weaker c.low.result _ _
+    (λ x h. base_read c.args.schema.now c.args.depth c.in-Word.letters.now low_kind (ahead c.args.cursor) (ahead u.next) (ahead x.1) (preference_of x.0) (u.at, taken_is _ u _ c.take-taken.ensures c.in-Word.is) (sym c.in-Some.ensures ∙ ap Some c.in-Low.is) h)
+    c.low.ensures.ok
+
+pub unary-returns-in-Low-clause-err : goal.unary-returns-in-Low-clause-err
+unary-returns-in-Low-clause-err t c =
+    let u = c.take-taken.result in
+    if_err_map c.low.result (FailsBase c.args.schema.now low_kind (ahead u.next)) (FailsUnary c.args.schema.now c.args.depth (ahead c.args.cursor))
+    (λ f h. base_fails c.args.schema.now c.args.depth c.in-Word.letters.now low_kind (ahead c.args.cursor) (ahead u.next) f (u.at, taken_is _ u _ c.take-taken.ensures c.in-Word.is) (sym c.in-Some.ensures ∙ ap Some c.in-Low.is) h)
+    c.low.ensures.err
+
+pub unary-returns-in-High-clause-ok : goal.unary-returns-in-High-clause-ok
+unary-returns-in-High-clause-ok t c =
+    let u = c.take-taken.result in
+    IfOk-weaker c.high.result _ _
+    (λ x h. base_read c.args.schema.now c.args.depth c.in-Word.letters.now high_kind (ahead c.args.cursor) (ahead u.next) (ahead x.1) (preference_of x.0) (u.at, taken_is _ u _ c.take-taken.ensures c.in-Word.is) (sym c.in-Some.ensures ∙ ap Some c.in-High.is) h)
+    c.high.ensures.ok
+
+pub unary-returns-in-High-clause-err : goal.unary-returns-in-High-clause-err
+unary-returns-in-High-clause-err t c =
+    let u = c.take-taken.result in
+    if_err_map c.high.result (FailsBase c.args.schema.now high_kind (ahead u.next)) (FailsUnary c.args.schema.now c.args.depth (ahead c.args.cursor))
+    (λ f h. base_fails c.args.schema.now c.args.depth c.in-Word.letters.now high_kind (ahead c.args.cursor) (ahead u.next) f (u.at, taken_is _ u _ c.take-taken.ensures c.in-Word.is) (sym c.in-Some.ensures ∙ ap Some c.in-High.is) h)
+    c.high.ensures.err
+
+pub unary-returns-in-Around-clause-ok : goal.unary-returns-in-Around-clause-ok
+unary-returns-in-Around-clause-ok t c =
+    let u = c.take-taken.result in
+    IfOk-weaker c.around.result _ _
+    (λ x h. base_read c.args.schema.now c.args.depth c.in-Word.letters.now around_kind (ahead c.args.cursor) (ahead u.next) (ahead x.1) (preference_of x.0) (u.at, taken_is _ u _ c.take-taken.ensures c.in-Word.is) (sym c.in-Some.ensures ∙ ap Some c.in-Around.is) h)
+    c.around.ensures.ok
+
+pub unary-returns-in-Around-clause-err : goal.unary-returns-in-Around-clause-err
+unary-returns-in-Around-clause-err t c =
+    let u = c.take-taken.result in
+    if_err_map c.around.result (FailsBase c.args.schema.now around_kind (ahead u.next)) (FailsUnary c.args.schema.now c.args.depth (ahead c.args.cursor))
+    (λ f h. base_fails c.args.schema.now c.args.depth c.in-Word.letters.now around_kind (ahead c.args.cursor) (ahead u.next) f (u.at, taken_is _ u _ c.take-taken.ensures c.in-Word.is) (sym c.in-Some.ensures ∙ ap Some c.in-Around.is) h)
+    c.around.ensures.err
+
+pub unary-returns-in-Pos-clause-ok : goal.unary-returns-in-Pos-clause-ok
+unary-returns-in-Pos-clause-ok t c =
+    let u = c.take-taken.result in
+    IfOk-weaker c.pos.result _ _
+    (λ x h. base_read c.args.schema.now c.args.depth c.in-Word.letters.now pos_kind (ahead c.args.cursor) (ahead u.next) (ahead x.1) (preference_of x.0) (u.at, taken_is _ u _ c.take-taken.ensures c.in-Word.is) (sym c.in-Some.ensures ∙ ap Some c.in-Pos.is) h)
+    c.pos.ensures.ok
+
+pub unary-returns-in-Pos-clause-err : goal.unary-returns-in-Pos-clause-err
+unary-returns-in-Pos-clause-err t c =
+    let u = c.take-taken.result in
+    if_err_map c.pos.result (FailsBase c.args.schema.now pos_kind (ahead u.next)) (FailsUnary c.args.schema.now c.args.depth (ahead c.args.cursor))
+    (λ f h. base_fails c.args.schema.now c.args.depth c.in-Word.letters.now pos_kind (ahead c.args.cursor) (ahead u.next) f (u.at, taken_is _ u _ c.take-taken.ensures c.in-Word.is) (sym c.in-Some.ensures ∙ ap Some c.in-Pos.is) h)
+    c.pos.ensures.err
+
+pub unary-returns-in-Reverse-clause-ok : goal.unary-returns-in-Reverse-clause-ok
+unary-returns-in-Reverse-clause-ok t c =
+    let u = c.take-taken.result in
+    IfOk-weaker c.reverse.result _ _
+    (λ x h. word_reverse_read c.args.schema.now c.args.depth c.in-Word.letters.now (ahead c.args.cursor) (ahead u.next) (ahead x.1) (preference_of x.0) (u.at, taken_is _ u _ c.take-taken.ensures c.in-Word.is) (sym c.in-Some.ensures ∙ ap Some c.in-Reverse.is) h)
+    c.reverse.ensures.ok

@@ -1,0 +1,200 @@
+-- The grammar of question texts. A text of the grammar is a tree; its leaves are its tokens, each with the part that
+-- it plays; its meaning is a preference. (this project; the clause is that of Börzsönyi, Kossmann, Stocker 2001)
+use Rattle.std.specs.Prelude.{◌≡◌, ℕ, ℤ, pos, zero, suc, neg_ℤ, ◌+◌, ◌-◌, ◌*◌, List, [], ◌∷◌, ◌++◌, map, Bool, true, false, Option, Some, None, codes}
+use Rattle.std.specs.List.{find, AllByRecursion}
+use Rattle.std.specs.Str.{bytes_eq, str_to_ascii_lowercase}
+use Rattle.pref_table.specs.Columns.{column_of}
+use Rattle.pref_term.specs.Token.{Sign, left, right, comma, star, ampersand, minus, Token, word, digits, sign, finish}
+use Rattle.pref_term.specs.Preference.{low, high, around, one_of, Preference, scored, pareto, prior, reverse}
+pub use Rattle.pref_term.specs.declared.token.Keyword.{Keyword}
+pub use Rattle.pref_term.specs.declared.token.Keyword.TheVariants.{Best as best_word, Low as low_word, High as high_word, Around as around_word, Pos as pos_word, Reverse as reverse_word, TopLevel as top_level_word, AtLeast as at_least_word, By as by_word}
+pub use Rattle.pref_term.specs.declared.token.CasedWord.{CasedWord}
+pub use Rattle.pref_term.specs.declared.token.CasedWord.TheVariants.{Skyline as skyline_word, Of as of_word, Min as min_word, Max as max_word, Diff as diff_word}
+pub use Rattle.pref_term.specs.declared.token.Direction.{Direction}
+pub use Rattle.pref_term.specs.declared.token.Direction.TheVariants.{Min as minimal, Max as maximal, Diff as different}
+
+-- the words of the grammar
+abbrev pub letters_of : Keyword → List ℕ
+letters_of best_word = codes "best"
+letters_of low_word = codes "low"
+letters_of high_word = codes "high"
+letters_of around_word = codes "around"
+letters_of pos_word = codes "pos"
+letters_of reverse_word = codes "reverse"
+letters_of top_level_word = codes "top_level"
+letters_of at_least_word = codes "at_least"
+letters_of by_word = codes "by"
+
+-- the words that may stand in any case, in lower case
+abbrev pub cased_letters : CasedWord → List ℕ
+cased_letters skyline_word = codes "skyline"
+cased_letters of_word = codes "of"
+cased_letters min_word = codes "min"
+cased_letters max_word = codes "max"
+cased_letters diff_word = codes "diff"
+
+-- the word that these letters are in lower case
+abbrev pub cased_in : List ℕ → Option CasedWord
+cased_in lower =
+    find (λ k. bytes_eq (cased_letters k) lower) (skyline_word ∷ of_word ∷ min_word ∷ max_word ∷ diff_word ∷ [])
+
+abbrev pub cased_of : List ℕ → Option CasedWord
+cased_of letters = cased_in (str_to_ascii_lowercase letters)
+
+-- the word of the grammar with these letters
+abbrev pub keyword_of : List ℕ → Option Keyword
+keyword_of letters =
+    find (λ k. bytes_eq (letters_of k) letters) (best_word ∷ low_word ∷ high_word ∷ around_word ∷ pos_word ∷ reverse_word ∷ top_level_word ∷ at_least_word ∷ by_word ∷ [])
+
+-- number = [ "-" ] digits
+pub record NumberText : Type 0 where
+  pub negative : Bool
+  pub digits : List ℕ
+
+-- what stands in a column
+pub data BaseText : Type 0 where
+  low_text : (column : List ℕ) → BaseText
+  high_text : (column : List ℕ) → BaseText
+  around_text : (column : List ℕ) (centre : NumberText) → BaseText
+  pos_text : (column : List ℕ) (first : NumberText) (others : List NumberText) → BaseText
+
+mutual
+  -- prior = pareto { "&" pareto }
+  pub data PriorText : Type 0 where
+    one_product : (p : ProductText) → PriorText
+    then_product : (r : PriorText) (p : ProductText) → PriorText
+
+  -- pareto = unary { "*" unary }
+  pub data ProductText : Type 0 where
+    one_factor : (u : UnaryText) → ProductText
+    then_factor : (p : ProductText) (u : UnaryText) → ProductText
+
+  -- unary = "-" unary | "(" prior ")" | "reverse" "(" prior ")" | base
+  pub data UnaryText : Type 0 where
+    negated : (u : UnaryText) → UnaryText
+    grouped : (r : PriorText) → UnaryText
+    reversed : (r : PriorText) → UnaryText
+    based : (b : BaseText) → UnaryText
+
+-- how many are wanted: "best", or "top_level" or "at_least" and digits
+pub data HeadText : Type 0 where
+  best_head : HeadText
+  top_level_head : (count : List ℕ) → HeadText
+  at_least_head : (count : List ℕ) → HeadText
+
+-- dim = column ( "min" | "max" | "diff" ), and how the word is written
+pub record DimText : Type 0 where
+  pub column : List ℕ
+  pub direction : Direction
+  pub written : List ℕ
+
+-- ask = head prior [ "by" column { "," column } ] end | "skyline" "of" dim { "," dim } end
+pub data AskText : Type 0 where
+  rated : (head : HeadText) (r : PriorText) (group : List (List ℕ)) → AskText
+  skyline : (skyline of : List ℕ) (first : DimText) (others : List DimText) → AskText
+
+-- a token with the part that it plays
+pub data Leaf : Type 0 where
+  name : (k : Keyword) → Leaf
+  mark : (s : Sign) → Leaf
+  -- it opens a nesting, where so many are open
+  opens : (depth : ℕ) (s : Sign) → Leaf
+  column_name : (letters : List ℕ) → Leaf
+  number_digits : (negative : Bool) (digits : List ℕ) → Leaf
+  count_digits : (digits : List ℕ) → Leaf
+  -- a word that may stand in any case, as it is written
+  cased : (k : CasedWord) (letters : List ℕ) → Leaf
+  last : Leaf
+
+abbrev pub token_of : Leaf → Token
+token_of (name k) = word (letters_of k)
+token_of (mark s) = sign s
+token_of (opens depth s) = sign s
+token_of (column_name letters) = word letters
+token_of (number_digits negative ds) = digits ds
+token_of (count_digits ds) = digits ds
+token_of (cased k letters) = word letters
+token_of last = finish
+
+-- a word that may stand in any case is that word
+abbrev pub IsWritten : Leaf → Type 0
+IsWritten (cased k letters) = cased_letters k ≡ str_to_ascii_lowercase letters
+IsWritten _ = Unit {0}
+
+abbrev pub signed_leaves : Bool → List ℕ → List Leaf
+signed_leaves true ds = mark minus ∷ number_digits true ds ∷ []
+signed_leaves false ds = number_digits false ds ∷ []
+
+abbrev pub number_leaves : NumberText → List Leaf
+number_leaves n = signed_leaves n.negative n.digits
+
+-- each after a comma
+abbrev pub others_leaves : List NumberText → List Leaf
+others_leaves [] = []
+others_leaves (n ∷ ns) = mark comma ∷ number_leaves n ++ others_leaves ns
+
+abbrev pub base_leaves : BaseText → List Leaf
+base_leaves (low_text column) = name low_word ∷ mark left ∷ column_name column ∷ mark right ∷ []
+base_leaves (high_text column) = name high_word ∷ mark left ∷ column_name column ∷ mark right ∷ []
+base_leaves (around_text column centre) =
+    name around_word ∷ mark left ∷ column_name column ∷ mark comma ∷ number_leaves centre ++ mark right ∷ []
+base_leaves (pos_text column first others) =
+    name pos_word ∷ mark left ∷ column_name column ∷ mark comma ∷ number_leaves first ++ (others_leaves others ++ mark right ∷ [])
+
+-- the leaves, where so many nestings are open around them
+abbrev mutual
+  pub prior_leaves : PriorText → ℕ → List Leaf
+  prior_leaves (one_product p) depth = product_leaves p depth
+  prior_leaves (then_product r p) depth = prior_leaves r depth ++ mark ampersand ∷ product_leaves p depth
+
+  pub product_leaves : ProductText → ℕ → List Leaf
+  product_leaves (one_factor u) depth = unary_leaves u depth
+  product_leaves (then_factor p u) depth = product_leaves p depth ++ mark star ∷ unary_leaves u depth
+
+  pub unary_leaves : UnaryText → ℕ → List Leaf
+  unary_leaves (negated u) depth = opens depth minus ∷ unary_leaves u (depth + 1)
+  unary_leaves (grouped r) depth = opens depth left ∷ prior_leaves r (depth + 1) ++ mark right ∷ []
+  unary_leaves (reversed r) depth = name reverse_word ∷ opens depth left ∷ prior_leaves r (depth + 1) ++ mark right ∷ []
+  unary_leaves (based b) depth = base_leaves b
+
+abbrev pub head_leaves : HeadText → List Leaf
+head_leaves best_head = name best_word ∷ []
+head_leaves (top_level_head count) = name top_level_word ∷ count_digits count ∷ []
+head_leaves (at_least_head count) = name at_least_word ∷ count_digits count ∷ []
+
+-- each after a comma
+abbrev pub more_columns : List (List ℕ) → List Leaf
+more_columns [] = []
+more_columns (column ∷ columns) = mark comma ∷ column_name column ∷ more_columns columns
+
+abbrev pub group_leaves : List (List ℕ) → List Leaf
+group_leaves [] = []
+group_leaves (column ∷ columns) = name by_word ∷ column_name column ∷ more_columns columns
+
+abbrev pub direction_word : Direction → CasedWord
+direction_word minimal = min_word
+direction_word maximal = max_word
+direction_word different = diff_word
+
+-- what such a word says
+abbrev pub direction_in : Option CasedWord → Option Direction
+direction_in (Some min_word) = Some minimal
+direction_in (Some max_word) = Some maximal
+direction_in (Some diff_word) = Some different
+direction_in _ = None
+
+abbrev pub dim_leaves : DimText → List Leaf
+dim_leaves d = column_name d.column ∷ cased (direction_word d.direction) d.written ∷ []
+
+-- each after a comma
+abbrev pub more_dims : List DimText → List Leaf
+more_dims [] = []
+more_dims (d ∷ ds) = mark comma ∷ dim_leaves d ++ more_dims ds
+
+abbrev pub ask_leaves : AskText → List Leaf
+ask_leaves (rated head r group) = head_leaves head ++ (prior_leaves r 0 ++ (group_leaves group ++ last ∷ []))
+ask_leaves (skyline s o first others) = cased skyline_word s ∷ cased of_word o ∷ dim_leaves first ++ (more_dims others ++ last ∷ [])
+
+-- the words of a text that may stand in any case are those words
+abbrev pub IsText : AskText → Type 0
+IsText tree = AllByRecursion IsWritten (ask_leaves tree)

@@ -1,0 +1,347 @@
+-- No public contract cites this.
+-- What each part of the reader promises: where reading comes to, or the fault that it tells. (this project)
+use Rattle.std.specs.Prelude.{◌≡◌, ◌≢◌, ◌<◌, ◌+◌, ℕ, ℤ, List, [], ◌∷◌, ◌++◌, length, All, FitsSigned, IfSome, Bool, true, false, map, Result, Ok, Err, Option, Some, None}
+use Rattle.std.specs.Int.{w64}
+use Rattle.pref_table.specs.Columns.{column_of}
+use Rattle.pref_term.specs.Token.{Sign, star, ampersand, Token, word, digits, sign, Placed}
+use Rattle.pref_term.specs.Grammar.{based, grouped, reversed, low_text, pos_text, NumberText, BaseText, UnaryText, ProductText, PriorText, HeadText, DimText, Direction, minimal, maximal, different, direction_word, cased_of, of_word, AskText, rated, skyline, column_name, count_digits}
+use Rattle.pref_term.specs.Spells.{Names, UnlessMemory, number_value, decimal_value, is_count, column_at, base_meaning, unary_meaning, product_meaning, prior_meaning, product_of, orders_of, groups_of, question}
+use Rattle.pref_term.specs.Reading.{BaseKind, named, opened, columned, NumberHole, first_of, next_of, number_due, filled, UnaryHole, ProductHole, PriorHole, whole, in_group, in_reverse, in_whole, first_factor, first_product, unary_depth, product_depth, prior_depth, State, start, operand, reverse_named, reading, after, group_due, skyline_named, dim_due, dim_named, done, completed, ranked, next, run}
+use Rattle.pref_term.specs.Asked.{meant}
+use Rattle.pref_term.specs.Preference.{Base, low, high, Preference, scored, pareto, prior, reverse}
+use Rattle.pref_term.specs.Columns.{column}
+use Rattle.pref_term.specs.Writable.{IsWritableBase}
+use Rattle.pref_term.specs.Question.{Question}
+use Rattle.pref_term.specs.declared.fault.TermFault.{TermFault}
+use Rattle.pref_term.specs.declared.fault.TermFault.TheVariants.{Unexpected}
+
+-- with these tokens ahead, reading comes from the one state to the other, with those ahead
+abbrev pub Goes : Names → State → List Placed → State → List Placed → Type 0
+Goes names s ts m us = (p : ℕ) → (q : ℕ) × (run names ts p s ≡ run names us q m)
+
+-- reading tells the fault, unless memory ran out
+abbrev pub Fails : Names → State → List Placed → TermFault → Type 0
+Fails names s ts f = UnlessMemory f ((p : ℕ) → run names ts p s ≡ Err f)
+
+-- the first token isn't this one, and the fault is told at it
+abbrev pub IsOther : Token → List Placed → TermFault → Type 0
+IsOther t [] f = ⊥
+IsOther t (u ∷ us) f = (u.token ≢ t) × (f ≡ Unexpected u.place)
+
+-- this token stands in front
+abbrev pub Passes : Token → List Placed → List Placed → Type 0
+Passes t ts us = (at : ℕ) × (ts ≡ record { token = t; place = at } ∷ us)
+
+-- the first token is another
+abbrev pub NotNext : Token → List Placed → Type 0
+NotNext t [] = Unit {0}
+NotNext t (u ∷ us) = u.token ≢ t
+
+-- the token is no word
+abbrev pub IsNoWord : Token → Type 0
+IsNoWord (word letters) = ⊥
+IsNoWord _ = Unit {0}
+
+-- the first token is no word, and the fault is told at it
+abbrev pub LacksWord : List Placed → TermFault → Type 0
+LacksWord [] f = ⊥
+LacksWord (u ∷ us) f = IsNoWord u.token × (f ≡ Unexpected u.place)
+
+-- a word in front
+abbrev pub word_ahead : List ℕ → ℕ → List Placed → List Placed
+word_ahead letters at us = record { token = word letters; place = at } ∷ us
+
+-- a column of the table
+abbrev pub IsKnown : Names → ℕ → Type 0
+IsKnown names col = (col < 16) × (col < length names)
+
+-- a preference over the table's columns that a text can write
+abbrev pub IsBaseOf : Names → Base → Type 0
+IsBaseOf names b = IsKnown names (column b) × IsWritableBase b
+
+abbrev pub IsTermOf : Names → Preference → Type 0
+IsTermOf names (scored b) = IsBaseOf names b
+IsTermOf names (pareto p q) = IsTermOf names p × IsTermOf names q
+IsTermOf names (prior p q) = IsTermOf names p × IsTermOf names q
+IsTermOf names (reverse p) = IsTermOf names p
+
+-- these letters name the column
+pub record IsColumn (names : Names) (letters : List ℕ) (col : ℕ) : Type 0 where
+  pub place : column_of names letters ≡ Some col
+  pub known : IsKnown names col
+
+-- a column is due in the state, and leads on
+pub record WantsColumn (s : State) (behind : List ℕ → State) : Type 0 where
+  pub takes : (letters : List ℕ) → next s (word letters) ≡ Some (column_name letters, behind letters)
+  pub only : (t : Token) → IsNoWord t → next s t ≡ None
+
+-- a column in front
+pub record TakesColumn (names : Names) (ts : List Placed) (col : ℕ) (us : List Placed) : Type 0 where
+  pub letters : List ℕ
+  pub found : IsColumn names letters col
+  pub passes : Passes (word letters) ts us
+
+abbrev pub FailsColumn : Names → List Placed → TermFault → Type 0
+FailsColumn names ts f = (s : State) (behind : List ℕ → State) → WantsColumn s behind → Fails names s ts f
+
+-- a column behind the word of a base term and its parenthesis
+pub record ReadsOpened (names : Names) (ts : List Placed) (col : ℕ) (us : List Placed) : Type 0 where
+  pub letters : List ℕ
+  pub found : IsColumn names letters col
+  pub goes : (h : UnaryHole) (k : BaseKind) → Goes names (reading h (named k)) ts (reading h (columned k letters)) us
+
+pub record ReadsNumber (names : Names) (ts : List Placed) (value : ℤ) (us : List Placed) : Type 0 where
+  pub number : NumberText
+  pub fits : FitsSigned w64 value
+  pub value_is : number_value number ≡ value
+  pub goes : (h : UnaryHole) (hole : NumberHole) → Goes names (reading h (number_due hole)) ts (reading h (filled hole number)) us
+
+-- where the next number of a set stands, behind some
+abbrev pub set_hole : List ℕ → List NumberText → NumberHole
+set_hole column [] = first_of column
+set_hole column (first ∷ others) = next_of column first others
+
+-- the base term of a set that has numbers
+abbrev pub set_text : List ℕ → List NumberText → BaseText
+set_text column [] = low_text column
+set_text column (first ∷ others) = pos_text column first others
+
+-- behind a number of a set: more are due, or the set is whole
+abbrev pub behind_number : UnaryHole → List ℕ → List NumberText → Bool → State
+behind_number h column some true = reading h (number_due (set_hole column some))
+behind_number h column some false = completed h (based (set_text column some))
+
+pub record ReadsListed (names : Names) (ts : List Placed) (value : ℤ) (more : Bool) (us : List Placed) : Type 0 where
+  pub number : NumberText
+  pub fits : FitsSigned w64 value
+  pub value_is : number_value number ≡ value
+  pub goes : (h : UnaryHole) (column : List ℕ) (some : List NumberText) → Goes names (reading h (number_due (set_hole column some))) ts (behind_number h column (some ++ number ∷ []) more) us
+
+abbrev pub FailsListed : Names → List Placed → TermFault → Type 0
+FailsListed names ts f = (h : UnaryHole) (column : List ℕ) (some : List NumberText) → Fails names (reading h (number_due (set_hole column some))) ts f
+
+-- some numbers of a set, and whether more are due
+pub record ReadsSome (names : Names) (ts : List Placed) (values : List ℤ) (more : Bool) (us : List Placed) : Type 0 where
+  pub some : List NumberText
+  pub fits : All (FitsSigned w64) values
+  pub values_are : map number_value some ≡ values
+  pub goes : (h : UnaryHole) (column : List ℕ) → Goes names (reading h (number_due (first_of column))) ts (behind_number h column some more) us
+
+-- the numbers of a set, and the parenthesis behind them
+pub record ReadsNumbers (names : Names) (ts : List Placed) (values : List ℤ) (us : List Placed) : Type 0 where
+  pub first : NumberText
+  pub others : List NumberText
+  pub fits : All (FitsSigned w64) values
+  pub values_are : number_value first ∷ map number_value others ≡ values
+  pub goes : (h : UnaryHole) (column : List ℕ) → Goes names (reading h (number_due (first_of column))) ts (completed h (based (pos_text column first others))) us
+
+abbrev pub FailsOpened : Names → List Placed → TermFault → Type 0
+FailsOpened names ts f = (h : UnaryHole) (k : BaseKind) → Fails names (reading h (named k)) ts f
+
+abbrev pub FailsNumber : Names → List Placed → TermFault → Type 0
+FailsNumber names ts f = (h : UnaryHole) (hole : NumberHole) → Fails names (reading h (number_due hole)) ts f
+
+abbrev pub FailsNumbers : Names → List Placed → TermFault → Type 0
+FailsNumbers names ts f = (h : UnaryHole) (column : List ℕ) → Fails names (reading h (number_due (first_of column))) ts f
+
+-- a base term behind its word
+pub record ReadsBase (names : Names) (k : BaseKind) (ts : List Placed) (p : Preference) (us : List Placed) : Type 0 where
+  pub tree : BaseText
+  pub meaning : scored (base_meaning names tree) ≡ p
+  pub known : IsTermOf names p
+  pub goes : (h : UnaryHole) → Goes names (reading h (named k)) ts (completed h (based tree)) us
+
+pub record ReadsUnary (names : Names) (depth : ℕ) (ts : List Placed) (p : Preference) (us : List Placed) : Type 0 where
+  pub tree : UnaryText
+  pub meaning : unary_meaning tree names ≡ p
+  pub known : IsTermOf names p
+  pub goes : (h : UnaryHole) → unary_depth h ≡ depth → Goes names (operand h) ts (completed h tree) us
+
+-- one or more factors
+pub record ReadsFactors (names : Names) (depth : ℕ) (ts : List Placed) (p : Preference) (us : List Placed) : Type 0 where
+  pub tree : ProductText
+  pub meaning : product_meaning tree names ≡ p
+  pub known : IsTermOf names p
+  pub goes : (h : ProductHole) → product_depth h ≡ depth → Goes names (operand (first_factor h)) ts (after h tree) us
+
+-- one or more products
+pub record ReadsProducts (names : Names) (depth : ℕ) (ts : List Placed) (p : Preference) (us : List Placed) : Type 0 where
+  pub tree : PriorText
+  pub meaning : prior_meaning tree names ≡ p
+  pub known : IsTermOf names p
+  pub goes : (h : PriorHole) → prior_depth h ≡ depth → Goes names (operand (first_factor (first_product h))) ts (ranked h tree) us
+
+-- factors, behind which no further one follows
+pub record ReadsProduct (names : Names) (depth : ℕ) (ts : List Placed) (p : Preference) (us : List Placed) : Type 0 where
+  pub factors : ReadsFactors names depth ts p us
+  pub stops : NotNext (sign star) us
+
+pub record ReadsPrior (names : Names) (depth : ℕ) (ts : List Placed) (p : Preference) (us : List Placed) : Type 0 where
+  pub products : ReadsProducts names depth ts p us
+  pub stops : NotNext (sign star) us
+  pub stops_too : NotNext (sign ampersand) us
+
+-- a prior and the parenthesis behind it
+pub record ReadsGroup (names : Names) (inside : ℕ) (ts : List Placed) (p : Preference) (us : List Placed) : Type 0 where
+  pub tree : PriorText
+  pub meaning : prior_meaning tree names ≡ p
+  pub known : IsTermOf names p
+  pub goes : (h : UnaryHole) → unary_depth h + 1 ≡ inside → Goes names (operand (first_factor (first_product (in_group h)))) ts (completed h (grouped tree)) us
+  pub goes_reversed : (h : UnaryHole) → unary_depth h + 1 ≡ inside → Goes names (operand (first_factor (first_product (in_reverse h)))) ts (completed h (reversed tree)) us
+
+-- what stands behind `reverse`
+pub record ReadsReverse (names : Names) (depth : ℕ) (ts : List Placed) (p : Preference) (us : List Placed) : Type 0 where
+  pub tree : PriorText
+  pub meaning : reverse (prior_meaning tree names) ≡ p
+  pub known : IsTermOf names p
+  pub goes : (h : UnaryHole) → unary_depth h ≡ depth → Goes names (reverse_named h) ts (completed h (reversed tree)) us
+
+abbrev pub FailsBase : Names → BaseKind → List Placed → TermFault → Type 0
+FailsBase names k ts f = (h : UnaryHole) → Fails names (reading h (named k)) ts f
+
+abbrev pub FailsUnary : Names → ℕ → List Placed → TermFault → Type 0
+FailsUnary names depth ts f = (h : UnaryHole) → unary_depth h ≡ depth → Fails names (operand h) ts f
+
+abbrev pub FailsReverse : Names → ℕ → List Placed → TermFault → Type 0
+FailsReverse names depth ts f = (h : UnaryHole) → unary_depth h ≡ depth → Fails names (reverse_named h) ts f
+
+pub record FailsGroup (names : Names) (inside : ℕ) (ts : List Placed) (f : TermFault) : Type 0 where
+  pub plain : (h : UnaryHole) → unary_depth h + 1 ≡ inside → Fails names (operand (first_factor (first_product (in_group h)))) ts f
+  pub reversed : (h : UnaryHole) → unary_depth h + 1 ≡ inside → Fails names (operand (first_factor (first_product (in_reverse h)))) ts f
+
+abbrev pub FailsProduct : Names → ℕ → List Placed → TermFault → Type 0
+FailsProduct names depth ts f = (h : ProductHole) → product_depth h ≡ depth → Fails names (operand (first_factor h)) ts f
+
+abbrev pub FailsPrior : Names → ℕ → List Placed → TermFault → Type 0
+FailsPrior names depth ts f = (h : PriorHole) → prior_depth h ≡ depth → Fails names (operand (first_factor (first_product h))) ts f
+
+-- ---- whole questions
+
+-- reading asks the question
+abbrev pub Asks : Names → State → List Placed → Question → Type 0
+Asks names s ts q = (p : ℕ) → meant names (run names ts p s) ≡ Ok q
+
+-- reading tells the fault, unless memory ran out
+abbrev pub AsksNothing : Names → State → List Placed → TermFault → Type 0
+AsksNothing names s ts f = UnlessMemory f ((p : ℕ) → meant names (run names ts p s) ≡ Err f)
+
+-- the token isn't digits
+abbrev pub IsNoDigits : Token → Type 0
+IsNoDigits (digits ds) = ⊥
+IsNoDigits _ = Unit {0}
+
+-- digits are due in the state, and a term behind them
+pub record WantsCount (s : State) (head : List ℕ → HeadText) : Type 0 where
+  pub takes : (ds : List ℕ) → next s (digits ds) ≡ Some (count_digits ds, operand (in_whole (head ds)))
+  pub only : (t : Token) → IsNoDigits t → next s t ≡ None
+
+-- a count in front
+pub record TakesCount (ts : List Placed) (k : ℕ) (us : List Placed) : Type 0 where
+  pub digits_are : List ℕ
+  pub value : decimal_value digits_are ≡ k
+  pub good : is_count (decimal_value digits_are) ≡ true
+  pub passes : Passes (digits digits_are) ts us
+
+abbrev pub FailsCount : List Placed → TermFault → Type 0
+FailsCount ts f = (names : Names) (s : State) (head : List ℕ → HeadText) → WantsCount s head → Fails names s ts f
+
+-- what is left when more is due; the end leaves nothing
+abbrev pub left_over : Bool → List Placed → List Placed
+left_over true us = us
+left_over false us = []
+
+-- behind a column of a group: more are due, or the question is whole
+abbrev pub behind_column : HeadText → PriorText → List (List ℕ) → Bool → State
+behind_column head r some true = group_due head r some
+behind_column head r some false = done (rated head r some)
+
+pub record ReadsGroupColumn (names : Names) (ts : List Placed) (col : ℕ) (more : Bool) (us : List Placed) : Type 0 where
+  pub letters : List ℕ
+  pub found : IsColumn names letters col
+  pub goes : (head : HeadText) (r : PriorText) (some : List (List ℕ)) → Goes names (group_due head r some) ts (behind_column head r (some ++ letters ∷ []) more) (left_over more us)
+
+abbrev pub FailsGroupColumn : Names → List Placed → TermFault → Type 0
+FailsGroupColumn names ts f = (head : HeadText) (r : PriorText) (some : List (List ℕ)) → Fails names (group_due head r some) ts f
+
+-- some columns of a group, and whether more are due
+pub record ReadsColumns (names : Names) (ts : List Placed) (columns : List ℕ) (more : Bool) (us : List Placed) : Type 0 where
+  pub some : List (List ℕ)
+  pub meaning : map (column_at names) some ≡ columns
+  pub known : All (IsKnown names) columns
+  pub goes : (head : HeadText) (r : PriorText) → Goes names (group_due head r []) ts (behind_column head r some more) (left_over more us)
+
+abbrev pub FailsColumns : Names → List Placed → TermFault → Type 0
+FailsColumns names ts f = (head : HeadText) (r : PriorText) → Fails names (group_due head r []) ts f
+
+-- the group of a question, which may have no column, and the end
+pub record ReadsGrouping (names : Names) (ts : List Placed) (columns : List ℕ) : Type 0 where
+  pub some : List (List ℕ)
+  pub meaning : map (column_at names) some ≡ columns
+  pub known : All (IsKnown names) columns
+  pub goes : (head : HeadText) (r : PriorText) (p : ℕ) → run names ts p (ranked (whole head) r) ≡ Ok (rated head r some)
+
+abbrev pub FailsGrouping : Names → List Placed → TermFault → Type 0
+FailsGrouping names ts f = NotNext (sign star) ts → NotNext (sign ampersand) ts → (head : HeadText) (r : PriorText) → Fails names (ranked (whole head) r) ts f
+
+-- what a skyline clause says of a column
+pub record TakesDirection (ts : List Placed) (direction : Direction) (us : List Placed) : Type 0 where
+  pub letters : List ℕ
+  pub found : cased_of letters ≡ Some (direction_word direction)
+  pub passes : Passes (word letters) ts us
+
+abbrev pub FailsDirection : List Placed → TermFault → Type 0
+FailsDirection ts f = (names : Names) (s o : List ℕ) (dims : List DimText) (column : List ℕ) → Fails names (dim_named s o dims column) ts f
+
+-- behind a dimension: more are due, or the clause is whole
+abbrev pub behind_dim : List ℕ → List ℕ → List DimText → Bool → State
+behind_dim s o dims true = dim_due s o dims
+behind_dim s o [] false = skyline_named s
+behind_dim s o (first ∷ others) false = done (skyline s o first others)
+
+pub record ReadsDim (names : Names) (ts : List Placed) (col : ℕ) (direction : Direction) (more : Bool) (us : List Placed) : Type 0 where
+  pub dim : DimText
+  pub said : dim.direction ≡ direction
+  pub found : IsColumn names dim.column col
+  pub goes : (s o : List ℕ) (some : List DimText) → Goes names (dim_due s o some) ts (behind_dim s o (some ++ dim ∷ []) more) (left_over more us)
+
+abbrev pub FailsDim : Names → List Placed → TermFault → Type 0
+FailsDim names ts f = (s o : List ℕ) (some : List DimText) → Fails names (dim_due s o some) ts f
+
+-- one more order of a product, which has none at first
+abbrev pub joined : Option Preference → Preference → Preference
+joined None q = q
+joined (Some p) q = pareto p q
+
+abbrev pub with_order : Option Preference → Direction → ℕ → Option Preference
+with_order p minimal col = Some (joined p (scored (low col)))
+with_order p maximal col = Some (joined p (scored (high col)))
+with_order p different col = p
+
+-- the product and the group of some dimensions, and whether more are due
+pub record ReadsDims (names : Names) (ts : List Placed) (product : Option Preference) (group : List ℕ) (more : Bool) (us : List Placed) : Type 0 where
+  pub dims : List DimText
+  pub product_is : product_of (orders_of names dims) ≡ product
+  pub group_is : groups_of names dims ≡ group
+  pub product_known : IfSome product (IsTermOf names)
+  pub group_known : All (IsKnown names) group
+  pub goes : (s o : List ℕ) → Goes names (dim_due s o []) ts (behind_dim s o dims more) (left_over more us)
+
+-- all dimensions, and the end
+pub record ReadsClause (names : Names) (ts : List Placed) (product : Option Preference) (group : List ℕ) : Type 0 where
+  pub first : DimText
+  pub others : List DimText
+  pub product_is : product_of (orders_of names (first ∷ others)) ≡ product
+  pub group_is : groups_of names (first ∷ others) ≡ group
+  pub product_known : IfSome product (IsTermOf names)
+  pub group_known : All (IsKnown names) group
+  pub goes : (s o : List ℕ) (p : ℕ) → run names ts p (dim_due s o []) ≡ Ok (skyline s o first others)
+
+abbrev pub FailsClause : Names → List Placed → TermFault → Type 0
+FailsClause names ts f = (s o : List ℕ) → Fails names (dim_due s o []) ts f
+
+-- the word `of`
+abbrev pub PassesOf : List Placed → List Placed → Type 0
+PassesOf ts us = (letters : List ℕ) × (cased_of letters ≡ Some of_word) × Passes (word letters) ts us
+
+abbrev pub FailsOf : List Placed → TermFault → Type 0
+FailsOf ts f = (names : Names) (s : List ℕ) → Fails names (skyline_named s) ts f

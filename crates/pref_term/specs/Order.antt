@@ -1,0 +1,32 @@
+-- Strict orders of rows, as tests. (Börzsönyi, Kossmann, Stocker 2001)
+use Rattle.std.specs.Prelude.{◌≡◌, Bool, true, false, List, ℤ}
+use Rattle.pref_term.specs.declared.relation.Relation.{Relation}
+use Rattle.pref_term.specs.declared.relation.Relation.TheVariants.{Better, Worse, Same, Neither}
+
+-- nothing is over itself, and what is over something is over all that this is over
+pub record IsStrictOrder {E : Type 0} (over : E → E → Bool) : Type 0 where
+  pub irreflexive : (a : E) → over a a ≡ false
+  pub transitive : (a b c : E) → over a b ≡ true → over b c ≡ true → over a c ≡ true
+
+-- what a question says of two rows
+pub record RowOrder : Type 0 where
+  pub over : List ℤ → List ℤ → Bool
+
+-- what a comparison says of its first row
+abbrev pub is_better : Relation → Bool
+is_better Better = true
+is_better Worse = false
+is_better Same = false
+is_better Neither = false
+
+abbrev pub is_worse : Relation → Bool
+is_worse Better = false
+is_worse Worse = true
+is_worse Same = false
+is_worse Neither = false
+
+abbrev pub is_same : Relation → Bool
+is_same Better = false
+is_same Worse = false
+is_same Same = true
+is_same Neither = false

@@ -1,0 +1,302 @@
+-- Reading a question text from the left, one token after another: what is still pending, and where a token leads.
+-- No public contract cites this but through `asked`, which a law ties to the grammar. (this project)
+use Rattle.std.specs.Prelude.{ℕ, zero, suc, ◌+◌, List, [], ◌∷◌, ◌++◌, Bool, true, false, Option, Some, None, Result, Ok, Err}
+use Rattle.std.specs.List.{find}
+use Rattle.std.specs.Str.{bytes_eq}
+use Rattle.pref_term.specs.Token.{Sign, left, right, comma, star, ampersand, minus, Token, word, digits, sign, other, finish, Placed}
+use Rattle.pref_term.specs.Grammar.{Keyword, best_word, low_word, high_word, around_word, pos_word, reverse_word, top_level_word, at_least_word, by_word, CasedWord, skyline_word, of_word, min_word, max_word, diff_word, letters_of, keyword_of, cased_of, HeadText, best_head, top_level_head, at_least_head, head_leaves, Direction, minimal, maximal, different, DimText, dim_leaves, more_dims, group_leaves, more_columns, AskText, rated, skyline, NumberText, BaseText, low_text, high_text, around_text, pos_text, PriorText, one_product, then_product, ProductText, one_factor, then_factor, UnaryText, negated, grouped, reversed, based, Leaf, name, mark, opens, column_name, number_digits, count_digits, cased, last, number_leaves, others_leaves, prior_leaves, product_leaves, ask_leaves}
+use Rattle.pref_term.specs.Spells.{Names, own_fault, OwnFault, told, told_at}
+use Rattle.pref_term.specs.declared.fault.TermFault.{TermFault}
+use Rattle.pref_term.specs.declared.fault.TermFault.TheVariants.{Unexpected}
+
+-- ---- a base term that isn't whole
+
+pub data BaseKind : Type 0 where
+  low_kind : BaseKind
+  high_kind : BaseKind
+  around_kind : BaseKind
+  pos_kind : BaseKind
+
+abbrev pub kind_word : BaseKind → Keyword
+kind_word low_kind = low_word
+kind_word high_kind = high_word
+kind_word around_kind = around_word
+kind_word pos_kind = pos_word
+
+-- where a number is missing
+pub data NumberHole : Type 0 where
+  centre_of : (column : List ℕ) → NumberHole
+  first_of : (column : List ℕ) → NumberHole
+  next_of : (column : List ℕ) (first : NumberText) (others : List NumberText) → NumberHole
+
+pub data BasePart : Type 0 where
+  named : (k : BaseKind) → BasePart
+  opened : (k : BaseKind) → BasePart
+  columned : (k : BaseKind) (column : List ℕ) → BasePart
+  number_due : (n : NumberHole) → BasePart
+  number_signed : (n : NumberHole) → BasePart
+  centred : (column : List ℕ) (centre : NumberText) → BasePart
+  listed : (column : List ℕ) (first : NumberText) (others : List NumberText) → BasePart
+
+abbrev pub hole_leaves : NumberHole → List Leaf
+hole_leaves (centre_of column) = name around_word ∷ mark left ∷ column_name column ∷ mark comma ∷ []
+hole_leaves (first_of column) = name pos_word ∷ mark left ∷ column_name column ∷ mark comma ∷ []
+hole_leaves (next_of column first others) =
+    name pos_word ∷ mark left ∷ column_name column ∷ mark comma ∷ number_leaves first ++ (others_leaves others ++ mark comma ∷ [])
+
+-- what was read of it
+abbrev pub part_leaves : BasePart → List Leaf
+part_leaves (named k) = name (kind_word k) ∷ []
+part_leaves (opened k) = name (kind_word k) ∷ mark left ∷ []
+part_leaves (columned k column) = name (kind_word k) ∷ mark left ∷ column_name column ∷ []
+part_leaves (number_due n) = hole_leaves n
+part_leaves (number_signed n) = hole_leaves n ++ mark minus ∷ []
+part_leaves (centred column centre) =
+    name around_word ∷ mark left ∷ column_name column ∷ mark comma ∷ number_leaves centre
+part_leaves (listed column first others) =
+    name pos_word ∷ mark left ∷ column_name column ∷ mark comma ∷ number_leaves first ++ others_leaves others
+
+pub data BaseStep : Type 0 where
+  part : (b : BasePart) → BaseStep
+  whole_base : (b : BaseText) → BaseStep
+
+abbrev pub filled : NumberHole → NumberText → BasePart
+filled (centre_of column) n = centred column n
+filled (first_of column) n = listed column n []
+filled (next_of column first others) n = listed column first (others ++ n ∷ [])
+
+abbrev pub after_column : BaseKind → List ℕ → Sign → Option (Leaf × BaseStep)
+after_column low_kind column right = Some (mark right, whole_base (low_text column))
+after_column high_kind column right = Some (mark right, whole_base (high_text column))
+after_column around_kind column comma = Some (mark comma, part (number_due (centre_of column)))
+after_column pos_kind column comma = Some (mark comma, part (number_due (first_of column)))
+after_column _ _ _ = None
+
+abbrev pub base_next : BasePart → Token → Option (Leaf × BaseStep)
+base_next (named k) (sign left) = Some (mark left, part (opened k))
+base_next (opened k) (word letters) = Some (column_name letters, part (columned k letters))
+base_next (columned k column) (sign s) = after_column k column s
+base_next (number_due n) (sign minus) = Some (mark minus, part (number_signed n))
+base_next (number_due n) (digits ds) = Some (number_digits false ds, part (filled n (record { negative = false; digits = ds })))
+base_next (number_signed n) (digits ds) = Some (number_digits true ds, part (filled n (record { negative = true; digits = ds })))
+base_next (centred column centre) (sign right) = Some (mark right, whole_base (around_text column centre))
+base_next (listed column first others) (sign right) = Some (mark right, whole_base (pos_text column first others))
+base_next (listed column first others) (sign comma) = Some (mark comma, part (number_due (next_of column first others)))
+base_next _ _ = None
+
+-- ---- what is pending around a place
+
+mutual
+  -- around a prior
+  pub data PriorHole : Type 0 where
+    whole : (head : HeadText) → PriorHole
+    in_group : (h : UnaryHole) → PriorHole
+    in_reverse : (h : UnaryHole) → PriorHole
+
+  -- around a product
+  pub data ProductHole : Type 0 where
+    first_product : (h : PriorHole) → ProductHole
+    next_product : (h : PriorHole) (r : PriorText) → ProductHole
+
+  -- around a factor
+  pub data UnaryHole : Type 0 where
+    first_factor : (h : ProductHole) → UnaryHole
+    next_factor : (h : ProductHole) (p : ProductText) → UnaryHole
+    in_minus : (h : UnaryHole) → UnaryHole
+
+-- how many nestings are open there
+abbrev mutual
+  pub prior_depth : PriorHole → ℕ
+  prior_depth (whole head) = 0
+  prior_depth (in_group h) = unary_depth h + 1
+  prior_depth (in_reverse h) = unary_depth h + 1
+
+  pub product_depth : ProductHole → ℕ
+  product_depth (first_product h) = prior_depth h
+  product_depth (next_product h r) = prior_depth h
+
+  pub unary_depth : UnaryHole → ℕ
+  unary_depth (first_factor h) = product_depth h
+  unary_depth (next_factor h p) = product_depth h
+  unary_depth (in_minus h) = unary_depth h + 1
+
+-- what was read before it
+abbrev mutual
+  pub before_prior : PriorHole → List Leaf
+  before_prior (whole head) = head_leaves head
+  before_prior (in_group h) = before_unary h ++ opens (unary_depth h) left ∷ []
+  before_prior (in_reverse h) = before_unary h ++ name reverse_word ∷ opens (unary_depth h) left ∷ []
+
+  pub before_product : ProductHole → List Leaf
+  before_product (first_product h) = before_prior h
+  before_product (next_product h r) = before_prior h ++ (prior_leaves r (prior_depth h) ++ mark ampersand ∷ [])
+
+  pub before_unary : UnaryHole → List Leaf
+  before_unary (first_factor h) = before_product h
+  before_unary (next_factor h p) = before_product h ++ (product_leaves p (product_depth h) ++ mark star ∷ [])
+  before_unary (in_minus h) = before_unary h ++ opens (unary_depth h) minus ∷ []
+
+-- ---- the states of reading
+
+pub data State : Type 0 where
+  start : State
+  operand : (h : UnaryHole) → State
+  reverse_named : (h : UnaryHole) → State
+  reading : (h : UnaryHole) (b : BasePart) → State
+  after : (h : ProductHole) (p : ProductText) → State
+  -- behind `top_level` or `at_least`
+  top_level_named : State
+  at_least_named : State
+  -- a column of the group is due, behind these
+  group_due : (head : HeadText) (r : PriorText) (columns : List (List ℕ)) → State
+  group_listed : (head : HeadText) (r : PriorText) (first : List ℕ) (others : List (List ℕ)) → State
+  skyline_named : (s : List ℕ) → State
+  -- a column of a skyline clause is due, behind these
+  dim_due : (s o : List ℕ) (dims : List DimText) → State
+  dim_named : (s o : List ℕ) (dims : List DimText) (column : List ℕ) → State
+  dims_listed : (s o : List ℕ) (first : DimText) (others : List DimText) → State
+  done : (a : AskText) → State
+
+abbrev pub before_column : List (List ℕ) → List Leaf
+before_column [] = name by_word ∷ []
+before_column (column ∷ columns) = group_leaves (column ∷ columns) ++ mark comma ∷ []
+
+abbrev pub before_dim : List DimText → List Leaf
+before_dim [] = []
+before_dim (d ∷ ds) = dim_leaves d ++ (more_dims ds ++ mark comma ∷ [])
+
+-- what was read up to a state
+abbrev pub read_of : State → List Leaf
+read_of start = []
+read_of (operand h) = before_unary h
+read_of (reverse_named h) = before_unary h ++ name reverse_word ∷ []
+read_of (reading h b) = before_unary h ++ part_leaves b
+read_of (after h p) = before_product h ++ product_leaves p (product_depth h)
+read_of top_level_named = name top_level_word ∷ []
+read_of at_least_named = name at_least_word ∷ []
+read_of (group_due head r columns) = head_leaves head ++ (prior_leaves r 0 ++ before_column columns)
+read_of (group_listed head r first others) = head_leaves head ++ (prior_leaves r 0 ++ group_leaves (first ∷ others))
+read_of (skyline_named s) = cased skyline_word s ∷ []
+read_of (dim_due s o dims) = cased skyline_word s ∷ cased of_word o ∷ before_dim dims
+read_of (dim_named s o dims column) = cased skyline_word s ∷ cased of_word o ∷ before_dim dims ++ column_name column ∷ []
+read_of (dims_listed s o first others) = cased skyline_word s ∷ cased of_word o ∷ dim_leaves first ++ more_dims others
+read_of (done a) = ask_leaves a
+
+-- a factor is whole
+abbrev pub completed : UnaryHole → UnaryText → State
+completed (first_factor h) u = after h (one_factor u)
+completed (next_factor h p) u = after h (then_factor p u)
+completed (in_minus h) u = completed h (negated u)
+
+-- what the product stands in, and the prior that it ends
+abbrev pub outer : ProductHole → PriorHole
+outer (first_product h) = h
+outer (next_product h r) = h
+
+abbrev pub closed : ProductHole → ProductText → PriorText
+closed (first_product h) p = one_product p
+closed (next_product h r) p = then_product r p
+
+-- the state behind a prior
+abbrev pub ranked : PriorHole → PriorText → State
+ranked h (one_product p) = after (first_product h) p
+ranked h (then_product r p) = after (next_product h r) p
+
+abbrev pub in_whole : HeadText → UnaryHole
+in_whole head = first_factor (first_product (whole head))
+
+abbrev pub begun : List ℕ → Option Keyword → Option CasedWord → Option (Leaf × State)
+begun letters (Some best_word) c = Some (name best_word, operand (in_whole best_head))
+begun letters (Some top_level_word) c = Some (name top_level_word, top_level_named)
+begun letters (Some at_least_word) c = Some (name at_least_word, at_least_named)
+begun letters None (Some skyline_word) = Some (cased skyline_word letters, skyline_named letters)
+begun _ _ _ = None
+
+abbrev pub of_named : List ℕ → List ℕ → Option CasedWord → Option (Leaf × State)
+of_named s letters (Some of_word) = Some (cased of_word letters, dim_due s letters [])
+of_named _ _ _ = None
+
+abbrev pub listed_column : HeadText → PriorText → List (List ℕ) → List ℕ → State
+listed_column head r [] column = group_listed head r column []
+listed_column head r (first ∷ others) column = group_listed head r first (others ++ column ∷ [])
+
+abbrev pub listed_dim : List ℕ → List ℕ → List DimText → DimText → State
+listed_dim s o [] d = dims_listed s o d []
+listed_dim s o (first ∷ others) d = dims_listed s o first (others ++ d ∷ [])
+
+abbrev pub directed : List ℕ → List ℕ → List DimText → List ℕ → List ℕ → Option CasedWord → Option (Leaf × State)
+directed s o dims column letters (Some min_word) = Some (cased min_word letters, listed_dim s o dims (record { column = column; direction = minimal; written = letters }))
+directed s o dims column letters (Some max_word) = Some (cased max_word letters, listed_dim s o dims (record { column = column; direction = maximal; written = letters }))
+directed s o dims column letters (Some diff_word) = Some (cased diff_word letters, listed_dim s o dims (record { column = column; direction = different; written = letters }))
+directed _ _ _ _ _ _ = None
+
+abbrev pub grouped_by : PriorHole → PriorText → Option Keyword → Option (Leaf × State)
+grouped_by (whole head) r (Some by_word) = Some (name by_word, group_due head r [])
+grouped_by _ _ _ = None
+
+abbrev pub operand_word : UnaryHole → Option Keyword → Option (Leaf × State)
+operand_word h (Some low_word) = Some (name low_word, reading h (named low_kind))
+operand_word h (Some high_word) = Some (name high_word, reading h (named high_kind))
+operand_word h (Some around_word) = Some (name around_word, reading h (named around_kind))
+operand_word h (Some pos_word) = Some (name pos_word, reading h (named pos_kind))
+operand_word h (Some reverse_word) = Some (name reverse_word, reverse_named h)
+operand_word _ _ = None
+
+abbrev pub carried : UnaryHole → Option (Leaf × BaseStep) → Option (Leaf × State)
+carried h None = None
+carried h (Some (leaf, part b)) = Some (leaf, reading h b)
+carried h (Some (leaf, whole_base b)) = Some (leaf, completed h (based b))
+
+abbrev pub parted : PriorHole → PriorText → Option (Leaf × State)
+parted (whole head) r = None
+parted (in_group h) r = Some (mark right, completed h (grouped r))
+parted (in_reverse h) r = Some (mark right, completed h (reversed r))
+
+abbrev pub finished : PriorHole → PriorText → Option (Leaf × State)
+finished (whole head) r = Some (last, done (rated head r []))
+finished _ _ = None
+
+-- where a token leads, and the part that it plays; none where it can't follow
+abbrev pub next : State → Token → Option (Leaf × State)
+next start (word letters) = begun letters (keyword_of letters) (cased_of letters)
+next (operand h) (sign minus) = Some (opens (unary_depth h) minus, operand (in_minus h))
+next (operand h) (sign left) = Some (opens (unary_depth h) left, operand (first_factor (first_product (in_group h))))
+next (operand h) (word letters) = operand_word h (keyword_of letters)
+next (reverse_named h) (sign left) = Some (opens (unary_depth h) left, operand (first_factor (first_product (in_reverse h))))
+next (reading h b) t = carried h (base_next b t)
+next (after h p) (sign star) = Some (mark star, operand (next_factor h p))
+next (after h p) (sign ampersand) = Some (mark ampersand, operand (first_factor (next_product (outer h) (closed h p))))
+next (after h p) (sign right) = parted (outer h) (closed h p)
+next (after h p) finish = finished (outer h) (closed h p)
+next (after h p) (word letters) = grouped_by (outer h) (closed h p) (keyword_of letters)
+next top_level_named (digits ds) = Some (count_digits ds, operand (in_whole (top_level_head ds)))
+next at_least_named (digits ds) = Some (count_digits ds, operand (in_whole (at_least_head ds)))
+next (group_due head r columns) (word letters) = Some (column_name letters, listed_column head r columns letters)
+next (group_listed head r first others) (sign comma) = Some (mark comma, group_due head r (first ∷ others))
+next (group_listed head r first others) finish = Some (last, done (rated head r (first ∷ others)))
+next (skyline_named s) (word letters) = of_named s letters (cased_of letters)
+next (dim_due s o dims) (word letters) = Some (column_name letters, dim_named s o dims letters)
+next (dim_named s o dims column) (word letters) = directed s o dims column letters (cased_of letters)
+next (dims_listed s o first others) (sign comma) = Some (mark comma, dim_due s o (first ∷ others))
+next (dims_listed s o first others) finish = Some (last, done (skyline s o first others))
+next _ _ = None
+
+-- ---- the whole reading
+
+abbrev pub ended : State → ℕ → Result AskText TermFault
+ended (done r) place = Ok r
+ended _ place = Err (Unexpected place)
+
+-- goes on where the leaf has no fault of its own
+abbrev pub judged : Leaf → (before place : ℕ) → Result AskText TermFault → Option OwnFault → Result AskText TermFault
+judged leaf before place go None = go
+judged leaf before place go (Some kind) = Err (told kind (told_at leaf before place))
+
+abbrev pub led : Names → (before place : ℕ) → (State → Result AskText TermFault) → Option (Leaf × State) → Result AskText TermFault
+led names before place go None = Err (Unexpected place)
+led names before place go (Some (leaf, m)) = judged leaf before place (go m) (own_fault names leaf)
+
+-- reads the tokens from a state; the token before them stands at `before`
+abbrev pub run : Names → List Placed → (before : ℕ) → State → Result AskText TermFault
+run names [] before s = ended s before
+run names (t ∷ ts) before s = led names before t.place (run names ts t.place) (next s t.token)

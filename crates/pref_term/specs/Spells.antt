@@ -1,0 +1,215 @@
+-- Which ask a text spells, and what is wrong with a text that spells none. (this project)
+use Rattle.std.specs.Prelude.{◌≡◌, ◌≤◌, ◌<◌, ◌^◌, ◌-◌, ◌+◌, ◌*◌, ℕ, ℤ, pos, neg_ℤ, List, [], ◌∷◌, ◌++◌, map, length, Bool, true, false, Option, Some, None, unwrap_or, nat_lt, nat_le, is_none, ◌&&◌, fold, if◌then◌else◌, ◌⊎◌}
+use Rattle.std.specs.List.{AllByRecursion, flat_map}
+use Rattle.std.specs.Option.{option_map}
+use Rattle.pref_table.specs.Columns.{column_of}
+use Rattle.pref_term.specs.Token.{Token, Placed, tokens_of}
+use Rattle.pref_term.specs.Grammar.{NumberText, BaseText, low_text, high_text, around_text, pos_text, HeadText, best_head, top_level_head, at_least_head, Direction, minimal, maximal, different, DimText, AskText, rated, skyline, IsText, PriorText, one_product, then_product, ProductText, one_factor, then_factor, UnaryText, negated, grouped, reversed, based, Leaf, name, mark, opens, column_name, number_digits, count_digits, cased, last, token_of, ask_leaves}
+use Rattle.pref_term.specs.Preference.{Base, low, high, around, one_of, Preference, scored, pareto, prior, reverse}
+use Rattle.pref_term.specs.Question.{Question}
+use Rattle.pref_term.specs.declared.ask.Mode.{Mode}
+use Rattle.pref_term.specs.declared.ask.Mode.TheVariants.{Best, TopLevel, AtLeast}
+use Rattle.pref_term.specs.declared.fault.TermFault.{TermFault}
+use Rattle.pref_term.specs.declared.fault.TermFault.TheVariants.{Unexpected, UnknownColumn, NumberRange, TooDeep, TooLong, BadCount, NoMinOrMax, OutOfMemory}
+
+-- the column names of a schema
+abbrev pub Names : Type 0
+Names = List (List ℕ)
+
+-- ---- what a tree means, where its leaves have no fault
+
+-- the value of digits behind those with the value n
+abbrev pub decimal_value_from : ℕ → List ℕ → ℕ
+decimal_value_from n [] = n
+decimal_value_from n (d ∷ ds) = decimal_value_from (10 * n + (d - 48)) ds
+
+abbrev pub decimal_value : List ℕ → ℕ
+decimal_value ds = decimal_value_from 0 ds
+
+abbrev pub signed_value : Bool → List ℕ → ℤ
+signed_value negative ds = if negative then neg_ℤ (pos (decimal_value ds)) else pos (decimal_value ds)
+
+abbrev pub number_value : NumberText → ℤ
+number_value n = signed_value n.negative n.digits
+
+abbrev pub column_at : Names → List ℕ → ℕ
+column_at names letters = unwrap_or (column_of names letters) 0
+
+abbrev pub base_meaning : Names → BaseText → Base
+base_meaning names (low_text column) = low (column_at names column)
+base_meaning names (high_text column) = high (column_at names column)
+base_meaning names (around_text column centre) = around (column_at names column) (number_value centre)
+base_meaning names (pos_text column first others) = one_of (column_at names column) (number_value first ∷ map number_value others)
+
+abbrev mutual
+  pub prior_meaning : PriorText → Names → Preference
+  prior_meaning (one_product p) names = product_meaning p names
+  prior_meaning (then_product r p) names = prior (prior_meaning r names) (product_meaning p names)
+
+  pub product_meaning : ProductText → Names → Preference
+  product_meaning (one_factor u) names = unary_meaning u names
+  product_meaning (then_factor p u) names = pareto (product_meaning p names) (unary_meaning u names)
+
+  pub unary_meaning : UnaryText → Names → Preference
+  unary_meaning (negated u) names = reverse (unary_meaning u names)
+  unary_meaning (grouped r) names = prior_meaning r names
+  unary_meaning (reversed r) names = reverse (prior_meaning r names)
+  unary_meaning (based b) names = scored (base_meaning names b)
+
+abbrev pub mode_of : HeadText → Mode
+mode_of best_head = Best
+mode_of (top_level_head count) = TopLevel (decimal_value count)
+mode_of (at_least_head count) = AtLeast (decimal_value count)
+
+-- the order by a column of a skyline clause: low where it says min, high where it says max
+abbrev pub order_by : Direction → ℕ → List Preference
+order_by minimal col = scored (low col) ∷ []
+order_by maximal col = scored (high col) ∷ []
+order_by different col = []
+
+abbrev pub group_by : Direction → ℕ → List ℕ
+group_by minimal col = []
+group_by maximal col = []
+group_by different col = col ∷ []
+
+abbrev pub orders_of : Names → List DimText → List Preference
+orders_of names ds = flat_map (λ d. order_by d.direction (column_at names d.column)) ds
+
+abbrev pub groups_of : Names → List DimText → List ℕ
+groups_of names ds = flat_map (λ d. group_by d.direction (column_at names d.column)) ds
+
+-- the left-grouped product; none has one
+abbrev pub product_of : List Preference → Option Preference
+product_of [] = None
+product_of (p ∷ ps) = Some (fold pareto p ps)
+
+-- what a text asks; a skyline clause with DIFF columns alone asks nothing
+abbrev pub question : Names → AskText → Option Question
+question names (rated head r group) = Some (record { preference = prior_meaning r names; group = map (column_at names) group; mode = mode_of head })
+question names (skyline s o first others) =
+    option_map (λ p. record { preference = p; group = groups_of names (first ∷ others); mode = Best }) (product_of (orders_of names (first ∷ others)))
+
+-- ---- a token's own fault
+
+pub data OwnFault : Type 0 where
+  unknown_column : OwnFault
+  number_range : OwnFault
+  too_deep : OwnFault
+  bad_count : OwnFault
+
+-- from -2^63 to 2^63 - 1
+abbrev pub in_range : Bool → List ℕ → Bool
+in_range negative ds = if negative then nat_le (decimal_value ds) (2 ^ 63) else nat_lt (decimal_value ds) (2 ^ 63)
+
+-- from 1 to 1000
+abbrev pub is_count : ℕ → Bool
+is_count k = nat_le 1 k && nat_le k 1000
+
+abbrev pub own_fault : Names → Leaf → Option OwnFault
+own_fault names (name k) = None
+own_fault names (mark s) = None
+own_fault names (opens depth s) = if nat_lt depth 64 then None else Some too_deep
+own_fault names (column_name letters) = if is_none (column_of names letters) then Some unknown_column else None
+own_fault names (number_digits negative ds) = if in_range negative ds then None else Some number_range
+own_fault names (count_digits ds) = if is_count (decimal_value ds) then None else Some bad_count
+own_fault names (cased k letters) = None
+own_fault names last = None
+
+abbrev pub IsGood : Names → Leaf → Type 0
+IsGood names leaf = own_fault names leaf ≡ None
+
+-- where it is told: a number at its first token
+abbrev pub told_at : Leaf → (before place : ℕ) → ℕ
+told_at (number_digits true ds) before place = before
+told_at _ before place = place
+
+abbrev pub told : OwnFault → ℕ → TermFault
+told unknown_column at = UnknownColumn at
+told number_range at = NumberRange at
+told too_deep at = TooDeep at
+told bad_count at = BadCount at
+
+-- ---- which ask a text spells
+
+abbrev pub tokens_in : List Placed → List Token
+tokens_in ts = map (λ t. t.token) ts
+
+abbrev pub tokens_on : List Leaf → List Token
+tokens_on leaves = map token_of leaves
+
+pub record Spells (names : Names) (text : List ℕ) (q : Question) : Type 0 where
+  pub tree : AskText
+  pub written : IsText tree
+  pub short : length text ≤ 4096
+  pub tokens : tokens_in (tokens_of text) ≡ tokens_on (ask_leaves tree)
+  pub good : AllByRecursion (IsGood names) (ask_leaves tree)
+  pub meaning : question names tree ≡ Some q
+
+-- ---- what is wrong with a text
+
+-- a text of the grammar begins with these tokens
+pub record Begins (tokens : List Token) : Type 0 where
+  pub tree : AskText
+  pub written : IsText tree
+  pub rest : List Token
+  pub whole : tokens_on (ask_leaves tree) ≡ tokens ++ rest
+
+-- these tokens, played by the leaves, begin a text of the grammar, and none has a fault of its own
+pub record GoodStart (names : Names) (tokens : List Placed) (leaves : List Leaf) : Type 0 where
+  pub tree : AskText
+  pub written : IsText tree
+  pub rest : List Leaf
+  pub whole : ask_leaves tree ≡ leaves ++ rest
+  pub played : tokens_on leaves ≡ tokens_in tokens
+  pub good : AllByRecursion (IsGood names) leaves
+
+-- the place of the last token, or what stood before where there is none
+abbrev pub last_place : (before : ℕ) → List Placed → ℕ
+last_place before [] = before
+last_place before (t ∷ ts) = last_place t.place ts
+
+-- the token can't follow the tokens before it in any text of the grammar
+pub record IsUnexpected (before : List Placed) (at : Placed) (fault : TermFault) : Type 0 where
+  pub fault_is : fault ≡ Unexpected at.place
+  pub stuck : Begins (tokens_in before ++ at.token ∷ []) → ⊥
+
+-- the token goes on with the leaves, and has a fault of its own
+pub record HasOwnFault (names : Names) (before : List Placed) (leaves : List Leaf) (at : Placed) (fault : TermFault) : Type 0 where
+  pub tree : AskText
+  pub written : IsText tree
+  pub leaf : Leaf
+  pub rest : List Leaf
+  pub whole : ask_leaves tree ≡ leaves ++ leaf ∷ rest
+  pub played : token_of leaf ≡ at.token
+  pub kind : OwnFault
+  pub own : own_fault names leaf ≡ Some kind
+  pub fault_is : fault ≡ told kind (told_at leaf (last_place 0 before) at.place)
+
+-- the first token with a fault: those before it have none
+pub record FirstFault (names : Names) (tokens : List Placed) (fault : TermFault) : Type 0 where
+  pub before : List Placed
+  pub at : Placed
+  pub after : List Placed
+  pub cut : tokens ≡ before ++ at ∷ after
+  pub leaves : List Leaf
+  pub start : GoodStart names before leaves
+  pub there : IsUnexpected before at fault ⊎ HasOwnFault names before leaves at fault
+
+-- a skyline clause with no fault of a token, and DIFF columns alone
+pub record LacksOrder (names : Names) (tokens : List Placed) : Type 0 where
+  pub tree : AskText
+  pub written : IsText tree
+  pub played : tokens_in tokens ≡ tokens_on (ask_leaves tree)
+  pub good : AllByRecursion (IsGood names) (ask_leaves tree)
+  pub none : question names tree ≡ None
+
+-- what is wrong with a text
+abbrev pub Faults : Names → List ℕ → TermFault → Type 0
+Faults names text fault =
+    ((4096 < length text) × (fault ≡ TooLong))
+    ⊎ ((length text ≤ 4096) × (FirstFault names (tokens_of text) fault ⊎ (LacksOrder names (tokens_of text) × (fault ≡ NoMinOrMax))))
+
+-- that, unless the fault is want of memory
+abbrev pub UnlessMemory : TermFault → Type 0 → Type 0
+UnlessMemory OutOfMemory P = Unit {0}
+UnlessMemory _ P = P

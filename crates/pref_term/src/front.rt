@@ -1,0 +1,93 @@
+//! The token that bytes begin with.
+
+ghost use Rattle.std.specs.Prelude.{◌≡◌, ◌<◌, ◌≤◌, length};
+ghost use Rattle.std.specs.List.{prefix_len};
+ghost use Rattle.pref_term.specs.Token as tokens;
+ghost use Rattle.pref_term.specs.Seen.{seen, IsFront};
+
+use crate::token::Sign;
+
+/// A token, with its bytes where it has a choice of them.
+#[derive(Clone, Copy)]
+pub(crate) enum Token<'a> {
+    Word(&'a [u8]),
+    Digits(&'a [u8]),
+    Sign(Sign),
+    Other,
+    End,
+}
+
+pub(crate) fn is_blank(byte: u8) -> bool
+    ensures { result ≡ tokens.is_blank byte }
+{
+    byte == b' ' || byte == b'\t'
+}
+
+pub(crate) fn is_digit(byte: u8) -> bool
+    ensures { result ≡ tokens.is_digit byte }
+{
+    byte >= b'0' && byte <= b'9'
+}
+
+pub(crate) fn is_letter(byte: u8) -> bool
+    ensures { result ≡ tokens.is_letter byte }
+{
+    (byte >= b'A' && byte <= b'Z') || (byte >= b'a' && byte <= b'z')
+}
+
+pub(crate) fn is_word_byte(byte: u8) -> bool
+    ensures { result ≡ tokens.is_word_byte byte }
+{
+    is_letter(byte) || is_digit(byte) || byte == b'_' || byte == b'.'
+}
+
+/// How many bytes at the front go on with a word.
+fn word_length(bytes: &[u8]) -> usize
+    ensures length { result ≡ prefix_len tokens.is_word_byte bytes.now }
+    ensures within { result ≤ length bytes.now }
+{
+    bytes.iter().take_while(|byte| is_word_byte(**byte)).count()
+}
+
+/// How many bytes at the front are digits.
+fn digits_length(bytes: &[u8]) -> usize
+    ensures length { result ≡ prefix_len tokens.is_digit bytes.now }
+    ensures within { result ≤ length bytes.now }
+{
+    bytes.iter().take_while(|byte| is_digit(**byte)).count()
+}
+
+/// How many bytes at the front are blank.
+pub(crate) fn blanks_length(bytes: &[u8]) -> usize
+    ensures length { result ≡ prefix_len tokens.is_blank bytes.now }
+    ensures within { result ≤ length bytes.now }
+{
+    bytes.iter().take_while(|byte| is_blank(**byte)).count()
+}
+
+/// The token at the front, and its length.
+pub(crate) fn front(bytes: &[u8]) -> (Token<'_>, usize)
+    requires { 0 < length bytes.now }
+    ensures token { IsFront bytes.now (seen result.0) result.1 }
+    ensures within { result.1 ≤ length bytes.now }
+{
+    let first = bytes[0];
+    if is_letter(first) {
+        let length = 1 + word_length(&bytes[1..]);
+        return (Token::Word(&bytes[..length]), length);
+    }
+    if is_digit(first) {
+        let length = 1 + digits_length(&bytes[1..]);
+        return (Token::Digits(&bytes[..length]), length);
+    }
+    let token = match first {
+        b'(' => Token::Sign(Sign::Left),
+        b')' => Token::Sign(Sign::Right),
+        b',' => Token::Sign(Sign::Comma),
+        b'*' => Token::Sign(Sign::Star),
+        b'&' => Token::Sign(Sign::Ampersand),
+        b'-' => Token::Sign(Sign::Minus),
+        _ => Token::Other,
+    };
+    (token, 1)
+}

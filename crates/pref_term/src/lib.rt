@@ -1,0 +1,25 @@
+//! Preference terms: what they are, when a row is better than another, and the texts that spell them.
+#![tactic(auto)]
+
+mod ask;
+mod cursor;
+mod dominance;
+mod fault;
+mod front;
+pub mod laws;
+mod number;
+mod read;
+mod relation;
+mod term;
+#[cfg(test)]
+mod tests;
+mod token;
+mod walk;
+
+pub use ask::{Ask, Mode, in_same_group};
+pub use dominance::Dominance;
+pub use fault::TermFault;
+pub use read::read_ask;
+pub use relation::Relation;
+pub use term::{Numbers, Term};
+pub use walk::{better, compare, same};

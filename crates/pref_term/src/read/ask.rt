@@ -1,0 +1,310 @@
+//! Reading whole questions: what stands around a term, and skyline clauses.
+ghost use Rattle.std.specs.Prelude.{◌≡◌, ◌≤◌, ◌<◌, ◌+◌, ℕ, List, [], ◌∷◌, ◌++◌, length, IfOk, IfErr, OnOk, OnErr, true, false, Some, None};
+ghost use Rattle.std.specs.Option.{option_map};
+ghost use Rattle.pref_term.specs.Ahead.{ahead};
+ghost use Rattle.pref_term.specs.Token as tokens;
+ghost use Rattle.pref_term.specs.Grammar as grammar;
+ghost use Rattle.pref_term.specs.Led as led;
+ghost use Rattle.pref_term.specs.Reading as reading;
+ghost use Rattle.pref_term.specs.Spells as spells;
+ghost use Rattle.pref_term.specs.Question.{FitsWidth, IsCount, cut_of};
+ghost use Rattle.pref_term.specs.Preference.{preference_of};
+ghost use Rattle.pref_term.specs.Preference as terms;
+
+use super::base_term::{Word, column, take_word};
+use super::term::{pareto, prior};
+use crate::ask::{Ask, Mode};
+use crate::cursor::Cursor;
+use crate::fault::TermFault;
+use crate::front::Token;
+use crate::number::counted;
+use crate::term::Term;
+use crate::token::{
+    CasedWord, Direction, Keyword, Sign, cased_word, direction_of, word_of_grammar,
+};
+use pref_table::Schema;
+use std::alloc::Global;
+
+/// Takes a count.
+fn count<'a>(cursor: Cursor<'a>) -> Result<(u32, Cursor<'a>), TermFault>
+    ensures ok { IfOk result (λ x. led.TakesCount (ahead cursor.entry) x.0 (ahead x.1)) }
+    ensures err { IfErr result (λ f. led.FailsCount (ahead cursor.entry) f) }
+{
+    let taken = cursor.take();
+    let Token::Digits(digits) = taken.token else {
+        return Err(TermFault::Unexpected {
+            at: taken.at as u64,
+        });
+    };
+    match counted(digits) {
+        Some(count) => Ok((count, taken.next)),
+        None => Err(TermFault::BadCount {
+            at: taken.at as u64,
+        }),
+    }
+}
+
+/// Takes a column of a group and what stands behind it, and says whether more columns follow.
+fn group_column<'a>(
+    schema: &Schema,
+    cursor: Cursor<'a>,
+) -> Result<(usize, bool, Cursor<'a>), TermFault>
+    ensures ok { IfOk result (λ x. led.ReadsGroupColumn schema.now (ahead cursor.entry) x.0 x.1 (ahead x.2)) }
+    ensures shorter { IfOk result (λ x. length (ahead x.2) < length (ahead cursor.entry)) }
+    ensures err { IfErr result (λ f. led.FailsGroupColumn schema.now (ahead cursor.entry) f) }
+{
+    let (col, next) = column(schema, cursor)?;
+    let taken = next.take();
+    if taken.is(Sign::Comma) {
+        Ok((col, true, taken.next))
+    } else if taken.ends() {
+        Ok((col, false, next))
+    } else {
+        Err(TermFault::Unexpected {
+            at: taken.at as u64,
+        })
+    }
+}
+
+fn push(columns: &mut Vec<usize>, col: usize) -> Result<(), TermFault>
+    ensures ok { OnOk result (columns.new.items ≡ columns.old.items ++ col ∷ []) }
+    ensures err { IfErr result (λ f. f ≡ TermFault.OutOfMemory) }
+{
+    columns.push(col).map_err(|_| TermFault::OutOfMemory)
+}
+
+/// Takes the columns of a group and the end behind them.
+fn group_columns<'a>(
+    alloc: Global,
+    schema: &Schema,
+    cursor: Cursor<'a>,
+) -> Result<Vec<usize>, TermFault>
+    ensures ok { IfOk result (λ columns. led.ReadsColumns schema.now (ahead cursor.entry) columns.items false []) }
+    ensures err { IfErr result (λ f. led.FailsColumns schema.now (ahead cursor.entry) f) }
+{
+    let mut columns = Vec::new(alloc);
+    let mut place = cursor;
+    loop {
+        let (col, more, next) = group_column(schema, place)?;
+        push(&mut columns, col)?;
+        if !more {
+            return Ok(columns);
+        }
+        place = next;
+    }
+}
+
+/// Takes the group of a question, which may have no column, and the end.
+fn grouping<'a>(alloc: Global, schema: &Schema, cursor: Cursor<'a>) -> Result<Vec<usize>, TermFault>
+    ensures ok { IfOk result (λ columns. led.ReadsGrouping schema.now (ahead cursor.entry) columns.items) }
+    ensures err { IfErr result (λ f. led.FailsGrouping schema.now (ahead cursor.entry) f) }
+{
+    if cursor.take().ends() {
+        return Ok(Vec::new(alloc));
+    }
+    let by = take_word(cursor)?;
+    let Some(found) = word_of_grammar(by.letters) else {
+        return Err(TermFault::Unexpected { at: by.at as u64 });
+    };
+    let Keyword::By = found else {
+        return Err(TermFault::Unexpected { at: by.at as u64 });
+    };
+    group_columns(alloc, schema, by.next)
+}
+
+/// Takes what stands behind the words that say how many are wanted.
+fn rated<'a>(
+    alloc: Global,
+    schema: &Schema,
+    mode: Mode,
+    cursor: Cursor<'a>,
+) -> Result<Ask, TermFault>
+    requires { IsCount (cut_of mode) }
+    ensures ok { IfOk result (λ a. (head : grammar.HeadText) → spells.mode_of head ≡ mode → led.Asks schema.now (reading.operand (reading.in_whole head)) (ahead cursor.entry) a) }
+    ensures known { IfOk result (λ a. FitsWidth (length schema.now) a) }
+    ensures err { IfErr result (λ f. (head : grammar.HeadText) → spells.mode_of head ≡ mode → led.AsksNothing schema.now (reading.operand (reading.in_whole head)) (ahead cursor.entry) f) }
+{
+    let (term, next) = prior(alloc, schema, 0, cursor)?;
+    let group = grouping(alloc, schema, next)?;
+    Ok(Ask::new(term, group, mode))
+}
+
+/// Takes the word `of`.
+fn of<'a>(cursor: Cursor<'a>) -> Result<Cursor<'a>, TermFault>
+    ensures ok { IfOk result (λ next. led.PassesOf (ahead cursor.entry) (ahead next)) }
+    ensures err { IfErr result (λ f. led.FailsOf (ahead cursor.entry) f) }
+{
+    let word = take_word(cursor)?;
+    let Some(found) = cased_word(word.letters) else {
+        return Err(TermFault::Unexpected { at: word.at as u64 });
+    };
+    let CasedWord::Of = found else {
+        return Err(TermFault::Unexpected { at: word.at as u64 });
+    };
+    Ok(word.next)
+}
+
+/// Takes what a skyline clause says of a column.
+fn direction<'a>(cursor: Cursor<'a>) -> Result<(Direction, Cursor<'a>), TermFault>
+    ensures ok { IfOk result (λ x. led.TakesDirection (ahead cursor.entry) x.0 (ahead x.1)) }
+    ensures shorter { IfOk result (λ x. length (ahead x.1) < length (ahead cursor.entry)) }
+    ensures err { IfErr result (λ f. led.FailsDirection (ahead cursor.entry) f) }
+{
+    let word = take_word(cursor)?;
+    match direction_of(word.letters) {
+        Some(direction) => Ok((direction, word.next)),
+        None => Err(TermFault::Unexpected { at: word.at as u64 }),
+    }
+}
+
+/// A dimension of a skyline clause.
+#[derive(Clone, Copy)]
+struct Dimension {
+    col: usize,
+    direction: Direction,
+}
+
+/// Takes a dimension and what stands behind it, and says whether more follow.
+fn listed_dimension<'a>(
+    schema: &Schema,
+    cursor: Cursor<'a>,
+) -> Result<(Dimension, bool, Cursor<'a>), TermFault>
+    ensures ok { IfOk result (λ x. led.ReadsDim schema.now (ahead cursor.entry) x.0.col x.0.direction x.1 (ahead x.2)) }
+    ensures shorter { IfOk result (λ x. length (ahead x.2) < length (ahead cursor.entry)) }
+    ensures err { IfErr result (λ f. led.FailsDim schema.now (ahead cursor.entry) f) }
+{
+    let (col, behind) = column(schema, cursor)?;
+    let (direction, next) = direction(behind)?;
+    let taken = next.take();
+    if taken.is(Sign::Comma) {
+        Ok((Dimension { col, direction }, true, taken.next))
+    } else if taken.ends() {
+        Ok((Dimension { col, direction }, false, next))
+    } else {
+        Err(TermFault::Unexpected {
+            at: taken.at as u64,
+        })
+    }
+}
+
+/// What the dimensions of a skyline clause ask for: the product of their orders, where there is one, and the DIFF columns.
+#[derive(Drop)]
+struct Clause {
+    product: Option<Term>,
+    group: Vec<usize>,
+}
+
+/// The product with one more order.
+fn joined(alloc: Global, product: Option<Term>, order: Term) -> Result<Term, TermFault>
+    ensures ok { IfOk result (λ term. preference_of term ≡ led.joined (option_map preference_of product) (preference_of order)) }
+    ensures err { IfErr result (λ f. f ≡ TermFault.OutOfMemory) }
+{
+    match product {
+        None => Ok(order),
+        Some(product) => pareto(alloc, product, order),
+    }
+}
+
+/// The clause with one more dimension.
+fn extended(alloc: Global, clause: Clause, dimension: Dimension) -> Result<Clause, TermFault>
+    ensures product { IfOk result (λ longer. option_map preference_of longer.product ≡ led.with_order (option_map preference_of clause.product) dimension.direction dimension.col) }
+    ensures group { IfOk result (λ longer. longer.group.items ≡ clause.group.items ++ spells.group_by dimension.direction dimension.col) }
+    ensures err { IfErr result (λ f. f ≡ TermFault.OutOfMemory) }
+{
+    let Clause { product, mut group } = clause;
+    let col = dimension.col;
+    match dimension.direction {
+        Direction::Min => {
+            let product = joined(alloc, product, Term::Low { col })?;
+            Ok(Clause {
+                product: Some(product),
+                group,
+            })
+        }
+        Direction::Max => {
+            let product = joined(alloc, product, Term::High { col })?;
+            Ok(Clause {
+                product: Some(product),
+                group,
+            })
+        }
+        Direction::Diff => {
+            push(&mut group, col)?;
+            Ok(Clause { product, group })
+        }
+    }
+}
+
+/// Takes the dimensions of a skyline clause and the end behind them.
+fn dimensions<'a>(alloc: Global, schema: &Schema, cursor: Cursor<'a>) -> Result<Clause, TermFault>
+    ensures ok { IfOk result (λ clause. led.ReadsClause schema.now (ahead cursor.entry) (option_map preference_of clause.product) clause.group.items) }
+    ensures err { IfErr result (λ f. led.FailsClause schema.now (ahead cursor.entry) f) }
+{
+    let mut clause = Clause {
+        product: None,
+        group: Vec::new(alloc),
+    };
+    let mut place = cursor;
+    loop {
+        let (dimension, more, next) = listed_dimension(schema, place)?;
+        clause = extended(alloc, clause, dimension)?;
+        if !more {
+            return Ok(clause);
+        }
+        place = next;
+    }
+}
+
+/// Takes what stands behind `skyline`.
+fn skyline<'a>(alloc: Global, schema: &Schema, cursor: Cursor<'a>) -> Result<Ask, TermFault>
+    ensures ok { IfOk result (λ a. (s : List ℕ) → led.Asks schema.now (reading.skyline_named s) (ahead cursor.entry) a) }
+    ensures known { IfOk result (λ a. FitsWidth (length schema.now) a) }
+    ensures err { IfErr result (λ f. (s : List ℕ) → led.AsksNothing schema.now (reading.skyline_named s) (ahead cursor.entry) f) }
+{
+    let behind = of(cursor)?;
+    let Clause { product, group } = dimensions(alloc, schema, behind)?;
+    match product {
+        Some(term) => Ok(Ask::new(term, group, Mode::Best)),
+        None => Err(TermFault::NoMinOrMax),
+    }
+}
+
+/// Takes a question that begins with a word in any case.
+fn cased_ask<'a>(alloc: Global, schema: &Schema, word: Word<'a>) -> Result<Ask, TermFault>
+    requires { grammar.keyword_of word.letters.now ≡ None }
+    ensures ok { IfOk result (λ a. led.Asks schema.now reading.start (led.word_ahead word.entry.letters.now word.entry.at (ahead word.entry.next)) a) }
+    ensures known { IfOk result (λ a. FitsWidth (length schema.now) a) }
+    ensures err { IfErr result (λ f. led.AsksNothing schema.now reading.start (led.word_ahead word.entry.letters.now word.entry.at (ahead word.entry.next)) f) }
+{
+    let Some(found) = cased_word(word.letters) else {
+        return Err(TermFault::Unexpected { at: word.at as u64 });
+    };
+    let CasedWord::Skyline = found else {
+        return Err(TermFault::Unexpected { at: word.at as u64 });
+    };
+    skyline(alloc, schema, word.next)
+}
+
+/// Takes a whole question.
+pub(super) fn ask<'a>(alloc: Global, schema: &Schema, cursor: Cursor<'a>) -> Result<Ask, TermFault>
+    ensures ok { IfOk result (λ a. led.Asks schema.now reading.start (ahead cursor.entry) a) }
+    ensures known { IfOk result (λ a. FitsWidth (length schema.now) a) }
+    ensures err { IfErr result (λ f. led.AsksNothing schema.now reading.start (ahead cursor.entry) f) }
+{
+    let word = take_word(cursor)?;
+    let Some(found) = word_of_grammar(word.letters) else {
+        return cased_ask(alloc, schema, word);
+    };
+    match found {
+        Keyword::Best => rated(alloc, schema, Mode::Best, word.next),
+        Keyword::TopLevel => {
+            let (k, behind) = count(word.next)?;
+            rated(alloc, schema, Mode::TopLevel(k), behind)
+        }
+        Keyword::AtLeast => {
+            let (k, behind) = count(word.next)?;
+            rated(alloc, schema, Mode::AtLeast(k), behind)
+        }
+        _ => Err(TermFault::Unexpected { at: word.at as u64 }),
+    }
+}

@@ -1,0 +1,221 @@
+//! Reading base terms.
+ghost use Rattle.std.specs.Prelude.{◌≡◌, ◌≤◌, ◌<◌, ◌+◌, ℕ, List, [], ◌∷◌, ◌++◌, length, IfOk, IfErr, OnOk, OnErr, true, false};
+ghost use Rattle.pref_term.specs.Ahead.{ahead};
+ghost use Rattle.pref_term.specs.Token as tokens;
+ghost use Rattle.pref_term.specs.Led as led;
+ghost use Rattle.pref_term.specs.Reading as reading;
+ghost use Rattle.pref_term.specs.Spells as spells;
+ghost use Rattle.pref_term.specs.Preference.{preference_of};
+
+use crate::cursor::Cursor;
+use crate::fault::TermFault;
+use crate::front::Token;
+use crate::number::signed;
+use crate::term::{Numbers, Term};
+use crate::token::Sign;
+use pref_table::Schema;
+use std::alloc::Global;
+
+/// Takes a sign.
+pub(super) fn expect<'a>(cursor: Cursor<'a>, sign: Sign) -> Result<Cursor<'a>, TermFault>
+    ensures ok { IfOk result (λ next. led.Passes (tokens.sign sign) (ahead cursor.entry) (ahead next)) }
+    ensures err { IfErr result (λ f. led.IsOther (tokens.sign sign) (ahead cursor.entry) f) }
+{
+    let taken = cursor.take();
+    if taken.is(sign) {
+        Ok(taken.next)
+    } else {
+        Err(TermFault::Unexpected {
+            at: taken.at as u64,
+        })
+    }
+}
+
+/// A word, where it begins, and what lies behind it.
+#[derive(Clone, Copy)]
+pub(super) struct Word<'a> {
+    pub letters: &'a [u8],
+    pub at: usize,
+    pub next: Cursor<'a>,
+}
+
+/// Takes a word.
+pub(super) fn take_word<'a>(cursor: Cursor<'a>) -> Result<Word<'a>, TermFault>
+    ensures ok { IfOk result (λ w. ahead cursor.entry ≡ led.word_ahead w.letters.now w.at (ahead w.next)) }
+    ensures err { IfErr result (λ f. led.LacksWord (ahead cursor.entry) f) }
+{
+    let taken = cursor.take();
+    match taken.token {
+        Token::Word(letters) => Ok(Word {
+            letters,
+            at: taken.at,
+            next: taken.next,
+        }),
+        _ => Err(TermFault::Unexpected {
+            at: taken.at as u64,
+        }),
+    }
+}
+
+/// Takes a column.
+pub(super) fn column<'a>(
+    schema: &Schema,
+    cursor: Cursor<'a>,
+) -> Result<(usize, Cursor<'a>), TermFault>
+    ensures ok { IfOk result (λ x. led.TakesColumn schema.now (ahead cursor.entry) x.0 (ahead x.1)) }
+    ensures shorter { IfOk result (λ x. length (ahead x.1) < length (ahead cursor.entry)) }
+    ensures err { IfErr result (λ f. led.FailsColumn schema.now (ahead cursor.entry) f) }
+{
+    let word = take_word(cursor)?;
+    match schema.index_of(word.letters) {
+        Some(col) => Ok((col, word.next)),
+        None => Err(TermFault::UnknownColumn { at: word.at as u64 }),
+    }
+}
+
+/// Takes a parenthesis and a column.
+fn opened_column<'a>(schema: &Schema, cursor: Cursor<'a>) -> Result<(usize, Cursor<'a>), TermFault>
+    ensures ok { IfOk result (λ x. led.ReadsOpened schema.now (ahead cursor.entry) x.0 (ahead x.1)) }
+    ensures shorter { IfOk result (λ x. length (ahead x.1) < length (ahead cursor.entry)) }
+    ensures err { IfErr result (λ f. led.FailsOpened schema.now (ahead cursor.entry) f) }
+{
+    let inside = expect(cursor, Sign::Left)?;
+    let (col, next) = column(schema, inside)?;
+    Ok((col, next))
+}
+
+/// The value of a number that begins there.
+fn in_range(negative: bool, digits: &[u8], at: usize) -> Result<i64, TermFault>
+    ensures value { IfOk result (λ value. value ≡ spells.signed_value negative digits.now) }
+    ensures ok { OnOk result (spells.in_range negative digits.now ≡ true) }
+    ensures out { OnErr result (spells.in_range negative digits.now ≡ false) }
+    ensures err { IfErr result (λ f. f ≡ TermFault.NumberRange at) }
+{
+    match signed(negative, digits) {
+        Some(value) => Ok(value),
+        None => Err(TermFault::NumberRange { at: at as u64 }),
+    }
+}
+
+/// Takes a number.
+fn number<'a>(cursor: Cursor<'a>) -> Result<(i64, Cursor<'a>), TermFault>
+    ensures ok { IfOk result (λ x. (names : List (List ℕ)) → led.ReadsNumber names (ahead cursor.entry) x.0 (ahead x.1)) }
+    ensures shorter { IfOk result (λ x. length (ahead x.1) < length (ahead cursor.entry)) }
+    ensures err { IfErr result (λ f. (names : List (List ℕ)) → led.FailsNumber names (ahead cursor.entry) f) }
+{
+    let first = cursor.take();
+    if first.is(Sign::Minus) {
+        let second = first.next.take();
+        return match second.token {
+            Token::Digits(bytes) => Ok((in_range(true, bytes, first.at)?, second.next)),
+            _ => Err(TermFault::Unexpected {
+                at: second.at as u64,
+            }),
+        };
+    }
+    match first.token {
+        Token::Digits(bytes) => Ok((in_range(false, bytes, first.at)?, first.next)),
+        _ => Err(TermFault::Unexpected {
+            at: first.at as u64,
+        }),
+    }
+}
+
+/// Takes a number of a set and the sign behind it, and says whether more numbers follow.
+fn listed<'a>(cursor: Cursor<'a>) -> Result<(i64, bool, Cursor<'a>), TermFault>
+    ensures ok { IfOk result (λ x. (names : List (List ℕ)) → led.ReadsListed names (ahead cursor.entry) x.0 x.1 (ahead x.2)) }
+    ensures shorter { IfOk result (λ x. length (ahead x.2) < length (ahead cursor.entry)) }
+    ensures err { IfErr result (λ f. (names : List (List ℕ)) → led.FailsListed names (ahead cursor.entry) f) }
+{
+    let (value, next) = number(cursor)?;
+    let taken = next.take();
+    if taken.is(Sign::Comma) {
+        Ok((value, true, taken.next))
+    } else if taken.is(Sign::Right) {
+        Ok((value, false, taken.next))
+    } else {
+        Err(TermFault::Unexpected {
+            at: taken.at as u64,
+        })
+    }
+}
+
+fn push(set: &mut Vec<i64>, value: i64) -> Result<(), TermFault>
+    ensures ok { OnOk result (set.new.items ≡ set.old.items ++ value ∷ []) }
+    ensures err { IfErr result (λ f. f ≡ TermFault.OutOfMemory) }
+{
+    set.push(value).map_err(|_| TermFault::OutOfMemory)
+}
+
+/// Takes the numbers of a set and the parenthesis behind them.
+fn numbers<'a>(alloc: Global, cursor: Cursor<'a>) -> Result<(Vec<i64>, Cursor<'a>), TermFault>
+    ensures ok { IfOk result (λ x. (names : List (List ℕ)) → led.ReadsNumbers names (ahead cursor.entry) x.0.items (ahead x.1)) }
+    ensures shorter { IfOk result (λ x. length (ahead x.1) < length (ahead cursor.entry)) }
+    ensures err { IfErr result (λ f. (names : List (List ℕ)) → led.FailsNumbers names (ahead cursor.entry) f) }
+{
+    let mut set = Vec::new(alloc);
+    let mut place = cursor;
+    loop {
+        let (value, more, next) = listed(place)?;
+        push(&mut set, value)?;
+        if !more {
+            return Ok((set, next));
+        }
+        place = next;
+    }
+}
+
+/// Takes what stands behind `low`.
+pub(super) fn low<'a>(schema: &Schema, cursor: Cursor<'a>) -> Result<(Term, Cursor<'a>), TermFault>
+    ensures ok { IfOk result (λ x. led.ReadsBase schema.now reading.low_kind (ahead cursor.entry) (preference_of x.0) (ahead x.1)) }
+    ensures shorter { IfOk result (λ x. length (ahead x.1) < length (ahead cursor.entry)) }
+    ensures err { IfErr result (λ f. led.FailsBase schema.now reading.low_kind (ahead cursor.entry) f) }
+{
+    let (col, next) = opened_column(schema, cursor)?;
+    let rest = expect(next, Sign::Right)?;
+    Ok((Term::Low { col }, rest))
+}
+
+/// Takes what stands behind `high`.
+pub(super) fn high<'a>(schema: &Schema, cursor: Cursor<'a>) -> Result<(Term, Cursor<'a>), TermFault>
+    ensures ok { IfOk result (λ x. led.ReadsBase schema.now reading.high_kind (ahead cursor.entry) (preference_of x.0) (ahead x.1)) }
+    ensures shorter { IfOk result (λ x. length (ahead x.1) < length (ahead cursor.entry)) }
+    ensures err { IfErr result (λ f. led.FailsBase schema.now reading.high_kind (ahead cursor.entry) f) }
+{
+    let (col, next) = opened_column(schema, cursor)?;
+    let rest = expect(next, Sign::Right)?;
+    Ok((Term::High { col }, rest))
+}
+
+/// Takes what stands behind `around`.
+pub(super) fn around<'a>(
+    schema: &Schema,
+    cursor: Cursor<'a>,
+) -> Result<(Term, Cursor<'a>), TermFault>
+    ensures ok { IfOk result (λ x. led.ReadsBase schema.now reading.around_kind (ahead cursor.entry) (preference_of x.0) (ahead x.1)) }
+    ensures shorter { IfOk result (λ x. length (ahead x.1) < length (ahead cursor.entry)) }
+    ensures err { IfErr result (λ f. led.FailsBase schema.now reading.around_kind (ahead cursor.entry) f) }
+{
+    let (col, next) = opened_column(schema, cursor)?;
+    let inside = expect(next, Sign::Comma)?;
+    let (centre, behind) = number(inside)?;
+    let rest = expect(behind, Sign::Right)?;
+    Ok((Term::Around { col, centre }, rest))
+}
+
+/// Takes what stands behind `pos`.
+pub(super) fn pos<'a>(
+    alloc: Global,
+    schema: &Schema,
+    cursor: Cursor<'a>,
+) -> Result<(Term, Cursor<'a>), TermFault>
+    ensures ok { IfOk result (λ x. led.ReadsBase schema.now reading.pos_kind (ahead cursor.entry) (preference_of x.0) (ahead x.1)) }
+    ensures shorter { IfOk result (λ x. length (ahead x.1) < length (ahead cursor.entry)) }
+    ensures err { IfErr result (λ f. led.FailsBase schema.now reading.pos_kind (ahead cursor.entry) f) }
+{
+    let (col, next) = opened_column(schema, cursor)?;
+    let inside = expect(next, Sign::Comma)?;
+    let (numbers, rest) = numbers(alloc, inside)?;
+    let set = Numbers::of(numbers);
+    Ok((Term::Pos { col, set }, rest))
+}

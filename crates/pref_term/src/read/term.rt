@@ -1,0 +1,197 @@
+//! Reading terms: one function for each rule of the grammar.
+ghost use Rattle.std.specs.Prelude.{◌≡◌, ◌≤◌, ◌<◌, ◌+◌, ℕ, List, [], ◌∷◌, ◌++◌, length, IfOk, IfErr, OnOk, OnErr, true, false};
+ghost use Rattle.pref_term.specs.Ahead.{ahead};
+ghost use Rattle.pref_term.specs.Token as tokens;
+ghost use Rattle.pref_term.specs.Led as led;
+ghost use Rattle.pref_term.specs.Reading as reading;
+ghost use Rattle.pref_term.specs.Spells as spells;
+ghost use Rattle.pref_term.specs.Preference.{preference_of};
+ghost use Rattle.pref_term.specs.Preference as terms;
+
+use super::base_term::{around, expect, high, low, pos};
+use crate::cursor::Cursor;
+use crate::fault::TermFault;
+use crate::front::Token;
+use crate::term::Term;
+use crate::token::{Keyword, Sign, word_of_grammar};
+use pref_table::Schema;
+use std::alloc::Global;
+
+/// The deepest nesting that a text may open.
+const DEEPEST: usize = 64;
+
+/// How many nestings are open within one that opens there.
+fn deeper(depth: usize, at: usize) -> Result<usize, TermFault>
+    requires { depth ≤ 64 }
+    ensures ok { IfOk result (λ inside. (depth < 64) × (inside ≡ depth + 1)) }
+    ensures err { IfErr result (λ f. (64 ≤ depth) × (f ≡ TermFault.TooDeep at)) }
+{
+    if depth < DEEPEST {
+        Ok(depth + 1)
+    } else {
+        Err(TermFault::TooDeep { at: at as u64 })
+    }
+}
+
+/// Takes a factor, where so many nestings are open.
+#[cycle(term)]
+fn unary<'a>(
+    alloc: Global,
+    schema: &Schema,
+    depth: usize,
+    cursor: Cursor<'a>,
+) -> Result<(Term, Cursor<'a>), TermFault>
+    requires { depth ≤ 64 }
+    ensures ok { IfOk result (λ x. led.ReadsUnary schema.now depth (ahead cursor.entry) (preference_of x.0) (ahead x.1)) }
+    ensures shorter { IfOk result (λ x. length (ahead x.1) < length (ahead cursor.entry)) }
+    ensures err { IfErr result (λ f. led.FailsUnary schema.now depth (ahead cursor.entry) f) }
+{
+    let taken = cursor.take();
+    if taken.is(Sign::Minus) {
+        let inside = deeper(depth, taken.at)?;
+        let (part, next) = unary(alloc, schema, inside, taken.next)?;
+        return Ok((reversed(alloc, part)?, next));
+    }
+    if taken.is(Sign::Left) {
+        let inside = deeper(depth, taken.at)?;
+        return group(alloc, schema, inside, taken.next);
+    }
+    let Token::Word(letters) = taken.token else {
+        return Err(TermFault::Unexpected {
+            at: taken.at as u64,
+        });
+    };
+    let Some(found) = word_of_grammar(letters) else {
+        return Err(TermFault::Unexpected {
+            at: taken.at as u64,
+        });
+    };
+    match found {
+        Keyword::Reverse => reverse(alloc, schema, depth, taken.next),
+        Keyword::Low => low(schema, taken.next),
+        Keyword::High => high(schema, taken.next),
+        Keyword::Around => around(schema, taken.next),
+        Keyword::Pos => pos(alloc, schema, taken.next),
+        _ => Err(TermFault::Unexpected {
+            at: taken.at as u64,
+        }),
+    }
+}
+
+/// Takes what stands behind `reverse`.
+#[cycle(term)]
+fn reverse<'a>(
+    alloc: Global,
+    schema: &Schema,
+    depth: usize,
+    cursor: Cursor<'a>,
+) -> Result<(Term, Cursor<'a>), TermFault>
+    requires { depth ≤ 64 }
+    ensures ok { IfOk result (λ x. led.ReadsReverse schema.now depth (ahead cursor.entry) (preference_of x.0) (ahead x.1)) }
+    ensures shorter { IfOk result (λ x. length (ahead x.1) < length (ahead cursor.entry)) }
+    ensures err { IfErr result (λ f. led.FailsReverse schema.now depth (ahead cursor.entry) f) }
+{
+    let taken = cursor.take();
+    if !taken.is(Sign::Left) {
+        return Err(TermFault::Unexpected {
+            at: taken.at as u64,
+        });
+    }
+    let inside = deeper(depth, taken.at)?;
+    let (part, next) = group(alloc, schema, inside, taken.next)?;
+    Ok((reversed(alloc, part)?, next))
+}
+
+/// Takes a prior and the parenthesis behind it, where so many nestings are open within.
+#[cycle(term)]
+fn group<'a>(
+    alloc: Global,
+    schema: &Schema,
+    inside: usize,
+    cursor: Cursor<'a>,
+) -> Result<(Term, Cursor<'a>), TermFault>
+    requires { inside ≤ 64 }
+    ensures ok { IfOk result (λ x. led.ReadsGroup schema.now inside (ahead cursor.entry) (preference_of x.0) (ahead x.1)) }
+    ensures shorter { IfOk result (λ x. length (ahead x.1) < length (ahead cursor.entry)) }
+    ensures err { IfErr result (λ f. led.FailsGroup schema.now inside (ahead cursor.entry) f) }
+{
+    let (term, next) = prior(alloc, schema, inside, cursor)?;
+    let rest = expect(next, Sign::Right)?;
+    Ok((term, rest))
+}
+
+/// Takes a product, where so many nestings are open.
+#[cycle(term)]
+fn product<'a>(
+    alloc: Global,
+    schema: &Schema,
+    depth: usize,
+    cursor: Cursor<'a>,
+) -> Result<(Term, Cursor<'a>), TermFault>
+    requires { depth ≤ 64 }
+    ensures ok { IfOk result (λ x. led.ReadsProduct schema.now depth (ahead cursor.entry) (preference_of x.0) (ahead x.1)) }
+    ensures shorter { IfOk result (λ x. length (ahead x.1) < length (ahead cursor.entry)) }
+    ensures err { IfErr result (λ f. led.FailsProduct schema.now depth (ahead cursor.entry) f) }
+{
+    let (mut term, mut place) = unary(alloc, schema, depth, cursor)?;
+    loop {
+        let taken = place.take();
+        if !taken.is(Sign::Star) {
+            return Ok((term, place));
+        }
+        let (factor, next) = unary(alloc, schema, depth, taken.next)?;
+        term = pareto(alloc, term, factor)?;
+        place = next;
+    }
+}
+
+/// Takes a prior, where so many nestings are open.
+#[cycle(term)]
+pub(super) fn prior<'a>(
+    alloc: Global,
+    schema: &Schema,
+    depth: usize,
+    cursor: Cursor<'a>,
+) -> Result<(Term, Cursor<'a>), TermFault>
+    requires { depth ≤ 64 }
+    ensures ok { IfOk result (λ x. led.ReadsPrior schema.now depth (ahead cursor.entry) (preference_of x.0) (ahead x.1)) }
+    ensures shorter { IfOk result (λ x. length (ahead x.1) < length (ahead cursor.entry)) }
+    ensures err { IfErr result (λ f. led.FailsPrior schema.now depth (ahead cursor.entry) f) }
+{
+    let (mut term, mut place) = product(alloc, schema, depth, cursor)?;
+    loop {
+        let taken = place.take();
+        if !taken.is(Sign::Ampersand) {
+            return Ok((term, place));
+        }
+        let (last, next) = product(alloc, schema, depth, taken.next)?;
+        term = prioritised(alloc, term, last)?;
+        place = next;
+    }
+}
+
+fn reversed(alloc: Global, part: Term) -> Result<Term, TermFault>
+    ensures ok { IfOk result (λ term. preference_of term ≡ terms.reverse (preference_of part)) }
+    ensures err { IfErr result (λ f. f ≡ TermFault.OutOfMemory) }
+{
+    let part = Box::new(alloc, part).map_err(|_| TermFault::OutOfMemory)?;
+    Ok(Term::Reverse(part))
+}
+
+pub(super) fn pareto(alloc: Global, left: Term, right: Term) -> Result<Term, TermFault>
+    ensures ok { IfOk result (λ term. preference_of term ≡ terms.pareto (preference_of left) (preference_of right)) }
+    ensures err { IfErr result (λ f. f ≡ TermFault.OutOfMemory) }
+{
+    let left = Box::new(alloc, left).map_err(|_| TermFault::OutOfMemory)?;
+    let right = Box::new(alloc, right).map_err(|_| TermFault::OutOfMemory)?;
+    Ok(Term::Pareto(left, right))
+}
+
+fn prioritised(alloc: Global, first: Term, then: Term) -> Result<Term, TermFault>
+    ensures ok { IfOk result (λ term. preference_of term ≡ terms.prior (preference_of first) (preference_of then)) }
+    ensures err { IfErr result (λ f. f ≡ TermFault.OutOfMemory) }
+{
+    let first = Box::new(alloc, first).map_err(|_| TermFault::OutOfMemory)?;
+    let then = Box::new(alloc, then).map_err(|_| TermFault::OutOfMemory)?;
+    Ok(Term::Prior(first, then))
+}

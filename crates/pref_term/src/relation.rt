@@ -1,0 +1,52 @@
+//! How a row stands to another.
+ghost use Rattle.std.specs.Prelude.{◌≡◌};
+ghost use Rattle.pref_term.specs.Order.{is_better, is_same, is_worse};
+ghost use Rattle.pref_term.specs.Walk.{in_product};
+
+/// How a first row stands to a second one: the two questions "is it better" and "is it worse" in one answer.
+#[derive(Clone, Copy, Debug, PartialEq, Eq)]
+pub enum Relation {
+    /// The first is better.
+    Better,
+    /// The second is better.
+    Worse,
+    /// The two score alike everywhere.
+    Same,
+    /// None of these.
+    Neither,
+}
+
+impl Relation {
+    /// Whether the first row is better.
+    pub fn is_better(self) -> bool
+        ensures { result ≡ is_better self }
+    {
+        matches!(self, Relation::Better)
+    }
+
+    /// Whether the second row is better.
+    pub fn is_worse(self) -> bool
+        ensures { result ≡ is_worse self }
+    {
+        matches!(self, Relation::Worse)
+    }
+
+    /// Whether the rows score alike.
+    pub fn is_same(self) -> bool
+        ensures { result ≡ is_same self }
+    {
+        matches!(self, Relation::Same)
+    }
+
+    /// The relation by a Pareto product, from those by its two parts.
+    pub(crate) fn in_product(self, other: Relation) -> Relation
+        ensures { result ≡ in_product self other }
+    {
+        match (self, other) {
+            (Relation::Same, decided) | (decided, Relation::Same) => decided,
+            (Relation::Better, Relation::Better) => Relation::Better,
+            (Relation::Worse, Relation::Worse) => Relation::Worse,
+            _ => Relation::Neither,
+        }
+    }
+}

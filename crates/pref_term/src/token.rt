@@ -1,0 +1,99 @@
+//! The tokens of a question text.
+
+ghost use Rattle.std.specs.Prelude.{◌≡◌};
+ghost use Rattle.pref_term.specs.Grammar.{keyword_of, cased_of, direction_in};
+
+/// A byte that is a token by itself.
+#[derive(Clone, Copy, Debug, PartialEq, Eq)]
+pub enum Sign {
+    Left,
+    Right,
+    Comma,
+    Star,
+    Ampersand,
+    Minus,
+}
+
+/// A word of the grammar, where the place makes it one.
+#[derive(Clone, Copy, Debug, PartialEq, Eq)]
+pub enum Keyword {
+    Best,
+    Low,
+    High,
+    Around,
+    Pos,
+    Reverse,
+    TopLevel,
+    AtLeast,
+    By,
+}
+
+/// A word of the grammar that may stand in any case.
+#[derive(Clone, Copy, Debug, PartialEq, Eq)]
+pub enum CasedWord {
+    Skyline,
+    Of,
+    Min,
+    Max,
+    Diff,
+}
+
+/// What a skyline clause says of a column.
+#[derive(Clone, Copy, Debug, PartialEq, Eq)]
+pub enum Direction {
+    /// Smaller is better.
+    Min,
+    /// Larger is better.
+    Max,
+    /// Rows that differ there are never compared.
+    Diff,
+}
+
+/// The word of the grammar with these letters.
+pub(crate) fn word_of_grammar(letters: &[u8]) -> Option<Keyword>
+    ensures { result ≡ keyword_of letters.now }
+{
+    match letters {
+        b"best" => Some(Keyword::Best),
+        b"low" => Some(Keyword::Low),
+        b"high" => Some(Keyword::High),
+        b"around" => Some(Keyword::Around),
+        b"pos" => Some(Keyword::Pos),
+        b"reverse" => Some(Keyword::Reverse),
+        b"top_level" => Some(Keyword::TopLevel),
+        b"at_least" => Some(Keyword::AtLeast),
+        b"by" => Some(Keyword::By),
+        _ => None,
+    }
+}
+
+/// The word of the grammar with these letters, in any case.
+pub(crate) fn cased_word(letters: &[u8]) -> Option<CasedWord>
+    ensures { result ≡ cased_of letters.now }
+{
+    if letters.eq_ignore_ascii_case(b"skyline") {
+        Some(CasedWord::Skyline)
+    } else if letters.eq_ignore_ascii_case(b"of") {
+        Some(CasedWord::Of)
+    } else if letters.eq_ignore_ascii_case(b"min") {
+        Some(CasedWord::Min)
+    } else if letters.eq_ignore_ascii_case(b"max") {
+        Some(CasedWord::Max)
+    } else if letters.eq_ignore_ascii_case(b"diff") {
+        Some(CasedWord::Diff)
+    } else {
+        None
+    }
+}
+
+/// What a word in any case says of a column.
+pub(crate) fn direction_of(letters: &[u8]) -> Option<Direction>
+    ensures { result ≡ direction_in (cased_of letters.now) }
+{
+    match cased_word(letters)? {
+        CasedWord::Min => Some(Direction::Min),
+        CasedWord::Max => Some(Direction::Max),
+        CasedWord::Diff => Some(Direction::Diff),
+        _ => None,
+    }
+}

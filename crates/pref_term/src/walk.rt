@@ -1,0 +1,117 @@
+//! When a row is better than another: one walk over a term for each pair of rows.
+ghost use Rattle.std.specs.Prelude.{◌≡◌, ◌-ℤ◌, neg_ℤ, pos, unsigned_abs, Bool, not};
+ghost use Rattle.std.specs.List.{list_any};
+ghost use Rattle.std.specs.Ordering.{int_eq};
+ghost use Rattle.pref_term.specs.Better as better;
+ghost use Rattle.pref_term.specs.Columns.{ReadsBelow};
+ghost use Rattle.pref_term.specs.Order.{is_better, is_same, is_worse};
+ghost use Rattle.pref_term.specs.Preference.{preference_of};
+ghost use Rattle.pref_term.specs.Walk.{by_scores, walked};
+
+use crate::relation::Relation;
+use crate::term::{Numbers, Term};
+use pref_table::Row;
+
+/// How the first row stands to the second one by a term.
+///
+/// One walk: each base term's scores are compared at most once. A product stops at a part that decides
+/// for neither row, and a priority at its first part that sees a difference. Takes no memory.
+pub fn compare(term: &Term, a: &Row, b: &Row) -> Relation
+    requires { ReadsBelow 16 (preference_of term.now) }
+    ensures better { is_better result ≡ better.better (preference_of term.now) a.now b.now }
+    ensures worse { is_worse result ≡ better.better (preference_of term.now) b.now a.now }
+    ensures same { is_same result ≡ better.same (preference_of term.now) a.now b.now }
+{
+    walk(term, a, b)
+}
+
+/// Whether the first row is better. Takes no memory; costs one walk over the term.
+pub fn better(term: &Term, a: &Row, b: &Row) -> bool
+    requires { ReadsBelow 16 (preference_of term.now) }
+    ensures { result ≡ better.better (preference_of term.now) a.now b.now }
+{
+    compare(term, a, b).is_better()
+}
+
+/// Whether the rows score alike in every base term. Takes no memory; costs one walk over the term.
+pub fn same(term: &Term, a: &Row, b: &Row) -> bool
+    requires { ReadsBelow 16 (preference_of term.now) }
+    ensures { result ≡ better.same (preference_of term.now) a.now b.now }
+{
+    compare(term, a, b).is_same()
+}
+
+fn walk(term: &Term, a: &Row, b: &Row) -> Relation
+    requires { ReadsBelow 16 (preference_of term.now) }
+    ensures { result ≡ walked (preference_of term.now) a.now b.now }
+{
+    match term {
+        Term::Low { col } => by_value(a.cell(*col), b.cell(*col)),
+        Term::High { col } => by_value_reversed(a.cell(*col), b.cell(*col)),
+        Term::Around { col, centre } => by_distance(a.cell(*col), b.cell(*col), *centre),
+        Term::Pos { col, set } => by_member(a.cell(*col), b.cell(*col), set),
+        Term::Pareto(p, q) => match walk(p, a, b) {
+            Relation::Neither => Relation::Neither,
+            first => first.in_product(walk(q, a, b)),
+        },
+        Term::Prior(p, q) => match walk(p, a, b) {
+            Relation::Same => walk(q, a, b),
+            Relation::Better => Relation::Better,
+            Relation::Worse => Relation::Worse,
+            Relation::Neither => Relation::Neither,
+        },
+        Term::Reverse(p) => walk(p, b, a),
+    }
+}
+
+/// The smaller value is better.
+fn by_value(a: i64, b: i64) -> Relation
+    ensures { result ≡ by_scores a b }
+{
+    if a < b {
+        Relation::Better
+    } else if b < a {
+        Relation::Worse
+    } else {
+        Relation::Same
+    }
+}
+
+/// The larger value is better.
+fn by_value_reversed(a: i64, b: i64) -> Relation
+    ensures { result ≡ by_scores (neg_ℤ a) (neg_ℤ b) }
+{
+    by_value(b, a)
+}
+
+/// The value nearer to the centre is better. A distance is at most 2^64 - 1.
+fn by_distance(a: i64, b: i64, centre: i64) -> Relation
+    ensures { result ≡ by_scores (pos (unsigned_abs (a -ℤ centre))) (pos (unsigned_abs (b -ℤ centre))) }
+{
+    let first = a.abs_diff(centre);
+    let second = b.abs_diff(centre);
+    if first < second {
+        Relation::Better
+    } else if second < first {
+        Relation::Worse
+    } else {
+        Relation::Same
+    }
+}
+
+/// A value in the set is better than one outside it.
+fn by_member(a: i64, b: i64, set: &Numbers) -> Relation
+    ensures { result ≡ by_scores (better.missed set.now a) (better.missed set.now b) }
+{
+    match (is_member(set, a), is_member(set, b)) {
+        (true, false) => Relation::Better,
+        (false, true) => Relation::Worse,
+        _ => Relation::Same,
+    }
+}
+
+fn is_member(set: &Numbers, value: i64) -> bool
+    ensures { result ≡ list_any (int_eq value) set.now }
+{
+    set.as_slice().contains(&value)
+}
