@@ -1,0 +1,159 @@
+-- Entries in order of id: one list for each set of entries with different ids.
+use Rattle.std.proofs.Common.{◌≡◌, ℕ, zero, suc, ◌≤◌, ◌<◌, ◌+◌, Bool, true, cond, inl, inr, List, [], ◌∷◌, length, get_or, refl, sym, ◌∙◌, ap, subst, arith, ltb, eqb, eq-eqb}
+use Rattle.std.specs.List.{Contains, count_by}
+use Rattle.std.specs.List.Sorted.{IsNonDecreasingBy, IsPermutation}
+use Rattle.std.proofs.lemmas.Bool.{cases_Bool, cond_both, ltb-true, ltb-false, cond-true, cond-false}
+use Rattle.std.proofs.lemmas.List.Sorted.{Contains-permutation, IsPermutation-sym, sum_by-IsPermutation}
+use Rattle.std.proofs.lemmas.List.Sums.{sum_by-cons}
+use Rattle.pref_sky.specs.declared.entry.Entry.{Entry}
+use Rattle.pref_sky.specs.Levels.{HaveDifferentIds, put_by_id, in_order_of_id}
+pub use Rattle.pref_sky.specs.Members.{SameMembers}
+use Rattle.pref_sky.proofs.Members.{Among}
+
+-- each id is below all later ones
+abbrev pub Rises : List Entry → Type 0
+Rises [] = Unit {0}
+Rises (e ∷ others) = ((x : Entry) → Among x others → e.id < x.id) × Rises others
+
+pub one_passes : {E : Type 0} (p : E → Bool) (xs : List E) (x : E) → Among x xs → p x ≡ true → 1 ≤ count_by p xs
+one_passes p [] x m t = absurd m
+one_passes p (y ∷ ys) x m t =
+    elim m [
+      | inl e ↦ let passes = ap (λ b. cond {A = ℕ} b 1 0) (ap p (sym e) ∙ t) in omega (arith, passes, sum_by-cons (λ z. cond (p z) 1 0) y ys)
+      | inr r ↦ omega (arith, one_passes p ys x r t, sum_by-cons (λ z. cond (p z) 1 0) y ys)
+    ]
+
+pub different_later : (e : Entry) (others : List Entry) → HaveDifferentIds (e ∷ others) → (x : Entry) → Among x others → x.id ≡ e.id → ⊥
+different_later e others different x m same =
+    let here = ap (λ b. cond {A = ℕ} b 1 0) (eq-eqb e.id e.id refl) in
+    omega (arith, here, different.once e.id, sum_by-cons (λ (y : Entry). cond (eqb y.id e.id) 1 0) e others, one_passes (λ y. eqb y.id e.id) others x m (eq-eqb x.id e.id same))
+
+pub different_tail : (e : Entry) (others : List Entry) → HaveDifferentIds (e ∷ others) → HaveDifferentIds others
+different_tail e others different = record { once = λ id. omega (arith, different.once id, sum_by-cons (λ (y : Entry). cond (eqb y.id id) 1 0) e others) }
+
+-- what is among a list after one more was put in
+pub among_put : (e : Entry) (others : List Entry) (x : Entry) → Among x (e ∷ others) → Among x (put_by_id e others)
+among_put e [] x m = m
+among_put e (f ∷ others) x m =
+    cond_both (ltb e.id f.id) (e ∷ f ∷ others) (f ∷ put_by_id e others) (Among x) (λ h. m) (λ h.
+    elim m [
+      | inl first ↦ inr (among_put e others x (inl first))
+      | inr r ↦ elim r [ inl second ↦ inl second | inr later ↦ inr (among_put e others x (inr later)) ]
+    ])
+
+pub from_put : (e : Entry) (others : List Entry) (x : Entry) → Among x (put_by_id e others) → Among x (e ∷ others)
+from_put e [] x m = m
+from_put e (f ∷ others) x m =
+    let at : (l : List Entry) → cond (ltb e.id f.id) (e ∷ f ∷ others) (f ∷ put_by_id e others) ≡ l → Among x l = λ l h. subst (Among x) h m in
+    elim (cases_Bool (ltb e.id f.id)) [
+      | inl h ↦ at (e ∷ f ∷ others) (cond-true (ltb e.id f.id) (e ∷ f ∷ others) (f ∷ put_by_id e others) h)
+      | inr h ↦
+          elim (at (f ∷ put_by_id e others) (cond-false (ltb e.id f.id) (e ∷ f ∷ others) (f ∷ put_by_id e others) h)) [
+            | inl second ↦ inr (inl second)
+            | inr r ↦ elim (from_put e others x r) [ inl first ↦ inl first | inr later ↦ inr (inr later) ]
+          ]
+    ]
+
+pub among_in_order : (xs : List Entry) (x : Entry) → Among x xs → Among x (in_order_of_id xs)
+among_in_order [] x m = m
+among_in_order (e ∷ others) x m =
+    among_put e (in_order_of_id others) x (elim m [ inl first ↦ inl first | inr later ↦ inr (among_in_order others x later) ])
+
+pub from_in_order : (xs : List Entry) (x : Entry) → Among x (in_order_of_id xs) → Among x xs
+from_in_order [] x m = m
+from_in_order (e ∷ others) x m =
+    elim (from_put e (in_order_of_id others) x m) [ inl first ↦ inl first | inr later ↦ inr (from_in_order others x later) ]
+
+rises_put : (e : Entry) (others : List Entry) → Rises others → ((x : Entry) → Among x others → x.id ≡ e.id → ⊥) → Rises (put_by_id e others)
+rises_put e [] rises other = (λ x m. absurd m, tt)
+rises_put e (f ∷ others) rises other =
+    cond_both (ltb e.id f.id) (e ∷ f ∷ others) (f ∷ put_by_id e others) Rises
+    (λ h. let below : e.id < f.id = ltb-true e.id f.id h in
+    (λ x m. elim m [ inl same ↦ subst (λ (y : Entry). e.id < y.id) (sym same) below | inr later ↦ omega (arith, rises.0 x later, below) ], rises))
+    (λ h. let above : f.id ≤ e.id = ltb-false e.id f.id h in
+    let differs = other f (inl refl) in (
+      λ x m. elim (from_put e others x m) [ inl same ↦ subst (λ (y : Entry). f.id < y.id) (sym same) (omega (arith, above, differs)) | inr later ↦ rises.0 x later ],
+      rises_put e others rises.1 (λ x m. other x (inr m)),
+    ))
+
+pub rises_in_order : (xs : List Entry) → HaveDifferentIds xs → Rises (in_order_of_id xs)
+rises_in_order [] different = tt
+rises_in_order (e ∷ others) different =
+    rises_put e (in_order_of_id others) (rises_in_order others (different_tail e others different)) (λ x m. different_later e others different x (from_in_order others x m))
+
+-- two lists that rise and have the same members are one
+pub same_if_rise : (xs ys : List Entry) → Rises xs → Rises ys → SameMembers xs ys → xs ≡ ys
+same_if_rise [] [] rx ry same = refl
+same_if_rise [] (y ∷ ys) rx ry same = absurd (same.back y (inl refl))
+same_if_rise (x ∷ xs) [] rx ry same = absurd (same.there x (inl refl))
+same_if_rise (x ∷ xs) (y ∷ ys) rx ry same =
+    let heads : x ≡ y =
+    elim (same.there x (inl refl)) [
+      | inl e ↦ e
+      | inr later ↦ elim (same.back y (inl refl)) [
+        | inl e ↦ sym e
+        | inr after ↦ absurd (omega (arith, ry.0 x later, rx.0 y after))
+      ]
+    ] in
+    let tails : xs ≡ ys =
+    same_if_rise xs ys rx.1 ry.1 (record {
+      there = λ z m. elim (same.there z (inr m)) [ inl e ↦ absurd (let below = rx.0 z m in let ids = ap (λ (w : Entry). w.id) (e ∙ sym heads) in omega (arith, below, ids)) | inr r ↦ r ];
+      back = λ z m. elim (same.back z (inr m)) [ inl e ↦ absurd (let below = ry.0 z m in let ids = ap (λ (w : Entry). w.id) (e ∙ heads) in omega (arith, below, ids)) | inr r ↦ r ];
+    }) in
+    ap (λ (w : Entry). w ∷ xs) heads ∙ ap (λ l. y ∷ l) tails
+
+pub same_in_order : (xs ys : List Entry) → HaveDifferentIds xs → HaveDifferentIds ys → SameMembers xs ys → in_order_of_id xs ≡ in_order_of_id ys
+same_in_order xs ys dx dy same =
+    same_if_rise (in_order_of_id xs) (in_order_of_id ys) (rises_in_order xs dx) (rises_in_order ys dy) (record {
+      there = λ x m. among_in_order ys x (same.there x (from_in_order xs x m));
+      back = λ x m. among_in_order xs x (same.back x (from_in_order ys x m));
+    })
+
+-- between what is among a list and what it contains at a place
+among_at : {E : Type 0} (xs : List E) (x : E) (k : ℕ) → k < length xs → get_or xs k x ≡ x → Among x xs
+among_at [] x k l e = absurd (omega arith)
+among_at (y ∷ ys) x zero l e = inl (sym e)
+among_at (y ∷ ys) x (suc k) l e = inr (among_at ys x k (omega arith) e)
+
+contains : {E : Type 0} (xs : List E) (x : E) → Among x xs → Contains xs x
+contains [] x m = absurd m
+contains (y ∷ ys) x m =
+    elim m [
+      | inl e ↦ (0, omega arith, sym e)
+      | inr r ↦ let w = contains ys x r in (suc w.0, omega (arith, w.1), w.2)
+    ]
+
+-- a list that is in order of id, and has different ids, rises
+rises_if_sorted : (xs : List Entry) → IsNonDecreasingBy (λ (e : Entry). e.id) xs → HaveDifferentIds xs → Rises xs
+rises_if_sorted [] sorted different = tt
+rises_if_sorted (e ∷ others) sorted different = (
+  λ x m.
+      let w = contains others x m in
+      let le = sorted 0 (suc w.0) x (omega arith) (omega (arith, w.1)) in
+      let at = ap (λ (y : Entry). y.id) w.2 in
+      omega (arith, le, at, different_later e others different x m),
+  rises_if_sorted others (λ i j d le l. sorted (suc i) (suc j) d (omega arith) (omega arith)) (different_tail e others different),
+)
+
+-- what a sort by id leaves
+pub sorted_is : (xs ys : List Entry) → IsPermutation xs ys → IsNonDecreasingBy (λ (e : Entry). e.id) ys → HaveDifferentIds xs → ys ≡ in_order_of_id xs
+sorted_is xs ys moved sorted different =
+    same_if_rise ys (in_order_of_id xs)
+    (rises_if_sorted ys sorted (record { once = λ id. omega (arith, different.once id, sum_by-IsPermutation (λ (e : Entry). cond (eqb e.id id) 1 0) xs ys moved) }))
+    (rises_in_order xs different)
+    (record {
+      there = λ x m. let w = Contains-permutation ys xs x (IsPermutation-sym xs ys moved) (contains ys x m) in among_in_order xs x (among_at xs x w.0 w.1 w.2);
+      back = λ x m. let w = Contains-permutation xs ys x moved (contains xs x (from_in_order xs x m)) in among_at ys x w.0 w.1 w.2;
+    })
+
+-- how often a test is passed, in order of id
+pub count_put : (p : Entry → Bool) (e : Entry) (xs : List Entry) → count_by p (put_by_id e xs) ≡ cond (p e) 1 0 + count_by p xs
+count_put p e [] = sum_by-cons (λ y. cond (p y) 1 0) e []
+count_put p e (f ∷ others) =
+    cond_both (ltb e.id f.id) (e ∷ f ∷ others) (f ∷ put_by_id e others) (λ l. count_by p l ≡ cond (p e) 1 0 + count_by p (f ∷ others))
+    (λ h. sum_by-cons (λ y. cond (p y) 1 0) e (f ∷ others))
+    (λ h. omega (arith, sum_by-cons (λ y. cond (p y) 1 0) f (put_by_id e others), count_put p e others, sum_by-cons (λ y. cond (p y) 1 0) f others))
+
+pub count_in_order : (p : Entry → Bool) (xs : List Entry) → count_by p (in_order_of_id xs) ≡ count_by p xs
+count_in_order p [] = refl
+count_in_order p (e ∷ others) = omega (arith, count_put p e (in_order_of_id others), count_in_order p others, sum_by-cons (λ y. cond (p y) 1 0) e others)

@@ -1,0 +1,7 @@
+pub mod Members
+pub mod Best
+pub mod Levels
+pub mod Windows
+pub mod Answers
+pub mod Meetings
+pub mod Passes

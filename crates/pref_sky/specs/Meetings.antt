@@ -1,0 +1,44 @@
+-- No public contract cites this.
+-- What a list says of an entry that meets it, and of entries that come to a held level.
+use Rattle.std.specs.Prelude.{◌≡◌, ◌==◌, ℕ, suc, Bool, true, false, cond, not, ◌&&◌, List, [], ◌∷◌, map, filter}
+use Rattle.std.specs.List.{list_any}
+use Rattle.pref_sky.specs.declared.entry.Entry.{Entry}
+use Rattle.pref_sky.specs.declared.entry.Ranked.{Ranked}
+use Rattle.pref_sky.specs.declared.meeting.Losers.{Losers}
+use Rattle.pref_sky.specs.declared.meeting.Losers.TheVariants as losers
+use Rattle.pref_sky.specs.declared.meeting.Meeting.{Meeting}
+use Rattle.pref_sky.specs.declared.meeting.Meeting.TheVariants.{Beaten, Above, Apart}
+use Rattle.pref_sky.specs.Best.{is_beaten}
+use Rattle.pref_sky.specs.Levels.{entry_of}
+
+-- beaten where something of the list is over it; else above where it is over something of the list
+abbrev pub Meets : (Entry → Entry → Bool) → List Entry → Entry → Meeting → Type 0
+Meets over all e Beaten = is_beaten over all e ≡ true
+Meets over all e Above = (is_beaten over all e ≡ false) × (list_any (over e) all ≡ true)
+Meets over all e Apart = (is_beaten over all e ≡ false) × (list_any (over e) all ≡ false)
+
+-- whether the entries that don't stay at a level are kept
+abbrev pub is_kept : Losers → Bool
+is_kept losers.Kept = true
+is_kept losers.Dropped = false
+
+-- of coming entries, those that no held entry is over
+abbrev pub let_in : (Entry → Entry → Bool) → List Entry → List Entry → List Entry
+let_in over held coming = filter (λ e. not (is_beaten over held e)) coming
+
+-- those of them that are over a held entry
+abbrev pub displacing : (Entry → Entry → Bool) → List Entry → List Entry → List Entry
+displacing over held coming = filter (λ e. not (is_beaten over held e) && list_any (over e) held) coming
+
+-- the others
+abbrev pub turned_away : (Entry → Entry → Bool) → List Entry → List Entry → List Entry
+turned_away over held coming = filter (is_beaten over held) coming
+
+-- how far a list is of one level, from its front
+abbrev pub length_of_level : ℕ → List Ranked → ℕ
+length_of_level n [] = 0
+length_of_level n (r ∷ others) = cond (r.level == n) (suc (length_of_level n others)) 0
+
+-- the entries that are held at a level
+abbrev pub held_on : ℕ → List Ranked → List Entry
+held_on n held = map entry_of (filter (λ r. r.level == n) held)

@@ -1,0 +1,86 @@
+//! The answer of an ask, from a partial result.
+
+ghost use Rattle.std.specs.Prelude.{◌≡◌, ◌<◌, ◌++◌, Bool, List, nat_lt, count_by, filter, IfOk, OnOk, All};
+ghost use Rattle.pref_term.specs.AskOrder.{order_of};
+ghost use Rattle.pref_term.specs.Better.{in_same_group};
+ghost use Rattle.pref_term.specs.Question.{cut_of};
+ghost use Rattle.pref_sky.specs.Answers.{answer_of, at_least};
+ghost use Rattle.pref_sky.specs.Levels.{entry_order, levels};
+ghost use Rattle.pref_sky.specs.declared.entry.Entry.{Entry};
+
+use crate::entry::Ranked;
+use crate::merge::length_of_level;
+use crate::partial::Partial;
+use pref_term::{Ask, Mode, in_same_group};
+use std::alloc::{AllocError, Global};
+
+/// Whether fewer than `k` of the entries before are of this one's group: stops at the k-th of them.
+fn has_fewer(columns: &[usize], k: usize, before: &[Ranked], entry: &Ranked) -> bool
+    requires { All (λ column. column < 16) columns.now }
+    ensures { result ≡ nat_lt (count_by (λ s. in_same_group columns.now s.row entry.now.row) before.now) k }
+{
+    before
+        .iter()
+        .filter(|other| in_same_group(columns, &other.row, &entry.row))
+        .take(k)
+        .count()
+        < k
+}
+
+/// Puts those entries of a level behind others before which fewer than `k` of their group stand.
+fn push_fewer(
+    kept: &mut Vec<Ranked>,
+    columns: &[usize],
+    k: usize,
+    before: &[Ranked],
+    level: &[Ranked],
+) -> Result<(), AllocError>
+    requires { All (λ column. column < 16) columns.now }
+    ensures { OnOk result (kept.new.items ≡ kept.old.items
+        ++ filter (λ r. nat_lt (count_by (λ s. in_same_group columns.now s.row r.row) before.now) k) level.now) }
+{
+    for entry in level {
+        if has_fewer(columns, k, before, entry) {
+            kept.push(*entry)?;
+        }
+    }
+    Ok(())
+}
+
+/// In each group the first levels that hold `k` entries together, from the levels 1 to `k`.
+fn at_least(
+    alloc: Global,
+    columns: &[usize],
+    k: u32,
+    ranked: &[Ranked],
+) -> Result<Vec<Ranked>, AllocError>
+    requires { All (λ column. column < 16) columns.now }
+    ensures { IfOk result (λ kept. (over : Entry → Entry → Bool) (entries : List Entry) → ranked.now ≡ levels over entries k
+        → kept.items ≡ at_least (in_same_group columns.now) k ranked.now) }
+{
+    let mut kept = Vec::with_capacity(alloc, ranked.len())?;
+    let mut place = 0;
+    for above in 0..k {
+        let (before, tail) = ranked.split_at(place);
+        let count = length_of_level(tail, above + 1);
+        push_fewer(&mut kept, columns, k as usize, before, &tail[..count])?;
+        place += count;
+    }
+    Ok(kept)
+}
+
+/// The answer of an ask, in order of level, then id, from a partial result at [`Ask::cut`]: where this
+/// holds the levels up to the cut of some entries, it is the ask's selection from all of them.
+///
+/// Cost: one copy of what is held. For "at least" each held entry is also compared by its group's
+/// columns with those on the levels before, until `k` of its group are found. Memory: the answer alone,
+/// taken once. `Err` is want of memory.
+pub fn answer(alloc: Global, ask: &Ask, partial: &Partial) -> Result<Vec<Ranked>, AllocError>
+    ensures { (entries : List Entry) → partial.now ≡ levels (entry_order (order_of ask.now)) entries (cut_of ask.now.mode)
+        → IfOk result (λ ranked. ranked.items ≡ answer_of ask.now entries) }
+{
+    match ask.mode() {
+        Mode::Best | Mode::TopLevel(_) => Vec::from_slice(alloc, partial.as_slice()),
+        Mode::AtLeast(k) => at_least(alloc, ask.group(), k, partial.as_slice()),
+    }
+}

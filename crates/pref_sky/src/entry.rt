@@ -1,0 +1,45 @@
+//! Entries, alone and with a level, and how two of them compare.
+
+ghost use Rattle.std.specs.Prelude.{◌≡◌};
+ghost use Rattle.pref_sky.specs.Levels.{entry_order};
+ghost use Rattle.pref_term.specs.Order.{is_better, is_worse};
+
+use pref_table::Row;
+use pref_term::{Dominance, Relation};
+
+/// A row with its id.
+///
+/// All lists that this crate is handed have different ids. An entry is 136 bytes, copied as they are.
+#[derive(Clone, Copy, Debug, PartialEq, Eq)]
+pub struct Entry {
+    /// The row's id, which tells it from every other row.
+    pub id: u64,
+    /// The row.
+    pub row: Row,
+}
+
+/// An entry with its level.
+#[derive(Clone, Copy, Debug, PartialEq, Eq)]
+pub struct Ranked {
+    /// The level, from 1 on: 1 is the best.
+    pub level: u32,
+    /// The row's id.
+    pub id: u64,
+    /// The row.
+    pub row: Row,
+}
+
+/// Whether the first entry is over the second, by one comparison of their rows.
+pub(crate) fn is_over<D: Dominance>(dominance: &D, a: &Entry, b: &Entry) -> bool
+    ensures { result ≡ entry_order (D.order dominance.now) a.now b.now }
+{
+    dominance.over(&a.row, &b.row)
+}
+
+/// How the first entry stands to the second: both questions in one comparison of their rows.
+pub(crate) fn compare<D: Dominance>(dominance: &D, a: &Entry, b: &Entry) -> Relation
+    ensures better { is_better result ≡ entry_order (D.order dominance.now) a.now b.now }
+    ensures worse { is_worse result ≡ entry_order (D.order dominance.now) b.now a.now }
+{
+    dominance.compare(&a.row, &b.row)
+}

@@ -1,0 +1,50 @@
+//! Laws of levels and answers that callers rest on. Each is the contract of a function that does nothing.
+
+ghost use Rattle.std.specs.Prelude.{◌≡◌, ◌<◌, ◌++◌, [], ℕ, Bool, List, map};
+ghost use Rattle.std.specs.List.{flat_map};
+ghost use Rattle.pref_sky.specs.Answers.{answer_of, at_least, count_upto};
+ghost use Rattle.pref_sky.specs.Levels.{HaveDifferentIds, entry_of, held_after, levels};
+ghost use Rattle.pref_sky.specs.Members.{Among, SameMembers};
+ghost use Rattle.pref_sky.specs.declared.entry.Entry.{Entry};
+ghost use Rattle.pref_sky.specs.declared.entry.Ranked.{Ranked};
+ghost use Rattle.pref_table.specs.declared.row.Row.{Row};
+ghost use Rattle.pref_term.specs.Order.{IsStrictOrder};
+ghost use Rattle.pref_term.specs.Question.{Question};
+
+/// The merge law: whatever the pieces into which a list is cut, after the last one a partial result
+/// holds the levels of the whole list up to the cut.
+#[tactic(auto, using(crate::proofs::LevelLaws::held_after_pieces))]
+pub fn cutting_does_not_matter()
+    ensures { (over : Entry → Entry → Bool) → IsStrictOrder over → (cut : ℕ) (pieces : List (List Entry))
+        → HaveDifferentIds (flat_map (λ piece. piece) pieces)
+        → held_after over cut [] pieces ≡ levels over (flat_map (λ piece. piece) pieces) cut }
+{}
+
+/// An answer depends on which entries there are, and not on the order in which they stand.
+#[tactic(auto, using(crate::proofs::LevelLaws::answer_of_same))]
+pub fn order_does_not_matter()
+    ensures { (ask : Question) (xs ys : List Entry)
+        → HaveDifferentIds xs → HaveDifferentIds ys → SameMembers xs ys
+        → answer_of ask xs ≡ answer_of ask ys }
+{}
+
+/// What is held of entries has no id that the new ones have.
+#[tactic(auto, using(crate::proofs::LevelLaws::held_differ))]
+pub fn held_ids_differ()
+    ensures { (over : Entry → Entry → Bool) (before new : List Entry) (cut : ℕ)
+        → HaveDifferentIds (before ++ new)
+        → HaveDifferentIds (map entry_of (levels over before cut) ++ new) }
+{}
+
+/// "At least k" gives in each group the levels 1 to m, where m is the least number whose levels 1 to m
+/// hold at least k entries of the group, or all its entries where there are fewer: an entry is kept
+/// just where no number below its level is such.
+pub fn at_least_keeps_the_least_number_of_levels()
+    ensures kept { (same : Row → Row → Bool) (k : ℕ) (all : List Ranked) (r : Ranked)
+        → Among r (at_least same k all)
+        → (m : ℕ) → m < r.level → count_upto same all r.row m < k }
+    ensures keeps { (same : Row → Row → Bool) (k : ℕ) (all : List Ranked) (r : Ranked)
+        → Among r all → 0 < r.level
+        → ((m : ℕ) → m < r.level → count_upto same all r.row m < k)
+        → Among r (at_least same k all) }
+{}

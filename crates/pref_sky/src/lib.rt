@@ -1,0 +1,36 @@
+//! The best rows of a list under a strict order, their levels, partial results that grow block by
+//! block, and the answers of asks.
+//!
+//! An entry is best where no entry is over it (Börzsönyi, Kossmann, Stocker 2001). Level 1 is the best
+//! of all entries, level n + 1 the best of what is left without the levels 1 to n (the rPref manual).
+//! Everything is generic over [`Dominance`](pref_term::Dominance), so any strict order of rows serves.
+//!
+//! ```text
+//! let mut partial = Partial::empty();
+//! for block in blocks {
+//!     partial.add(alloc, &ask, window, ask.cut(), block)?;
+//! }
+//! let ranked = answer(alloc, &ask, &partial)?;
+//! ```
+#![tactic(auto)]
+
+mod answers;
+mod best;
+mod entry;
+pub mod laws;
+mod meeting;
+mod merge;
+mod partial;
+#[cfg(test)]
+mod plain;
+mod ranking;
+#[cfg(test)]
+mod tests;
+mod window;
+
+pub use answers::answer;
+pub use best::{best_rows, best_rows_passes};
+pub use entry::{Entry, Ranked};
+pub use partial::Partial;
+pub use ranking::levels;
+pub use window::{Offer, Window};

@@ -1,0 +1,116 @@
+//! An entry before a list, and coming entries before a held level: one comparison a pair.
+
+ghost use Rattle.std.specs.Prelude.{◌≡◌, ◌&&◌, filter, IfOk};
+ghost use Rattle.pref_sky.specs.Best.{is_beaten};
+ghost use Rattle.pref_sky.specs.Levels.{entry_order};
+ghost use Rattle.pref_sky.specs.Meetings.{Meets, let_in, displacing, is_kept};
+
+use crate::entry::{Entry, compare, is_over};
+use pref_term::{Dominance, Relation};
+use std::alloc::{AllocError, Global};
+
+/// Whether some entry of the list is over this one, by one comparison for each until the first.
+pub(crate) fn is_beaten<D: Dominance>(dominance: &D, entries: &[Entry], entry: &Entry) -> bool
+    ensures { result ≡ is_beaten (entry_order (D.order dominance.now)) entries.now entry.now }
+{
+    entries.iter().any(|other| is_over(dominance, other, entry))
+}
+
+/// How an entry stands to a list.
+#[derive(Clone, Copy, Debug, PartialEq, Eq)]
+pub(crate) enum Meeting {
+    /// Something of the list is over it.
+    Beaten,
+    /// Nothing is, and it is over something.
+    Above,
+    /// Neither.
+    Apart,
+}
+
+/// How an entry stands to a list, by one comparison for each of the list until one is over it.
+pub(crate) fn meet<D: Dominance>(dominance: &D, entries: &[Entry], entry: &Entry) -> Meeting
+    ensures { Meets (entry_order (D.order dominance.now)) entries.now entry.now result }
+{
+    let mut above = false;
+    for other in entries {
+        match compare(dominance, other, entry) {
+            Relation::Better => return Meeting::Beaten,
+            Relation::Worse => above = true,
+            Relation::Same | Relation::Neither => {}
+        }
+    }
+    if above {
+        Meeting::Above
+    } else {
+        Meeting::Apart
+    }
+}
+
+/// What becomes of the entries that don't stay at a level.
+#[derive(Clone, Copy, Debug, PartialEq, Eq)]
+pub(crate) enum Losers {
+    /// They are kept, for the levels below.
+    Kept,
+    /// They are let go: no level below is wanted.
+    Dropped,
+}
+
+impl Losers {
+    ghost use Rattle.std.specs.Prelude.{◌≡◌, nat_lt};
+    ghost use Rattle.pref_sky.specs.Meetings.{is_kept};
+
+    /// Those of a level, where the levels up to the cut are wanted.
+    pub(crate) fn of_level(level: u32, cut: u32) -> Losers
+        ensures { is_kept result ≡ nat_lt level cut }
+    {
+        if level < cut {
+            Losers::Kept
+        } else {
+            Losers::Dropped
+        }
+    }
+}
+
+/// Coming entries, sifted by a held level.
+#[derive(Drop)]
+pub(crate) struct Sifted {
+    /// Those that no held entry is over.
+    pub(crate) let_in: Vec<Entry>,
+    /// Those of them that are over a held entry.
+    pub(crate) displacing: Vec<Entry>,
+    /// The others, where losers are kept.
+    pub(crate) turned_away: Vec<Entry>,
+}
+
+/// Sifts coming entries by a held level: at most one comparison for each pair of them.
+pub(crate) fn sift<D: Dominance>(
+    alloc: Global,
+    dominance: &D,
+    held: &[Entry],
+    coming: &[Entry],
+    losers: Losers,
+) -> Result<Sifted, AllocError>
+    ensures let_in { IfOk result (λ s. s.let_in.items ≡ let_in (entry_order (D.order dominance.now)) held.now coming.now) }
+    ensures displacing { IfOk result (λ s. s.displacing.items ≡ displacing (entry_order (D.order dominance.now)) held.now coming.now) }
+    ensures turned_away { IfOk result (λ s. s.turned_away.items ≡ filter (λ e. is_kept losers && is_beaten (entry_order (D.order dominance.now)) held.now e) coming.now) }
+{
+    let mut sifted = Sifted {
+        let_in: Vec::with_capacity(alloc, coming.len())?,
+        displacing: Vec::new(alloc),
+        turned_away: Vec::new(alloc),
+    };
+    for entry in coming {
+        match meet(dominance, held, entry) {
+            Meeting::Beaten => match losers {
+                Losers::Kept => sifted.turned_away.push(*entry)?,
+                Losers::Dropped => {}
+            },
+            Meeting::Above => {
+                sifted.let_in.push(*entry)?;
+                sifted.displacing.push(*entry)?;
+            }
+            Meeting::Apart => sifted.let_in.push(*entry)?,
+        }
+    }
+    Ok(sifted)
+}

@@ -1,0 +1,162 @@
+//! New entries and held levels, level by level: held entries of one level never meet again.
+
+ghost use Rattle.std.specs.Prelude.{◌≡◌, ◌≤◌, ◌<◌, ◌++◌, ◌⊎◌, ◌+◌, ◌==◌, true, Bool, List, not, filter, length, count_by, IfOk, OnOk};
+ghost use Rattle.std.specs.List.{list_any};
+ghost use Rattle.pref_sky.specs.Best.{best, is_beaten, without_best};
+ghost use Rattle.pref_sky.specs.Levels.{HaveDifferentIds, entry_order, in_order_of_id};
+ghost use Rattle.pref_sky.specs.Meetings.{let_in, length_of_level, held_on, is_kept};
+ghost use Rattle.pref_sky.specs.Members.{SameMembers};
+ghost use Rattle.pref_sky.specs.Passes.{IsApart};
+ghost use Rattle.pref_sky.specs.declared.entry.Entry.{Entry};
+
+use crate::best::best_rows;
+use crate::entry::{Entry, Ranked};
+use crate::meeting::{Losers, is_beaten, sift};
+use crate::ranking::holds_id;
+use pref_term::Dominance;
+use std::alloc::{AllocError, Global};
+
+/// Puts the entries that aren't among the best of them behind others, each told by its id.
+fn push_lost(down: &mut Vec<Entry>, entries: &[Entry], best: &[Entry]) -> Result<(), AllocError>
+    ensures { OnOk result ((all : List Entry) → HaveDifferentIds all → best.now ≡ in_order_of_id all
+        → down.new.items ≡ down.old.items ++ filter (λ e. not (list_any (λ b. b.id == e.id) best.now)) entries.now) }
+{
+    for entry in entries {
+        if !holds_id(best, entry.id) {
+            down.push(*entry)?;
+        }
+    }
+    Ok(())
+}
+
+/// Puts the held entries that something displaces behind others.
+fn push_displaced<D: Dominance>(
+    down: &mut Vec<Entry>,
+    dominance: &D,
+    displacing: &[Entry],
+    held: &[Entry],
+) -> Result<(), AllocError>
+    ensures { OnOk result (down.new.items ≡ down.old.items ++ filter (is_beaten (entry_order (D.order dominance.now)) displacing.now) held.now) }
+{
+    for entry in held {
+        if is_beaten(dominance, displacing, entry) {
+            down.push(*entry)?;
+        }
+    }
+    Ok(())
+}
+
+/// Keeps the held entries that nothing displaces.
+fn keep_unbeaten<D: Dominance>(dominance: &D, displacing: &[Entry], held: &mut Vec<Entry>)
+    ensures { held.new.items ≡ filter (λ e. not (is_beaten (entry_order (D.order dominance.now)) displacing.now e)) held.old.items }
+{
+    held.retain(|entry| !is_beaten(dominance, displacing, entry));
+}
+
+/// A level, and what goes down from it.
+#[derive(Drop)]
+pub(crate) struct Merged {
+    /// The level, in order of id.
+    pub(crate) level: Vec<Entry>,
+    /// What goes down to the levels below, in no order, where losers are kept.
+    pub(crate) down: Vec<Entry>,
+}
+
+/// Lets coming entries into a held level, of which no entry is over another.
+///
+/// Cost: one comparison for each pair of a held and a coming entry at most, the best of those that are
+/// let in, and for each held entry one comparison with each entry that displaces some.
+pub(crate) fn merge_level<D: Dominance>(
+    alloc: Global,
+    dominance: &D,
+    window: usize,
+    held: Vec<Entry>,
+    coming: &[Entry],
+    losers: Losers,
+) -> Result<Merged, AllocError>
+    requires window { 0 < window }
+    requires ids { HaveDifferentIds (held.items ++ coming.now) }
+    ensures level { IfOk result (λ m. IsApart (entry_order (D.order dominance.now)) held.items
+        → m.level.items ≡ in_order_of_id (best (entry_order (D.order dominance.now)) (held.items ++ coming.now))) }
+    ensures down { IfOk result (λ m. IsApart (entry_order (D.order dominance.now)) held.items → is_kept losers ≡ true
+        → SameMembers m.down.items (without_best (entry_order (D.order dominance.now)) (held.items ++ coming.now))) }
+    ensures counts { IfOk result (λ m. (p : Entry → Bool) → count_by p m.down.items ≤ count_by p held.items + count_by p coming.now) }
+{
+    let mut held = held;
+    let sifted = sift(alloc, dominance, &held, coming, losers)?;
+    let mut best = best_rows(alloc, dominance, window, &sifted.let_in)?;
+    let mut down = sifted.turned_away;
+    if let Losers::Kept = losers {
+        push_lost(&mut down, &sifted.let_in, &best)?;
+        push_displaced(&mut down, dominance, &sifted.displacing, &held)?;
+    }
+    keep_unbeaten(dominance, &sifted.displacing, &mut held);
+    held.append(&mut best)?;
+    held.sort_unstable_by_key(|entry| entry.id);
+    Ok(Merged { level: held, down })
+}
+
+/// The entries that no held one is over.
+fn unbeaten<D: Dominance>(
+    alloc: Global,
+    dominance: &D,
+    held: &[Entry],
+    entries: &[Entry],
+) -> Result<Vec<Entry>, AllocError>
+    ensures { IfOk result (λ kept. kept.items ≡ let_in (entry_order (D.order dominance.now)) held.now entries.now) }
+{
+    let mut kept = Vec::with_capacity(alloc, entries.len())?;
+    for entry in entries {
+        if !is_beaten(dominance, held, entry) {
+            kept.push(*entry)?;
+        }
+    }
+    Ok(kept)
+}
+
+/// The entries that are held at a level.
+fn held_on(alloc: Global, ranked: &[Ranked], level: u32) -> Result<Vec<Entry>, AllocError>
+    ensures { IfOk result (λ held. held.items ≡ held_on level ranked.now) }
+{
+    let mut held = Vec::new(alloc);
+    for entry in ranked {
+        if entry.level == level {
+            held.push(Entry {
+                id: entry.id,
+                row: entry.row,
+            })?;
+        }
+    }
+    Ok(held)
+}
+
+/// The new entries that can come to some level up to the cut: where the cut is above 1, without those
+/// that something held at the last of the levels is over.
+pub(crate) fn first_coming<D: Dominance>(
+    alloc: Global,
+    dominance: &D,
+    cut: u32,
+    ranked: &[Ranked],
+    entries: &[Entry],
+) -> Result<Vec<Entry>, AllocError>
+    ensures { IfOk result (λ coming. (coming.items ≡ entries.now)
+        ⊎ ((0 < cut) × (coming.items ≡ let_in (entry_order (D.order dominance.now)) (held_on cut ranked.now) entries.now))) }
+{
+    if cut < 2 {
+        return Vec::from_slice(alloc, entries);
+    }
+    let last = held_on(alloc, ranked, cut)?;
+    unbeaten(alloc, dominance, &last, entries)
+}
+
+/// How many entries from the front on are of a level.
+pub(crate) fn length_of_level(ranked: &[Ranked], level: u32) -> usize
+    ensures counted { result ≡ length_of_level level ranked.now }
+    ensures within { result ≤ length ranked.now }
+{
+    let mut count = 0;
+    'front: while count < ranked.len() && ranked[count].level == level {
+        count += 1;
+    }
+    count
+}
