@@ -1,0 +1,142 @@
+-- Each part of a machine does its act.
+use Rattle.std.proofs.Common.{◌≡◌, ℕ, ◌-◌, ◌≤◌, true, false, List, length, Option, Some, None, is_some, Ok, Err, Result, IfErr, MatchResult, ⊎_elim, refl, sym, ◌∙◌, subst}
+use Rattle.std.specs.Global.{Vec}
+use Rattle.std.specs.Option.{option_map}
+use Rattle.pref_sky.specs.declared.entry.Ranked.{Ranked}
+use Rattle.pref_term.specs.Question.{Question}
+use Rattle.pref_core.specs.declared.call.Call.{Call}
+use Rattle.pref_core.specs.declared.call.Call.TheVariants.{Insert as CallInsert, Update as CallUpdate, Delete as CallDelete, Begin, Finish, Abandon}
+use Rattle.pref_core.specs.declared.call.Op.{Op}
+use Rattle.pref_core.specs.declared.fault.CoreFault.{CoreFault}
+use Rattle.pref_core.specs.declared.fault.CoreFault.TheVariants.{NoSuchClient, OutOfMemory}
+use Rattle.pref_core.specs.declared.event.Act.{Act}
+use Rattle.pref_core.specs.declared.event.Act.TheVariants.{Insert as ActInsert, Update as ActUpdate, Delete as ActDelete, Begin as ActBegin, Scan as ActScan, Finish as ActFinish, Abandon as ActAbandon, Get as ActGet, Room as ActRoom}
+use Rattle.pref_core.specs.declared.event.Event.{Event}
+use Rattle.pref_core.specs.declared.event.Reply.{Reply}
+use Rattle.pref_core.specs.declared.event.Reply.TheVariants.{Inserted, Updated, Deleted, Begun, Answer, Abandoned, Room, Refused}
+use Rattle.pref_core.specs.declared.event.StepFault.{StepFault}
+use Rattle.pref_core.specs.Rows.{Row}
+use Rattle.pref_core.specs.Limits.{blocks}
+use Rattle.pref_core.specs.Table.{Line, line_of}
+use Rattle.pref_core.specs.State.{State, is_change, seat, with_seat, needed}
+use Rattle.pref_core.specs.Step.{System, Step, step}
+use Rattle.pref_core.specs.Slots.{Contents, StandsFor}
+use Rattle.pref_core.specs.Operations.{applied}
+use Rattle.pref_core.specs.Scans.{Scan, begin}
+use Rattle.pref_core.specs.Systems.{Running, StandsForSystem, may_want_memory, is_refusal, Tells, without_event, Steps}
+use Rattle.pref_core.specs.Parts.{IsInOrder, Does, Changes, change_of, told_of, NextIsNewAt, ScansAt, AnswersAt, is_begin}
+use Rattle.pref_core.proofs.Steps.{PlansAlways, running_of, change_tells, change_refused, begin_tells, begin_refused, next_is_new_at, told_scan, scan_tells, abandon_tells, abandon_refused, finish_tells, finish_refused, finish_not_done, nobody_tells, told_get, get_tells, room_tells}
+
+-- What is left stands for a system again.
+in_order_told : (before after : Running) (system : System) (right : Step) (act : Act) (result : Result Reply CoreFault) → StandsForSystem before system → Tells before right act result after → IsInOrder after
+in_order_told before after system right act (Ok told) h says = record { system = right.next; stands = says.2 }
+in_order_told before after system right act (Err fault) h says =
+    ⊎_elim (λ (e : (Refused fault ≡ right.reply) × StandsForSystem after right.next). record { system = right.next; stands = e.1 })
+    (λ (e : (fault ≡ OutOfMemory) × (may_want_memory act ≡ true) × (after ≡ before)). record { system = system; stands = subst (λ r. StandsForSystem r system) (sym e.2) h }) says
+
+pub in_order_after : (before after : Running) (client : ℕ) (act : Act) (result : Result Reply CoreFault) → IsInOrder before → Does before client act result after → IsInOrder after
+in_order_after before after client act result h does = in_order_told before after h.system _ act result h.stands (does.tells h.system h.stands)
+
+pub in_order_changed : (before after : Running) (client : ℕ) (call : Call) (done : Reply) (result : Result Reply CoreFault) → IsInOrder before → Changes before client call done result after → IsInOrder after
+in_order_changed before after client call done result h changes = in_order_told before after h.system _ ActRoom result h.stands (changes.tells h.system h.stands ActRoom)
+
+pub in_order_stepped : (before after : Running) (event : Event) (result : Result Reply StepFault) → IsInOrder before → Steps before event result after → IsInOrder after
+in_order_stepped before after event result h steps = in_order_told before after h.system _ event.act (without_event result) h.stands (steps.tells h.system h.stands)
+
+pub next_is_new_in_order : (running : Running) (client : ℕ) → IsInOrder running → NextIsNewAt (seat client running.scans) running.contents.slots
+next_is_new_in_order running client h = next_is_new_at running h.system client h.stands
+
+-- a step is what its part does, and hands the event back
+pub steps_does : (before after : Running) (event : Event) (act : Act) (told : Result Reply CoreFault) (result : Result Reply StepFault) → event.act ≡ act → Does before event.client act told after → without_event result ≡ told → IfErr result (λ (fault : StepFault). fault.event ≡ event)
+    → Steps before event result after
+steps_does before after event act told result is does alike back = record {
+  limits = does.limits;
+  tells = λ system h. subst (λ t. Tells before (step before.limits system event) event.act t after) (sym alike)
+      (subst (λ a. Tells before (step before.limits system (record { client = event.client; act = a })) a told after) (sym is) (does.tells system h));
+  handed_back = go result back;
+}
+  where
+    go : (result : Result Reply StepFault) → IfErr result (λ (fault : StepFault). fault.event ≡ event) → MatchResult result (λ told. Unit {0}) (λ (fault : StepFault). fault.event ≡ event)
+    go (Ok told) back = tt
+    go (Err fault) back = back
+
+-- Changes.
+pub change_done : (old : Running) (client : ℕ) (call : Call) (done : Reply) (op : Op) (new : Contents) → is_change call ≡ true → is_refusal done ≡ false → PlansAlways old.contents client call (Ok op) → new ≡ applied old.contents op
+    → Changes old client call done (told_of op.outcome done) (running_of new old.limits old.scans)
+change_done old client call done op new c quiet plans is = record { limits = refl; tells = λ system h act. change_tells old system client call done op new act c quiet h plans is }
+
+pub change_not : (old : Running) (client : ℕ) (call : Call) (done : Reply) (fault : CoreFault) → is_change call ≡ true → PlansAlways old.contents client call (Err fault) → Changes old client call done (Err fault) old
+change_not old client call done fault c plans = record { limits = refl; tells = λ system h act. change_refused old system client call done fault act c h plans }
+
+pub insert_does : (old : Running) (client id : ℕ) (row : Row) (result : Result Reply CoreFault) (new : Running) → id ≡ old.contents.next_id → Changes old client (CallInsert row) (Inserted id) result new → Does old client (ActInsert row) result new
+insert_does old client id row result new is changes = record {
+  limits = changes.limits;
+  tells = λ system h. subst (λ n. Tells old (change_of old.limits system client (CallInsert row) (Inserted n)) (ActInsert row) result new) (is ∙ h.store.next_id) (changes.tells system h (ActInsert row));
+}
+
+pub update_does : (old : Running) (client id : ℕ) (row : Row) (result : Result Reply CoreFault) (new : Running) → Changes old client (CallUpdate id row) (Updated id) result new → Does old client (ActUpdate id row) result new
+update_does old client id row result new changes = record { limits = changes.limits; tells = λ system h. changes.tells system h (ActUpdate id row) }
+
+pub delete_does : (old : Running) (client id : ℕ) (result : Result Reply CoreFault) (new : Running) → Changes old client (CallDelete id) (Deleted id) result new → Does old client (ActDelete id) result new
+delete_does old client id result new changes = record { limits = changes.limits; tells = λ system h. changes.tells system h (ActDelete id) }
+
+-- Queries.
+pub begin_does : (old : Running) (client : ℕ) (ask : Question) (op : Op) (new : Contents) (stamp : ℕ) → 1 ≤ old.limits.block → stamp ≡ old.contents.stamp → PlansAlways old.contents client Begin (Ok op) → new ≡ applied old.contents op
+    → Does old client (ActBegin ask) (Ok (Begun (blocks old.limits))) (running_of new old.limits (with_seat client (Some (begin ask stamp old.limits)) old.scans))
+begin_does old client ask op new stamp some now plans is = record { limits = refl; tells = λ system h. begin_tells old system client ask op new stamp some now h plans is }
+
+pub begin_not : (old : Running) (client : ℕ) (ask : Question) (fault : CoreFault) → PlansAlways old.contents client Begin (Err fault) → Does old client (ActBegin ask) (Err fault) old
+begin_not old client ask fault plans = record { limits = refl; tells = λ system h. begin_refused old system client ask fault h plans }
+
+pub scan_does : (old : Running) (client : ℕ) (result : Result ℕ CoreFault) (scans : List (Option Scan)) → ScansAt (seat client old.scans) old.contents.slots client old.scans result scans
+    → Does old client ActScan (told_scan result) (running_of old.contents old.limits scans)
+scan_does old client result scans says = record { limits = refl; tells = λ system h. scan_tells old system client result scans h says }
+
+pub abandon_does : (old : Running) (client : ℕ) (op : Op) (new : Contents) → PlansAlways old.contents client Abandon (Ok op) → new ≡ applied old.contents op
+    → Does old client ActAbandon (Ok Abandoned) (running_of new old.limits (with_seat client None old.scans))
+abandon_does old client op new plans is = record { limits = refl; tells = λ system h. abandon_tells old system client op new h plans is }
+
+pub abandon_not : (old : Running) (client : ℕ) (fault : CoreFault) → PlansAlways old.contents client Abandon (Err fault) → Does old client ActAbandon (Err fault) old
+abandon_not old client fault plans = record { limits = refl; tells = λ system h. abandon_refused old system client fault h plans }
+
+pub finish_does : (old : Running) (client : ℕ) (op : Op) (new : Contents) (ranked : Vec Ranked) → PlansAlways old.contents client Finish (Ok op) → new ≡ applied old.contents op → AnswersAt (seat client old.scans) (Ok ranked)
+    → Does old client ActFinish (Ok (Answer ranked.items)) (running_of new old.limits (with_seat client None old.scans))
+finish_does old client op new ranked plans is says = record { limits = refl; tells = λ system h. finish_tells old system client op new ranked h plans is says }
+
+pub finish_not : (old : Running) (client : ℕ) (fault : CoreFault) → PlansAlways old.contents client Finish (Err fault) → Does old client ActFinish (Err fault) old
+finish_not old client fault plans = record { limits = refl; tells = λ system h. finish_refused old system client fault h plans }
+
+pub finish_early : (old : Running) (client : ℕ) (op : Op) (fault : CoreFault) → PlansAlways old.contents client Finish (Ok op) → AnswersAt (seat client old.scans) (Err fault) → Does old client ActFinish (Err fault) old
+finish_early old client op fault plans says = record { limits = refl; tells = λ system h. finish_not_done old system client op fault h plans says }
+
+-- Reads.
+pub nobody_does : (old : Running) (client : ℕ) (act : Act) → is_some (seat client old.scans) ≡ false → Does old client act (Err NoSuchClient) old
+nobody_does old client act none = record { limits = refl; tells = λ system h. nobody_tells old system client act h none }
+
+pub get_does : (old : Running) (client id : ℕ) (row : Option Row) → is_some (seat client old.scans) ≡ true
+    → ((state : State) → StandsFor old.contents state → row ≡ option_map (λ (l : Line). l.row) (line_of state.table id)) → Does old client (ActGet id) (told_get id row) old
+get_does old client id row some says = record { limits = refl; tells = λ system h. get_tells old system client id row h some says }
+
+pub room_does : (old : Running) (client room : ℕ) → is_some (seat client old.scans) ≡ true → ((state : State) → StandsFor old.contents state → room ≡ length old.contents.slots - length (needed state)) → Does old client ActRoom (Ok (Room room)) old
+room_does old client room some says = record { limits = refl; tells = λ system h. room_tells old system client room h some says }
+
+-- A begin, by its event.
+record IsBegin (act : Act) : Type 0 where
+  ask : Question
+  is : act ≡ ActBegin ask
+
+IsBegin-from : (act : Act) → is_begin act ≡ true → IsBegin act
+IsBegin-from (ActBegin ask) h = record { ask = ask; is = refl }
+IsBegin-from (ActInsert row) h = absurd (cc)
+IsBegin-from (ActUpdate id row) h = absurd (cc)
+IsBegin-from (ActDelete id) h = absurd (cc)
+IsBegin-from ActScan h = absurd (cc)
+IsBegin-from ActFinish h = absurd (cc)
+IsBegin-from ActAbandon h = absurd (cc)
+IsBegin-from (ActGet id) h = absurd (cc)
+IsBegin-from ActRoom h = absurd (cc)
+
+pub begin_steps_not : (old : Running) (event : Event) (fault : CoreFault) → is_begin event.act ≡ true → PlansAlways old.contents event.client Begin (Err fault) → Steps old event (Err (record { fault = fault; event = event })) old
+begin_steps_not old event fault begins plans =
+    let begin_act = IsBegin-from event.act begins in
+    steps_does old old event (ActBegin begin_act.ask) (Err fault) _ begin_act.is (begin_not old event.client begin_act.ask fault plans) refl refl

@@ -1,0 +1,116 @@
+-- The needed versions are within the capacity after each legal history.
+use Rattle.std.proofs.Common.{◌≡◌, ℕ, zero, suc, ◌≤◌, Bool, true, false, ◌||◌, cond, List, [], ◌∷◌, ◌++◌, length, Option, Some, None, slice_get, slice_set, ⊎_elim, refl, sym, ap, ◌∙◌, arith}
+use Rattle.std.proofs.lemmas.Bool.{or_cases, or_left, or_right}
+use Rattle.pref_core.specs.declared.call.Call.{Call}
+use Rattle.pref_core.specs.declared.call.Call.TheVariants.{Insert, Update, Delete, Begin, Finish, Abandon}
+use Rattle.pref_core.specs.Table.{Line, Key, holds_key, keys}
+use Rattle.pref_core.specs.State.{State, Client, Snapshot, found_tables, needed, is_change, missing, ended, granted, outcome, succeeds, committed, begun_after, counted, after}
+use Rattle.pref_core.specs.Laws.{NeededFits}
+use Rattle.pref_core.proofs.Counting.{holds_key-different, AreDifferent-different, holds_key-keys-append}
+use Rattle.pref_core.proofs.Fewer.{fewer, deletes_need_no_more}
+use Rattle.pref_core.proofs.Plans.{succeeds-fits}
+
+holds : Key → List Line → Bool
+holds key table = holds_key (keys table) key
+
+found_of : Option Snapshot → List Line
+found_of None = []
+found_of (Some found) = found.table
+
+cons_found : (key : Key) (client : Client) (clients : List Client) → holds key (found_tables (client ∷ clients)) ≡ (holds key (found_of client.begun) || holds key (found_tables clients))
+unfolding holds found_of
+cons_found key client clients = go client.begun
+  where
+    go : (b : Option Snapshot) → holds_key (keys (elim b as (λ x. List Line) [ None ↦ found_tables clients | Some found ↦ found.table ++ found_tables clients ])) key ≡ (holds_key (keys (found_of b)) key || holds_key (keys (found_tables clients)) key)
+    go None = refl
+    go (Some found) = holds_key-keys-append key found.table (found_tables clients)
+
+-- what open queries found, once a client is another
+found_set : (key : Key) (clients : List Client) (k : ℕ) (new : Client) → holds key (found_tables (slice_set clients k new)) ≡ true → (holds key (found_of new.begun) || holds key (found_tables clients)) ≡ true
+unfolding holds
+found_set key [] k new h = absurd (cc)
+found_set key (client ∷ clients) zero new h =
+    ⊎_elim (or_left _ _)
+    (λ (rest : holds key (found_tables clients) ≡ true). or_right (holds key (found_of new.begun)) _ (cons_found key client clients ∙ or_right (holds key (found_of client.begun)) _ rest))
+    (or_cases _ _ (sym (cons_found key new clients) ∙ h))
+found_set key (client ∷ clients) (suc k) new h =
+    ⊎_elim (λ (here : holds key (found_of client.begun) ≡ true). or_right (holds key (found_of new.begun)) _ (cons_found key client clients ∙ or_left _ (holds key (found_tables clients)) here))
+    (λ (there : holds key (found_tables (slice_set clients k new)) ≡ true).
+    ⊎_elim (or_left _ _)
+    (λ (rest : holds key (found_tables clients) ≡ true). or_right (holds key (found_of new.begun)) _ (cons_found key client clients ∙ or_right (holds key (found_of client.begun)) _ rest))
+    (or_cases _ _ (found_set key clients k new there)))
+    (or_cases _ _ (sym (cons_found key client (slice_set clients k new)) ∙ h))
+
+found_has : (key : Key) (clients : List Client) (k : ℕ) (who : Client) → slice_get clients k ≡ Some who → holds key (found_of who.begun) ≡ true → holds key (found_tables clients) ≡ true
+found_has key [] k who at h = absurd (cc)
+found_has key (client ∷ clients) zero who at h =
+    let same : client ≡ who = cc in
+    cons_found key client clients ∙ or_left _ (holds key (found_tables clients)) (ap (λ (c : Client). holds key (found_of c.begun)) same ∙ h)
+found_has key (client ∷ clients) (suc k) who at h = cons_found key client clients ∙ or_right (holds key (found_of client.begun)) _ (found_has key clients k who at h)
+
+-- what open queries found after a call: no more than before, and the table where the call is a begin
+found_counted : (key : Key) (table : List Line) (state : State) (client : ℕ) (call : Call) → (is_change call ≡ false → table ≡ state.table) → holds key (found_tables (counted state client call)) ≡ true → (holds key table || holds key (found_tables state.clients)) ≡ true
+unfolding holds found_of
+found_counted key table state client call quiet = go client
+  where
+    kept : (who : Client) (call : Call) → (is_change call ≡ false → table ≡ state.table) → (holds key (found_of who.begun) ≡ true → holds key (found_tables state.clients) ≡ true)
+        → holds key (found_of (begun_after state call who.begun)) ≡ true → (holds key table || holds key (found_tables state.clients)) ≡ true
+    kept who (Insert row) q was h = or_right (holds key table) _ (was h)
+    kept who (Update id row) q was h = or_right (holds key table) _ (was h)
+    kept who (Delete id) q was h = or_right (holds key table) _ (was h)
+    kept who Begin q was h = or_left _ (holds key (found_tables state.clients)) (ap (holds key) (q refl) ∙ h)
+    kept who Finish q was h = absurd (cc)
+    kept who Abandon q was h = absurd (cc)
+
+    at : (k : ℕ) (o : Option Client) → slice_get state.clients k ≡ o
+        → holds key (found_tables (elim o as (λ x. List Client) [ None ↦ state.clients | Some found ↦ slice_set state.clients k (record { calls = suc found.calls; begun = begun_after state call found.begun }) ])) ≡ true
+        → (holds key table || holds key (found_tables state.clients)) ≡ true
+    at k None e h = or_right (holds key table) _ h
+    at k (Some who) e h =
+        ⊎_elim (kept who call quiet (found_has key state.clients k who e)) (or_right (holds key table) _)
+        (or_cases _ _ (found_set key state.clients k (record { calls = suc who.calls; begun = begun_after state call who.begun }) h))
+
+    go : (client : ℕ) → holds key (found_tables (counted state client call)) ≡ true → (holds key table || holds key (found_tables state.clients)) ≡ true
+    go zero h = or_right (holds key table) _ h
+    go (suc k) h = at k (slice_get state.clients k) refl h
+
+-- with these clients no more is needed
+needed_counted : (table : List Line) (state : State) (client : ℕ) (call : Call) (next_id commits : ℕ) → (is_change call ≡ false → table ≡ state.table)
+    → length (needed (record { table = table; next_id = next_id; commits = commits; clients = counted state client call })) ≤ length (needed (record { table = table; next_id = next_id; commits = commits; clients = state.clients }))
+unfolding holds
+needed_counted table state client call next_id commits quiet =
+    fewer _ _ (AreDifferent-different (keys (table ++ found_tables (counted state client call)))) (AreDifferent-different (keys (table ++ found_tables state.clients))) (λ key h.
+    let held = sym (holds_key-different (keys (table ++ found_tables (counted state client call))) key ∙ holds_key-keys-append key table (found_tables (counted state client call))) ∙ h in
+    holds_key-different (keys (table ++ found_tables state.clients)) key ∙ holds_key-keys-append key table (found_tables state.clients)
+    ∙ ⊎_elim (or_left _ (holds key (found_tables state.clients))) (found_counted key table state client call quiet) (or_cases (holds key table) (holds key (found_tables (counted state client call))) held))
+
+abbrev noted : State → ℕ → Call → State
+noted state client call = record { table = state.table; next_id = state.next_id; commits = state.commits; clients = counted state client call }
+
+noted_fits : (capacity : ℕ) (state : State) (client : ℕ) (call : Call) → length (needed state) ≤ capacity → length (needed (noted state client call)) ≤ capacity
+noted_fits capacity state client call fits = let fewer_now = needed_counted state.table state client call state.next_id state.commits (λ q. refl) in omega arith
+
+-- a change that succeeds leaves what is within the capacity
+change_fits : (capacity : ℕ) (state : State) (call : Call) → is_change call ≡ true → succeeds (outcome capacity state call) ≡ true → length (needed state) ≤ capacity → length (needed (committed call state)) ≤ capacity
+change_fits capacity state (Insert row) c s fits = succeeds-fits capacity (missing (ended (Insert row)) state.table) _ (granted state.next_id (Insert row)) s
+change_fits capacity state (Update id row) c s fits = succeeds-fits capacity (missing (ended (Update id row)) state.table) _ (granted state.next_id (Update id row)) s
+change_fits capacity state (Delete id) c s fits = let fewer_now = deletes_need_no_more state id in omega arith
+change_fits capacity state Begin c s fits = absurd (cc)
+change_fits capacity state Finish c s fits = absurd (cc)
+change_fits capacity state Abandon c s fits = absurd (cc)
+
+after_fits : (capacity : ℕ) (state : State) (client : ℕ) (call : Call) → length (needed state) ≤ capacity → length (needed (after capacity state client call)) ≤ capacity
+after_fits capacity state client call fits = go (is_change call) refl (succeeds (outcome capacity state call)) refl
+  where
+    go : (c : Bool) → is_change call ≡ c → (s : Bool) → succeeds (outcome capacity state call) ≡ s
+        → length (needed (cond c (cond s (committed call (noted state client call)) (noted state client call)) (noted state client call))) ≤ capacity
+    go false c s e = noted_fits capacity state client call fits
+    go true c false e = noted_fits capacity state client call fits
+    go true c true e =
+        let made = change_fits capacity state call c e fits in
+        let fewer_now = needed_counted (committed call state).table state client call (committed call state).next_id (committed call state).commits (λ q. absurd (let both : true ≡ false = sym c ∙ q in cc)) in
+        omega arith
+
+pub needed_fits : NeededFits
+needed_fits capacity state [] fits legal = fits
+needed_fits capacity state (numbered ∷ history) fits legal = needed_fits capacity (after capacity state numbered.client numbered.call) history (after_fits capacity state numbered.client numbered.call fits) legal.1

@@ -1,0 +1,136 @@
+-- A query that follows its table: no id comes twice, a scan keeps on, and the end is the table's answer.
+use Rattle.std.proofs.Common.{◌≡◌, ℕ, zero, suc, ◌+◌, ◌-◌, ◌*◌, ◌/◌, ◌≤◌, Bool, true, false, cond, eqb, ◌==◌, List, [], ◌∷◌, ◌++◌, map, length, take, drop, Option, filter, refl, sym, ap, ◌∙◌, subst, arith, inl, inr}
+use Rattle.std.specs.List.{count_by}
+use Rattle.std.specs.List.Sorted.{IsPermutation}
+use Rattle.std.proofs.lemmas.List.{map-append, take_all, take-append-drop}
+use Rattle.std.proofs.lemmas.List.Elements.{filter_map-append}
+use Rattle.std.proofs.lemmas.List.Sums.{sum_by-cons, sum_by-append}
+use Rattle.std.proofs.lemmas.List.Sorted.{IsPermutation-map, sum_by-IsPermutation}
+use Rattle.std.proofs.Math.Nat.{mul_comm}
+use Rattle.pref_sky.specs.declared.entry.Entry.{Entry}
+use Rattle.pref_sky.specs.declared.entry.Ranked.{Ranked}
+use Rattle.pref_sky.specs.Levels.{HaveDifferentIds, entry_order, entry_of}
+use Rattle.pref_sky.specs.Answers.{answer_of}
+use Rattle.pref_sky.specs.Members.{Among, SameMembers}
+use Rattle.pref_sky.proofs.LevelLaws.{held_differ, answer_of_same}
+use Rattle.pref_term.specs.Question.{Question, cut_of}
+use Rattle.pref_term.specs.AskOrder.{order_of}
+use Rattle.pref_core.specs.declared.store.version.Version.{Version}
+use Rattle.pref_core.specs.Limits.{Limits, blocks}
+use Rattle.pref_core.specs.Table.{Line, IsOrdered, entries}
+use Rattle.pref_core.specs.Slots.{Shows, seen, visible, block_of}
+use Rattle.pref_core.specs.Scans.{Scan, levels_for, next_block, NextIsNew, IsScanned}
+use Rattle.pref_core.specs.Step.{Open, one_less}
+use Rattle.pref_core.specs.Systems.{Follows}
+use Rattle.pref_core.proofs.Permutations.{along_permutation}
+use Rattle.pref_core.proofs.Lookups.{one_line}
+
+entry : Line → Entry
+entry line = record { id = line.id; row = line.row }
+
+-- how often an id stands among the entries
+count_id : (id : ℕ) (table : List Line) → count_by (λ (e : Entry). e.id == id) (entries table) ≡ length (filter (λ (line : Line). eqb line.id id) table)
+count_id id [] = refl
+count_id id (line ∷ rest) = sum_by-cons (λ (e : Entry). cond (e.id == id) 1 0) (record { id = line.id; row = line.row }) (entries rest) ∙ ap (λ n. cond (eqb line.id id) 1 0 + n) (count_id id rest) ∙ one (eqb line.id id) (filter (λ (l : Line). eqb l.id id) rest)
+  where
+    one : (b : Bool) (l : List Line) → cond {A = ℕ} b 1 0 + length l ≡ length (cond b (line ∷ l) l)
+    one true l = omega arith
+    one false l = omega arith
+
+pub table_differs : (table : List Line) → IsOrdered table → HaveDifferentIds (entries table)
+table_differs table ordered = record { once = λ id. subst (λ n. n ≤ 1) (sym (count_id id table)) (one_line id table ordered) }
+
+differs_along : (xs ys : List Entry) → IsPermutation xs ys → HaveDifferentIds ys → HaveDifferentIds xs
+differs_along xs ys same different = record { once = λ id. let a = sum_by-IsPermutation (λ (e : Entry). cond {A = ℕ} (e.id == id) 1 0) xs ys same in let b = different.once id in omega arith }
+
+pub shown_differs : (slots : List (Option Version)) (stamp : ℕ) (table : List Line) → Shows slots stamp table → HaveDifferentIds (entries (visible stamp slots))
+shown_differs slots stamp table shows = differs_along _ _ (IsPermutation-map (λ (l : Line). record { id = l.id; row = l.row }) _ _ shows.lines) (table_differs table shows.ordered)
+
+front_differs : (xs ys : List Entry) → HaveDifferentIds (xs ++ ys) → HaveDifferentIds xs
+front_differs xs ys different = record { once = λ id. let a = sum_by-append (λ (e : Entry). cond {A = ℕ} (e.id == id) 1 0) xs ys in let b = different.once id in omega arith }
+
+entries_append : (stamp : ℕ) (xs ys : List (Option Version)) → entries (visible stamp (xs ++ ys)) ≡ entries (visible stamp xs) ++ entries (visible stamp ys)
+entries_append stamp xs ys = ap entries (filter_map-append (seen stamp) xs ys) ∙ map-append (λ (l : Line). record { id = l.id; row = l.row }) (visible stamp xs) (visible stamp ys)
+
+taken_differs : (slots : List (Option Version)) (stamp n : ℕ) (table : List Line) → Shows slots stamp table → HaveDifferentIds (entries (visible stamp (take n slots)))
+taken_differs slots stamp n table shows =
+    front_differs _ _ (subst HaveDifferentIds (ap (λ l. entries (visible stamp l)) (sym (take-append-drop n slots)) ∙ entries_append stamp (take n slots) (drop n slots)) (shown_differs slots stamp table shows))
+
+take_none : {X : Type 0} (n : ℕ) → ◌≡◌ {A = List X} [] (take n [])
+take_none zero = refl
+take_none (suc n) = refl
+
+take_add : {X : Type 0} (a b : ℕ) (xs : List X) → take (a + b) xs ≡ take a xs ++ take b (drop a xs)
+take_add zero b xs = let e : 0 + b ≡ b = omega arith in ap (λ n. take n xs) e
+take_add {X} (suc a) b [] = let nothing : List X = [] in let e : suc a + b ≡ suc (a + b) = omega arith in ap (λ n. take n nothing) e ∙ take_none b
+take_add (suc a) b (x ∷ xs) = let e : suc a + b ≡ suc (a + b) = omega arith in ap (λ n. take n (x ∷ xs)) e ∙ ap (λ l. x ∷ l) (take_add a b xs)
+
+one_more : (d n : ℕ) → d * n + n ≡ (d + 1) * n
+one_more d n = omega arith
+
+-- what was scanned and the next block are what one block more shows
+with_next : (scan : Scan) (slots : List (Option Version)) → entries (visible scan.stamp (take (scan.done * scan.size) slots)) ++ next_block scan slots ≡ entries (visible scan.stamp (take ((scan.done + 1) * scan.size) slots))
+with_next scan slots =
+    sym (entries_append scan.stamp (take (scan.done * scan.size) slots) (block_of scan.done scan.size slots))
+    ∙ ap (λ l. entries (visible scan.stamp l)) (sym (take_add (scan.done * scan.size) scan.size slots))
+    ∙ ap (λ n. entries (visible scan.stamp (take n slots))) (one_more scan.done scan.size)
+
+-- no id of the next block came before
+next_differs : (scan : Scan) (slots : List (Option Version)) (table : List Line) → Shows slots scan.stamp table → HaveDifferentIds (entries (visible scan.stamp (take (scan.done * scan.size) slots)) ++ next_block scan slots)
+next_differs scan slots table shows = subst HaveDifferentIds (sym (with_next scan slots)) (taken_differs slots scan.stamp ((scan.done + 1) * scan.size) table shows)
+
+pub next_is_new : (limits : Limits) (slots : List (Option Version)) (scan : Scan) (query : Open) → Shows slots query.commits query.table → Follows limits slots scan query → NextIsNew scan slots
+next_is_new limits slots scan query shows h =
+    let here = subst (λ n. Shows slots n query.table) (sym h.stamp) shows in
+    subst (λ l. HaveDifferentIds (map entry_of l ++ next_block scan slots)) (sym h.partial)
+    (held_differ (entry_order (order_of scan.ask)) (entries (visible scan.stamp (take (scan.done * scan.size) slots))) (next_block scan slots) (cut_of scan.ask.mode) (next_differs scan slots query.table here))
+
+pub follows_scanned : (limits : Limits) (slots : List (Option Version)) (scan new : Scan) (query : Open) → Shows slots query.commits query.table → Follows limits slots scan query → IsScanned scan slots new → Follows limits slots new (one_less query)
+follows_scanned limits slots scan new query shows h is =
+    let here = subst (λ n. Shows slots n query.table) (sym h.stamp) shows in
+    let scanned = entries (visible scan.stamp (take (scan.done * scan.size) slots)) in
+    let more : new.partial ≡ levels_for scan.ask (scanned ++ next_block scan slots) = is.partial scanned (next_differs scan slots query.table here) h.partial in
+    let size : (scan.done + 1) * scan.size ≡ new.done * new.size = (λ i. sym is.done i * sym is.size i) in
+    let there : scanned ++ next_block scan slots ≡ entries (visible new.stamp (take (new.done * new.size) slots)) = with_next scan slots ∙ (λ i. entries (visible (sym is.stamp i) (take (size i) slots))) in
+    let left = is.left in
+    let query_left = h.left in
+    record {
+      ask = is.ask ∙ h.ask;
+      stamp = is.stamp ∙ h.stamp;
+      size = is.size ∙ h.size;
+      some = h.some;
+      left = omega arith;
+      blocks = (let all = h.blocks in let done = is.done in omega arith);
+      partial = more ∙ (λ i. levels_for (sym is.ask i) (there i));
+    }
+
+-- All blocks are the whole store.
+all_blocks : (capacity block : ℕ) → 1 ≤ block → capacity ≤ (capacity + block - 1) / block * block
+all_blocks capacity block h = omega (arith, mul_comm ((capacity + block - 1) / block) block)
+
+-- the same members along a permutation
+same_cons : (x : Entry) (xs ys : List Entry) → SameMembers xs ys → SameMembers (x ∷ xs) (x ∷ ys)
+same_cons x xs ys h = record { there = λ y m. elim m [ inl e ↦ inl e | inr l ↦ inr (h.there y l) ]; back = λ y m. elim m [ inl e ↦ inl e | inr l ↦ inr (h.back y l) ] }
+
+over_members : (x y : Entry) (xs : List Entry) (z : Entry) → Among z (x ∷ y ∷ xs) → Among z (y ∷ x ∷ xs)
+over_members x y xs z m = elim m [ inl e ↦ inr (inl e) | inr l ↦ elim l [ inl e ↦ inl e | inr r ↦ inr (inr r) ] ]
+
+pub same_members : (xs ys : List Entry) → IsPermutation xs ys → SameMembers xs ys
+same_members = along_permutation (λ xs ys. SameMembers xs ys)
+    (λ xs. record { there = λ y m. m; back = λ y m. m })
+    same_cons
+    (λ x y xs. record { there = over_members x y xs; back = over_members y x xs })
+    (λ xs ys zs a b. record { there = λ y m. b.there y (a.there y m); back = λ y m. a.back y (b.back y m) })
+
+-- Once no block is left, an answer of what is held is the answer of the table at the begin.
+pub follows_answered : (limits : Limits) (slots : List (Option Version)) (scan : Scan) (query : Open) (ranked : List Ranked) → length slots ≡ limits.capacity → Shows slots query.commits query.table → Follows limits slots scan query → scan.left ≡ 0
+    → ((list : List Entry) → scan.partial ≡ levels_for scan.ask list → ranked ≡ answer_of scan.ask list) → ranked ≡ answer_of query.ask (entries query.table)
+follows_answered limits slots scan query ranked capacity shows h none says =
+    let done : scan.done ≡ blocks limits = (let all = h.blocks in omega arith) in
+    let long : length slots ≤ scan.done * scan.size = rw (done, h.size, capacity) (all_blocks limits.capacity limits.block h.some) in
+    let whole : take (scan.done * scan.size) slots ≡ slots = take_all (scan.done * scan.size) slots long in
+    let held : scan.partial ≡ levels_for scan.ask (entries (visible query.commits slots)) = h.partial ∙ (λ i. levels_for scan.ask (entries (visible (h.stamp i) (whole i)))) in
+    let arranged = IsPermutation-map (λ (l : Line). record { id = l.id; row = l.row }) _ _ shows.lines in
+    says (entries (visible query.commits slots)) held
+    ∙ answer_of_same scan.ask _ _ (shown_differs slots query.commits query.table shows) (table_differs query.table shows.ordered) (same_members _ _ arranged)
+    ∙ ap (λ (q : Question). answer_of q (entries query.table)) h.ask

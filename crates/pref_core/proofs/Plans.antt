@@ -1,0 +1,142 @@
+-- There is a slot for the new row of a call that isn't refused.
+use Rattle.std.proofs.Common.{◌≡◌, ℕ, suc, ◌+◌, ◌≤◌, Bool, true, false, not, ◌||◌, cond, nat_lt, List, [], ◌∷◌, map, length, Option, Some, None, is_some, IfSome, IfNone, slice_set, refl, sym, ap, ap₂, ◌∙◌, subst, arith}
+use Rattle.std.specs.List.{count_by, list_any}
+use Rattle.std.specs.Option.{option_to_list}
+use Rattle.std.proofs.lemmas.List.Sums.{sum_by-cons}
+use Rattle.std.proofs.lemmas.Bool.{ltb-false, and_from, eq-eqb}
+use Rattle.std.specs.Option.{option_map, option_and_then}
+use Rattle.std.proofs.lemmas.List.{length-map}
+use Rattle.pref_core.specs.declared.store.version.Version.{Version}
+use Rattle.pref_core.specs.declared.store.caller.Caller.{Caller}
+use Rattle.pref_core.specs.declared.call.Op.{Op}
+use Rattle.pref_sky.specs.declared.entry.Entry.{Entry}
+use Rattle.pref_core.specs.declared.call.Call.{Call}
+use Rattle.pref_core.specs.declared.call.Call.TheVariants.{Insert, Update, Delete, Begin, Finish, Abandon}
+use Rattle.pref_core.specs.declared.call.Outcome.{Outcome}
+use Rattle.pref_core.specs.declared.call.Outcome.TheVariants.{Added, Done, NoSuchRow, Full}
+use Rattle.pref_core.specs.State.{ended, begun, granted, missing, outcome_of, succeeds, is_change, seat, refusal_of}
+use Rattle.pref_core.specs.Slots.{Contents, is_needed, begins, stamps, seen, visible, born}
+use Rattle.pref_core.specs.Operations.{close, used, is_free, filled, outcome_at, placed, close_at, same_outcome, is_next, same_number, refusal_at, slots_after}
+use Rattle.pref_core.proofs.Visible.{seen_born}
+
+count_by-cons_yes : {X : Type 0} (p : X → Bool) (x : X) (xs : List X) → p x ≡ true → count_by p (x ∷ xs) ≡ suc (count_by p xs)
+count_by-cons_yes p x xs h = sum_by-cons (λ y. cond (p y) 1 0) x xs ∙ ap (λ b. cond b 1 0 + count_by p xs) h ∙ one (count_by p xs)
+  where
+    one : (n : ℕ) → 1 + n ≡ suc n
+    one n = omega arith
+
+-- a new version is needed
+count_by-born : (made : ℕ) (ns : List ℕ) (entry : Entry) (slots : List (Option Version)) → count_by (is_needed (made ∷ ns)) (born made entry ∷ slots) ≡ suc (count_by (is_needed (made ∷ ns)) slots)
+count_by-born made ns entry slots =
+    count_by-cons_yes (is_needed (made ∷ ns)) (born made entry) slots (ap (λ s. is_some s || list_any (λ n. is_some (seen n (born made entry))) ns) (seen_born made entry))
+
+pub succeeds-fits : (capacity : ℕ) (m : Option ℕ) (size : ℕ) (granted : Outcome) → succeeds (outcome_of capacity true m size granted) ≡ true → size ≤ capacity
+succeeds-fits capacity (Some id) size granted h = absurd (cc)
+succeeds-fits capacity None size granted h = go (nat_lt capacity size) refl h
+  where
+    go : (b : Bool) → nat_lt capacity size ≡ b → succeeds (cond b (Full size) granted) ≡ true → size ≤ capacity
+    go true e h = absurd (cc)
+    go false e h = ltb-false _ _ e
+
+-- a new row at a place that was found
+one_placed : (entry : Entry) (slot : Option ℕ) (slots : List (Option Version)) (made : ℕ) (ns : List ℕ) → count_by (is_needed (made ∷ ns)) (born made entry ∷ slots) ≤ length slots
+    → IfSome slot (λ place. is_free (made ∷ ns) slots place ≡ true)
+    → IfNone slot (count_by (is_needed (made ∷ ns)) slots ≡ length slots)
+    → is_some (filled (made ∷ ns) made (option_to_list slot) (entry ∷ []) slots) ≡ true
+one_placed entry (Some place) slots made ns fits found none = ap (λ b. is_some (cond b (Some (slice_set slots place (born made entry))) None)) found
+one_placed entry None slots made ns fits found none = absurd (let more = count_by-born made ns entry slots in omega arith)
+
+-- what `free_place` says, of the closed slots
+abbrev Finds : Contents → List ℕ → ℕ → Option ℕ → Type 0
+Finds contents ids made slot =
+    IfSome slot (λ place. is_free (made ∷ begins contents.callers) (map (close ids made) contents.slots) place ≡ true)
+    × IfNone slot (count_by (is_needed (made ∷ begins contents.callers)) (map (close ids made) contents.slots) ≡ length contents.slots)
+
+row_placed : (contents : Contents) (ids : List ℕ) (entry : Entry) (slot : Option ℕ)
+    → count_by (is_needed (suc contents.stamp ∷ begins contents.callers)) (born (suc contents.stamp) entry ∷ map (close ids (suc contents.stamp)) contents.slots) ≤ length contents.slots
+    → Finds contents ids (suc contents.stamp) slot
+    → is_some (filled (suc contents.stamp ∷ begins contents.callers) (suc contents.stamp) (option_to_list slot) (entry ∷ []) (map (close ids (suc contents.stamp)) contents.slots)) ≡ true
+row_placed contents ids entry slot fits finds =
+    let long = length-map contents.slots (close ids (suc contents.stamp)) in
+    one_placed entry slot (map (close ids (suc contents.stamp)) contents.slots) (suc contents.stamp) (begins contents.callers) (rw long fits) finds.0 (rw long finds.1)
+
+call_placed : (contents : Contents) (call : Call) (outcome : Outcome) (slot : Option ℕ) (begun_by : Option Entry) → outcome ≡ outcome_at contents call → succeeds outcome ≡ true
+    → option_to_list begun_by ≡ begun contents.next_id call → is_some begun_by ≡ true
+    → Finds contents (ended call) (suc contents.stamp) slot
+    → is_some (placed contents call slot outcome) ≡ true
+call_placed contents (Insert row) outcome slot begun_by told ok b is finds =
+    rw ok (row_placed contents [] _ slot (succeeds-fits (length contents.slots) None _ (Added contents.next_id) (ap succeeds (sym told) ∙ ok)) finds)
+call_placed contents (Update id row) outcome slot begun_by told ok b is finds =
+    rw ok (row_placed contents (id ∷ []) _ slot (succeeds-fits (length contents.slots) (missing (id ∷ []) (visible contents.stamp contents.slots)) _ Done (ap succeeds (sym told) ∙ ok)) finds)
+call_placed contents (Delete id) outcome slot (Some entry) told ok b is finds = absurd (cc)
+call_placed contents Begin outcome slot (Some entry) told ok b is finds = absurd (cc)
+call_placed contents Finish outcome slot (Some entry) told ok b is finds = absurd (cc)
+call_placed contents Abandon outcome slot (Some entry) told ok b is finds = absurd (cc)
+call_placed contents call outcome slot None told ok b is finds = absurd (cc)
+
+pub place_fits : (contents : Contents) (call : Call) (outcome : Outcome) (slot : Option ℕ) (begun_by : Option Entry) (ended_by : Option ℕ) → outcome ≡ outcome_at contents call → succeeds outcome ≡ true
+    → option_to_list begun_by ≡ begun contents.next_id call → is_some begun_by ≡ true → option_to_list ended_by ≡ ended call
+    → IfSome slot (λ place. is_free ((contents.stamp + 1) ∷ begins contents.callers) (map (close (option_to_list ended_by) (contents.stamp + 1)) contents.slots) place ≡ true)
+    → IfNone slot (count_by (is_needed ((contents.stamp + 1) ∷ begins contents.callers)) (map (close (option_to_list ended_by) (contents.stamp + 1)) contents.slots) ≡ length contents.slots)
+    → is_some (placed contents call slot outcome) ≡ true
+place_fits contents call outcome slot begun_by ended_by told ok b is e found none =
+    let next : contents.stamp + 1 ≡ suc contents.stamp = omega arith in
+    call_placed contents call outcome slot begun_by told ok b is
+    (subst (λ n. Finds contents (ended call) n slot) next (subst (λ ids. Finds contents ids (contents.stamp + 1) slot) e (found, none)))
+
+-- nothing ends
+close_none : (stamp : ℕ) (slots : List (Option Version)) → map (close [] stamp) slots ≡ slots
+close_none stamp [] = refl
+close_none stamp (None ∷ slots) = ap (λ l. None ∷ l) (close_none stamp slots)
+close_none stamp (Some version ∷ slots) = ap₂ ◌∷◌ (same version.death) (close_none stamp slots)
+  where
+    same : (death : Option ℕ) → ◌≡◌ {A = Option Version} (Some (record version { death = close_at stamp false death })) (Some (record version { death = death }))
+    same None = refl
+    same (Some n) = refl
+
+pub used-close_none : (contents : Contents) (kept : ℕ) → kept ≡ count_by (is_needed (contents.stamp ∷ begins contents.callers)) (map (close [] contents.stamp) contents.slots) → kept ≡ used contents
+used-close_none contents kept e = e ∙ ap (count_by (is_needed (stamps contents))) (close_none contents.stamp contents.slots)
+
+pub same_outcome_refl : (a : Outcome) → same_outcome a a ≡ true
+same_outcome_refl (Added n) = eq-eqb n n refl
+same_outcome_refl Done = refl
+same_outcome_refl (NoSuchRow n) = eq-eqb n n refl
+same_outcome_refl (Full n) = eq-eqb n n refl
+
+-- a call that is let in, with its number and its outcome
+pub is_next_planned : (contents : Contents) (op : Op) (caller : Caller) → seat op.client contents.callers ≡ Some caller → refusal_at contents op.client op.call ≡ None → op.number ≡ caller.calls + 1 → op.outcome ≡ outcome_at contents op.call → is_next contents op ≡ true
+is_next_planned contents op caller at accepted number told =
+    and_from _ _ (and_from _ _ (ap (λ o. not (is_some o)) accepted) (numbered (seat op.client contents.callers) at)) (ap (same_outcome op.outcome) (sym told) ∙ same_outcome_refl op.outcome)
+  where
+    numbered : (o : Option Caller) → o ≡ Some caller → same_number (elim o as (λ x. Option ℕ) [ None ↦ None | Some found ↦ Some found.calls ]) op.number ≡ true
+    numbered None e = absurd (cc)
+    numbered (Some found) e =
+        let calls : found.calls ≡ caller.calls = let same : found ≡ caller = cc in ap (λ (c : Caller). c.calls) same in
+        eq-eqb (suc found.calls) op.number (omega arith)
+
+-- the refusal by what is kept of the caller
+pub refusal_at-seat : (contents : Contents) (client : ℕ) (call : Call) (o : Option Caller) → o ≡ seat client contents.callers → refusal_of (option_map (λ c. c.calls) o) (is_some (option_and_then (λ c. c.begun) o)) call ≡ refusal_at contents client call
+refusal_at-seat contents client call o e = ap₂ (λ calls b. refusal_of calls (is_some b) call) (calls_same o) (begun_same o) ∙ ap (λ s. refusal_of (elim s as (λ x. Option ℕ) [ None ↦ None | Some found ↦ Some found.calls ]) (is_some (elim s as (λ x. Option ℕ) [ None ↦ None | Some found ↦ found.begun ])) call) e
+  where
+    calls_same : (o : Option Caller) → option_map (λ c. c.calls) o ≡ elim o as (λ x. Option ℕ) [ None ↦ None | Some found ↦ Some found.calls ]
+    calls_same None = refl
+    calls_same (Some c) = refl
+
+    begun_same : (o : Option Caller) → option_and_then (λ c. c.begun) o ≡ elim o as (λ x. Option ℕ) [ None ↦ None | Some found ↦ found.begun ]
+    begun_same None = refl
+    begun_same (Some c) = refl
+
+-- what `commit` says, of the slots after an op
+pub slots_after-committed : (contents : Contents) (op : Op) (begun_by : Option Entry) (ended_by : Option ℕ) (after : List (Option Version)) → is_change op.call ≡ true → succeeds op.outcome ≡ true
+    → option_to_list begun_by ≡ begun contents.next_id op.call → option_to_list ended_by ≡ ended op.call → is_some (slots_after contents op) ≡ true
+    → ((ns : List ℕ) → is_some (filled ns (contents.stamp + 1) (option_to_list op.slot) (option_to_list begun_by) (map (close (option_to_list ended_by) (contents.stamp + 1)) contents.slots)) ≡ true
+    → filled ns (contents.stamp + 1) (option_to_list op.slot) (option_to_list begun_by) (map (close (option_to_list ended_by) (contents.stamp + 1)) contents.slots) ≡ Some after)
+    → slots_after contents op ≡ Some after
+slots_after-committed contents op begun_by ended_by after c s b e fits made =
+    let next : contents.stamp + 1 ≡ suc contents.stamp = omega arith in
+    let ns : List ℕ = suc contents.stamp ∷ begins contents.callers in
+    let same : filled ns (contents.stamp + 1) (option_to_list op.slot) (option_to_list begun_by) (map (close (option_to_list ended_by) (contents.stamp + 1)) contents.slots)
+    ≡ filled ns (suc contents.stamp) (option_to_list op.slot) (begun contents.next_id op.call) (map (close (ended op.call) (suc contents.stamp)) contents.slots)
+    = λ i. filled ns (next i) (option_to_list op.slot) (b i) (map (close (e i) (next i)) contents.slots) in
+    let fits_here = rw (c, s) at fits in
+    rw (c, s) (sym same ∙ made ns (ap is_some same ∙ fits_here))

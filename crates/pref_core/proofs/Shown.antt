@@ -1,0 +1,70 @@
+-- A legal op leaves what open queries see.
+use Rattle.std.proofs.Common.{◌≡◌, ℕ, ◌≤◌, Bool, true, ◌&&◌, false, cond, List, length, take, Option, Some, None, is_some, refl, sym, ap, ◌∙◌, arith}
+use Rattle.std.specs.List.{filter_map}
+use Rattle.std.proofs.lemmas.List.{take-map}
+use Rattle.pref_core.specs.declared.store.version.Version.{Version}
+use Rattle.pref_core.specs.declared.store.caller.Caller.{Caller}
+use Rattle.pref_core.specs.declared.call.Op.{Op}
+use Rattle.pref_core.specs.State.{State, Client, Snapshot, begun_of, is_change, succeeds}
+use Rattle.pref_core.specs.Slots.{Contents, StandsFor, ShowsBegin, seen, visible, caller_begun}
+use Rattle.pref_core.specs.Operations.{IsLegal, slots_after, applied, is_next}
+use Rattle.pref_core.proofs.Legal.{is_next-from}
+use Rattle.pref_core.proofs.Bounds.{length-slots_after}
+use Rattle.pref_core.proofs.Outcomes.{SameSeat, nobody, somebody, same_seat}
+use Rattle.pref_core.proofs.Stability.{shown, visible_shown, shown_after}
+
+-- the front of the slots shows what it showed
+pub visible_take : (stamp n : ℕ) (before after : List (Option Version)) → shown stamp after ≡ shown stamp before → visible stamp (take n after) ≡ visible stamp (take n before)
+visible_take stamp n before after same =
+    visible_shown stamp (take n after)
+    ∙ ap (filter_map (λ s. s)) (sym (take-map (seen stamp) n after) ∙ ap (take n) same ∙ take-map (seen stamp) n before)
+    ∙ sym (visible_shown stamp (take n before))
+
+-- the stamp that the store keeps of an open query
+begun_kept : (contents : Contents) (state : State) (client : ℕ) (snapshot : Snapshot) → StandsFor contents state → begun_of state client ≡ Some snapshot → (caller_begun contents client ≡ Some snapshot.commits) × (snapshot.commits ≤ contents.stamp)
+begun_kept contents state client snapshot h is = go (same_seat contents.slots contents.stamp contents.callers state.clients client h.clients) is
+  where
+    at : (b : Option ℕ) (f : Option Snapshot) → ShowsBegin contents.slots contents.stamp b f → f ≡ Some snapshot → (b ≡ Some snapshot.commits) × (snapshot.commits ≤ contents.stamp)
+    at None None s e = absurd (cc)
+    at (Some stamp) (Some found) s e =
+        let same : found ≡ snapshot = cc in
+        let commits : found.commits ≡ snapshot.commits = ap (λ (x : Snapshot). x.commits) same in
+        let here = s.0 in
+        let within = s.1 in
+        (ap Some (here ∙ commits), omega arith)
+    at None (Some found) s e = absurd s
+    at (Some stamp) None s e = absurd s
+
+    go : {a : Option Caller} {b : Option Client} → SameSeat contents.slots contents.stamp a b → elim b as (λ x. Option Snapshot) [ None ↦ None | Some found ↦ found.begun ] ≡ Some snapshot
+        → (elim a as (λ x. Option ℕ) [ None ↦ None | Some caller ↦ caller.begun ] ≡ Some snapshot.commits) × (snapshot.commits ≤ contents.stamp)
+    go nobody e = absurd (cc)
+    go (somebody caller found s) e = at caller.begun found.begun s.begun e
+
+-- the slots of a legal op, once it is applied
+record IsDone (contents : Contents) (op : Op) : Type 0 where
+  slots : List (Option Version)
+  fits : slots_after contents op ≡ Some slots
+  is : (applied contents op).slots ≡ slots
+
+legal_done : (contents : Contents) (state : State) (op : Op) → StandsFor contents state → IsLegal state contents op → IsDone contents op
+legal_done contents state op h legal = go (slots_after contents op) refl legal.fits
+  where
+    next : is_next contents op ≡ true
+    next = is_next-from contents state op h legal.next
+
+    stepped_slots : (slots : List (Option Version)) (b : Bool) (x y : Contents) → x.slots ≡ slots → y.slots ≡ slots → (cond b x y).slots ≡ slots
+    stepped_slots slots true x y p q = p
+    stepped_slots slots false x y p q = q
+
+    go : (o : Option (List (Option Version))) → slots_after contents op ≡ o → is_some o ≡ true → IsDone contents op
+    go None e s = absurd (cc)
+    go (Some slots) e s = record { slots = slots; fits = e; is = rw (next, e) (stepped_slots slots (is_change op.call && succeeds op.outcome) _ _ refl refl) }
+
+pub shown_applied : (contents : Contents) (state : State) (op : Op) (client : ℕ) (snapshot : Snapshot) → StandsFor contents state → IsLegal state contents op → begun_of state client ≡ Some snapshot → shown snapshot.commits (applied contents op).slots ≡ shown snapshot.commits contents.slots
+shown_applied contents state op client snapshot h legal is =
+    let done = legal_done contents state op h legal in
+    let kept = begun_kept contents state client snapshot h is in
+    ap (shown snapshot.commits) done.is ∙ shown_after contents client snapshot.commits kept.0 kept.1 op done.slots done.fits
+
+pub length-applied : (contents : Contents) (state : State) (op : Op) → StandsFor contents state → IsLegal state contents op → length (applied contents op).slots ≡ length contents.slots
+length-applied contents state op h legal = let done = legal_done contents state op h legal in ap length done.is ∙ length-slots_after contents op done.slots done.fits

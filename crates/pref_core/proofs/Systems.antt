@@ -1,0 +1,304 @@
+-- What runs stands for the system, call by call.
+use Rattle.std.proofs.Common.{◌≡◌, ℕ, zero, suc, ◌+◌, ◌*◌, ◌≤◌, ◌^◌, Bool, true, false, cond, nat_lt, List, [], ◌∷◌, map, length, take, replicate, Option, Some, None, is_some, refl, sym, ap, ◌∙◌, subst, arith, ⊎_elim}
+use Rattle.std.specs.Option.{option_map}
+use Rattle.std.proofs.lemmas.Bool.{cases_eq}
+use Rattle.pref_term.specs.Question.{Question, cut_of}
+use Rattle.pref_term.specs.AskOrder.{order_of}
+use Rattle.pref_sky.specs.Levels.{entry_order}
+use Rattle.pref_core.specs.declared.store.version.Version.{Version}
+use Rattle.pref_core.specs.declared.store.caller.Caller.{Caller}
+use Rattle.pref_core.specs.declared.call.Call.{Call}
+use Rattle.pref_core.specs.declared.call.Call.TheVariants.{Insert, Update, Delete, Begin, Finish, Abandon}
+use Rattle.pref_core.specs.declared.call.Outcome.{Outcome}
+use Rattle.pref_core.specs.declared.call.Outcome.TheVariants.{Added, Done, NoSuchRow, Full}
+use Rattle.pref_core.specs.declared.call.Op.{Op}
+use Rattle.pref_core.specs.declared.event.Reply.{Reply}
+use Rattle.pref_core.specs.declared.fault.CoreFault.TheVariants.{NoSuchClient, Spent}
+use Rattle.pref_core.specs.Rows.{Row}
+use Rattle.pref_core.specs.Limits.{Limits, blocks}
+use Rattle.pref_core.specs.Table.{entries}
+use Rattle.pref_core.specs.State.{State, Client, Snapshot, seat, with_seat, begun_of, refusal, refusal_of, refusal_by_query, is_change, succeeds, outcome, committed, counted, begun_after, after, opening, idle_clients}
+use Rattle.pref_core.specs.Step.{Open, Member, System, snapshot, client_of, state_of, counted_with, scanned_with, changed, opened}
+use Rattle.pref_core.specs.Slots.{Contents, StandsFor, Shows, ShowsBegin, visible}
+use Rattle.pref_core.specs.Operations.{IsLegal, applied}
+use Rattle.pref_core.specs.Scans.{Scan, begin, levels_for}
+use Rattle.pref_core.specs.Systems.{Running, Follows, StandsForQuery, StandsForMember, StandsForSystem}
+use Rattle.pref_sky.proofs.LevelLaws.{levels_of_none}
+use Rattle.pref_core.proofs.Legal.{applied_stands}
+use Rattle.pref_core.proofs.Outcomes.{SameSeat, nobody, somebody, same_seat}
+use Rattle.pref_core.proofs.Stability.{shown, seat-with_seat_same, seat-with_seat_other}
+use Rattle.pref_core.proofs.Shown.{visible_take, shown_applied, length-applied}
+use Rattle.pref_core.proofs.Seats.{with_seat_self, seat-map, with_seat-map}
+
+-- what the state keeps of a client that is there
+pub client_there : (system : System) (client : ℕ) (member : Member) → seat client system.members ≡ Some member → seat client (state_of system).clients ≡ Some (client_of member)
+client_there system client member at = seat-map client_of client system.members ∙ ap (option_map client_of) at
+
+pub begun_there : (system : System) (client : ℕ) (member : Member) → seat client system.members ≡ Some member → begun_of (state_of system) client ≡ option_map snapshot member.query
+begun_there system client member at = ap (λ (o : Option Client). elim o as (λ x. Option Snapshot) [ None ↦ None | Some found ↦ found.begun ]) (client_there system client member at)
+
+pub refusal_there : (system : System) (client : ℕ) (member : Member) (call : Call) → seat client system.members ≡ Some member → refusal (state_of system) client call ≡ refusal_of (Some member.calls) (is_some (option_map snapshot member.query)) call
+refusal_there system client member call at =
+    ap (λ (o : Option Client). refusal_of (elim o as (λ x. Option ℕ) [ None ↦ None | Some found ↦ Some found.calls ]) (is_some (elim o as (λ x. Option Snapshot) [ None ↦ None | Some found ↦ found.begun ])) call) (client_there system client member at)
+
+pub refusal_nobody : (system : System) (client : ℕ) (call : Call) → seat client system.members ≡ None → refusal (state_of system) client call ≡ Some NoSuchClient
+refusal_nobody system client call at =
+    ap (λ (o : Option Client). refusal_of (elim o as (λ x. Option ℕ) [ None ↦ None | Some found ↦ Some found.calls ]) (is_some (elim o as (λ x. Option Snapshot) [ None ↦ None | Some found ↦ found.begun ])) call) (seat-map client_of client system.members ∙ ap (option_map client_of) at)
+
+counted_there : (system : System) (client : ℕ) (member : Member) (call : Call) → seat client system.members ≡ Some member
+    → counted (state_of system) client call ≡ with_seat client (record { calls = suc member.calls; begun = begun_after (state_of system) call (option_map snapshot member.query) }) (map client_of system.members)
+counted_there system client member call at =
+    ap (λ (o : Option Client). elim o as (λ x. List Client) [
+      | None ↦ map client_of system.members
+      | Some found ↦ with_seat client (record { calls = suc found.calls; begun = begun_after (state_of system) call found.begun }) (map client_of system.members)
+    ]) (client_there system client member at)
+
+-- the state in which the client has made this call too
+abbrev pub noted : System → ℕ → Call → State
+noted system client call = record { table = system.table; next_id = system.next_id; commits = system.commits; clients = counted (state_of system) client call }
+
+pub state_of-counted : (system : System) (client : ℕ) (member : Member) (call : Call) (query : Option Open) → seat client system.members ≡ Some member → option_map snapshot query ≡ begun_after (state_of system) call (option_map snapshot member.query)
+    → state_of (counted_with query client member system) ≡ noted system client call
+state_of-counted system client member call query at e =
+    let clients = with_seat-map client_of client (record { calls = suc member.calls; query = query }) system.members
+    ∙ ap (λ (b : Option Snapshot). with_seat client (record { calls = suc member.calls; begun = b }) (map client_of system.members)) e
+    ∙ sym (counted_there system client member call at) in
+    (λ i. record { table = system.table; next_id = system.next_id; commits = system.commits; clients = clients i })
+
+-- a call that is no change, and a change by whether it succeeds
+pub after_quiet : (capacity : ℕ) (system : System) (client : ℕ) (call : Call) → is_change call ≡ false → after capacity (state_of system) client call ≡ noted system client call
+after_quiet capacity system client call c = rw c refl
+
+after_done : (capacity : ℕ) (system : System) (client : ℕ) (call : Call) → is_change call ≡ true → succeeds (outcome capacity (state_of system) call) ≡ true → after capacity (state_of system) client call ≡ committed call (noted system client call)
+after_done capacity system client call c s = ap (λ b. cond b (cond (succeeds (outcome capacity (state_of system) call)) (committed call (noted system client call)) (noted system client call)) (noted system client call)) c
+    ∙ ap (λ b. cond b (committed call (noted system client call)) (noted system client call)) s
+
+after_refused : (capacity : ℕ) (system : System) (client : ℕ) (call : Call) → is_change call ≡ true → succeeds (outcome capacity (state_of system) call) ≡ false → after capacity (state_of system) client call ≡ noted system client call
+after_refused capacity system client call c s = ap (λ b. cond b (cond (succeeds (outcome capacity (state_of system) call)) (committed call (noted system client call)) (noted system client call)) (noted system client call)) c
+    ∙ ap (λ b. cond b (committed call (noted system client call)) (noted system client call)) s
+
+begun_after-change : (state : State) (call : Call) (found : Option Snapshot) → is_change call ≡ true → found ≡ begun_after state call found
+begun_after-change state (Insert row) found c = refl
+begun_after-change state (Update id row) found c = refl
+begun_after-change state (Delete id) found c = refl
+begun_after-change state Begin found c = absurd (cc)
+begun_after-change state Finish found c = absurd (cc)
+begun_after-change state Abandon found c = absurd (cc)
+
+pub state_of-changed : (capacity : ℕ) (system : System) (client : ℕ) (member : Member) (call : Call) (done : Reply) → seat client system.members ≡ Some member → is_change call ≡ true
+    → state_of (changed (outcome capacity (state_of system) call) done call (counted_with member.query client member system)).next ≡ after capacity (state_of system) client call
+state_of-changed capacity system client member call done at c = go (outcome capacity (state_of system) call) refl
+  where
+    same : state_of (counted_with member.query client member system) ≡ noted system client call
+    same = state_of-counted system client member call member.query at (begun_after-change (state_of system) call (option_map snapshot member.query) c)
+
+    go : (o : Outcome) → outcome capacity (state_of system) call ≡ o → state_of (changed o done call (counted_with member.query client member system)).next ≡ after capacity (state_of system) client call
+    go (Added id) e = ap (committed call) same ∙ sym (after_done capacity system client call c (ap succeeds e))
+    go Done e = ap (committed call) same ∙ sym (after_done capacity system client call c (ap succeeds e))
+    go (NoSuchRow id) e = same ∙ sym (after_refused capacity system client call c (ap succeeds e))
+    go (Full size) e = same ∙ sym (after_refused capacity system client call c (ap succeeds e))
+
+pub members-changed : (o : Outcome) (done : Reply) (call : Call) (counted_one : System) → (changed o done call counted_one).next.members ≡ counted_one.members
+members-changed (Added id) done call s = refl
+members-changed Done done call s = refl
+members-changed (NoSuchRow id) done call s = refl
+members-changed (Full size) done call s = refl
+
+-- who is let in is there
+pub record IsThere (system : System) (client : ℕ) : Type 0 where
+  pub who : Member
+  pub at : seat client system.members ≡ Some who
+
+pub IsThere-from : (system : System) (client : ℕ) (call : Call) → refusal (state_of system) client call ≡ None → IsThere system client
+IsThere-from system client call accepted = go (seat client system.members) refl
+  where
+    go : (o : Option Member) → seat client system.members ≡ o → IsThere system client
+    go None e = absurd (let refused : Some NoSuchClient ≡ None = sym (refusal_nobody system client call e) ∙ accepted in cc)
+    go (Some who) e = record { who = who; at = e }
+
+-- and hasn't made all its calls, and its query lets the call in
+pub record IsLetIn (member : Member) (call : Call) : Type 0 where
+  pub unspent : nat_lt member.calls (2 ^ 56) ≡ true
+  pub allowed : refusal_by_query (is_some (option_map snapshot member.query)) call ≡ None
+
+pub IsLetIn-from : (system : System) (client : ℕ) (member : Member) (call : Call) → seat client system.members ≡ Some member → refusal (state_of system) client call ≡ None → IsLetIn member call
+IsLetIn-from system client member call at accepted = go (nat_lt member.calls (2 ^ 56)) refl (sym (refusal_there system client member call at) ∙ accepted)
+  where
+    go : (b : Bool) → nat_lt member.calls (2 ^ 56) ≡ b → cond b (refusal_by_query (is_some (option_map snapshot member.query)) call) (Some Spent) ≡ None → IsLetIn member call
+    go true e h = record { unspent = e; allowed = h }
+    go false e h = absurd (cc)
+
+query_stays : (limits : Limits) (before after : List (Option Version)) (scan : Option Scan) (query : Option Open)
+    → ((open_ : Open) → query ≡ Some open_ → shown open_.commits after ≡ shown open_.commits before)
+    → StandsForQuery limits before scan query → StandsForQuery limits after scan query
+query_stays limits before after None None same h = tt
+query_stays limits before after (Some scan) (Some query) same h = record {
+  ask = h.ask;
+  stamp = h.stamp;
+  size = h.size;
+  some = h.some;
+  left = h.left;
+  blocks = h.blocks;
+  partial = h.partial ∙ ap (λ l. levels_for scan.ask (entries l)) (sym (visible_take scan.stamp (scan.done * scan.size) before after
+      (subst (λ n. shown n after ≡ shown n before) (sym h.stamp) (same query refl))));
+}
+query_stays limits before after None (Some query) same h = absurd h
+query_stays limits before after (Some scan) None same h = absurd h
+
+-- a legal op leaves what a client's query stands for
+pub member_stays : (running : Running) (system : System) (op : Op) (client : ℕ) → StandsForSystem running system → IsLegal (state_of system) running.contents op
+    → (scan : Option (Option Scan)) (member : Option Member) → seat client system.members ≡ member → StandsForMember running.limits running.contents.slots scan member → StandsForMember running.limits (applied running.contents op).slots scan member
+member_stays running system op client h legal None None at s = tt
+member_stays running system op client h legal (Some scan) (Some member) at s =
+    query_stays running.limits running.contents.slots (applied running.contents op).slots scan member.query
+    (λ query is. shown_applied running.contents (state_of system) op client (snapshot query) h.store legal (begun_there system client member at ∙ ap (option_map snapshot) is)) s
+member_stays running system op client h legal None (Some member) at s = absurd s
+member_stays running system op client h legal (Some scan) None at s = absurd s
+
+-- a client that is there has a place
+pub record HasPlace (running : Running) (client : ℕ) (member : Member) : Type 0 where
+  pub scan : Option Scan
+  pub at : seat client running.scans ≡ Some scan
+  pub stands : StandsForQuery running.limits running.contents.slots scan member.query
+
+pub HasPlace-from : (running : Running) (system : System) (client : ℕ) (member : Member) → StandsForSystem running system → seat client system.members ≡ Some member → HasPlace running client member
+HasPlace-from running system client member h at = go (seat client running.scans) refl (subst (StandsForMember running.limits running.contents.slots (seat client running.scans)) at (h.members client))
+  where
+    go : (o : Option (Option Scan)) → seat client running.scans ≡ o → StandsForMember running.limits running.contents.slots o (Some member) → HasPlace running client member
+    go None e s = absurd s
+    go (Some scan) e s = record { scan = scan; at = e; stands = s }
+
+-- A numbered call.
+pub numbered_stands : (running : Running) (system next : System) (op : Op) (member new : Member) (scan : Option Scan) → seat op.client system.members ≡ Some member → StandsForSystem running system → IsLegal (state_of system) running.contents op
+    → state_of next ≡ after running.limits.capacity (state_of system) op.client op.call
+    → next.members ≡ with_seat op.client new system.members
+    → StandsForQuery running.limits (applied running.contents op).slots scan new.query
+    → StandsForSystem (record { contents = applied running.contents op; limits = running.limits; scans = with_seat op.client scan running.scans }) next
+numbered_stands running system next op member new scan at h legal is members mine = record {
+  store = subst (StandsFor (applied running.contents op)) (sym is) (subst (λ n. StandsFor (applied running.contents op) (after n (state_of system) op.client op.call)) h.capacity (applied_stands running.contents (state_of system) op h.store legal));
+  capacity = length-applied running.contents (state_of system) op h.store legal ∙ h.capacity;
+  members = λ client. ⊎_elim (same client) (others client) (cases_eq client op.client);
+}
+  where
+    Stands : Option (Option Scan) → Option Member → Type 0
+    Stands = StandsForMember running.limits (applied running.contents op).slots
+
+    same : (client : ℕ) → client ≡ op.client → StandsForMember running.limits (applied running.contents op).slots (seat client (with_seat op.client scan running.scans)) (seat client next.members)
+    same client e =
+        let place = HasPlace-from running system op.client member h at in
+        subst (λ n. StandsForMember running.limits (applied running.contents op).slots (seat n (with_seat op.client scan running.scans)) (seat n next.members)) (sym e)
+        (subst (StandsForMember running.limits (applied running.contents op).slots (seat op.client (with_seat op.client scan running.scans))) (sym (ap (seat op.client) members ∙ seat-with_seat_same system.members op.client member new at))
+        (subst (λ o. StandsForMember running.limits (applied running.contents op).slots o (Some new)) (sym (seat-with_seat_same running.scans op.client place.scan scan place.at)) mine))
+
+    others : (client : ℕ) → (client ≡ op.client → ⊥) → StandsForMember running.limits (applied running.contents op).slots (seat client (with_seat op.client scan running.scans)) (seat client next.members)
+    others client n =
+        subst (StandsForMember running.limits (applied running.contents op).slots (seat client (with_seat op.client scan running.scans))) (sym (ap (seat client) members ∙ seat-with_seat_other system.members client op.client new n))
+        (subst (λ o. StandsForMember running.limits (applied running.contents op).slots o (seat client system.members)) (sym (seat-with_seat_other running.scans client op.client scan n))
+        (member_stays running system op client h legal (seat client running.scans) (seat client system.members) refl (h.members client)))
+
+-- A change.
+pub changed_stands : (running : Running) (system : System) (op : Op) (member : Member) (done : Reply) → seat op.client system.members ≡ Some member → StandsForSystem running system → IsLegal (state_of system) running.contents op → is_change op.call ≡ true
+    → StandsForSystem (record { contents = applied running.contents op; limits = running.limits; scans = running.scans })
+    (changed (outcome running.limits.capacity (state_of system) op.call) done op.call (counted_with member.query op.client member system)).next
+changed_stands running system op member done at h legal c =
+    let place = HasPlace-from running system op.client member h at in
+    let stays = member_stays running system op op.client h legal (Some place.scan) (Some member) at place.stands in
+    let all = numbered_stands running system _ op member (record { calls = suc member.calls; query = member.query }) place.scan at h legal
+    (state_of-changed running.limits.capacity system op.client member op.call done at c)
+    (members-changed (outcome running.limits.capacity (state_of system) op.call) done op.call (counted_with member.query op.client member system)) stays in
+    subst (λ s. StandsForSystem (record { contents = applied running.contents op; limits = running.limits; scans = s }) (changed (outcome running.limits.capacity (state_of system) op.call) done op.call (counted_with member.query op.client member system)).next)
+    (with_seat_self op.client running.scans place.scan place.at) all
+
+-- A query begins, or ends.
+pub queried_stands : (running : Running) (system : System) (op : Op) (member : Member) (scan : Option Scan) (query : Option Open) → seat op.client system.members ≡ Some member → StandsForSystem running system → IsLegal (state_of system) running.contents op → is_change op.call ≡ false
+    → option_map snapshot query ≡ begun_after (state_of system) op.call (option_map snapshot member.query)
+    → StandsForQuery running.limits (applied running.contents op).slots scan query
+    → StandsForSystem (record { contents = applied running.contents op; limits = running.limits; scans = with_seat op.client scan running.scans }) (counted_with query op.client member system)
+queried_stands running system op member scan query at h legal c e mine =
+    numbered_stands running system (counted_with query op.client member system) op member (record { calls = suc member.calls; query = query }) scan at h legal
+    (state_of-counted system op.client member op.call query at e ∙ sym (after_quiet running.limits.capacity system op.client op.call c)) refl mine
+
+zero_blocks : (n : ℕ) → 0 * n ≡ 0
+zero_blocks n = omega arith
+
+pub follows_begun : (limits : Limits) (slots : List (Option Version)) (ask : Question) (system : System) (stamp : ℕ) → stamp ≡ system.commits → 1 ≤ limits.block
+    → Follows limits slots (begin ask stamp limits) (record { ask = ask; table = system.table; commits = system.commits; left = blocks limits })
+follows_begun limits slots ask system stamp here some = record {
+  ask = refl;
+  stamp = here;
+  size = refl;
+  some = some;
+  left = refl;
+  blocks = omega arith;
+  partial = nothing ∙ ap (λ n. levels_for ask (entries (visible stamp (take n slots)))) (sym (zero_blocks limits.block));
+}
+  where
+    nothing : (begin ask stamp limits).partial ≡ levels_for ask []
+    nothing = levels_of_none (entry_order (order_of ask)) (cut_of ask.mode)
+
+-- A scan: the client's query is another, and nothing else has changed.
+pub scanned_stands : (running : Running) (system : System) (client : ℕ) (member : Member) (scan : Scan) (query : Open) → seat client system.members ≡ Some member → option_map snapshot member.query ≡ Some (snapshot query) → StandsForSystem running system
+    → Follows running.limits running.contents.slots scan query
+    → StandsForSystem (record { contents = running.contents; limits = running.limits; scans = with_seat client (Some scan) running.scans }) (scanned_with query client member system)
+scanned_stands running system client member scan query at same h mine = record {
+  store = subst (StandsFor running.contents) (sym unchanged) h.store;
+  capacity = h.capacity;
+  members = λ other. ⊎_elim (here other) (others other) (cases_eq other client);
+}
+  where
+    new : Member
+    new = record { calls = member.calls; query = Some query }
+
+    unchanged : state_of (scanned_with query client member system) ≡ state_of system
+    unchanged =
+        let clients = with_seat-map client_of client (record { calls = member.calls; query = Some query }) system.members
+        ∙ ap (λ (b : Option Snapshot). with_seat client (record { calls = member.calls; begun = b }) (map client_of system.members)) (sym same)
+        ∙ with_seat_self client (map client_of system.members) (client_of member) (client_there system client member at) in
+        (λ i. record { table = system.table; next_id = system.next_id; commits = system.commits; clients = clients i })
+
+    here : (other : ℕ) → other ≡ client → StandsForMember running.limits running.contents.slots (seat other (with_seat client (Some scan) running.scans)) (seat other (with_seat client (record { calls = member.calls; query = Some query }) system.members))
+    here other e =
+        let place = HasPlace-from running system client member h at in
+        subst (λ n. StandsForMember running.limits running.contents.slots (seat n (with_seat client (Some scan) running.scans)) (seat n (with_seat client (record { calls = member.calls; query = Some query }) system.members))) (sym e)
+        (subst (StandsForMember running.limits running.contents.slots (seat client (with_seat client (Some scan) running.scans))) (sym (seat-with_seat_same system.members client member (record { calls = member.calls; query = Some query }) at))
+        (subst (λ o. StandsForMember running.limits running.contents.slots o (Some (record { calls = member.calls; query = Some query }))) (sym (seat-with_seat_same running.scans client place.scan (Some scan) place.at)) mine))
+
+    others : (other : ℕ) → (other ≡ client → ⊥) → StandsForMember running.limits running.contents.slots (seat other (with_seat client (Some scan) running.scans)) (seat other (with_seat client (record { calls = member.calls; query = Some query }) system.members))
+    others other n =
+        subst (StandsForMember running.limits running.contents.slots (seat other (with_seat client (Some scan) running.scans))) (sym (seat-with_seat_other system.members other client (record { calls = member.calls; query = Some query }) n))
+        (subst (λ o. StandsForMember running.limits running.contents.slots o (seat other system.members)) (sym (seat-with_seat_other running.scans other client (Some scan) n)) (h.members other))
+
+-- what an open query found, the slots still show
+pub query_shows : (running : Running) (system : System) (client : ℕ) (member : Member) (query : Open) → StandsForSystem running system → seat client system.members ≡ Some member → member.query ≡ Some query → Shows running.contents.slots query.commits query.table
+query_shows running system client member query h at is = go (same_seat running.contents.slots running.contents.stamp running.contents.callers (state_of system).clients client h.store.clients) (begun_there system client member at ∙ ap (option_map snapshot) is)
+  where
+    shows : (b : Option ℕ) (f : Option Snapshot) → ShowsBegin running.contents.slots running.contents.stamp b f → f ≡ Some (snapshot query) → Shows running.contents.slots query.commits query.table
+    shows None None s e = absurd (cc)
+    shows (Some stamp) (Some here) s e =
+        let same : here ≡ snapshot query = cc in
+        subst (λ (k : Snapshot). Shows running.contents.slots k.commits k.table) same (subst (λ n. Shows running.contents.slots n here.table) s.0 s.2)
+    shows None (Some here) s e = absurd s
+    shows (Some stamp) None s e = absurd s
+
+    go : {a : Option Caller} {b : Option Client} → SameSeat running.contents.slots running.contents.stamp a b → elim b as (λ x. Option Snapshot) [ None ↦ None | Some who ↦ who.begun ] ≡ Some (snapshot query) → Shows running.contents.slots query.commits query.table
+    go nobody e = absurd (cc)
+    go (somebody caller who s) e = shows caller.begun who.begun s.begun e
+
+idle_is : (n : ℕ) → idle_clients n ≡ map client_of (replicate n (record { calls = 0; query = None }))
+idle_is zero = refl
+idle_is (suc n) = ap (λ l. (record { calls = 0; begun = None }) ∷ l) (idle_is n)
+
+no_place : (limits : Limits) (slots : List (Option Version)) (n client : ℕ) → StandsForMember limits slots (seat client (replicate {A = Option Scan} n None)) (seat client (replicate n (record { calls = 0; query = None })))
+no_place limits slots n zero = tt
+no_place limits slots zero (suc k) = tt
+no_place limits slots (suc n) (suc zero) = tt
+no_place limits slots (suc n) (suc (suc k)) = no_place limits slots n (suc k)
+
+-- A machine as it is opened.
+pub opened_system : (contents : Contents) (limits : Limits) (rows : List Row) (scans : List (Option Scan)) → StandsFor contents (opening limits.clients rows) → length contents.slots ≡ limits.capacity → scans ≡ replicate limits.clients None
+    → StandsForSystem (record { contents = contents; limits = limits; scans = scans }) (opened limits rows)
+opened_system contents limits rows scans store capacity none = record {
+  store = subst (StandsFor contents) (λ i. record { table = (opening limits.clients rows).table; next_id = length rows + 1; commits = length rows; clients = idle_is limits.clients i }) store;
+  capacity = capacity;
+  members = λ client. subst (λ l. StandsForMember limits contents.slots (seat client l) (seat client (replicate limits.clients (record { calls = 0; query = None })))) (sym none) (no_place limits contents.slots limits.clients client);
+}

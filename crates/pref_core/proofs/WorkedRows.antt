@@ -1,0 +1,68 @@
+-- Worked runs, computed from the definitions.
+use Rattle.std.proofs.Common.{◌≡◌, ℕ, pos, List, [], ◌∷◌, map, refl}
+use Rattle.pref_table.specs.Rows.{padded}
+use Rattle.pref_term.specs.Preference.{scored, low}
+use Rattle.pref_term.specs.Question.{Question}
+use Rattle.pref_term.specs.declared.ask.Mode.TheVariants.{Best}
+use Rattle.pref_sky.specs.declared.entry.Ranked.{Ranked}
+use Rattle.pref_core.specs.declared.event.Event.{Event}
+use Rattle.pref_core.specs.declared.event.Act.{Act}
+use Rattle.pref_core.specs.declared.event.Act.TheVariants.{Insert, Update, Delete, Begin, Scan, Finish, Abandon, Get, Room}
+use Rattle.pref_core.specs.declared.event.Reply.TheVariants.{Inserted, Updated, Deleted, Begun, Left, Answer, Abandoned, Found, Room as RoomIs, Refused}
+use Rattle.pref_core.specs.declared.fault.CoreFault.TheVariants.{NoSuchClient, QueryOpen, NoQuery, AllScanned, NotDone, NoSuchRow, Full}
+use Rattle.pref_core.specs.Rows.{Row}
+use Rattle.pref_core.specs.Limits.{Limits}
+use Rattle.pref_core.specs.Step.{replies}
+
+abbrev row : ℕ → Row
+row n = padded (pos n ∷ [])
+
+abbrev smallest : Question
+smallest = record { preference = scored (low 0); group = []; mode = Best }
+
+abbrev by : ℕ → Act → Event
+by client act = record { client = client; act = act }
+
+abbrev setup : ℕ → ℕ → Limits
+setup capacity block = record { clients = 4; capacity = capacity; block = block; window = 64 }
+
+abbrev best : ℕ → ℕ → List Ranked
+best id n = record { level = 1; id = id; row = row n } ∷ []
+
+pub a_query_sees_its_begin : replies (setup 1024 1024) []
+    (by 1 (Insert (row 30)) ∷ by 1 (Insert (row 10)) ∷ by 2 (Insert (row 20)) ∷ by 1 (Begin smallest) ∷ by 2 (Insert (row 5)) ∷ by 1 Scan ∷ by 1 Finish ∷ [])
+    ≡ Inserted 1 ∷ Inserted 2 ∷ Inserted 3 ∷ Begun 1 ∷ Inserted 4 ∷ Left 0 ∷ Answer (best 2 10) ∷ []
+a_query_sees_its_begin = refl
+
+pub an_empty_table_has_all_its_blocks : replies (setup 4 2) [] (by 1 (Begin smallest) ∷ by 1 Scan ∷ by 1 Scan ∷ by 1 Finish ∷ []) ≡ Begun 2 ∷ Left 1 ∷ Left 0 ∷ Answer [] ∷ []
+an_empty_table_has_all_its_blocks = refl
+
+pub a_deleted_row_is_still_answered : replies (setup 4 2) (map row (5 ∷ 7 ∷ 9 ∷ []))
+    (by 1 (Begin smallest) ∷ by 1 Scan ∷ by 2 (Delete 1) ∷ by 2 (Insert (row 1)) ∷ by 2 Room ∷ by 1 Scan ∷ by 1 Finish ∷ by 2 (Begin smallest) ∷ by 2 Scan ∷ by 2 Scan ∷ by 2 Finish ∷ [])
+    ≡ Begun 2 ∷ Left 1 ∷ Deleted 1 ∷ Inserted 4 ∷ RoomIs 0 ∷ Left 0 ∷ Answer (best 1 5) ∷ Begun 2 ∷ Left 1 ∷ Left 0 ∷ Answer (best 4 1) ∷ []
+a_deleted_row_is_still_answered = refl
+
+pub room_is_exact : replies (setup 2 2) (map row (1 ∷ 2 ∷ []))
+    (by 1 (Begin smallest) ∷ by 2 (Update 1 (row 9)) ∷ by 1 Abandon ∷ by 2 (Update 1 (row 9)) ∷ by 2 (Get 1) ∷ by 2 Room ∷ [])
+    ≡ Begun 1 ∷ Refused (Full 3) ∷ Abandoned ∷ Updated 1 ∷ Found 1 (row 9) ∷ RoomIs 0 ∷ []
+room_is_exact = refl
+
+pub a_full_table_takes_an_update : replies (setup 2 2) (map row (1 ∷ 2 ∷ []))
+    (by 1 (Update 2 (row 6)) ∷ by 1 Room ∷ by 1 (Insert (row 8)) ∷ by 1 (Delete 2) ∷ by 1 Room ∷ by 1 (Insert (row 8)) ∷ [])
+    ≡ Updated 2 ∷ RoomIs 0 ∷ Refused (Full 3) ∷ Deleted 2 ∷ RoomIs 1 ∷ Inserted 3 ∷ []
+a_full_table_takes_an_update = refl
+
+pub refusals_come_in_their_order : replies (setup 2 1) (map row (4 ∷ []))
+    (by 1 Finish ∷ by 1 (Begin smallest) ∷ by 1 (Begin smallest) ∷ by 1 Finish ∷ by 1 Scan ∷ by 1 Scan ∷ by 1 Scan ∷ by 1 Finish ∷ by 1 Abandon ∷ by 9 Room ∷ by 1 (Get 7) ∷ [])
+    ≡ Refused NoQuery ∷ Begun 2 ∷ Refused QueryOpen ∷ Refused (NotDone 2) ∷ Left 1 ∷ Left 0 ∷ Refused AllScanned ∷ Answer (best 1 4) ∷ Refused NoQuery ∷ Refused NoSuchClient ∷ Refused (NoSuchRow 7) ∷ []
+refusals_come_in_their_order = refl
+
+pub a_refused_insert_uses_no_id : replies (setup 2 1) []
+    (by 1 (Insert (row 4)) ∷ by 1 Finish ∷ by 1 (Begin smallest) ∷ by 1 (Begin smallest) ∷ by 1 Finish ∷ by 2 (Insert (row 3)) ∷ by 2 (Insert (row 9)) ∷ by 1 Scan ∷ by 1 Scan ∷ by 1 Scan ∷ by 1 Finish ∷ by 9 Scan ∷ by 1 Room ∷ by 1 (Delete 1) ∷ by 1 (Insert (row 6)) ∷ [])
+    ≡ Inserted 1 ∷ Refused NoQuery ∷ Begun 2 ∷ Refused QueryOpen ∷ Refused (NotDone 2) ∷ Inserted 2 ∷ Refused (Full 3) ∷ Left 1 ∷ Left 0 ∷ Refused AllScanned ∷ Answer (best 1 4) ∷ Refused NoSuchClient ∷ RoomIs 0 ∷ Deleted 1 ∷ Inserted 3 ∷ []
+a_refused_insert_uses_no_id = refl
+
+pub two_updates_under_a_query : replies (setup 3 3) (map row (5 ∷ []))
+    (by 1 (Begin smallest) ∷ by 2 (Update 1 (row 1)) ∷ by 2 (Update 1 (row 2)) ∷ by 2 Room ∷ by 1 Scan ∷ by 1 Finish ∷ by 2 Room ∷ by 2 (Get 1) ∷ [])
+    ≡ Begun 1 ∷ Updated 1 ∷ Updated 1 ∷ RoomIs 1 ∷ Left 0 ∷ Answer (best 1 5) ∷ RoomIs 2 ∷ Found 1 (row 2) ∷ []
+two_updates_under_a_query = refl

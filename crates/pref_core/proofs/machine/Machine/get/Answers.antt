@@ -1,0 +1,19 @@
+use Rattle.std.proofs.Common.{Some, None, is_some, sym, subst, ◌∙◌, ap}
+use Rattle.pref_core.specs.declared.event.Act.TheVariants.{Get as ActGet}
+use Rattle.pref_core.specs.State.{seat}
+use Rattle.pref_core.specs.Parts.{Does}
+use Rattle.pref_core.proofs.Steps.{running_of, told_get}
+use Rattle.pref_core.proofs.Doing.{get_does}
+use Rattle.pref_core.proofs.machine.Machine.get.Goals as goal
+
+pub returns-in-Some : goal.returns-in-Some
+returns-in-Some c =
+    let here = ap (λ l. is_some (seat c.args.client l)) (sym c.deref.ensures.value) ∙ sym c.is_client.ensures ∙ c.if-not-is_client.false in
+    subst (λ r. Does r c.args.client (ActGet c.args.id) (told_get c.args.id (Some c.in-Some.row)) r) c.self.view_is
+    (get_does (running_of c.self.inside.store c.self.inside.setup c.self.inside.queries.items) c.args.client c.args.id (Some c.in-Some.row) here c.in-Some.ensures)
+
+pub returns-in-None : goal.returns-in-None
+returns-in-None c =
+    let here = ap (λ l. is_some (seat c.args.client l)) (sym c.deref.ensures.value) ∙ sym c.is_client.ensures ∙ c.if-not-is_client.false in
+    subst (λ r. Does r c.args.client (ActGet c.args.id) (told_get c.args.id None) r) c.self.view_is
+    (get_does (running_of c.self.inside.store c.self.inside.setup c.self.inside.queries.items) c.args.client c.args.id None here c.in-None.ensures)

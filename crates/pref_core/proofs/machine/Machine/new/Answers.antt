@@ -1,0 +1,13 @@
+use Rattle.std.proofs.Common.{replicate, None, refl, ap, ◌∙◌}
+use Rattle.pref_core.specs.Step.{opened}
+use Rattle.pref_core.proofs.Systems.{opened_system}
+use Rattle.pref_core.proofs.machine.Machine.new.Goals as goal
+
+pub invariant_of-result : goal.invariant_of-result
+invariant_of-result c = record {
+  system = opened c.args.setup c.args.rows.now;
+  stands = opened_system c.in-Ok.store c.args.setup c.args.rows.now c.in-Ok-no_queries.queries.items c.in-Ok.ensures.state.0 c.in-Ok.ensures.state.1 (c.in-Ok-no_queries.ensures ∙ ap (λ n. replicate n None) c.clients.ensures.value);
+}
+
+pub returns-clause-opened : goal.returns-clause-opened
+returns-clause-opened c = (refl, opened_system c.in-Ok.store c.args.setup c.args.rows.now c.in-Ok-no_queries.queries.items c.in-Ok.ensures.state.0 c.in-Ok.ensures.state.1 (c.in-Ok-no_queries.ensures ∙ ap (λ n. replicate n None) c.clients.ensures.value))

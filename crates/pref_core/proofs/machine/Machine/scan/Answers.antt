@@ -1,0 +1,37 @@
+use Rattle.std.proofs.Common.{◌≡◌, length, arith, sym, subst, ◌∙◌, ap}
+use Rattle.std.specs.Vec.{with_items}
+use Rattle.std.proofs.lemmas.List.{with_items_is}
+use Rattle.pref_core.specs.State.{seat}
+use Rattle.pref_core.specs.declared.event.Act.TheVariants.{Scan as ActScan}
+use Rattle.pref_core.specs.Parts.{Does, ScansAt, NextIsNewAt}
+use Rattle.pref_core.proofs.Steps.{running_of, told_scan}
+use Rattle.pref_core.proofs.Doing.{scan_does, next_is_new_in_order, in_order_after}
+use Rattle.pref_core.proofs.machine.Machine.scan.Goals as goal
+use Rattle.pref_core.proofs.machine.Machine.scan.Goals.{in-Ok, in-Err}
+
+pub scan_at-requires : goal.scan_at-requires
+scan_at-requires c =
+    subst (λ l. NextIsNewAt (seat c.args.client l) c.self.inside.store.slots) (sym c.deref_mut.ensures.value)
+    (next_is_new_in_order (running_of c.self.inside.store c.self.inside.setup c.self.inside.queries.items) c.args.client c.self.invariant)
+
+pub invariant_of-self : goal.invariant_of-self
+invariant_of-self c =
+    let old = running_of c.self.inside.store c.self.inside.setup c.self.inside.queries.items in
+    let long : length c.scan_at.new.queries ≡ c.self.inside.queries.len = omega arith in
+    let scans = with_items_is c.self.inside.queries c.scan_at.new.queries long in
+    let says = subst (λ l. ScansAt (seat c.args.client l) c.self.inside.store.slots c.args.client l c.scan_at.result c.scan_at.new.queries) c.deref_mut.ensures.value c.scan_at.ensures in
+    let base = scan_does old c.args.client c.scan_at.result c.scan_at.new.queries says in
+    let placed = subst (λ l. Does old c.args.client ActScan (told_scan c.scan_at.result) (running_of c.self.inside.store c.self.inside.setup l)) (sym scans) base in
+    in_order_after old _ c.args.client ActScan (told_scan c.scan_at.result) c.self.invariant placed
+
+pub returns : goal.returns
+returns c =
+    let old = running_of c.self.inside.store c.self.inside.setup c.self.inside.queries.items in
+    let long : length c.scan_at.new.queries ≡ c.self.inside.queries.len = omega arith in
+    let scans = with_items_is c.self.inside.queries c.scan_at.new.queries long in
+    let says = subst (λ l. ScansAt (seat c.args.client l) c.self.inside.store.slots c.args.client l c.scan_at.result c.scan_at.new.queries) c.deref_mut.ensures.value c.scan_at.ensures in
+    let base = scan_does old c.args.client c.scan_at.result c.scan_at.new.queries says in
+    let placed = subst (λ l. Does old c.args.client ActScan (told_scan c.scan_at.result) (running_of c.self.inside.store c.self.inside.setup l)) (sym scans) base in
+    let told : c.match-scan_at.result ≡ told_scan c.scan_at.result = elim c.match-scan_at.branch [ in-Ok w ↦ w.result-is ∙ ap told_scan (sym w.in-Ok.is) | in-Err w ↦ w.result-is ∙ ap told_scan (sym w.in-Err.is) ] in
+    let same = subst (λ t. Does old c.args.client ActScan t (running_of c.self.inside.store c.self.inside.setup (with_items c.self.inside.queries c.scan_at.new.queries).items)) (sym told) placed in
+    subst (λ r. Does r c.args.client ActScan c.match-scan_at.result (running_of c.self.inside.store c.self.inside.setup (with_items c.self.inside.queries c.scan_at.new.queries).items)) c.self.view_is same

@@ -1,0 +1,13 @@
+use Rattle.std.proofs.Common.{◌≡◌, ◌≤◌, ◌++◌, length, drop}
+use Rattle.pref_core.specs.Step.{System, replies, replies_from}
+use Rattle.pref_core.specs.Systems.{StandsForSystem}
+use Rattle.pref_core.proofs.run.replay.Given as goal
+
+abbrev pub invariant-loop-event : goal.invariant-loop-event
+invariant-loop-event l = record {
+  limits : l.machine.limits ≡ l.fn.setup;
+  few : length l.fn.rows ≤ l.fn.setup.capacity;
+  system : System;
+  stands : StandsForSystem l.machine system;
+  rest : l.told.items ++ replies_from l.fn.setup system (drop (length l.yielded) l.fn.events.items) ≡ replies l.fn.setup l.fn.rows l.fn.events.items;
+}

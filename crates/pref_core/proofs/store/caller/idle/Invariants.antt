@@ -1,0 +1,5 @@
+use Rattle.std.proofs.Common.{◌≡◌, replicate, None}
+use Rattle.pref_core.proofs.store.caller.idle.Given as goal
+
+abbrev pub invariant-loop-client : goal.invariant-loop-client
+invariant-loop-client l = l.callers.items ≡ replicate l._client (record { calls = 0; begun = None })

@@ -1,0 +1,12 @@
+use Rattle.std.proofs.Common.{◌≡◌, ◌++◌, drop, replicate, None}
+use Rattle.pref_core.specs.Slots.{opening_slots}
+use Rattle.pref_core.proofs.store.opening.opening.Given as goal
+
+abbrev pub invariant-loop-row : goal.invariant-loop-row
+invariant-loop-row l = record {
+  made : l.made ≡ l.row-index;
+  rest : l.slots.items ++ opening_slots l.made (drop l.row-index l.rows) ≡ opening_slots 0 l.rows;
+}
+
+abbrev pub invariant-loop-empty : goal.invariant-loop-empty
+invariant-loop-empty l = l.slots.items ≡ opening_slots 0 l.rows ++ replicate l._empty None

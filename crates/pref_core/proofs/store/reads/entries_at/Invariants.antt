@@ -1,0 +1,7 @@
+use Rattle.std.proofs.Common.{◌≡◌, ◌++◌, drop}
+use Rattle.pref_core.specs.Table.{entries}
+use Rattle.pref_core.specs.Slots.{visible}
+use Rattle.pref_core.proofs.store.reads.entries_at.Given as goal
+
+abbrev pub invariant-loop-slot : goal.invariant-loop-slot
+invariant-loop-slot l = l.found.items ++ entries (visible l.stamp (drop l.slot-index l.slots)) ≡ entries (visible l.stamp l.slots)

@@ -1,0 +1,46 @@
+-- Histories of numbered calls, and the ops that make them.
+use Rattle.std.specs.Prelude.{◌≡◌, ℕ, List, [], ◌∷◌, map, length, true, None}
+use Rattle.pref_core.specs.declared.call.Call.{Call}
+use Rattle.pref_core.specs.declared.call.Outcome.{Outcome}
+use Rattle.pref_core.specs.declared.call.Op.{Op}
+use Rattle.pref_core.specs.State.{State, after, refusal, calls_of, outcome}
+use Rattle.pref_core.specs.Slots.{Contents, StandsFor}
+use Rattle.pref_core.specs.Operations.{IsLegal, applied, ran, same_number}
+
+-- a numbered call of a history
+pub record Numbered : Type 0 where
+  pub client : ℕ
+  pub number : ℕ
+  pub call : Call
+  pub outcome : Outcome
+
+-- the call is let in, is its client's next one, and has the outcome that it has in this state
+pub record IsLegalCall (capacity : ℕ) (state : State) (numbered : Numbered) : Type 0 where
+  pub accepted : refusal state numbered.client numbered.call ≡ None
+  pub next : same_number (calls_of state numbered.client) numbered.number ≡ true
+  pub told : numbered.outcome ≡ outcome capacity state numbered.call
+
+abbrev pub IsLegalHistory : ℕ → State → List Numbered → Type 0
+IsLegalHistory capacity state [] = Unit {0}
+IsLegalHistory capacity state (numbered ∷ rest) = IsLegalCall capacity state numbered × IsLegalHistory capacity (after capacity state numbered.client numbered.call) rest
+
+-- the state after a history
+abbrev pub state_after : ℕ → State → List Numbered → State
+state_after capacity state [] = state
+state_after capacity state (numbered ∷ rest) = state_after capacity (after capacity state numbered.client numbered.call) rest
+
+-- an op without its slot
+abbrev pub numbered_of : Op → Numbered
+numbered_of op = record { client = op.client; number = op.number; call = op.call; outcome = op.outcome }
+
+-- each op is legal at the slots that those before it leave
+abbrev pub AreLegalOps : State → Contents → List Op → Type 0
+AreLegalOps state contents [] = Unit {0}
+AreLegalOps state contents (op ∷ ops) = IsLegal state contents op × AreLegalOps (after (length contents.slots) state op.client op.call) (applied contents op) ops
+
+-- Ops that are legal one after the other are, slots dropped, a legal history, and their fold stands for the state after it.
+abbrev pub OpsAreHistory : Type 0
+OpsAreHistory = (contents : Contents) (state : State) (ops : List Op) → StandsFor contents state → AreLegalOps state contents ops
+    → IsLegalHistory (length contents.slots) state (map numbered_of ops)
+    × StandsFor (ran contents ops) (state_after (length contents.slots) state (map numbered_of ops))
+    × (length (ran contents ops).slots ≡ length contents.slots)

@@ -1,0 +1,14 @@
+pub mod Rows
+pub mod Limits
+pub mod Table
+pub mod State
+pub mod Step
+pub mod History
+pub mod Slots
+pub mod Operations
+pub mod Stability
+pub mod Scans
+pub mod Systems
+pub mod Laws
+pub mod Bounds
+pub mod Parts

@@ -1,0 +1,161 @@
+-- The sequential table's state, and what a numbered call does to it.
+use Rattle.std.specs.Prelude.{ℕ, zero, suc, ◌+◌, ◌^◌, List, [], ◌∷◌, ◌++◌, length, Bool, true, false, not, ◌&&◌, nat_lt, if◌then◌else◌, Option, Some, None, is_some, slice_get, slice_set}
+use Rattle.std.specs.List.{find}
+use Rattle.pref_core.specs.Rows.{Row}
+use Rattle.pref_core.specs.declared.call.Call.{Call}
+use Rattle.pref_core.specs.declared.call.Call.TheVariants.{Insert, Update, Delete, Begin, Finish, Abandon}
+use Rattle.pref_core.specs.declared.call.Outcome.{Outcome}
+use Rattle.pref_core.specs.declared.call.Outcome.TheVariants.{Added, Done, NoSuchRow, Full}
+use Rattle.pref_core.specs.declared.fault.CoreFault.{CoreFault}
+use Rattle.pref_core.specs.declared.fault.CoreFault.TheVariants.{NoSuchClient, Spent, QueryOpen, NoQuery}
+use Rattle.pref_core.specs.Table.{Line, Key, has, without, with_rows, keys, different}
+use Rattle.pref_sky.specs.declared.entry.Entry.{Entry}
+
+-- the table as an open query found it at its begin
+pub record Snapshot : Type 0 where
+  pub table : List Line
+  pub commits : ℕ
+
+-- a client: how many numbered calls it has made, and what its open query found
+pub record Client : Type 0 where
+  pub calls : ℕ
+  pub begun : Option Snapshot
+
+pub record State : Type 0 where
+  pub table : List Line
+  pub next_id : ℕ
+  pub commits : ℕ
+  pub clients : List Client
+
+-- the opening rows as commits 1, 2, .. with ids 1, 2, ..
+abbrev pub opening_table : ℕ → List Row → List Line
+opening_table before [] = []
+opening_table before (row ∷ rows) = record { id = suc before; made = suc before; row = row } ∷ opening_table (suc before) rows
+
+abbrev pub idle_clients : ℕ → List Client
+idle_clients zero = []
+idle_clients (suc n) = record { calls = 0; begun = None } ∷ idle_clients n
+
+abbrev pub opening : ℕ → List Row → State
+opening clients rows = record { table = opening_table 0 rows; next_id = length rows + 1; commits = length rows; clients = idle_clients clients }
+
+-- what a client has, of which the first has the number 1
+abbrev pub seat : {X : Type 0} → ℕ → List X → Option X
+seat zero xs = None
+seat (suc k) xs = slice_get xs k
+
+abbrev pub with_seat : {X : Type 0} → ℕ → X → List X → List X
+with_seat zero x xs = xs
+with_seat (suc k) x xs = slice_set xs k x
+
+-- the refusals that leave a call without a number
+abbrev pub refusal_by_query : Bool → Call → Option CoreFault
+refusal_by_query true Begin = Some QueryOpen
+refusal_by_query false Finish = Some NoQuery
+refusal_by_query false Abandon = Some NoQuery
+refusal_by_query is_open call = None
+
+abbrev pub refusal_of : Option ℕ → Bool → Call → Option CoreFault
+refusal_of None is_open call = Some NoSuchClient
+refusal_of (Some calls) is_open call = if nat_lt calls (2 ^ 56) then refusal_by_query is_open call else Some Spent
+
+abbrev pub calls_of : State → ℕ → Option ℕ
+calls_of state client = elim (seat client state.clients) [ None ↦ None | Some found ↦ Some found.calls ]
+
+abbrev pub begun_of : State → ℕ → Option Snapshot
+begun_of state client = elim (seat client state.clients) [ None ↦ None | Some found ↦ found.begun ]
+
+abbrev pub refusal : State → ℕ → Call → Option CoreFault
+refusal state client call = refusal_of (calls_of state client) (is_some (begun_of state client)) call
+
+-- the ids whose rows a call ends, and the rows that it begins
+abbrev pub ended : Call → List ℕ
+ended (Update id row) = id ∷ []
+ended (Delete id) = id ∷ []
+ended call = []
+
+abbrev pub begun : ℕ → Call → List Entry
+begun next_id (Insert row) = record { id = next_id; row = row } ∷ []
+begun next_id (Update id row) = record { id = id; row = row } ∷ []
+begun next_id call = []
+
+-- how many ids a call uses up
+abbrev pub added : Call → ℕ
+added (Insert row) = 1
+added call = 0
+
+-- whether a call is a commit where it isn't refused
+abbrev pub is_change : Call → Bool
+is_change (Insert row) = true
+is_change (Update id row) = true
+is_change (Delete id) = true
+is_change call = false
+
+-- one commit: these rows out and those in, all with one number
+abbrev pub committed : Call → State → State
+committed call state = record {
+  table = with_rows (suc state.commits) (begun state.next_id call) (without (ended call) state.table);
+  next_id = state.next_id + added call;
+  commits = suc state.commits;
+  clients = state.clients;
+}
+
+-- the tables that open queries found
+abbrev pub found_tables : List Client → List Line
+found_tables [] = []
+found_tables (client ∷ clients) = elim client.begun [ None ↦ found_tables clients | Some snapshot ↦ snapshot.table ++ found_tables clients ]
+
+-- the versions that are in the table or that an open query needs
+abbrev pub needed : State → List Key
+needed state = different (keys (state.table ++ found_tables state.clients))
+
+-- the first of these ids that isn't in the table
+abbrev pub missing : List ℕ → List Line → Option ℕ
+missing ids table = find (λ id. not (has table id)) ids
+
+abbrev pub granted : ℕ → Call → Outcome
+granted next_id (Insert row) = Added next_id
+granted next_id call = Done
+
+-- whether the call begins a row, so that there must be room
+abbrev pub begins_row : Call → Bool
+begins_row (Insert row) = true
+begins_row (Update id row) = true
+begins_row call = false
+
+-- the outcome of a change by whether it begins a row, the first id that it misses and the size of `needed` after it
+abbrev pub outcome_of : ℕ → Bool → Option ℕ → ℕ → Outcome → Outcome
+outcome_of capacity begins (Some id) after granted = NoSuchRow id
+outcome_of capacity begins None after granted = if begins && nat_lt capacity after then Full after else granted
+
+abbrev pub outcome : ℕ → State → Call → Outcome
+outcome capacity state call = if is_change call
+    then outcome_of capacity (begins_row call) (missing (ended call) state.table) (length (needed (committed call state))) (granted state.next_id call)
+    else Done
+
+-- whether the call did what it asked
+abbrev pub succeeds : Outcome → Bool
+succeeds (Added id) = true
+succeeds Done = true
+succeeds (NoSuchRow id) = false
+succeeds (Full needed) = false
+
+-- the open query that a call leaves
+abbrev pub begun_after : State → Call → Option Snapshot → Option Snapshot
+begun_after state Begin found = Some (record { table = state.table; commits = state.commits })
+begun_after state Finish found = None
+begun_after state Abandon found = None
+begun_after state call found = found
+
+-- the client has made one call more
+abbrev pub counted : State → ℕ → Call → List Client
+counted state client call = elim (seat client state.clients) [
+  | None ↦ state.clients
+  | Some found ↦ with_seat client (record { calls = suc found.calls; begun = begun_after state call found.begun }) state.clients
+]
+
+-- the state after a numbered call, one that isn't refused 1 to 4
+abbrev pub after : ℕ → State → ℕ → Call → State
+after capacity state client call =
+    let noted = record state { clients = counted state client call } in
+    if is_change call then (if succeeds (outcome capacity state call) then committed call noted else noted) else noted

@@ -1,0 +1,134 @@
+-- The sequential table, event by event: the reply to each, and the state after it. (this project)
+use Rattle.std.specs.Prelude.{ℕ, suc, ◌+◌, ◌-◌, ◌^◌, List, [], ◌∷◌, map, length, nat_lt, if◌then◌else◌, Option, Some, None, replicate}
+use Rattle.std.specs.Option.{option_map}
+use Rattle.pref_term.specs.Question.{Question}
+use Rattle.pref_sky.specs.Answers.{answer_of}
+use Rattle.pref_core.specs.declared.call.Call.{Call}
+use Rattle.pref_core.specs.declared.call.Call.TheVariants.{Insert as CallInsert, Update as CallUpdate, Delete as CallDelete}
+use Rattle.pref_core.specs.declared.call.Outcome.{Outcome}
+use Rattle.pref_core.specs.declared.call.Outcome.TheVariants.{Added, Done, NoSuchRow, Full}
+use Rattle.pref_core.specs.declared.event.Event.{Event}
+use Rattle.pref_core.specs.declared.event.Act.{Act}
+use Rattle.pref_core.specs.declared.event.Act.TheVariants.{Insert, Update, Delete, Begin, Scan, Finish, Abandon, Get, Room}
+use Rattle.pref_core.specs.declared.event.Reply.{Reply}
+use Rattle.pref_core.specs.declared.event.Reply.TheVariants.{Inserted, Updated, Deleted, Begun, Left, Answer, Abandoned, Found, Room as RoomIs, Refused}
+use Rattle.pref_core.specs.declared.fault.CoreFault.{CoreFault}
+use Rattle.pref_core.specs.declared.fault.CoreFault.TheVariants.{NoSuchClient, Spent, QueryOpen, NoQuery, AllScanned, NotDone, NoSuchRow as MissingRow, Full as TooFull}
+use Rattle.pref_core.specs.Rows.{Row}
+use Rattle.pref_core.specs.Limits.{Limits, blocks}
+use Rattle.pref_core.specs.Table.{Line, line_of, entries}
+use Rattle.pref_core.specs.State.{State, Client, Snapshot, seat, with_seat, committed, outcome, needed, opening_table}
+
+-- an open query: its question, the table and the number of commits at its begin, and how many blocks it hasn't scanned
+pub record Open : Type 0 where
+  pub ask : Question
+  pub table : List Line
+  pub commits : ℕ
+  pub left : ℕ
+
+-- a client: how many numbered calls it has made, and its open query
+pub record Member : Type 0 where
+  pub calls : ℕ
+  pub query : Option Open
+
+pub record System : Type 0 where
+  pub table : List Line
+  pub next_id : ℕ
+  pub commits : ℕ
+  pub members : List Member
+
+-- What a history of calls determines: the system with asks and blocks left out of account.
+abbrev pub snapshot : Open → Snapshot
+snapshot query = record { table = query.table; commits = query.commits }
+
+abbrev pub client_of : Member → Client
+client_of member = record { calls = member.calls; begun = option_map snapshot member.query }
+
+abbrev pub state_of : System → State
+state_of system = record { table = system.table; next_id = system.next_id; commits = system.commits; clients = map client_of system.members }
+
+-- what comes of an event
+pub record Step : Type 0 where
+  pub reply : Reply
+  pub next : System
+
+-- a refusal that changes nothing
+abbrev pub refused : CoreFault → System → Step
+refused fault system = record { reply = Refused fault; next = system }
+
+-- the client has made one call more, and has this query
+abbrev pub counted_with : Option Open → ℕ → Member → System → System
+counted_with query client member system = record system { members = with_seat client (record { calls = suc member.calls; query = query }) system.members }
+
+-- one block less is left
+abbrev pub one_less : Open → Open
+one_less query = record query { left = query.left - 1 }
+
+abbrev pub scanned_with : Open → ℕ → Member → System → System
+scanned_with query client member system = record system { members = with_seat client (record { calls = member.calls; query = Some query }) system.members }
+
+-- the rows and numbers after one commit
+abbrev pub commit : Call → System → System
+commit call system = let state = committed call (state_of system) in record { table = state.table; next_id = state.next_id; commits = state.commits; members = system.members }
+
+-- a change by its outcome: it counts a call, and where it succeeds it is one commit
+abbrev pub changed : Outcome → Reply → Call → System → Step
+changed (NoSuchRow id) done call counted = record { reply = Refused (MissingRow id); next = counted }
+changed (Full size) done call counted = record { reply = Refused (TooFull size); next = counted }
+changed (Added id) done call counted = record { reply = done; next = commit call counted }
+changed Done done call counted = record { reply = done; next = commit call counted }
+
+abbrev pub change : Limits → System → ℕ → Member → Call → Reply → Step
+change limits system client member call done = changed (outcome limits.capacity (state_of system) call) done call (counted_with member.query client member system)
+
+-- a call that is numbered: a client makes 2^56 at most
+abbrev pub numbered : Member → System → Step → Step
+numbered member system step = if nat_lt member.calls (2 ^ 56) then step else refused Spent system
+
+-- a query ends with its answer once no block is left
+abbrev pub finish : ℕ → Member → System → Open → Step
+finish client member system query = if nat_lt 0 query.left
+    then refused (NotDone query.left) system
+    else record { reply = Answer (answer_of query.ask (entries query.table)); next = counted_with None client member system }
+
+abbrev pub scan : ℕ → Member → System → Open → Step
+scan client member system query = if nat_lt 0 query.left
+    then record { reply = Left (query.left - 1); next = scanned_with (one_less query) client member system }
+    else refused AllScanned system
+
+-- what comes of a client's act, by its open query
+abbrev pub step_of : Limits → System → ℕ → Member → Act → Option Open → Step
+step_of limits system client member (Insert row) query = numbered member system (change limits system client member (CallInsert row) (Inserted system.next_id))
+step_of limits system client member (Update id row) query = numbered member system (change limits system client member (CallUpdate id row) (Updated id))
+step_of limits system client member (Delete id) query = numbered member system (change limits system client member (CallDelete id) (Deleted id))
+step_of limits system client member (Begin ask) None = numbered member system (record {
+  reply = Begun (blocks limits);
+  next = counted_with (Some (record { ask = ask; table = system.table; commits = system.commits; left = blocks limits })) client member system;
+})
+step_of limits system client member (Begin ask) (Some query) = numbered member system (refused QueryOpen system)
+step_of limits system client member Scan None = refused NoQuery system
+step_of limits system client member Scan (Some query) = scan client member system query
+step_of limits system client member Finish None = numbered member system (refused NoQuery system)
+step_of limits system client member Finish (Some query) = numbered member system (finish client member system query)
+step_of limits system client member Abandon None = numbered member system (refused NoQuery system)
+step_of limits system client member Abandon (Some query) = numbered member system (record { reply = Abandoned; next = counted_with None client member system })
+step_of limits system client member (Get id) query = record { reply = elim (line_of system.table id) [ None ↦ Refused (MissingRow id) | Some line ↦ Found id line.row ]; next = system }
+step_of limits system client member Room query = record { reply = RoomIs (limits.capacity - length (needed (state_of system))); next = system }
+
+abbrev pub step : Limits → System → Event → Step
+step limits system event = elim (seat event.client system.members) [
+  | None ↦ refused NoSuchClient system
+  | Some member ↦ step_of limits system event.client member event.act member.query
+]
+
+-- the opening rows as commits 1, 2, .. with ids 1, 2, .., and no call made
+abbrev pub opened : Limits → List Row → System
+opened limits rows = record { table = opening_table 0 rows; next_id = length rows + 1; commits = length rows; members = replicate limits.clients (record { calls = 0; query = None }) }
+
+-- the replies along the list of events
+abbrev pub replies_from : Limits → System → List Event → List Reply
+replies_from limits system [] = []
+replies_from limits system (event ∷ events) = (step limits system event).reply ∷ replies_from limits (step limits system event).next events
+
+abbrev pub replies : Limits → List Row → List Event → List Reply
+replies limits rows events = replies_from limits (opened limits rows) events

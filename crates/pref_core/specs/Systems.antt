@@ -1,0 +1,78 @@
+-- What runs, the system that it stands for, and a step of it. (this project)
+use Rattle.std.specs.Prelude.{◌≡◌, ℕ, ◌+◌, ◌*◌, ◌≤◌, take, List, length, Bool, true, false, Option, Some, None, Result, Ok, Err, MatchResult, ◌⊎◌}
+use Rattle.pref_core.specs.declared.store.version.Version.{Version}
+use Rattle.pref_core.specs.declared.fault.CoreFault.{CoreFault}
+use Rattle.pref_core.specs.declared.fault.CoreFault.TheVariants.{OutOfMemory}
+use Rattle.pref_core.specs.declared.event.Act.{Act}
+use Rattle.pref_core.specs.declared.event.Act.TheVariants.{Scan as ActScan, Finish as ActFinish}
+use Rattle.pref_core.specs.declared.event.Event.{Event}
+use Rattle.pref_core.specs.declared.event.Reply.{Reply}
+use Rattle.pref_core.specs.declared.event.Reply.TheVariants.{Refused}
+use Rattle.pref_core.specs.declared.event.StepFault.{StepFault}
+use Rattle.pref_core.specs.Limits.{Limits, blocks}
+use Rattle.pref_core.specs.Table.{entries}
+use Rattle.pref_core.specs.State.{seat}
+use Rattle.pref_core.specs.Step.{Open, Member, System, Step, state_of, step}
+use Rattle.pref_core.specs.Slots.{Contents, StandsFor, visible}
+use Rattle.pref_core.specs.Scans.{Scan, levels_for}
+
+-- a store, its limits, and for each client its open query
+pub record Running : Type 0 where
+  pub contents : Contents
+  pub limits : Limits
+  pub scans : List (Option Scan)
+
+-- A query on its way holds the levels of what its blocks showed at its begin, and they show it still.
+pub record Follows (limits : Limits) (slots : List (Option Version)) (scan : Scan) (query : Open) : Type 0 where
+  pub ask : scan.ask ≡ query.ask
+  pub stamp : scan.stamp ≡ query.commits
+  pub size : scan.size ≡ limits.block
+  pub some : 1 ≤ limits.block
+  pub left : scan.left ≡ query.left
+  pub blocks : scan.done + scan.left ≡ blocks limits
+  pub partial : scan.partial ≡ levels_for scan.ask (entries (visible scan.stamp (take (scan.done * scan.size) slots)))
+
+abbrev pub StandsForQuery : Limits → List (Option Version) → Option Scan → Option Open → Type 0
+StandsForQuery limits slots None None = Unit {0}
+StandsForQuery limits slots (Some scan) (Some query) = Follows limits slots scan query
+StandsForQuery limits slots None (Some query) = ⊥
+StandsForQuery limits slots (Some scan) None = ⊥
+
+-- a client's place and the client: both or none
+abbrev pub StandsForMember : Limits → List (Option Version) → Option (Option Scan) → Option Member → Type 0
+StandsForMember limits slots None None = Unit {0}
+StandsForMember limits slots (Some scan) (Some member) = StandsForQuery limits slots scan member.query
+StandsForMember limits slots None (Some member) = ⊥
+StandsForMember limits slots (Some scan) None = ⊥
+
+pub record StandsForSystem (running : Running) (system : System) : Type 0 where
+  pub store : StandsFor running.contents (state_of system)
+  pub capacity : length running.contents.slots ≡ running.limits.capacity
+  pub members : (client : ℕ) → StandsForMember running.limits running.contents.slots (seat client running.scans) (seat client system.members)
+
+-- whether an act may be answered out of memory
+abbrev pub may_want_memory : Act → Bool
+may_want_memory ActScan = true
+may_want_memory ActFinish = true
+may_want_memory act = false
+
+abbrev pub is_refusal : Reply → Bool
+is_refusal (Refused fault) = true
+is_refusal reply = false
+
+-- What is told is the system's reply, and what runs stands for the next system; or memory is wanting, and nothing has changed.
+abbrev pub Tells : Running → Step → Act → Result Reply CoreFault → Running → Type 0
+Tells before right act result after = MatchResult result
+    (λ told. (told ≡ right.reply) × (is_refusal told ≡ false) × StandsForSystem after right.next)
+    (λ fault. ((Refused fault ≡ right.reply) × StandsForSystem after right.next)
+    ⊎ ((fault ≡ OutOfMemory) × (may_want_memory act ≡ true) × (after ≡ before)))
+
+-- the fault alone
+abbrev pub without_event : Result Reply StepFault → Result Reply CoreFault
+without_event result = elim result [ Ok told ↦ Ok told | Err fault ↦ Err fault.fault ]
+
+-- A step is the system's, in each system that what runs stands for, and a refusal hands the event back.
+pub record Steps (before : Running) (event : Event) (result : Result Reply StepFault) (after : Running) : Type 0 where
+  pub limits : after.limits ≡ before.limits
+  pub tells : (system : System) → StandsForSystem before system → Tells before (step before.limits system event) event.act (without_event result) after
+  pub handed_back : MatchResult result (λ told. Unit {0}) (λ fault. fault.event ≡ event)

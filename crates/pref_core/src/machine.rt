@@ -1,0 +1,218 @@
+//! A store and a place for one query of each client, and a step of them for each event.
+
+mod seats;
+
+ghost use Rattle.std.specs.Prelude.{true, false, ◌≡◌, ◌<◌, length, Ok, Err, IfOk, IfErr, MatchResult, ◌⊎◌, ◌↔◌};
+ghost use Rattle.pref_core.specs.State.{is_change};
+ghost use Rattle.pref_core.specs.Step.{opened};
+ghost use Rattle.pref_core.specs.Systems.{Running, StandsForSystem, Steps, is_refusal, without_event};
+ghost use Rattle.pref_core.specs.Parts.{Does, Changes, is_begin, told_of};
+
+use crate::call::{Call, Outcome};
+use crate::event::{Act, Event, RankedList, Reply, StepFault};
+use crate::fault::CoreFault;
+use crate::query::Query;
+use crate::setup::Setup;
+use crate::store::Store;
+use pref_table::Row;
+use seats::{answer_at, is_client, no_queries, scan_at, set};
+use std::alloc::Global;
+use std::marker::Model;
+
+/// A table with its clients.
+#[derive(Drop)]
+pub struct Machine {
+    store: Store,
+    setup: Setup,
+    queries: Vec<Option<Query>>,
+}
+
+impl Model for Machine {
+    ghost use Rattle.pref_core.specs.Systems.{Running};
+    ghost use Rattle.pref_core.specs.Parts.{IsInOrder};
+    ghost use Rattle.pref_term.specs.PreferenceCode.{coded_question};
+    ghost use Rattle.std.specs.Coded.{codes};
+
+    ghost Value = { Running };
+
+    ghost coded = { Prim.hlevel (codes, coded_question) };
+
+    ghost view = { λ m. record { contents = m.store; limits = m.setup; scans = m.queries.items } };
+
+    ghost invariant = { λ m. IsInOrder (record { contents = m.store; limits = m.setup; scans = m.queries.items }) };
+}
+
+impl Machine {
+    /// A store with the opening rows, and no open query.
+    pub fn new(alloc: Global, setup: Setup, rows: &[Row]) -> Result<Machine, CoreFault>
+        ensures opened { IfOk result (λ machine. (machine.limits ≡ setup) × StandsForSystem machine (opened setup rows.now)) }
+        ensures full { result ≡ Err (CoreFault.Full (length rows.now)) ↔ (setup.capacity < length rows.now) }
+        ensures other { IfErr result (λ fault. (fault ≡ CoreFault.OutOfMemory) ⊎ (setup.capacity < length rows.now)) }
+    {
+        let store = match Store::new(alloc, &setup, rows) {
+            Ok(store) => store,
+            Err(fault) => return Err(fault),
+        };
+        let Ok(queries) = no_queries(alloc, setup.clients()) else {
+            return Err(CoreFault::OutOfMemory);
+        };
+        Ok(Machine {
+            store,
+            setup,
+            queries,
+        })
+    }
+
+    /// One event, and its reply. A refused event is handed back.
+    pub fn step(&mut self, alloc: Global, event: Event) -> Result<Reply, StepFault>
+        ensures { Steps self.old event result self.new }
+    {
+        let client = event.client;
+        match &event.act {
+            Act::Insert(row) => handed_back(self.insert(client, row), event),
+            Act::Update(id, row) => handed_back(self.update(client, *id, row), event),
+            Act::Delete(id) => handed_back(self.delete(client, *id), event),
+            Act::Begin(_) => self.begin(event),
+            Act::Scan => handed_back(self.scan(alloc, client), event),
+            Act::Finish => handed_back(self.finish(alloc, client), event),
+            Act::Abandon => handed_back(self.abandon(client), event),
+            Act::Get(id) => handed_back(self.get(client, *id), event),
+            Act::Room => handed_back(self.room(client), event),
+        }
+    }
+
+    fn insert(&mut self, client: u8, row: &Row) -> Result<Reply, CoreFault>
+        ensures { Does self.old client (Act.Insert row.now) result self.new }
+    {
+        let done = Reply::Inserted(self.store.next_id());
+        self.change(client, &Call::Insert(*row), done)
+    }
+
+    fn update(&mut self, client: u8, id: u64, row: &Row) -> Result<Reply, CoreFault>
+        ensures { Does self.old client (Act.Update id row.now) result self.new }
+    {
+        self.change(client, &Call::Update(id, *row), Reply::Updated(id))
+    }
+
+    fn delete(&mut self, client: u8, id: u64) -> Result<Reply, CoreFault>
+        ensures { Does self.old client (Act.Delete id) result self.new }
+    {
+        self.change(client, &Call::Delete(id), Reply::Deleted(id))
+    }
+
+    /// A change, and the reply where it succeeds.
+    fn change(&mut self, client: u8, call: &Call, done: Reply) -> Result<Reply, CoreFault>
+        requires change { is_change call.now ≡ true }
+        requires quiet { is_refusal done ≡ false }
+        ensures { Changes self.old client call.now done result self.new }
+    {
+        let op = match self.store.plan(client, *call) {
+            Ok(op) => op,
+            Err(fault) => return Err(fault),
+        };
+        self.store.apply(&op);
+        told(op.outcome, done)
+    }
+
+    /// A query begins. A refusal hands its ask back.
+    fn begin(&mut self, event: Event) -> Result<Reply, StepFault>
+        requires { is_begin event.act ≡ true }
+        ensures { Steps self.old event result self.new }
+    {
+        let op = match self.store.plan(event.client, Call::Begin) {
+            Ok(op) => op,
+            Err(fault) => return Err(StepFault { fault, event }),
+        };
+        let Event { client, act } = event;
+        let Act::Begin(ask) = act else { unreachable!() };
+        let query = Query::begin(ask, self.store.stamp(), &self.setup);
+        self.store.apply(&op);
+        set(&mut self.queries, client, Some(query));
+        Ok(Reply::Begun(self.setup.blocks()))
+    }
+
+    /// A query scans its next block.
+    fn scan(&mut self, alloc: Global, client: u8) -> Result<Reply, CoreFault>
+        ensures { Does self.old client Act.Scan result self.new }
+    {
+        match scan_at(&mut self.queries, client, alloc, &self.store) {
+            Ok(left) => Ok(Reply::Left(left)),
+            Err(fault) => Err(fault),
+        }
+    }
+
+    /// A query ends with its answer.
+    fn finish(&mut self, alloc: Global, client: u8) -> Result<Reply, CoreFault>
+        ensures { Does self.old client Act.Finish result self.new }
+    {
+        let op = match self.store.plan(client, Call::Finish) {
+            Ok(op) => op,
+            Err(fault) => return Err(fault),
+        };
+        let ranked = match answer_at(&self.queries, client, alloc) {
+            Ok(ranked) => ranked,
+            Err(fault) => return Err(fault),
+        };
+        self.store.apply(&op);
+        set(&mut self.queries, client, None);
+        Ok(Reply::Answer(RankedList::of(ranked)))
+    }
+
+    /// A query ends without an answer.
+    fn abandon(&mut self, client: u8) -> Result<Reply, CoreFault>
+        ensures { Does self.old client Act.Abandon result self.new }
+    {
+        let op = match self.store.plan(client, Call::Abandon) {
+            Ok(op) => op,
+            Err(fault) => return Err(fault),
+        };
+        self.store.apply(&op);
+        set(&mut self.queries, client, None);
+        Ok(Reply::Abandoned)
+    }
+
+    /// The row of an id.
+    fn get(&self, client: u8, id: u64) -> Result<Reply, CoreFault>
+        ensures { Does self.now client (Act.Get id) result self.now }
+    {
+        if !is_client(&self.queries, client) {
+            return Err(CoreFault::NoSuchClient);
+        }
+        match self.store.get(id) {
+            Some(row) => Ok(Reply::Found(id, row)),
+            None => Err(CoreFault::NoSuchRow { id }),
+        }
+    }
+
+    /// How many more versions there is room for.
+    fn room(&self, client: u8) -> Result<Reply, CoreFault>
+        ensures { Does self.now client Act.Room result self.now }
+    {
+        if !is_client(&self.queries, client) {
+            return Err(CoreFault::NoSuchClient);
+        }
+        Ok(Reply::Room(self.store.room()))
+    }
+}
+
+/// The reply to a change by its outcome.
+fn told(outcome: Outcome, done: Reply) -> Result<Reply, CoreFault>
+    ensures { result ≡ told_of outcome done }
+{
+    match outcome {
+        Outcome::NoSuchRow(id) => Err(CoreFault::NoSuchRow { id }),
+        Outcome::Full(needed) => Err(CoreFault::Full { needed }),
+        Outcome::Added(_) | Outcome::Done => Ok(done),
+    }
+}
+
+/// A refusal, with the event that it hands back.
+fn handed_back(told: Result<Reply, CoreFault>, event: Event) -> Result<Reply, StepFault>
+    ensures alike { without_event result ≡ told }
+    ensures event { IfErr result (λ fault. fault.event ≡ event) }
+{
+    match told {
+        Ok(reply) => Ok(reply),
+        Err(fault) => Err(StepFault { fault, event }),
+    }
+}

@@ -1,0 +1,90 @@
+//! What a store keeps of each client.
+
+ghost use Rattle.std.specs.List.{list_any};
+ghost use Rattle.std.specs.Option.{option_to_list, unwrap_or};
+ghost use Rattle.std.specs.Prelude.{suc, IfSome, IfOk, None, option_map, replicate, ◌≡◌, ◌^◌, ◌<◌};
+ghost use Rattle.pref_core.specs.Operations.{begin_after, callers_after};
+ghost use Rattle.pref_core.specs.Slots.{is_visible};
+ghost use Rattle.pref_core.specs.State.{seat, begun};
+
+use crate::call::Call;
+use crate::store::version::Version;
+use std::alloc::{AllocError, Global};
+
+/// What is kept of a client: how many numbered calls it has made, and the stamp at its open query's begin.
+#[derive(Clone, Copy, Debug, PartialEq, Eq)]
+pub struct Caller {
+    pub calls: u64,
+    pub begun: Option<u64>,
+}
+
+/// Whether an open query's begin sees the version.
+pub(crate) fn sees(caller: &Caller, version: &Version) -> bool
+    ensures { result ≡ list_any (λ stamp. is_visible stamp version.now) (option_to_list caller.now.begun) }
+{
+    match caller.begun {
+        Some(stamp) => version.is_visible_at(stamp),
+        None => false,
+    }
+}
+
+/// What is kept of the client of this number.
+pub(crate) fn caller_of(callers: &[Caller], client: u8) -> Option<Caller>
+    ensures { result ≡ seat client callers.now }
+{
+    if client == 0 {
+        None
+    } else {
+        callers.get(client as usize - 1).copied()
+    }
+}
+
+/// How many numbered calls the client has made.
+pub(crate) fn calls_of(callers: &[Caller], client: u8) -> u64
+    ensures { result ≡ unwrap_or (option_map (λ caller. caller.calls) (seat client callers.now)) 0 }
+{
+    match caller_of(callers, client) {
+        Some(caller) => caller.calls,
+        None => 0,
+    }
+}
+
+fn counted(caller: Caller, call: &Call, stamp: u64) -> Caller
+    requires { caller.calls < 2 ^ 56 }
+    ensures { result ≡ record { calls = suc caller.calls; begun = begin_after stamp call.now caller.begun } }
+{
+    let begun = match *call {
+        Call::Begin => Some(stamp),
+        Call::Finish | Call::Abandon => None,
+        _ => caller.begun,
+    };
+    Caller {
+        calls: caller.calls + 1,
+        begun,
+    }
+}
+
+/// The client has made one call more.
+pub(crate) fn count(callers: &mut [Caller], client: u8, call: &Call, stamp: u64)
+    requires { IfSome (seat client callers.old) (λ caller. caller.calls < 2 ^ 56) }
+    ensures { callers.new ≡ callers_after stamp callers.old client call.now }
+{
+    let seat = client as usize;
+    if 0 < seat && seat <= callers.len() {
+        callers[seat - 1] = counted(callers[seat - 1], call, stamp);
+    }
+}
+
+/// Clients without a call.
+pub(crate) fn idle(alloc: Global, clients: u8) -> Result<Vec<Caller>, AllocError>
+    ensures { IfOk result (λ v. v.items ≡ replicate clients (record { calls = 0; begun = None })) }
+{
+    let mut callers = Vec::new(alloc);
+    for _client in 0..clients {
+        callers.push(Caller {
+            calls: 0,
+            begun: None,
+        })?;
+    }
+    Ok(callers)
+}

@@ -1,0 +1,51 @@
+//! Versions of rows.
+
+ghost use Rattle.std.specs.Option.{option_to_list};
+ghost use Rattle.std.specs.Prelude.{◌≡◌};
+ghost use Rattle.pref_core.specs.Operations.{close};
+ghost use Rattle.pref_core.specs.Slots.{is_visible, born};
+ghost use Rattle.pref_core.specs.State.{ended};
+
+use pref_sky::Entry;
+use pref_table::Row;
+
+/// A row from the commit that made it up to the commit that ended it.
+#[derive(Clone, Copy, Debug, PartialEq, Eq)]
+pub struct Version {
+    pub id: u64,
+    pub row: Row,
+    pub birth: u64,
+    pub death: Option<u64>,
+}
+
+impl Version {
+    pub fn is_visible_at(&self, stamp: u64) -> bool
+        ensures { result ≡ is_visible stamp self.now }
+    {
+        self.birth <= stamp && !self.death.is_some_and(|death| death <= stamp)
+    }
+}
+
+/// The slot after a commit that ends the row of this id.
+pub(crate) fn closed(slot: Option<Version>, ended: Option<u64>, stamp: u64) -> Option<Version>
+    ensures { result ≡ close (option_to_list ended) stamp slot }
+{
+    match slot {
+        Some(version) if version.death.is_none() && ended == Some(version.id) => Some(Version {
+            death: Some(stamp),
+            ..version
+        }),
+        other => other,
+    }
+}
+
+pub(crate) fn born(entry: Entry, stamp: u64) -> Option<Version>
+    ensures { result ≡ born stamp entry }
+{
+    Some(Version {
+        id: entry.id,
+        row: entry.row,
+        birth: stamp,
+        death: None,
+    })
+}
