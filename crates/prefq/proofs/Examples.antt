@@ -1,0 +1,73 @@
+-- Whole runs, worked out by computation: a script's bytes, and the bytes that they are told.
+use Rattle.std.proofs.Common.{◌≡◌, ℕ, List, [], ◌∷◌, refl}
+use Rattle.std.specs.Prelude.{codes}
+use Rattle.std.specs.Fmt.{digits}
+use Rattle.csv.specs.Machine.{next_record}
+use Rattle.csv.specs.Reading.{records_from}
+use Rattle.pref_core.specs.Limits.{Limits}
+use Rattle.pref_table.specs.Names.{schema_of}
+use Rattle.pref_table.specs.Number.{number_of}
+use Rattle.pref_table.specs.Numbered.{all_from}
+use Rattle.pref_table.specs.Rows.{row_of}
+use Rattle.pref_table.specs.Tables.{table_of, table_of_records, without_marks}
+use Rattle.pref_term.specs.Asked.{asked}
+use Rattle.prefq.specs.Commands.{act_of, commands_of, events_of}
+use Rattle.prefq.specs.Output.{output, script_of, told}
+use Rattle.prefq.specs.Script.{raw_lines}
+use Rattle.prefq.specs.Text.{level_lines}
+use Rattle.prefq.specs.Words.{after_word, said_by, said_in, verb_of, word_number, word_of}
+
+-- the limits of a run with so many slots in blocks of this size
+abbrev limits_of : ℕ → ℕ → Limits
+limits_of capacity block = record { clients = 4; capacity = capacity; block = block; window = 64 }
+
+-- lines end by a line feed, one carriage return before it is no part of a line, and the last line may lack its end
+lines_of_a_text : raw_lines (codes "a\r\n\nb") ≡ codes "a\r\n" ∷ codes "\n" ∷ codes "b" ∷ []
+unfolding raw_lines
+lines_of_a_text = refl
+
+no_table : output (limits_of 1024 1024) (codes "Table\nx\nend\n") ≡ codes "script refused: no table\n"
+unfolding raw_lines script_of
+no_table = refl
+
+no_end : output (limits_of 1024 1024) (codes "table\nx\n1\n") ≡ codes "script refused: no end\n"
+unfolding raw_lines script_of
+no_end = refl
+
+a_field_that_is_no_number : output (limits_of 1024 1024) (codes "table\nx,y\n1,2\n3,1.5\nend\n") ≡ codes "table refused 6: not whole row 2 col 2\n"
+unfolding digits next_record records_from schema_of number_of all_from row_of table_of table_of_records without_marks script_of raw_lines
+a_field_that_is_no_number = refl
+
+a_field_out_of_range : output (limits_of 1024 1024) (codes "table\nx\n9223372036854775808\nend\n") ≡ codes "table refused 7: out of range row 1 col 1\n"
+unfolding digits next_record records_from schema_of number_of all_from row_of table_of table_of_records without_marks script_of raw_lines
+a_field_out_of_range = refl
+
+rows_without_room : output (limits_of 2 1024) (codes "table\nx\n1\n2\n3\nend\nas 1 room\n") ≡ codes "opening refused 8: full needed 3\n"
+unfolding digits next_record records_from schema_of number_of all_from row_of table_of table_of_records without_marks script_of raw_lines
+rows_without_room = refl
+
+changes_of_a_full_table : output (limits_of 2 2) (codes "table\nx\n1\n2\nend\nas 1 update 2 6\nas 1 room\nas 1 insert 8\nas 1 delete 2\nas 1 room\nas 1 insert 8\n")
+    ≡ codes "1 updated 2\n1 room 0\n1 refused 8: full needed 3\n1 deleted 2\n1 room 1\n1 inserted 3\n"
+unfolding digits next_record records_from schema_of number_of all_from row_of table_of table_of_records without_marks script_of raw_lines
+    act_of commands_of events_of told after_word said_by said_in verb_of word_number word_of
+changes_of_a_full_table = refl
+
+refused_lines_between_replies : output (limits_of 1024 1024) (codes "table\r\nx,y\r\n\"5\",-7\r\nend\r\n\t as 007\troom \r\n \t\r\nas 1 get 1\r\nas 1 jump\r\nas 1 insert 1.5,2\r\nas 256 room\r\nas 1 get 2")
+    ≡ codes "7 refused 1: no such client\n1 row 1: 5,-7\nline 8 refused: command\nline 9 refused table 6: not whole row 0 col 1\nline 10 refused: command\n1 refused 7: no such row 2\n"
+unfolding digits next_record records_from schema_of number_of all_from row_of table_of table_of_records without_marks script_of raw_lines
+    act_of commands_of events_of told after_word said_by said_in verb_of word_number word_of
+refused_lines_between_replies = refl
+
+-- the program's stored run
+stored_run : output (limits_of 1024 1024) (codes "table\nprice\nend\nas 1 insert 30\nas 1 insert 10\nas 2 insert 20\nas 1 begin best low(price)\nas 2 insert 5\nas 1 scan\nas 1 finish\n")
+    ≡ codes "1 inserted 1\n1 inserted 2\n2 inserted 3\n1 begun 1\n2 inserted 4\n1 left 0\n1 answer 1\nlevel 1 id 2: 10\n"
+unfolding digits next_record records_from schema_of number_of all_from row_of table_of table_of_records without_marks script_of raw_lines
+    act_of commands_of events_of told after_word said_by said_in verb_of word_number word_of asked level_lines
+stored_run = refl
+
+-- a row that is deleted while a query is open is still in its answer, and a later query does not have it
+answer_is_of_the_begin : output (limits_of 4 2) (codes "table\nx\n5\n7\n9\nend\nas 1 begin best low(x)\nas 1 scan\nas 2 delete 1\nas 2 insert 1\nas 2 room\nas 1 scan\nas 1 finish\nas 2 begin best low(x)\nas 2 scan\nas 2 scan\nas 2 finish\n")
+    ≡ codes "1 begun 2\n1 left 1\n2 deleted 1\n2 inserted 4\n2 room 0\n1 left 0\n1 answer 1\nlevel 1 id 1: 5\n2 begun 2\n2 left 1\n2 left 0\n2 answer 1\nlevel 1 id 4: 1\n"
+unfolding digits next_record records_from schema_of number_of all_from row_of table_of table_of_records without_marks script_of raw_lines
+    act_of commands_of events_of told after_word said_by said_in verb_of word_number word_of asked level_lines
+answer_is_of_the_begin = refl

@@ -1,0 +1,6 @@
+use Rattle.std.proofs.Common.{append_assoc}
+use Rattle.std.proofs.lemmas.Result.{IfOk-equal}
+use Rattle.prefq.proofs.text.push_refusal.Goals as goal
+
+pub returns-in_ok-write-in-Values : goal.returns-in_ok-write-in-Values
+returns-in_ok-write-in-Values c = IfOk-equal c.push_table_fault.result _ _ _ c.push_table_fault.ensures (rw (c.in-Values.is, c.in_ok-write-in-Values.ensures.bytes) (simp append_assoc))

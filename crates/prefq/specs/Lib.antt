@@ -1,0 +1,10 @@
+pub mod Watched
+pub mod Input
+pub mod Text
+pub mod Script
+pub mod Words
+pub mod Commands
+pub mod Output
+pub mod Run
+pub mod Status
+pub mod Reading

@@ -1,0 +1,108 @@
+//! The program's arguments.
+ghost use Rattle.std.specs.Prelude.{◌≡◌, ◌≤◌};
+
+use clap::error::ErrorKind;
+use clap::{Arg, ArgAction, ArgMatches, Command, Error, value_parser};
+use pref_core::Setup;
+use std::alloc::{AllocError, Global};
+
+/// What the arguments ask for: whether each client's lines run on a thread of its own, and the setup.
+#[derive(Clone, Copy)]
+pub struct Args {
+    pub threads: bool,
+    pub setup: Setup,
+}
+
+/// Why there is nothing to run.
+#[derive(Debug, Drop)]
+pub enum ArgsFault {
+    /// The arguments are none of the program's.
+    Refused,
+    /// They ask for this help text.
+    Help(String),
+    /// There was no memory.
+    Memory,
+}
+
+/// An option that takes a whole number from 1 on.
+fn number_option<'a>(alloc: Global, name: &'a str, most: i64, default: &'a str) -> Arg<'a> {
+    Arg::new(alloc, name)
+        .long(name)
+        .action(ArgAction::Set)
+        .value_parser(value_parser!(u32).range(1..=most))
+        .default_value(default)
+}
+
+/// A subcommand with the options of a setup.
+fn run_command<'a>(alloc: Global, name: &'a str) -> Result<Command<'a>, AllocError> {
+    Command::new(alloc, name)
+        .arg(number_option(alloc, "clients", 8, "4"))?
+        .arg(number_option(alloc, "cap", 65_536, "1024"))?
+        .arg(number_option(alloc, "block", 65_536, "1024"))?
+        .arg(number_option(alloc, "window", 65_536, "64"))
+}
+
+fn program<'a>(alloc: Global) -> Result<Command<'a>, AllocError> {
+    Command::new(alloc, "prefq")
+        .no_binary_name(true)
+        .subcommand(run_command(alloc, "play")?)?
+        .subcommand(run_command(alloc, "threads")?)
+}
+
+/// The setup where no options are given: 4 clients, 1024 slots in blocks of 1024, a window of 64.
+fn default_setup() -> Setup
+    ensures { result ≡ record { clients = 4; capacity = 1024; block = 1024; window = 64 } }
+{
+    match Setup::new(4, 1024, 1024, 64) {
+        Some(setup) => setup,
+        None => unreachable!(),
+    }
+}
+
+fn setup_of(options: &ArgMatches) -> Option<Setup> {
+    Setup::new(
+        options.get_one::<u8>("clients")?,
+        options.get_one::<u32>("cap")?,
+        options.get_one::<u32>("block")?,
+        options.get_one::<u32>("window")?,
+    )
+}
+
+fn fault_of(alloc: Global, error: Error) -> ArgsFault {
+    match error.kind() {
+        ErrorKind::OutOfMemory => ArgsFault::Memory,
+        ErrorKind::DisplayHelp => match error.to_string(alloc) {
+            Ok(text) => ArgsFault::Help(text),
+            Err(_) => ArgsFault::Memory,
+        },
+        _ => ArgsFault::Refused,
+    }
+}
+
+/// Reads the words after the program's name: `play` or `threads` with options, or no word at all, which is `play`.
+///
+/// The options are `--clients` (1 to 8, else 4), `--cap` and `--block` (1 to 65,536, else 1024) and `--window`
+/// (1 to 65,536, else 64). Answers `Help` where the words ask for help, `Memory` where there is none, and `Refused`
+/// for all other words.
+pub fn read_args(alloc: Global, words: &[&str]) -> Result<Args, ArgsFault> {
+    let Ok(program) = program(alloc) else {
+        return Err(ArgsFault::Memory);
+    };
+    let matches = match program.try_get_matches_from(words) {
+        Ok(matches) => matches,
+        Err(error) => return Err(fault_of(alloc, error)),
+    };
+    let Some((name, options)) = matches.subcommand() else {
+        return Ok(Args {
+            threads: false,
+            setup: default_setup(),
+        });
+    };
+    match setup_of(options) {
+        Some(setup) => Ok(Args {
+            threads: name == "threads",
+            setup,
+        }),
+        None => Err(ArgsFault::Refused),
+    }
+}

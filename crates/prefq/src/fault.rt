@@ -1,0 +1,68 @@
+//! Why a run ends with no reply to its script.
+ghost use Rattle.std.specs.Prelude.{◌≡◌};
+ghost use Rattle.prefq.specs.declared.fault.RunFault.TheVariants.{Memory};
+
+use pref_core::CoreFault;
+use pref_table::TableFault;
+use std::alloc::{AllocError, AllocFailed};
+use thiserror::Error;
+
+/// Why a run of a script ended early.
+#[derive(Clone, Copy, Debug, PartialEq, Eq, Error)]
+pub enum RunFault {
+    /// The reader failed. Nothing was written.
+    #[error("read")]
+    Read,
+    /// The writer failed, or took no byte. A beginning of the output was written.
+    #[error("write")]
+    Write,
+    /// The input has more than 16,777,216 bytes. Nothing was written.
+    #[error("too large")]
+    TooLarge,
+    /// There was no memory. Nothing was written.
+    #[error("memory")]
+    Memory,
+    /// The script's first line isn't `table`.
+    #[error("no table")]
+    NoTable,
+    /// No line of the script is `end`.
+    #[error("no end")]
+    NoEnd,
+    /// The table text is refused.
+    #[error("table: {0}")]
+    Table(TableFault),
+    /// The engine refuses the opening rows.
+    #[error("opening: {0}")]
+    Opening(CoreFault),
+}
+
+impl From<AllocError> for RunFault {
+    ghost from_gives = { λ _ fault. fault ≡ Memory };
+
+    fn from(_error: AllocError) -> RunFault {
+        RunFault::Memory
+    }
+}
+
+impl<T: Drop> From<AllocFailed<T>> for RunFault {
+    ghost from_gives = { λ _ fault. fault ≡ Memory };
+
+    fn from(_error: AllocFailed<T>) -> RunFault {
+        RunFault::Memory
+    }
+}
+
+impl RunFault {
+    ghost use Rattle.std.specs.Prelude.{◌≡◌};
+    ghost use Rattle.prefq.specs.Status.{status_of};
+
+    /// The program's exit status: 1 where the run itself failed, 2 where its input is at fault.
+    pub fn status(&self) -> u8
+        ensures { result ≡ status_of self.now }
+    {
+        match self {
+            RunFault::Read | RunFault::Write | RunFault::TooLarge | RunFault::Memory => 1,
+            RunFault::NoTable | RunFault::NoEnd | RunFault::Table(_) | RunFault::Opening(_) => 2,
+        }
+    }
+}

@@ -1,0 +1,120 @@
+//! A script from its bytes to the bytes of its output.
+ghost use Rattle.std.specs.Prelude.{◌≡◌, ◌≤◌, ◌<◌, ℕ, List, false, length, IfOk, IsOk, MatchResult, string_bytes};
+ghost use Rattle.std.specs.Io.KnownBytes.{Consumes};
+ghost use Rattle.prefq.specs.Output.{fault_text, output, script_of};
+ghost use Rattle.prefq.specs.Reading.{ScriptFault, core_fault, table_fault};
+ghost use Rattle.prefq.specs.Run.{Ran};
+ghost use Rattle.prefq.specs.Watched.{has_failed, inside};
+
+use crate::commands::read_commands;
+use crate::fault::RunFault;
+use crate::input::read_input;
+use crate::output::write_output;
+use crate::replies::push_lines;
+use crate::script::parts;
+use crate::text::{push_core_fault, push_table_fault};
+use crate::watched::Watched;
+use pref_core::{CoreFault, Setup, replay};
+use pref_table::{TableFault, read_table};
+use std::alloc::{AllocError, Global};
+use std::io::{Read, Write};
+
+/// The line of a fault of status 2, with its line feed, and nothing for other faults.
+pub fn fault_line(alloc: Global, fault: &RunFault) -> Result<Vec<u8>, AllocError>
+    ensures { IfOk result (λ line. line.items ≡ fault_text fault.now) }
+{
+    let mut line = String::new(alloc);
+    match fault {
+        RunFault::NoTable => write!(line, "script refused: no table\n")?,
+        RunFault::NoEnd => write!(line, "script refused: no end\n")?,
+        RunFault::Table(why) => {
+            write!(line, "table refused ")?;
+            push_table_fault(&mut line, *why)?;
+            write!(line, "\n")?;
+        }
+        RunFault::Opening(why) => {
+            write!(line, "opening refused ")?;
+            push_core_fault(&mut line, *why)?;
+            write!(line, "\n")?;
+        }
+        RunFault::Read | RunFault::Write | RunFault::TooLarge | RunFault::Memory => {}
+    }
+    Ok(line.into_bytes())
+}
+
+fn of_table(why: TableFault) -> RunFault
+    ensures { result ≡ table_fault why }
+{
+    match why {
+        TableFault::OutOfMemory => RunFault::Memory,
+        _ => RunFault::Table(why),
+    }
+}
+
+fn of_core(why: CoreFault) -> RunFault
+    ensures { result ≡ core_fault why }
+{
+    match why {
+        CoreFault::OutOfMemory => RunFault::Memory,
+        _ => RunFault::Opening(why),
+    }
+}
+
+/// The text of a script's replies, or the script's fault.
+fn reply_text(alloc: Global, setup: Setup, bytes: &[u8]) -> Result<String, RunFault>
+    requires { length bytes.now ≤ 16777216 }
+    ensures { MatchResult result (λ text. IsOk (script_of setup bytes.now) × (string_bytes text ≡ output setup bytes.now)) (λ fault. ScriptFault fault (script_of setup bytes.now)) }
+{
+    let script = parts(bytes)?;
+    let (schema, rows) = match read_table(alloc, script.table) {
+        Ok(table) => table,
+        Err(why) => return Err(of_table(why)),
+    };
+    let commands = read_commands(alloc, &schema, script)?;
+    let replies = match replay(alloc, setup, rows.as_slice(), commands.events) {
+        Ok(replies) => replies,
+        Err(why) => return Err(of_core(why)),
+    };
+    let mut text = String::new(alloc);
+    push_lines(
+        &mut text,
+        schema.width(),
+        commands.lines.as_slice(),
+        replies.as_slice(),
+    )?;
+    Ok(text)
+}
+
+/// Reads a script, runs it under a setup and writes its output. The whole output is made before its first byte is written.
+///
+/// After `Read`, `TooLarge` and `Memory` nothing was written, and after `Write` a beginning of the output. Each other
+/// fault is the script's own, and its one line is the output. The faults are tested in the order `Read`, `TooLarge`,
+/// `NoTable`, `NoEnd`, `Table`, `Opening`; `Memory` comes wherever it is met.
+pub fn run_script<R: Read, W: Write>(
+    alloc: Global,
+    reader: &mut Watched<R>,
+    writer: &mut Watched<W>,
+    setup: Setup,
+) -> Result<(), RunFault>
+    requires reads { has_failed reader.old ≡ false }
+    requires writes { has_failed writer.old ≡ false }
+    ensures most { (bytes : List ℕ) × Consumes (R.remaining (inside reader.old)) (R.remaining (inside reader.new)) bytes × (length bytes ≤ 16777217) }
+    ensures ran { Ran setup (record {
+      had = R.remaining (inside reader.old);
+      left = R.remaining (inside reader.new);
+      read_failed = has_failed reader.new;
+      held = W.contents (inside writer.old);
+      holds = W.contents (inside writer.new);
+      write_failed = has_failed writer.new;
+    }) result }
+{
+    let input = read_input(alloc, reader)?;
+    match reply_text(alloc, setup, input.as_slice()) {
+        Ok(text) => write_output(writer, text.as_bytes()),
+        Err(fault) => {
+            let line = fault_line(alloc, &fault)?;
+            write_output(writer, line.as_slice())?;
+            Err(fault)
+        }
+    }
+}

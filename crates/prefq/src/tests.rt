@@ -1,0 +1,143 @@
+//! Runs of scripts, and of the arguments.
+mod arguments;
+mod ends;
+mod faults;
+mod rows;
+
+use crate::fault::RunFault;
+use crate::run::run_script;
+use crate::watched::Watched;
+use pref_core::Setup;
+use std::alloc::Global;
+use std::io;
+use std::io::{ErrorKind, Read, Write};
+
+/// A reader of a text that gives a few bytes at a time and fails after some.
+#[derive(Drop)]
+struct Trickle<'a> {
+    text: &'a [u8],
+    step: usize,
+    fails_after: usize,
+    given: usize,
+}
+
+impl Read for Trickle<'_> {
+    fn read(&mut self, buf: &mut [u8]) -> io::Result<usize> {
+        if self.given >= self.fails_after {
+            return Err(io::Error::from(ErrorKind::Other));
+        }
+        let part = self
+            .step
+            .min(buf.len())
+            .min(self.text.len())
+            .min(self.fails_after - self.given);
+        let (front, rest) = self.text.split_at(part);
+        buf[..part].copy_from_slice(front);
+        self.text = rest;
+        self.given = self.given.saturating_add(part);
+        Ok(part)
+    }
+}
+
+/// How a writer answers when it has no room left.
+#[derive(Clone, Copy, Debug)]
+enum Full {
+    Fails,
+    TakesNone,
+}
+
+/// A writer that takes a few bytes at a time, as long as it has room.
+#[derive(Drop)]
+struct Narrow {
+    taken: Vec<u8>,
+    step: usize,
+    room: usize,
+    full: Full,
+}
+
+impl Write for Narrow {
+    fn write(&mut self, buf: &[u8]) -> io::Result<usize> {
+        if self.taken.len() >= self.room {
+            return match self.full {
+                Full::Fails => Err(io::Error::from(ErrorKind::Other)),
+                Full::TakesNone => Ok(0),
+            };
+        }
+        let part = self.step.min(buf.len()).min(self.room - self.taken.len());
+        self.taken.extend_from_slice(&buf[..part])?;
+        Ok(part)
+    }
+
+    fn flush(&mut self) -> io::Result<()> {
+        Ok(())
+    }
+}
+
+/// The result of a run, what was written, and whether the reader and the writer had failed by then.
+#[derive(Drop)]
+struct Run {
+    result: Result<(), RunFault>,
+    output: Vec<u8>,
+    read_failed: bool,
+    write_failed: bool,
+}
+
+impl Run {
+    /// What was written, where it is a text.
+    fn text(&self) -> &str {
+        match str::from_utf8(self.output.as_slice()) {
+            Ok(text) => text,
+            Err(_) => "no text",
+        }
+    }
+}
+
+/// A run of a text through these two ends.
+fn run_through(alloc: Global, reader: Trickle<'_>, writer: Narrow, setup: Setup) -> Run {
+    let mut reader = Watched::new(reader);
+    let mut writer = Watched::new(writer);
+    let result = run_script(alloc, &mut reader, &mut writer, setup);
+    let read_failed = reader.failed();
+    let write_failed = writer.failed();
+    Run {
+        result,
+        output: writer.into_inner().taken,
+        read_failed,
+        write_failed,
+    }
+}
+
+/// A reader that gives so many bytes at a time and never fails.
+fn in_steps(text: &[u8], step: usize) -> Trickle<'_> {
+    Trickle {
+        text,
+        step,
+        fails_after: usize::MAX,
+        given: 0,
+    }
+}
+
+/// A writer that takes so many bytes at a time and never fails.
+fn roomy(alloc: Global, step: usize) -> Narrow {
+    Narrow {
+        taken: Vec::new(alloc),
+        step,
+        room: usize::MAX,
+        full: Full::Fails,
+    }
+}
+
+/// A run of a whole text with room for its output.
+fn run_whole(alloc: Global, setup: Setup, text: &[u8]) -> Run {
+    run_through(alloc, in_steps(text, 8192), roomy(alloc, 8192), setup)
+}
+
+/// The setup of these numbers, with 4 clients and a window of 64.
+fn setup_of(capacity: u32, block: u32) -> Option<Setup> {
+    Setup::new(4, capacity, block, 64)
+}
+
+/// The setup where no options are given.
+fn defaults() -> Option<Setup> {
+    setup_of(1024, 1024)
+}
