@@ -66,7 +66,7 @@ fn pass<D: Dominance>(
 /// all that overflowed are told as best and leave the window. The list doesn't depend on `window`.
 ///
 /// Cost: for each entry of a pass one comparison with each entry of the window at most, and up to two
-/// more where it takes some out; one pass where at most `window` entries are held at any time.
+/// more where it takes some out; one pass where nothing overflows, and no more passes than entries.
 /// Memory: room for `window` entries, or for all where these are fewer, for what overflows, and for the
 /// answer. `Err` is want of memory.
 pub fn best_rows_passes<D: Dominance>(

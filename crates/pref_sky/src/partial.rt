@@ -13,8 +13,8 @@ use std::marker::Model;
 
 /// The entries of the levels 1 to a cut among all that were added, in order of level, then id.
 ///
-/// A contract sees the list of them. One order and one cut belong to a partial result: each `add` is to
-/// have those of the first.
+/// A contract sees the list of them. What it holds is by one order and one cut, so each `add` is made
+/// with the order and the cut of the first.
 #[derive(Drop)]
 pub struct Partial {
     ranked: Option<Vec<Ranked>>,

@@ -21,7 +21,7 @@ pub enum Offer {
     Overflow,
 }
 
-/// At most `size` entries, of which none is over another.
+/// At most `size` entries; where all were offered by one order, none of them is over another.
 ///
 /// A contract sees its size, the early entries (those that were there when the pass began, or joined
 /// before its first overflow), the late ones (those that joined since), and whether one overflowed.

@@ -5,3 +5,4 @@ pub mod Names
 pub mod Rows
 pub mod Records
 pub mod Tables
+pub mod Capped

@@ -15,7 +15,7 @@ use Rattle.pref_term.proofs.LedLemmas.{at_place, goes_then, goes_fails, passes_g
 
 -- ---- nestings
 
-depth_good : (names : Names) (depth : ℕ) (s : Sign) → depth < 64 → own_fault names (opens depth s) ≡ None
+pub depth_good : (names : Names) (depth : ℕ) (s : Sign) → depth < 64 → own_fault names (opens depth s) ≡ None
 depth_good names depth s h = let e : nat_lt depth 64 ≡ true = grind (arith, nat_tests) in ap (λ b. cond b None (Some too_deep)) e
 
 depth_bad : (names : Names) (depth : ℕ) (s : Sign) → 64 ≤ depth → own_fault names (opens depth s) ≡ Some too_deep

@@ -4,7 +4,7 @@ use Rattle.std.specs.Prelude.{IfSome, MatchResult}
 use Rattle.std.specs.List.{AllByRecursion}
 use Rattle.pref_term.specs.Token.{Token, finish, Placed}
 use Rattle.pref_term.specs.Grammar.{PriorText, AskText, rated, skyline, IsText, IsWritten, Leaf, token_of, ask_leaves}
-use Rattle.pref_term.specs.Spells.{Names, tokens_in, tokens_on, IsGood, own_fault, OwnFault, told, told_at, Begins, GoodStart, last_place, IsUnexpected, HasOwnFault, FirstFault}
+use Rattle.pref_term.specs.Spells.{Names, tokens_in, tokens_on, IsGood, own_fault, OwnFault, told, told_at, Starts, last_place, IsUnexpected, HasOwnFault, FirstFault}
 use Rattle.pref_term.specs.Reading.{State, start, operand, reverse_named, reading, after, group_listed, dims_listed, done, read_of, next, run, led, judged, ended, PriorHole, whole, finished, BasePart, named, opened, columned, number_due, number_signed, centred, listed, base_next, outer, closed}
 use Rattle.pref_term.specs.declared.fault.TermFault.{TermFault}
 use Rattle.pref_term.specs.declared.fault.TermFault.TheVariants.{Unexpected}
@@ -25,7 +25,7 @@ good_parts : (names : Names) (a b : List Leaf) → AllByRecursion (IsGood names)
 good_parts names [] b h = (tt, h)
 good_parts names (x ∷ a) b h = let k = good_parts names a b h.1 in ((h.0, k.0), k.1)
 
-good_both : (names : Names) (a b : List Leaf) → AllByRecursion (IsGood names) a → AllByRecursion (IsGood names) b → AllByRecursion (IsGood names) (a ++ b)
+pub good_both : (names : Names) (a b : List Leaf) → AllByRecursion (IsGood names) a → AllByRecursion (IsGood names) b → AllByRecursion (IsGood names) (a ++ b)
 good_both names [] b h k = k
 good_both names (x ∷ a) b h k = (h.0, good_both names a b h.1 k)
 
@@ -117,28 +117,28 @@ reached_more names before s t leaf m r e own =
       good = good_both names r.leaves (leaf ∷ []) r.good (own, tt);
     }
 
--- what was reached begins a text of the grammar
-pub reached_start_good : (names : Names) (before : List Placed) (s : State) (r : Reached names before s) → GoodStart names before r.leaves
-reached_start_good names before s r =
+-- what is read so far begins a text of the grammar
+starts : (leaves : List Leaf) (s : State) → Reads start leaves s → Starts leaves
+starts leaves s r =
     let c = can_end s in
+    let all = reads_on start leaves c.leaves s (done c.tree) r c.reads in
     record {
       tree = c.tree;
-      written = read_text (r.leaves ++ c.leaves) c.tree (reads_on start r.leaves c.leaves s (done c.tree) r.reads c.reads);
+      written = read_text (leaves ++ c.leaves) c.tree all;
       rest = c.leaves;
-      whole = reads_grow start (r.leaves ++ c.leaves) (done c.tree) (reads_on start r.leaves c.leaves s (done c.tree) r.reads c.reads);
-      played = r.played;
-      good = r.good;
+      whole = reads_grow start (leaves ++ c.leaves) (done c.tree) all;
     }
 
 -- where no rule leads on, no text of the grammar goes on
-pub reached_stuck : (names : Names) (before : List Placed) (s : State) (t : Token) → Reached names before s → next s t ≡ None → Begins (tokens_in before ++ t ∷ []) → ⊥
-reached_stuck names before s t r e b =
-    let p = parts_of (ask_leaves b.tree) (tokens_in before) (t ∷ b.rest) (b.whole ∙ append_assoc (tokens_in before) (t ∷ []) b.rest) in
-    let k = reads_cut start p.front p.back (done b.tree) (subst (λ (ls : List Leaf). Reads start ls (done b.tree)) p.whole (reads_ask b.tree b.written)) in
+pub reached_stuck : (names : Names) (before : List Placed) (s : State) (t : Token) → Reached names before s → next s t ≡ None → (leaves : List Leaf) → Starts leaves → tokens_on leaves ≡ tokens_in before ++ t ∷ [] → ⊥
+reached_stuck names before s t r e leaves b plays =
+    let p = parts_of leaves (tokens_in before) (t ∷ []) plays in
+    let whole = b.whole ∙ (ap (λ ls. ls ++ b.rest) p.whole ∙ append_assoc p.front p.back b.rest) in
+    let k = reads_cut start p.front (p.back ++ b.rest) (done b.tree) (subst (λ (ls : List Leaf). Reads start ls (done b.tree)) whole (reads_ask b.tree b.written)) in
     let same = reads_one start p.front r.leaves k.mid s (p.plays_front ∙ sym r.played) k.front r.reads in
     go p.back k.mid same p.plays_back k.back
   where
-    go : (back : List Leaf) (mid : State) → mid ≡ s → tokens_on back ≡ t ∷ b.rest → Reads mid back (done b.tree) → ⊥
+    go : (back : List Leaf) (mid : State) → mid ≡ s → tokens_on back ≡ t ∷ [] → Reads mid (back ++ b.rest) (done b.tree) → ⊥
     go [] mid same plays h = cc
     go (leaf ∷ back) mid same plays h =
         let u : token_of leaf ≡ t = cc in
@@ -215,7 +215,6 @@ run_answers names (t ∷ ts) before s r due = go (next s t.token) refl (run_answ
 
     judge : (leaf : Leaf) (m : State) → next s t.token ≡ Some (leaf, m) → (o : Option OwnFault) → own_fault names leaf ≡ o → ((b : List Placed) (m : State) → Reached names b m → Due ts m → Answers names (b ++ ts) (run names ts (last_place 0 b) m)) → Answers names (before ++ t ∷ ts) (judged leaf p t.place (run names ts t.place m) o)
     judge leaf m e (Some kind) w more =
-        let c = can_end m in
         let g = next_gives s t.token leaf m e in
         record {
           before = before;
@@ -223,13 +222,12 @@ run_answers names (t ∷ ts) before s r due = go (next s t.token) refl (run_answ
           after = ts;
           cut = refl;
           leaves = r.leaves;
-          start = reached_start_good names before s r;
+          start = starts r.leaves s r.reads;
+          played = r.played;
+          good = r.good;
           there = inr (record {
-            tree = c.tree;
-            written = read_text (r.leaves ++ leaf ∷ c.leaves) c.tree (reads_on start r.leaves (leaf ∷ c.leaves) s (done c.tree) r.reads (m, ap (next s) g.0 ∙ e, c.reads));
             leaf = leaf;
-            rest = c.leaves;
-            whole = reads_grow start (r.leaves ++ leaf ∷ c.leaves) (done c.tree) (reads_on start r.leaves (leaf ∷ c.leaves) s (done c.tree) r.reads (m, ap (next s) g.0 ∙ e, c.reads));
+            start = starts (r.leaves ++ leaf ∷ []) m (reads_on start r.leaves (leaf ∷ []) s m r.reads (m, ap (next s) g.0 ∙ e, refl));
             played = g.0;
             kind = kind;
             own = w;
@@ -249,7 +247,9 @@ run_answers names (t ∷ ts) before s r due = go (next s t.token) refl (run_answ
           after = ts;
           cut = refl;
           leaves = r.leaves;
-          start = reached_start_good names before s r;
+          start = starts r.leaves s r.reads;
+          played = r.played;
+          good = r.good;
           there = inl (record { fault_is = refl; stuck = reached_stuck names before s t.token r e });
         }
     go (Some (leaf, m)) e more = judge leaf m e (own_fault names leaf) refl more
@@ -283,24 +283,19 @@ fault_run names ts f h =
     there (inl w) =
         let k = reads_cut start h.leaves h.start.rest (done h.start.tree) (subst (λ (ls : List Leaf). Reads start ls (done h.start.tree)) h.start.whole (reads_ask h.start.tree h.start.written)) in
         let none = stuck_next w k.mid k.front (next k.mid h.at.token) refl in
-        run_reads names h.before (h.at ∷ h.after) 0 start h.leaves k.mid k.front h.start.played h.start.good
+        run_reads names h.before (h.at ∷ h.after) 0 start h.leaves k.mid k.front h.played h.good
         ∙ (ap (led names (last_place 0 h.before) h.at.place (run names h.after h.at.place)) none ∙ ap Err (sym w.fault_is))
       where
         stuck_next : IsUnexpected h.before h.at f → (m : State) → Reads start h.leaves m → (o : Option (Leaf × State)) → next m h.at.token ≡ o → o ≡ None
         stuck_next w m r None e = refl
         stuck_next w m r (Some (leaf, n)) e =
             let g = next_gives m h.at.token leaf n e in
-            let c = can_end n in
-            let all = reads_grow start (h.leaves ++ leaf ∷ c.leaves) (done c.tree) (reads_on start h.leaves (leaf ∷ c.leaves) m (done c.tree) r (n, ap (next m) g.0 ∙ e, c.reads)) in
-            absurd (w.stuck (record {
-              tree = c.tree;
-              written = read_text (h.leaves ++ leaf ∷ c.leaves) c.tree (reads_on start h.leaves (leaf ∷ c.leaves) m (done c.tree) r (n, ap (next m) g.0 ∙ e, c.reads));
-              rest = tokens_on c.leaves;
-              whole = ap tokens_on all ∙ (tokens_on-append h.leaves (leaf ∷ c.leaves) ∙ (ap (λ us. us ++ token_of leaf ∷ tokens_on c.leaves) h.start.played
-                  ∙ (ap (λ u. tokens_in h.before ++ u ∷ tokens_on c.leaves) g.0 ∙ sym (append_assoc (tokens_in h.before) (h.at.token ∷ []) (tokens_on c.leaves)))));
-            }))
+            let longer = reads_on start h.leaves (leaf ∷ []) m n r (n, ap (next m) g.0 ∙ e, refl) in
+            let plays = tokens_on-append h.leaves (leaf ∷ []) ∙ (ap (λ us. us ++ token_of leaf ∷ []) h.played ∙ ap (λ u. tokens_in h.before ++ u ∷ []) g.0) in
+            absurd (w.stuck (h.leaves ++ leaf ∷ []) (starts (h.leaves ++ leaf ∷ []) n longer) plays)
     there (inr w) =
-        let k = reads_cut start h.leaves (w.leaf ∷ w.rest) (done w.tree) (subst (λ (ls : List Leaf). Reads start ls (done w.tree)) w.whole (reads_ask w.tree w.written)) in
-        run_reads names h.before (h.at ∷ h.after) 0 start h.leaves k.mid k.front h.start.played h.start.good
+        let whole = w.start.whole ∙ append_assoc h.leaves (w.leaf ∷ []) w.start.rest in
+        let k = reads_cut start h.leaves (w.leaf ∷ w.start.rest) (done w.start.tree) (subst (λ (ls : List Leaf). Reads start ls (done w.start.tree)) whole (reads_ask w.start.tree w.start.written)) in
+        run_reads names h.before (h.at ∷ h.after) 0 start h.leaves k.mid k.front h.played h.good
         ∙ (ap (led names (last_place 0 h.before) h.at.place (run names h.after h.at.place)) (ap (next k.mid) (sym w.played) ∙ k.back.1)
         ∙ (ap (judged w.leaf (last_place 0 h.before) h.at.place (run names h.after h.at.place k.back.0)) w.own ∙ ap Err (sym w.fault_is)))

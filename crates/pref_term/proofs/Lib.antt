@@ -1,3 +1,4 @@
+pub mod Sizes
 pub mod WalkLaws
 pub mod WorkedTerms
 pub mod Sound
@@ -9,3 +10,7 @@ pub mod LedLemmas
 pub mod CycleLemmas
 pub mod AskedLemmas
 pub mod AskLemmas
+pub mod ShownNames
+pub mod ShownLemmas
+pub mod Lexed
+pub mod ShowLaw

@@ -5,6 +5,7 @@ use Rattle.pref_term.specs.Order.{IsStrictOrder, RowOrder}
 use Rattle.pref_term.specs.OrderLaws.{and_parts, over_not_self, over_on}
 use Rattle.pref_term.specs.Question.{Question, over}
 
+-- the order that an ask stands for
 abbrev pub order_of : Question → RowOrder
 order_of q = record { over = over q }
 

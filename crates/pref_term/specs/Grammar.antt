@@ -38,6 +38,7 @@ abbrev pub cased_in : List ℕ → Option CasedWord
 cased_in lower =
     find (λ k. bytes_eq (cased_letters k) lower) (skyline_word ∷ of_word ∷ min_word ∷ max_word ∷ diff_word ∷ [])
 
+-- the word that these letters are in any case
 abbrev pub cased_of : List ℕ → Option CasedWord
 cased_of letters = cased_in (str_to_ascii_lowercase letters)
 
@@ -106,6 +107,7 @@ pub data Leaf : Type 0 where
   cased : (k : CasedWord) (letters : List ℕ) → Leaf
   last : Leaf
 
+-- the token that a leaf is
 abbrev pub token_of : Leaf → Token
 token_of (name k) = word (letters_of k)
 token_of (mark s) = sign s
@@ -121,10 +123,12 @@ abbrev pub IsWritten : Leaf → Type 0
 IsWritten (cased k letters) = cased_letters k ≡ str_to_ascii_lowercase letters
 IsWritten _ = Unit {0}
 
+-- digits, after a minus where the number is negative
 abbrev pub signed_leaves : Bool → List ℕ → List Leaf
 signed_leaves true ds = mark minus ∷ number_digits true ds ∷ []
 signed_leaves false ds = number_digits false ds ∷ []
 
+-- the leaves of a number
 abbrev pub number_leaves : NumberText → List Leaf
 number_leaves n = signed_leaves n.negative n.digits
 
@@ -133,6 +137,7 @@ abbrev pub others_leaves : List NumberText → List Leaf
 others_leaves [] = []
 others_leaves (n ∷ ns) = mark comma ∷ number_leaves n ++ others_leaves ns
 
+-- the leaves of a base term
 abbrev pub base_leaves : BaseText → List Leaf
 base_leaves (low_text column) = name low_word ∷ mark left ∷ column_name column ∷ mark right ∷ []
 base_leaves (high_text column) = name high_word ∷ mark left ∷ column_name column ∷ mark right ∷ []
@@ -157,6 +162,7 @@ abbrev mutual
   unary_leaves (reversed r) depth = name reverse_word ∷ opens depth left ∷ prior_leaves r (depth + 1) ++ mark right ∷ []
   unary_leaves (based b) depth = base_leaves b
 
+-- the leaves of a head
 abbrev pub head_leaves : HeadText → List Leaf
 head_leaves best_head = name best_word ∷ []
 head_leaves (top_level_head count) = name top_level_word ∷ count_digits count ∷ []
@@ -167,10 +173,12 @@ abbrev pub more_columns : List (List ℕ) → List Leaf
 more_columns [] = []
 more_columns (column ∷ columns) = mark comma ∷ column_name column ∷ more_columns columns
 
+-- the leaves of a group; none where it has no column
 abbrev pub group_leaves : List (List ℕ) → List Leaf
 group_leaves [] = []
 group_leaves (column ∷ columns) = name by_word ∷ column_name column ∷ more_columns columns
 
+-- the word of a direction
 abbrev pub direction_word : Direction → CasedWord
 direction_word minimal = min_word
 direction_word maximal = max_word
@@ -183,6 +191,7 @@ direction_in (Some max_word) = Some maximal
 direction_in (Some diff_word) = Some different
 direction_in _ = None
 
+-- the leaves of a dimension
 abbrev pub dim_leaves : DimText → List Leaf
 dim_leaves d = column_name d.column ∷ cased (direction_word d.direction) d.written ∷ []
 
@@ -191,6 +200,7 @@ abbrev pub more_dims : List DimText → List Leaf
 more_dims [] = []
 more_dims (d ∷ ds) = mark comma ∷ dim_leaves d ++ more_dims ds
 
+-- the leaves of a whole text, from its first token to its end
 abbrev pub ask_leaves : AskText → List Leaf
 ask_leaves (rated head r group) = head_leaves head ++ (prior_leaves r 0 ++ (group_leaves group ++ last ∷ []))
 ask_leaves (skyline s o first others) = cased skyline_word s ∷ cased of_word o ∷ dim_leaves first ++ (more_dims others ++ last ∷ [])

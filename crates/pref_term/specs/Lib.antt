@@ -13,6 +13,7 @@ pub mod Grammar
 pub mod Spells
 pub mod Reading
 pub mod Asked
+pub mod Shown
 pub mod Led
 pub mod Seen
 pub mod Ahead

@@ -19,12 +19,14 @@ is_better Worse = false
 is_better Same = false
 is_better Neither = false
 
+-- the second row is better
 abbrev pub is_worse : Relation → Bool
 is_worse Better = false
 is_worse Worse = true
 is_worse Same = false
 is_worse Neither = false
 
+-- the rows score alike
 abbrev pub is_same : Relation → Bool
 is_same Better = false
 is_same Worse = false

@@ -1,6 +1,6 @@
 -- What contracts see of an ask. (this project; the groups are the skyline's DIFF and psel on a grouped table)
 use Rattle.std.specs.Prelude.{ℕ, ℤ, List, Bool, ◌&&◌, ◌<◌, ◌≤◌, All}
-use Rattle.pref_term.specs.Better.{better, in_same_group}
+use Rattle.pref_term.specs.Better.{better, same, in_same_group}
 use Rattle.pref_term.specs.Columns.{ReadsBelow}
 use Rattle.pref_term.specs.Preference.{Preference}
 use Rattle.pref_term.specs.Writable.{IsWritable}
@@ -37,3 +37,7 @@ pub record IsAsk (q : Question) : Type 0 where
 -- equal in the group's columns, and better
 abbrev pub over : Question → List ℤ → List ℤ → Bool
 over q a b = in_same_group q.group a b && better q.preference a b
+
+-- equal in the group's columns, and the same
+abbrev pub alike : Question → List ℤ → List ℤ → Bool
+alike q a b = in_same_group q.group a b && same q.preference a b

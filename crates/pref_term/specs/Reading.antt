@@ -1,5 +1,5 @@
--- Reading a question text from the left, one token after another: what is still pending, and where a token leads.
--- No public contract cites this but through `asked`, which a law ties to the grammar. (this project)
+-- No public contract cites this but through `asked`, which a law ties to the grammar.
+-- Reading a question text from the left, one token after another: what is still pending, and where a token leads. (this project)
 use Rattle.std.specs.Prelude.{ℕ, zero, suc, ◌+◌, List, [], ◌∷◌, ◌++◌, Bool, true, false, Option, Some, None, Result, Ok, Err}
 use Rattle.std.specs.List.{find}
 use Rattle.std.specs.Str.{bytes_eq}

@@ -23,18 +23,23 @@ abbrev pub decimal_value_from : ℕ → List ℕ → ℕ
 decimal_value_from n [] = n
 decimal_value_from n (d ∷ ds) = decimal_value_from (10 * n + (d - 48)) ds
 
+-- the value of digits
 abbrev pub decimal_value : List ℕ → ℕ
 decimal_value ds = decimal_value_from 0 ds
 
+-- the value of digits with a sign
 abbrev pub signed_value : Bool → List ℕ → ℤ
 signed_value negative ds = if negative then neg_ℤ (pos (decimal_value ds)) else pos (decimal_value ds)
 
+-- the value of a number
 abbrev pub number_value : NumberText → ℤ
 number_value n = signed_value n.negative n.digits
 
+-- the column of this name
 abbrev pub column_at : Names → List ℕ → ℕ
 column_at names letters = unwrap_or (column_of names letters) 0
 
+-- the base term that a text means
 abbrev pub base_meaning : Names → BaseText → Base
 base_meaning names (low_text column) = low (column_at names column)
 base_meaning names (high_text column) = high (column_at names column)
@@ -56,6 +61,7 @@ abbrev mutual
   unary_meaning (reversed r) names = reverse (prior_meaning r names)
   unary_meaning (based b) names = scored (base_meaning names b)
 
+-- how many a head wants
 abbrev pub mode_of : HeadText → Mode
 mode_of best_head = Best
 mode_of (top_level_head count) = TopLevel (decimal_value count)
@@ -67,14 +73,17 @@ order_by minimal col = scored (low col) ∷ []
 order_by maximal col = scored (high col) ∷ []
 order_by different col = []
 
+-- the column that a skyline clause groups by, where it says diff
 abbrev pub group_by : Direction → ℕ → List ℕ
 group_by minimal col = []
 group_by maximal col = []
 group_by different col = col ∷ []
 
+-- the orders of a skyline clause's columns, from left to right
 abbrev pub orders_of : Names → List DimText → List Preference
 orders_of names ds = flat_map (λ d. order_by d.direction (column_at names d.column)) ds
 
+-- the columns that a skyline clause groups by
 abbrev pub groups_of : Names → List DimText → List ℕ
 groups_of names ds = flat_map (λ d. group_by d.direction (column_at names d.column)) ds
 
@@ -91,6 +100,7 @@ question names (skyline s o first others) =
 
 -- ---- a token's own fault
 
+-- what can be wrong with a token that the grammar allows
 pub data OwnFault : Type 0 where
   unknown_column : OwnFault
   number_range : OwnFault
@@ -105,6 +115,7 @@ in_range negative ds = if negative then nat_le (decimal_value ds) (2 ^ 63) else 
 abbrev pub is_count : ℕ → Bool
 is_count k = nat_le 1 k && nat_le k 1000
 
+-- a leaf's own fault
 abbrev pub own_fault : Names → Leaf → Option OwnFault
 own_fault names (name k) = None
 own_fault names (mark s) = None
@@ -115,6 +126,7 @@ own_fault names (count_digits ds) = if is_count (decimal_value ds) then None els
 own_fault names (cased k letters) = None
 own_fault names last = None
 
+-- a leaf with no fault of its own
 abbrev pub IsGood : Names → Leaf → Type 0
 IsGood names leaf = own_fault names leaf ≡ None
 
@@ -123,6 +135,7 @@ abbrev pub told_at : Leaf → (before place : ℕ) → ℕ
 told_at (number_digits true ds) before place = before
 told_at _ before place = place
 
+-- the fault that is told of it
 abbrev pub told : OwnFault → ℕ → TermFault
 told unknown_column at = UnknownColumn at
 told number_range at = NumberRange at
@@ -131,12 +144,15 @@ told bad_count at = BadCount at
 
 -- ---- which ask a text spells
 
+-- the tokens, without their places
 abbrev pub tokens_in : List Placed → List Token
 tokens_in ts = map (λ t. t.token) ts
 
+-- the tokens that leaves are
 abbrev pub tokens_on : List Leaf → List Token
 tokens_on leaves = map token_of leaves
 
+-- the text has the tokens of a tree of the grammar, none with a fault, and the tree asks q
 pub record Spells (names : Names) (text : List ℕ) (q : Question) : Type 0 where
   pub tree : AskText
   pub written : IsText tree
@@ -147,21 +163,12 @@ pub record Spells (names : Names) (text : List ℕ) (q : Question) : Type 0 wher
 
 -- ---- what is wrong with a text
 
--- a text of the grammar begins with these tokens
-pub record Begins (tokens : List Token) : Type 0 where
-  pub tree : AskText
-  pub written : IsText tree
-  pub rest : List Token
-  pub whole : tokens_on (ask_leaves tree) ≡ tokens ++ rest
-
--- these tokens, played by the leaves, begin a text of the grammar, and none has a fault of its own
-pub record GoodStart (names : Names) (tokens : List Placed) (leaves : List Leaf) : Type 0 where
+-- a text of the grammar begins with these leaves
+pub record Starts (leaves : List Leaf) : Type 0 where
   pub tree : AskText
   pub written : IsText tree
   pub rest : List Leaf
   pub whole : ask_leaves tree ≡ leaves ++ rest
-  pub played : tokens_on leaves ≡ tokens_in tokens
-  pub good : AllByRecursion (IsGood names) leaves
 
 -- the place of the last token, or what stood before where there is none
 abbrev pub last_place : (before : ℕ) → List Placed → ℕ
@@ -171,28 +178,27 @@ last_place before (t ∷ ts) = last_place t.place ts
 -- the token can't follow the tokens before it in any text of the grammar
 pub record IsUnexpected (before : List Placed) (at : Placed) (fault : TermFault) : Type 0 where
   pub fault_is : fault ≡ Unexpected at.place
-  pub stuck : Begins (tokens_in before ++ at.token ∷ []) → ⊥
+  pub stuck : (leaves : List Leaf) → Starts leaves → tokens_on leaves ≡ tokens_in before ++ at.token ∷ [] → ⊥
 
 -- the token goes on with the leaves, and has a fault of its own
 pub record HasOwnFault (names : Names) (before : List Placed) (leaves : List Leaf) (at : Placed) (fault : TermFault) : Type 0 where
-  pub tree : AskText
-  pub written : IsText tree
   pub leaf : Leaf
-  pub rest : List Leaf
-  pub whole : ask_leaves tree ≡ leaves ++ leaf ∷ rest
+  pub start : Starts (leaves ++ leaf ∷ [])
   pub played : token_of leaf ≡ at.token
   pub kind : OwnFault
   pub own : own_fault names leaf ≡ Some kind
   pub fault_is : fault ≡ told kind (told_at leaf (last_place 0 before) at.place)
 
--- the first token with a fault: those before it have none
+-- the first token with a fault: those before it begin a text of the grammar, and have none
 pub record FirstFault (names : Names) (tokens : List Placed) (fault : TermFault) : Type 0 where
   pub before : List Placed
   pub at : Placed
   pub after : List Placed
   pub cut : tokens ≡ before ++ at ∷ after
   pub leaves : List Leaf
-  pub start : GoodStart names before leaves
+  pub start : Starts leaves
+  pub played : tokens_on leaves ≡ tokens_in before
+  pub good : AllByRecursion (IsGood names) leaves
   pub there : IsUnexpected before at fault ⊎ HasOwnFault names before leaves at fault
 
 -- a skyline clause with no fault of a token, and DIFF columns alone

@@ -4,6 +4,7 @@ use Rattle.std.specs.List.{prefix_len}
 pub use Rattle.pref_term.specs.declared.token.Sign.{Sign}
 pub use Rattle.pref_term.specs.declared.token.Sign.TheVariants.{Left as left, Right as right, Comma as comma, Star as star, Ampersand as ampersand, Minus as minus}
 
+-- a token, with its bytes where it has a choice of them
 pub data Token : Type 0 where
   word : (letters : List ℕ) → Token
   digits : (digits : List ℕ) → Token
@@ -17,12 +18,15 @@ pub record Placed : Type 0 where
   pub token : Token
   pub place : ℕ
 
+-- a space or a tab
 abbrev pub is_blank : ℕ → Bool
 is_blank b = b == 32 || b == 9
 
+-- `0` to `9`
 abbrev pub is_digit : ℕ → Bool
 is_digit b = nat_le 48 b && nat_le b 57
 
+-- `A` to `Z` and `a` to `z`
 abbrev pub is_letter : ℕ → Bool
 is_letter b = (nat_le 65 b && nat_le b 90) || (nat_le 97 b && nat_le b 122)
 
@@ -30,6 +34,7 @@ is_letter b = (nat_le 65 b && nat_le b 90) || (nat_le 97 b && nat_le b 122)
 abbrev pub is_word_byte : ℕ → Bool
 is_word_byte b = is_letter b || is_digit b || b == 95 || b == 46
 
+-- the token that is this byte alone
 abbrev pub sign_or_other : ℕ → Token
 sign_or_other b =
     if b == 40 then sign left
@@ -59,5 +64,6 @@ tokens_from zero place (b ∷ bs) =
     if is_blank b then tokens_from 0 (place + 1) bs
     else record { token = token_from b bs; place = place } ∷ tokens_from (more_bytes b bs) (place + 1) bs
 
+-- the tokens of a text, up to its end; blanks lie between them
 abbrev pub tokens_of : List ℕ → List Placed
 tokens_of text = tokens_from 0 0 text

@@ -10,6 +10,7 @@ IsWritableBase (high col) = Unit {0}
 IsWritableBase (around col centre) = FitsSigned w64 centre
 IsWritableBase (one_of col set) = (set ≢ []) × All (FitsSigned w64) set
 
+-- so is each of its base terms
 abbrev pub IsWritable : Preference → Type 0
 IsWritable (scored b) = IsWritableBase b
 IsWritable (pareto p q) = IsWritable p × IsWritable q

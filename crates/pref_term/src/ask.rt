@@ -58,6 +58,8 @@ impl Ask {
     pub fn term(&self) -> &Term
         ensures term { preference_of result.now ≡ self.now.preference }
         ensures columns { FitsWidth 16 self.now }
+        // What is so of each ask, as the law of shown questions wants it.
+        ensures known { IsAsk self.now }
     {
         &self.term
     }
@@ -105,6 +107,8 @@ pub fn in_same_group(columns: &[usize], a: &Row, b: &Row) -> bool
 
 impl Dominance for Ask {
     ghost use Rattle.pref_term.specs.AskOrder.{order_of, order_of_is_strict};
+    ghost use Rattle.pref_term.specs.Order.{is_better, is_same, is_worse};
+    ghost use Rattle.pref_term.specs.Question.{over, alike};
 
     ghost order = { order_of };
 
@@ -114,8 +118,12 @@ impl Dominance for Ask {
         self.compare(a, b).is_better()
     }
 
-    /// Compares the group's columns first, and then walks the term once.
-    fn compare(&self, a: &Row, b: &Row) -> Relation {
+    /// Compares the group's columns first, and then walks the term once. Rows of two groups are `Neither`.
+    fn compare(&self, a: &Row, b: &Row) -> Relation
+        ensures better { is_better result ≡ over self.now a.now b.now }
+        ensures worse { is_worse result ≡ over self.now b.now a.now }
+        ensures same { is_same result ≡ alike self.now a.now b.now }
+    {
         if in_same_group(&self.group, a, b) {
             compare(&self.term, a, b)
         } else {

@@ -2,23 +2,31 @@
 
 use thiserror::Error;
 
-/// Why a text is no question.
+/// Why a text is no question. A place counts the bytes before it, from 0.
 #[derive(Debug, Drop, PartialEq, Eq, Error)]
 pub enum TermFault {
+    /// No text of the grammar goes on like this; the place is the token's, and the text's length at its end.
     #[error("unexpected at {at}")]
     Unexpected { at: u64 },
+    /// A word that is no column's name, where a column stands.
     #[error("unknown column at {at}")]
     UnknownColumn { at: u64 },
+    /// A number outside 64 bits; the place is that of its minus sign, where it has one.
     #[error("number range at {at}")]
     NumberRange { at: u64 },
+    /// A 65th nesting that would be open; the place is that of its `(` or `-`.
     #[error("too deep at {at}")]
     TooDeep { at: u64 },
+    /// More than 4,096 bytes.
     #[error("too long")]
     TooLong,
+    /// A count outside 1 to 1000; the place is that of its digits.
     #[error("bad count at {at}")]
     BadCount { at: u64 },
+    /// A skyline clause of DIFF columns alone.
     #[error("no min or max")]
     NoMinOrMax,
+    /// There was no memory for the ask.
     #[error("out of memory")]
     OutOfMemory,
 }

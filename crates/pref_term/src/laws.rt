@@ -1,6 +1,8 @@
 //! Laws of question texts.
-ghost use Rattle.std.specs.Prelude.{◌≡◌, ℕ, List, [], ◌∷◌, MatchResult, Ok, Err, codes};
-ghost use Rattle.pref_term.specs.Question.{Question};
+ghost use Rattle.std.specs.Prelude.{◌≡◌, ◌≤◌, ℕ, List, [], ◌∷◌, length, MatchResult, Ok, Err, codes};
+ghost use Rattle.pref_table.specs.Names.{schema_of};
+ghost use Rattle.pref_term.specs.Question.{Question, IsAsk, FitsWidth};
+ghost use Rattle.pref_term.specs.Shown.{shown, nests};
 ghost use Rattle.pref_term.specs.Spells.{Names, Spells, Faults};
 ghost use Rattle.pref_term.specs.Asked.{asked};
 ghost use Rattle.pref_term.specs.Preference.{scored, low};
@@ -18,6 +20,15 @@ pub fn one_reading()
     ensures ask { (names : Names) (text : List ℕ) (p q : Question) → Spells names text p → Spells names text q → p ≡ q }
     ensures either { (names : Names) (text : List ℕ) (p : Question) (f : TermFault) → Spells names text p → Faults names text f → ⊥ }
     ensures fault { (names : Names) (text : List ℕ) (f g : TermFault) → Faults names text f → Faults names text g → f ≡ g }
+{}
+
+/// What is shown of an ask over the columns of a schema spells that ask, where it keeps the limits of a question's length
+/// and nesting: so reading what was shown gives the ask again.
+pub fn shown_is_read_again()
+    ensures spelled { (names : Names) (q : Question) → schema_of names ≡ Ok names → IsAsk q → FitsWidth (length names) q →
+        nests q.preference ≤ 64 → length (shown names q) ≤ 4096 → Spells names (shown names q) q }
+    ensures asked { (names : Names) (q : Question) → schema_of names ≡ Ok names → IsAsk q → FitsWidth (length names) q →
+        nests q.preference ≤ 64 → length (shown names q) ≤ 4096 → asked names (shown names q) ≡ Ok q }
 {}
 
 /// Texts and what they ask: the answer of a closed text is computed.

@@ -10,6 +10,7 @@ pub mod laws;
 mod number;
 mod read;
 mod relation;
+mod shown;
 mod term;
 #[cfg(test)]
 mod tests;
@@ -21,5 +22,6 @@ pub use dominance::Dominance;
 pub use fault::TermFault;
 pub use read::read_ask;
 pub use relation::Relation;
+pub use shown::show;
 pub use term::{Numbers, Term};
 pub use walk::{better, compare, same};

@@ -1,5 +1,10 @@
 //! Questions that are read, refused and asked, by their texts.
-use crate::{Dominance, Mode, Relation, TermFault, better, read_ask, same};
+mod showing;
+
+use crate::{
+    Dominance, Mode, Numbers, Relation, Term, TermFault, better, compare, in_same_group, read_ask,
+    same,
+};
 use pref_table::{Row, Schema};
 use std::alloc::Global;
 use std::test::Fail;
@@ -233,6 +238,27 @@ fn better_and_same_read_off_one_walk(rt: HostRuntime) -> Result<(), Fail> {
     assert!(rt; !same(term, &first, &second));
     assert!(rt; same(term, &first, &first));
     assert!(rt; ask.over(&first, &second));
+    Ok(())
+}
+
+#[test]
+fn a_term_made_by_hand_is_walked(rt: HostRuntime) -> Result<(), Fail> {
+    let alloc = rt.alloc();
+    let names = [b"x".as_slice(), b"y".as_slice()];
+    let schema = Schema::new(alloc, names.as_slice())?;
+    let first = Row::of(&schema, [5, 7].as_slice())?;
+    let second = Row::of(&schema, [1, 7].as_slice())?;
+    let set = Numbers::of(vec![in alloc; 2, 5]?);
+    assert_eq!(rt; set.as_slice(), [2, 5].as_slice());
+    let term = Term::Pos { col: 0, set };
+    let relation = compare(&term, &first, &second);
+    assert!(rt; relation.is_better());
+    assert!(rt; !relation.is_worse());
+    assert!(rt; !relation.is_same());
+    assert!(rt; compare(&term, &second, &first).is_worse());
+    assert!(rt; compare(&term, &first, &first).is_same());
+    assert!(rt; in_same_group(&[1], &first, &second));
+    assert!(rt; !in_same_group(&[1, 0], &first, &second));
     Ok(())
 }
 

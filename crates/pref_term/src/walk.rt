@@ -6,7 +6,7 @@ ghost use Rattle.pref_term.specs.Better as better;
 ghost use Rattle.pref_term.specs.Columns.{ReadsBelow};
 ghost use Rattle.pref_term.specs.Order.{is_better, is_same, is_worse};
 ghost use Rattle.pref_term.specs.Preference.{preference_of};
-ghost use Rattle.pref_term.specs.Walk.{by_scores, walked};
+ghost use Rattle.pref_term.specs.Walk.{by_scores, in_priority, in_product, walked};
 
 use crate::relation::Relation;
 use crate::term::{Numbers, Term};
@@ -41,6 +41,9 @@ pub fn same(term: &Term, a: &Row, b: &Row) -> bool
     compare(term, a, b).is_same()
 }
 
+/// A base term is compared here; composed ones walk their parts.
+#[cycle(walk)]
+#[inline(always)]
 fn walk(term: &Term, a: &Row, b: &Row) -> Relation
     requires { ReadsBelow 16 (preference_of term.now) }
     ensures { result ≡ walked (preference_of term.now) a.now b.now }
@@ -50,18 +53,47 @@ fn walk(term: &Term, a: &Row, b: &Row) -> Relation
         Term::High { col } => by_value_reversed(a.cell(*col), b.cell(*col)),
         Term::Around { col, centre } => by_distance(a.cell(*col), b.cell(*col), *centre),
         Term::Pos { col, set } => by_member(a.cell(*col), b.cell(*col), set),
-        Term::Pareto(p, q) => match walk(p, a, b) {
-            Relation::Neither => Relation::Neither,
-            first => first.in_product(walk(q, a, b)),
-        },
-        Term::Prior(p, q) => match walk(p, a, b) {
-            Relation::Same => walk(q, a, b),
-            Relation::Better => Relation::Better,
-            Relation::Worse => Relation::Worse,
-            Relation::Neither => Relation::Neither,
-        },
-        Term::Reverse(p) => walk(p, b, a),
+        Term::Pareto(p, q) => product(p, q, a, b),
+        Term::Prior(p, q) => priority(p, q, a, b),
+        Term::Reverse(p) => converse(p, a, b),
     }
+}
+
+/// By the product of two terms.
+#[cycle(walk)]
+fn product(p: &Term, q: &Term, a: &Row, b: &Row) -> Relation
+    requires first { ReadsBelow 16 (preference_of p.now) }
+    requires second { ReadsBelow 16 (preference_of q.now) }
+    ensures { result ≡ in_product (walked (preference_of p.now) a.now b.now) (walked (preference_of q.now) a.now b.now) }
+{
+    match walk(p, a, b) {
+        Relation::Neither => Relation::Neither,
+        first => first.in_product(walk(q, a, b)),
+    }
+}
+
+/// By the first of two terms, and where it sees no difference by the second.
+#[cycle(walk)]
+fn priority(p: &Term, q: &Term, a: &Row, b: &Row) -> Relation
+    requires first { ReadsBelow 16 (preference_of p.now) }
+    requires second { ReadsBelow 16 (preference_of q.now) }
+    ensures { result ≡ in_priority (walked (preference_of p.now) a.now b.now) (walked (preference_of q.now) a.now b.now) }
+{
+    match walk(p, a, b) {
+        Relation::Same => walk(q, a, b),
+        Relation::Better => Relation::Better,
+        Relation::Worse => Relation::Worse,
+        Relation::Neither => Relation::Neither,
+    }
+}
+
+/// By the converse of a term.
+#[cycle(walk)]
+fn converse(p: &Term, a: &Row, b: &Row) -> Relation
+    requires { ReadsBelow 16 (preference_of p.now) }
+    ensures { result ≡ walked (preference_of p.now) b.now a.now }
+{
+    walk(p, b, a)
 }
 
 /// The smaller value is better.

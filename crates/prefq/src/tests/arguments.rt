@@ -7,18 +7,16 @@ use std::test::Fail;
 type Read = (bool, u8, u32, u32);
 
 fn read(alloc: Global, words: &[&str]) -> Option<Read> {
-    match read_args(alloc, words) {
-        Ok(args) => {
-            let setup = args.setup;
-            Some((
-                args.threads,
-                setup.clients(),
-                setup.capacity(),
-                setup.block(),
-            ))
-        }
-        Err(_) => None,
-    }
+    let Ok(args) = read_args(alloc, words) else {
+        return None;
+    };
+    let setup = args.setup;
+    Some((
+        args.threads,
+        setup.clients(),
+        setup.capacity(),
+        setup.block(),
+    ))
 }
 
 #[test]

@@ -1,4 +1,4 @@
-use Rattle.std.proofs.Common.{◌≡◌, ◌++◌, [], map, sym, ◌∙◌, ap, subst}
+use Rattle.std.proofs.Common.{◌≡◌, ◌++◌, [], map, sym, subst}
 use Rattle.pref_sky.specs.Levels.{HaveDifferentIds, entry_order, entry_of, levels}
 use Rattle.pref_sky.proofs.LevelLaws.{first_differ, held_differ}
 use Rattle.pref_sky.proofs.tests.cuttings.added_in_two.Goals as goal

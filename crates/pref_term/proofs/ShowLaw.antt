@@ -1,0 +1,271 @@
+-- What is shown spells what was shown.
+use Rattle.std.proofs.Common.{◌≡◌, ◌<◌, ◌≤◌, ◌^◌, ◌+◌, ℕ, ℤ, pos, negsuc, suc, List, [], ◌∷◌, ◌++◌, map, true, cond, Some, None, Ok, length, nat_lt, nat_le, refl, sym, ap, ◌∙◌, append_assoc, arith}
+use Rattle.std.specs.Prelude.{FitsSigned, decimal, is_none, All}
+use Rattle.std.specs.List.{AllByRecursion}
+use Rattle.std.specs.Int.{w64}
+use Rattle.std.specs.Char.{digit_value}
+use Rattle.std.specs.Str.Parse.{AllDigits}
+use Rattle.std.proofs.lemmas.Fmt.{digits_value-decimal, digits_decimal, decimal_nonempty}
+use Rattle.std.proofs.lemmas.List.Elements.{recursion_from_All}
+use Rattle.std.proofs.lemmas.Bool.Decides.{nat_tests}
+use Rattle.pref_term.specs.Token.{left, right, star, ampersand, minus, is_digit}
+use Rattle.pref_term.specs.Grammar.{PriorText, one_product, then_product, then_factor, grouped, AskText, rated, mark, column_name, count_digits, last, head_leaves, more_columns, group_leaves, number_leaves, others_leaves, base_leaves, prior_leaves, product_leaves, unary_leaves}
+use Rattle.pref_table.specs.Names.{schema_of}
+use Rattle.pref_term.specs.Columns.{column, ReadsBelow}
+use Rattle.pref_term.specs.Writable.{IsWritableBase, IsWritable}
+use Rattle.pref_term.specs.Question.{Question, FitsWidth, IsCount, cut_of, IsAsk}
+use Rattle.pref_term.specs.Asked.{asked}
+use Rattle.pref_term.specs.Spells.{Names, Spells, IsGood, own_fault, in_range, is_count, decimal_value, mode_of, column_at, unknown_column, number_range, bad_count}
+use Rattle.pref_term.specs.Preference.{Base, low, high, around, one_of, Preference, scored, pareto, prior, reverse}
+use Rattle.pref_term.specs.Shown.{is_prior, is_composed, held_nests, nests, name_at, shown_term, shown_mode, shown_group, shown}
+use Rattle.pref_term.specs.declared.ask.Mode.{Mode}
+use Rattle.pref_term.specs.declared.ask.Mode.TheVariants.{Best, TopLevel, AtLeast}
+use Rattle.pref_term.proofs.ShownNames.{IsWordText, IsNamed, is_named}
+use Rattle.pref_term.proofs.AskedLemmas.{spelled_asked}
+use Rattle.pref_term.proofs.ShownLemmas.{AreInRange, CanShowBase, CanShow, leaves_text, leaves_text-append, head_text, head_shown, group_shown, columns_same, number_text, base_text, Shape, factor, product, ranked, as_prior, as_product, as_factor, shape_of, shape_leaves, prior_same, meaning_same, prior_text, text_shown, own_numerals}
+use Rattle.pref_term.proofs.Exact.{good_both}
+use Rattle.pref_term.proofs.CycleLemmas.{depth_good}
+use Rattle.pref_term.proofs.Lexed.{lexed, IsDigitsText, FineHead, FineNumbers, FineBase, FinePrior, FineProduct, FineUnary, said, rated_lexed, rated_written}
+
+digit_test : (c : ℕ) → digit_value c < 10 → is_digit c ≡ true
+digit_test c h = grind (arith, nat_tests)
+
+all_tests : (ds : List ℕ) → AllDigits 10 ds → AllByRecursion (λ c. is_digit c ≡ true) ds
+all_tests [] h = tt
+all_tests (d ∷ ds) h = (digit_test d h.0, all_tests ds h.1)
+
+digits_text : (ds : List ℕ) → AllDigits 10 ds → 0 < length ds → IsDigitsText ds
+digits_text [] h n = absurd (omega arith)
+digits_text (d ∷ ds) h n = all_tests (d ∷ ds) h
+
+decimal_text : (n : ℕ) → n < 2 ^ 64 → IsDigitsText (decimal n)
+decimal_text n h = digits_text (decimal n) (digits_decimal own_numerals n h) (decimal_nonempty n h)
+
+number_fine : (v : ℤ) → FitsSigned w64 v → IsDigitsText (number_text v).digits
+number_fine (pos n) h = let small : n < 2 ^ 64 = omega (arith, h.sfits) in decimal_text n small
+number_fine (negsuc n) h = let small : suc n < 2 ^ 64 = omega (arith, h.sfits) in decimal_text (suc n) small
+
+numbers_fine : (vs : List ℤ) → AreInRange vs → FineNumbers (map number_text vs)
+numbers_fine [] h = tt
+numbers_fine (v ∷ vs) h = (number_fine v h.0, numbers_fine vs h.1)
+
+base_fine : (names : Names) (b : Base) → CanShowBase names b → FineBase (base_text names b)
+base_fine names (low col) h = h.0
+base_fine names (high col) h = h.0
+base_fine names (around col centre) h = (h.0.0, number_fine centre h.1)
+base_fine names (one_of col []) h = absurd h
+base_fine names (one_of col (v ∷ vs)) h = (h.0.0, (number_fine v h.1.0, numbers_fine vs h.1.1))
+
+abbrev FineShape : Shape → Type 0
+FineShape (factor u) = FineUnary u
+FineShape (product p) = FineProduct p
+FineShape (ranked r) = FinePrior r
+
+fine_prior : (s : Shape) → FineShape s → FinePrior (as_prior s)
+fine_prior (factor u) h = h
+fine_prior (product p) h = h
+fine_prior (ranked r) h = h
+
+fine_product : (s : Shape) → FineShape s → FineProduct (as_product s)
+fine_product (factor u) h = h
+fine_product (product p) h = h
+fine_product (ranked r) h = h
+
+fine_factor : (s : Shape) → FineShape s → FineUnary (as_factor s)
+fine_factor (factor u) h = h
+fine_factor (product p) h = h
+fine_factor (ranked r) h = h
+
+shape_fine : (names : Names) (p : Preference) → CanShow names p → FineShape (shape_of names p)
+shape_fine names (scored b) h = base_fine names b h
+shape_fine names (pareto p q) h = (fine_product (shape_of names p) (shape_fine names p h.0), fine_factor (shape_of names q) (shape_fine names q h.1))
+shape_fine names (prior p q) h = (fine_prior (shape_of names p) (shape_fine names p h.0), fine_product (shape_of names q) (shape_fine names q h.1))
+shape_fine names (reverse p) h = fine_factor (shape_of names p) (shape_fine names p h)
+
+-- ---- no leaf has a fault of its own
+
+column_fine : (names : Names) (col : ℕ) → IsNamed names col → own_fault names (column_name (name_at names col)) ≡ None
+column_fine names col h = ap (λ o. cond (is_none o) (Some unknown_column) None) h.1
+
+range_fine : (v : ℤ) → FitsSigned w64 v → in_range (number_text v).negative (number_text v).digits ≡ true
+range_fine (pos n) h =
+    let small : n < 2 ^ 64 = omega (arith, h.sfits) in
+    let e : nat_lt n (2 ^ 63) ≡ true = grind (arith, nat_tests, h.sfits) in
+    ap (λ m. nat_lt m (2 ^ 63)) (digits_value-decimal own_numerals n small) ∙ e
+range_fine (negsuc n) h =
+    let small : suc n < 2 ^ 64 = omega (arith, h.sfits) in
+    let e : nat_le (suc n) (2 ^ 63) ≡ true = grind (arith, nat_tests, h.sfits) in
+    ap (λ m. nat_le m (2 ^ 63)) (digits_value-decimal own_numerals (suc n) small) ∙ e
+
+number_good : (names : Names) (v : ℤ) → FitsSigned w64 v → AllByRecursion (IsGood names) (number_leaves (number_text v))
+number_good names (pos n) h = (ap (λ b. cond b None (Some number_range)) (range_fine (pos n) h), tt)
+number_good names (negsuc n) h = (refl, (ap (λ b. cond b None (Some number_range)) (range_fine (negsuc n) h), tt))
+
+numbers_good : (names : Names) (vs : List ℤ) → AreInRange vs → AllByRecursion (IsGood names) (others_leaves (map number_text vs))
+numbers_good names [] h = tt
+numbers_good names (v ∷ vs) h = (refl, good_both names (number_leaves (number_text v)) (others_leaves (map number_text vs)) (number_good names v h.0) (numbers_good names vs h.1))
+
+base_good : (names : Names) (b : Base) → CanShowBase names b → AllByRecursion (IsGood names) (base_leaves (base_text names b))
+base_good names (low col) h = (refl, (refl, (column_fine names col h, (refl, tt))))
+base_good names (high col) h = (refl, (refl, (column_fine names col h, (refl, tt))))
+base_good names (around col centre) h =
+    (refl, (refl, (column_fine names col h.0, (refl, good_both names (number_leaves (number_text centre)) (mark right ∷ []) (number_good names centre h.1) (refl, tt)))))
+base_good names (one_of col []) h = absurd h
+base_good names (one_of col (v ∷ vs)) h = (
+  refl,
+  (
+    refl,
+    (
+      column_fine names col h.0,
+      (
+        refl,
+        good_both names (number_leaves (number_text v)) (others_leaves (map number_text vs) ++ mark right ∷ []) (number_good names v h.1.0)
+            (good_both names (others_leaves (map number_text vs)) (mark right ∷ []) (numbers_good names vs h.1.1) (refl, tt)),
+      ),
+    ),
+  ),
+)
+
+-- what is shown within so many open nestings has no fault
+abbrev GoodWithin : Names → Preference → Type 0
+GoodWithin names p = (depth : ℕ) → nests p + depth ≤ 64 → AllByRecursion (IsGood names) (shape_leaves (shape_of names p) depth)
+
+good_prior : (names : Names) (s : Shape) (depth : ℕ) → AllByRecursion (IsGood names) (shape_leaves s depth) → AllByRecursion (IsGood names) (prior_leaves (as_prior s) depth)
+good_prior names (factor u) depth h = h
+good_prior names (product p) depth h = h
+good_prior names (ranked r) depth h = h
+
+good_within : (names : Names) (r : PriorText) (depth : ℕ) → depth < 64 → AllByRecursion (IsGood names) (prior_leaves r (depth + 1)) → AllByRecursion (IsGood names) (unary_leaves (grouped r) depth)
+good_within names r depth h k = (depth_good names depth left h, good_both names (prior_leaves r (depth + 1)) (mark right ∷ []) k (refl, tt))
+
+good_product : (names : Names) (p : Preference) (depth : ℕ) → GoodWithin names p → held_nests (is_prior p) (nests p) + depth ≤ 64 → AllByRecursion (IsGood names) (product_leaves (as_product (shape_of names p)) depth)
+good_product names (scored b) depth g h = g depth h
+good_product names (pareto p q) depth g h = g depth h
+good_product names (prior p q) depth g h = good_within names (then_product (as_prior (shape_of names p)) (as_product (shape_of names q))) depth (omega arith) (g (depth + 1) (omega arith))
+good_product names (reverse p) depth g h = g depth h
+
+good_factor : (names : Names) (p : Preference) (depth : ℕ) → GoodWithin names p → held_nests (is_composed p) (nests p) + depth ≤ 64 → AllByRecursion (IsGood names) (unary_leaves (as_factor (shape_of names p)) depth)
+good_factor names (scored b) depth g h = g depth h
+good_factor names (pareto p q) depth g h = good_within names (one_product (then_factor (as_product (shape_of names p)) (as_factor (shape_of names q)))) depth (omega arith) (g (depth + 1) (omega arith))
+good_factor names (prior p q) depth g h = good_within names (then_product (as_prior (shape_of names p)) (as_product (shape_of names q))) depth (omega arith) (g (depth + 1) (omega arith))
+good_factor names (reverse p) depth g h = g depth h
+
+good_shape : (names : Names) (p : Preference) → CanShow names p → GoodWithin names p
+good_shape names (scored b) h depth k = base_good names b h
+good_shape names (pareto p q) h depth k =
+    let x : held_nests (is_prior p) (nests p) + depth ≤ 64 = omega arith in
+    let y : held_nests (is_composed q) (nests q) + depth ≤ 64 = omega arith in
+    good_both names (product_leaves (as_product (shape_of names p)) depth) (mark star ∷ unary_leaves (as_factor (shape_of names q)) depth)
+    (good_product names p depth (good_shape names p h.0) x) (refl, good_factor names q depth (good_shape names q h.1) y)
+good_shape names (prior p q) h depth k =
+    let x : nests p + depth ≤ 64 = omega arith in
+    let y : held_nests (is_prior q) (nests q) + depth ≤ 64 = omega arith in
+    good_both names (prior_leaves (as_prior (shape_of names p)) depth) (mark ampersand ∷ product_leaves (as_product (shape_of names q)) depth)
+    (good_prior names (shape_of names p) depth (good_shape names p h.0 depth x)) (refl, good_product names q depth (good_shape names q h.1) y)
+good_shape names (reverse p) h depth k =
+    (depth_good names depth minus (omega arith), good_factor names p (depth + 1) (good_shape names p h) (omega arith))
+
+-- ---- the head and the group
+
+count_small : (k : ℕ) → IsCount k → k < 2 ^ 64
+count_small k h = omega (arith, h.0, h.1)
+
+head_fine : (m : Mode) → IsCount (cut_of m) → FineHead (head_text m)
+head_fine Best h = tt
+head_fine (TopLevel k) h = decimal_text k (count_small k h)
+head_fine (AtLeast k) h = decimal_text k (count_small k h)
+
+count_fine : (names : Names) (k : ℕ) → IsCount k → own_fault names (count_digits (decimal k)) ≡ None
+count_fine names k h =
+    let e : is_count k ≡ true = grind (arith, nat_tests, h.0, h.1) in
+    ap (λ n. cond (is_count n) None (Some bad_count)) (digits_value-decimal own_numerals k (count_small k h)) ∙ ap (λ b. cond b None (Some bad_count)) e
+
+head_good : (names : Names) (m : Mode) → IsCount (cut_of m) → AllByRecursion (IsGood names) (head_leaves (head_text m))
+head_good names Best h = (refl, tt)
+head_good names (TopLevel k) h = (refl, (count_fine names k h, tt))
+head_good names (AtLeast k) h = (refl, (count_fine names k h, tt))
+
+head_same : (m : Mode) → IsCount (cut_of m) → mode_of (head_text m) ≡ m
+head_same Best h = refl
+head_same (TopLevel k) h = ap TopLevel (digits_value-decimal own_numerals k (count_small k h))
+head_same (AtLeast k) h = ap AtLeast (digits_value-decimal own_numerals k (count_small k h))
+
+columns_fine : (names : Names) (cs : List ℕ) → AllByRecursion (IsNamed names) cs → AllByRecursion IsWordText (map (name_at names) cs)
+columns_fine names [] h = tt
+columns_fine names (c ∷ cs) h = (h.0.0, columns_fine names cs h.1)
+
+columns_good : (names : Names) (cs : List ℕ) → AllByRecursion (IsNamed names) cs → AllByRecursion (IsGood names) (more_columns (map (name_at names) cs))
+columns_good names [] h = tt
+columns_good names (c ∷ cs) h = (refl, (column_fine names c h.0, columns_good names cs h.1))
+
+group_good : (names : Names) (cs : List ℕ) → AllByRecursion (IsNamed names) cs → AllByRecursion (IsGood names) (group_leaves (map (name_at names) cs))
+group_good names [] h = tt
+group_good names (c ∷ cs) h = (refl, (column_fine names c h.0, columns_good names cs h.1))
+
+-- ---- what can be shown is what contracts see of an ask over the columns of a schema
+
+module _ (names : Names) (each : (col : ℕ) → col < length names → IsNamed names col) where
+  can_show_base : (b : Base) → IsWritableBase b → column b < length names → CanShowBase names b
+  can_show_base (low col) w k = each col k
+  can_show_base (high col) w k = each col k
+  can_show_base (around col centre) w k = (each col k, w)
+  can_show_base (one_of col []) w k = absurd (w.0 refl)
+  can_show_base (one_of col (v ∷ vs)) w k = (each col k, recursion_from_All (FitsSigned w64) (v ∷ vs) w.1)
+
+  can_show : (p : Preference) → IsWritable p → ReadsBelow (length names) p → CanShow names p
+  can_show (scored b) w k = can_show_base b w k
+  can_show (pareto p q) w k = (can_show p w.0 k.0, can_show q w.1 k.1)
+  can_show (prior p q) w k = (can_show p w.0 k.0, can_show q w.1 k.1)
+  can_show (reverse p) w k = can_show p w k
+
+  all_named : (cs : List ℕ) → AllByRecursion (λ col. col < length names) cs → AllByRecursion (IsNamed names) cs
+  all_named [] h = tt
+  all_named (c ∷ cs) h = (each c h.0, all_named cs h.1)
+
+-- the tree of a shown question
+abbrev shown_tree : Names → Question → AskText
+shown_tree names q = rated (head_text q.mode) (as_prior (shape_of names q.preference)) (map (name_at names) q.group)
+
+tree_text : (names : Names) (q : Question) → CanShow names q.preference → leaves_text (said (head_text q.mode) (as_prior (shape_of names q.preference)) (map (name_at names) q.group)) ≡ shown names q
+tree_text names q h =
+    let head = head_leaves (head_text q.mode) in
+    let term = prior_leaves (as_prior (shape_of names q.preference)) 0 in
+    let group = group_leaves (map (name_at names) q.group) in
+    leaves_text-append head (term ++ group)
+    ∙ (ap (λ xs. xs ++ leaves_text (term ++ group)) (head_shown q.mode)
+    ∙ (ap (λ xs. shown_mode q.mode ++ xs)
+    (leaves_text-append term group
+    ∙ (ap (λ xs. xs ++ leaves_text group) (prior_text (shape_of names q.preference) 0 ∙ text_shown names q.preference h 0)
+    ∙ ap (λ xs. shown_term names q.preference ++ xs) (group_shown names q.group)))
+    ∙ sym (append_assoc (shown_mode q.mode) (shown_term names q.preference) (shown_group names q.group))))
+
+-- where the shown text keeps the limits of length and nesting, it spells what was shown
+pub shown_spells : (names : Names) (q : Question) → schema_of names ≡ Ok names → IsAsk q → FitsWidth (length names) q → nests q.preference ≤ 64 → length (shown names q) ≤ 4096 → Spells names (shown names q) q
+shown_spells names q schema ask width deep short =
+    let each = is_named names schema in
+    let can = can_show names each q.preference ask.writable width.preference in
+    let columns = all_named names each q.group (recursion_from_All (λ col. col < length names) q.group width.group) in
+    let shape = shape_of names q.preference in
+    let term = as_prior shape in
+    let group = map (name_at names) q.group in
+    let head = head_text q.mode in
+    let fine = fine_prior shape (shape_fine names q.preference can) in
+    let room : nests q.preference + 0 ≤ 64 = omega arith in
+    record {
+      tree = shown_tree names q;
+      written = rated_written head term group (head_fine q.mode ask.count) fine (columns_fine names q.group columns);
+      short = short;
+      tokens = ap lexed (sym (tree_text names q can)) ∙ rated_lexed head term group (head_fine q.mode ask.count) fine (columns_fine names q.group columns);
+      good =
+          good_both names (head_leaves head) (prior_leaves term 0 ++ (group_leaves group ++ last ∷ [])) (head_good names q.mode ask.count)
+          (good_both names (prior_leaves term 0) (group_leaves group ++ last ∷ []) (good_prior names shape 0 (good_shape names q.preference can 0 room))
+          (good_both names (group_leaves group) (last ∷ []) (group_good names q.group columns) (refl, tt)));
+      meaning =
+          ap (λ p. Some (record { preference = p; group = map (column_at names) group; mode = mode_of head })) (prior_same shape names ∙ meaning_same names q.preference can)
+          ∙ (ap (λ cs. Some (record { preference = q.preference; group = cs; mode = mode_of head })) (columns_same names q.group columns)
+          ∙ ap (λ m. Some (record { preference = q.preference; group = q.group; mode = m })) (head_same q.mode ask.count));
+    }
+
+-- so it is the ask that the text asks
+pub shown_asked : (names : Names) (q : Question) → schema_of names ≡ Ok names → IsAsk q → FitsWidth (length names) q → nests q.preference ≤ 64 → length (shown names q) ≤ 4096 → asked names (shown names q) ≡ Ok q
+shown_asked names q schema ask width deep short = spelled_asked names (shown names q) q (shown_spells names q schema ask width deep short)

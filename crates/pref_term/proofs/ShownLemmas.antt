@@ -1,0 +1,277 @@
+-- What is shown is a text of the grammar with the meaning of what was shown.
+use Rattle.std.proofs.Common.{◌≡◌, ◌<◌, ◌^◌, ◌+◌, ◌-◌, ◌*◌, ℕ, ℤ, pos, negsuc, suc, List, [], ◌∷◌, ◌++◌, map, true, false, refl, sym, ap, ◌∙◌, append_assoc, append-nil, arith}
+use Rattle.std.specs.Prelude.{codes, unwrap_or, FitsSigned, neg_ℤ, decimal}
+use Rattle.std.specs.Fmt.{signed_decimal}
+use Rattle.std.specs.Int.{w64}
+use Rattle.std.specs.List.{AllByRecursion}
+use Rattle.std.specs.Str.Parse.{AllDigits, digits_value_after}
+use Rattle.std.specs.Char.{digit_value}
+use Rattle.std.proofs.lemmas.Bool.Decides.{nat_tests}
+use Rattle.std.proofs.lemmas.Str.Parse.{IsNumeralModel}
+use Rattle.std.proofs.lemmas.Fmt.{digits_value-decimal}
+use Rattle.pref_term.specs.Token.{Sign, left, right, comma, star, ampersand, minus}
+use Rattle.pref_term.specs.Grammar.{Keyword, best_word, low_word, high_word, around_word, pos_word, reverse_word, top_level_word, at_least_word, by_word, NumberText, BaseText, low_text, high_text, around_text, pos_text, PriorText, one_product, then_product, ProductText, one_factor, then_factor, UnaryText, negated, grouped, based, HeadText, best_head, top_level_head, at_least_head, Leaf, name, mark, opens, column_name, number_digits, count_digits, cased, last, number_leaves, others_leaves, base_leaves, prior_leaves, product_leaves, unary_leaves, head_leaves, more_columns, group_leaves}
+use Rattle.pref_term.specs.Spells.{Names, decimal_value, decimal_value_from, number_value, column_at, base_meaning, prior_meaning, product_meaning, unary_meaning}
+use Rattle.pref_term.specs.Preference.{Base, low, high, around, one_of, Preference, scored, pareto, prior, reverse}
+use Rattle.pref_term.specs.Shown.{name_at, shown_values, shown_base, is_prior, is_composed, held, shown_term, shown_mode, more_names, shown_group}
+use Rattle.pref_term.specs.declared.ask.Mode.{Mode}
+use Rattle.pref_term.specs.declared.ask.Mode.TheVariants.{Best, TopLevel, AtLeast}
+use Rattle.pref_term.proofs.ShownNames.{IsNamed}
+
+-- ---- what can be shown
+
+-- values of 64 bits
+abbrev pub AreInRange : List ℤ → Type 0
+AreInRange values = AllByRecursion (FitsSigned w64) values
+
+abbrev pub CanShowBase : Names → Base → Type 0
+CanShowBase names (low col) = IsNamed names col
+CanShowBase names (high col) = IsNamed names col
+CanShowBase names (around col centre) = IsNamed names col × FitsSigned w64 centre
+CanShowBase names (one_of col []) = ⊥
+CanShowBase names (one_of col (v ∷ vs)) = IsNamed names col × AreInRange (v ∷ vs)
+
+-- its columns have names, its numbers are of 64 bits and its sets aren't empty
+abbrev pub CanShow : Names → Preference → Type 0
+CanShow names (scored b) = CanShowBase names b
+CanShow names (pareto p q) = CanShow names p × CanShow names q
+CanShow names (prior p q) = CanShow names p × CanShow names q
+CanShow names (reverse p) = CanShow names p
+
+-- ---- the text of leaves
+
+abbrev pub sign_text : Sign → List ℕ
+sign_text left = codes "("
+sign_text right = codes ")"
+sign_text comma = codes ", "
+sign_text star = codes " * "
+sign_text ampersand = codes " & "
+sign_text minus = codes "-"
+
+abbrev pub word_text : Keyword → List ℕ
+word_text best_word = codes "best "
+word_text low_word = codes "low"
+word_text high_word = codes "high"
+word_text around_word = codes "around"
+word_text pos_word = codes "pos"
+word_text reverse_word = codes "reverse"
+word_text top_level_word = codes "top_level "
+word_text at_least_word = codes "at_least "
+word_text by_word = codes " by "
+
+abbrev pub leaf_text : Leaf → List ℕ
+leaf_text (name k) = word_text k
+leaf_text (mark s) = sign_text s
+leaf_text (opens depth s) = sign_text s
+leaf_text (column_name letters) = letters
+leaf_text (number_digits negative ds) = ds
+leaf_text (count_digits ds) = ds ++ codes " "
+leaf_text (cased k letters) = letters
+leaf_text last = []
+
+abbrev pub leaves_text : List Leaf → List ℕ
+leaves_text [] = []
+leaves_text (leaf ∷ leaves) = leaf_text leaf ++ leaves_text leaves
+
+pub leaves_text-append : (a b : List Leaf) → leaves_text (a ++ b) ≡ leaves_text a ++ leaves_text b
+leaves_text-append [] b = refl
+leaves_text-append (x ∷ a) b = rw (leaves_text-append a b) (sym (append_assoc (leaf_text x) (leaves_text a) (leaves_text b)))
+
+-- ---- the tree of what is shown
+
+abbrev pub number_text : ℤ → NumberText
+number_text (pos n) = record { negative = false; digits = decimal n }
+number_text (negsuc n) = record { negative = true; digits = decimal (suc n) }
+
+abbrev pub base_text : Names → Base → BaseText
+base_text names (low col) = low_text (name_at names col)
+base_text names (high col) = high_text (name_at names col)
+base_text names (around col centre) = around_text (name_at names col) (number_text centre)
+base_text names (one_of col []) = low_text (name_at names col)
+base_text names (one_of col (v ∷ vs)) = pos_text (name_at names col) (number_text v) (map number_text vs)
+
+-- a tree of the tightest kind that the preference has
+pub data Shape : Type 0 where
+  factor : (u : UnaryText) → Shape
+  product : (p : ProductText) → Shape
+  ranked : (r : PriorText) → Shape
+
+abbrev pub as_prior : Shape → PriorText
+as_prior (factor u) = one_product (one_factor u)
+as_prior (product p) = one_product p
+as_prior (ranked r) = r
+
+abbrev pub as_product : Shape → ProductText
+as_product (factor u) = one_factor u
+as_product (product p) = p
+as_product (ranked r) = one_factor (grouped r)
+
+abbrev pub as_factor : Shape → UnaryText
+as_factor (factor u) = u
+as_factor (product p) = grouped (one_product p)
+as_factor (ranked r) = grouped r
+
+abbrev pub shape_of : Names → Preference → Shape
+shape_of names (scored b) = factor (based (base_text names b))
+shape_of names (pareto p q) = product (then_factor (as_product (shape_of names p)) (as_factor (shape_of names q)))
+shape_of names (prior p q) = ranked (then_product (as_prior (shape_of names p)) (as_product (shape_of names q)))
+shape_of names (reverse p) = factor (negated (as_factor (shape_of names p)))
+
+-- ---- its meaning
+
+abbrev pub shape_meaning : Shape → Names → Preference
+shape_meaning (factor u) names = unary_meaning u names
+shape_meaning (product p) names = product_meaning p names
+shape_meaning (ranked r) names = prior_meaning r names
+
+pub prior_same : (s : Shape) (names : Names) → prior_meaning (as_prior s) names ≡ shape_meaning s names
+prior_same (factor u) names = refl
+prior_same (product p) names = refl
+prior_same (ranked r) names = refl
+
+product_same : (s : Shape) (names : Names) → product_meaning (as_product s) names ≡ shape_meaning s names
+product_same (factor u) names = refl
+product_same (product p) names = refl
+product_same (ranked r) names = refl
+
+factor_same : (s : Shape) (names : Names) → unary_meaning (as_factor s) names ≡ shape_meaning s names
+factor_same (factor u) names = refl
+factor_same (product p) names = refl
+factor_same (ranked r) names = refl
+
+value_same : (n : ℕ) (ds : List ℕ) → AllDigits 10 ds → decimal_value_from n ds ≡ digits_value_after 10 n ds
+value_same n [] h = refl
+value_same n (d ∷ ds) h =
+    let e : 10 * n + (d - 48) ≡ n * 10 + digit_value d = digit_step n d h.0 in
+    ap (λ m. decimal_value_from m ds) e ∙ value_same (n * 10 + digit_value d) ds h.1
+  where
+    digit_step : (n d : ℕ) → digit_value d < 10 → 10 * n + (d - 48) ≡ n * 10 + digit_value d
+    digit_step n d h = grind (arith, nat_tests)
+
+pub own_numerals : IsNumeralModel (λ ds. AllDigits 10 ds) decimal_value
+own_numerals = record { to = λ ds h. h; from = λ ds h. h; same = λ ds h. value_same 0 ds h }
+
+number_same : (v : ℤ) → FitsSigned w64 v → number_value (number_text v) ≡ v
+number_same (pos n) h = let small : n < 2 ^ 64 = omega (arith, h.sfits) in ap pos (digits_value-decimal own_numerals n small)
+number_same (negsuc n) h = let small : suc n < 2 ^ 64 = omega (arith, h.sfits) in ap (λ m. neg_ℤ (pos m)) (digits_value-decimal own_numerals (suc n) small)
+
+column_same : (names : Names) (col : ℕ) → IsNamed names col → column_at names (name_at names col) ≡ col
+column_same names col h = ap (λ o. unwrap_or o 0) h.1
+
+numbers_same : (vs : List ℤ) → AreInRange vs → map number_value (map number_text vs) ≡ vs
+numbers_same [] h = refl
+numbers_same (v ∷ vs) h = ap (λ x. x ∷ map number_value (map number_text vs)) (number_same v h.0) ∙ ap (λ xs. v ∷ xs) (numbers_same vs h.1)
+
+base_same : (names : Names) (b : Base) → CanShowBase names b → base_meaning names (base_text names b) ≡ b
+base_same names (low col) h = ap low (column_same names col h)
+base_same names (high col) h = ap high (column_same names col h)
+base_same names (around col centre) h = ap (λ c. around c (number_value (number_text centre))) (column_same names col h.0) ∙ ap (around col) (number_same centre h.1)
+base_same names (one_of col []) h = absurd h
+base_same names (one_of col (v ∷ vs)) h = ap (λ c. one_of c (map number_value (map number_text (v ∷ vs)))) (column_same names col h.0) ∙ ap (one_of col) (numbers_same (v ∷ vs) h.1)
+
+-- the tree has the meaning of what is shown
+pub meaning_same : (names : Names) (p : Preference) → CanShow names p → shape_meaning (shape_of names p) names ≡ p
+meaning_same names (scored b) h = ap scored (base_same names b h)
+meaning_same names (pareto p q) h =
+    ap (λ x. pareto x (unary_meaning (as_factor (shape_of names q)) names)) (product_same (shape_of names p) names ∙ meaning_same names p h.0)
+    ∙ ap (pareto p) (factor_same (shape_of names q) names ∙ meaning_same names q h.1)
+meaning_same names (prior p q) h =
+    ap (λ x. prior x (product_meaning (as_product (shape_of names q)) names)) (prior_same (shape_of names p) names ∙ meaning_same names p h.0)
+    ∙ ap (prior p) (product_same (shape_of names q) names ∙ meaning_same names q h.1)
+meaning_same names (reverse p) h = ap reverse (factor_same (shape_of names p) names ∙ meaning_same names p h)
+
+-- ---- its text
+
+abbrev pub shape_leaves : Shape → ℕ → List Leaf
+shape_leaves (factor u) depth = unary_leaves u depth
+shape_leaves (product p) depth = product_leaves p depth
+shape_leaves (ranked r) depth = prior_leaves r depth
+
+number_shown : (v : ℤ) → leaves_text (number_leaves (number_text v)) ≡ signed_decimal v
+number_shown (pos n) = append-nil (decimal n)
+number_shown (negsuc n) = simp append-nil
+
+values_shown : (vs : List ℤ) → leaves_text (others_leaves (map number_text vs)) ≡ shown_values vs
+values_shown [] = refl
+values_shown (v ∷ vs) =
+    ap (λ xs. codes ", " ++ xs) (leaves_text-append (number_leaves (number_text v)) (others_leaves (map number_text vs)))
+    ∙ (ap (λ xs. codes ", " ++ (xs ++ leaves_text (others_leaves (map number_text vs)))) (number_shown v)
+    ∙ ap (λ xs. codes ", " ++ (signed_decimal v ++ xs)) (values_shown vs))
+
+base_shown : (names : Names) (b : Base) → CanShowBase names b → leaves_text (base_leaves (base_text names b)) ≡ shown_base names b
+base_shown names (low col) h = simp append_assoc
+base_shown names (high col) h = simp append_assoc
+base_shown names (around col centre) h =
+    ap (λ xs. codes "around(" ++ (name_at names col ++ (codes ", " ++ xs)))
+    (leaves_text-append (number_leaves (number_text centre)) (mark right ∷ []) ∙ ap (λ ys. ys ++ codes ")") (number_shown centre))
+    ∙ simp append_assoc
+base_shown names (one_of col []) h = absurd h
+base_shown names (one_of col (v ∷ vs)) h =
+    ap (λ xs. codes "pos(" ++ (name_at names col ++ (codes ", " ++ xs)))
+    (leaves_text-append (number_leaves (number_text v)) (others_leaves (map number_text vs) ++ mark right ∷ [])
+    ∙ (ap (λ ys. ys ++ leaves_text (others_leaves (map number_text vs) ++ mark right ∷ [])) (number_shown v)
+    ∙ ap (λ ys. signed_decimal v ++ ys) (leaves_text-append (others_leaves (map number_text vs)) (mark right ∷ []) ∙ ap (λ ys. ys ++ codes ")") (values_shown vs))))
+    ∙ simp append_assoc
+
+abbrev pub Shows : Names → Preference → Type 0
+Shows names p = (depth : ℕ) → leaves_text (shape_leaves (shape_of names p) depth) ≡ shown_term names p
+
+parentheses : (r : PriorText) (depth : ℕ) (text : List ℕ) → leaves_text (prior_leaves r (depth + 1)) ≡ text → leaves_text (unary_leaves (grouped r) depth) ≡ codes "(" ++ text ++ codes ")"
+parentheses r depth text h = ap (λ xs. codes "(" ++ xs) (leaves_text-append (prior_leaves r (depth + 1)) (mark right ∷ []) ∙ ap (λ xs. xs ++ codes ")") h)
+
+pub prior_text : (s : Shape) (depth : ℕ) → leaves_text (prior_leaves (as_prior s) depth) ≡ leaves_text (shape_leaves s depth)
+prior_text (factor u) depth = refl
+prior_text (product p) depth = refl
+prior_text (ranked r) depth = refl
+
+product_text : (names : Names) (p : Preference) → Shows names p → (depth : ℕ) → leaves_text (product_leaves (as_product (shape_of names p)) depth) ≡ held (is_prior p) (shown_term names p)
+product_text names (scored b) h depth = h depth
+product_text names (pareto p q) h depth = h depth
+product_text names (prior p q) h depth = parentheses (then_product (as_prior (shape_of names p)) (as_product (shape_of names q))) depth _ (h (depth + 1))
+product_text names (reverse p) h depth = h depth
+
+factor_text : (names : Names) (p : Preference) → Shows names p → (depth : ℕ) → leaves_text (unary_leaves (as_factor (shape_of names p)) depth) ≡ held (is_composed p) (shown_term names p)
+factor_text names (scored b) h depth = h depth
+factor_text names (pareto p q) h depth = parentheses (one_product (then_factor (as_product (shape_of names p)) (as_factor (shape_of names q)))) depth _ (h (depth + 1))
+factor_text names (prior p q) h depth = parentheses (then_product (as_prior (shape_of names p)) (as_product (shape_of names q))) depth _ (h (depth + 1))
+factor_text names (reverse p) h depth = h depth
+
+-- the text of the tree is what is shown
+pub text_shown : (names : Names) (p : Preference) → CanShow names p → Shows names p
+text_shown names (scored b) h depth = base_shown names b h
+text_shown names (pareto p q) h depth =
+    leaves_text-append (product_leaves (as_product (shape_of names p)) depth) (mark star ∷ unary_leaves (as_factor (shape_of names q)) depth)
+    ∙ (ap (λ xs. xs ++ (codes " * " ++ leaves_text (unary_leaves (as_factor (shape_of names q)) depth))) (product_text names p (text_shown names p h.0) depth)
+    ∙ (ap (λ xs. held (is_prior p) (shown_term names p) ++ (codes " * " ++ xs)) (factor_text names q (text_shown names q h.1) depth)
+    ∙ sym (append_assoc (held (is_prior p) (shown_term names p)) (codes " * ") (held (is_composed q) (shown_term names q)))))
+text_shown names (prior p q) h depth =
+    leaves_text-append (prior_leaves (as_prior (shape_of names p)) depth) (mark ampersand ∷ product_leaves (as_product (shape_of names q)) depth)
+    ∙ (ap (λ xs. xs ++ (codes " & " ++ leaves_text (product_leaves (as_product (shape_of names q)) depth))) (prior_text (shape_of names p) depth ∙ text_shown names p h.0 depth)
+    ∙ (ap (λ xs. shown_term names p ++ (codes " & " ++ xs)) (product_text names q (text_shown names q h.1) depth)
+    ∙ sym (append_assoc (shown_term names p) (codes " & ") (held (is_prior q) (shown_term names q)))))
+text_shown names (reverse p) h depth = ap (λ xs. codes "-" ++ xs) (factor_text names p (text_shown names p h) (depth + 1))
+
+-- ---- the head and the group
+
+-- how the mode is written
+abbrev pub head_text : Mode → HeadText
+head_text Best = best_head
+head_text (TopLevel k) = top_level_head (decimal k)
+head_text (AtLeast k) = at_least_head (decimal k)
+
+pub head_shown : (m : Mode) → leaves_text (head_leaves (head_text m)) ≡ shown_mode m
+head_shown Best = refl
+head_shown (TopLevel k) = simp (append_assoc, append-nil)
+head_shown (AtLeast k) = simp (append_assoc, append-nil)
+
+pub columns_shown : (names : Names) (cs : List ℕ) → leaves_text (more_columns (map (name_at names) cs)) ≡ more_names names cs
+columns_shown names [] = refl
+columns_shown names (c ∷ cs) = ap (λ xs. codes ", " ++ (name_at names c ++ xs)) (columns_shown names cs)
+
+pub group_shown : (names : Names) (cs : List ℕ) → leaves_text (group_leaves (map (name_at names) cs)) ≡ shown_group names cs
+group_shown names [] = refl
+group_shown names (c ∷ cs) = ap (λ xs. codes " by " ++ (name_at names c ++ xs)) (columns_shown names cs) ∙ sym (append_assoc (codes " by ") (name_at names c) (more_names names cs))
+
+pub columns_same : (names : Names) (cs : List ℕ) → AllByRecursion (IsNamed names) cs → map (column_at names) (map (name_at names) cs) ≡ cs
+columns_same names [] h = refl
+columns_same names (c ∷ cs) h = ap (λ x. x ∷ map (column_at names) (map (name_at names) cs)) (column_same names c h.0) ∙ ap (λ xs. c ∷ xs) (columns_same names cs h.1)

@@ -1,0 +1,97 @@
+-- Each name of a schema is a word, and its first column is its own.
+use Rattle.std.proofs.Common.{◌≡◌, ◌<◌, ◌+◌, ◌-◌, ℕ, zero, suc, List, [], ◌∷◌, length, take, get_or, Bool, true, false, cond, not, ◌&&◌, ◌||◌, nat_lt, nat_le, Option, Some, None, Result, Ok, Err, refl, sym, ap, subst, ◌∙◌, arith}
+use Rattle.std.specs.Prelude.{position, unwrap_or}
+use Rattle.std.specs.List.{AllByRecursion, list_any, list_all, position_or_len}
+use Rattle.std.specs.Str.{bytes_eq}
+use Rattle.std.proofs.lemmas.Slice.Eq.{bytes_eq-Decides}
+use Rattle.std.proofs.lemmas.Bool.Decides.{nat_tests}
+use Rattle.pref_table.specs.Columns.{column_of}
+use Rattle.pref_table.specs.Names.{is_name, is_name_byte, name_after, name_in, schema_of}
+use Rattle.pref_table.specs.Numbered.{all_from}
+use Rattle.pref_table.specs.declared.fault.TableFault.{TableFault}
+use Rattle.pref_table.specs.declared.fault.TableFault.TheVariants.{SameName, BadName}
+use Rattle.pref_table.proofs.NumberedFacts.{all_from-parts}
+use Rattle.pref_table.proofs.NamesFacts.{schema-size, schema_of-some}
+use Rattle.pref_term.specs.Token.{is_letter, is_word_byte}
+use Rattle.pref_term.specs.OrderLaws.{and_parts}
+use Rattle.pref_term.specs.Spells.{Names, column_at}
+use Rattle.pref_term.specs.Shown.{name_at}
+
+-- a letter, and then bytes of words
+abbrev pub IsWordText : List ℕ → Type 0
+IsWordText [] = ⊥
+IsWordText (b ∷ bs) = (is_letter b ≡ true) × AllByRecursion (λ c. is_word_byte c ≡ true) bs
+
+-- a column that has a name of its own
+abbrev pub IsNamed : Names → ℕ → Type 0
+IsNamed names col = IsWordText (name_at names col) × (column_of names (name_at names col) ≡ Some col)
+
+all_word : (bs : List ℕ) → list_all is_name_byte bs ≡ true → AllByRecursion (λ c. is_word_byte c ≡ true) bs
+all_word [] h = tt
+all_word (b ∷ bs) h = let k = and_parts (is_name_byte b) (list_all is_name_byte bs) h in (k.0, all_word bs k.1)
+
+last_parts : (a b c d : Bool) → (a && b && c && d) ≡ true → (c ≡ true) × (d ≡ true)
+last_parts true true true d h = (refl, h)
+last_parts true true false d h = cc
+last_parts true false c d h = cc
+last_parts false b c d h = cc
+
+name_is_word : (name : List ℕ) → is_name name ≡ true → IsWordText name
+name_is_word [] h = cc
+name_is_word (b ∷ bs) h =
+    let says = last_parts (nat_lt 0 (length (b ∷ bs))) (nat_le (length (b ∷ bs)) 32) (is_letter b) (list_all is_name_byte (b ∷ bs)) h in
+    (says.0, (all_word (b ∷ bs) says.1).1)
+
+-- what the check of a name says
+after_says : (earlier : Names) (col : ℕ) (name : List ℕ) → name_after earlier col name ≡ Ok name → (is_name name ≡ true) × (list_any (λ other. bytes_eq other name) earlier ≡ false)
+after_says earlier col name h = go (is_name name) (list_any (λ other. bytes_eq other name) earlier) h
+  where
+    go : (word taken : Bool) → cond word (cond taken (Err (SameName col)) (Ok name)) (Err (BadName col)) ≡ Ok name → (word ≡ true) × (taken ≡ false)
+    go true false e = (refl, refl)
+    go true true e = cc
+    go false t e = cc
+
+-- the checks of a list, one by one
+all_from-at : {A E : Type 0} (f : ℕ → A → Result A E) (n : ℕ) (xs ys : List A) (i : ℕ) (d : A) → all_from f n xs ≡ Ok ys → i < length xs → f (n + i) (get_or xs i d) ≡ Ok (get_or ys i d)
+all_from-at f n [] ys i d h k = absurd (omega arith)
+all_from-at f n (x ∷ xs) ys zero d h k =
+    let (w, ws, at_x, at_xs, whole) = all_from-parts f n x xs ys h in
+    let here : n + 0 ≡ n = omega arith in
+    ap (λ m. f m x) here ∙ (at_x ∙ ap (λ zs. Ok (get_or zs 0 d)) (sym whole))
+all_from-at f n (x ∷ xs) ys (suc i) d h k =
+    let (w, ws, at_x, at_xs, whole) = all_from-parts f n x xs ys h in
+    let here : n + suc i ≡ n + 1 + i = omega arith in
+    let inside : i < length xs = omega arith in
+    ap (λ m. f m (get_or xs i d)) here ∙ (all_from-at f (n + 1) xs ws i d at_xs inside ∙ ap (λ zs. Ok (get_or zs (suc i) d)) (sym whole))
+
+none_parts : (x y : Bool) → (x || y) ≡ false → (x ≡ false) × (y ≡ false)
+none_parts true y h = cc
+none_parts false y h = (refl, h)
+
+-- the first place at which a test passes
+first_place : {A : Type 0} (p : A → Bool) (xs : List A) (i : ℕ) (d : A) → i < length xs → p (get_or xs i d) ≡ true → list_any p (take i xs) ≡ false → position_or_len p xs ≡ i
+first_place p [] i d k here before = absurd (omega arith)
+first_place p (x ∷ xs) zero d k here before = ap (λ b. cond (not b) (1 + position_or_len p xs) 0) here
+first_place p (x ∷ xs) (suc i) d k here before =
+    let inside : i < length xs = omega arith in
+    let one : 1 + i ≡ suc i = omega arith in
+    let parts = none_parts (p x) (list_any p (take i xs)) before in
+    ap (λ c. cond (not c) (1 + position_or_len p xs) 0) parts.0 ∙ (ap (λ n. 1 + n) (first_place p xs i d inside here parts.1) ∙ one)
+
+first_position : {A : Type 0} (p : A → Bool) (xs : List A) (i : ℕ) → i < length xs → position_or_len p xs ≡ i → position p xs ≡ Some i
+first_position p xs i k e =
+    let inside : nat_lt i (length xs) ≡ true = grind (arith, nat_tests) in
+    ap (λ n. cond (nat_lt n (length xs)) (Some n) None) e ∙ ap (λ b. cond b (Some i) None) inside
+
+-- each column of a schema has a name of its own
+pub is_named : (names : Names) → schema_of names ≡ Ok names → (col : ℕ) → col < length names → IsNamed names col
+is_named names h col inside =
+    let size = schema-size names names h in
+    let each = sym (schema_of-some names size.0 size.1) ∙ h in
+    let checked = all_from-at (name_in names) 1 names names col [] each inside in
+    let before : 1 + col - 1 ≡ col = omega arith in
+    let says = after_says (take (1 + col - 1) names) (1 + col) (name_at names col) checked in
+    let same : bytes_eq (name_at names col) (name_at names col) ≡ true = (bytes_eq-Decides (name_at names col) (name_at names col)).1 refl in
+    let fresh = subst (λ n. list_any (λ other. bytes_eq other (name_at names col)) (take n names) ≡ false) before says.1 in
+    let place = first_place (λ known. bytes_eq known (name_at names col)) names col [] inside same fresh in
+    (name_is_word (name_at names col) says.0, first_position (λ known. bytes_eq known (name_at names col)) names col inside place)

@@ -1,0 +1,191 @@
+//! The text that shows a question.
+ghost use Rattle.std.specs.Prelude.{◌≡◌, ◌<◌, [], ◌++◌, length, All, OnOk, IfOk, codes, if◌then◌else◌};
+ghost use Rattle.std.specs.Fmt.{decimal, signed_decimal};
+ghost use Rattle.pref_term.specs.Columns.{ReadsBelow};
+ghost use Rattle.pref_term.specs.Preference.{preference_of};
+ghost use Rattle.pref_term.specs.Question.{FitsWidth};
+ghost use Rattle.pref_term.specs.Shown as shown;
+
+use crate::ask::{Ask, Mode};
+use crate::term::Term;
+use pref_table::Schema;
+use std::alloc::{AllocError, Global};
+
+/// The canonical text of an ask, over the columns of the schema.
+///
+/// A skyline clause is shown as the term and the group that it stands for: `skyline of x min, g diff` as
+/// `best low(x) by g`. Parentheses stand where the grammar needs them and nowhere else. `read_ask` reads the ask
+/// again where the text has at most 4,096 bytes and 64 open nestings. One walk over the term; the only error is
+/// want of memory.
+pub fn show(alloc: Global, schema: &Schema, ask: &Ask) -> Result<Vec<u8>, AllocError>
+    // The ask is over columns of the schema.
+    requires { FitsWidth (length schema.now) ask.now }
+    ensures { IfOk result (λ text. text.items ≡ shown.shown schema.now ask.now) }
+{
+    let mut text = Vec::new(alloc);
+    show_mode(alloc, &mut text, ask.mode())?;
+    show_term(alloc, &mut text, schema, ask.term())?;
+    show_group(&mut text, schema, ask.group())?;
+    Ok(text)
+}
+
+/// These bytes, and the name of the column.
+fn show_named(
+    text: &mut Vec<u8>,
+    schema: &Schema,
+    before: &[u8],
+    col: usize,
+) -> Result<(), AllocError>
+    requires { col < length schema.now }
+    ensures { OnOk result (text.new.items ≡ text.old.items ++ (before.now ++ shown.name_at schema.now col)) }
+{
+    text.extend_from_slice(before)?;
+    text.extend_from_slice(schema.name(col))
+}
+
+fn show_mode(alloc: Global, text: &mut Vec<u8>, mode: Mode) -> Result<(), AllocError>
+    ensures { OnOk result (text.new.items ≡ text.old.items ++ shown.shown_mode mode) }
+{
+    match mode {
+        Mode::Best => text.extend_from_slice(b"best "),
+        Mode::TopLevel(count) => {
+            text.extend_from_slice(b"top_level ")?;
+            show_count(alloc, text, count)
+        }
+        Mode::AtLeast(count) => {
+            text.extend_from_slice(b"at_least ")?;
+            show_count(alloc, text, count)
+        }
+    }
+}
+
+fn show_count(alloc: Global, text: &mut Vec<u8>, count: u32) -> Result<(), AllocError>
+    ensures { OnOk result (text.new.items ≡ text.old.items ++ (decimal count ++ codes " ")) }
+{
+    let digits = count.to_string(alloc)?;
+    text.extend_from_slice(digits.as_bytes())?;
+    text.extend_from_slice(b" ")
+}
+
+fn show_number(alloc: Global, text: &mut Vec<u8>, value: i64) -> Result<(), AllocError>
+    ensures { OnOk result (text.new.items ≡ text.old.items ++ signed_decimal value) }
+{
+    let digits = value.to_string(alloc)?;
+    text.extend_from_slice(digits.as_bytes())
+}
+
+/// The values of a set, each after a comma.
+fn show_values(alloc: Global, text: &mut Vec<u8>, set: &[i64]) -> Result<(), AllocError>
+    ensures { OnOk result (text.new.items ≡ text.old.items ++ shown.shown_values set.now) }
+{
+    for value in set {
+        text.extend_from_slice(b", ")?;
+        show_number(alloc, text, *value)?;
+    }
+    Ok(())
+}
+
+fn show_group(text: &mut Vec<u8>, schema: &Schema, group: &[usize]) -> Result<(), AllocError>
+    requires { All (λ col. col < length schema.now) group.now }
+    ensures { OnOk result (text.new.items ≡ text.old.items ++ shown.shown_group schema.now group.now) }
+{
+    let Some((first, others)) = group.split_first() else {
+        return Ok(());
+    };
+    show_named(text, schema, b" by ", *first)?;
+    show_more_names(text, schema, others)
+}
+
+/// The names of the columns, each after a comma.
+fn show_more_names(text: &mut Vec<u8>, schema: &Schema, columns: &[usize]) -> Result<(), AllocError>
+    requires { All (λ col. col < length schema.now) columns.now }
+    ensures { OnOk result (text.new.items ≡ text.old.items ++ shown.more_names schema.now columns.now) }
+{
+    for col in columns {
+        show_named(text, schema, b", ", *col)?;
+    }
+    Ok(())
+}
+
+/// These bytes, where they are wanted.
+fn put_if(text: &mut Vec<u8>, wanted: bool, bytes: &[u8]) -> Result<(), AllocError>
+    ensures { OnOk result (text.new.items ≡ text.old.items ++ (if wanted then bytes.now else [])) }
+{
+    if wanted {
+        text.extend_from_slice(bytes)
+    } else {
+        Ok(())
+    }
+}
+
+fn show_term(
+    alloc: Global,
+    text: &mut Vec<u8>,
+    schema: &Schema,
+    term: &Term,
+) -> Result<(), AllocError>
+    requires { ReadsBelow (length schema.now) (preference_of term.now) }
+    ensures { OnOk result (text.new.items ≡ text.old.items ++ shown.shown_term schema.now (preference_of term.now)) }
+{
+    match term {
+        Term::Low { col } => {
+            show_named(text, schema, b"low(", *col)?;
+            text.extend_from_slice(b")")
+        }
+        Term::High { col } => {
+            show_named(text, schema, b"high(", *col)?;
+            text.extend_from_slice(b")")
+        }
+        Term::Around { col, centre } => {
+            show_named(text, schema, b"around(", *col)?;
+            text.extend_from_slice(b", ")?;
+            show_number(alloc, text, *centre)?;
+            text.extend_from_slice(b")")
+        }
+        Term::Pos { col, set } => {
+            show_named(text, schema, b"pos(", *col)?;
+            show_values(alloc, text, set.as_slice())?;
+            text.extend_from_slice(b")")
+        }
+        Term::Pareto(p, q) => {
+            let left = is_prior(p);
+            put_if(text, left, b"(")?;
+            show_term(alloc, text, schema, p)?;
+            put_if(text, left, b")")?;
+            text.extend_from_slice(b" * ")?;
+            let right = is_composed(q);
+            put_if(text, right, b"(")?;
+            show_term(alloc, text, schema, q)?;
+            put_if(text, right, b")")
+        }
+        Term::Prior(p, q) => {
+            show_term(alloc, text, schema, p)?;
+            text.extend_from_slice(b" & ")?;
+            let right = is_prior(q);
+            put_if(text, right, b"(")?;
+            show_term(alloc, text, schema, q)?;
+            put_if(text, right, b")")
+        }
+        Term::Reverse(p) => {
+            text.extend_from_slice(b"-")?;
+            let held = is_composed(p);
+            put_if(text, held, b"(")?;
+            show_term(alloc, text, schema, p)?;
+            put_if(text, held, b")")
+        }
+    }
+}
+
+/// Whether the term is a prioritisation.
+fn is_prior(term: &Term) -> bool
+    ensures { result ≡ shown.is_prior (preference_of term.now) }
+{
+    matches!(term, Term::Prior(_, _))
+}
+
+/// Whether the term is a product or a prioritisation.
+fn is_composed(term: &Term) -> bool
+    ensures { result ≡ shown.is_composed (preference_of term.now) }
+{
+    matches!(term, Term::Pareto(_, _) | Term::Prior(_, _))
+}
