@@ -2,6 +2,7 @@
 mod arguments;
 mod ends;
 mod faults;
+mod questions;
 mod rows;
 
 use crate::fault::RunFault;
