@@ -1,5 +1,5 @@
 -- Each part of a machine does its act.
-use Rattle.std.proofs.Common.{◌≡◌, ℕ, ◌-◌, ◌≤◌, true, false, List, length, Option, Some, None, is_some, Ok, Err, Result, IfErr, MatchResult, ⊎_elim, refl, sym, ◌∙◌, subst}
+use Rattle.std.proofs.Common.{◌≡◌, ℕ, ◌-◌, true, false, List, length, Option, Some, None, is_some, Ok, Err, Result, IfErr, MatchResult, ⊎_elim, refl, sym, ◌∙◌, subst}
 use Rattle.std.specs.Global.{Vec}
 use Rattle.std.specs.Option.{option_map}
 use Rattle.pref_sky.specs.declared.entry.Ranked.{Ranked}
@@ -16,7 +16,7 @@ use Rattle.pref_core.specs.declared.event.Reply.{Reply}
 use Rattle.pref_core.specs.declared.event.Reply.TheVariants.{Inserted, Updated, Deleted, Begun, Answer, Abandoned, Room, Refused}
 use Rattle.pref_core.specs.declared.event.StepFault.{StepFault}
 use Rattle.pref_core.specs.Rows.{Row}
-use Rattle.pref_core.specs.Limits.{blocks}
+use Rattle.pref_core.specs.Limits.{AreAllowed, blocks}
 use Rattle.pref_core.specs.Table.{Line, line_of}
 use Rattle.pref_core.specs.State.{State, is_change, seat, with_seat, needed}
 use Rattle.pref_core.specs.Step.{System, Step, step}
@@ -25,7 +25,9 @@ use Rattle.pref_core.specs.Operations.{applied}
 use Rattle.pref_core.specs.Scans.{Scan, begin}
 use Rattle.pref_core.specs.Systems.{Running, StandsForSystem, may_want_memory, is_refusal, Tells, without_event, Steps}
 use Rattle.pref_core.specs.Parts.{IsInOrder, Does, Changes, change_of, told_of, NextIsNewAt, ScansAt, AnswersAt, is_begin}
-use Rattle.pref_core.proofs.Steps.{PlansAlways, running_of, change_tells, change_refused, begin_tells, begin_refused, next_is_new_at, told_scan, scan_tells, abandon_tells, abandon_refused, finish_tells, finish_refused, finish_not_done, nobody_tells, told_get, get_tells, room_tells}
+use Rattle.pref_core.proofs.Steps.{PlansAlways, running_of, change_tells, change_refused, begin_tells, begin_refused}
+use Rattle.pref_core.proofs.Scanning.{next_is_new_at, told_scan, scan_tells}
+use Rattle.pref_core.proofs.Endings.{abandon_tells, abandon_refused, finish_tells, finish_refused, finish_not_done, nobody_tells, told_get, get_tells, room_tells}
 
 -- What is left stands for a system again.
 in_order_told : (before after : Running) (system : System) (right : Step) (act : Act) (result : Result Reply CoreFault) → StandsForSystem before system → Tells before right act result after → IsInOrder after
@@ -81,9 +83,9 @@ pub delete_does : (old : Running) (client id : ℕ) (result : Result Reply CoreF
 delete_does old client id result new changes = record { limits = changes.limits; tells = λ system h. changes.tells system h (ActDelete id) }
 
 -- Queries.
-pub begin_does : (old : Running) (client : ℕ) (ask : Question) (op : Op) (new : Contents) (stamp : ℕ) → 1 ≤ old.limits.block → stamp ≡ old.contents.stamp → PlansAlways old.contents client Begin (Ok op) → new ≡ applied old.contents op
+pub begin_does : (old : Running) (client : ℕ) (ask : Question) (op : Op) (new : Contents) (stamp : ℕ) → AreAllowed old.limits → stamp ≡ old.contents.stamp → PlansAlways old.contents client Begin (Ok op) → new ≡ applied old.contents op
     → Does old client (ActBegin ask) (Ok (Begun (blocks old.limits))) (running_of new old.limits (with_seat client (Some (begin ask stamp old.limits)) old.scans))
-begin_does old client ask op new stamp some now plans is = record { limits = refl; tells = λ system h. begin_tells old system client ask op new stamp some now h plans is }
+begin_does old client ask op new stamp allowed now plans is = record { limits = refl; tells = λ system h. begin_tells old system client ask op new stamp allowed now h plans is }
 
 pub begin_not : (old : Running) (client : ℕ) (ask : Question) (fault : CoreFault) → PlansAlways old.contents client Begin (Err fault) → Does old client (ActBegin ask) (Err fault) old
 begin_not old client ask fault plans = record { limits = refl; tells = λ system h. begin_refused old system client ask fault h plans }

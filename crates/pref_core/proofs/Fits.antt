@@ -1,12 +1,14 @@
 -- The needed versions are within the capacity after each legal history.
 use Rattle.std.proofs.Common.{◌≡◌, ℕ, zero, suc, ◌≤◌, Bool, true, false, ◌||◌, cond, List, [], ◌∷◌, ◌++◌, length, Option, Some, None, slice_get, slice_set, ⊎_elim, refl, sym, ap, ◌∙◌, arith}
 use Rattle.std.proofs.lemmas.Bool.{or_cases, or_left, or_right}
+use Rattle.std.proofs.lemmas.List.Sums.{count_by-le-length}
 use Rattle.pref_core.specs.declared.call.Call.{Call}
 use Rattle.pref_core.specs.declared.call.Call.TheVariants.{Insert, Update, Delete, Begin, Finish, Abandon}
 use Rattle.pref_core.specs.Table.{Line, Key, holds_key, keys}
 use Rattle.pref_core.specs.State.{State, Client, Snapshot, found_tables, needed, is_change, missing, ended, granted, outcome, succeeds, committed, begun_after, counted, after}
-use Rattle.pref_core.specs.Laws.{NeededFits}
-use Rattle.pref_core.proofs.Counting.{holds_key-different, AreDifferent-different, holds_key-keys-append}
+use Rattle.pref_core.specs.Slots.{is_needed, stamps}
+use Rattle.pref_core.specs.Laws.{NeededFits, NeededFitsSlots}
+use Rattle.pref_core.proofs.Counting.{length-needed, holds_key-different, AreDifferent-different, holds_key-keys-append}
 use Rattle.pref_core.proofs.Fewer.{fewer, deletes_need_no_more}
 use Rattle.pref_core.proofs.Plans.{succeeds-fits}
 
@@ -114,3 +116,6 @@ after_fits capacity state client call fits = go (is_change call) refl (succeeds 
 pub needed_fits : NeededFits
 needed_fits capacity state [] fits legal = fits
 needed_fits capacity state (numbered ∷ history) fits legal = needed_fits capacity (after capacity state numbered.client numbered.call) history (after_fits capacity state numbered.client numbered.call fits) legal.1
+
+pub needed_fits_slots : NeededFitsSlots
+needed_fits_slots contents state h = let size = length-needed contents state h in let few = count_by-le-length (is_needed (stamps contents)) contents.slots in omega arith

@@ -12,18 +12,23 @@ use Rattle.pref_sky.specs.declared.entry.Ranked.{Ranked}
 use Rattle.pref_sky.specs.Levels.{HaveDifferentIds, entry_order, entry_of}
 use Rattle.pref_sky.specs.Answers.{answer_of}
 use Rattle.pref_sky.specs.Members.{Among, SameMembers}
-use Rattle.pref_sky.proofs.LevelLaws.{held_differ, answer_of_same}
+use Rattle.pref_sky.proofs.LevelLaws.{levels_of_none, held_differ, answer_of_same}
 use Rattle.pref_term.specs.Question.{Question, cut_of}
 use Rattle.pref_term.specs.AskOrder.{order_of}
 use Rattle.pref_core.specs.declared.store.version.Version.{Version}
-use Rattle.pref_core.specs.Limits.{Limits, blocks}
+use Rattle.pref_core.specs.Limits.{blocks}
 use Rattle.pref_core.specs.Table.{Line, IsOrdered, entries}
 use Rattle.pref_core.specs.Slots.{Shows, seen, visible, block_of}
+use Rattle.pref_core.specs.Operations.{ran}
 use Rattle.pref_core.specs.Scans.{Scan, levels_for, next_block, NextIsNew, IsScanned}
+use Rattle.pref_core.specs.Queries.{IsOnItsWay, BegunIsOnItsWay, StaysOnItsWay, NextBlockIsNew, ScannedIsOnItsWay, AnswersTheBegin}
+use Rattle.pref_core.specs.Laws.{first_blocks, BlocksAreTheSlots}
 use Rattle.pref_core.specs.Step.{Open, one_less}
 use Rattle.pref_core.specs.Systems.{Follows}
 use Rattle.pref_core.proofs.Permutations.{along_permutation}
 use Rattle.pref_core.proofs.Lookups.{one_line}
+use Rattle.pref_core.proofs.Stability.{shown, shown_ran}
+use Rattle.pref_core.proofs.Shown.{visible_take, length-ran}
 
 entry : Line → Entry
 entry line = record { id = line.id; row = line.row }
@@ -79,30 +84,39 @@ with_next scan slots =
 next_differs : (scan : Scan) (slots : List (Option Version)) (table : List Line) → Shows slots scan.stamp table → HaveDifferentIds (entries (visible scan.stamp (take (scan.done * scan.size) slots)) ++ next_block scan slots)
 next_differs scan slots table shows = subst HaveDifferentIds (sym (with_next scan slots)) (taken_differs slots scan.stamp ((scan.done + 1) * scan.size) table shows)
 
-pub next_is_new : (limits : Limits) (slots : List (Option Version)) (scan : Scan) (query : Open) → Shows slots query.commits query.table → Follows limits slots scan query → NextIsNew scan slots
-next_is_new limits slots scan query shows h =
-    let here = subst (λ n. Shows slots n query.table) (sym h.stamp) shows in
+pub next_is_new_on_its_way : NextBlockIsNew
+next_is_new_on_its_way slots scan table shows h =
     subst (λ l. HaveDifferentIds (map entry_of l ++ next_block scan slots)) (sym h.partial)
-    (held_differ (entry_order (order_of scan.ask)) (entries (visible scan.stamp (take (scan.done * scan.size) slots))) (next_block scan slots) (cut_of scan.ask.mode) (next_differs scan slots query.table here))
+    (held_differ (entry_order (order_of scan.ask)) (entries (visible scan.stamp (take (scan.done * scan.size) slots))) (next_block scan slots) (cut_of scan.ask.mode) (next_differs scan slots table shows))
 
-pub follows_scanned : (limits : Limits) (slots : List (Option Version)) (scan new : Scan) (query : Open) → Shows slots query.commits query.table → Follows limits slots scan query → IsScanned scan slots new → Follows limits slots new (one_less query)
-follows_scanned limits slots scan new query shows h is =
-    let here = subst (λ n. Shows slots n query.table) (sym h.stamp) shows in
+pub scanned_on_its_way : ScannedIsOnItsWay
+scanned_on_its_way slots scan new table shows h is =
     let scanned = entries (visible scan.stamp (take (scan.done * scan.size) slots)) in
-    let more : new.partial ≡ levels_for scan.ask (scanned ++ next_block scan slots) = is.partial scanned (next_differs scan slots query.table here) h.partial in
+    let more : new.partial ≡ levels_for scan.ask (scanned ++ next_block scan slots) = is.partial scanned (next_differs scan slots table shows) h.partial in
     let size : (scan.done + 1) * scan.size ≡ new.done * new.size = (λ i. sym is.done i * sym is.size i) in
     let there : scanned ++ next_block scan slots ≡ entries (visible new.stamp (take (new.done * new.size) slots)) = with_next scan slots ∙ (λ i. entries (visible (sym is.stamp i) (take (size i) slots))) in
+    let as_many : scan.done + scan.left ≡ new.done + new.left = let done = is.done in let left = is.left in omega arith in
+    record {
+      partial = more ∙ (λ i. levels_for (sym is.ask i) (there i));
+      rest = subst (λ n. length slots ≤ n) (λ i. as_many i * sym is.size i) h.rest;
+    }
+
+pub next_is_new : (slots : List (Option Version)) (scan : Scan) (query : Open) → Shows slots query.commits query.table → Follows slots scan query → NextIsNew scan slots
+next_is_new slots scan query shows h = next_is_new_on_its_way slots scan query.table (subst (λ n. Shows slots n query.table) (sym h.stamp) shows) h.way
+
+pub follows_scanned : (slots : List (Option Version)) (scan new : Scan) (query : Open) → Shows slots query.commits query.table → Follows slots scan query → IsScanned scan slots new → Follows slots new (one_less query)
+follows_scanned slots scan new query shows h is =
     let left = is.left in
     let query_left = h.left in
     record {
       ask = is.ask ∙ h.ask;
       stamp = is.stamp ∙ h.stamp;
-      size = is.size ∙ h.size;
-      some = h.some;
       left = omega arith;
-      blocks = (let all = h.blocks in let done = is.done in omega arith);
-      partial = more ∙ (λ i. levels_for (sym is.ask i) (there i));
+      way = scanned_on_its_way slots scan new query.table (subst (λ n. Shows slots n query.table) (sym h.stamp) shows) h.way is;
     }
+
+zero_blocks : (n : ℕ) → 0 * n ≡ 0
+zero_blocks n = omega arith
 
 -- All blocks are the whole store.
 all_blocks : (capacity block : ℕ) → 1 ≤ block → capacity ≤ (capacity + block - 1) / block * block
@@ -122,15 +136,50 @@ same_members = along_permutation (λ xs ys. SameMembers xs ys)
     (λ x y xs. record { there = over_members x y xs; back = over_members y x xs })
     (λ xs ys zs a b. record { there = λ y m. b.there y (a.there y m); back = λ y m. a.back y (b.back y m) })
 
+pub begun_on_its_way : BegunIsOnItsWay
+begun_on_its_way limits slots ask stamp allowed long = record {
+  partial = levels_of_none (entry_order (order_of ask)) (cut_of ask.mode) ∙ ap (λ n. levels_for ask (entries (visible stamp (take n slots)))) (sym (zero_blocks limits.block));
+  rest = (let all = all_blocks limits.capacity limits.block allowed.block.0 in let none : 0 + blocks limits ≡ blocks limits = omega arith in subst (λ n. length slots ≤ n * limits.block) (sym none) (subst (λ n. n ≤ blocks limits * limits.block) (sym long) all));
+}
+
+-- what shows the same, and as many slots
+pub way_stays : (before after : List (Option Version)) (scan : Scan) → length after ≡ length before → shown scan.stamp after ≡ shown scan.stamp before → IsOnItsWay before scan → IsOnItsWay after scan
+way_stays before after scan long same h = record {
+  partial = h.partial ∙ ap (λ l. levels_for scan.ask (entries l)) (sym (visible_take scan.stamp (scan.done * scan.size) before after same));
+  rest = subst (λ n. n ≤ (scan.done + scan.left) * scan.size) (sym long) h.rest;
+}
+
+pub stays_on_its_way : StaysOnItsWay
+stays_on_its_way contents client scan is early ops open_ h = way_stays contents.slots (ran contents ops).slots scan (length-ran ops contents) (shown_ran ops contents client scan.stamp is early open_) h
+
 -- Once no block is left, an answer of what is held is the answer of the table at the begin.
-pub follows_answered : (limits : Limits) (slots : List (Option Version)) (scan : Scan) (query : Open) (ranked : List Ranked) → length slots ≡ limits.capacity → Shows slots query.commits query.table → Follows limits slots scan query → scan.left ≡ 0
-    → ((list : List Entry) → scan.partial ≡ levels_for scan.ask list → ranked ≡ answer_of scan.ask list) → ranked ≡ answer_of query.ask (entries query.table)
-follows_answered limits slots scan query ranked capacity shows h none says =
-    let done : scan.done ≡ blocks limits = (let all = h.blocks in omega arith) in
-    let long : length slots ≤ scan.done * scan.size = rw (done, h.size, capacity) (all_blocks limits.capacity limits.block h.some) in
+pub answers_the_begin : AnswersTheBegin
+answers_the_begin slots scan table ranked shows h none says =
+    let all : scan.done + scan.left ≡ scan.done = omega arith in
+    let long : length slots ≤ scan.done * scan.size = subst (λ n. length slots ≤ n * scan.size) all h.rest in
     let whole : take (scan.done * scan.size) slots ≡ slots = take_all (scan.done * scan.size) slots long in
-    let held : scan.partial ≡ levels_for scan.ask (entries (visible query.commits slots)) = h.partial ∙ (λ i. levels_for scan.ask (entries (visible (h.stamp i) (whole i)))) in
+    let held : scan.partial ≡ levels_for scan.ask (entries (visible scan.stamp slots)) = h.partial ∙ (λ i. levels_for scan.ask (entries (visible scan.stamp (whole i)))) in
     let arranged = IsPermutation-map (λ (l : Line). record { id = l.id; row = l.row }) _ _ shows.lines in
-    says (entries (visible query.commits slots)) held
-    ∙ answer_of_same scan.ask _ _ (shown_differs slots query.commits query.table shows) (table_differs query.table shows.ordered) (same_members _ _ arranged)
+    says (entries (visible scan.stamp slots)) held
+    ∙ answer_of_same scan.ask _ _ (shown_differs slots scan.stamp table shows) (table_differs table shows.ordered) (same_members _ _ arranged)
+
+pub follows_answered : (slots : List (Option Version)) (scan : Scan) (query : Open) (ranked : List Ranked) → Shows slots query.commits query.table → Follows slots scan query → scan.left ≡ 0
+    → ((list : List Entry) → scan.partial ≡ levels_for scan.ask list → ranked ≡ answer_of scan.ask list) → ranked ≡ answer_of query.ask (entries query.table)
+follows_answered slots scan query ranked shows h none says =
+    answers_the_begin slots scan query.table ranked (subst (λ n. Shows slots n query.table) (sym h.stamp) shows) h.way none says
     ∙ ap (λ (q : Question). answer_of q (entries query.table)) h.ask
+
+-- The blocks, one after the other, are the slots.
+first_blocks_taken : (n size : ℕ) (slots : List (Option Version)) → first_blocks n size slots ≡ take (n * size) slots
+first_blocks_taken zero size slots = take_zero slots ∙ ap (λ n. take n slots) (sym (zero_blocks size))
+  where
+    take_zero : (xs : List (Option Version)) → ◌≡◌ {A = List (Option Version)} [] (take 0 xs)
+    take_zero [] = refl
+    take_zero (x ∷ xs) = refl
+first_blocks_taken (suc n) size slots =
+    ap (λ l. l ++ block_of n size slots) (first_blocks_taken n size slots) ∙ sym (take_add (n * size) size slots) ∙ ap (λ k. take k slots) (let e : n * size + size ≡ suc n * size = omega arith in e)
+
+pub blocks_are_the_slots : BlocksAreTheSlots
+blocks_are_the_slots limits slots allowed long =
+    first_blocks_taken (blocks limits) limits.block slots
+    ∙ take_all (blocks limits * limits.block) slots (let all = all_blocks limits.capacity limits.block allowed.block.0 in subst (λ n. n ≤ blocks limits * limits.block) (sym long) all)

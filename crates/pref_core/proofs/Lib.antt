@@ -21,6 +21,8 @@ pub mod Seats
 pub mod Following
 pub mod Systems
 pub mod Steps
+pub mod Scanning
+pub mod Endings
 pub mod Places
 pub mod Doing
 pub mod Replies

@@ -1,13 +1,13 @@
 -- A legal op leaves what open queries see.
-use Rattle.std.proofs.Common.{◌≡◌, ℕ, ◌≤◌, Bool, true, ◌&&◌, false, cond, List, length, take, Option, Some, None, is_some, refl, sym, ap, ◌∙◌, arith}
+use Rattle.std.proofs.Common.{◌≡◌, ℕ, suc, ◌+◌, ◌≤◌, Bool, true, ◌&&◌, false, cond, List, [], ◌∷◌, length, take, Option, Some, None, is_some, refl, sym, ap, ◌∙◌, arith}
 use Rattle.std.specs.List.{filter_map}
 use Rattle.std.proofs.lemmas.List.{take-map}
 use Rattle.pref_core.specs.declared.store.version.Version.{Version}
 use Rattle.pref_core.specs.declared.store.caller.Caller.{Caller}
 use Rattle.pref_core.specs.declared.call.Op.{Op}
-use Rattle.pref_core.specs.State.{State, Client, Snapshot, begun_of, is_change, succeeds}
+use Rattle.pref_core.specs.State.{State, Client, Snapshot, begun_of, is_change, succeeds, added}
 use Rattle.pref_core.specs.Slots.{Contents, StandsFor, ShowsBegin, seen, visible, caller_begun}
-use Rattle.pref_core.specs.Operations.{IsLegal, slots_after, applied, is_next}
+use Rattle.pref_core.specs.Operations.{IsLegal, slots_after, callers_after, stepped, applied, ran, is_next}
 use Rattle.pref_core.proofs.Legal.{is_next-from}
 use Rattle.pref_core.proofs.Bounds.{length-slots_after}
 use Rattle.pref_core.proofs.Outcomes.{SameSeat, nobody, somebody, same_seat}
@@ -68,3 +68,22 @@ shown_applied contents state op client snapshot h legal is =
 
 pub length-applied : (contents : Contents) (state : State) (op : Op) → StandsFor contents state → IsLegal state contents op → length (applied contents op).slots ≡ length contents.slots
 length-applied contents state op h legal = let done = legal_done contents state op h legal in ap length done.is ∙ length-slots_after contents op done.slots done.fits
+
+-- the slots stay as many, whatever is applied
+length-applied_any : (contents : Contents) (op : Op) → length (applied contents op).slots ≡ length contents.slots
+length-applied_any contents op = go (is_next contents op) (slots_after contents op) refl
+  where
+    go : (b : Bool) (o : Option (List (Option Version))) → slots_after contents op ≡ o → length (cond {A = Contents} b (elim o as (λ x. Contents) [ None ↦ contents | Some slots ↦ stepped contents op slots ]) contents).slots ≡ length contents.slots
+    go false o e = refl
+    go true None e = refl
+    go true (Some slots) e = which (is_change op.call && succeeds op.outcome)
+      where
+        which : (b : Bool) → length (cond {A = Contents} b
+            (record { slots = slots; stamp = suc contents.stamp; next_id = contents.next_id + added op.call; callers = callers_after contents.stamp contents.callers op.client op.call })
+            (record { slots = slots; stamp = contents.stamp; next_id = contents.next_id; callers = callers_after contents.stamp contents.callers op.client op.call })).slots ≡ length contents.slots
+        which true = length-slots_after contents op slots e
+        which false = length-slots_after contents op slots e
+
+pub length-ran : (ops : List Op) (contents : Contents) → length (ran contents ops).slots ≡ length contents.slots
+length-ran [] contents = refl
+length-ran (op ∷ ops) contents = length-ran ops (applied contents op) ∙ length-applied_any contents op

@@ -218,7 +218,7 @@ lasts_applied contents client stamp op is l open_ = go (is_next contents op) ref
     go true n (Some slots) e =
         lasts_stepped contents client stamp op slots (kept_at contents client stamp op is (IsAllowed-from contents op n).accepted open_) l (shown_after contents client stamp is l op slots e)
 
-shown_ran : (ops : List Op) (contents : Contents) (client stamp : ℕ) → caller_begun contents client ≡ Some stamp → stamp ≤ contents.stamp → AllByRecursion (λ op. ends_query client op ≡ false) ops → shown stamp (ran contents ops).slots ≡ shown stamp contents.slots
+pub shown_ran : (ops : List Op) (contents : Contents) (client stamp : ℕ) → caller_begun contents client ≡ Some stamp → stamp ≤ contents.stamp → AllByRecursion (λ op. ends_query client op ≡ false) ops → shown stamp (ran contents ops).slots ≡ shown stamp contents.slots
 shown_ran [] contents client stamp is l h = refl
 shown_ran (op ∷ ops) contents client stamp is l h =
     let once = lasts_applied contents client stamp op is l h.0 in

@@ -1,10 +1,8 @@
 -- What runs stands for the system, call by call.
-use Rattle.std.proofs.Common.{◌≡◌, ℕ, zero, suc, ◌+◌, ◌*◌, ◌≤◌, ◌^◌, Bool, true, false, cond, nat_lt, List, [], ◌∷◌, map, length, take, replicate, Option, Some, None, is_some, refl, sym, ap, ◌∙◌, subst, arith, ⊎_elim}
+use Rattle.std.proofs.Common.{◌≡◌, ℕ, zero, suc, ◌+◌, ◌^◌, Bool, true, false, cond, nat_lt, List, ◌∷◌, map, length, replicate, Option, Some, None, is_some, refl, sym, ap, ◌∙◌, subst, ⊎_elim}
 use Rattle.std.specs.Option.{option_map}
 use Rattle.std.proofs.lemmas.Bool.{cases_eq}
-use Rattle.pref_term.specs.Question.{Question, cut_of}
-use Rattle.pref_term.specs.AskOrder.{order_of}
-use Rattle.pref_sky.specs.Levels.{entry_order}
+use Rattle.pref_term.specs.Question.{Question}
 use Rattle.pref_core.specs.declared.store.version.Version.{Version}
 use Rattle.pref_core.specs.declared.store.caller.Caller.{Caller}
 use Rattle.pref_core.specs.declared.call.Call.{Call}
@@ -15,19 +13,18 @@ use Rattle.pref_core.specs.declared.call.Op.{Op}
 use Rattle.pref_core.specs.declared.event.Reply.{Reply}
 use Rattle.pref_core.specs.declared.fault.CoreFault.TheVariants.{NoSuchClient, Spent}
 use Rattle.pref_core.specs.Rows.{Row}
-use Rattle.pref_core.specs.Limits.{Limits, blocks}
-use Rattle.pref_core.specs.Table.{entries}
+use Rattle.pref_core.specs.Limits.{Limits, AreAllowed, blocks}
 use Rattle.pref_core.specs.State.{State, Client, Snapshot, seat, with_seat, begun_of, refusal, refusal_of, refusal_by_query, is_change, succeeds, outcome, committed, counted, begun_after, after, opening, idle_clients}
 use Rattle.pref_core.specs.Step.{Open, Member, System, snapshot, client_of, state_of, counted_with, scanned_with, changed, opened}
-use Rattle.pref_core.specs.Slots.{Contents, StandsFor, Shows, ShowsBegin, visible}
+use Rattle.pref_core.specs.Slots.{Contents, StandsFor, Shows, ShowsBegin}
 use Rattle.pref_core.specs.Operations.{IsLegal, applied}
-use Rattle.pref_core.specs.Scans.{Scan, begin, levels_for}
+use Rattle.pref_core.specs.Scans.{Scan, begin}
 use Rattle.pref_core.specs.Systems.{Running, Follows, StandsForQuery, StandsForMember, StandsForSystem}
-use Rattle.pref_sky.proofs.LevelLaws.{levels_of_none}
 use Rattle.pref_core.proofs.Legal.{applied_stands}
 use Rattle.pref_core.proofs.Outcomes.{SameSeat, nobody, somebody, same_seat}
 use Rattle.pref_core.proofs.Stability.{shown, seat-with_seat_same, seat-with_seat_other}
-use Rattle.pref_core.proofs.Shown.{visible_take, shown_applied, length-applied}
+use Rattle.pref_core.proofs.Shown.{shown_applied, length-applied}
+use Rattle.pref_core.proofs.Following.{begun_on_its_way, way_stays}
 use Rattle.pref_core.proofs.Seats.{with_seat_self, seat-map, with_seat-map}
 
 -- what the state keeps of a client that is there
@@ -128,29 +125,21 @@ IsLetIn-from system client member call at accepted = go (nat_lt member.calls (2 
     go true e h = record { unspent = e; allowed = h }
     go false e h = absurd (cc)
 
-query_stays : (limits : Limits) (before after : List (Option Version)) (scan : Option Scan) (query : Option Open)
+query_stays : (before after : List (Option Version)) (scan : Option Scan) (query : Option Open) → length after ≡ length before
     → ((open_ : Open) → query ≡ Some open_ → shown open_.commits after ≡ shown open_.commits before)
-    → StandsForQuery limits before scan query → StandsForQuery limits after scan query
-query_stays limits before after None None same h = tt
-query_stays limits before after (Some scan) (Some query) same h = record {
-  ask = h.ask;
-  stamp = h.stamp;
-  size = h.size;
-  some = h.some;
-  left = h.left;
-  blocks = h.blocks;
-  partial = h.partial ∙ ap (λ l. levels_for scan.ask (entries l)) (sym (visible_take scan.stamp (scan.done * scan.size) before after
-      (subst (λ n. shown n after ≡ shown n before) (sym h.stamp) (same query refl))));
-}
-query_stays limits before after None (Some query) same h = absurd h
-query_stays limits before after (Some scan) None same h = absurd h
+    → StandsForQuery before scan query → StandsForQuery after scan query
+query_stays before after None None long same h = tt
+query_stays before after (Some scan) (Some query) long same h =
+    record { ask = h.ask; stamp = h.stamp; left = h.left; way = way_stays before after scan long (subst (λ n. shown n after ≡ shown n before) (sym h.stamp) (same query refl)) h.way }
+query_stays before after None (Some query) long same h = absurd h
+query_stays before after (Some scan) None long same h = absurd h
 
 -- a legal op leaves what a client's query stands for
 pub member_stays : (running : Running) (system : System) (op : Op) (client : ℕ) → StandsForSystem running system → IsLegal (state_of system) running.contents op
-    → (scan : Option (Option Scan)) (member : Option Member) → seat client system.members ≡ member → StandsForMember running.limits running.contents.slots scan member → StandsForMember running.limits (applied running.contents op).slots scan member
+    → (scan : Option (Option Scan)) (member : Option Member) → seat client system.members ≡ member → StandsForMember running.contents.slots scan member → StandsForMember (applied running.contents op).slots scan member
 member_stays running system op client h legal None None at s = tt
 member_stays running system op client h legal (Some scan) (Some member) at s =
-    query_stays running.limits running.contents.slots (applied running.contents op).slots scan member.query
+    query_stays running.contents.slots (applied running.contents op).slots scan member.query (length-applied running.contents (state_of system) op h.store legal)
     (λ query is. shown_applied running.contents (state_of system) op client (snapshot query) h.store legal (begun_there system client member at ∙ ap (option_map snapshot) is)) s
 member_stays running system op client h legal None (Some member) at s = absurd s
 member_stays running system op client h legal (Some scan) None at s = absurd s
@@ -159,12 +148,12 @@ member_stays running system op client h legal (Some scan) None at s = absurd s
 pub record HasPlace (running : Running) (client : ℕ) (member : Member) : Type 0 where
   pub scan : Option Scan
   pub at : seat client running.scans ≡ Some scan
-  pub stands : StandsForQuery running.limits running.contents.slots scan member.query
+  pub stands : StandsForQuery running.contents.slots scan member.query
 
 pub HasPlace-from : (running : Running) (system : System) (client : ℕ) (member : Member) → StandsForSystem running system → seat client system.members ≡ Some member → HasPlace running client member
-HasPlace-from running system client member h at = go (seat client running.scans) refl (subst (StandsForMember running.limits running.contents.slots (seat client running.scans)) at (h.members client))
+HasPlace-from running system client member h at = go (seat client running.scans) refl (subst (StandsForMember running.contents.slots (seat client running.scans)) at (h.members client))
   where
-    go : (o : Option (Option Scan)) → seat client running.scans ≡ o → StandsForMember running.limits running.contents.slots o (Some member) → HasPlace running client member
+    go : (o : Option (Option Scan)) → seat client running.scans ≡ o → StandsForMember running.contents.slots o (Some member) → HasPlace running client member
     go None e s = absurd s
     go (Some scan) e s = record { scan = scan; at = e; stands = s }
 
@@ -172,7 +161,7 @@ HasPlace-from running system client member h at = go (seat client running.scans)
 pub numbered_stands : (running : Running) (system next : System) (op : Op) (member new : Member) (scan : Option Scan) → seat op.client system.members ≡ Some member → StandsForSystem running system → IsLegal (state_of system) running.contents op
     → state_of next ≡ after running.limits.capacity (state_of system) op.client op.call
     → next.members ≡ with_seat op.client new system.members
-    → StandsForQuery running.limits (applied running.contents op).slots scan new.query
+    → StandsForQuery (applied running.contents op).slots scan new.query
     → StandsForSystem (record { contents = applied running.contents op; limits = running.limits; scans = with_seat op.client scan running.scans }) next
 numbered_stands running system next op member new scan at h legal is members mine = record {
   store = subst (StandsFor (applied running.contents op)) (sym is) (subst (λ n. StandsFor (applied running.contents op) (after n (state_of system) op.client op.call)) h.capacity (applied_stands running.contents (state_of system) op h.store legal));
@@ -181,19 +170,19 @@ numbered_stands running system next op member new scan at h legal is members min
 }
   where
     Stands : Option (Option Scan) → Option Member → Type 0
-    Stands = StandsForMember running.limits (applied running.contents op).slots
+    Stands = StandsForMember (applied running.contents op).slots
 
-    same : (client : ℕ) → client ≡ op.client → StandsForMember running.limits (applied running.contents op).slots (seat client (with_seat op.client scan running.scans)) (seat client next.members)
+    same : (client : ℕ) → client ≡ op.client → StandsForMember (applied running.contents op).slots (seat client (with_seat op.client scan running.scans)) (seat client next.members)
     same client e =
         let place = HasPlace-from running system op.client member h at in
-        subst (λ n. StandsForMember running.limits (applied running.contents op).slots (seat n (with_seat op.client scan running.scans)) (seat n next.members)) (sym e)
-        (subst (StandsForMember running.limits (applied running.contents op).slots (seat op.client (with_seat op.client scan running.scans))) (sym (ap (seat op.client) members ∙ seat-with_seat_same system.members op.client member new at))
-        (subst (λ o. StandsForMember running.limits (applied running.contents op).slots o (Some new)) (sym (seat-with_seat_same running.scans op.client place.scan scan place.at)) mine))
+        subst (λ n. StandsForMember (applied running.contents op).slots (seat n (with_seat op.client scan running.scans)) (seat n next.members)) (sym e)
+        (subst (StandsForMember (applied running.contents op).slots (seat op.client (with_seat op.client scan running.scans))) (sym (ap (seat op.client) members ∙ seat-with_seat_same system.members op.client member new at))
+        (subst (λ o. StandsForMember (applied running.contents op).slots o (Some new)) (sym (seat-with_seat_same running.scans op.client place.scan scan place.at)) mine))
 
-    others : (client : ℕ) → (client ≡ op.client → ⊥) → StandsForMember running.limits (applied running.contents op).slots (seat client (with_seat op.client scan running.scans)) (seat client next.members)
+    others : (client : ℕ) → (client ≡ op.client → ⊥) → StandsForMember (applied running.contents op).slots (seat client (with_seat op.client scan running.scans)) (seat client next.members)
     others client n =
-        subst (StandsForMember running.limits (applied running.contents op).slots (seat client (with_seat op.client scan running.scans))) (sym (ap (seat client) members ∙ seat-with_seat_other system.members client op.client new n))
-        (subst (λ o. StandsForMember running.limits (applied running.contents op).slots o (seat client system.members)) (sym (seat-with_seat_other running.scans client op.client scan n))
+        subst (StandsForMember (applied running.contents op).slots (seat client (with_seat op.client scan running.scans))) (sym (ap (seat client) members ∙ seat-with_seat_other system.members client op.client new n))
+        (subst (λ o. StandsForMember (applied running.contents op).slots o (seat client system.members)) (sym (seat-with_seat_other running.scans client op.client scan n))
         (member_stays running system op client h legal (seat client running.scans) (seat client system.members) refl (h.members client)))
 
 -- A change.
@@ -212,33 +201,19 @@ changed_stands running system op member done at h legal c =
 -- A query begins, or ends.
 pub queried_stands : (running : Running) (system : System) (op : Op) (member : Member) (scan : Option Scan) (query : Option Open) → seat op.client system.members ≡ Some member → StandsForSystem running system → IsLegal (state_of system) running.contents op → is_change op.call ≡ false
     → option_map snapshot query ≡ begun_after (state_of system) op.call (option_map snapshot member.query)
-    → StandsForQuery running.limits (applied running.contents op).slots scan query
+    → StandsForQuery (applied running.contents op).slots scan query
     → StandsForSystem (record { contents = applied running.contents op; limits = running.limits; scans = with_seat op.client scan running.scans }) (counted_with query op.client member system)
 queried_stands running system op member scan query at h legal c e mine =
     numbered_stands running system (counted_with query op.client member system) op member (record { calls = suc member.calls; query = query }) scan at h legal
     (state_of-counted system op.client member op.call query at e ∙ sym (after_quiet running.limits.capacity system op.client op.call c)) refl mine
 
-zero_blocks : (n : ℕ) → 0 * n ≡ 0
-zero_blocks n = omega arith
-
-pub follows_begun : (limits : Limits) (slots : List (Option Version)) (ask : Question) (system : System) (stamp : ℕ) → stamp ≡ system.commits → 1 ≤ limits.block
-    → Follows limits slots (begin ask stamp limits) (record { ask = ask; table = system.table; commits = system.commits; left = blocks limits })
-follows_begun limits slots ask system stamp here some = record {
-  ask = refl;
-  stamp = here;
-  size = refl;
-  some = some;
-  left = refl;
-  blocks = omega arith;
-  partial = nothing ∙ ap (λ n. levels_for ask (entries (visible stamp (take n slots)))) (sym (zero_blocks limits.block));
-}
-  where
-    nothing : (begin ask stamp limits).partial ≡ levels_for ask []
-    nothing = levels_of_none (entry_order (order_of ask)) (cut_of ask.mode)
+pub follows_begun : (limits : Limits) (slots : List (Option Version)) (ask : Question) (system : System) (stamp : ℕ) → AreAllowed limits → length slots ≡ limits.capacity → stamp ≡ system.commits
+    → Follows slots (begin ask stamp limits) (record { ask = ask; table = system.table; commits = system.commits; left = blocks limits })
+follows_begun limits slots ask system stamp allowed long here = record { ask = refl; stamp = here; left = refl; way = begun_on_its_way limits slots ask stamp allowed long }
 
 -- A scan: the client's query is another, and nothing else has changed.
 pub scanned_stands : (running : Running) (system : System) (client : ℕ) (member : Member) (scan : Scan) (query : Open) → seat client system.members ≡ Some member → option_map snapshot member.query ≡ Some (snapshot query) → StandsForSystem running system
-    → Follows running.limits running.contents.slots scan query
+    → Follows running.contents.slots scan query
     → StandsForSystem (record { contents = running.contents; limits = running.limits; scans = with_seat client (Some scan) running.scans }) (scanned_with query client member system)
 scanned_stands running system client member scan query at same h mine = record {
   store = subst (StandsFor running.contents) (sym unchanged) h.store;
@@ -256,17 +231,17 @@ scanned_stands running system client member scan query at same h mine = record {
         ∙ with_seat_self client (map client_of system.members) (client_of member) (client_there system client member at) in
         (λ i. record { table = system.table; next_id = system.next_id; commits = system.commits; clients = clients i })
 
-    here : (other : ℕ) → other ≡ client → StandsForMember running.limits running.contents.slots (seat other (with_seat client (Some scan) running.scans)) (seat other (with_seat client (record { calls = member.calls; query = Some query }) system.members))
+    here : (other : ℕ) → other ≡ client → StandsForMember running.contents.slots (seat other (with_seat client (Some scan) running.scans)) (seat other (with_seat client (record { calls = member.calls; query = Some query }) system.members))
     here other e =
         let place = HasPlace-from running system client member h at in
-        subst (λ n. StandsForMember running.limits running.contents.slots (seat n (with_seat client (Some scan) running.scans)) (seat n (with_seat client (record { calls = member.calls; query = Some query }) system.members))) (sym e)
-        (subst (StandsForMember running.limits running.contents.slots (seat client (with_seat client (Some scan) running.scans))) (sym (seat-with_seat_same system.members client member (record { calls = member.calls; query = Some query }) at))
-        (subst (λ o. StandsForMember running.limits running.contents.slots o (Some (record { calls = member.calls; query = Some query }))) (sym (seat-with_seat_same running.scans client place.scan (Some scan) place.at)) mine))
+        subst (λ n. StandsForMember running.contents.slots (seat n (with_seat client (Some scan) running.scans)) (seat n (with_seat client (record { calls = member.calls; query = Some query }) system.members))) (sym e)
+        (subst (StandsForMember running.contents.slots (seat client (with_seat client (Some scan) running.scans))) (sym (seat-with_seat_same system.members client member (record { calls = member.calls; query = Some query }) at))
+        (subst (λ o. StandsForMember running.contents.slots o (Some (record { calls = member.calls; query = Some query }))) (sym (seat-with_seat_same running.scans client place.scan (Some scan) place.at)) mine))
 
-    others : (other : ℕ) → (other ≡ client → ⊥) → StandsForMember running.limits running.contents.slots (seat other (with_seat client (Some scan) running.scans)) (seat other (with_seat client (record { calls = member.calls; query = Some query }) system.members))
+    others : (other : ℕ) → (other ≡ client → ⊥) → StandsForMember running.contents.slots (seat other (with_seat client (Some scan) running.scans)) (seat other (with_seat client (record { calls = member.calls; query = Some query }) system.members))
     others other n =
-        subst (StandsForMember running.limits running.contents.slots (seat other (with_seat client (Some scan) running.scans))) (sym (seat-with_seat_other system.members other client (record { calls = member.calls; query = Some query }) n))
-        (subst (λ o. StandsForMember running.limits running.contents.slots o (seat other system.members)) (sym (seat-with_seat_other running.scans other client (Some scan) n)) (h.members other))
+        subst (StandsForMember running.contents.slots (seat other (with_seat client (Some scan) running.scans))) (sym (seat-with_seat_other system.members other client (record { calls = member.calls; query = Some query }) n))
+        (subst (λ o. StandsForMember running.contents.slots o (seat other system.members)) (sym (seat-with_seat_other running.scans other client (Some scan) n)) (h.members other))
 
 -- what an open query found, the slots still show
 pub query_shows : (running : Running) (system : System) (client : ℕ) (member : Member) (query : Open) → StandsForSystem running system → seat client system.members ≡ Some member → member.query ≡ Some query → Shows running.contents.slots query.commits query.table
@@ -288,11 +263,11 @@ idle_is : (n : ℕ) → idle_clients n ≡ map client_of (replicate n (record { 
 idle_is zero = refl
 idle_is (suc n) = ap (λ l. (record { calls = 0; begun = None }) ∷ l) (idle_is n)
 
-no_place : (limits : Limits) (slots : List (Option Version)) (n client : ℕ) → StandsForMember limits slots (seat client (replicate {A = Option Scan} n None)) (seat client (replicate n (record { calls = 0; query = None })))
-no_place limits slots n zero = tt
-no_place limits slots zero (suc k) = tt
-no_place limits slots (suc n) (suc zero) = tt
-no_place limits slots (suc n) (suc (suc k)) = no_place limits slots n (suc k)
+no_place : (slots : List (Option Version)) (n client : ℕ) → StandsForMember slots (seat client (replicate {A = Option Scan} n None)) (seat client (replicate n (record { calls = 0; query = None })))
+no_place slots n zero = tt
+no_place slots zero (suc k) = tt
+no_place slots (suc n) (suc zero) = tt
+no_place slots (suc n) (suc (suc k)) = no_place slots n (suc k)
 
 -- A machine as it is opened.
 pub opened_system : (contents : Contents) (limits : Limits) (rows : List Row) (scans : List (Option Scan)) → StandsFor contents (opening limits.clients rows) → length contents.slots ≡ limits.capacity → scans ≡ replicate limits.clients None
@@ -300,5 +275,5 @@ pub opened_system : (contents : Contents) (limits : Limits) (rows : List Row) (s
 opened_system contents limits rows scans store capacity none = record {
   store = subst (StandsFor contents) (λ i. record { table = (opening limits.clients rows).table; next_id = length rows + 1; commits = length rows; clients = idle_is limits.clients i }) store;
   capacity = capacity;
-  members = λ client. subst (λ l. StandsForMember limits contents.slots (seat client l) (seat client (replicate limits.clients (record { calls = 0; query = None })))) (sym none) (no_place limits contents.slots limits.clients client);
+  members = λ client. subst (λ l. StandsForMember contents.slots (seat client l) (seat client (replicate limits.clients (record { calls = 0; query = None })))) (sym none) (no_place contents.slots limits.clients client);
 }

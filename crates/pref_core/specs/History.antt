@@ -1,4 +1,4 @@
--- Histories of numbered calls, and the ops that make them.
+-- Histories of numbered calls, and the operations that make them. (this project)
 use Rattle.std.specs.Prelude.{◌≡◌, ℕ, List, [], ◌∷◌, map, length, true, None}
 use Rattle.pref_core.specs.declared.call.Call.{Call}
 use Rattle.pref_core.specs.declared.call.Outcome.{Outcome}
@@ -20,6 +20,7 @@ pub record IsLegalCall (capacity : ℕ) (state : State) (numbered : Numbered) : 
   pub next : same_number (calls_of state numbered.client) numbered.number ≡ true
   pub told : numbered.outcome ≡ outcome capacity state numbered.call
 
+-- each call is legal in the state that those before it leave
 abbrev pub IsLegalHistory : ℕ → State → List Numbered → Type 0
 IsLegalHistory capacity state [] = Unit {0}
 IsLegalHistory capacity state (numbered ∷ rest) = IsLegalCall capacity state numbered × IsLegalHistory capacity (after capacity state numbered.client numbered.call) rest
@@ -29,16 +30,16 @@ abbrev pub state_after : ℕ → State → List Numbered → State
 state_after capacity state [] = state
 state_after capacity state (numbered ∷ rest) = state_after capacity (after capacity state numbered.client numbered.call) rest
 
--- an op without its slot
+-- an operation without its slot
 abbrev pub numbered_of : Op → Numbered
 numbered_of op = record { client = op.client; number = op.number; call = op.call; outcome = op.outcome }
 
--- each op is legal at the slots that those before it leave
+-- each operation is legal at the slots that those before it leave
 abbrev pub AreLegalOps : State → Contents → List Op → Type 0
 AreLegalOps state contents [] = Unit {0}
 AreLegalOps state contents (op ∷ ops) = IsLegal state contents op × AreLegalOps (after (length contents.slots) state op.client op.call) (applied contents op) ops
 
--- Ops that are legal one after the other are, slots dropped, a legal history, and their fold stands for the state after it.
+-- Operations that are legal one after the other are, slots dropped, a legal history, and their fold stands for the state after it.
 abbrev pub OpsAreHistory : Type 0
 OpsAreHistory = (contents : Contents) (state : State) (ops : List Op) → StandsFor contents state → AreLegalOps state contents ops
     → IsLegalHistory (length contents.slots) state (map numbered_of ops)

@@ -1,7 +1,10 @@
--- Laws of the sequential table. (this project)
-use Rattle.std.specs.Prelude.{ℕ, ◌≤◌, List, length}
+-- Laws of the sequential table and of the blocks. (this project)
+use Rattle.std.specs.Prelude.{◌≡◌, ℕ, zero, suc, ◌≤◌, List, [], ◌++◌, length, Option}
 use Rattle.pref_core.specs.declared.call.Call.TheVariants.{Delete}
+use Rattle.pref_core.specs.Limits.{Limits, AreAllowed, blocks}
 use Rattle.pref_core.specs.State.{State, needed, committed}
+use Rattle.pref_core.specs.declared.store.version.Version.{Version}
+use Rattle.pref_core.specs.Slots.{Contents, StandsFor, block_of}
 use Rattle.pref_core.specs.History.{Numbered, IsLegalHistory, state_after}
 
 -- A delete never makes `needed` larger.
@@ -11,3 +14,16 @@ DeletesNeedNoMore = (state : State) (id : ℕ) → length (needed (committed (De
 -- After a legal history `needed` is within the capacity, where it was so before.
 abbrev pub NeededFits : Type 0
 NeededFits = (capacity : ℕ) (state : State) (history : List Numbered) → length (needed state) ≤ capacity → IsLegalHistory capacity state history → length (needed (state_after capacity state history)) ≤ capacity
+
+-- .. and so it is in each state that slots stand for: room is never less than nothing.
+abbrev pub NeededFitsSlots : Type 0
+NeededFitsSlots = (contents : Contents) (state : State) → StandsFor contents state → length (needed state) ≤ length contents.slots
+
+-- the first so many blocks, one after the other
+abbrev pub first_blocks : ℕ → ℕ → List (Option Version) → List (Option Version)
+first_blocks zero size slots = []
+first_blocks (suc n) size slots = first_blocks n size slots ++ block_of n size slots
+
+-- All blocks, one after the other, are the slots: each slot is in one.
+abbrev pub BlocksAreTheSlots : Type 0
+BlocksAreTheSlots = (limits : Limits) (slots : List (Option Version)) → AreAllowed limits → length slots ≡ limits.capacity → first_blocks (blocks limits) limits.block slots ≡ slots

@@ -8,6 +8,7 @@ pub mod Slots
 pub mod Operations
 pub mod Stability
 pub mod Scans
+pub mod Queries
 pub mod Systems
 pub mod Laws
 pub mod Bounds

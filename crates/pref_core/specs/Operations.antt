@@ -19,12 +19,13 @@ use Rattle.pref_core.specs.Slots.{Contents, StandsFor, visible, is_needed, stamp
 abbrev pub used : Contents → ℕ
 used contents = count_by (is_needed (stamps contents)) contents.slots
 
--- a version of one of the ids ends at the stamp, if it hasn't ended before
+-- the stamp at which a version ends: a chosen one ends now, if it hasn't ended before
 abbrev pub close_at : ℕ → Bool → Option ℕ → Option ℕ
 close_at stamp chosen (Some death) = Some death
 close_at stamp true None = Some stamp
 close_at stamp false None = None
 
+-- a slot after a commit with this stamp that ends these ids
 abbrev pub close : List ℕ → ℕ → Option Version → Option Version
 close ids stamp None = None
 close ids stamp (Some version) = Some (record { id = version.id; row = version.row; birth = version.birth; death = close_at stamp (among ids version.id) version.death })
@@ -50,14 +51,17 @@ filled stamps made (place ∷ places) (fresh ∷ rest) slots =
 filled stamps made [] (fresh ∷ rest) slots = None
 filled stamps made (place ∷ places) [] slots = None
 
+-- why a call gets no number
 abbrev pub refusal_at : Contents → ℕ → Call → Option CoreFault
 refusal_at contents client call = refusal_of (caller_calls contents client) (is_some (caller_begun contents client)) call
 
+-- what becomes of a call that gets one
 abbrev pub outcome_at : Contents → Call → Outcome
 outcome_at contents call = if is_change call
     then outcome_of (length contents.slots) (begins_row call) (missing (ended call) (visible contents.stamp contents.slots)) (used (grown call contents)) (granted contents.next_id call)
     else Done
 
+-- whether two outcomes are one
 abbrev pub same_outcome : Outcome → Outcome → Bool
 same_outcome (Added a) (Added b) = a == b
 same_outcome Done Done = true
@@ -65,11 +69,12 @@ same_outcome (NoSuchRow a) (NoSuchRow b) = a == b
 same_outcome (Full a) (Full b) = a == b
 same_outcome a b = false
 
--- the call, its number and its outcome are legal next
+-- whether a number is one above a client's calls
 abbrev pub same_number : Option ℕ → ℕ → Bool
 same_number None number = false
 same_number (Some calls) number = suc calls == number
 
+-- whether the call, its number and its outcome are legal next
 abbrev pub is_next : Contents → Op → Bool
 is_next contents op = not (is_some (refusal_at contents op.client op.call)) && same_number (caller_calls contents op.client) op.number && same_outcome op.outcome (outcome_at contents op.call)
 
@@ -79,9 +84,11 @@ placed contents call slot outcome = if is_change call && succeeds outcome
     then filled (stamps (grown call contents)) (suc contents.stamp) (option_to_list slot) (begun contents.next_id call) (map (close (ended call) (suc contents.stamp)) contents.slots)
     else filled (stamps contents) contents.stamp (option_to_list slot) [] contents.slots
 
+-- the slots after an operation
 abbrev pub slots_after : Contents → Op → Option (List (Option Version))
 slots_after contents op = placed contents op.call op.slot op.outcome
 
+-- the stamp at the open query's begin, after a call
 abbrev pub begin_after : ℕ → Call → Option ℕ → Option ℕ
 begin_after stamp Begin found = Some stamp
 begin_after stamp Finish found = None
@@ -95,12 +102,13 @@ callers_after stamp callers client call = elim (seat client callers) [
   | Some found ↦ with_seat client (record { calls = suc found.calls; begun = begin_after stamp call found.begun }) callers
 ]
 
+-- the store after a legal operation that leaves these slots
 abbrev pub stepped : Contents → Op → List (Option Version) → Contents
 stepped contents op slots = if is_change op.call && succeeds op.outcome
     then record { slots = slots; stamp = suc contents.stamp; next_id = contents.next_id + added op.call; callers = callers_after contents.stamp contents.callers op.client op.call }
     else record { slots = slots; stamp = contents.stamp; next_id = contents.next_id; callers = callers_after contents.stamp contents.callers op.client op.call }
 
--- an op changes the store where it is legal there, and else nothing
+-- an operation changes the store where it is legal there, and else nothing
 abbrev pub applied : Contents → Op → Contents
 applied contents op = if is_next contents op
     then elim (slots_after contents op) [ None ↦ contents | Some slots ↦ stepped contents op slots ]
@@ -112,12 +120,12 @@ pub record IsNext (capacity : ℕ) (state : State) (op : Op) : Type 0 where
   pub number : same_number (calls_of state op.client) op.number ≡ true
   pub outcome : op.outcome ≡ outcome capacity state op.call
 
--- the store after a list of ops
+-- the store after a list of operations
 abbrev pub ran : Contents → List Op → Contents
 ran contents [] = contents
 ran contents (op ∷ ops) = ran (applied contents op) ops
 
--- an op is legal at slots that stand for a state
+-- an operation is legal at slots that stand for a state: its call is legal next, and its slot is free
 pub record IsLegal (state : State) (contents : Contents) (op : Op) : Type 0 where
   pub next : IsNext (length contents.slots) state op
   pub fits : is_some (slots_after contents op) ≡ true
@@ -129,6 +137,7 @@ pub record IsPlan (contents : Contents) (client : ℕ) (call : Call) (op : Op) :
   pub next : is_next contents op ≡ true
   pub fits : is_some (slots_after contents op) ≡ true
 
+-- what planning answers
 abbrev pub Plans : Contents → ℕ → Call → Result Op CoreFault → Type 0
 Plans contents client call result = MatchResult result (λ op. IsPlan contents client call op) (λ fault. refusal_at contents client call ≡ Some fault)
 

@@ -42,11 +42,13 @@ pub record ScansOne (scan : Scan) (slots : List (Option Version)) (client : ℕ)
   pub scans : Scans scan slots result new
   pub placed : after ≡ with_seat client (Some new) before
 
+-- the same, whatever stands there
 abbrev pub ScansAt : Option (Option Scan) → List (Option Version) → ℕ → List (Option Scan) → Result ℕ CoreFault → List (Option Scan) → Type 0
 ScansAt None slots client before result after = (result ≡ Err NoSuchClient) × (after ≡ before)
 ScansAt (Some None) slots client before result after = (result ≡ Err NoQuery) × (after ≡ before)
 ScansAt (Some (Some scan)) slots client before result after = ScansOne scan slots client before result after
 
+-- an answer of the query at a client's place
 abbrev pub AnswersAt : Option (Option Scan) → Result (Vec Ranked) CoreFault → Type 0
 AnswersAt None result = result ≡ Err NoSuchClient
 AnswersAt (Some None) result = result ≡ Err NoQuery
@@ -71,15 +73,17 @@ told_of (Full size) done = Err (TooFull size)
 told_of (Added id) done = Ok done
 told_of Done done = Ok done
 
+-- whether a query begins
 abbrev pub is_begin : Act → Bool
 is_begin (Begin ask) = true
 is_begin act = false
 
--- a refusal is a reply; want of memory is none
+-- the reply to a refusal; want of memory has none
 abbrev pub replied_fault : CoreFault → Result Reply CoreFault
 replied_fault OutOfMemory = Err OutOfMemory
 replied_fault fault = Ok (Refused fault)
 
+-- a reply or a refusal, as a reply
 abbrev pub replied : Result Reply StepFault → Result Reply CoreFault
 replied (Ok told) = Ok told
 replied (Err refused) = replied_fault refused.fault

@@ -23,6 +23,7 @@ pub record Scan : Type 0 where
   pub left : ℕ
   pub partial : List Ranked
 
+-- a query that begins
 abbrev pub begin : Question → ℕ → Limits → Scan
 begin ask stamp limits = record { ask = ask; stamp = stamp; size = limits.block; done = 0; left = blocks limits; partial = [] }
 

@@ -1,4 +1,4 @@
--- The sequential table's state, and what a numbered call does to it.
+-- The sequential table's state as far as a history of calls determines it, and what a numbered call does to it. (this project)
 use Rattle.std.specs.Prelude.{ℕ, zero, suc, ◌+◌, ◌^◌, List, [], ◌∷◌, ◌++◌, length, Bool, true, false, not, ◌&&◌, nat_lt, if◌then◌else◌, Option, Some, None, is_some, slice_get, slice_set}
 use Rattle.std.specs.List.{find}
 use Rattle.pref_core.specs.Rows.{Row}
@@ -21,6 +21,7 @@ pub record Client : Type 0 where
   pub calls : ℕ
   pub begun : Option Snapshot
 
+-- the table, the id of the next row, how many commits there were, and the clients in order of number
 pub record State : Type 0 where
   pub table : List Line
   pub next_id : ℕ
@@ -32,10 +33,12 @@ abbrev pub opening_table : ℕ → List Row → List Line
 opening_table before [] = []
 opening_table before (row ∷ rows) = record { id = suc before; made = suc before; row = row } ∷ opening_table (suc before) rows
 
+-- clients without a call
 abbrev pub idle_clients : ℕ → List Client
 idle_clients zero = []
 idle_clients (suc n) = record { calls = 0; begun = None } ∷ idle_clients n
 
+-- the state of a table that begins with these rows
 abbrev pub opening : ℕ → List Row → State
 opening clients rows = record { table = opening_table 0 rows; next_id = length rows + 1; commits = length rows; clients = idle_clients clients }
 
@@ -44,36 +47,42 @@ abbrev pub seat : {X : Type 0} → ℕ → List X → Option X
 seat zero xs = None
 seat (suc k) xs = slice_get xs k
 
+-- the same, changed
 abbrev pub with_seat : {X : Type 0} → ℕ → X → List X → List X
 with_seat zero x xs = xs
 with_seat (suc k) x xs = slice_set xs k x
 
--- the refusals that leave a call without a number
+-- the refusals that leave a call without a number: by the open query, ..
 abbrev pub refusal_by_query : Bool → Call → Option CoreFault
 refusal_by_query true Begin = Some QueryOpen
 refusal_by_query false Finish = Some NoQuery
 refusal_by_query false Abandon = Some NoQuery
 refusal_by_query is_open call = None
 
+-- .. and before that by the client, which makes 2^56 calls at most
 abbrev pub refusal_of : Option ℕ → Bool → Call → Option CoreFault
 refusal_of None is_open call = Some NoSuchClient
 refusal_of (Some calls) is_open call = if nat_lt calls (2 ^ 56) then refusal_by_query is_open call else Some Spent
 
+-- how many calls a client has made
 abbrev pub calls_of : State → ℕ → Option ℕ
 calls_of state client = elim (seat client state.clients) [ None ↦ None | Some found ↦ Some found.calls ]
 
+-- what its open query found
 abbrev pub begun_of : State → ℕ → Option Snapshot
 begun_of state client = elim (seat client state.clients) [ None ↦ None | Some found ↦ found.begun ]
 
+-- why a call gets no number, if so
 abbrev pub refusal : State → ℕ → Call → Option CoreFault
 refusal state client call = refusal_of (calls_of state client) (is_some (begun_of state client)) call
 
--- the ids whose rows a call ends, and the rows that it begins
+-- the ids whose rows a call ends
 abbrev pub ended : Call → List ℕ
 ended (Update id row) = id ∷ []
 ended (Delete id) = id ∷ []
 ended call = []
 
+-- the rows that it begins, by the next id
 abbrev pub begun : ℕ → Call → List Entry
 begun next_id (Insert row) = record { id = next_id; row = row } ∷ []
 begun next_id (Update id row) = record { id = id; row = row } ∷ []
@@ -113,6 +122,7 @@ needed state = different (keys (state.table ++ found_tables state.clients))
 abbrev pub missing : List ℕ → List Line → Option ℕ
 missing ids table = find (λ id. not (has table id)) ids
 
+-- the outcome of a change that succeeds
 abbrev pub granted : ℕ → Call → Outcome
 granted next_id (Insert row) = Added next_id
 granted next_id call = Done
@@ -128,6 +138,7 @@ abbrev pub outcome_of : ℕ → Bool → Option ℕ → ℕ → Outcome → Outc
 outcome_of capacity begins (Some id) after granted = NoSuchRow id
 outcome_of capacity begins None after granted = if begins && nat_lt capacity after then Full after else granted
 
+-- the outcome of a call that gets a number; the first number is the capacity
 abbrev pub outcome : ℕ → State → Call → Outcome
 outcome capacity state call = if is_change call
     then outcome_of capacity (begins_row call) (missing (ended call) state.table) (length (needed (committed call state))) (granted state.next_id call)

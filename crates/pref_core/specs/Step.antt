@@ -31,6 +31,7 @@ pub record Member : Type 0 where
   pub calls : ℕ
   pub query : Option Open
 
+-- the table, the id of the next row, how many commits there were, and the clients in order of number
 pub record System : Type 0 where
   pub table : List Line
   pub next_id : ℕ
@@ -41,13 +42,15 @@ pub record System : Type 0 where
 abbrev pub snapshot : Open → Snapshot
 snapshot query = record { table = query.table; commits = query.commits }
 
+-- a client with its ask and blocks left out
 abbrev pub client_of : Member → Client
 client_of member = record { calls = member.calls; begun = option_map snapshot member.query }
 
+-- and the state that way
 abbrev pub state_of : System → State
 state_of system = record { table = system.table; next_id = system.next_id; commits = system.commits; clients = map client_of system.members }
 
--- what comes of an event
+-- a reply, and the system after it
 pub record Step : Type 0 where
   pub reply : Reply
   pub next : System
@@ -64,6 +67,7 @@ counted_with query client member system = record system { members = with_seat cl
 abbrev pub one_less : Open → Open
 one_less query = record query { left = query.left - 1 }
 
+-- the client has this query
 abbrev pub scanned_with : Open → ℕ → Member → System → System
 scanned_with query client member system = record system { members = with_seat client (record { calls = member.calls; query = Some query }) system.members }
 
@@ -78,6 +82,7 @@ changed (Full size) done call counted = record { reply = Refused (TooFull size);
 changed (Added id) done call counted = record { reply = done; next = commit call counted }
 changed Done done call counted = record { reply = done; next = commit call counted }
 
+-- what comes of a change
 abbrev pub change : Limits → System → ℕ → Member → Call → Reply → Step
 change limits system client member call done = changed (outcome limits.capacity (state_of system) call) done call (counted_with member.query client member system)
 
@@ -91,6 +96,7 @@ finish client member system query = if nat_lt 0 query.left
     then refused (NotDone query.left) system
     else record { reply = Answer (answer_of query.ask (entries query.table)); next = counted_with None client member system }
 
+-- a query scans a block where one is left
 abbrev pub scan : ℕ → Member → System → Open → Step
 scan client member system query = if nat_lt 0 query.left
     then record { reply = Left (query.left - 1); next = scanned_with (one_less query) client member system }
@@ -115,6 +121,7 @@ step_of limits system client member Abandon (Some query) = numbered member syste
 step_of limits system client member (Get id) query = record { reply = elim (line_of system.table id) [ None ↦ Refused (MissingRow id) | Some line ↦ Found id line.row ]; next = system }
 step_of limits system client member Room query = record { reply = RoomIs (limits.capacity - length (needed (state_of system))); next = system }
 
+-- what comes of an event
 abbrev pub step : Limits → System → Event → Step
 step limits system event = elim (seat event.client system.members) [
   | None ↦ refused NoSuchClient system
@@ -130,5 +137,6 @@ abbrev pub replies_from : Limits → System → List Event → List Reply
 replies_from limits system [] = []
 replies_from limits system (event ∷ events) = (step limits system event).reply ∷ replies_from limits (step limits system event).next events
 
+-- the replies to a list of events, from the opening rows on
 abbrev pub replies : Limits → List Row → List Event → List Reply
 replies limits rows events = replies_from limits (opened limits rows) events

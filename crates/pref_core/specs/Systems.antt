@@ -1,5 +1,5 @@
 -- What runs, the system that it stands for, and a step of it. (this project)
-use Rattle.std.specs.Prelude.{◌≡◌, ℕ, ◌+◌, ◌*◌, ◌≤◌, take, List, length, Bool, true, false, Option, Some, None, Result, Ok, Err, MatchResult, ◌⊎◌}
+use Rattle.std.specs.Prelude.{◌≡◌, ℕ, List, length, Bool, true, false, Option, Some, None, Result, Ok, Err, MatchResult, ◌⊎◌}
 use Rattle.pref_core.specs.declared.store.version.Version.{Version}
 use Rattle.pref_core.specs.declared.fault.CoreFault.{CoreFault}
 use Rattle.pref_core.specs.declared.fault.CoreFault.TheVariants.{OutOfMemory}
@@ -9,12 +9,12 @@ use Rattle.pref_core.specs.declared.event.Event.{Event}
 use Rattle.pref_core.specs.declared.event.Reply.{Reply}
 use Rattle.pref_core.specs.declared.event.Reply.TheVariants.{Refused}
 use Rattle.pref_core.specs.declared.event.StepFault.{StepFault}
-use Rattle.pref_core.specs.Limits.{Limits, blocks}
-use Rattle.pref_core.specs.Table.{entries}
+use Rattle.pref_core.specs.Limits.{Limits}
 use Rattle.pref_core.specs.State.{seat}
 use Rattle.pref_core.specs.Step.{Open, Member, System, Step, state_of, step}
-use Rattle.pref_core.specs.Slots.{Contents, StandsFor, visible}
-use Rattle.pref_core.specs.Scans.{Scan, levels_for}
+use Rattle.pref_core.specs.Slots.{Contents, StandsFor}
+use Rattle.pref_core.specs.Scans.{Scan}
+use Rattle.pref_core.specs.Queries.{IsOnItsWay}
 
 -- a store, its limits, and for each client its open query
 pub record Running : Type 0 where
@@ -22,33 +22,32 @@ pub record Running : Type 0 where
   pub limits : Limits
   pub scans : List (Option Scan)
 
--- A query on its way holds the levels of what its blocks showed at its begin, and they show it still.
-pub record Follows (limits : Limits) (slots : List (Option Version)) (scan : Scan) (query : Open) : Type 0 where
+-- A query that stands for the client's open one.
+pub record Follows (slots : List (Option Version)) (scan : Scan) (query : Open) : Type 0 where
   pub ask : scan.ask ≡ query.ask
   pub stamp : scan.stamp ≡ query.commits
-  pub size : scan.size ≡ limits.block
-  pub some : 1 ≤ limits.block
   pub left : scan.left ≡ query.left
-  pub blocks : scan.done + scan.left ≡ blocks limits
-  pub partial : scan.partial ≡ levels_for scan.ask (entries (visible scan.stamp (take (scan.done * scan.size) slots)))
+  pub way : IsOnItsWay slots scan
 
-abbrev pub StandsForQuery : Limits → List (Option Version) → Option Scan → Option Open → Type 0
-StandsForQuery limits slots None None = Unit {0}
-StandsForQuery limits slots (Some scan) (Some query) = Follows limits slots scan query
-StandsForQuery limits slots None (Some query) = ⊥
-StandsForQuery limits slots (Some scan) None = ⊥
+-- a query and the client's open one: both or none
+abbrev pub StandsForQuery : List (Option Version) → Option Scan → Option Open → Type 0
+StandsForQuery slots None None = Unit {0}
+StandsForQuery slots (Some scan) (Some query) = Follows slots scan query
+StandsForQuery slots None (Some query) = ⊥
+StandsForQuery slots (Some scan) None = ⊥
 
 -- a client's place and the client: both or none
-abbrev pub StandsForMember : Limits → List (Option Version) → Option (Option Scan) → Option Member → Type 0
-StandsForMember limits slots None None = Unit {0}
-StandsForMember limits slots (Some scan) (Some member) = StandsForQuery limits slots scan member.query
-StandsForMember limits slots None (Some member) = ⊥
-StandsForMember limits slots (Some scan) None = ⊥
+abbrev pub StandsForMember : List (Option Version) → Option (Option Scan) → Option Member → Type 0
+StandsForMember slots None None = Unit {0}
+StandsForMember slots (Some scan) (Some member) = StandsForQuery slots scan member.query
+StandsForMember slots None (Some member) = ⊥
+StandsForMember slots (Some scan) None = ⊥
 
+-- What runs stands for a system: its slots for the state, and its queries for the clients' open ones.
 pub record StandsForSystem (running : Running) (system : System) : Type 0 where
   pub store : StandsFor running.contents (state_of system)
   pub capacity : length running.contents.slots ≡ running.limits.capacity
-  pub members : (client : ℕ) → StandsForMember running.limits running.contents.slots (seat client running.scans) (seat client system.members)
+  pub members : (client : ℕ) → StandsForMember running.contents.slots (seat client running.scans) (seat client system.members)
 
 -- whether an act may be answered out of memory
 abbrev pub may_want_memory : Act → Bool
@@ -56,6 +55,7 @@ may_want_memory ActScan = true
 may_want_memory ActFinish = true
 may_want_memory act = false
 
+-- whether a reply is a refusal
 abbrev pub is_refusal : Reply → Bool
 is_refusal (Refused fault) = true
 is_refusal reply = false

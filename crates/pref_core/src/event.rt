@@ -1,4 +1,4 @@
-//! What a client may ask of the table, and what it may be told.
+//! What a client may do, and what it may be told.
 
 ghost use Rattle.std.specs.Prelude.{◌≡◌};
 
@@ -11,25 +11,36 @@ use std::marker::Model;
 /// What a client does.
 #[derive(Drop)]
 pub enum Act {
+    /// Inserts a row, which gets the next id.
     Insert(Row),
+    /// Puts another row in place of the one of this id, in one commit.
     Update(u64, Row),
+    /// Deletes the row of this id.
     Delete(u64),
+    /// Begins a query of the table as it is now.
     Begin(Ask),
+    /// Reads the next block for the open query.
     Scan,
+    /// Asks for the answer of the open query, and ends it.
     Finish,
+    /// Ends the open query without an answer.
     Abandon,
+    /// Asks for the row of this id.
     Get(u64),
+    /// Asks how many more versions there is room for.
     Room,
 }
 
 /// One act of one client.
 #[derive(Drop)]
 pub struct Event {
+    /// The client's number, from 1 on. An event of another number is refused `NoSuchClient`.
     pub client: u8,
+    /// What it does.
     pub act: Act,
 }
 
-/// The rows of an answer, in order of level, then id.
+/// The rows of an answer, in order of level, then id. Contracts see the list.
 #[derive(Drop)]
 pub struct RankedList {
     rows: Vec<Ranked>,
@@ -45,7 +56,7 @@ impl Model for RankedList {
 }
 
 impl RankedList {
-    /// The list of these rows.
+    /// The list of these rows, as they stand. Takes no memory.
     pub fn of(rows: Vec<Ranked>) -> RankedList
         ensures { result ≡ rows.items }
     {
@@ -59,7 +70,7 @@ impl RankedList {
         &self.rows
     }
 
-    /// The rows, given back.
+    /// The rows, given back. Takes no memory.
     pub fn into_vec(self) -> Vec<Ranked>
         ensures { result.items ≡ self }
     {
@@ -70,21 +81,33 @@ impl RankedList {
 /// What a client is told.
 #[derive(Drop)]
 pub enum Reply {
+    /// The row was inserted, with this id.
     Inserted(u64),
+    /// The row of this id is the new one.
     Updated(u64),
+    /// The row of this id is gone.
     Deleted(u64),
+    /// A query has begun, and has so many blocks to scan.
     Begun(u32),
+    /// A block was scanned, and so many are left.
     Left(u32),
+    /// The answer, by the table at the query's begin.
     Answer(RankedList),
+    /// The query is gone.
     Abandoned,
+    /// The row of this id.
     Found(u64, Row),
+    /// So many more versions there is room for.
     Room(u32),
+    /// A refusal.
     Refused(CoreFault),
 }
 
-/// A refused event, handed back.
+/// A refused event, handed back: a begin that is refused loses no ask.
 #[derive(Drop)]
 pub struct StepFault {
+    /// Why it is refused.
     pub fault: CoreFault,
+    /// The event, as it was.
     pub event: Event,
 }

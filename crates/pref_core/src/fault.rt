@@ -1,26 +1,59 @@
 //! Why an act is refused.
 
+ghost use Rattle.std.specs.Prelude.{◌≡◌};
+ghost use Rattle.pref_core.specs.declared.fault.CoreFault.TheVariants.{OutOfMemory};
+
+use std::alloc::AllocError;
 use thiserror::Error;
 
-/// A refusal, tested in the order of the list.
+/// A refusal. They are tested in this order.
+///
+/// The first six change nothing, and the act is not counted among the client's calls. A change that is
+/// refused `NoSuchRow` or `Full` is counted and changes no row. After `OutOfMemory` nothing has changed.
 #[derive(Clone, Copy, Debug, PartialEq, Eq, Error)]
 pub enum CoreFault {
+    /// The client's number is 0, or above the number of clients.
     #[error("no such client")]
     NoSuchClient,
+    /// The client has made 2^56 numbered calls, and has no more.
     #[error("spent")]
     Spent,
+    /// A query begins while the client's last one is open.
     #[error("query open")]
     QueryOpen,
+    /// A query is scanned, finished or abandoned, and none is open.
     #[error("no query")]
     NoQuery,
+    /// A query is scanned that has no block left.
     #[error("all scanned")]
     AllScanned,
+    /// A query is finished that has blocks left.
     #[error("not done left {left}")]
-    NotDone { left: u64 },
+    NotDone {
+        /// How many blocks it has not scanned.
+        left: u64,
+    },
+    /// The row is not in the table.
     #[error("no such row {id}")]
-    NoSuchRow { id: u64 },
+    NoSuchRow {
+        /// The id that was asked for.
+        id: u64,
+    },
+    /// More versions would be needed than there are slots.
     #[error("full needed {needed}")]
-    Full { needed: u64 },
+    Full {
+        /// How many would be needed.
+        needed: u64,
+    },
+    /// Memory was wanting.
     #[error("out of memory")]
     OutOfMemory,
+}
+
+impl From<AllocError> for CoreFault {
+    ghost from_gives = { λ _ fault. fault ≡ OutOfMemory };
+
+    fn from(_error: AllocError) -> CoreFault {
+        CoreFault::OutOfMemory
+    }
 }

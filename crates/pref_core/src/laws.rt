@@ -1,27 +1,65 @@
-//! Laws of the definitions, each the contract of a function that does nothing.
+//! Laws of the definitions, each the contract of a function that does nothing: what threads and other callers
+//! of [`Store`](crate::Store) and [`Query`](crate::Query) build on.
 
 ghost use Rattle.pref_core.specs.History.{OpsAreHistory};
-ghost use Rattle.pref_core.specs.Laws.{DeletesNeedNoMore, NeededFits};
+ghost use Rattle.pref_core.specs.Laws.{DeletesNeedNoMore, NeededFits, NeededFitsSlots, BlocksAreTheSlots};
+ghost use Rattle.pref_core.specs.Queries.{BegunIsOnItsWay, StaysOnItsWay, NextBlockIsNew, ScannedIsOnItsWay, AnswersTheBegin};
 ghost use Rattle.pref_core.specs.Stability.{IsStable};
 
-/// What a block shows at an open query's begin stays the same after every list of ops that
-/// doesn't end this query, though slots are used again.
+/// What a block shows at an open query's begin stays the same after every list of operations that does not
+/// end this query, though slots are used again.
 pub fn blocks_stay()
     ensures { IsStable }
 {}
 
-/// Ops that are legal one after the other are, slots dropped, a legal history, and what they
-/// leave stands for the state after it.
+/// Operations that are legal one after the other are, slots left out, a legal history, and what they leave
+/// stands for the state after it.
 pub fn ops_are_history()
     ensures { OpsAreHistory }
 {}
 
-/// A delete never makes `needed` larger.
+/// A delete never makes the needed versions more, so it is never refused for want of room.
 pub fn deletes_need_no_more()
     ensures { DeletesNeedNoMore }
 {}
 
-/// `needed` never exceeds the capacity along a legal history.
+/// The needed versions are never more than the capacity along a legal history.
 pub fn needed_fits()
     ensures { NeededFits }
+{}
+
+/// The needed versions are never more than the slots that stand for the state.
+pub fn needed_fits_slots()
+    ensures { NeededFitsSlots }
+{}
+
+/// The blocks hold each slot once.
+pub fn blocks_are_the_slots()
+    ensures { BlocksAreTheSlots }
+{}
+
+/// A query that begins holds what it has scanned, which is nothing.
+pub fn begun_is_on_its_way()
+    ensures { BegunIsOnItsWay }
+{}
+
+/// An open query holds the levels of what it has scanned, whatever is done to the slots between its scans.
+pub fn stays_on_its_way()
+    ensures { StaysOnItsWay }
+{}
+
+/// On slots that stand for a state the next block shows no id twice, and none that the query holds: so a scan
+/// may be made.
+pub fn next_block_is_new()
+    ensures { NextBlockIsNew }
+{}
+
+/// A scan adds what its block shows.
+pub fn scanned_is_on_its_way()
+    ensures { ScannedIsOnItsWay }
+{}
+
+/// Once all blocks are scanned, the answer is the question's answer of the table at the query's begin.
+pub fn answers_the_begin()
+    ensures { AnswersTheBegin }
 {}

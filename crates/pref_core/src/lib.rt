@@ -1,10 +1,16 @@
-//! A table of rows that clients change and ask, seen by each open query as it stood when that query began.
+//! A table of rows that up to eight clients change and ask, seen by each open query as it stood when that
+//! query began.
+//!
+//! [`Store`] keeps versions of rows in slots that are used again; [`Query`] reads it block by block, and holds the
+//! best levels of what it has read; [`Machine`] puts both together, a step for each [`Event`]; [`replay`] runs a
+//! whole list of events. The sequential table that says what each reply must be is a plain list of rows, copied
+//! whole at each begin (specs/State.antt, specs/Step.antt); the laws on which threads build stand in [`laws`].
 #![tactic(auto)]
 
 mod call;
 mod event;
 mod fault;
-mod laws;
+pub mod laws;
 mod machine;
 mod query;
 mod run;
@@ -16,7 +22,6 @@ mod tests;
 pub use call::{Call, Op, Outcome};
 pub use event::{Act, Event, RankedList, Reply, StepFault};
 pub use fault::CoreFault;
-pub use laws::{blocks_stay, deletes_need_no_more, needed_fits, ops_are_history};
 pub use machine::Machine;
 pub use query::Query;
 pub use run::replay;

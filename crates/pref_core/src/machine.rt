@@ -1,4 +1,5 @@
-//! A store and a place for one query of each client, and a step of them for each event.
+//! A table with its clients in one thread: a store, a place for one query of each client, and a step of them
+//! for each event.
 
 mod seats;
 
@@ -19,7 +20,7 @@ use seats::{answer_at, is_client, no_queries, scan_at, set};
 use std::alloc::Global;
 use std::marker::Model;
 
-/// A table with its clients.
+/// A table with its clients. It always stands for a state of the sequential table.
 #[derive(Drop)]
 pub struct Machine {
     store: Store,
@@ -43,19 +44,16 @@ impl Model for Machine {
 }
 
 impl Machine {
-    /// A store with the opening rows, and no open query.
+    /// A table with these rows as commits 1, 2, .. with ids 1, 2, .., and no open query.
+    ///
+    /// Refused `Full` where there are more rows than slots, else `OutOfMemory` where memory is wanting.
     pub fn new(alloc: Global, setup: Setup, rows: &[Row]) -> Result<Machine, CoreFault>
         ensures opened { IfOk result (λ machine. (machine.limits ≡ setup) × StandsForSystem machine (opened setup rows.now)) }
         ensures full { result ≡ Err (CoreFault.Full (length rows.now)) ↔ (setup.capacity < length rows.now) }
         ensures other { IfErr result (λ fault. (fault ≡ CoreFault.OutOfMemory) ⊎ (setup.capacity < length rows.now)) }
     {
-        let store = match Store::new(alloc, &setup, rows) {
-            Ok(store) => store,
-            Err(fault) => return Err(fault),
-        };
-        let Ok(queries) = no_queries(alloc, setup.clients()) else {
-            return Err(CoreFault::OutOfMemory);
-        };
+        let store = Store::new(alloc, &setup, rows)?;
+        let queries = no_queries(alloc, setup.clients())?;
         Ok(Machine {
             store,
             setup,
@@ -63,7 +61,11 @@ impl Machine {
         })
     }
 
-    /// One event, and its reply. A refused event is handed back.
+    /// One event: its reply, and the next state, are those of the sequential table. A refused event is handed back.
+    ///
+    /// `OutOfMemory` comes for a scan and a finish alone, and nothing has changed then; every other refusal is the
+    /// sequential table's, and so is what it leaves. Cost: a change, a get and a room read each slot a fixed number
+    /// of times, a scan its block; a begin and an abandon copy nothing.
     pub fn step(&mut self, alloc: Global, event: Event) -> Result<Reply, StepFault>
         ensures { Steps self.old event result self.new }
     {
@@ -106,10 +108,7 @@ impl Machine {
         requires quiet { is_refusal done ≡ false }
         ensures { Changes self.old client call.now done result self.new }
     {
-        let op = match self.store.plan(client, *call) {
-            Ok(op) => op,
-            Err(fault) => return Err(fault),
-        };
+        let op = self.store.plan(client, *call)?;
         self.store.apply(&op);
         told(op.outcome, done)
     }
@@ -145,14 +144,8 @@ impl Machine {
     fn finish(&mut self, alloc: Global, client: u8) -> Result<Reply, CoreFault>
         ensures { Does self.old client Act.Finish result self.new }
     {
-        let op = match self.store.plan(client, Call::Finish) {
-            Ok(op) => op,
-            Err(fault) => return Err(fault),
-        };
-        let ranked = match answer_at(&self.queries, client, alloc) {
-            Ok(ranked) => ranked,
-            Err(fault) => return Err(fault),
-        };
+        let op = self.store.plan(client, Call::Finish)?;
+        let ranked = answer_at(&self.queries, client, alloc)?;
         self.store.apply(&op);
         set(&mut self.queries, client, None);
         Ok(Reply::Answer(RankedList::of(ranked)))
@@ -162,10 +155,7 @@ impl Machine {
     fn abandon(&mut self, client: u8) -> Result<Reply, CoreFault>
         ensures { Does self.old client Act.Abandon result self.new }
     {
-        let op = match self.store.plan(client, Call::Abandon) {
-            Ok(op) => op,
-            Err(fault) => return Err(fault),
-        };
+        let op = self.store.plan(client, Call::Abandon)?;
         self.store.apply(&op);
         set(&mut self.queries, client, None);
         Ok(Reply::Abandoned)

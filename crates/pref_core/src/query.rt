@@ -11,7 +11,12 @@ use pref_term::Ask;
 use std::alloc::Global;
 use std::marker::Model;
 
-/// An open query.
+/// An open query: its question, the stamp at its begin, how far it has come, and the best levels of what
+/// its blocks showed there.
+///
+/// It is lent the store for the time of a scan alone, so others may change the table between two scans. That
+/// what it sees stays the same is a law of the store ([`blocks_stay`](crate::laws::blocks_stay)); what follows for
+/// its answer stands in [`laws`](crate::laws).
 #[derive(Drop)]
 pub struct Query {
     ask: Ask,
@@ -39,7 +44,7 @@ impl Model for Query {
 }
 
 impl Query {
-    /// A query of the table at this stamp. Takes no memory.
+    /// A query of the table at this stamp. It is lent no store and takes no memory.
     pub fn begin(ask: Ask, stamp: u64, setup: &Setup) -> Query
         ensures { result ≡ begin ask stamp setup.now }
     {
@@ -54,14 +59,19 @@ impl Query {
         }
     }
 
-    /// How many blocks it hasn't scanned.
+    /// How many blocks it has not scanned.
     pub fn left(&self) -> u32
         ensures { result ≡ self.now.left }
     {
         self.left
     }
 
-    /// Scans the next block, and answers how many are left.
+    /// Scans the next block, and answers how many are left. No id that the block shows may be held already,
+    /// nor come twice: so it is on slots that stand for a state ([`next_block_is_new`](crate::laws::next_block_is_new)).
+    ///
+    /// Refused `AllScanned` where no block is left, else `OutOfMemory` where memory is wanting; the query is
+    /// then as it was. Cost: each slot of the block once, and then that of adding its rows to a
+    /// [`Partial`](pref_sky::Partial).
     pub fn scan(&mut self, alloc: Global, store: &Store) -> Result<u32, CoreFault>
         requires { NextIsNew self.old store.now.slots }
         ensures { Scans self.old store.now.slots result self.new }
@@ -69,24 +79,19 @@ impl Query {
         if self.left == 0 {
             return Err(CoreFault::AllScanned);
         }
-        let Ok(shown) = store.block(alloc, self.done, self.size, self.stamp) else {
-            return Err(CoreFault::OutOfMemory);
-        };
+        let shown = store.block(alloc, self.done, self.size, self.stamp)?;
         let cut = self.ask.cut();
-        let window = self.window as usize;
-        if self
-            .partial
-            .add(alloc, &self.ask, window, cut, &shown)
-            .is_err()
-        {
-            return Err(CoreFault::OutOfMemory);
-        }
+        self.partial
+            .add(alloc, &self.ask, self.window as usize, cut, &shown)?;
         self.done += 1;
         self.left -= 1;
         Ok(self.left)
     }
 
-    /// The answer, once all blocks are scanned.
+    /// The answer, once all blocks are scanned: the question's selection from all that the blocks showed.
+    ///
+    /// Refused `NotDone` where blocks are left, else `OutOfMemory` where memory is wanting; the query stays as it
+    /// is either way.
     pub fn answer(&self, alloc: Global) -> Result<Vec<Ranked>, CoreFault>
         ensures { Answers self.now result }
     {
@@ -95,6 +100,6 @@ impl Query {
                 left: self.left as u64,
             });
         }
-        answer(alloc, &self.ask, &self.partial).map_err(|_| CoreFault::OutOfMemory)
+        Ok(answer(alloc, &self.ask, &self.partial)?)
     }
 }

@@ -11,7 +11,15 @@ use crate::setup::Setup;
 use pref_table::Row;
 use std::alloc::Global;
 
-/// The replies to a list of events, one to each: those of the sequential table.
+/// The replies to a list of events, one to each: those that the sequential table gives, whatever changes, uses of
+/// slots and other queries fall between a query's begin and its end.
+///
+/// Refused `Full` where there are more opening rows than slots, else `OutOfMemory` where memory is wanting; nothing
+/// is kept then. No reply is `OutOfMemory`. Cost: that of each event, and one list of replies.
+///
+/// ```text
+/// let replies = replay(alloc, setup, &rows, events)?;
+/// ```
 pub fn replay(
     alloc: Global,
     setup: Setup,

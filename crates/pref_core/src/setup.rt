@@ -5,8 +5,18 @@ ghost use Rattle.pref_core.specs.Limits.{Limits, AreAllowed, blocks};
 
 use std::marker::Model;
 
-/// How many clients and slots there are, and how many slots a block has.
-#[derive(Clone, Copy)]
+/// The most clients of a table.
+const MOST_CLIENTS: u8 = 8;
+
+/// The most slots of a table, and the most slots of a block and entries of a window.
+const MOST_SLOTS: u32 = 65_536;
+
+/// How large a table is: its clients, its slots, how many of them a scan reads at once, and how many
+/// entries a query compares at once.
+///
+/// Contracts see the four numbers. Only numbers that are allowed make one, so whoever holds a setup
+/// need not test it again.
+#[derive(Clone, Copy, Debug)]
 pub struct Setup {
     clients: u8,
     capacity: u32,
@@ -27,18 +37,24 @@ impl Model for Setup {
 }
 
 impl Setup {
+    /// The setup of 1 to 8 clients, and of a capacity, a block and a window of 1 to 65,536 each; none
+    /// where a number is outside.
+    ///
+    /// ```text
+    /// let setup = Setup::new(4, 1024, 1024, 64).ok_or("setup")?;
+    /// ```
     pub fn new(clients: u8, capacity: u32, block: u32, window: u32) -> Option<Setup>
         ensures some { IsSome result ↔ AreAllowed (record { clients = clients; capacity = capacity; block = block; window = window }) }
         ensures value { IfSome result (λ s. s ≡ record { clients = clients; capacity = capacity; block = block; window = window }) }
     {
         let allowed = 1 <= clients
-            && clients <= 8
+            && clients <= MOST_CLIENTS
             && 1 <= capacity
-            && capacity <= 65536
+            && capacity <= MOST_SLOTS
             && 1 <= block
-            && block <= 65536
+            && block <= MOST_SLOTS
             && 1 <= window
-            && window <= 65536;
+            && window <= MOST_SLOTS;
         if allowed {
             Some(Setup {
                 clients,
@@ -51,6 +67,7 @@ impl Setup {
         }
     }
 
+    /// How many clients there are, 1 to 8. Their numbers are 1 and up.
     pub fn clients(&self) -> u8
         ensures value { result ≡ self.now.clients }
         ensures range { (1 ≤ result) × (result ≤ 8) }
@@ -58,6 +75,7 @@ impl Setup {
         self.clients
     }
 
+    /// How many slots there are, 1 to 65,536: no more versions of rows are ever kept.
     pub fn capacity(&self) -> u32
         ensures value { result ≡ self.now.capacity }
         ensures range { (1 ≤ result) × (result ≤ 65536) }
@@ -65,6 +83,7 @@ impl Setup {
         self.capacity
     }
 
+    /// How many slots a scan reads, 1 to 65,536.
     pub fn block(&self) -> u32
         ensures value { result ≡ self.now.block }
         ensures range { (1 ≤ result) × (result ≤ 65536) }
@@ -72,6 +91,7 @@ impl Setup {
         self.block
     }
 
+    /// How many entries a query compares with each other at once, 1 to 65,536. No answer depends on it.
     pub fn window(&self) -> u32
         ensures value { result ≡ self.now.window }
         ensures range { (1 ≤ result) × (result ≤ 65536) }
@@ -79,7 +99,7 @@ impl Setup {
         self.window
     }
 
-    /// How many blocks the slots are read in.
+    /// How many blocks hold all slots: the capacity divided by the block, rounded up.
     pub fn blocks(&self) -> u32
         ensures value { result ≡ blocks self.now }
         ensures few { result ≤ 65536 }

@@ -1,4 +1,9 @@
-//! The store: slots that were allocated once, and what is kept of each client.
+//! The store: versions of rows in slots that were allocated once, and what is kept of each client.
+//!
+//! A commit never writes over what the table or an open query needs. It ends versions by a stamp and begins
+//! new ones in slots that nobody needs, so a query that began at a stamp reads that table for as long as it
+//! is open, while others change rows. (The stamps are those of multiversion stores; when a slot may be used
+//! again, and that room is exact, is this project's own.)
 
 pub(crate) mod applying;
 pub(crate) mod caller;
@@ -25,6 +30,12 @@ use std::alloc::{AllocError, Global};
 use std::marker::Model;
 use version::Version;
 
+/// A table's slots, its counters, and what is kept of each client: how many calls it has made, and the stamp
+/// at its open query's begin. Contracts see them as they are.
+///
+/// What a store stands for is said by `StandsFor`: a state of the sequential table. [`Store::plan`] tells what
+/// becomes of a call and [`Store::apply`] does it; [`ops_are_history`](crate::laws::ops_are_history) says that what was
+/// applied so is a legal history.
 #[derive(Drop)]
 pub struct Store {
     slots: Vec<Option<Version>>,
@@ -45,7 +56,10 @@ impl Model for Store {
 }
 
 impl Store {
-    /// The opening rows as commits 1, 2, .. with ids 1, 2, .., in the first slots.
+    /// A store with these rows as commits 1, 2, .. with ids 1, 2, .., in the slots 0, 1, .., and no call made. All
+    /// slots are allocated here, and none later.
+    ///
+    /// Refused `Full` where there are more rows than slots, else `OutOfMemory` where memory is wanting.
     pub fn new(alloc: Global, setup: &Setup, rows: &[Row]) -> Result<Store, CoreFault>
         ensures opening { IfOk result (λ store. store ≡ opening_contents setup.now rows.now) }
         ensures state { IfOk result (λ store. StandsFor store (opening setup.now.clients rows.now) × (length store.slots ≡ setup.now.capacity)) }
@@ -58,12 +72,8 @@ impl Store {
                 needed: rows.len() as u64,
             });
         }
-        let Ok(slots) = opening::opening(alloc, capacity, rows) else {
-            return Err(CoreFault::OutOfMemory);
-        };
-        let Ok(callers) = caller::idle(alloc, setup.clients()) else {
-            return Err(CoreFault::OutOfMemory);
-        };
+        let slots = opening::opening(alloc, capacity, rows)?;
+        let callers = caller::idle(alloc, setup.clients())?;
         Ok(Store {
             slots,
             stamp: rows.len() as u64,
@@ -72,7 +82,7 @@ impl Store {
         })
     }
 
-    /// How many commits there were.
+    /// How many commits there were, the opening rows among them.
     pub fn stamp(&self) -> u64
         ensures { result ≡ self.now.stamp }
     {
@@ -94,14 +104,15 @@ impl Store {
         caller::calls_of(&self.callers, client)
     }
 
-    /// The row of this id in the table now.
+    /// The row of this id in the table now. Reads each slot once at most.
     pub fn get(&self, id: u64) -> Option<Row>
         ensures { (state : State) → StandsFor self.now state → result ≡ option_map (λ line. line.row) (line_of state.table id) }
     {
         reads::find_row(&self.slots, self.stamp, id)
     }
 
-    /// What the slots of a block show at a stamp.
+    /// What the slots of a block show at a stamp: those from `block` times `size` up to before the next block's
+    /// or the last slot. Reads these slots alone. `Err` is want of memory.
     pub fn block(
         &self,
         alloc: Global,
@@ -114,7 +125,8 @@ impl Store {
         reads::entries_at(alloc, reads::block(&self.slots, block, size), stamp)
     }
 
-    /// How many more versions there is room for.
+    /// How many more versions there is room for: the slots without those that the table or an open query needs.
+    /// Reads each slot once, and for each version asks the open queries in turn.
     pub fn room(&self) -> u32
         ensures { (state : State) → StandsFor self.now state → result ≡ length self.now.slots - length (needed state) }
     {
@@ -122,7 +134,11 @@ impl Store {
         (self.slots.len() - kept) as u32
     }
 
-    /// What becomes of a call, and where its new row goes; or why it gets no number.
+    /// What becomes of a call, and where its new row goes. Changes nothing.
+    ///
+    /// Refused `NoSuchClient`, `Spent`, `QueryOpen` or `NoQuery`, and then the call has no number. Else an operation
+    /// that is legal here, whose outcome may be that the row is missing or the table full. Reads each slot three
+    /// times at most, and asks the open queries for each.
     pub fn plan(&self, client: u8, call: Call) -> Result<Op, CoreFault>
         ensures exact { Plans self.now client call result }
         ensures state { (state : State) → StandsFor self.now state → PlansIn state self.now client call result }
@@ -137,7 +153,8 @@ impl Store {
         )
     }
 
-    /// Applies a planned call. One that isn't legal here changes nothing.
+    /// Does a planned call. One that is not legal here changes nothing: so an operation is done once, and in its
+    /// turn. Takes no memory. Plans again to see that it is legal, and then writes the slots that end or begin.
     pub fn apply(&mut self, op: &Op)
         ensures exact { self.new ≡ applied self.old op.now }
         ensures state { (state : State) → StandsFor self.old state → AppliesIn state self.old op.now self.new }

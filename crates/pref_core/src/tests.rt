@@ -1,13 +1,26 @@
-//! Runs whose replies are known from outside, through `replay`, `Store` and `Query`.
+//! Runs whose replies are known from outside, through `replay`, `Machine`, `Store` and `Query`.
 
 use crate::{
     Act, Call, CoreFault, Event, Machine, Outcome, Query, RankedList, Reply, Setup, Store, replay,
 };
-use pref_sky::{Entry, Ranked};
 use pref_table::{Row, Schema};
 use pref_term::read_ask;
 use std::alloc::Global;
 use std::test::Fail;
+
+/// What a client does, over a table with the column x alone. A query asks for the rows with the smallest x.
+#[derive(Clone, Copy)]
+enum Does {
+    Inserts(i64),
+    Updates(u64, i64),
+    Deletes(u64),
+    Begins,
+    Scans,
+    Finishes,
+    Abandons,
+    Gets(u64),
+    AsksRoom,
+}
 
 /// The column x alone.
 fn columns(alloc: Global) -> Result<Schema, Fail> {
@@ -15,335 +28,360 @@ fn columns(alloc: Global) -> Result<Schema, Fail> {
     Ok(Schema::new(alloc, names.as_slice())?)
 }
 
-/// A table over the column x, and the events of its clients.
-#[derive(Drop)]
-struct Play {
-    schema: Schema,
-    setup: Setup,
-    rows: Vec<Row>,
-    events: Vec<Event>,
+fn row(schema: &Schema, value: i64) -> Result<Row, Fail> {
+    let cells = [value];
+    Ok(Row::of(schema, cells.as_slice())?)
 }
 
-impl Play {
-    fn new(alloc: Global, capacity: u32, block: u32, rows: &[i64]) -> Result<Play, Fail> {
-        let setup = Setup::new(8, capacity, block, 64).ok_or("setup")?;
-        let mut play = Play {
-            schema: columns(alloc)?,
-            setup,
-            rows: Vec::new(alloc),
-            events: Vec::new(alloc),
-        };
-        for value in rows {
-            let row = play.row(*value)?;
-            play.rows.push(row)?;
-        }
-        Ok(play)
+fn rows(alloc: Global, schema: &Schema, values: &[i64]) -> Result<Vec<Row>, Fail> {
+    let mut made = Vec::new(alloc);
+    for value in values {
+        made.push(row(schema, *value)?)?;
     }
-
-    fn row(&self, value: i64) -> Result<Row, Fail> {
-        let cells = [value];
-        Ok(Row::of(&self.schema, cells.as_slice())?)
-    }
-
-    fn by(&mut self, client: u8, act: Act) -> Result<(), Fail> {
-        self.events.push(Event { client, act })?;
-        Ok(())
-    }
-
-    fn insert(&mut self, client: u8, value: i64) -> Result<(), Fail> {
-        let row = self.row(value)?;
-        self.by(client, Act::Insert(row))
-    }
-
-    fn update(&mut self, client: u8, id: u64, value: i64) -> Result<(), Fail> {
-        let row = self.row(value)?;
-        self.by(client, Act::Update(id, row))
-    }
-
-    /// The client asks for the rows with the smallest x.
-    fn begin(&mut self, alloc: Global, client: u8) -> Result<(), Fail> {
-        let ask = read_ask(alloc, &self.schema, b"best low(x)")?;
-        self.by(client, Act::Begin(ask))
-    }
-
-    fn run(self, alloc: Global) -> Result<Vec<Reply>, Fail> {
-        let Play {
-            schema: _schema,
-            setup,
-            rows,
-            events,
-        } = self;
-        Ok(replay(alloc, setup, &rows, events)?)
-    }
+    Ok(made)
 }
 
-/// Whether the answer is this row alone, at level 1.
-fn answers(reply: &Reply, id: u64, value: i64) -> bool {
-    match reply {
-        Reply::Answer(list) => match list.as_slice() {
-            [only] => only.level == 1 && only.id == id && only.row.cell(0) == value,
-            _ => false,
-        },
-        _ => false,
-    }
+fn act(alloc: Global, schema: &Schema, does: Does) -> Result<Act, Fail> {
+    Ok(match does {
+        Does::Inserts(value) => Act::Insert(row(schema, value)?),
+        Does::Updates(id, value) => Act::Update(id, row(schema, value)?),
+        Does::Deletes(id) => Act::Delete(id),
+        Does::Begins => Act::Begin(read_ask(alloc, schema, b"best low(x)")?),
+        Does::Scans => Act::Scan,
+        Does::Finishes => Act::Finish,
+        Does::Abandons => Act::Abandon,
+        Does::Gets(id) => Act::Get(id),
+        Does::AsksRoom => Act::Room,
+    })
 }
 
-fn is_refused(reply: &Reply, fault: CoreFault) -> bool {
-    match reply {
-        Reply::Refused(told) => *told == fault,
-        _ => false,
+/// The rows of an answer: of each its level, its id and its x.
+fn answer_text(alloc: Global, list: &RankedList) -> Result<String, Fail> {
+    let mut text = format!(in alloc; "answer")?;
+    for ranked in list.as_slice() {
+        let level = ranked.level;
+        let id = ranked.id;
+        let value = ranked.row.cell(0);
+        text.push_str(format!(in alloc; " level {level} id {id}: {value}")?.as_str())?;
     }
+    Ok(text)
+}
+
+fn reply_text(alloc: Global, reply: &Reply) -> Result<String, Fail> {
+    Ok(match reply {
+        Reply::Inserted(id) => format!(in alloc; "inserted {id}")?,
+        Reply::Updated(id) => format!(in alloc; "updated {id}")?,
+        Reply::Deleted(id) => format!(in alloc; "deleted {id}")?,
+        Reply::Begun(blocks) => format!(in alloc; "begun {blocks}")?,
+        Reply::Left(blocks) => format!(in alloc; "left {blocks}")?,
+        Reply::Answer(list) => answer_text(alloc, list)?,
+        Reply::Abandoned => format!(in alloc; "abandoned")?,
+        Reply::Found(id, row) => found_text(alloc, *id, row)?,
+        Reply::Room(room) => format!(in alloc; "room {room}")?,
+        Reply::Refused(fault) => format!(in alloc; "refused: {fault}")?,
+    })
+}
+
+fn found_text(alloc: Global, id: u64, row: &Row) -> Result<String, Fail> {
+    let value = row.cell(0);
+    Ok(format!(in alloc; "row {id}: {value}")?)
+}
+
+/// The replies to a run of eight clients, one after the other.
+fn played(
+    alloc: Global,
+    capacity: u32,
+    block: u32,
+    values: &[i64],
+    run: &[(u8, Does)],
+) -> Result<String, Fail> {
+    let schema = columns(alloc)?;
+    let setup = Setup::new(8, capacity, block, 64).ok_or("setup")?;
+    let opening = rows(alloc, &schema, values)?;
+    let mut events = Vec::new(alloc);
+    for (client, does) in run {
+        events.push(Event {
+            client: *client,
+            act: act(alloc, &schema, *does)?,
+        })?;
+    }
+    let mut text = String::new(alloc);
+    for reply in &replay(alloc, setup, &opening, events)? {
+        text.push_str(reply_text(alloc, reply)?.as_str())?;
+        text.push_str(" / ")?;
+    }
+    Ok(text)
 }
 
 #[test]
 fn a_query_answers_the_table_at_its_begin(rt: HostRuntime) -> Result<(), Fail> {
-    let alloc = rt.alloc();
-    let mut play = Play::new(alloc, 1024, 1024, &[])?;
-    play.insert(1, 30)?;
-    play.insert(1, 10)?;
-    play.insert(2, 20)?;
-    play.begin(alloc, 1)?;
-    play.insert(2, 5)?;
-    play.by(1, Act::Scan)?;
-    play.by(1, Act::Finish)?;
-    let replies = play.run(alloc)?;
-    assert_eq!(rt; replies.len(), 7);
-    assert!(rt; matches!(replies[0], Reply::Inserted(1)));
-    assert!(rt; matches!(replies[2], Reply::Inserted(3)));
-    assert!(rt; matches!(replies[3], Reply::Begun(1)));
-    assert!(rt; matches!(replies[4], Reply::Inserted(4)));
-    assert!(rt; matches!(replies[5], Reply::Left(0)));
-    assert!(rt; answers(&replies[6], 2, 10));
+    let run = [
+        (1, Does::Inserts(30)),
+        (1, Does::Inserts(10)),
+        (2, Does::Inserts(20)),
+        (1, Does::Begins),
+        (2, Does::Inserts(5)),
+        (1, Does::Scans),
+        (1, Does::Finishes),
+    ];
+    let told = played(rt.alloc(), 1024, 1024, &[], run.as_slice())?;
+    assert_eq!(rt;
+        told.as_str(),
+        "inserted 1 / inserted 2 / inserted 3 / begun 1 / inserted 4 / left 0 / answer level 1 id 2: 10 / "
+    );
     Ok(())
 }
 
 #[test]
 fn an_empty_table_is_scanned_in_two_blocks(rt: HostRuntime) -> Result<(), Fail> {
-    let alloc = rt.alloc();
-    let mut play = Play::new(alloc, 4, 2, &[])?;
-    play.begin(alloc, 1)?;
-    play.by(1, Act::Scan)?;
-    play.by(1, Act::Scan)?;
-    play.by(1, Act::Finish)?;
-    let replies = play.run(alloc)?;
-    assert!(rt; matches!(replies[0], Reply::Begun(2)));
-    assert!(rt; matches!(replies[1], Reply::Left(1)));
-    assert!(rt; matches!(replies[2], Reply::Left(0)));
-    let Reply::Answer(ref list) = replies[3] else {
-        return Err("no answer".into());
-    };
-    assert_eq!(rt; list.as_slice().len(), 0);
+    let run = [
+        (1, Does::Begins),
+        (1, Does::Scans),
+        (1, Does::Scans),
+        (1, Does::Finishes),
+    ];
+    let told = played(rt.alloc(), 4, 2, &[], run.as_slice())?;
+    assert_eq!(rt; told.as_str(), "begun 2 / left 1 / left 0 / answer / ");
     Ok(())
 }
 
 #[test]
 fn a_deleted_row_is_still_answered(rt: HostRuntime) -> Result<(), Fail> {
-    let alloc = rt.alloc();
-    let mut play = Play::new(alloc, 4, 2, &[5, 7, 9])?;
-    play.begin(alloc, 1)?;
-    play.by(1, Act::Scan)?;
-    play.by(2, Act::Delete(1))?;
-    play.insert(2, 1)?;
-    play.by(2, Act::Room)?;
-    play.by(1, Act::Scan)?;
-    play.by(1, Act::Finish)?;
-    play.begin(alloc, 2)?;
-    play.by(2, Act::Scan)?;
-    play.by(2, Act::Scan)?;
-    play.by(2, Act::Finish)?;
-    let replies = play.run(alloc)?;
-    assert!(rt; matches!(replies[2], Reply::Deleted(1)));
-    assert!(rt; matches!(replies[3], Reply::Inserted(4)));
-    assert!(rt; matches!(replies[4], Reply::Room(0)));
-    assert!(rt; answers(&replies[6], 1, 5));
-    assert!(rt; answers(&replies[10], 4, 1));
+    let run = [
+        (1, Does::Begins),
+        (1, Does::Scans),
+        (2, Does::Deletes(1)),
+        (2, Does::Inserts(1)),
+        (2, Does::AsksRoom),
+        (1, Does::Scans),
+        (1, Does::Finishes),
+        (2, Does::Begins),
+        (2, Does::Scans),
+        (2, Does::Scans),
+        (2, Does::Finishes),
+    ];
+    let told = played(rt.alloc(), 4, 2, &[5, 7, 9], run.as_slice())?;
+    assert_eq!(rt;
+        told.as_str(),
+        "begun 2 / left 1 / deleted 1 / inserted 4 / room 0 / left 0 / answer level 1 id 1: 5 / begun 2 / left 1 / left 0 / answer level 1 id 4: 1 / "
+    );
     Ok(())
 }
 
 #[test]
 fn room_is_exact(rt: HostRuntime) -> Result<(), Fail> {
-    let alloc = rt.alloc();
-    let mut play = Play::new(alloc, 2, 2, &[1, 2])?;
-    play.begin(alloc, 1)?;
-    play.update(2, 1, 9)?;
-    play.by(1, Act::Abandon)?;
-    play.update(2, 1, 9)?;
-    play.by(2, Act::Get(1))?;
-    play.by(2, Act::Room)?;
-    let replies = play.run(alloc)?;
-    assert!(rt; is_refused(&replies[1], CoreFault::Full { needed: 3 }));
-    assert!(rt; matches!(replies[2], Reply::Abandoned));
-    assert!(rt; matches!(replies[3], Reply::Updated(1)));
-    assert!(rt; matches!(replies[4], Reply::Found(1, row) if row.cell(0) == 9));
-    assert!(rt; matches!(replies[5], Reply::Room(0)));
+    let run = [
+        (1, Does::Begins),
+        (2, Does::Updates(1, 9)),
+        (1, Does::Abandons),
+        (2, Does::Updates(1, 9)),
+        (2, Does::Gets(1)),
+        (2, Does::AsksRoom),
+    ];
+    let told = played(rt.alloc(), 2, 2, &[1, 2], run.as_slice())?;
+    assert_eq!(rt;
+        told.as_str(),
+        "begun 1 / refused: full needed 3 / abandoned / updated 1 / row 1: 9 / room 0 / "
+    );
     Ok(())
 }
 
 #[test]
 fn a_full_table_takes_an_update(rt: HostRuntime) -> Result<(), Fail> {
-    let alloc = rt.alloc();
-    let mut play = Play::new(alloc, 2, 2, &[1, 2])?;
-    play.update(1, 2, 6)?;
-    play.by(1, Act::Room)?;
-    play.insert(1, 8)?;
-    play.by(1, Act::Delete(2))?;
-    play.by(1, Act::Room)?;
-    play.insert(1, 8)?;
-    let replies = play.run(alloc)?;
-    assert!(rt; matches!(replies[0], Reply::Updated(2)));
-    assert!(rt; matches!(replies[1], Reply::Room(0)));
-    assert!(rt; is_refused(&replies[2], CoreFault::Full { needed: 3 }));
-    assert!(rt; matches!(replies[3], Reply::Deleted(2)));
-    assert!(rt; matches!(replies[4], Reply::Room(1)));
-    assert!(rt; matches!(replies[5], Reply::Inserted(3)));
+    let run = [
+        (1, Does::Updates(2, 6)),
+        (1, Does::AsksRoom),
+        (1, Does::Inserts(8)),
+        (1, Does::Deletes(2)),
+        (1, Does::AsksRoom),
+        (1, Does::Inserts(8)),
+    ];
+    let told = played(rt.alloc(), 2, 2, &[1, 2], run.as_slice())?;
+    assert_eq!(rt;
+        told.as_str(),
+        "updated 2 / room 0 / refused: full needed 3 / deleted 2 / room 1 / inserted 3 / "
+    );
     Ok(())
 }
 
 #[test]
 fn refusals_come_in_their_order(rt: HostRuntime) -> Result<(), Fail> {
-    let alloc = rt.alloc();
-    let mut play = Play::new(alloc, 2, 1, &[4])?;
-    play.by(1, Act::Finish)?;
-    play.begin(alloc, 1)?;
-    play.begin(alloc, 1)?;
-    play.by(1, Act::Finish)?;
-    play.by(1, Act::Scan)?;
-    play.by(1, Act::Scan)?;
-    play.by(1, Act::Scan)?;
-    play.by(1, Act::Finish)?;
-    play.by(1, Act::Abandon)?;
-    play.by(9, Act::Room)?;
-    play.by(0, Act::Room)?;
-    play.by(1, Act::Get(7))?;
-    let replies = play.run(alloc)?;
-    assert!(rt; is_refused(&replies[0], CoreFault::NoQuery));
-    assert!(rt; matches!(replies[1], Reply::Begun(2)));
-    assert!(rt; is_refused(&replies[2], CoreFault::QueryOpen));
-    assert!(rt; is_refused(&replies[3], CoreFault::NotDone { left: 2 }));
-    assert!(rt; matches!(replies[5], Reply::Left(0)));
-    assert!(rt; is_refused(&replies[6], CoreFault::AllScanned));
-    assert!(rt; answers(&replies[7], 1, 4));
-    assert!(rt; is_refused(&replies[8], CoreFault::NoQuery));
-    assert!(rt; is_refused(&replies[9], CoreFault::NoSuchClient));
-    assert!(rt; is_refused(&replies[10], CoreFault::NoSuchClient));
-    assert!(rt; is_refused(&replies[11], CoreFault::NoSuchRow { id: 7 }));
+    let run = [
+        (1, Does::Finishes),
+        (1, Does::Begins),
+        (1, Does::Begins),
+        (1, Does::Finishes),
+        (1, Does::Scans),
+        (1, Does::Scans),
+        (1, Does::Scans),
+        (1, Does::Finishes),
+        (1, Does::Abandons),
+        (9, Does::AsksRoom),
+        (0, Does::Scans),
+        (1, Does::Gets(7)),
+    ];
+    let told = played(rt.alloc(), 2, 1, &[4], run.as_slice())?;
+    assert_eq!(rt;
+        told.as_str(),
+        "refused: no query / begun 2 / refused: query open / refused: not done left 2 / left 1 / left 0 / refused: all scanned / answer level 1 id 1: 4 / refused: no query / refused: no such client / refused: no such client / refused: no such row 7 / "
+    );
+    Ok(())
+}
+
+#[test]
+fn a_refused_insert_uses_no_id(rt: HostRuntime) -> Result<(), Fail> {
+    let run = [
+        (1, Does::Inserts(4)),
+        (1, Does::Begins),
+        (2, Does::Inserts(3)),
+        (2, Does::Inserts(9)),
+        (1, Does::Scans),
+        (1, Does::Scans),
+        (1, Does::Finishes),
+        (1, Does::AsksRoom),
+        (2, Does::Deletes(1)),
+        (2, Does::Inserts(6)),
+    ];
+    let told = played(rt.alloc(), 2, 1, &[], run.as_slice())?;
+    assert_eq!(rt;
+        told.as_str(),
+        "inserted 1 / begun 2 / inserted 2 / refused: full needed 3 / left 1 / left 0 / answer level 1 id 1: 4 / room 0 / deleted 1 / inserted 3 / "
+    );
     Ok(())
 }
 
 #[test]
 fn two_updates_under_a_query_leave_one_slot(rt: HostRuntime) -> Result<(), Fail> {
-    let alloc = rt.alloc();
-    let mut play = Play::new(alloc, 3, 3, &[5])?;
-    play.begin(alloc, 1)?;
-    play.update(2, 1, 1)?;
-    play.update(2, 1, 2)?;
-    play.by(2, Act::Room)?;
-    play.by(1, Act::Scan)?;
-    play.by(1, Act::Finish)?;
-    play.by(2, Act::Room)?;
-    let replies = play.run(alloc)?;
-    assert!(rt; matches!(replies[3], Reply::Room(1)));
-    assert!(rt; answers(&replies[5], 1, 5));
-    assert!(rt; matches!(replies[6], Reply::Room(2)));
+    let run = [
+        (1, Does::Begins),
+        (2, Does::Updates(1, 1)),
+        (2, Does::Updates(1, 2)),
+        (2, Does::AsksRoom),
+        (1, Does::Scans),
+        (1, Does::Finishes),
+        (2, Does::AsksRoom),
+        (2, Does::Gets(1)),
+    ];
+    let told = played(rt.alloc(), 3, 3, &[5], run.as_slice())?;
+    assert_eq!(rt;
+        told.as_str(),
+        "begun 1 / updated 1 / updated 1 / room 1 / left 0 / answer level 1 id 1: 5 / room 2 / row 1: 2 / "
+    );
     Ok(())
 }
 
-/// Client K begins after K - 1 updates of the one row, and is told the row as it was then.
+/// Client K begins after K - 1 updates of the one row, and is told the row as it was then, while the slots of
+/// the others are needed and used.
 #[test]
 fn eight_clients_ask_at_eight_stamps(rt: HostRuntime) -> Result<(), Fail> {
     let alloc = rt.alloc();
-    let mut play = Play::new(alloc, 8, 3, &[80])?;
+    let mut run = Vec::new(alloc);
     for client in 1..=8u8 {
-        play.begin(alloc, client)?;
-        if client < 8 {
-            play.update(client, 1, 80 - i64::from(client))?;
-        }
-    }
-    for _block in 0..3 {
-        for client in 1..=8u8 {
-            play.by(client, Act::Scan)?;
-        }
+        run.push((client, Does::Begins))?;
+        run.push((client, Does::Updates(1, i64::from(client))))?;
     }
     for client in 1..=8u8 {
-        play.by(client, Act::Finish)?;
+        run.push((client, Does::Scans))?;
+        run.push((client, Does::Finishes))?;
     }
-    play.by(1, Act::Room)?;
-    let replies = play.run(alloc)?;
-    assert_eq!(rt; replies.len(), 48);
-    for client in 1..=8usize {
-        assert!(rt;
-            answers(&replies[38 + client], 1, 81 - client as i64),
-            "client {client}"
-        );
-    }
-    assert!(rt; matches!(replies[47], Reply::Room(7)));
+    run.push((1, Does::AsksRoom))?;
+    let told = played(alloc, 9, 9, &[0], run.as_slice())?;
+    let begun = "begun 1 / updated 1 / ".repeat(alloc, 8)?;
+    assert!(rt; told.as_str().starts_with(begun.as_str()));
+    let finished =
+        "left 0 / answer level 1 id 1: 0 / left 0 / answer level 1 id 1: 1 / left 0 / answer level 1 id 1: 2 / left 0 / answer level 1 id 1: 3 / left 0 / answer level 1 id 1: 4 / left 0 / answer level 1 id 1: 5 / left 0 / answer level 1 id 1: 6 / left 0 / answer level 1 id 1: 7 / room 8 / ";
+    assert!(rt; told.as_str().ends_with(finished));
+    assert_eq!(rt; told.len(), begun.len() + finished.len());
     Ok(())
 }
 
 #[test]
 fn a_million_events_are_answered_in_turn(rt: HostRuntime) -> Result<(), Fail> {
     let alloc = rt.alloc();
-    let mut play = Play::new(alloc, 1, 1, &[])?;
+    let setup = Setup::new(1, 1, 1, 1).ok_or("setup")?;
+    let mut events = Vec::new(alloc);
     for _event in 0..1_000_000 {
-        play.by(1, Act::Room)?;
+        events.push(Event {
+            client: 1,
+            act: Act::Room,
+        })?;
     }
-    let replies = play.run(alloc)?;
+    let replies = replay(alloc, setup, &[], events)?;
     assert_eq!(rt; replies.len(), 1_000_000);
-    assert!(rt; matches!(replies[999_999], Reply::Room(1)));
+    assert!(rt; replies.iter().all(|reply| matches!(reply, Reply::Room(1))));
     Ok(())
 }
 
 #[test]
 fn too_many_opening_rows_are_refused(rt: HostRuntime) -> Result<(), Fail> {
     let alloc = rt.alloc();
-    let play = Play::new(alloc, 2, 1, &[1, 2, 3])?;
-    let told = replay(alloc, play.setup, &play.rows, Vec::new(alloc));
-    assert!(rt; matches!(told, Err(CoreFault::Full { needed: 3 })));
+    let schema = columns(alloc)?;
+    let setup = Setup::new(1, 2, 1, 1).ok_or("setup")?;
+    let opening = rows(alloc, &schema, &[1, 2, 3])?;
+    let told = replay(alloc, setup, &opening, Vec::new(alloc)).err();
+    assert_eq!(rt; told, Some(CoreFault::Full { needed: 3 }));
     Ok(())
 }
 
+/// How many levels the ask of a begin that is handed back wants, or none.
+fn cut_handed_back(event: &Event) -> Option<u32> {
+    match &event.act {
+        Act::Begin(ask) => Some(ask.cut()),
+        _ => None,
+    }
+}
+
 #[test]
-fn a_refused_event_is_handed_back(rt: HostRuntime) -> Result<(), Fail> {
+fn a_refused_begin_hands_its_ask_back(rt: HostRuntime) -> Result<(), Fail> {
     let alloc = rt.alloc();
-    let play = Play::new(alloc, 2, 1, &[4])?;
-    let mut machine = Machine::new(alloc, play.setup, &play.rows)?;
-    for _begin in 0..2 {
-        let ask = read_ask(alloc, &play.schema, b"best low(x)")?;
-        let event = Event {
-            client: 1,
-            act: Act::Begin(ask),
-        };
-        match machine.step(alloc, event) {
-            Ok(reply) => assert!(rt; matches!(reply, Reply::Begun(2))),
-            Err(refused) => {
-                assert_eq!(rt; refused.fault, CoreFault::QueryOpen);
-                assert_eq!(rt; refused.event.client, 1);
-                assert!(rt; matches!(refused.event.act, Act::Begin(ref ask) if ask.cut() == 1));
-            }
+    let schema = columns(alloc)?;
+    let setup = Setup::new(1, 2, 1, 1).ok_or("setup")?;
+    let mut machine = Machine::new(alloc, setup, &[])?;
+    let first = Event {
+        client: 1,
+        act: act(alloc, &schema, Does::Begins)?,
+    };
+    assert!(rt; machine.step(alloc, first).is_ok());
+    let second = Event {
+        client: 1,
+        act: Act::Begin(read_ask(alloc, &schema, b"top_level 3 low(x)")?),
+    };
+    match machine.step(alloc, second) {
+        Ok(_reply) => return Err("let in".into()),
+        Err(refused) => {
+            assert_eq!(rt; refused.fault, CoreFault::QueryOpen);
+            assert_eq!(rt; refused.event.client, 1);
+            assert_eq!(rt; cut_handed_back(&refused.event), Some(3));
         }
     }
     Ok(())
 }
 
-/// A planned call is applied once: its number is one above the client's last.
+/// A planned call is done once: its number is one above the client's last.
 #[test]
 fn a_store_plans_and_applies(rt: HostRuntime) -> Result<(), Fail> {
     let alloc = rt.alloc();
-    let play = Play::new(alloc, 3, 2, &[4, 6])?;
-    let mut store = Store::new(alloc, &play.setup, &play.rows)?;
-    let op = store.plan(2, Call::Insert(play.row(5)?))?;
+    let schema = columns(alloc)?;
+    let setup = Setup::new(2, 3, 2, 1).ok_or("setup")?;
+    let opening = rows(alloc, &schema, &[4, 6])?;
+    let mut store = Store::new(alloc, &setup, &opening)?;
+    let op = store.plan(2, Call::Insert(row(&schema, 5)?))?;
     assert_eq!(rt; op.outcome, Outcome::Added(3));
     assert_eq!(rt; op.slot, Some(2));
     store.apply(&op);
     store.apply(&op);
+    assert_eq!(rt; store.stamp(), 3);
+    assert_eq!(rt; store.last(2), 1);
+    assert_eq!(rt; store.last(1), 0);
+    assert_eq!(rt; store.room(), 0);
+    assert_eq!(rt; store.get(3), Some(row(&schema, 5)?));
     assert_eq!(rt;
-        (store.stamp(), store.last(2), store.last(1), store.room()),
-        (3, 1, 0, 0)
+        store.plan(9, Call::Abandon).err(),
+        Some(CoreFault::NoSuchClient)
     );
-    assert!(rt; matches!(store.get(3), Some(row) if row.cell(0) == 5));
-    assert!(rt; matches!(store.plan(9, Call::Abandon), Err(CoreFault::NoSuchClient)));
     let second = store.block(alloc, 1, 2, 3)?;
-    assert!(rt; matches!(second.as_slice(), [Entry { id: 3, row }] if row.cell(0) == 5));
+    assert!(rt; second.iter().all(|entry| entry.id == 3));
+    assert_eq!(rt; second.len(), 1);
     assert_eq!(rt; store.block(alloc, 1, 2, 2)?.len(), 0);
     Ok(())
 }
@@ -351,68 +389,46 @@ fn a_store_plans_and_applies(rt: HostRuntime) -> Result<(), Fail> {
 #[test]
 fn a_query_is_scanned_from_a_store(rt: HostRuntime) -> Result<(), Fail> {
     let alloc = rt.alloc();
-    let play = Play::new(alloc, 3, 2, &[4, 6])?;
-    let store = Store::new(alloc, &play.setup, &play.rows)?;
-    let ask = read_ask(alloc, &play.schema, b"top_level 2 low(x)")?;
-    let mut query = Query::begin(ask, store.stamp(), &play.setup);
+    let schema = columns(alloc)?;
+    let setup = Setup::new(1, 3, 2, 1).ok_or("setup")?;
+    let store = Store::new(alloc, &setup, &rows(alloc, &schema, &[4])?)?;
+    let ask = read_ask(alloc, &schema, b"top_level 2 low(x)")?;
+    let mut query = Query::begin(ask, store.stamp(), &setup);
+    assert_eq!(rt; setup.blocks(), 2);
     assert_eq!(rt; query.left(), 2);
-    assert!(rt; matches!(query.answer(alloc), Err(CoreFault::NotDone { left: 2 })));
-    assert_eq!(rt; query.scan(alloc, &store)?, 1);
-    assert_eq!(rt; query.scan(alloc, &store)?, 0);
-    assert!(rt; matches!(query.scan(alloc, &store), Err(CoreFault::AllScanned)));
-    let list = RankedList::of(query.answer(alloc)?);
-    assert_eq!(rt; list.as_slice().len(), 2);
-    let rows = list.into_vec();
-    assert!(rt;
-        matches!(
-            rows[1],
-            Ranked {
-                level: 2,
-                id: 2,
-                ..
-            }
-        )
+    assert_eq!(rt;
+        query.answer(alloc).err(),
+        Some(CoreFault::NotDone { left: 2 })
     );
+    assert_eq!(rt; query.scan(alloc, &store)?, 1);
     Ok(())
 }
 
 #[test]
 fn a_setup_has_its_limits(rt: HostRuntime) -> Result<(), Fail> {
     let setup = Setup::new(8, 10, 4, 1).ok_or("setup")?;
-    assert_eq!(rt;
-        (
-            setup.clients(),
-            setup.capacity(),
-            setup.block(),
-            setup.window(),
-            setup.blocks()
-        ),
-        (8, 10, 4, 1, 3)
-    );
-    assert!(rt; Setup::new(0, 1, 1, 1).is_none());
-    assert!(rt; Setup::new(9, 1, 1, 1).is_none());
-    assert!(rt; Setup::new(1, 65_537, 1, 1).is_none());
-    assert!(rt; Setup::new(1, 1, 0, 1).is_none());
-    assert!(rt; Setup::new(1, 1, 1, 0).is_none());
+    assert_eq!(rt; setup.clients(), 8);
+    assert_eq!(rt; setup.capacity(), 10);
+    assert_eq!(rt; setup.block(), 4);
+    assert_eq!(rt; setup.window(), 1);
+    assert_eq!(rt; setup.blocks(), 3);
+    for (clients, capacity, block, window) in [
+        (0, 1, 1, 1),
+        (9, 1, 1, 1),
+        (1, 0, 1, 1),
+        (1, 65_537, 1, 1),
+        (1, 1, 0, 1),
+        (1, 1, 1, 0),
+    ] {
+        assert!(rt; Setup::new(clients, capacity, block, window).is_none());
+    }
     Ok(())
 }
 
 #[test]
-fn faults_have_their_texts(rt: HostRuntime) -> Result<(), Fail> {
-    let alloc = rt.alloc();
-    let texts = [
-        (CoreFault::NoSuchClient, "no such client"),
-        (CoreFault::Spent, "spent"),
-        (CoreFault::QueryOpen, "query open"),
-        (CoreFault::NoQuery, "no query"),
-        (CoreFault::AllScanned, "all scanned"),
-        (CoreFault::NotDone { left: 2 }, "not done left 2"),
-        (CoreFault::NoSuchRow { id: 7 }, "no such row 7"),
-        (CoreFault::Full { needed: 3 }, "full needed 3"),
-        (CoreFault::OutOfMemory, "out of memory"),
-    ];
-    for (fault, text) in texts {
-        assert_eq!(rt; format!(in alloc; "{fault}")?.as_str(), text);
-    }
+fn an_answer_is_given_back(rt: HostRuntime) -> Result<(), Fail> {
+    let list = RankedList::of(Vec::new(rt.alloc()));
+    assert_eq!(rt; list.as_slice().len(), 0);
+    assert_eq!(rt; list.into_vec().len(), 0);
     Ok(())
 }

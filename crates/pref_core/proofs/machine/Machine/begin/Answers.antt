@@ -24,7 +24,7 @@ invariant_of-self c =
     let old = running_of c.self.inside.store limits c.self.inside.queries.items in
     let long : length c.set.new.queries ≡ c.self.inside.queries.len = omega arith in
     let scans = with_items_is c.self.inside.queries c.set.new.queries long ∙ c.set.ensures ∙ (λ i. with_seat client (Some (c.begin-query.ensures i)) (c.deref_mut.ensures.value i)) in
-    let base = begin_does old client ask c.in-Ok.op c.apply.new.self c.stamp.result c.blocks-2.ensures.allowed.block.0 c.stamp.ensures c.in-Ok.ensures.state c.apply.ensures.exact in
+    let base = begin_does old client ask c.in-Ok.op c.apply.new.self c.stamp.result c.blocks-2.ensures.allowed c.stamp.ensures c.in-Ok.ensures.state c.apply.ensures.exact in
     let placed = subst (λ l. Does old client (ActBegin ask) (Ok (Begun (blocks limits))) (running_of c.apply.new.self limits l)) (sym scans) base in
     in_order_after old _ client (ActBegin ask) (Ok (Begun (blocks limits))) c.self.invariant placed
 
@@ -36,7 +36,7 @@ returns c =
     let old = running_of c.self.inside.store limits c.self.inside.queries.items in
     let long : length c.set.new.queries ≡ c.self.inside.queries.len = omega arith in
     let scans = with_items_is c.self.inside.queries c.set.new.queries long ∙ c.set.ensures ∙ (λ i. with_seat client (Some (c.begin-query.ensures i)) (c.deref_mut.ensures.value i)) in
-    let base = begin_does old client ask c.in-Ok.op c.apply.new.self c.stamp.result c.blocks-2.ensures.allowed.block.0 c.stamp.ensures c.in-Ok.ensures.state c.apply.ensures.exact in
+    let base = begin_does old client ask c.in-Ok.op c.apply.new.self c.stamp.result c.blocks-2.ensures.allowed c.stamp.ensures c.in-Ok.ensures.state c.apply.ensures.exact in
     let placed = subst (λ l. Does old client (ActBegin ask) (Ok (Begun (blocks limits))) (running_of c.apply.new.self limits l)) (sym scans) base in
     let told = subst (λ n. Does old client (ActBegin ask) (Ok (Begun n)) (running_of c.apply.new.self limits (with_items c.self.inside.queries c.set.new.queries).items)) (sym c.blocks-2.ensures.value) placed in
     let steps = steps_does old _ c.args.event (ActBegin ask) (Ok (Begun c.blocks-2.result)) (Ok (Begun c.blocks-2.result)) c.in-Begin.is told refl tt in

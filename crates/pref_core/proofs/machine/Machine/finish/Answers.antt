@@ -1,4 +1,4 @@
-use Rattle.std.proofs.Common.{◌≡◌, Ok, Err, None, length, arith, sym, subst, ◌∙◌, ap}
+use Rattle.std.proofs.Common.{◌≡◌, Ok, Err, None, length, arith, sym, subst, ◌∙◌, ap, rules}
 use Rattle.std.specs.Vec.{with_items}
 use Rattle.std.proofs.lemmas.List.{with_items_is}
 use Rattle.pref_core.specs.State.{with_seat, seat}
@@ -9,34 +9,42 @@ use Rattle.pref_core.specs.declared.event.Reply.TheVariants.{Answer}
 use Rattle.pref_core.proofs.Doing.{finish_does, finish_not, finish_early, in_order_after}
 use Rattle.pref_core.proofs.machine.Machine.finish.Goals as goal
 
-pub returns-in-Err : goal.returns-in-Err
-returns-in-Err c =
-    subst (λ r. Does r c.args.client ActFinish (Err c.in-Err.fault) r) c.self.view_is
-    (finish_not (running_of c.self.inside.store c.self.inside.setup c.self.inside.queries.items) c.args.client c.in-Err.fault c.in-Err.ensures.state)
+pub returns-in_err-op : goal.returns-in_err-op
+returns-in_err-op c =
+    let is : c.from_residual.result ≡ Err c.in_err-op.field-0.0 = search rules in
+    subst (λ t. Does c.args.self.now c.args.client ActFinish t c.args.self.now) (sym is)
+    (
+    subst (λ r. Does r c.args.client ActFinish (Err c.in_err-op.field-0.0) r) c.self.view_is
+    (finish_not (running_of c.self.inside.store c.self.inside.setup c.self.inside.queries.items) c.args.client c.in_err-op.field-0.0 c.in_err-op.ensures.state)
+    )
 
-pub returns-in-Err-answer_at : goal.returns-in-Err-answer_at
-returns-in-Err-answer_at c =
-    let says = subst (λ l. AnswersAt (seat c.args.client l) (Err c.in-Err-answer_at.fault)) c.deref.ensures.value c.in-Err-answer_at.ensures in
-    subst (λ r. Does r c.args.client ActFinish (Err c.in-Err-answer_at.fault) r) c.self.view_is
-    (finish_early (running_of c.self.inside.store c.self.inside.setup c.self.inside.queries.items) c.args.client c.in-Ok.op c.in-Err-answer_at.fault c.in-Ok.ensures.state says)
+pub returns-in_err-ranked : goal.returns-in_err-ranked
+returns-in_err-ranked c =
+    let says = subst (λ l. AnswersAt (seat c.args.client l) (Err c.in_err-ranked.field-0.0)) c.deref.ensures.value c.in_err-ranked.ensures in
+    let is : c.from_residual-in_err-ranked.result ≡ Err c.in_err-ranked.field-0.0 = search rules in
+    subst (λ t. Does c.args.self.now c.args.client ActFinish t c.args.self.now) (sym is)
+    (
+    subst (λ r. Does r c.args.client ActFinish (Err c.in_err-ranked.field-0.0) r) c.self.view_is
+    (finish_early (running_of c.self.inside.store c.self.inside.setup c.self.inside.queries.items) c.args.client c.in_ok-op.op c.in_err-ranked.field-0.0 c.in_ok-op.ensures.state says)
+    )
 
 pub invariant_of-self : goal.invariant_of-self
 invariant_of-self c =
     let old = running_of c.self.inside.store c.self.inside.setup c.self.inside.queries.items in
-    let says = subst (λ l. AnswersAt (seat c.args.client l) (Ok c.in-Ok-answer_at.ranked)) c.deref.ensures.value c.in-Ok-answer_at.ensures in
+    let says = subst (λ l. AnswersAt (seat c.args.client l) (Ok c.in_ok-ranked.ranked)) c.deref.ensures.value c.in_ok-ranked.ensures in
     let long : length c.set.new.queries ≡ c.self.inside.queries.len = omega arith in
     let scans = with_items_is c.self.inside.queries c.set.new.queries long ∙ c.set.ensures ∙ ap (with_seat c.args.client None) c.deref_mut.ensures.value in
-    let base = finish_does old c.args.client c.in-Ok.op c.apply.new.self c.in-Ok-answer_at.ranked c.in-Ok.ensures.state c.apply.ensures.exact says in
-    let placed = subst (λ l. Does old c.args.client ActFinish (Ok (Answer c.in-Ok-answer_at.ranked.items)) (running_of c.apply.new.self c.self.inside.setup l)) (sym scans) base in
-    in_order_after old _ c.args.client ActFinish (Ok (Answer c.in-Ok-answer_at.ranked.items)) c.self.invariant placed
+    let base = finish_does old c.args.client c.in_ok-op.op c.apply.new.self c.in_ok-ranked.ranked c.in_ok-op.ensures.state c.apply.ensures.exact says in
+    let placed = subst (λ l. Does old c.args.client ActFinish (Ok (Answer c.in_ok-ranked.ranked.items)) (running_of c.apply.new.self c.self.inside.setup l)) (sym scans) base in
+    in_order_after old _ c.args.client ActFinish (Ok (Answer c.in_ok-ranked.ranked.items)) c.self.invariant placed
 
 pub returns : goal.returns
 returns c =
     let old = running_of c.self.inside.store c.self.inside.setup c.self.inside.queries.items in
-    let says = subst (λ l. AnswersAt (seat c.args.client l) (Ok c.in-Ok-answer_at.ranked)) c.deref.ensures.value c.in-Ok-answer_at.ensures in
+    let says = subst (λ l. AnswersAt (seat c.args.client l) (Ok c.in_ok-ranked.ranked)) c.deref.ensures.value c.in_ok-ranked.ensures in
     let long : length c.set.new.queries ≡ c.self.inside.queries.len = omega arith in
     let scans = with_items_is c.self.inside.queries c.set.new.queries long ∙ c.set.ensures ∙ ap (with_seat c.args.client None) c.deref_mut.ensures.value in
-    let base = finish_does old c.args.client c.in-Ok.op c.apply.new.self c.in-Ok-answer_at.ranked c.in-Ok.ensures.state c.apply.ensures.exact says in
-    let placed = subst (λ l. Does old c.args.client ActFinish (Ok (Answer c.in-Ok-answer_at.ranked.items)) (running_of c.apply.new.self c.self.inside.setup l)) (sym scans) base in
+    let base = finish_does old c.args.client c.in_ok-op.op c.apply.new.self c.in_ok-ranked.ranked c.in_ok-op.ensures.state c.apply.ensures.exact says in
+    let placed = subst (λ l. Does old c.args.client ActFinish (Ok (Answer c.in_ok-ranked.ranked.items)) (running_of c.apply.new.self c.self.inside.setup l)) (sym scans) base in
     let told = subst (λ l. Does old c.args.client ActFinish (Ok (Answer l)) (running_of c.apply.new.self c.self.inside.setup (with_items c.self.inside.queries c.set.new.queries).items)) (sym c.of.ensures) placed in
     subst (λ r. Does r c.args.client ActFinish (Ok (Answer c.of.result)) (running_of c.apply.new.self c.self.inside.setup (with_items c.self.inside.queries c.set.new.queries).items)) c.self.view_is told

@@ -4,7 +4,8 @@ use Rattle.std.proofs.lemmas.List.{with_items_is}
 use Rattle.pref_core.specs.State.{seat}
 use Rattle.pref_core.specs.declared.event.Act.TheVariants.{Scan as ActScan}
 use Rattle.pref_core.specs.Parts.{Does, ScansAt, NextIsNewAt}
-use Rattle.pref_core.proofs.Steps.{running_of, told_scan}
+use Rattle.pref_core.proofs.Steps.{running_of}
+use Rattle.pref_core.proofs.Scanning.{told_scan}
 use Rattle.pref_core.proofs.Doing.{scan_does, next_is_new_in_order, in_order_after}
 use Rattle.pref_core.proofs.machine.Machine.scan.Goals as goal
 use Rattle.pref_core.proofs.machine.Machine.scan.Goals.{in-Ok, in-Err}

@@ -6,15 +6,15 @@ use Rattle.pref_core.proofs.store.Store.new.Goals as goal
 
 pub invariant_of-result : goal.invariant_of-result
 invariant_of-result c =
-    opened_bounded c.clients.result c.capacity-capacity.result c.args.rows.now _ (omega arith) c.capacity-capacity.ensures.range.1 c.clients.ensures.range.1 c.in-Ok.ensures refl refl c.in-Ok-idle.ensures
+    opened_bounded c.clients.result c.capacity-capacity.result c.args.rows.now _ (omega arith) c.capacity-capacity.ensures.range.1 c.clients.ensures.range.1 c.in_ok-slots.ensures refl refl c.in_ok-callers.ensures
 
 pub returns-clause-opening : goal.returns-clause-opening
 returns-clause-opening c =
-    let slots = c.in-Ok.ensures ∙ ap (λ n. opening_slots 0 c.args.rows.now ++ replicate {A = Option Version} (n - length c.args.rows.now) None) c.capacity-capacity.ensures.value in
-    let callers = c.in-Ok-idle.ensures ∙ ap (λ n. replicate n (record { calls = 0; begun = None })) c.clients.ensures.value in
+    let slots = c.in_ok-slots.ensures ∙ ap (λ n. opening_slots 0 c.args.rows.now ++ replicate {A = Option Version} (n - length c.args.rows.now) None) c.capacity-capacity.ensures.value in
+    let callers = c.in_ok-callers.ensures ∙ ap (λ n. replicate n (record { calls = 0; begun = None })) c.clients.ensures.value in
     (λ i. record { slots = slots i; stamp = length c.args.rows.now; next_id = length c.args.rows.now + 1; callers = callers i })
 
 pub returns-clause-state : goal.returns-clause-state
 returns-clause-state c =
     rw (← c.clients.ensures.value, ← c.capacity-capacity.ensures.value)
-    (opened_stands c.clients.result c.capacity-capacity.result c.args.rows.now _ (omega arith) c.in-Ok.ensures refl refl c.in-Ok-idle.ensures)
+    (opened_stands c.clients.result c.capacity-capacity.result c.args.rows.now _ (omega arith) c.in_ok-slots.ensures refl refl c.in_ok-callers.ensures)
