@@ -10,11 +10,9 @@ use Rattle.pref_table.specs.Number.{number_of}
 use Rattle.pref_table.specs.Numbered.{all_from}
 use Rattle.pref_table.specs.Rows.{row_of}
 use Rattle.pref_table.specs.Tables.{table_of, table_of_records, without_marks}
-use Rattle.pref_term.specs.Asked.{asked}
 use Rattle.prefq.specs.Commands.{act_of, commands_of, events_of}
 use Rattle.prefq.specs.Output.{output, script_of, told}
 use Rattle.prefq.specs.Script.{raw_lines}
-use Rattle.prefq.specs.Text.{level_lines}
 use Rattle.prefq.specs.Words.{after_word, said_by, said_in, verb_of, word_number, word_of}
 
 -- the limits of a run with so many slots in blocks of this size
@@ -57,17 +55,3 @@ refused_lines_between_replies : output (limits_of 1024 1024) (codes "table\r\nx,
 unfolding digits next_record records_from schema_of number_of all_from row_of table_of table_of_records without_marks script_of raw_lines
     act_of commands_of events_of told after_word said_by said_in verb_of word_number word_of
 refused_lines_between_replies = refl
-
--- the program's stored run
-stored_run : output (limits_of 1024 1024) (codes "table\nprice\nend\nas 1 insert 30\nas 1 insert 10\nas 2 insert 20\nas 1 begin best low(price)\nas 2 insert 5\nas 1 scan\nas 1 finish\n")
-    ≡ codes "1 inserted 1\n1 inserted 2\n2 inserted 3\n1 begun 1\n2 inserted 4\n1 left 0\n1 answer 1\nlevel 1 id 2: 10\n"
-unfolding digits next_record records_from schema_of number_of all_from row_of table_of table_of_records without_marks script_of raw_lines
-    act_of commands_of events_of told after_word said_by said_in verb_of word_number word_of asked level_lines
-stored_run = refl
-
--- a row that is deleted while a query is open is still in its answer, and a later query does not have it
-answer_is_of_the_begin : output (limits_of 4 2) (codes "table\nx\n5\n7\n9\nend\nas 1 begin best low(x)\nas 1 scan\nas 2 delete 1\nas 2 insert 1\nas 2 room\nas 1 scan\nas 1 finish\nas 2 begin best low(x)\nas 2 scan\nas 2 scan\nas 2 finish\n")
-    ≡ codes "1 begun 2\n1 left 1\n2 deleted 1\n2 inserted 4\n2 room 0\n1 left 0\n1 answer 1\nlevel 1 id 1: 5\n2 begun 2\n2 left 1\n2 left 0\n2 answer 1\nlevel 1 id 4: 1\n"
-unfolding digits next_record records_from schema_of number_of all_from row_of table_of table_of_records without_marks script_of raw_lines
-    act_of commands_of events_of told after_word said_by said_in verb_of word_number word_of asked level_lines
-answer_is_of_the_begin = refl

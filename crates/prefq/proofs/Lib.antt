@@ -5,3 +5,4 @@ pub mod CommandFacts
 pub mod TextFacts
 pub mod OutputFacts
 pub mod Examples
+pub mod QuestionExamples
