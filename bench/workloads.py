@@ -1,0 +1,230 @@
+#!/usr/bin/env python3
+"""Deterministic scripts for measuring a live preference table.
+
+    workloads.py list                     the names
+    workloads.py write FOLDER [NAME..]    writes NAME.txt, and NAME.options with the options of `play`
+
+The data sets are those of the skyline operator (Börzsönyi, Kossmann, Stocker 2001) (independent, correlated, anticorrelated),
+as whole numbers from 0 to 999,999. Each script is below 16 MiB and each table has at most 65,536 rows."""
+import os
+import random
+import sys
+
+SCALE = 1_000_000
+LIMIT = 16_777_216
+
+
+def peak(r, low, high, count):
+    return low + (high - low) * sum(r.random() for _ in range(count)) / count
+
+
+def normal(r, middle, spread):
+    return peak(r, middle - spread, middle + spread, 12)
+
+
+def independent(r, d):
+    return [r.random() for _ in range(d)]
+
+
+def shifted(r, d, value, shift):
+    while True:
+        v = value()
+        room = min(v, 1 - v)
+        x = [v] * d
+        for i in range(d):
+            h = shift(room)
+            x[i] += h
+            x[(i + 1) % d] -= h
+        if all(0 <= c < 1 for c in x):
+            return x
+
+
+def correlated(r, d):
+    return shifted(r, d, lambda: peak(r, 0, 1, d), lambda room: normal(r, 0, room))
+
+
+def anticorrelated(r, d):
+    return shifted(r, d, lambda: normal(r, .5, .25), lambda room: (2 * r.random() - 1) * room)
+
+
+KINDS = {"ind": independent, "cor": correlated, "anti": anticorrelated}
+
+
+def points(kind, n, d, seed=1):
+    r = random.Random(f"{kind} {d} {seed}")
+    return [[int(c * SCALE) for c in KINDS[kind](r, d)] for _ in range(n)]
+
+
+def names(d):
+    return [f"c{i + 1}" for i in range(d)]
+
+
+def table(columns, rows):
+    return ["table", ",".join(columns)] + [",".join(map(str, row)) for row in rows] + ["end"]
+
+
+def query(client, ask, blocks):
+    return [f"as {client} begin {ask}"] + [f"as {client} scan"] * blocks + [f"as {client} finish"]
+
+
+def options(cap, block=1024, window=64, clients=4):
+    return ["--clients", str(clients), "--cap", str(cap), "--block", str(block), "--window", str(window)]
+
+
+def skyline(kind, d, n, window, repeat):
+    lines = table(names(d), points(kind, n, d))
+    ask = "best " + " * ".join(f"low({c})" for c in names(d))
+    for _ in range(repeat):
+        lines += query(1, ask, -(-n // 1024))
+    return lines, options(n, 1024, window)
+
+
+def load(n):
+    r = random.Random("load")
+    rows = [[r.randrange(-10 ** r.randrange(1, 19), 10 ** r.randrange(1, 19)) if c % 2 else r.randrange(SCALE) for c in range(8)] for _ in range(n)]
+    return table(names(8), rows) + ["as 1 room", "as 1 get 1"], options(n)
+
+
+def levels(mode, kind, d, n, repeat):
+    lines = table(names(d), points(kind, n, d))
+    for _ in range(repeat):
+        lines += query(1, f"{mode} " + " * ".join(f"low({c})" for c in names(d)), -(-n // 1024))
+    return lines, options(n)
+
+
+ASKS = ["best low(c1) * high(c2)", "best low(c1) * low(c2) * low(c3)", "top_level 3 low(c1) * around(c3, 500000)",
+        "at_least 20 high(c2) * low(c4)", "best pos(g, 1, 2, 3) & low(c1) * low(c2)", "skyline of c1 min, c2 max, g diff"]
+
+
+def live(rows, commands, cap):
+    """60 of 100 commands are updates, 20 inserts and deletes, 10 gets and rooms, 10 steps of queries."""
+    r = random.Random("live")
+    def row():
+        return ",".join(str(r.randrange(SCALE)) for _ in range(4)) + f",{r.randrange(20)}"
+    lines = ["table", "c1,c2,c3,c4,g"] + [row() for _ in range(rows)] + ["end"]
+    ids = list(range(1, rows + 1))
+    next_id, blocks, asked = rows + 1, -(-cap // 1024), 0
+    left = [None] * 8
+    for _ in range(commands):
+        client, p = r.randrange(8), r.random()
+        if p < .6:
+            lines.append(f"as {client + 1} update {r.choice(ids)} {row()}")
+        elif p < .7:
+            lines.append(f"as {client + 1} insert {row()}")
+            ids.append(next_id)
+            next_id += 1
+        elif p < .8:
+            i = r.randrange(len(ids))
+            ids[i], ids[-1] = ids[-1], ids[i]
+            lines.append(f"as {client + 1} delete {ids.pop()}")
+        elif p < .89:
+            lines.append(f"as {client + 1} get {r.choice(ids)}")
+        elif p < .9:
+            lines.append(f"as {client + 1} room")
+        elif left[client] is None:
+            lines.append(f"as {client + 1} begin {ASKS[asked % len(ASKS)]}")
+            asked += 1
+            left[client] = blocks
+        elif left[client]:
+            lines.append(f"as {client + 1} scan")
+            left[client] -= 1
+        else:
+            lines.append(f"as {client + 1} finish")
+            left[client] = None
+    return lines, options(cap, clients=8)
+
+
+def changes(rows, commands, cap):
+    """The live mix without queries: updates, inserts, deletes, gets, rooms."""
+    lines, play = live(rows, commands, cap)
+    return [l for l in lines if l.split()[2:3] not in (["begin"], ["scan"], ["finish"])], play
+
+
+def grouped(n, d, groups, repeat):
+    r = random.Random("grouped")
+    rows = [p + [r.randrange(groups)] for p in points("ind", n, d)]
+    ask = "skyline of " + ", ".join(f"{c} {'min' if i % 2 == 0 else 'max'}" for i, c in enumerate(names(d))) + ", g diff"
+    lines = table(names(d) + ["g"], rows)
+    for _ in range(repeat):
+        lines += query(1, ask, -(-n // 1024))
+    return lines, options(n)
+
+
+def deep_term(depth, pareto_each):
+    """Nested to the left: the part that decides first lies deepest."""
+    text = "low(c1)"
+    for i in range(1, depth):
+        base = [f"low(c{i % 8 + 1})", f"high(c{(i * 3) % 8 + 1})", f"around(c{(i * 5) % 8 + 1}, 2)", f"pos(c{i % 8 + 1}, 0, 3)"][i % 4]
+        sign = "*" if pareto_each and i % pareto_each == 0 else "&"
+        text = f"({text} {sign} {base})" if i % 9 else f"-({text} {sign} {base})"
+    return text
+
+
+def deep(n, repeat):
+    r = random.Random("deep")
+    lines = table(names(8), [[r.randrange(5) for _ in range(8)] for _ in range(n)])
+    for _ in range(repeat):
+        lines += query(1, f"best {deep_term(55, 0)}", -(-n // 1024))
+        lines += query(2, f"top_level 3 {deep_term(55, 11)}", -(-n // 1024))
+        lines += query(3, "best " + " & ".join(f"low(c{i + 1}) * high(c{i + 2})" for i in range(0, 7)), -(-n // 1024))
+    return lines, options(n)
+
+
+FULL = {"load": lambda: load(65_536)}
+for _kind, _d, _window, _repeat in [("ind", 2, 64, 24), ("ind", 2, 1024, 24), ("ind", 4, 64, 6), ("ind", 4, 1024, 6), ("ind", 6, 64, 1), ("ind", 6, 1024, 1),
+                                    ("cor", 2, 64, 24), ("cor", 2, 1024, 24), ("cor", 4, 64, 24), ("cor", 4, 1024, 24), ("cor", 6, 64, 12), ("cor", 6, 1024, 12),
+                                    ("anti", 2, 64, 12), ("anti", 2, 1024, 12), ("anti", 4, 64, 1), ("anti", 4, 1024, 1), ("anti", 6, 64, 1), ("anti", 6, 1024, 1)]:
+    FULL[f"sky-{_kind}-d{_d}-w{_window}"] = lambda k=_kind, d=_d, w=_window, r=_repeat: skyline(k, d, 65_536, w, r)
+FULL |= {
+    "top10-ind-d3": lambda: levels("top_level 10", "ind", 3, 20_000, 1),
+    "top10-anti-d3": lambda: levels("top_level 10", "anti", 3, 20_000, 1),
+    "atleast100-ind-d3": lambda: levels("at_least 100", "ind", 3, 20_000, 1),
+    "live": lambda: live(40_000, 100_000, 65_536),
+    "changes": lambda: changes(40_000, 100_000, 65_536),
+    "grouped": lambda: grouped(65_536, 3, 100, 4),
+    "deep": lambda: deep(20_000, 2),
+}
+
+QUICK = {
+    "quick-load": lambda: load(32_768),
+    "quick-sky-ind-d2": lambda: skyline("ind", 2, 16_384, 64, 32),
+    "quick-sky-ind-d4": lambda: skyline("ind", 4, 16_384, 64, 8),
+    "quick-sky-cor-d4": lambda: skyline("cor", 4, 16_384, 64, 32),
+    "quick-sky-anti-d4": lambda: skyline("anti", 4, 8_192, 64, 1),
+    "quick-sky-anti-d4-w1024": lambda: skyline("anti", 4, 8_192, 1024, 1),
+    "quick-top10": lambda: levels("top_level 10", "ind", 3, 4_096, 3),
+    "quick-atleast100": lambda: levels("at_least 100", "ind", 3, 4_096, 1),
+    "quick-live": lambda: live(10_000, 20_000, 16_384),
+    "quick-changes": lambda: changes(10_000, 80_000, 16_384),
+    "quick-grouped": lambda: grouped(8_192, 3, 100, 6),
+    "quick-deep": lambda: deep(4_096, 3),
+}
+
+ALL = FULL | QUICK
+
+
+def write(folder, name):
+    """Writes a workload where it isn't there yet; gives the path and the options."""
+    path = os.path.join(folder, name + ".txt")
+    if not os.path.exists(path):
+        os.makedirs(folder, exist_ok=True)
+        lines, play = ALL[name]()
+        text = "\n".join(lines) + "\n"
+        assert len(text) <= LIMIT, name
+        with open(os.path.join(folder, name + ".options"), "w") as f:
+            f.write(" ".join(play) + "\n")
+        with open(path + ".part", "w") as f:
+            f.write(text)
+        os.rename(path + ".part", path)
+    with open(os.path.join(folder, name + ".options")) as f:
+        return path, f.read().split()
+
+
+if __name__ == "__main__":
+    if sys.argv[1:2] == ["list"]:
+        print("\n".join(ALL))
+    elif sys.argv[1:2] == ["write"] and len(sys.argv) > 2:
+        for each in sys.argv[3:] or ALL:
+            print(*write(sys.argv[2], each))
+    else:
+        sys.exit(__doc__)
