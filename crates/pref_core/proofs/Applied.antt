@@ -76,7 +76,7 @@ counted_stands contents state client call h = record {
         (record { calls = ap suc s.calls; begun = begun_counts contents state call caller.begun found.begun h s.begun }) h.clients
 
 -- a change that succeeds misses no row
-succeeds-missing : (capacity : ℕ) (begins : Bool) (m : Option ℕ) (size : ℕ) (granted : Outcome) → succeeds (outcome_of capacity begins m size granted) ≡ true → m ≡ None
+pub succeeds-missing : (capacity : ℕ) (begins : Bool) (m : Option ℕ) (size : ℕ) (granted : Outcome) → succeeds (outcome_of capacity begins m size granted) ≡ true → m ≡ None
 succeeds-missing capacity begins None size granted h = refl
 succeeds-missing capacity begins (Some id) size granted h = absurd (cc)
 

@@ -1,5 +1,6 @@
 pub mod WorkedRows
 pub mod Permutations
+pub mod Arranging
 pub mod Visible
 pub mod Tables
 pub mod Standing
@@ -7,6 +8,9 @@ pub mod Keys
 pub mod Commit
 pub mod Counting
 pub mod Reuse
+pub mod Sweeping
+pub mod Turning
+pub mod Zones
 pub mod Outcomes
 pub mod Applied
 pub mod Stability
@@ -14,6 +18,9 @@ pub mod Scans
 pub mod Bounds
 pub mod Plans
 pub mod Legal
+pub mod Room
+pub mod Ends
+pub mod Closing
 pub mod Openings
 pub mod Lookups
 pub mod Shown

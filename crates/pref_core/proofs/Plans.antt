@@ -15,8 +15,8 @@ use Rattle.pref_core.specs.declared.call.Call.TheVariants.{Insert, Update, Delet
 use Rattle.pref_core.specs.declared.call.Outcome.{Outcome}
 use Rattle.pref_core.specs.declared.call.Outcome.TheVariants.{Added, Done, NoSuchRow, Full}
 use Rattle.pref_core.specs.State.{ended, begun, granted, missing, outcome_of, succeeds, is_change, seat, refusal_of}
-use Rattle.pref_core.specs.Slots.{Contents, is_needed, begins, stamps, seen, visible, born}
-use Rattle.pref_core.specs.Operations.{close, used, is_free, filled, outcome_at, placed, close_at, same_outcome, is_next, same_number, refusal_at, slots_after}
+use Rattle.pref_core.specs.Slots.{Contents, is_needed, begins, seen, visible, born}
+use Rattle.pref_core.specs.Operations.{close, is_free, filled, outcome_at, placed, close_at, same_outcome, is_next, same_number, refusal_at, slots_after}
 use Rattle.pref_core.proofs.Visible.{seen_born}
 
 count_by-cons_yes : {X : Type 0} (p : X → Bool) (x : X) (xs : List X) → p x ≡ true → count_by p (x ∷ xs) ≡ suc (count_by p xs)
@@ -26,7 +26,7 @@ count_by-cons_yes p x xs h = sum_by-cons (λ y. cond (p y) 1 0) x xs ∙ ap (λ 
     one n = omega arith
 
 -- a new version is needed
-count_by-born : (made : ℕ) (ns : List ℕ) (entry : Entry) (slots : List (Option Version)) → count_by (is_needed (made ∷ ns)) (born made entry ∷ slots) ≡ suc (count_by (is_needed (made ∷ ns)) slots)
+pub count_by-born : (made : ℕ) (ns : List ℕ) (entry : Entry) (slots : List (Option Version)) → count_by (is_needed (made ∷ ns)) (born made entry ∷ slots) ≡ suc (count_by (is_needed (made ∷ ns)) slots)
 count_by-born made ns entry slots =
     count_by-cons_yes (is_needed (made ∷ ns)) (born made entry) slots (ap (λ s. is_some s || list_any (λ n. is_some (seen n (born made entry))) ns) (seen_born made entry))
 
@@ -47,7 +47,7 @@ one_placed entry (Some place) slots made ns fits found none = ap (λ b. is_some 
 one_placed entry None slots made ns fits found none = absurd (let more = count_by-born made ns entry slots in omega arith)
 
 -- what `free_place` says, of the closed slots
-abbrev Finds : Contents → List ℕ → ℕ → Option ℕ → Type 0
+abbrev pub Finds : Contents → List ℕ → ℕ → Option ℕ → Type 0
 Finds contents ids made slot =
     IfSome slot (λ place. is_free (made ∷ begins contents.callers) (map (close ids made) contents.slots) place ≡ true)
     × IfNone slot (count_by (is_needed (made ∷ begins contents.callers)) (map (close ids made) contents.slots) ≡ length contents.slots)
@@ -74,18 +74,17 @@ call_placed contents Finish outcome slot (Some entry) told ok b is finds = absur
 call_placed contents Abandon outcome slot (Some entry) told ok b is finds = absurd (cc)
 call_placed contents call outcome slot None told ok b is finds = absurd (cc)
 
-pub place_fits : (contents : Contents) (call : Call) (outcome : Outcome) (slot : Option ℕ) (begun_by : Option Entry) (ended_by : Option ℕ) → outcome ≡ outcome_at contents call → succeeds outcome ≡ true
-    → option_to_list begun_by ≡ begun contents.next_id call → is_some begun_by ≡ true → option_to_list ended_by ≡ ended call
-    → IfSome slot (λ place. is_free ((contents.stamp + 1) ∷ begins contents.callers) (map (close (option_to_list ended_by) (contents.stamp + 1)) contents.slots) place ≡ true)
-    → IfNone slot (count_by (is_needed ((contents.stamp + 1) ∷ begins contents.callers)) (map (close (option_to_list ended_by) (contents.stamp + 1)) contents.slots) ≡ length contents.slots)
+pub place_fits : (contents : Contents) (call : Call) (outcome : Outcome) (slot : Option ℕ) (begun_by : Option Entry) → outcome ≡ outcome_at contents call → succeeds outcome ≡ true
+    → option_to_list begun_by ≡ begun contents.next_id call → is_some begun_by ≡ true
+    → IfSome slot (λ place. is_free ((contents.stamp + 1) ∷ begins contents.callers) (map (close (ended call) (contents.stamp + 1)) contents.slots) place ≡ true)
+    → IfNone slot (count_by (is_needed ((contents.stamp + 1) ∷ begins contents.callers)) (map (close (ended call) (contents.stamp + 1)) contents.slots) ≡ length contents.slots)
     → is_some (placed contents call slot outcome) ≡ true
-place_fits contents call outcome slot begun_by ended_by told ok b is e found none =
+place_fits contents call outcome slot begun_by told ok b is found none =
     let next : contents.stamp + 1 ≡ suc contents.stamp = omega arith in
-    call_placed contents call outcome slot begun_by told ok b is
-    (subst (λ n. Finds contents (ended call) n slot) next (subst (λ ids. Finds contents ids (contents.stamp + 1) slot) e (found, none)))
+    call_placed contents call outcome slot begun_by told ok b is (subst (λ n. Finds contents (ended call) n slot) next (found, none))
 
 -- nothing ends
-close_none : (stamp : ℕ) (slots : List (Option Version)) → map (close [] stamp) slots ≡ slots
+pub close_none : (stamp : ℕ) (slots : List (Option Version)) → map (close [] stamp) slots ≡ slots
 close_none stamp [] = refl
 close_none stamp (None ∷ slots) = ap (λ l. None ∷ l) (close_none stamp slots)
 close_none stamp (Some version ∷ slots) = ap₂ ◌∷◌ (same version.death) (close_none stamp slots)
@@ -93,9 +92,6 @@ close_none stamp (Some version ∷ slots) = ap₂ ◌∷◌ (same version.death)
     same : (death : Option ℕ) → ◌≡◌ {A = Option Version} (Some (record version { death = close_at stamp false death })) (Some (record version { death = death }))
     same None = refl
     same (Some n) = refl
-
-pub used-close_none : (contents : Contents) (kept : ℕ) → kept ≡ count_by (is_needed (contents.stamp ∷ begins contents.callers)) (map (close [] contents.stamp) contents.slots) → kept ≡ used contents
-used-close_none contents kept e = e ∙ ap (count_by (is_needed (stamps contents))) (close_none contents.stamp contents.slots)
 
 pub same_outcome_refl : (a : Outcome) → same_outcome a a ≡ true
 same_outcome_refl (Added n) = eq-eqb n n refl

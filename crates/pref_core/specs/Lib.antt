@@ -13,3 +13,5 @@ pub mod Systems
 pub mod Laws
 pub mod Bounds
 pub mod Parts
+pub mod Places
+pub mod Kept

@@ -9,6 +9,7 @@ pub(crate) mod applying;
 pub(crate) mod caller;
 pub(crate) mod needs;
 pub(crate) mod opening;
+pub(crate) mod places;
 pub(crate) mod planning;
 pub(crate) mod reads;
 pub mod version;
@@ -24,6 +25,7 @@ use crate::call::{Call, Op};
 use crate::fault::CoreFault;
 use crate::setup::Setup;
 use caller::Caller;
+use places::Places;
 use pref_sky::Entry;
 use pref_table::Row;
 use std::alloc::{AllocError, Global};
@@ -42,17 +44,18 @@ pub struct Store {
     stamp: u64,
     next_id: u64,
     callers: Vec<Caller>,
+    places: Places,
 }
 
 impl Model for Store {
     ghost use Rattle.pref_core.specs.Slots.{Contents};
-    ghost use Rattle.pref_core.specs.Bounds.{IsBounded};
+    ghost use Rattle.pref_core.specs.Kept.{IsKept};
 
     ghost Value = { Contents };
 
     ghost view = { λ s. record { slots = s.slots.items; stamp = s.stamp; next_id = s.next_id; callers = s.callers.items } };
 
-    ghost invariant = { λ s. IsBounded (record { slots = s.slots.items; stamp = s.stamp; next_id = s.next_id; callers = s.callers.items }) };
+    ghost invariant = { λ s. IsKept (record { slots = s.slots.items; stamp = s.stamp; next_id = s.next_id; callers = s.callers.items }) s.places };
 }
 
 impl Store {
@@ -74,11 +77,13 @@ impl Store {
         }
         let slots = opening::opening(alloc, capacity, rows)?;
         let callers = caller::idle(alloc, setup.clients())?;
+        let places = Places::new(alloc, capacity, rows.len() as u32)?;
         Ok(Store {
             slots,
             stamp: rows.len() as u64,
             next_id: rows.len() as u64 + 1,
             callers,
+            places,
         })
     }
 
@@ -126,19 +131,18 @@ impl Store {
     }
 
     /// How many more versions there is room for: the slots without those that the table or an open query needs.
-    /// Reads each slot once, and for each version asks the open queries in turn.
+    /// Kept as changes are made: costs nothing.
     pub fn room(&self) -> u32
         ensures { (state : State) → StandsFor self.now state → result ≡ length self.now.slots - length (needed state) }
     {
-        let kept = needs::kept(&self.slots, self.stamp, &self.callers);
-        (self.slots.len() - kept) as u32
+        self.places.free()
     }
 
     /// What becomes of a call, and where its new row goes. Changes nothing.
     ///
     /// Refused `NoSuchClient`, `Spent`, `QueryOpen` or `NoQuery`, and then the call has no number. Else an operation
-    /// that is legal here, whose outcome may be that the row is missing or the table full. Reads each slot three
-    /// times at most, and asks the open queries for each.
+    /// that is legal here, whose outcome may be that the row is missing or the table full. Looks for the row at the
+    /// place of its id first, and searches the slots where another row stands there; all else is constant in the slots.
     pub fn plan(&self, client: u8, call: Call) -> Result<Op, CoreFault>
         ensures exact { Plans self.now client call result }
         ensures state { (state : State) → StandsFor self.now state → PlansIn state self.now client call result }
@@ -148,6 +152,7 @@ impl Store {
             self.stamp,
             self.next_id,
             &self.callers,
+            &self.places,
             client,
             call,
         )
@@ -164,6 +169,7 @@ impl Store {
             &mut self.stamp,
             &mut self.next_id,
             &mut self.callers,
+            &mut self.places,
             op,
         );
     }

@@ -1,16 +1,20 @@
 //! What becomes of a call.
 
+ghost use Rattle.std.specs.List.{count_by};
 ghost use Rattle.std.specs.Option.{option_to_list};
-ghost use Rattle.std.specs.Prelude.{length, true, is_some, option_map, option_and_then, ◌≡◌, ◌^◌, ◌<◌, ◌≤◌};
-ghost use Rattle.pref_core.specs.Operations.{used, grown, outcome_at, placed, Plans};
-ghost use Rattle.pref_core.specs.Slots.{visible};
-ghost use Rattle.pref_core.specs.State.{refusal_of, ended, missing, granted, outcome};
+ghost use Rattle.std.specs.Prelude.{length, map, true, is_some, option_map, option_and_then, IfSome, IfNone, Some, slice_get, ◌≡◌, ◌+◌, ◌^◌, ◌<◌, ◌≤◌, ◌∷◌, if◌then◌else◌};
+ghost use Rattle.pref_core.specs.Kept.{IsKept, IsOldPlace, Closes, missed, frees};
+ghost use Rattle.pref_core.specs.Operations.{close, is_free, outcome_at, placed, Plans};
+ghost use Rattle.pref_core.specs.Places.{is_free_zone};
+ghost use Rattle.pref_core.specs.Slots.{begins, is_needed};
+ghost use Rattle.pref_core.specs.State.{refusal_of, ended, granted};
 
 use crate::call::{Call, Op, Outcome};
 use crate::fault::CoreFault;
 use crate::store::caller::{Caller, caller_of};
-use crate::store::needs::{free_place, kept_after};
-use crate::store::reads::has_row;
+use crate::store::needs::frees;
+use crate::store::places::{Places, Zone};
+use crate::store::reads::{home, old_place};
 use crate::store::version::Version;
 
 /// Why a call would get no number.
@@ -31,51 +35,61 @@ pub(crate) fn refusal(caller: Option<Caller>, call: &Call) -> Option<CoreFault>
 }
 
 /// The id that a call needs and the table lacks.
-fn missing(slots: &[Option<Version>], stamp: u64, ended: Option<u64>) -> Option<u64>
-    ensures { result ≡ missing (option_to_list ended) (visible stamp slots.now) }
+fn missing(ended: Option<u64>, old: Option<u32>) -> Option<u64>
+    ensures { result ≡ missed ended old }
 {
-    match ended {
-        Some(id) if !has_row(slots, stamp, id) => Some(id),
-        _ => None,
+    match old {
+        Some(_) => None,
+        None => ended,
     }
 }
 
-/// How many versions are needed after a call.
+/// How many versions are needed after a call that begins a row.
 fn size_after(
     slots: &[Option<Version>],
     stamp: u64,
-    next_id: u64,
     callers: &[Caller],
-    call: &Call,
+    places: &Places,
+    ended: Option<u64>,
+    old: Option<u32>,
 ) -> usize
     requires few { length slots.now ≤ 65536 }
     requires early { stamp < 2 ^ 63 }
-    ensures { result ≡ used (grown call.now (record { slots = slots.now; stamp = stamp; next_id = next_id; callers = callers.now })) }
+    requires free { count_by is_free_zone places.now + (if frees (begins callers.now) (option_to_list ended) (stamp + 1) slots.now old then 1 else 0) ≤ length slots.now + 1 }
+    ensures { result + (count_by is_free_zone places.now + (if frees (begins callers.now) (option_to_list ended) (stamp + 1) slots.now old then 1 else 0)) ≡ length slots.now + 1 }
 {
-    let begun = if call.begun(next_id).is_some() { 1 } else { 0 };
-    begun + kept_after(slots, call.ended(), stamp + 1, callers)
+    let freed = if frees(slots, callers, ended, old, stamp + 1) {
+        1
+    } else {
+        0
+    };
+    slots.len() + 1 - (places.free() as usize + freed)
 }
 
-/// The outcome of a call that gets a number.
+/// The outcome of a call that gets a number, by the place of the row that it ends.
 pub(crate) fn outcome(
     slots: &[Option<Version>],
     stamp: u64,
     next_id: u64,
     callers: &[Caller],
+    places: &Places,
+    old: Option<u32>,
     call: &Call,
 ) -> Outcome
     requires few { length slots.now ≤ 65536 }
     requires early { stamp < 2 ^ 63 }
+    requires kept { IsKept (record { slots = slots.now; stamp = stamp; next_id = next_id; callers = callers.now }) places.now }
+    requires old { IsOldPlace stamp (ended call.now) slots.now old }
     ensures { result ≡ outcome_at (record { slots = slots.now; stamp = stamp; next_id = next_id; callers = callers.now }) call.now }
 {
     if !call.is_change() {
         return Outcome::Done;
     }
-    if let Some(id) = missing(slots, stamp, call.ended()) {
+    if let Some(id) = missing(call.ended(), old) {
         return Outcome::NoSuchRow(id);
     }
     if call.begins_row() {
-        let needed = size_after(slots, stamp, next_id, callers, call);
+        let needed = size_after(slots, stamp, callers, places, call.ended(), old);
         if needed > slots.len() {
             return Outcome::Full(needed as u64);
         }
@@ -92,22 +106,66 @@ fn granted(next_id: u64, call: &Call) -> Outcome
     }
 }
 
+/// A slot that can be used again after a commit that ends the row of this id: that row's own where nobody
+/// needs it then, else the home of the new row where it is free, else any.
+fn free_place(
+    slots: &[Option<Version>],
+    stamp: u64,
+    next_id: u64,
+    callers: &[Caller],
+    places: &Places,
+    old: Option<u32>,
+    call: &Call,
+) -> Option<u32>
+    requires few { length slots.now ≤ 65536 }
+    requires early { stamp < 2 ^ 63 }
+    requires kept { IsKept (record { slots = slots.now; stamp = stamp; next_id = next_id; callers = callers.now }) places.now }
+    requires closes { Closes (ended call.now) (stamp + 1) slots.now places.now old }
+    ensures found { IfSome result (λ place. is_free ((stamp + 1) ∷ begins callers.now) (map (close (ended call.now) (stamp + 1)) slots.now) place ≡ true) }
+    ensures none { IfNone result (count_by (is_needed ((stamp + 1) ∷ begins callers.now)) (map (close (ended call.now) (stamp + 1)) slots.now) ≡ length slots.now) }
+{
+    if frees(slots, callers, call.ended(), old, stamp + 1) {
+        old
+    } else {
+        any_place(slots, places, call.ended().unwrap_or(next_id))
+    }
+}
+
+/// A free place, the id's home where that is free.
+fn any_place(slots: &[Option<Version>], places: &Places, id: u64) -> Option<u32>
+    requires { length slots.now ≤ 65536 }
+    ensures found { IfSome result (λ place. slice_get places.now place ≡ Some Zone.Free) }
+    ensures none { IfNone result (count_by is_free_zone places.now ≡ 0) }
+{
+    if !slots.is_empty() {
+        let home = home(slots, id);
+        if places.is_free(home) {
+            return Some(home);
+        }
+    }
+    places.any_free()
+}
+
 /// A slot for the new row of a call, where it has one.
 pub(crate) fn place(
     slots: &[Option<Version>],
     stamp: u64,
     next_id: u64,
     callers: &[Caller],
+    places: &Places,
+    old: Option<u32>,
     call: &Call,
     outcome: Outcome,
 ) -> Option<u32>
     requires few { length slots.now ≤ 65536 }
     requires early { stamp < 2 ^ 63 }
+    requires kept { IsKept (record { slots = slots.now; stamp = stamp; next_id = next_id; callers = callers.now }) places.now }
+    requires old { IsOldPlace stamp (ended call.now) slots.now old }
     requires told { outcome ≡ outcome_at (record { slots = slots.now; stamp = stamp; next_id = next_id; callers = callers.now }) call.now }
     ensures { is_some (placed (record { slots = slots.now; stamp = stamp; next_id = next_id; callers = callers.now }) call.now result outcome) ≡ true }
 {
     if outcome.succeeds() && call.begun(next_id).is_some() {
-        free_place(slots, call.ended(), stamp + 1, callers)
+        free_place(slots, stamp, next_id, callers, places, old, call)
     } else {
         None
     }
@@ -119,11 +177,13 @@ pub(crate) fn plan(
     stamp: u64,
     next_id: u64,
     callers: &[Caller],
+    places: &Places,
     client: u8,
     call: Call,
 ) -> Result<Op, CoreFault>
     requires few { length slots.now ≤ 65536 }
     requires early { stamp < 2 ^ 63 }
+    requires kept { IsKept (record { slots = slots.now; stamp = stamp; next_id = next_id; callers = callers.now }) places.now }
     ensures { Plans (record { slots = slots.now; stamp = stamp; next_id = next_id; callers = callers.now }) client call result }
 {
     let caller = caller_of(callers, client);
@@ -133,8 +193,9 @@ pub(crate) fn plan(
     let Some(caller) = caller else {
         return Err(CoreFault::NoSuchClient);
     };
-    let outcome = outcome(slots, stamp, next_id, callers, &call);
-    let slot = place(slots, stamp, next_id, callers, &call, outcome);
+    let old = old_place(slots, stamp, call.ended());
+    let outcome = outcome(slots, stamp, next_id, callers, places, old, &call);
+    let slot = place(slots, stamp, next_id, callers, places, old, &call, outcome);
     Ok(Op {
         client,
         number: caller.calls + 1,

@@ -1,26 +1,76 @@
 //! What slots show at a stamp.
 
-ghost use Rattle.std.specs.Prelude.{IfOk, option_map, ◌≡◌};
+ghost use Rattle.std.specs.Option.{option_to_list};
+ghost use Rattle.std.specs.Prelude.{IfOk, length, option_map, ◌≡◌, ◌<◌, ◌≤◌};
+ghost use Rattle.pref_core.specs.Kept.{is_row, IsPlaceOf, IsOldPlace};
 ghost use Rattle.pref_core.specs.Slots.{line, visible, block_of};
-ghost use Rattle.pref_core.specs.Table.{has, line_of, entries};
+ghost use Rattle.pref_core.specs.Table.{line_of, entries};
 
 use crate::store::version::Version;
 use pref_sky::Entry;
 use pref_table::Row;
 use std::alloc::{AllocError, Global};
 
-/// Whether the table at this stamp has the id.
-pub(crate) fn has_row(slots: &[Option<Version>], stamp: u64, id: u64) -> bool
-    ensures { result ≡ has (visible stamp slots.now) id }
+/// Whether the slot shows the row of this id at the stamp.
+fn shows(slot: Option<Version>, stamp: u64, id: u64) -> bool
+    ensures { result ≡ is_row stamp id slot }
 {
-    for slot in slots {
-        if let Some(version) = slot {
-            if version.id == id && version.is_visible_at(stamp) {
-                return true;
-            }
+    match slot {
+        Some(version) => version.id == id && version.is_visible_at(stamp),
+        None => false,
+    }
+}
+
+/// Where the row of an id stands first of all: opening rows stand there, and new rows where it is free.
+pub(crate) fn home(slots: &[Option<Version>], id: u64) -> u32
+    requires some { 0 < length slots.now }
+    requires few { length slots.now ≤ 65536 }
+    ensures { result < length slots.now }
+{
+    if id == 0 {
+        0
+    } else {
+        ((id - 1) % slots.len() as u64) as u32
+    }
+}
+
+/// The place of the row of this id in the table at this stamp. Looks at the id's home first.
+pub(crate) fn place_of(slots: &[Option<Version>], stamp: u64, id: u64) -> Option<u32>
+    requires { length slots.now ≤ 65536 }
+    ensures { IsPlaceOf stamp id slots.now result }
+{
+    if slots.is_empty() {
+        return None;
+    }
+    let place = home(slots, id);
+    if shows(slots[place as usize], stamp, id) {
+        return Some(place);
+    }
+    search(slots, stamp, id)
+}
+
+/// The same, by a look at each slot.
+fn search(slots: &[Option<Version>], stamp: u64, id: u64) -> Option<u32>
+    requires { length slots.now ≤ 65536 }
+    ensures { IsPlaceOf stamp id slots.now result }
+{
+    for place in 0..slots.len() {
+        if shows(slots[place], stamp, id) {
+            return Some(place as u32);
         }
     }
-    false
+    None
+}
+
+/// The place of the row that a call ends, where it ends one.
+pub(crate) fn old_place(slots: &[Option<Version>], stamp: u64, ended: Option<u64>) -> Option<u32>
+    requires { length slots.now ≤ 65536 }
+    ensures { IsOldPlace stamp (option_to_list ended) slots.now result }
+{
+    match ended {
+        Some(id) => place_of(slots, stamp, id),
+        None => None,
+    }
 }
 
 /// The row of this id in the table at this stamp.

@@ -1,0 +1,37 @@
+use Rattle.std.proofs.Common.{◌≡◌, ◌-◌, ◌<◌, ◌∙◌, ap, map, length, slice_get, subst, set, arith, sym}
+use Rattle.std.proofs.lemmas.List.{with_items_is}
+use Rattle.pref_core.specs.declared.store.places.Zone.TheVariants.{Free, Ended}
+use Rattle.pref_core.specs.Places.{zone_at, IsInverse, moved_order, moved_positions}
+use Rattle.pref_core.proofs.Arranging.{arranged_same, holds, zone_here, free_from}
+use Rattle.pref_core.proofs.store.places.Places.hold.Goals as goal
+
+pub overflow_sub-to : goal.overflow_sub-to
+overflow_sub-to c =
+    let here = zone_here c.self.inside.order.items c.self.inside.positions.items c.self.inside.free c.self.inside.held c.args.place c.self.invariant Free (ap (λ z. slice_get z c.args.place) c.self.view_is ∙ c.requires) in
+    let past = free_from c.self.inside.free c.self.inside.held _ here.1 in
+    omega arith
+
+pub move_to-requires : goal.move_to-requires
+move_to-requires c =
+    let step = holds c.self.inside.order.items c.self.inside.positions.items c.self.inside.free c.self.inside.held c.args.place c.self.invariant (ap (λ z. slice_get z c.args.place) c.self.view_is ∙ c.requires) in
+    record {
+      inverse = subst (λ l. IsInverse l c.deref_mut-2.result.now) (sym c.deref_mut.ensures.value) (subst (λ l. IsInverse c.self.inside.order.items l) (sym c.deref_mut-2.ensures.value) c.self.invariant.inverse);
+      place = subst (λ l. c.args.place < length l) (sym c.deref_mut.ensures.value) step.here;
+      to = subst (λ l. c.self.inside.free - 1 < length l) (sym c.deref_mut.ensures.value) step.there;
+    }
+
+pub invariant_of-self : goal.invariant_of-self
+invariant_of-self c =
+    let step = holds c.self.inside.order.items c.self.inside.positions.items c.self.inside.free c.self.inside.held c.args.place c.self.invariant (ap (λ z. slice_get z c.args.place) c.self.view_is ∙ c.requires) in
+    let long : length c.move_to.new.order ≡ c.self.inside.order.len = omega arith in
+    let long_too : length c.move_to.new.positions ≡ c.self.inside.positions.len = omega arith in
+    let order = with_items_is c.self.inside.order c.move_to.new.order long ∙ c.move_to.ensures.order ∙ (λ i. moved_order (c.deref_mut.ensures.value i) (c.deref_mut-2.ensures.value i) c.args.place (c.self.inside.free - 1)) in
+    let positions = with_items_is c.self.inside.positions c.move_to.new.positions long_too ∙ c.move_to.ensures.positions ∙ (λ i. moved_positions (c.deref_mut.ensures.value i) (c.deref_mut-2.ensures.value i) c.args.place (c.self.inside.free - 1)) in
+    arranged_same _ _ _ _ (c.self.inside.free - 1) (c.self.inside.held) order positions step.arranged
+
+pub returns : goal.returns
+returns c =
+    let step = holds c.self.inside.order.items c.self.inside.positions.items c.self.inside.free c.self.inside.held c.args.place c.self.invariant (ap (λ z. slice_get z c.args.place) c.self.view_is ∙ c.requires) in
+    let long : length c.move_to.new.positions ≡ c.self.inside.positions.len = omega arith in
+    let positions = with_items_is c.self.inside.positions c.move_to.new.positions long ∙ c.move_to.ensures.positions ∙ (λ i. moved_positions (c.deref_mut.ensures.value i) (c.deref_mut-2.ensures.value i) c.args.place (c.self.inside.free - 1)) in
+    ap (map (zone_at (c.self.inside.free - 1) (c.self.inside.held))) positions ∙ step.same ∙ ap (λ z. set z c.args.place Ended) c.self.view_is

@@ -1,0 +1,16 @@
+use Rattle.std.proofs.Common.{◌≡◌, ◌++◌, [], ◌∷◌, ◌∙◌, ap₂, sym, arith, rules}
+use Rattle.std.proofs.lemmas.List.FromFn.{map-range_with_len_more}
+use Rattle.pref_core.proofs.Turning.{low, high}
+use Rattle.pref_core.specs.Places.{turned}
+use Rattle.pref_core.proofs.store.places.turned.Goals as goal
+use Rattle.pref_core.proofs.store.places.turned.Goals.{then-at-capacity, else-at-capacity}
+
+pub loop-at-preserved : goal.loop-at-preserved
+loop-at-preserved c =
+    let number : c.if-at-capacity.number ≡ turned c.args.capacity c.args.first c.loop-at.at
+    = elim c.if-at-capacity.branch [
+      | then-at-capacity w ↦ w.number-is ∙ sym (low c.args.capacity c.args.first c.loop-at.at w.if-at-capacity.true)
+      | else-at-capacity w ↦ w.number-is ∙ sym (high c.args.capacity c.args.first c.loop-at.at (let past = w.if-at-capacity.false in omega arith))
+    ] in
+    let pushed : c.push.new.self.items ≡ c.loop-at.numbers.items ++ c.if-at-capacity.number ∷ [] = search rules in
+    pushed ∙ ap₂ (λ l n. l ++ n ∷ []) c.loop-at.invariant number ∙ sym (map-range_with_len_more (turned c.args.capacity c.args.first) 0 c.loop-at.at c.loop-at.at (omega arith))

@@ -1,0 +1,65 @@
+-- No public contract cites this.
+-- What a store keeps beside its slots, so that no change looks through them.
+use Rattle.std.specs.Prelude.{◌≡◌, ℕ, List, [], ◌∷◌, map, Bool, true, false, ◌&&◌, ◌==◌, Option, Some, None, slice_get, slice_set}
+use Rattle.pref_core.specs.declared.store.version.Version.{Version}
+use Rattle.pref_core.specs.declared.store.places.Zone.{Zone}
+use Rattle.pref_core.specs.declared.store.places.Zone.TheVariants.{Free, Live}
+use Rattle.pref_sky.specs.declared.entry.Entry.{Entry}
+use Rattle.pref_core.specs.Table.{has}
+use Rattle.pref_core.specs.State.{State}
+use Rattle.pref_core.specs.Slots.{Contents, StandsFor, is_visible, visible, begins}
+use Rattle.pref_core.specs.Operations.{close}
+use Rattle.pref_core.specs.Bounds.{IsBounded}
+use Rattle.pref_core.specs.Places.{is_free_zone, zone_of}
+
+-- A store's slots stand for a state, and each place is in the zone of its slot.
+pub record IsKept (contents : Contents) (zones : List Zone) : Type 0 where
+  pub bounded : IsBounded contents
+  pub state : State
+  pub stands : StandsFor contents state
+  pub listed : zones ≡ map (zone_of (begins contents.callers)) contents.slots
+
+-- whether the slot shows the row of this id at the stamp
+abbrev pub is_row : ℕ → ℕ → Option Version → Bool
+is_row stamp id None = false
+is_row stamp id (Some version) = (version.id == id) && is_visible stamp version
+
+abbrev pub row_at : ℕ → ℕ → List (Option Version) → ℕ → Bool
+row_at stamp id slots place = elim (slice_get slots place) [ None ↦ false | Some slot ↦ is_row stamp id slot ]
+
+-- the place where the id's row stands, or that there is none
+abbrev pub IsPlaceOf : ℕ → ℕ → List (Option Version) → Option ℕ → Type 0
+IsPlaceOf stamp id slots None = has (visible stamp slots) id ≡ false
+IsPlaceOf stamp id slots (Some place) = row_at stamp id slots place ≡ true
+
+-- the place of the row that a call ends
+abbrev pub IsOldPlace : ℕ → List ℕ → List (Option Version) → Option ℕ → Type 0
+IsOldPlace stamp [] slots old = old ≡ None
+IsOldPlace stamp (id ∷ ids) slots old = IsPlaceOf stamp id slots old
+
+-- the id that a call misses, by the place that was found
+abbrev pub missed : Option ℕ → Option ℕ → Option ℕ
+missed ended None = ended
+missed ended (Some place) = None
+
+-- the slot of this place, as it is after a commit that ends these ids, is free
+abbrev pub frees : List ℕ → List ℕ → ℕ → List (Option Version) → Option ℕ → Bool
+frees begins ids stamp slots None = false
+frees begins ids stamp slots (Some place) = elim (slice_get slots place) [ None ↦ false | Some slot ↦ is_free_zone (zone_of begins (close ids stamp slot)) ]
+
+-- one slot ends, where the row of these ids stands
+pub record ClosesAt (ids : List ℕ) (stamp : ℕ) (slots : List (Option Version)) (zones : List Zone) (place : ℕ) : Type 0 where
+  pub slot : Option Version
+  pub at : slice_get slots place ≡ Some slot
+  pub live : slice_get zones place ≡ Some Live
+  pub closes : map (close ids stamp) slots ≡ slice_set slots place (close ids stamp slot)
+
+abbrev pub Closes : List ℕ → ℕ → List (Option Version) → List Zone → Option ℕ → Type 0
+Closes ids stamp slots zones None = map (close ids stamp) slots ≡ slots
+Closes ids stamp slots zones (Some place) = ClosesAt ids stamp slots zones place
+
+-- where a new row goes there is a free place
+abbrev pub HasPlace : List Zone → Option Entry → Option ℕ → Type 0
+HasPlace zones None place = Unit {0}
+HasPlace zones (Some fresh) None = Unit {0}
+HasPlace zones (Some fresh) (Some place) = slice_get zones place ≡ Some Free
