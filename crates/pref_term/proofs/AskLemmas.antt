@@ -1,19 +1,17 @@
 -- What the parts of the reader promise that read what stands around a term, and skyline clauses.
-use Rattle.std.proofs.Common.{◌≡◌, ◌<◌, ◌≤◌, ◌+◌, ℕ, List, [], ◌∷◌, ◌++◌, length, map, fold, Bool, true, false, Option, Some, None, Result, Ok, Err, refl, sym, ap, subst, ◌∙◌, append-nil}
+use Rattle.std.proofs.Common.{◌≡◌, ℕ, List, [], ◌∷◌, ◌++◌, length, map, Bool, true, false, Option, Some, None, Ok, refl, sym, ap, subst, ◌∙◌, append-nil}
 use Rattle.std.specs.Prelude.{All, ◌≢◌, IfSome, cond, unwrap_or}
-use Rattle.std.specs.List.{flat_map}
 use Rattle.std.specs.Option.{option_map}
 use Rattle.std.proofs.lemmas.List.{map-append}
 use Rattle.std.proofs.lemmas.List.Elements.{All-append, All-nil}
 use Rattle.std.proofs.lemmas.List.Sums.{fold-append}
 use Rattle.std.proofs.lemmas.Grind.{flat_map-append}
-use Rattle.pref_table.specs.Columns.{column_of}
-use Rattle.pref_term.specs.Token.{Sign, comma, star, ampersand, Token, word, digits, sign, finish, Placed}
-use Rattle.pref_term.specs.Grammar.{Keyword, best_word, top_level_word, at_least_word, by_word, keyword_of, CasedWord, skyline_word, of_word, cased_of, Direction, minimal, maximal, different, direction_word, DimText, HeadText, best_head, top_level_head, at_least_head, PriorText, one_product, then_product, AskText, rated, skyline, Leaf, name, mark, column_name, count_digits, cased, last}
-use Rattle.pref_term.specs.Spells.{Names, UnlessMemory, own_fault, column_at, decimal_value, is_count, mode_of, order_by, group_by, orders_of, groups_of, product_of, prior_meaning, question, bad_count}
-use Rattle.pref_term.specs.Reading.{State, start, operand, first_factor, first_product, whole, in_whole, after, ranked, top_level_named, at_least_named, group_due, group_listed, skyline_named, dim_due, dim_named, dims_listed, done, listed_column, listed_dim, directed, begun, of_named, grouped_by, next, run, led, judged}
+use Rattle.pref_term.specs.Token.{comma, Token, word, digits, sign, finish, Placed}
+use Rattle.pref_term.specs.Grammar.{Keyword, best_word, top_level_word, at_least_word, by_word, keyword_of, skyline_word, of_word, cased_of, Direction, minimal, maximal, different, direction_word, DimText, HeadText, best_head, top_level_head, at_least_head, PriorText, one_product, then_product, rated, name, mark, column_name, count_digits, cased, last}
+use Rattle.pref_term.specs.Spells.{Names, own_fault, column_at, decimal_value, is_count, mode_of, order_by, group_by, orders_of, groups_of, product_of, bad_count}
+use Rattle.pref_term.specs.Reading.{State, start, operand, whole, in_whole, ranked, top_level_named, at_least_named, group_due, skyline_named, dim_due, dim_named, done, listed_column, listed_dim, directed, begun, of_named, grouped_by, next}
 use Rattle.pref_term.specs.Asked.{ordered, meant}
-use Rattle.pref_term.specs.Led.{Goes, Fails, IsOther, Passes, NotNext, IsNoWord, LacksWord, IsKnown, IsTermOf, IsColumn, WantsColumn, TakesColumn, FailsColumn, ReadsPrior, FailsPrior, Asks, AsksNothing, IsNoDigits, WantsCount, TakesCount, FailsCount, left_over, behind_column, ReadsGroupColumn, FailsGroupColumn, ReadsColumns, FailsColumns, ReadsGrouping, FailsGrouping, TakesDirection, FailsDirection, behind_dim, ReadsDim, FailsDim, joined, with_order, ReadsDims, ReadsClause, FailsClause, PassesOf, FailsOf}
+use Rattle.pref_term.specs.Led.{Goes, Fails, Passes, IsNoWord, IsKnown, IsTermOf, IsColumn, WantsColumn, TakesColumn, FailsColumn, ReadsPrior, FailsPrior, Asks, AsksNothing, IsNoDigits, WantsCount, TakesCount, FailsCount, left_over, ReadsGroupColumn, FailsGroupColumn, ReadsColumns, FailsColumns, ReadsGrouping, FailsGrouping, TakesDirection, FailsDirection, behind_dim, ReadsDim, FailsDim, with_order, ReadsDims, ReadsClause, FailsClause, PassesOf, FailsOf}
 use Rattle.pref_term.specs.Preference.{Preference, scored, low, high, pareto, prior, reverse}
 use Rattle.pref_term.specs.Columns.{ReadsBelow}
 use Rattle.pref_term.specs.Writable.{IsWritable}
@@ -21,7 +19,7 @@ use Rattle.pref_term.specs.Question.{Question, FitsWidth, IsAsk, IsCount, cut_of
 use Rattle.pref_term.specs.declared.ask.Mode.{Mode}
 use Rattle.pref_term.specs.declared.ask.Mode.TheVariants.{Best, TopLevel, AtLeast}
 use Rattle.pref_term.specs.declared.fault.TermFault.{TermFault}
-use Rattle.pref_term.specs.declared.fault.TermFault.TheVariants.{Unexpected, OutOfMemory, NoMinOrMax}
+use Rattle.pref_term.specs.declared.fault.TermFault.TheVariants.{Unexpected, NoMinOrMax}
 use Rattle.pref_term.proofs.Complete.{ranked_whole}
 use Rattle.pref_term.proofs.LedLemmas.{at_place, goes_then, goes_fails, passes_goes, stuck_fails, column_good, unless_map, all_one}
 

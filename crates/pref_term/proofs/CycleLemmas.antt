@@ -1,17 +1,17 @@
 -- What the parts of the reader that call each other promise.
-use Rattle.std.proofs.Common.{◌≡◌, ◌<◌, ◌≤◌, ◌+◌, ℕ, ℤ, List, [], ◌∷◌, ◌++◌, map, Bool, true, false, cond, Option, Some, None, Result, Ok, Err, nat_lt, refl, sym, ap, subst, ◌∙◌, ◌⊎◌, inl, inr, arith}
-use Rattle.std.specs.Prelude.{◌≢◌, IsErrAnd, IfErr}
+use Rattle.std.proofs.Common.{◌≡◌, ◌<◌, ◌≤◌, ◌+◌, ℕ, List, [], ◌∷◌, true, false, cond, Some, None, nat_lt, refl, sym, ap, subst, ◌∙◌, arith}
+use Rattle.std.specs.Prelude.{◌≢◌}
 use Rattle.std.proofs.lemmas.Bool.Decides.{nat_tests}
-use Rattle.pref_term.specs.Token.{Sign, left, right, comma, star, ampersand, minus, Token, word, digits, sign, other, finish, Placed}
-use Rattle.pref_term.specs.Grammar.{Keyword, best_word, low_word, high_word, around_word, pos_word, reverse_word, keyword_of, BaseText, based, grouped, reversed, negated, UnaryText, ProductText, one_factor, then_factor, PriorText, one_product, then_product, Leaf, name, mark, opens}
-use Rattle.pref_term.specs.Spells.{Names, own_fault, OwnFault, told, told_at, too_deep, unary_meaning, product_meaning, prior_meaning}
-use Rattle.pref_term.specs.Reading.{BaseKind, low_kind, high_kind, around_kind, pos_kind, kind_word, named, UnaryHole, in_minus, first_factor, next_factor, ProductHole, first_product, next_product, PriorHole, in_group, in_reverse, whole, unary_depth, product_depth, prior_depth, State, operand, reverse_named, reading, after, completed, ranked, run, led, judged, next, operand_word}
-use Rattle.pref_term.specs.Led.{Goes, Fails, IsOther, NotNext, Passes, ReadsBase, ReadsUnary, ReadsFactors, ReadsProducts, ReadsProduct, ReadsPrior, ReadsGroup, ReadsReverse, FailsBase, FailsUnary, FailsReverse, FailsGroup, FailsProduct, FailsPrior}
-use Rattle.pref_term.specs.Preference.{Preference, scored, pareto, prior, reverse}
+use Rattle.pref_term.specs.Token.{Sign, left, right, star, ampersand, minus, Token, word, sign, Placed}
+use Rattle.pref_term.specs.Grammar.{reverse_word, keyword_of, based, grouped, reversed, negated, one_factor, then_factor, PriorText, one_product, then_product, name, mark, opens}
+use Rattle.pref_term.specs.Spells.{Names, own_fault, too_deep, unary_meaning, product_meaning}
+use Rattle.pref_term.specs.Reading.{BaseKind, low_kind, high_kind, around_kind, pos_kind, kind_word, named, UnaryHole, in_minus, first_factor, next_factor, first_product, next_product, in_group, in_reverse, unary_depth, State, operand, reverse_named, reading, after, ranked, run, led, judged, next, operand_word}
+use Rattle.pref_term.specs.Led.{Goes, Fails, IsOther, Passes, ReadsBase, ReadsUnary, ReadsFactors, ReadsProducts, ReadsProduct, ReadsPrior, ReadsGroup, ReadsReverse, FailsBase, FailsUnary, FailsReverse, FailsGroup, FailsProduct, FailsPrior}
+use Rattle.pref_term.specs.Preference.{Preference, pareto, prior, reverse}
 use Rattle.pref_term.specs.declared.fault.TermFault.{TermFault}
-use Rattle.pref_term.specs.declared.fault.TermFault.TheVariants.{Unexpected, TooDeep, OutOfMemory}
+use Rattle.pref_term.specs.declared.fault.TermFault.TheVariants.{Unexpected, TooDeep}
 use Rattle.pref_term.proofs.Complete.{ranked_goes_on, ranked_group, ranked_reverse}
-use Rattle.pref_term.proofs.LedLemmas.{at_place, goes_then, goes_fails, passes_goes, stuck_fails, other_fails}
+use Rattle.pref_term.proofs.LedLemmas.{at_place, goes_then, goes_fails, passes_goes, stuck_fails}
 
 -- ---- nestings
 

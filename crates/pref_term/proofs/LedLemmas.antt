@@ -1,20 +1,20 @@
 -- What the parts of the reader promise, from the tokens that they take.
-use Rattle.std.proofs.Common.{◌≡◌, ◌<◌, ◌≤◌, ◌+◌, ℕ, ℤ, List, [], ◌∷◌, ◌++◌, map, Bool, true, false, cond, Option, Some, None, Result, Ok, Err, refl, sym, ap, subst, ◌∙◌, ◌⊎◌, inl, inr, arith}
+use Rattle.std.proofs.Common.{◌≡◌, ℕ, ℤ, List, [], ◌∷◌, ◌++◌, map, Bool, true, false, cond, Some, None, Result, Ok, Err, refl, sym, ap, subst, ◌∙◌}
 use Rattle.pref_table.specs.Columns.{column_of}
-use Rattle.pref_term.specs.Token.{Sign, left, right, comma, star, ampersand, minus, Token, word, digits, sign, other, finish, Placed}
-use Rattle.pref_term.specs.Grammar.{based, NumberText, BaseText, low_text, high_text, around_text, pos_text, UnaryText, ProductText, PriorText, Leaf, mark, column_name, number_digits, opens}
-use Rattle.pref_term.specs.Spells.{Names, UnlessMemory, own_fault, in_range, signed_value, number_value, column_at, OwnFault, told, told_at, too_deep, number_range, unknown_column}
-use Rattle.pref_term.specs.Reading.{BaseKind, low_kind, high_kind, around_kind, pos_kind, NumberHole, centre_of, first_of, next_of, named, opened, columned, number_due, number_signed, centred, listed, filled, UnaryHole, ProductHole, PriorHole, State, operand, reading, after, completed, run, led, judged, next}
+use Rattle.pref_term.specs.Token.{Sign, left, right, comma, minus, Token, word, digits, sign, Placed}
+use Rattle.pref_term.specs.Grammar.{based, NumberText, low_text, high_text, around_text, pos_text, Leaf, mark, column_name, number_digits}
+use Rattle.pref_term.specs.Spells.{Names, UnlessMemory, own_fault, in_range, signed_value, number_value, column_at, number_range, unknown_column}
+use Rattle.pref_term.specs.Reading.{BaseKind, low_kind, high_kind, around_kind, pos_kind, centre_of, first_of, named, opened, columned, number_due, number_signed, centred, listed, filled, UnaryHole, State, reading, completed, run, led, judged, next}
 use Rattle.pref_term.specs.Seen.{seen}
 use Rattle.pref_term.specs.Ahead.{ahead, taken, behind_token}
 use Rattle.pref_term.specs.declared.cursor.Taken.{Taken}
 use Rattle.pref_term.specs.declared.front.Token as code
 use Rattle.pref_term.specs.declared.front.Token.TheVariants.{Sign as code_sign}
-use Rattle.pref_term.specs.Led.{Goes, Fails, IsOther, Passes, WantsColumn, TakesColumn, ReadsOpened, IsNoWord, LacksWord, FailsColumn, FailsOpened, IsColumn, IsKnown, ReadsNumber, ReadsListed, ReadsSome, ReadsNumbers, ReadsBase, FailsListed, FailsNumber, FailsNumbers, FailsBase, set_hole, set_text, behind_number}
+use Rattle.pref_term.specs.Led.{Goes, Fails, IsOther, Passes, WantsColumn, TakesColumn, ReadsOpened, IsNoWord, LacksWord, FailsColumn, FailsOpened, ReadsNumber, ReadsListed, ReadsSome, ReadsNumbers, ReadsBase, FailsListed, FailsNumber, FailsNumbers, FailsBase, set_hole, set_text, behind_number}
 use Rattle.pref_term.specs.declared.fault.TermFault.{TermFault}
 use Rattle.pref_term.specs.declared.fault.TermFault.TheVariants.{Unexpected, UnknownColumn, OutOfMemory}
 use Rattle.std.specs.Prelude.{All, FitsSigned, ◌≢◌, IsErrAnd, IfErr, unwrap_or}
-use Rattle.pref_term.specs.Preference.{Preference, scored, low, high, around, one_of, pareto, prior, reverse}
+use Rattle.pref_term.specs.Preference.{scored, low, high, around, one_of}
 use Rattle.std.proofs.lemmas.List.{map-append}
 use Rattle.std.proofs.lemmas.List.Elements.{All-append, All-cons, All-nil}
 use Rattle.std.specs.Int.{w64}

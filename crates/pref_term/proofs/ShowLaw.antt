@@ -1,6 +1,6 @@
 -- What is shown spells what was shown.
 use Rattle.std.proofs.Common.{◌≡◌, ◌<◌, ◌≤◌, ◌^◌, ◌+◌, ℕ, ℤ, pos, negsuc, suc, List, [], ◌∷◌, ◌++◌, map, true, cond, Some, None, Ok, length, nat_lt, nat_le, refl, sym, ap, ◌∙◌, append_assoc, arith}
-use Rattle.std.specs.Prelude.{FitsSigned, decimal, is_none, All}
+use Rattle.std.specs.Prelude.{FitsSigned, decimal, is_none}
 use Rattle.std.specs.List.{AllByRecursion}
 use Rattle.std.specs.Int.{w64}
 use Rattle.std.specs.Char.{digit_value}
@@ -15,7 +15,7 @@ use Rattle.pref_term.specs.Columns.{column, ReadsBelow}
 use Rattle.pref_term.specs.Writable.{IsWritableBase, IsWritable}
 use Rattle.pref_term.specs.Question.{Question, FitsWidth, IsCount, cut_of, IsAsk}
 use Rattle.pref_term.specs.Asked.{asked}
-use Rattle.pref_term.specs.Spells.{Names, Spells, IsGood, own_fault, in_range, is_count, decimal_value, mode_of, column_at, unknown_column, number_range, bad_count}
+use Rattle.pref_term.specs.Spells.{Names, Spells, IsGood, own_fault, in_range, is_count, mode_of, column_at, unknown_column, number_range, bad_count}
 use Rattle.pref_term.specs.Preference.{Base, low, high, around, one_of, Preference, scored, pareto, prior, reverse}
 use Rattle.pref_term.specs.Shown.{is_prior, is_composed, held_nests, nests, name_at, shown_term, shown_mode, shown_group, shown}
 use Rattle.pref_term.specs.declared.ask.Mode.{Mode}

@@ -1,5 +1,5 @@
 -- Worked examples, by computation: rows that a term ranks, as a reader would rank them by hand.
-use Rattle.std.proofs.Common.{◌≡◌, true, false, ℤ, pos, List, [], ◌∷◌, refl}
+use Rattle.std.proofs.Common.{◌≡◌, true, false, pos, [], ◌∷◌, refl}
 use Rattle.std.specs.Prelude.{negsuc, ◌^◌, ◌-◌}
 use Rattle.pref_term.specs.Better.{better, same}
 use Rattle.pref_term.specs.Preference.{Preference, low, high, around, one_of, scored, pareto, prior, reverse}

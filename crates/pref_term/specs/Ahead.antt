@@ -6,7 +6,7 @@ use Rattle.pref_term.specs.Seen.{seen}
 use Rattle.pref_term.specs.declared.cursor.Cursor.{Cursor}
 use Rattle.pref_term.specs.declared.cursor.Taken.{Taken}
 use Rattle.pref_term.specs.declared.front.Token as code
-use Rattle.pref_term.specs.declared.front.Token.TheVariants.{Word, Digits, Sign, Other, End}
+use Rattle.pref_term.specs.declared.front.Token.TheVariants.{End}
 
 abbrev pub ahead : Cursor → List Placed
 ahead c = tokens_from 0 c.place (drop c.place c.text.now)

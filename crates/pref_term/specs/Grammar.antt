@@ -1,11 +1,9 @@
 -- The grammar of question texts. A text of the grammar is a tree; its leaves are its tokens, each with the part that
 -- it plays; its meaning is a preference. (this project; the clause is that of Börzsönyi, Kossmann, Stocker 2001)
-use Rattle.std.specs.Prelude.{◌≡◌, ℕ, ℤ, pos, zero, suc, neg_ℤ, ◌+◌, ◌-◌, ◌*◌, List, [], ◌∷◌, ◌++◌, map, Bool, true, false, Option, Some, None, codes}
+use Rattle.std.specs.Prelude.{◌≡◌, ℕ, ◌+◌, List, [], ◌∷◌, ◌++◌, Bool, true, false, Option, Some, None, codes}
 use Rattle.std.specs.List.{find, AllByRecursion}
 use Rattle.std.specs.Str.{bytes_eq, str_to_ascii_lowercase}
-use Rattle.pref_table.specs.Columns.{column_of}
 use Rattle.pref_term.specs.Token.{Sign, left, right, comma, star, ampersand, minus, Token, word, digits, sign, finish}
-use Rattle.pref_term.specs.Preference.{low, high, around, one_of, Preference, scored, pareto, prior, reverse}
 pub use Rattle.pref_term.specs.declared.token.Keyword.{Keyword}
 pub use Rattle.pref_term.specs.declared.token.Keyword.TheVariants.{Best as best_word, Low as low_word, High as high_word, Around as around_word, Pos as pos_word, Reverse as reverse_word, TopLevel as top_level_word, AtLeast as at_least_word, By as by_word}
 pub use Rattle.pref_term.specs.declared.token.CasedWord.{CasedWord}

@@ -1,12 +1,11 @@
 -- No public contract cites this.
 -- Each preference is a strict order, and rows that are the same to it stand alike in it. (this project)
-use Rattle.std.proofs.Common.{◌≡◌, ℤ, ℕ, List, [], ◌∷◌, Bool, true, false, ◌⊎◌, inl, inr, ⊎_elim, sym, ap, ◌∙◌, refl, arith, rules, cond}
-use Rattle.std.specs.Prelude.{◌&&◌, ◌||◌, int_lt, IsTrue}
+use Rattle.std.proofs.Common.{◌≡◌, ℤ, ℕ, List, [], ◌∷◌, Bool, true, false, ◌⊎◌, inl, inr, sym, ap, ◌∙◌, refl, arith}
+use Rattle.std.specs.Prelude.{◌&&◌, ◌||◌, int_lt}
 use Rattle.std.specs.Ordering.{int_eq}
-use Rattle.std.specs.List.{list_all}
 use Rattle.std.proofs.lemmas.Int.{ints}
 use Rattle.std.proofs.lemmas.Bool.Decides.{Decides-int_eq}
-use Rattle.pref_term.specs.Preference.{Base, Preference, scored, pareto, prior, reverse}
+use Rattle.pref_term.specs.Preference.{Preference, scored, pareto, prior, reverse}
 use Rattle.pref_term.specs.Better.{cell, score, same, better, in_same_group}
 use Rattle.pref_term.specs.Question.{Question, over}
 

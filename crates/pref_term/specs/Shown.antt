@@ -1,9 +1,10 @@
 -- How a question is shown: its one canonical text. (this project)
-use Rattle.std.specs.Prelude.{◌+◌, max, ℕ, ℤ, Bool, true, false, if◌then◌else◌, List, [], ◌∷◌, ◌++◌, codes, slice_index_or}
+use Rattle.std.specs.Prelude.{◌≡◌, MatchResult, ◌+◌, max, ℕ, ℤ, Bool, true, false, if◌then◌else◌, List, [], ◌∷◌, ◌++◌, codes, slice_index_or}
 use Rattle.std.specs.Fmt.{decimal, signed_decimal}
 use Rattle.pref_term.specs.Spells.{Names}
 use Rattle.pref_term.specs.Preference.{Base, low, high, around, one_of, Preference, scored, pareto, prior, reverse}
 use Rattle.pref_term.specs.Question.{Question}
+use Rattle.pref_term.specs.Asked.{asked}
 use Rattle.pref_term.specs.declared.ask.Mode.{Mode}
 use Rattle.pref_term.specs.declared.ask.Mode.TheVariants.{Best, TopLevel, AtLeast}
 
@@ -75,3 +76,11 @@ nests (scored b) = 0
 nests (pareto p q) = max (held_nests (is_prior p) (nests p)) (held_nests (is_composed q) (nests q))
 nests (prior p q) = max (nests p) (held_nests (is_prior q) (nests q))
 nests (reverse p) = held_nests (is_composed p) (nests p) + 1
+
+-- what the first text asks is shown as the second
+abbrev pub IsShownAs : Names → List ℕ → List ℕ → Type 0
+IsShownAs names text canonical = MatchResult (asked names text) (λ q. shown names q ≡ canonical) (λ fault. ⊥)
+
+-- the columns of the worked texts
+abbrev pub worked_names : Names
+worked_names = codes "x" ∷ codes "y" ∷ codes "z" ∷ codes "g" ∷ codes "h" ∷ []

@@ -1,5 +1,5 @@
 -- The tokens of a question text. (this project)
-use Rattle.std.specs.Prelude.{ℕ, zero, suc, ◌+◌, ◌-◌, List, [], ◌∷◌, take, Bool, ◌&&◌, ◌||◌, ◌==◌, nat_le, if◌then◌else◌}
+use Rattle.std.specs.Prelude.{ℕ, zero, suc, ◌+◌, List, [], ◌∷◌, take, Bool, ◌&&◌, ◌||◌, ◌==◌, nat_le, if◌then◌else◌}
 use Rattle.std.specs.List.{prefix_len}
 pub use Rattle.pref_term.specs.declared.token.Sign.{Sign}
 pub use Rattle.pref_term.specs.declared.token.Sign.TheVariants.{Left as left, Right as right, Comma as comma, Star as star, Ampersand as ampersand, Minus as minus}

@@ -1,5 +1,5 @@
 -- The preferences that a text can write. (this project)
-use Rattle.std.specs.Prelude.{ℕ, ℤ, List, [], ◌≢◌, FitsSigned, All}
+use Rattle.std.specs.Prelude.{[], ◌≢◌, FitsSigned, All}
 use Rattle.std.specs.Int.{w64}
 use Rattle.pref_term.specs.Preference.{Base, low, high, around, one_of, Preference, scored, pareto, prior, reverse}
 

@@ -2,7 +2,7 @@
 ghost use Rattle.std.specs.Prelude.{◌≡◌, ◌≤◌, ℕ, List, [], ◌∷◌, length, MatchResult, Ok, Err, codes};
 ghost use Rattle.pref_table.specs.Names.{schema_of};
 ghost use Rattle.pref_term.specs.Question.{Question, IsAsk, FitsWidth};
-ghost use Rattle.pref_term.specs.Shown.{shown, nests};
+ghost use Rattle.pref_term.specs.Shown.{shown, nests, IsShownAs, worked_names};
 ghost use Rattle.pref_term.specs.Spells.{Names, Spells, Faults};
 ghost use Rattle.pref_term.specs.Asked.{asked};
 ghost use Rattle.pref_term.specs.Preference.{scored, low};
@@ -37,4 +37,15 @@ pub fn worked_texts()
     ensures skyline { asked (codes "price" ∷ codes "city" ∷ []) (codes "skyline of price MIN, city diff") ≡ Ok (record { preference = scored (low 0); group = 1 ∷ []; mode = best }) }
     ensures unknown { asked (codes "x" ∷ []) (codes "best low(z)") ≡ Err (unknown_column 9) }
     ensures unordered { asked (codes "x" ∷ []) (codes "skyline of x diff") ≡ Err no_min_or_max }
+{}
+
+/// Texts over the columns x, y, z, g and h, and how they are shown.
+pub fn worked_showings()
+    ensures tighter { IsShownAs worked_names (codes "best low(x)*low(y)&high(z)") (codes "best low(x) * low(y) & high(z)") }
+    ensures grouped { IsShownAs worked_names (codes "best low(x)*(low(y)*high(z))") (codes "best low(x) * (low(y) * high(z))") }
+    ensures bare { IsShownAs worked_names (codes "best ((low(x)))") (codes "best low(x)") }
+    ensures reversed { IsShownAs worked_names (codes "best reverse(low(x) & pos(y,-1,2))") (codes "best -(low(x) & pos(y, -1, 2))") }
+    ensures factor { IsShownAs worked_names (codes "best low(x)*-high(y)") (codes "best low(x) * -high(y)") }
+    ensures skyline { IsShownAs worked_names (codes "SKYLINE OF x Min, g DIFF, y max") (codes "best low(x) * high(y) by g") }
+    ensures counted { IsShownAs worked_names (codes "at_least 007 around( x , - 3 ) by g,h") (codes "at_least 7 around(x, -3) by g, h") }
 {}

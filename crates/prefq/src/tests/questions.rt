@@ -1,23 +1,23 @@
 //! Scripts with questions, with the output that they must have.
-use super::{Full, Narrow, Run, Trickle, defaults, in_steps, roomy, run_through, run_whole, setup_of};
+use super::{
+    Full, Narrow, Run, Trickle, defaults, in_steps, roomy, run_through, run_whole, setup_of,
+};
 use crate::fault::RunFault;
 use pref_core::Setup;
 use std::alloc::Global;
 use std::test::Fail;
 
 /// The script and the output that the program is stored with.
-const STORED: &[u8] = b"table\nprice\nend\nas 1 insert 30\nas 1 insert 10\nas 2 insert 20\nas 1 begin best low(price)\n\
+const STORED: &[u8] =
+    b"table\nprice\nend\nas 1 insert 30\nas 1 insert 10\nas 2 insert 20\nas 1 begin best low(price)\n\
 as 2 insert 5\nas 1 scan\nas 1 finish\n";
-const STORED_OUTPUT: &str = "1 inserted 1\n1 inserted 2\n2 inserted 3\n1 begun 1\n2 inserted 4\n1 left 0\n1 answer 1\n\
+
+const STORED_OUTPUT: &str =
+    "1 inserted 1\n1 inserted 2\n2 inserted 3\n1 begun 1\n2 inserted 4\n1 left 0\n1 answer 1\n\
 level 1 id 2: 10\n";
 
 /// A run of a question over a table: its begin, one scan, and its answer.
-fn answered(
-    alloc: Global,
-    setup: Setup,
-    table: &[u8],
-    question: &[u8],
-) -> Result<Run, Fail> {
+fn answered(alloc: Global, setup: Setup, table: &[u8], question: &[u8]) -> Result<Run, Fail> {
     let mut script = b"table\n".to_vec(alloc)?;
     script.extend_from_slice(table)?;
     script.extend_from_slice(b"end\nas 1 begin ")?;
@@ -142,7 +142,11 @@ fn questions_over_a_table_have_their_answers(rt: HostRuntime) -> Result<(), Fail
             b"skyline of price MIN, city diff",
             "1 begun 1\n1 left 0\n1 answer 3\nlevel 1 id 1: 10,1\nlevel 1 id 3: 30,2\nlevel 1 id 4: 30,2\n",
         ),
-        (b"\"end\"\n4\n", b"best high(end)", "1 begun 1\n1 left 0\n1 answer 1\nlevel 1 id 1: 4\n"),
+        (
+            b"\"end\"\n4\n",
+            b"best high(end)",
+            "1 begun 1\n1 left 0\n1 answer 1\nlevel 1 id 1: 4\n",
+        ),
         (
             b"x,g\n1,1\n2,1\n2,1\n9,2\n",
             b"at_least 2 low(x) by g",
@@ -161,7 +165,8 @@ fn questions_over_a_table_have_their_answers(rt: HostRuntime) -> Result<(), Fail
 fn a_window_of_one_row_gives_the_same_answer(rt: HostRuntime) -> Result<(), Fail> {
     let setup = Setup::new(4, 1024, 1024, 1).ok_or("no setup")?;
     let table = b"price,dist\n50,8\n60,5\n80,2\n70,6\n90,2\n";
-    let wanted = "1 begun 1\n1 left 0\n1 answer 3\nlevel 1 id 1: 50,8\nlevel 1 id 2: 60,5\nlevel 1 id 3: 80,2\n";
+    let wanted =
+        "1 begun 1\n1 left 0\n1 answer 3\nlevel 1 id 1: 50,8\nlevel 1 id 2: 60,5\nlevel 1 id 3: 80,2\n";
     let run = answered(rt.alloc(), setup, table, b"best low(price) * low(dist)")?;
     assert_eq!(rt; run.text(), wanted);
     Ok(())
@@ -172,7 +177,8 @@ fn at_least_counts_over_all_blocks(rt: HostRuntime) -> Result<(), Fail> {
     let setup = setup_of(12, 6).ok_or("no setup")?;
     let script = b"table\nx,y\n20,1\n4,16\n5,15\n6,14\n7,13\n21,2\n1,10\n2,11\n3,12\nend\n\
 as 1 begin at_least 5 low(x) * low(y)\nas 1 scan\nas 1 scan\nas 1 finish\n";
-    let wanted = "1 begun 2\n1 left 1\n1 left 0\n1 answer 5\nlevel 1 id 1: 20,1\nlevel 1 id 7: 1,10\n\
+    let wanted =
+        "1 begun 2\n1 left 1\n1 left 0\n1 answer 5\nlevel 1 id 1: 20,1\nlevel 1 id 7: 1,10\n\
 level 2 id 6: 21,2\nlevel 2 id 8: 2,11\nlevel 3 id 9: 3,12\n";
     let run = run_whole(rt.alloc(), setup, script);
     assert_eq!(rt; run.result, Ok(()));
@@ -186,7 +192,8 @@ fn the_clause_and_the_term_with_groups_are_one_question(rt: HostRuntime) -> Resu
     let script = b"table\nprice,city\n10,1\n20,1\n30,2\n30,2\nend\n\
 as 1 begin skyline of price MIN, city diff\nas 1 scan\nas 1 finish\n\
 as 2 begin best low(price) by city\nas 2 scan\nas 2 finish\n";
-    let wanted = "1 begun 1\n1 left 0\n1 answer 3\nlevel 1 id 1: 10,1\nlevel 1 id 3: 30,2\nlevel 1 id 4: 30,2\n\
+    let wanted =
+        "1 begun 1\n1 left 0\n1 answer 3\nlevel 1 id 1: 10,1\nlevel 1 id 3: 30,2\nlevel 1 id 4: 30,2\n\
 2 begun 1\n2 left 0\n2 answer 3\nlevel 1 id 1: 10,1\nlevel 1 id 3: 30,2\nlevel 1 id 4: 30,2\n";
     let run = run_whole(rt.alloc(), setup, script);
     assert_eq!(rt; run.result, Ok(()));
@@ -212,7 +219,8 @@ fn an_abandoned_query_needs_no_version(rt: HostRuntime) -> Result<(), Fail> {
     let setup = setup_of(2, 2).ok_or("no setup")?;
     let script = b"table\nx\n1\n2\nend\nas 1 begin best low(x)\nas 2 update 1 9\nas 1 abandon\n\
 as 2 update 1 9\nas 2 get 1\nas 2 room\n";
-    let wanted = "1 begun 1\n2 refused 8: full needed 3\n1 abandoned\n2 updated 1\n2 row 1: 9\n2 room 0\n";
+    let wanted =
+        "1 begun 1\n2 refused 8: full needed 3\n1 abandoned\n2 updated 1\n2 row 1: 9\n2 room 0\n";
     let run = run_whole(rt.alloc(), setup, script);
     assert_eq!(rt; run.result, Ok(()));
     assert_eq!(rt; run.text(), wanted);
@@ -222,9 +230,11 @@ as 2 update 1 9\nas 2 get 1\nas 2 room\n";
 #[test]
 fn each_refusal_of_a_query_has_its_line(rt: HostRuntime) -> Result<(), Fail> {
     let setup = setup_of(2, 1).ok_or("no setup")?;
-    let script = b"table\nx\n4\nend\nas 1 finish\nas 1 begin best low(x)\nas 1 begin best low(x)\nas 1 finish\n\
+    let script =
+        b"table\nx\n4\nend\nas 1 finish\nas 1 begin best low(x)\nas 1 begin best low(x)\nas 1 finish\n\
 as 1 scan\nas 1 scan\nas 1 scan\nas 1 finish\nas 1 abandon\nas 9 room\nas 1 get 7\n";
-    let wanted = "1 refused 4: no query\n1 begun 2\n1 refused 3: query open\n1 refused 6: not done left 2\n\
+    let wanted =
+        "1 refused 4: no query\n1 begun 2\n1 refused 3: query open\n1 refused 6: not done left 2\n\
 1 left 1\n1 left 0\n1 refused 5: all scanned\n1 answer 1\nlevel 1 id 1: 4\n1 refused 4: no query\n\
 9 refused 1: no such client\n1 refused 7: no such row 7\n";
     let run = run_whole(rt.alloc(), setup, script);
@@ -236,7 +246,8 @@ as 1 scan\nas 1 scan\nas 1 scan\nas 1 finish\nas 1 abandon\nas 9 room\nas 1 get 
 #[test]
 fn a_full_table_and_an_open_query(rt: HostRuntime) -> Result<(), Fail> {
     let setup = setup_of(2, 1).ok_or("no setup")?;
-    let script = b"table\nx\nend\nas 1 insert 4\nas 1 finish\nas 1 begin best low(x)\nas 1 begin best low(x)\n\
+    let script =
+        b"table\nx\nend\nas 1 insert 4\nas 1 finish\nas 1 begin best low(x)\nas 1 begin best low(x)\n\
 as 1 finish\nas 2 insert 3\nas 2 insert 9\nas 1 scan\nas 1 scan\nas 1 scan\nas 1 finish\nas 9 scan\nas 1 room\n";
     let wanted = "1 inserted 1\n1 refused 4: no query\n1 begun 2\n1 refused 3: query open\n\
 1 refused 6: not done left 2\n2 inserted 2\n2 refused 8: full needed 3\n1 left 1\n1 left 0\n\
@@ -250,9 +261,11 @@ as 1 finish\nas 2 insert 3\nas 2 insert 9\nas 1 scan\nas 1 scan\nas 1 scan\nas 1
 #[test]
 fn a_version_that_only_a_query_needs_keeps_its_slot(rt: HostRuntime) -> Result<(), Fail> {
     let setup = setup_of(3, 3).ok_or("no setup")?;
-    let script = b"table\nx\n5\nend\nas 1 begin best low(x)\nas 2 update 1 1\nas 2 update 1 2\nas 2 room\n\
+    let script =
+        b"table\nx\n5\nend\nas 1 begin best low(x)\nas 2 update 1 1\nas 2 update 1 2\nas 2 room\n\
 as 1 scan\nas 1 finish\nas 2 room\nas 2 get 1\n";
-    let wanted = "1 begun 1\n2 updated 1\n2 updated 1\n2 room 1\n1 left 0\n1 answer 1\nlevel 1 id 1: 5\n\
+    let wanted =
+        "1 begun 1\n2 updated 1\n2 updated 1\n2 room 1\n1 left 0\n1 answer 1\nlevel 1 id 1: 5\n\
 2 room 2\n2 row 1: 2\n";
     let run = run_whole(rt.alloc(), setup, script);
     assert_eq!(rt; run.result, Ok(()));
@@ -263,9 +276,11 @@ as 1 scan\nas 1 finish\nas 2 room\nas 2 get 1\n";
 #[test]
 fn refused_questions_have_their_lines(rt: HostRuntime) -> Result<(), Fail> {
     let setup = defaults().ok_or("no setup")?;
-    let script = b"table\nx\nend\nas 1 begin best low(z)\nas 1 begin best low(x\nas 1 begin at_least 0 low(x)\n\
+    let script =
+        b"table\nx\nend\nas 1 begin best low(z)\nas 1 begin best low(x\nas 1 begin at_least 0 low(x)\n\
 as 1 begin skyline of x diff\nas 1 insert 1,2\nas 1 jump\nas 1 begin best low(x) +\n";
-    let wanted = "line 4 refused term 2: unknown column at 9\nline 5 refused term 1: unexpected at 10\n\
+    let wanted =
+        "line 4 refused term 2: unknown column at 9\nline 5 refused term 1: unexpected at 10\n\
 line 6 refused term 6: bad count at 9\nline 7 refused term 7: no min or max\n\
 line 8 refused table 5: width row 0\nline 9 refused: command\nline 10 refused term 1: unexpected at 12\n";
     let run = run_whole(rt.alloc(), setup, script);
@@ -277,11 +292,13 @@ line 8 refused table 5: width row 0\nline 9 refused: command\nline 10 refused te
 #[test]
 fn hostile_lines_of_one_script(rt: HostRuntime) -> Result<(), Fail> {
     let setup = defaults().ok_or("no setup")?;
-    let script = b"table\nx\n5\nend\nas 0 room\nas 007 room\nas 256 room\nas 1 get 18446744073709551615\n\
+    let script =
+        b"table\nx\n5\nend\nas 0 room\nas 007 room\nas 256 room\nas 1 get 18446744073709551615\n\
 as 1 get 18446744073709551616\nas 1 begin\nas 1 begin best around(x, -9223372036854775809)\n\
 as 1 begin top_level 1001 low(x)\nas 1 begin best low(x) by\nas 1 scan now\nAS 1 room\nas 1 insert 1.5\n\
 as 1 update 9 9223372036854775808\nas 1 room\n";
-    let wanted = "0 refused 1: no such client\n7 refused 1: no such client\nline 7 refused: command\n\
+    let wanted =
+        "0 refused 1: no such client\n7 refused 1: no such client\nline 7 refused: command\n\
 1 refused 7: no such row 18446744073709551615\nline 9 refused: command\n\
 line 10 refused term 1: unexpected at 0\nline 11 refused term 3: number range at 15\n\
 line 12 refused term 6: bad count at 10\nline 13 refused term 1: unexpected at 14\n\

@@ -1,8 +1,8 @@
-use Rattle.std.proofs.Common.{List, ℕ, Bool, true, false, Option, None, sym, subst}
+use Rattle.std.proofs.Common.{List, ℕ, Bool, true, None, sym, subst}
 use Rattle.std.specs.Option.{option_map}
 use Rattle.pref_term.specs.Ahead.{ahead}
-use Rattle.pref_term.specs.Preference.{Preference, preference_of}
-use Rattle.pref_term.specs.Led.{ReadsDim, ReadsDims, ReadsClause, FailsClause}
+use Rattle.pref_term.specs.Preference.{preference_of}
+use Rattle.pref_term.specs.Led.{ReadsDim, ReadsDims, FailsClause}
 use Rattle.pref_term.proofs.LedLemmas.{err_exit}
 use Rattle.pref_term.proofs.AskLemmas.{dims_none, dims_more, dims_all, dims_fail, reads_dims, reads_clause}
 use Rattle.pref_term.proofs.read.ask.dimensions.Goals as goal

@@ -2,7 +2,7 @@ use Rattle.std.proofs.Common.{◌∙◌}
 use Rattle.pref_term.specs.Ahead.{ahead}
 use Rattle.pref_term.specs.Led.{FailsGroupColumn}
 use Rattle.pref_term.proofs.LedLemmas.{err_exit}
-use Rattle.pref_term.proofs.AskLemmas.{group_more, group_last, group_column_fails, group_end_fails}
+use Rattle.pref_term.proofs.AskLemmas.{group_more, group_column_fails}
 use Rattle.pref_term.proofs.read.ask.group_column.Goals as goal
 
 pub returns-in_err-col-clause-err : goal.returns-in_err-col-clause-err

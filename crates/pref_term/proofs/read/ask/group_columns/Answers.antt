@@ -1,4 +1,4 @@
-use Rattle.std.proofs.Common.{List, ℕ, Bool, true, false, sym, subst, ap, ◌∙◌, ◌++◌, ◌∷◌, []}
+use Rattle.std.proofs.Common.{List, ℕ, Bool, true, false, sym, subst, []}
 use Rattle.pref_term.specs.Ahead.{ahead}
 use Rattle.pref_term.specs.Led.{ReadsGroupColumn, ReadsColumns, FailsColumns}
 use Rattle.pref_term.proofs.LedLemmas.{err_exit}

@@ -2,7 +2,7 @@ use Rattle.std.proofs.Common.{◌∙◌}
 use Rattle.pref_term.specs.Ahead.{ahead}
 use Rattle.pref_term.specs.Led.{FailsDim}
 use Rattle.pref_term.proofs.LedLemmas.{err_exit}
-use Rattle.pref_term.proofs.AskLemmas.{dim_more, dim_last, dim_column_fails, dim_direction_fails, dim_end_fails}
+use Rattle.pref_term.proofs.AskLemmas.{dim_more, dim_last, dim_column_fails, dim_direction_fails}
 use Rattle.pref_term.proofs.read.ask.listed_dimension.Goals as goal
 
 pub returns-in_err-col-clause-err : goal.returns-in_err-col-clause-err

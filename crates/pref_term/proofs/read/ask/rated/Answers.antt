@@ -4,7 +4,7 @@ use Rattle.pref_term.specs.Grammar.{HeadText}
 use Rattle.pref_term.specs.Spells.{mode_of}
 use Rattle.pref_term.specs.Reading.{operand, in_whole}
 use Rattle.pref_term.specs.Preference.{preference_of}
-use Rattle.pref_term.specs.Question.{Question, FitsWidth}
+use Rattle.pref_term.specs.Question.{FitsWidth}
 use Rattle.pref_term.specs.Led.{Asks, AsksNothing}
 use Rattle.pref_term.specs.declared.fault.TermFault.{TermFault}
 use Rattle.pref_term.proofs.LedLemmas.{err_exit}

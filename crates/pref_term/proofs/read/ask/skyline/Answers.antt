@@ -1,15 +1,15 @@
-use Rattle.std.proofs.Common.{List, ℕ, Option, Some, None, sym, subst, length, arith}
+use Rattle.std.proofs.Common.{List, ℕ, Option, sym, subst, length, arith}
 use Rattle.std.specs.Option.{option_map}
 use Rattle.pref_term.specs.Ahead.{ahead}
 use Rattle.pref_term.specs.Reading.{skyline_named}
-use Rattle.pref_term.specs.Preference.{Preference, preference_of}
+use Rattle.pref_term.specs.Preference.{preference_of}
 use Rattle.pref_term.specs.Led.{AsksNothing, ReadsClause}
 use Rattle.pref_term.specs.Question.{FitsWidth}
 use Rattle.pref_term.specs.declared.ask.Mode.TheVariants.{Best}
 use Rattle.pref_term.specs.declared.term.Term.{Term}
 use Rattle.pref_term.specs.declared.fault.TermFault.{TermFault}
 use Rattle.pref_term.proofs.LedLemmas.{err_exit}
-use Rattle.pref_term.proofs.AskLemmas.{of_fails, clause_fails, clause_read, clause_unordered, is_ask, fits_width}
+use Rattle.pref_term.proofs.AskLemmas.{of_fails, clause_fails, is_ask, fits_width}
 use Rattle.pref_term.proofs.read.ask.skyline.Goals as goal
 
 pub returns-in_err-behind-clause-err : goal.returns-in_err-behind-clause-err

@@ -1,4 +1,4 @@
-use Rattle.std.proofs.Common.{w64, rules, arith, ◌≡◌, ℕ, ℤ, List, Bool, true, false, [], ◌∷◌, ◌++◌, subst, ap, ◌∙◌, sym}
+use Rattle.std.proofs.Common.{w64, rules, arith, ℕ, ℤ, List, Bool, true, [], ◌∷◌, ◌++◌, subst, ap, ◌∙◌, sym}
 use Rattle.std.proofs.lemmas.Int.{to_z-of_z}
 use Rattle.pref_term.specs.Ahead.{ahead}
 use Rattle.pref_term.specs.Led.{ReadsListed, ReadsNumbers, ReadsSome, FailsNumbers}

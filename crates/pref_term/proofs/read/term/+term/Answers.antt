@@ -1,13 +1,12 @@
-use Rattle.std.proofs.Common.{◌≡◌, ◌≤◌, ◌<◌, ◌+◌, ℕ, List, ◌∷◌, Some, arith, sym, ap, subst, ◌∙◌, length}
+use Rattle.std.proofs.Common.{ℕ, List, Some, arith, sym, ap, subst, ◌∙◌, length}
 use Rattle.std.proofs.lemmas.Result.{IfOk-weaker}
-use Rattle.pref_term.specs.Token.{sign, star, ampersand, Placed}
-use Rattle.pref_term.specs.Grammar.{keyword_of}
+use Rattle.pref_term.specs.Token.{Placed}
 use Rattle.pref_term.specs.Reading.{low_kind, high_kind, around_kind, pos_kind}
 use Rattle.pref_term.specs.Ahead.{ahead}
-use Rattle.pref_term.specs.Led.{NotNext, FailsUnary, FailsGroup, FailsProduct, FailsPrior, FailsBase, FailsReverse, ReadsBase, ReadsReverse, ReadsUnary, ReadsGroup, ReadsFactors, ReadsProducts}
-use Rattle.pref_term.specs.Preference.{Preference, preference_of, pareto, prior, reverse}
+use Rattle.pref_term.specs.Led.{FailsUnary, FailsGroup, FailsProduct, FailsPrior, FailsBase, ReadsReverse, ReadsUnary, ReadsGroup, ReadsFactors, ReadsProducts}
+use Rattle.pref_term.specs.Preference.{Preference, preference_of}
 use Rattle.pref_term.proofs.LedLemmas.{err_exit, if_err_map, taken_is}
-use Rattle.pref_term.proofs.CycleLemmas.{group_read, group_end_fails, one_factor_read, more_factors, more_factors_fail, one_product_read, more_products, more_products_fail, minus_read, minus_fails, left_read, left_fails, reverse_read, reverse_fails, base_read, base_fails, word_reverse_read, word_reverse_fails}
+use Rattle.pref_term.proofs.CycleLemmas.{group_read, group_end_fails, one_factor_read, more_factors, more_factors_fail, one_product_read, more_products, more_products_fail, minus_read, minus_fails, left_read, reverse_read, base_read, base_fails, word_reverse_read}
 use Rattle.pref_term.proofs.read.term.+term.Goals as goal
 
 pub group-returns-in_err-rest-clause-err : goal.group-returns-in_err-rest-clause-err
