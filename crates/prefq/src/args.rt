@@ -24,29 +24,89 @@ pub enum ArgsFault {
     Memory,
 }
 
+/// What stands behind the help of the program: an example, and where more is told.
+const EXAMPLE: &str = "\
+Example, as a script on standard input:
+
+    table
+    price
+    end
+    as 1 insert 30
+    as 2 insert 20
+    as 1 begin best low(price)
+    as 1 scan
+    as 1 finish
+
+It prints an answer of one row: level 1 id 2: 20.
+The commands and the question language are explained in README.md.";
+
 /// An option that takes a whole number from 1 on.
-fn number_option<'a>(alloc: Global, name: &'a str, most: i64, default: &'a str) -> Arg<'a> {
+fn number_option<'a>(
+    alloc: Global,
+    name: &'a str,
+    most: i64,
+    default: &'a str,
+    help: &'a str,
+) -> Arg<'a> {
     Arg::new(alloc, name)
         .long(name)
         .action(ArgAction::Set)
         .value_parser(value_parser!(u32).range(1..=most))
         .default_value(default)
+        .help(help)
 }
 
 /// A subcommand with the options of a setup.
-fn run_command<'a>(alloc: Global, name: &'a str) -> Result<Command<'a>, AllocError> {
+fn run_command<'a>(
+    alloc: Global,
+    name: &'a str,
+    about: &'a str,
+) -> Result<Command<'a>, AllocError> {
     Command::new(alloc, name)
-        .arg(number_option(alloc, "clients", 8, "4"))?
-        .arg(number_option(alloc, "cap", 65_536, "1024"))?
-        .arg(number_option(alloc, "block", 65_536, "1024"))?
-        .arg(number_option(alloc, "window", 65_536, "64"))
+        .about(about)
+        .arg(number_option(
+            alloc,
+            "clients",
+            8,
+            "4",
+            "How many clients there are, 1 to 8",
+        ))?
+        .arg(number_option(
+            alloc,
+            "cap",
+            65_536,
+            "1024",
+            "How many versions of rows there is room for, 1 to 65536",
+        ))?
+        .arg(number_option(
+            alloc,
+            "block",
+            65_536,
+            "1024",
+            "How many slots one scan reads, 1 to 65536",
+        ))?
+        .arg(number_option(
+            alloc,
+            "window",
+            65_536,
+            "64",
+            "How many rows are compared at a time, 1 to 65536",
+        ))
 }
 
 fn program<'a>(alloc: Global) -> Result<Command<'a>, AllocError> {
     Command::new(alloc, "prefq")
         .no_binary_name(true)
-        .subcommand(run_command(alloc, "play")?)?
-        .subcommand(run_command(alloc, "threads")?)
+        .about(
+            "Runs a script over a table of whole numbers: clients change rows and ask for the best ones",
+        )
+        .after_help(EXAMPLE)
+        .subcommand(run_command(alloc, "play", "Runs the script of standard input")?)?
+        .subcommand(run_command(
+            alloc,
+            "threads",
+            "Runs each client on a thread of its own (not there yet)",
+        )?)
 }
 
 /// The setup where no options are given: 4 clients, 1024 slots in blocks of 1024, a window of 64.
