@@ -1,4 +1,6 @@
 //! Table texts with the results that the format names.
+mod refusals;
+
 use crate::{Row, Schema, TableFault, read_row, read_table};
 use std::alloc::Global;
 use std::test::Fail;
