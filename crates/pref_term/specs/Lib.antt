@@ -6,6 +6,8 @@ pub mod Question
 pub mod Order
 pub mod OrderLaws
 pub mod AskOrder
+pub mod Equal
+pub mod EqualLaws
 pub mod PreferenceCode
 pub mod Walk
 pub mod Token

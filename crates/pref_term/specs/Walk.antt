@@ -1,6 +1,6 @@
 -- No public contract cites this.
 -- One walk over a preference, which answers both directions of a pair at once. (this project)
-use Rattle.std.specs.Prelude.{ℤ, int_lt, List, if◌then◌else◌}
+use Rattle.std.specs.Prelude.{ℤ, int_lt, Bool, true, false, List, if◌then◌else◌}
 use Rattle.pref_term.specs.Better.{score}
 use Rattle.pref_term.specs.Preference.{Preference, scored, pareto, prior, reverse}
 use Rattle.pref_term.specs.declared.relation.Relation.{Relation}
@@ -22,6 +22,11 @@ in_product Worse Same = Worse
 in_product Worse Better = Neither
 in_product Worse Neither = Neither
 in_product Neither second = Neither
+
+-- whether neither row is better, and they don't score alike
+abbrev pub is_neither : Relation → Bool
+is_neither Neither = true
+is_neither relation = false
 
 -- by a priority
 abbrev pub in_priority : Relation → Relation → Relation

@@ -20,7 +20,7 @@ pub enum Mode {
     AtLeast(u32),
 }
 
-/// A question. Contracts see its preference, its group and its mode; asks that show the same are equal.
+/// A question. Contracts see its preference, its group and its mode, and asks are equal where they see the same.
 #[derive(Drop)]
 pub struct Ask {
     term: Term,
@@ -90,6 +90,26 @@ impl Ask {
             Mode::TopLevel(k) | Mode::AtLeast(k) => k,
         }
     }
+}
+
+impl PartialEq for Ask {
+    ghost use Rattle.std.specs.Cmp.{partial_equiv_from_equiv};
+    ghost use Rattle.pref_term.specs.Equal.{question_eq};
+    ghost use Rattle.pref_term.specs.EqualLaws.{questions_equal};
+
+    ghost eq = { question_eq };
+
+    ghost laws = { partial_equiv_from_equiv questions_equal };
+
+    fn eq(&self, other: &Ask) -> bool {
+        self.term == other.term && self.group == other.group && self.mode == other.mode
+    }
+}
+
+impl Eq for Ask {
+    ghost use Rattle.pref_term.specs.EqualLaws.{questions_equal};
+
+    ghost laws = { questions_equal };
 }
 
 /// Whether two rows have equal cells in each of these columns. Takes no memory.

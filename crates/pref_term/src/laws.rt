@@ -1,11 +1,13 @@
-//! Laws of question texts.
+//! Laws of question texts, and of equality.
 ghost use Rattle.std.specs.Prelude.{◌≡◌, ◌≤◌, ℕ, List, [], ◌∷◌, length, MatchResult, Ok, Err, codes};
+ghost use Rattle.std.specs.Bool.{Decides};
 ghost use Rattle.pref_table.specs.Names.{schema_of};
+ghost use Rattle.pref_term.specs.Equal.{preference_eq, question_eq};
 ghost use Rattle.pref_term.specs.Question.{Question, IsAsk, FitsWidth};
 ghost use Rattle.pref_term.specs.Shown.{shown, nests, IsShownAs, worked_names};
 ghost use Rattle.pref_term.specs.Spells.{Names, Spells, Faults};
 ghost use Rattle.pref_term.specs.Asked.{asked};
-ghost use Rattle.pref_term.specs.Preference.{scored, low};
+ghost use Rattle.pref_term.specs.Preference.{Preference, scored, low};
 ghost use Rattle.pref_term.specs.declared.fault.TermFault.{TermFault};
 ghost use Rattle.pref_term.specs.declared.ask.Mode.TheVariants.{Best as best};
 ghost use Rattle.pref_term.specs.declared.fault.TermFault.TheVariants.{UnknownColumn as unknown_column, NoMinOrMax as no_min_or_max};
@@ -29,6 +31,12 @@ pub fn shown_is_read_again()
         nests q.preference ≤ 64 → length (shown names q) ≤ 4096 → Spells names (shown names q) q }
     ensures asked { (names : Names) (q : Question) → schema_of names ≡ Ok names → IsAsk q → FitsWidth (length names) q →
         nests q.preference ≤ 64 → length (shown names q) ≤ 4096 → asked names (shown names q) ≡ Ok q }
+{}
+
+/// What `==` answers of terms and of asks is true exactly where contracts see the same of the two.
+pub fn equal_where_the_same_is_seen()
+    ensures terms { (p q : Preference) → Decides (preference_eq p q) (p ≡ q) }
+    ensures asks { (p q : Question) → Decides (question_eq p q) (p ≡ q) }
 {}
 
 /// Texts and what they ask: the answer of a closed text is computed.

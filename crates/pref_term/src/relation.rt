@@ -1,7 +1,7 @@
 //! How a row stands to another.
 ghost use Rattle.std.specs.Prelude.{◌≡◌};
 ghost use Rattle.pref_term.specs.Order.{is_better, is_same, is_worse};
-ghost use Rattle.pref_term.specs.Walk.{in_product};
+ghost use Rattle.pref_term.specs.Walk.{in_product, is_neither};
 
 /// How a first row stands to a second one: the two questions "is it better" and "is it worse" in one answer.
 #[derive(Clone, Copy, Debug, PartialEq, Eq)]
@@ -36,6 +36,13 @@ impl Relation {
         ensures { result ≡ is_same self }
     {
         matches!(self, Relation::Same)
+    }
+
+    /// Whether neither row is better, and they don't score alike.
+    pub(crate) fn is_neither(self) -> bool
+        ensures { result ≡ is_neither self }
+    {
+        matches!(self, Relation::Neither)
     }
 
     /// The relation by a Pareto product, from those by its two parts.

@@ -31,7 +31,29 @@ impl Numbers {
     }
 }
 
-/// A preference. A column counts from 0, and is below 16.
+impl PartialEq for Numbers {
+    ghost use Rattle.std.proofs.Common.{rules};
+    ghost use Rattle.std.specs.Cmp.Lexicographic.{pointwise};
+    ghost use Rattle.std.specs.Cmp.Rules.{comparing};
+    ghost use Rattle.std.specs.Ordering.{int_eq};
+
+    ghost eq = { pointwise int_eq };
+
+    ghost laws = { Prim.search (comparing, rules) };
+
+    fn eq(&self, other: &Numbers) -> bool {
+        self.as_slice() == other.as_slice()
+    }
+}
+
+impl Eq for Numbers {
+    ghost use Rattle.std.proofs.Common.{rules};
+    ghost use Rattle.std.specs.Cmp.Rules.{comparing};
+
+    ghost laws = { Prim.search (comparing, rules) };
+}
+
+/// A preference. A column counts from 0, and is below 16. Terms are equal where contracts see the same preference.
 #[derive(Drop)]
 pub enum Term {
     /// Smaller values are better.
@@ -48,4 +70,48 @@ pub enum Term {
     Prior(Box<Term>, Box<Term>),
     /// The converse.
     Reverse(Box<Term>),
+}
+
+impl PartialEq for Term {
+    ghost use Rattle.std.specs.Cmp.{partial_equiv_from_equiv};
+    ghost use Rattle.std.specs.Ordering.{on};
+    ghost use Rattle.pref_term.specs.Equal.{preference_eq};
+    ghost use Rattle.pref_term.specs.EqualLaws.{terms_equal};
+    ghost use Rattle.pref_term.specs.Preference.{preference_of};
+
+    ghost eq = { on preference_of preference_eq };
+
+    ghost laws = { partial_equiv_from_equiv terms_equal };
+
+    /// One walk over both terms, up to where they differ.
+    fn eq(&self, other: &Term) -> bool {
+        match (self, other) {
+            (Term::Low { col }, Term::Low { col: same }) => *col == *same,
+            (Term::High { col }, Term::High { col: same }) => *col == *same,
+            (
+                Term::Around { col, centre },
+                Term::Around {
+                    col: same,
+                    centre: point,
+                },
+            ) => *col == *same && *centre == *point,
+            (
+                Term::Pos { col, set },
+                Term::Pos {
+                    col: same,
+                    set: values,
+                },
+            ) => *col == *same && *set == *values,
+            (Term::Pareto(p, q), Term::Pareto(r, s)) => **p == **r && **q == **s,
+            (Term::Prior(p, q), Term::Prior(r, s)) => **p == **r && **q == **s,
+            (Term::Reverse(p), Term::Reverse(r)) => **p == **r,
+            _ => false,
+        }
+    }
+}
+
+impl Eq for Term {
+    ghost use Rattle.pref_term.specs.EqualLaws.{terms_equal};
+
+    ghost laws = { terms_equal };
 }

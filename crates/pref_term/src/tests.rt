@@ -1,4 +1,5 @@
 //! Questions that are read, refused and asked, by their texts.
+mod refusals;
 mod showing;
 
 use crate::{
@@ -259,6 +260,42 @@ fn a_term_made_by_hand_is_walked(rt: HostRuntime) -> Result<(), Fail> {
     assert!(rt; compare(&term, &first, &first).is_same());
     assert!(rt; in_same_group(&[1], &first, &second));
     assert!(rt; !in_same_group(&[1, 0], &first, &second));
+    Ok(())
+}
+
+#[test]
+fn equal_where_the_same_is_seen(rt: HostRuntime) -> Result<(), Fail> {
+    let alloc = rt.alloc();
+    let names = [b"x".as_slice(), b"y".as_slice(), b"g".as_slice()];
+    let schema = Schema::new(alloc, names.as_slice())?;
+    let cases: [(&[u8], &[u8], bool); 11] = [
+        (
+            b"best low(x) * low(y) by g",
+            b"skyline of x min, g diff, y min",
+            true,
+        ),
+        (b"best ((low(x)))", b"best low(x)", true),
+        (b"best reverse(high(x))", b"best -high(x)", true),
+        (b"best --low(x)", b"best low(x)", false),
+        (b"best low(x)", b"best high(x)", false),
+        (b"best low(x) & low(y)", b"best low(y) & low(x)", false),
+        (b"best low(x) & low(y)", b"best low(x) * low(y)", false),
+        (b"best pos(x, 1, 2)", b"best pos(x, 2, 1)", false),
+        (b"best around(x, 1)", b"best around(x, 2)", false),
+        (b"best low(x) by g", b"best low(x)", false),
+        (b"top_level 1 low(x)", b"at_least 1 low(x)", false),
+    ];
+    for (first, second, wanted) in cases {
+        let a = read_ask(alloc, &schema, first)?;
+        let b = read_ask(alloc, &schema, second)?;
+        assert_eq!(rt; a == b, wanted, "at {first:?}");
+    }
+    let low = Term::Low { col: 0 };
+    assert!(rt; low == Term::Low { col: 0 });
+    assert!(rt; low != Term::Low { col: 1 });
+    let set = Numbers::of(vec![in alloc; 2, 5]?);
+    assert!(rt; set == Numbers::of(vec![in alloc; 2, 5]?));
+    assert!(rt; set != Numbers::of(vec![in alloc; 2]?));
     Ok(())
 }
 

@@ -53,22 +53,27 @@ fn walk(term: &Term, a: &Row, b: &Row) -> Relation
         Term::High { col } => by_value_reversed(a.cell(*col), b.cell(*col)),
         Term::Around { col, centre } => by_distance(a.cell(*col), b.cell(*col), *centre),
         Term::Pos { col, set } => by_member(a.cell(*col), b.cell(*col), set),
-        Term::Pareto(p, q) => product(p, q, a, b),
+        Term::Pareto(p, q) => product(Relation::Same, p, q, a, b),
         Term::Prior(p, q) => priority(p, q, a, b),
         Term::Reverse(p) => converse(p, a, b),
     }
 }
 
-/// By the product of two terms.
+/// By the product of two terms, beside what the rest of a longer product says. The second term comes first, so that a product, which groups
+/// to the left, is gone through part by part, and left where neither row can be better any more.
 #[cycle(walk)]
-fn product(p: &Term, q: &Term, a: &Row, b: &Row) -> Relation
+fn product(rest: Relation, p: &Term, q: &Term, a: &Row, b: &Row) -> Relation
     requires first { ReadsBelow 16 (preference_of p.now) }
     requires second { ReadsBelow 16 (preference_of q.now) }
-    ensures { result ≡ in_product (walked (preference_of p.now) a.now b.now) (walked (preference_of q.now) a.now b.now) }
+    ensures { result ≡ in_product (in_product (walked (preference_of p.now) a.now b.now) (walked (preference_of q.now) a.now b.now)) rest }
 {
-    match walk(p, a, b) {
-        Relation::Neither => Relation::Neither,
-        first => first.in_product(walk(q, a, b)),
+    let rest = walk(q, a, b).in_product(rest);
+    if rest.is_neither() {
+        return rest;
+    }
+    match p {
+        Term::Pareto(first, second) => product(rest, first, second, a, b),
+        _ => walk(p, a, b).in_product(rest),
     }
 }
 

@@ -1,0 +1,115 @@
+-- No public contract cites this.
+-- The tests of equality are true exactly where preferences, modes and questions are the same. (this project)
+use Rattle.std.proofs.Common.{◌≡◌, ◌==◌, ℕ, List, Bool, true, ap, refl, sym, subst}
+use Rattle.std.proofs.lemmas.Bool.Decides.{same_from_decides}
+use Rattle.std.proofs.lemmas.Cmp.{on_equiv}
+use Rattle.std.proofs.lemmas.Slice.Eq.{slice_eq-Decides}
+use Rattle.std.specs.Bool.{Decides}
+use Rattle.std.specs.Cmp.{IsEquivalence, signed_Decides, unsigned_Decides}
+use Rattle.std.specs.Cmp.Derive.{both_true}
+use Rattle.std.specs.Cmp.Lexicographic.{pointwise}
+use Rattle.std.specs.Cmp.Rules.{signed_items}
+use Rattle.std.specs.Ordering.{on}
+use Rattle.pref_term.specs.Equal.{base_eq, preference_eq, mode_eq, question_eq}
+use Rattle.pref_term.specs.OrderLaws.{and_parts}
+use Rattle.pref_term.specs.Preference.{Base, low, high, around, one_of, Preference, scored, pareto, prior, reverse, preference_of}
+use Rattle.pref_term.specs.Question.{Question}
+use Rattle.pref_term.specs.declared.ask.Mode.{Mode}
+use Rattle.pref_term.specs.declared.ask.Mode.TheVariants.{Best, TopLevel, AtLeast}
+
+-- where a test is true, the two are the same
+base_sound : (a b : Base) → base_eq a b ≡ true → a ≡ b
+base_sound (low a) (low b) h = ap low ((unsigned_Decides a b).0 h)
+base_sound (high a) (high b) h = ap high ((unsigned_Decides a b).0 h)
+base_sound (around a c) (around b d) h = let k = and_parts _ _ h in λ i. around ((unsigned_Decides a b).0 k.0 i) ((signed_Decides c d).0 k.1 i)
+base_sound (one_of a s) (one_of b t) h = let k = and_parts _ _ h in λ i. one_of ((unsigned_Decides a b).0 k.0 i) ((signed_items s t).0 k.1 i)
+base_sound (low a) (high b) h = cc
+base_sound (low a) (around b d) h = cc
+base_sound (low a) (one_of b t) h = cc
+base_sound (high a) (low b) h = cc
+base_sound (high a) (around b d) h = cc
+base_sound (high a) (one_of b t) h = cc
+base_sound (around a c) (low b) h = cc
+base_sound (around a c) (high b) h = cc
+base_sound (around a c) (one_of b t) h = cc
+base_sound (one_of a s) (low b) h = cc
+base_sound (one_of a s) (high b) h = cc
+base_sound (one_of a s) (around b d) h = cc
+
+-- and the test of one with itself is true
+base_same : (b : Base) → base_eq b b ≡ true
+base_same (low a) = (unsigned_Decides a a).1 refl
+base_same (high a) = (unsigned_Decides a a).1 refl
+base_same (around a c) = both_true ((unsigned_Decides a a).1 refl) ((signed_Decides c c).1 refl)
+base_same (one_of a s) = both_true ((unsigned_Decides a a).1 refl) ((signed_items s s).1 refl)
+
+preference_sound : (p q : Preference) → preference_eq p q ≡ true → p ≡ q
+preference_sound (scored b) (scored c) h = ap scored (base_sound b c h)
+preference_sound (pareto p q) (pareto r s) h = let k = and_parts _ _ h in λ i. pareto (preference_sound p r k.0 i) (preference_sound q s k.1 i)
+preference_sound (prior p q) (prior r s) h = let k = and_parts _ _ h in λ i. prior (preference_sound p r k.0 i) (preference_sound q s k.1 i)
+preference_sound (reverse p) (reverse r) h = ap reverse (preference_sound p r h)
+preference_sound (scored b) (pareto p q) h = cc
+preference_sound (scored b) (prior p q) h = cc
+preference_sound (scored b) (reverse p) h = cc
+preference_sound (pareto p q) (scored b) h = cc
+preference_sound (pareto p q) (prior r s) h = cc
+preference_sound (pareto p q) (reverse r) h = cc
+preference_sound (prior p q) (scored b) h = cc
+preference_sound (prior p q) (pareto r s) h = cc
+preference_sound (prior p q) (reverse r) h = cc
+preference_sound (reverse p) (scored b) h = cc
+preference_sound (reverse p) (pareto q r) h = cc
+preference_sound (reverse p) (prior q r) h = cc
+
+preference_same : (p : Preference) → preference_eq p p ≡ true
+preference_same (scored b) = base_same b
+preference_same (pareto p q) = both_true (preference_same p) (preference_same q)
+preference_same (prior p q) = both_true (preference_same p) (preference_same q)
+preference_same (reverse p) = preference_same p
+
+pub preference_eq-Decides : (p q : Preference) → Decides (preference_eq p q) (p ≡ q)
+preference_eq-Decides p q = (preference_sound p q, λ e. subst (λ r. preference_eq p r ≡ true) e (preference_same p))
+
+mode_sound : (a b : Mode) → mode_eq a b ≡ true → a ≡ b
+mode_sound Best Best h = refl
+mode_sound (TopLevel k) (TopLevel l) h = ap TopLevel ((unsigned_Decides k l).0 h)
+mode_sound (AtLeast k) (AtLeast l) h = ap AtLeast ((unsigned_Decides k l).0 h)
+mode_sound Best (TopLevel l) h = cc
+mode_sound Best (AtLeast l) h = cc
+mode_sound (TopLevel k) Best h = cc
+mode_sound (TopLevel k) (AtLeast l) h = cc
+mode_sound (AtLeast k) Best h = cc
+mode_sound (AtLeast k) (TopLevel l) h = cc
+
+mode_same : (m : Mode) → mode_eq m m ≡ true
+mode_same Best = refl
+mode_same (TopLevel k) = (unsigned_Decides k k).1 refl
+mode_same (AtLeast k) = (unsigned_Decides k k).1 refl
+
+group_eq-Decides : (a b : List ℕ) → Decides (pointwise ◌==◌ a b) (a ≡ b)
+group_eq-Decides a b = slice_eq-Decides unsigned_Decides a b _ refl
+
+question_same : (q : Question) → question_eq q q ≡ true
+question_same q = both_true (both_true (preference_same q.preference) ((group_eq-Decides q.group q.group).1 refl)) (mode_same q.mode)
+
+question_sound : (p q : Question) → question_eq p q ≡ true → p ≡ q
+question_sound p q h =
+    let k = and_parts _ _ h in
+    let l = and_parts _ _ k.0 in
+    λ i. record { preference = preference_sound p.preference q.preference l.0 i; group = (group_eq-Decides p.group q.group).0 l.1 i; mode = mode_sound p.mode q.mode k.1 i }
+
+pub question_eq-Decides : (p q : Question) → Decides (question_eq p q) (p ≡ q)
+question_eq-Decides p q = (question_sound p q, λ e. subst (λ r. question_eq p r ≡ true) e (question_same p))
+
+equiv_from_decides : {K : Type 0} {E : K → K → Bool} → ((x y : K) → Decides (E x y) (x ≡ y)) → IsEquivalence E
+equiv_from_decides {K} {E} d = record {
+  refl = λ x. (d x x).1 refl;
+  symm = λ x y. same_from_decides (E x y) (E y x) (d x y) (λ h. sym ((d y x).0 h), λ e. (d y x).1 (sym e));
+  congr = λ x y z h. ap (λ w. E w z) ((d x y).0 h);
+}
+
+pub terms_equal : IsEquivalence (on preference_of preference_eq)
+terms_equal = on_equiv preference_of (equiv_from_decides preference_eq-Decides)
+
+pub questions_equal : IsEquivalence question_eq
+questions_equal = equiv_from_decides question_eq-Decides
