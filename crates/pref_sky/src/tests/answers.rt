@@ -9,7 +9,7 @@ use std::process::Abort;
 use std::test::Fail;
 
 /// The ask of a text over the columns x and y.
-fn ask_of(alloc: Global, text: &[u8]) -> Result<Ask, Fail> {
+pub(super) fn ask_of(alloc: Global, text: &[u8]) -> Result<Ask, Fail> {
     let names: [&[u8]; 2] = [b"x", b"y"];
     let schema = Schema::new(alloc, &names)?;
     Ok(read_ask(alloc, &schema, text)?)

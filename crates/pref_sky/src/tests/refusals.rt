@@ -1,9 +1,13 @@
-//! Growths that are refused: run by `rt try --test --fail-alloc N`, with N counting up.
+//! Requests for memory that are refused. `tests/refuse_each_allocation.sh` runs these tests once for each of their requests,
+//! and refuses it; where none is refused they show that the calls succeed.
 ghost use Rattle.std.specs.Prelude.{◌≡◌, ◌++◌, List, map, OnOk};
 ghost use Rattle.pref_sky.specs.Levels.{HaveDifferentIds, entry_of, entry_order, levels};
 ghost use Rattle.pref_sky.specs.declared.entry.Entry.{Entry};
 
-use super::fixtures::{LowBoth, numbered};
+use super::answers::ask_of;
+use super::cuttings::added_in_two;
+use super::fixtures::{LowBoth, PAIRS, numbered, places_of};
+use crate::answers::answer;
 use crate::entry::{Entry, Ranked};
 use crate::partial::Partial;
 use crate::ranking::levels;
@@ -29,7 +33,9 @@ fn add_in_the_end<D: Dominance>(
     assert_eq!(rt; partial.as_slice(), held);
     if partial.add(alloc, dominance, 1, 2, entries).is_err() {
         assert_eq!(rt; partial.as_slice(), held);
-        partial.add(alloc, dominance, 1, 2, entries)?;
+        let again = partial.add(alloc, dominance, 1, 2, entries);
+        assert!(rt; again.is_ok());
+        again?;
     }
     Ok(())
 }
@@ -43,9 +49,7 @@ fn check_refused<D: Dominance>(
 ) -> Result<(), Fail>
     requires { HaveDifferentIds (front.now ++ back.now) }
 {
-    let Ok(first) = levels(alloc, dominance, 1, 2, front) else {
-        return Ok(());
-    };
+    let first = levels(alloc, dominance, 1, 2, front)?;
     let mut partial = Partial::empty();
     add_in_the_end(rt, alloc, dominance, &mut partial, &[], front)?;
     add_in_the_end(rt, alloc, dominance, &mut partial, &first, back)?;
@@ -54,12 +58,32 @@ fn check_refused<D: Dominance>(
 }
 
 #[test]
-fn a_refused_add_changes_nothing(rt: HostRuntime) -> Result<(), Fail> {
+fn a_refused_add_changes_nothing_and_is_made_again(rt: HostRuntime) -> Result<(), Fail> {
     let alloc = rt.alloc();
     let rows = [(5, 5), (9, 1), (7, 7), (8, 8), (1, 9), (4, 5), (9, 9)];
-    let Ok(entries) = numbered(alloc, &rows) else {
-        return Ok(());
-    };
+    let entries = numbered(alloc, &rows)?;
     let (front, back) = entries.as_slice().split_at(entries.len().min(4));
     check_refused(&rt, alloc, &LowBoth, front, back)
+}
+
+#[test]
+fn a_refused_answer_changes_nothing_and_is_made_again(rt: HostRuntime) -> Result<(), Fail> {
+    let alloc = rt.alloc();
+    let ask = ask_of(alloc, b"at_least 5 low(x) * low(y)")?;
+    let entries = numbered(alloc, &PAIRS)?;
+    let (front, back) = entries.as_slice().split_at(entries.len().min(4));
+    let (partial, _) = added_in_two(alloc, &ask, ask.cut(), front, back)?;
+    let held = Vec::from_slice(alloc, partial.as_slice())?;
+    let ranked = match answer(alloc, &ask, &partial) {
+        Ok(ranked) => ranked,
+        Err(_) => {
+            assert_eq!(rt; partial.as_slice(), held.as_slice());
+            answer(alloc, &ask, &partial).expect(&rt, "memory")
+        }
+    };
+    assert_eq!(rt;
+        places_of(alloc, &ranked)?.as_slice(),
+        [(1, 1), (1, 7), (2, 6), (2, 8), (3, 9)].as_slice()
+    );
+    Ok(())
 }
