@@ -30,7 +30,7 @@ stamp-small contents h = let total = total-small contents.callers h.callers h.ca
 pub next_id-small : (contents : Contents) → IsBounded contents → contents.next_id < 2 ^ 60
 next_id-small contents h = let total = total-small contents.callers h.callers h.calls in let at = h.next_id in omega arith
 
-sum_by-set_suc : {X : Type 0} (f : X → ℕ) (xs : List X) (k : ℕ) (x y : X) → slice_get xs k ≡ Some x → f y ≡ suc (f x) → sum_by f (slice_set xs k y) ≡ suc (sum_by f xs)
+pub sum_by-set_suc : {X : Type 0} (f : X → ℕ) (xs : List X) (k : ℕ) (x y : X) → slice_get xs k ≡ Some x → f y ≡ suc (f x) → sum_by f (slice_set xs k y) ≡ suc (sum_by f xs)
 sum_by-set_suc f [] k x y at h = absurd (cc)
 sum_by-set_suc f (z ∷ xs) zero x y at h =
     let same : f z ≡ f x = let e : z ≡ x = cc in ap f e in
@@ -43,7 +43,7 @@ sum_by-set_suc f (z ∷ xs) (suc k) x y at h =
     let b = sum_by-cons f z xs in
     omega arith
 
-AllByRecursion-set : {X : Type 0} (P : X → Type 0) (xs : List X) (k : ℕ) (y : X) → P y → AllByRecursion P xs → AllByRecursion P (slice_set xs k y)
+pub AllByRecursion-set : {X : Type 0} (P : X → Type 0) (xs : List X) (k : ℕ) (y : X) → P y → AllByRecursion P xs → AllByRecursion P (slice_set xs k y)
 AllByRecursion-set P [] k y p h = tt
 AllByRecursion-set P (z ∷ xs) zero y p h = (p, h.1)
 AllByRecursion-set P (z ∷ xs) (suc k) y p h = (h.0, AllByRecursion-set P xs k y p h.1)
@@ -82,7 +82,7 @@ callers_count callers (suc k) new found at few same = record {
 }
 
 -- a caller that is let in has made fewer calls than may be made
-few_calls : (calls : ℕ) (b : Bool) (call : Call) → refusal_of (Some calls) b call ≡ None → calls < 2 ^ 56
+pub few_calls : (calls : ℕ) (b : Bool) (call : Call) → refusal_of (Some calls) b call ≡ None → calls < 2 ^ 56
 few_calls calls b call h = go (nat_lt calls (2 ^ 56)) refl h
   where
     go : (t : Bool) → nat_lt calls (2 ^ 56) ≡ t → cond t (refusal_by_query b call) (Some Spent) ≡ None → calls < 2 ^ 56

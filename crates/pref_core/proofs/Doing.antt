@@ -1,5 +1,5 @@
 -- Each part of a machine does its act.
-use Rattle.std.proofs.Common.{◌≡◌, ℕ, ◌-◌, true, false, List, length, Option, Some, None, is_some, Ok, Err, Result, IfErr, MatchResult, ⊎_elim, refl, sym, ◌∙◌, subst}
+use Rattle.std.proofs.Common.{◌≡◌, ℕ, ◌-◌, true, false, List, length, Option, Some, None, is_some, Ok, Err, Result, IfErr, MatchResult, ⊎_elim, inr, nat_lt, ap, refl, sym, ◌∙◌, subst}
 use Rattle.std.specs.Global.{Vec}
 use Rattle.std.specs.Option.{option_map}
 use Rattle.pref_sky.specs.declared.entry.Ranked.{Ranked}
@@ -18,35 +18,42 @@ use Rattle.pref_core.specs.declared.event.StepFault.{StepFault}
 use Rattle.pref_core.specs.Rows.{Row}
 use Rattle.pref_core.specs.Limits.{AreAllowed, blocks}
 use Rattle.pref_core.specs.Table.{Line, line_of}
-use Rattle.pref_core.specs.State.{State, is_change, seat, with_seat, needed}
+use Rattle.pref_core.specs.State.{State, is_change, added, seat, with_seat, needed}
 use Rattle.pref_core.specs.Step.{System, Step, step}
 use Rattle.pref_core.specs.Slots.{Contents, StandsFor}
-use Rattle.pref_core.specs.Operations.{applied}
+use Rattle.pref_core.specs.Indexes.{IsIndexOf}
+use Rattle.pref_core.specs.Operations.{applied, IsPlan}
 use Rattle.pref_core.specs.Scans.{Scan, begin}
 use Rattle.pref_core.specs.Systems.{Running, StandsForSystem, may_want_memory, is_refusal, Tells, without_event, Steps}
 use Rattle.pref_core.specs.Parts.{IsInOrder, Does, Changes, change_of, told_of, NextIsNewAt, ScansAt, AnswersAt, is_begin}
 use Rattle.pref_core.proofs.Steps.{PlansAlways, running_of, change_tells, change_refused, begin_tells, begin_refused}
+use Rattle.pref_core.proofs.Reindexing.{indexed_still}
 use Rattle.pref_core.proofs.Scanning.{next_is_new_at, told_scan, scan_tells}
 use Rattle.pref_core.proofs.Endings.{abandon_tells, abandon_refused, finish_tells, finish_refused, finish_not_done, nobody_tells, told_get, get_tells, room_tells}
 
 -- What is left stands for a system again.
-in_order_told : (before after : Running) (system : System) (right : Step) (act : Act) (result : Result Reply CoreFault) → StandsForSystem before system → Tells before right act result after → IsInOrder after
-in_order_told before after system right act (Ok told) h says = record { system = right.next; stands = says.2 }
-in_order_told before after system right act (Err fault) h says =
-    ⊎_elim (λ (e : (Refused fault ≡ right.reply) × StandsForSystem after right.next). record { system = right.next; stands = e.1 })
-    (λ (e : (fault ≡ OutOfMemory) × (may_want_memory act ≡ true) × (after ≡ before)). record { system = system; stands = subst (λ r. StandsForSystem r system) (sym e.2) h }) says
+in_order_told : (before after : Running) (system : System) (right : Step) (act : Act) (result : Result Reply CoreFault) (index : List (ℕ × ℕ)) → StandsForSystem before system → Tells before right act result after → IsIndexOf after.contents index → IsInOrder after index
+in_order_told before after system right act (Ok told) index h says is = record { system = right.next; stands = says.2; indexed = is }
+in_order_told before after system right act (Err fault) index h says is =
+    ⊎_elim (λ (s : (Refused fault ≡ right.reply) × StandsForSystem after right.next). record { system = right.next; stands = s.1; indexed = is })
+    (λ (s : (fault ≡ OutOfMemory) × (may_want_memory act ≡ true) × (after ≡ before)). record { system = system; stands = subst (λ r. StandsForSystem r system) (sym s.2) h; indexed = is })
+    says
 
-pub in_order_after : (before after : Running) (client : ℕ) (act : Act) (result : Result Reply CoreFault) → IsInOrder before → Does before client act result after → IsInOrder after
-in_order_after before after client act result h does = in_order_told before after h.system _ act result h.stands (does.tells h.system h.stands)
+pub in_order_after : (before after : Running) (old index : List (ℕ × ℕ)) (client : ℕ) (act : Act) (result : Result Reply CoreFault) → IsInOrder before old → Does before client act result after → IsIndexOf after.contents index → IsInOrder after index
+in_order_after before after old index client act result h does is = in_order_told before after h.system _ act result index h.stands (does.tells h.system h.stands) is
 
-pub in_order_changed : (before after : Running) (client : ℕ) (call : Call) (done : Reply) (result : Result Reply CoreFault) → IsInOrder before → Changes before client call done result after → IsInOrder after
-in_order_changed before after client call done result h changes = in_order_told before after h.system _ ActRoom result h.stands (changes.tells h.system h.stands ActRoom)
+-- the same after a call that is no commit
+pub in_order_quiet : (old : Running) (new : Contents) (scans : List (Option Scan)) (index : List (ℕ × ℕ)) (client : ℕ) (call : Call) (op : Op) (act : Act) (result : Result Reply CoreFault) → is_change call ≡ false
+    → IsPlan old.contents client call op → new ≡ applied old.contents op → IsInOrder old index → Does old client act result (running_of new old.limits scans) → IsInOrder (running_of new old.limits scans) index
+in_order_quiet old new scans index client call op act result still plan is h does =
+    in_order_after old _ index index client act result h does
+    (subst (λ s. IsIndexOf s index) (sym is) (indexed_still old.contents op index plan.next plan.fits (ap is_change plan.what ∙ still) h.indexed))
 
-pub in_order_stepped : (before after : Running) (event : Event) (result : Result Reply StepFault) → IsInOrder before → Steps before event result after → IsInOrder after
-in_order_stepped before after event result h steps = in_order_told before after h.system _ event.act (without_event result) h.stands (steps.tells h.system h.stands)
+pub in_order_changed : (before after : Running) (old index : List (ℕ × ℕ)) (client : ℕ) (call : Call) (done : Reply) (result : Result Reply CoreFault) → IsInOrder before old → Changes before client call done result after → IsIndexOf after.contents index → IsInOrder after index
+in_order_changed before after old index client call done result h changes is = in_order_told before after h.system _ ActScan result index h.stands (changes.tells h.system h.stands ActScan (λ e. refl)) is
 
-pub next_is_new_in_order : (running : Running) (client : ℕ) → IsInOrder running → NextIsNewAt (seat client running.scans) running.contents.slots
-next_is_new_in_order running client h = next_is_new_at running h.system client h.stands
+pub next_is_new_in_order : (running : Running) (index : List (ℕ × ℕ)) (client : ℕ) → IsInOrder running index → NextIsNewAt (seat client running.scans) running.contents.slots
+next_is_new_in_order running index client h = next_is_new_at running h.system client h.stands
 
 -- a step is what its part does, and hands the event back
 pub steps_does : (before after : Running) (event : Event) (act : Act) (told : Result Reply CoreFault) (result : Result Reply StepFault) → event.act ≡ act → Does before event.client act told after → without_event result ≡ told → IfErr result (λ (fault : StepFault). fault.event ≡ event)
@@ -65,22 +72,25 @@ steps_does before after event act told result is does alike back = record {
 -- Changes.
 pub change_done : (old : Running) (client : ℕ) (call : Call) (done : Reply) (op : Op) (new : Contents) → is_change call ≡ true → is_refusal done ≡ false → PlansAlways old.contents client call (Ok op) → new ≡ applied old.contents op
     → Changes old client call done (told_of op.outcome done) (running_of new old.limits old.scans)
-change_done old client call done op new c quiet plans is = record { limits = refl; tells = λ system h act. change_tells old system client call done op new act c quiet h plans is }
+change_done old client call done op new c quiet plans is = record { limits = refl; tells = λ system h act wants. change_tells old system client call done op new act c quiet h plans is }
 
 pub change_not : (old : Running) (client : ℕ) (call : Call) (done : Reply) (fault : CoreFault) → is_change call ≡ true → PlansAlways old.contents client call (Err fault) → Changes old client call done (Err fault) old
-change_not old client call done fault c plans = record { limits = refl; tells = λ system h act. change_refused old system client call done fault act c h plans }
+change_not old client call done fault c plans = record { limits = refl; tells = λ system h act wants. change_refused old system client call done fault act c h plans }
+
+pub change_unmade : (old : Running) (client : ℕ) (call : Call) (done : Reply) → nat_lt 0 (added call) ≡ true → Changes old client call done (Err OutOfMemory) old
+change_unmade old client call done adds = record { limits = refl; tells = λ system h act wants. inr (refl, wants adds, refl) }
 
 pub insert_does : (old : Running) (client id : ℕ) (row : Row) (result : Result Reply CoreFault) (new : Running) → id ≡ old.contents.next_id → Changes old client (CallInsert row) (Inserted id) result new → Does old client (ActInsert row) result new
 insert_does old client id row result new is changes = record {
   limits = changes.limits;
-  tells = λ system h. subst (λ n. Tells old (change_of old.limits system client (CallInsert row) (Inserted n)) (ActInsert row) result new) (is ∙ h.store.next_id) (changes.tells system h (ActInsert row));
+  tells = λ system h. subst (λ n. Tells old (change_of old.limits system client (CallInsert row) (Inserted n)) (ActInsert row) result new) (is ∙ h.store.next_id) (changes.tells system h (ActInsert row) (λ e. refl));
 }
 
 pub update_does : (old : Running) (client id : ℕ) (row : Row) (result : Result Reply CoreFault) (new : Running) → Changes old client (CallUpdate id row) (Updated id) result new → Does old client (ActUpdate id row) result new
-update_does old client id row result new changes = record { limits = changes.limits; tells = λ system h. changes.tells system h (ActUpdate id row) }
+update_does old client id row result new changes = record { limits = changes.limits; tells = λ system h. changes.tells system h (ActUpdate id row) (λ e. absurd (cc)) }
 
 pub delete_does : (old : Running) (client id : ℕ) (result : Result Reply CoreFault) (new : Running) → Changes old client (CallDelete id) (Deleted id) result new → Does old client (ActDelete id) result new
-delete_does old client id result new changes = record { limits = changes.limits; tells = λ system h. changes.tells system h (ActDelete id) }
+delete_does old client id result new changes = record { limits = changes.limits; tells = λ system h. changes.tells system h (ActDelete id) (λ e. absurd (cc)) }
 
 -- Queries.
 pub begin_does : (old : Running) (client : ℕ) (ask : Question) (op : Op) (new : Contents) (stamp : ℕ) → AreAllowed old.limits → stamp ≡ old.contents.stamp → PlansAlways old.contents client Begin (Ok op) → new ≡ applied old.contents op

@@ -36,3 +36,5 @@ pub mod Replies
 pub mod Histories
 pub mod Fewer
 pub mod Fits
+pub mod Indexing
+pub mod Reindexing

@@ -1,13 +1,16 @@
 -- The line of an id, in whatever order the lines stand.
-use Rattle.std.proofs.Common.{◌≡◌, ℕ, ◌<◌, ◌≤◌, Bool, true, false, cond, eqb, List, [], ◌∷◌, length, Option, Some, None, filter, refl, sym, ap, ◌∙◌, subst, arith}
-use Rattle.std.specs.List.{AllByRecursion, find}
+use Rattle.std.proofs.Common.{◌≡◌, ℕ, zero, suc, ◌<◌, ◌≤◌, Bool, true, false, cond, eqb, List, [], ◌∷◌, length, Option, Some, None, filter, refl, sym, ap, ◌∙◌, subst, arith}
+use Rattle.std.specs.List.{AllByRecursion, cons_option, find}
+use Rattle.std.specs.Option.{option_map}
 use Rattle.std.specs.List.Sorted.{IsPermutation}
 use Rattle.std.proofs.lemmas.List.Sorted.{length_permutation, All-permutation}
 use Rattle.std.proofs.lemmas.List.Elements.{All-head, All-from_recursion}
-use Rattle.std.proofs.lemmas.Bool.{eqb-true, ne_eqb}
+use Rattle.std.proofs.lemmas.Bool.{and_parts, or_parts, eqb-true, ne_eqb}
 use Rattle.pref_core.specs.declared.store.version.Version.{Version}
-use Rattle.pref_core.specs.Table.{Line, line_of, IsOrdered}
-use Rattle.pref_core.specs.Slots.{Shows, visible}
+use Rattle.pref_core.specs.Table.{Line, has, line_of, IsOrdered}
+use Rattle.pref_core.specs.Slots.{Shows, is_visible, seen, visible}
+use Rattle.pref_core.specs.Indexes.{row_at, IsPlaceOf}
+use Rattle.pref_core.specs.Kept.{row_in}
 use Rattle.pref_core.proofs.Permutations.{IsPermutation-filter}
 
 first : {X : Type 0} → List X → Option X
@@ -53,3 +56,46 @@ line_of-shown slots stamp table id shows =
     find_first (λ line. eqb line.id id) (visible stamp slots)
     ∙ ap first (one_order _ _ (one_line id table shows.ordered) (IsPermutation-filter (λ line. eqb line.id id) _ _ shows.lines))
     ∙ sym (find_first (λ line. eqb line.id id) table)
+
+-- The row at an id's place is that of its line.
+one_before : (stamp id place : ℕ) (slots : List (Option Version)) → row_at stamp id slots place ≡ true → 1 ≤ length (filter (λ line. eqb line.id id) (visible stamp slots))
+one_before stamp id place [] h = absurd (cc)
+one_before stamp id zero (None ∷ slots) h = absurd (cc)
+one_before stamp id zero (Some version ∷ slots) h =
+    let parts = and_parts (eqb version.id id) (is_visible stamp version) h in
+    rw (parts.1, parts.0) (omega arith)
+one_before stamp id (suc place) (slot ∷ slots) h = more (seen stamp slot) (one_before stamp id place slots h)
+  where
+    more : (s : Option Line) → 1 ≤ length (filter (λ line. eqb line.id id) (visible stamp slots)) → 1 ≤ length (filter (λ line. eqb line.id id) (cons_option s (visible stamp slots)))
+    more None l = l
+    more (Some shown) l = elim (eqb shown.id id) as (λ b. 1 ≤ length (cond b (shown ∷ filter (λ line. eqb line.id id) (visible stamp slots)) (filter (λ line. eqb line.id id) (visible stamp slots)))) [ true ↦ omega arith | false ↦ l ]
+
+row_there : (stamp id place : ℕ) (slots : List (Option Version)) → length (filter (λ line. eqb line.id id) (visible stamp slots)) ≤ 1 → row_at stamp id slots place ≡ true
+    → row_in slots (Some place) ≡ option_map (λ (l : Line). l.row) (line_of (visible stamp slots) id)
+row_there stamp id place [] few h = absurd (cc)
+row_there stamp id zero (None ∷ slots) few h = absurd (cc)
+row_there stamp id zero (Some version ∷ slots) few h =
+    let parts = and_parts (eqb version.id id) (is_visible stamp version) h in
+    rw (parts.1, parts.0) refl
+row_there stamp id (suc place) (slot ∷ slots) few h = go (seen stamp slot) few (λ l. row_there stamp id place slots l h)
+  where
+    by : (shown : Line) (b : Bool) → length (cond b (shown ∷ filter (λ line. eqb line.id id) (visible stamp slots)) (filter (λ line. eqb line.id id) (visible stamp slots))) ≤ 1 → (length (filter (λ line. eqb line.id id) (visible stamp slots)) ≤ 1 → row_in slots (Some place) ≡ option_map (λ (l : Line). l.row) (line_of (visible stamp slots) id))
+        → row_in slots (Some place) ≡ option_map (λ (l : Line). l.row) (cond b (Some shown) (line_of (visible stamp slots) id))
+    by shown false few rest = rest few
+    by shown true few rest = absurd (let one = one_before stamp id place slots h in omega arith)
+
+    go : (s : Option Line) → length (filter (λ line. eqb line.id id) (cons_option s (visible stamp slots))) ≤ 1 → (length (filter (λ line. eqb line.id id) (visible stamp slots)) ≤ 1 → row_in slots (Some place) ≡ option_map (λ (l : Line). l.row) (line_of (visible stamp slots) id))
+        → row_in slots (Some place) ≡ option_map (λ (l : Line). l.row) (line_of (cons_option s (visible stamp slots)) id)
+    go None few rest = rest few
+    go (Some shown) few rest = by shown (eqb shown.id id) few rest
+
+no_line : (id : ℕ) (table : List Line) → has table id ≡ false → line_of table id ≡ None
+no_line id [] h = refl
+no_line id (line ∷ rest) h = let parts = or_parts (eqb line.id id) (has rest id) h in rw (parts.0) (no_line id rest parts.1)
+
+pub row_of_place : (slots : List (Option Version)) (stamp : ℕ) (table : List Line) (id : ℕ) (place : Option ℕ) → Shows slots stamp table → IsPlaceOf stamp id slots place → row_in slots place ≡ option_map (λ (l : Line). l.row) (line_of table id)
+row_of_place slots stamp table id None shows h = sym (ap (option_map (λ (l : Line). l.row)) (sym (line_of-shown slots stamp table id shows) ∙ no_line id (visible stamp slots) h))
+row_of_place slots stamp table id (Some place) shows h =
+    let same = length_permutation _ _ (IsPermutation-filter (λ line. eqb line.id id) _ _ shows.lines) in
+    let few = one_line id table shows.ordered in
+    row_there stamp id place slots (omega arith) h ∙ ap (option_map (λ (l : Line). l.row)) (line_of-shown slots stamp table id shows)

@@ -1,7 +1,8 @@
 -- One event more, and its reply.
-use Rattle.std.proofs.Common.{◌≡◌, suc, ◌<◌, List, [], ◌∷◌, ◌++◌, length, get_or, drop, true, Ok, Err, Result, ⊎_elim, sym, ap, ◌∙◌, arith, append_assoc}
-use Rattle.std.proofs.lemmas.List.{length_push}
-use Rattle.std.proofs.Math.Seq.{drop-cons}
+use Rattle.std.proofs.Common.{◌≡◌, suc, ◌<◌, nat_lt, List, [], ◌∷◌, ◌++◌, length, get_or, drop, take, true, false, Ok, Err, Result, is_err, ⊎_elim, refl, sym, ap, ◌∙◌, subst, arith, append_assoc}
+use Rattle.std.proofs.lemmas.Bool.{ltb-false}
+use Rattle.std.proofs.lemmas.List.{length_push, take_all}
+use Rattle.std.proofs.Math.Seq.{drop-cons, take-append_seam}
 use Rattle.pref_core.specs.declared.event.Event.{Event}
 use Rattle.pref_core.specs.declared.event.Reply.{Reply}
 use Rattle.pref_core.specs.declared.event.Reply.TheVariants.{Refused}
@@ -11,7 +12,7 @@ use Rattle.pref_core.specs.declared.fault.CoreFault.TheVariants.{NoSuchClient, S
 use Rattle.pref_core.specs.Limits.{Limits}
 use Rattle.pref_core.specs.Step.{System, step, replies_from}
 use Rattle.pref_core.specs.Systems.{Running, StandsForSystem, may_want_memory, Steps}
-use Rattle.pref_core.specs.Parts.{replied, replied_fault}
+use Rattle.pref_core.specs.Parts.{AddedReply, AddsReply, replied, replied_fault}
 
 refusal_replied : (fault : CoreFault) (reply : Reply) → replied_fault fault ≡ Ok reply → reply ≡ Refused fault
 refusal_replied NoSuchClient reply e = cc
@@ -49,3 +50,30 @@ one_reply_more limits system told events yielded event reply whole turn is so_fa
     append_assoc told (reply ∷ []) _
     ∙ ap (λ (r : Reply). told ++ r ∷ replies_from limits (step limits system event).next (drop (length (yielded ++ event ∷ [])) events)) is
     ∙ ap (λ l. told ++ replies_from limits system l) (sym here) ∙ so_far
+
+-- where the reply was not refused, it is added
+pub reply_is_added : (before : List Reply) (step : Result Reply StepFault) (result : Result (Unit {0}) CoreFault) (after : List Reply) → AddsReply before step result after → is_err result ≡ false → AddedReply before step after
+reply_is_added before step (Ok done) after adds ok = adds
+reply_is_added before step (Err fault) after adds ok = absurd (cc)
+
+-- where it was refused, none is
+reply_is_not_added : (before : List Reply) (step : Result Reply StepFault) (result : Result (Unit {0}) CoreFault) (after : List Reply) → AddsReply before step result after → is_err result ≡ true → after ≡ before
+reply_is_not_added before step (Ok done) after adds refused = absurd (cc)
+reply_is_not_added before step (Err fault) after adds refused = adds
+
+-- and what was told is the beginning of all replies
+pub stopped_replies : (before : List Reply) (step : Result Reply StepFault) (result : Result (Unit {0}) CoreFault) (after rest whole : List Reply) → AddsReply before step result after → is_err result ≡ true → before ++ rest ≡ whole
+    → (after ≡ before) × (after ≡ take (length after) whole)
+stopped_replies before step result after rest whole adds refused so_far =
+    let same = reply_is_not_added before step result after adds refused in
+    (same, subst (λ (l : List Reply). l ≡ take (length l) whole) (sym same) (sym (ap (take (length before)) (sym so_far) ∙ take-append_seam before rest)))
+
+-- one reply to each event
+replies_count : (limits : Limits) (system : System) (events : List Event) → length (replies_from limits system events) ≡ length events
+replies_count limits system [] = refl
+replies_count limits system (event ∷ events) = ap suc (replies_count limits (step limits system event).next events)
+
+-- where no event is left without a reply, these are all replies
+pub all_replied : (limits : Limits) (system : System) (events : List Event) (told : List Reply) → told ≡ take (length told) (replies_from limits system events) → nat_lt (length told) (length events) ≡ false → told ≡ replies_from limits system events
+all_replied limits system events told are_first none_left =
+    are_first ∙ take_all (length told) (replies_from limits system events) (omega (arith, replies_count limits system events, ltb-false (length told) (length events) none_left))

@@ -21,7 +21,7 @@ visible_take stamp n before after same =
     ∙ sym (visible_shown stamp (take n before))
 
 -- the stamp that the store keeps of an open query
-begun_kept : (contents : Contents) (state : State) (client : ℕ) (snapshot : Snapshot) → StandsFor contents state → begun_of state client ≡ Some snapshot → (caller_begun contents client ≡ Some snapshot.commits) × (snapshot.commits ≤ contents.stamp)
+pub begun_kept : (contents : Contents) (state : State) (client : ℕ) (snapshot : Snapshot) → StandsFor contents state → begun_of state client ≡ Some snapshot → (caller_begun contents client ≡ Some snapshot.commits) × (snapshot.commits ≤ contents.stamp)
 begun_kept contents state client snapshot h is = go (same_seat contents.slots contents.stamp contents.callers state.clients client h.clients) is
   where
     at : (b : Option ℕ) (f : Option Snapshot) → ShowsBegin contents.slots contents.stamp b f → f ≡ Some snapshot → (b ≡ Some snapshot.commits) × (snapshot.commits ≤ contents.stamp)

@@ -74,7 +74,7 @@ after_refused : (capacity : ℕ) (system : System) (client : ℕ) (call : Call) 
 after_refused capacity system client call c s = ap (λ b. cond b (cond (succeeds (outcome capacity (state_of system) call)) (committed call (noted system client call)) (noted system client call)) (noted system client call)) c
     ∙ ap (λ b. cond b (committed call (noted system client call)) (noted system client call)) s
 
-begun_after-change : (state : State) (call : Call) (found : Option Snapshot) → is_change call ≡ true → found ≡ begun_after state call found
+pub begun_after-change : (state : State) (call : Call) (found : Option Snapshot) → is_change call ≡ true → found ≡ begun_after state call found
 begun_after-change state (Insert row) found c = refl
 begun_after-change state (Update id row) found c = refl
 begun_after-change state (Delete id) found c = refl

@@ -13,7 +13,8 @@ use Rattle.pref_core.specs.State.{State, missing}
 use Rattle.pref_core.specs.Slots.{Contents, StandsFor, is_visible, seen, visible, line, is_needed, IsWithin, EndsBy}
 use Rattle.pref_core.specs.Operations.{close, close_at, is_free}
 use Rattle.pref_core.specs.Places.{is_free_zone, free_at, zone_of}
-use Rattle.pref_core.specs.Kept.{is_row, row_at, IsOldPlace, ClosesAt, missed}
+use Rattle.pref_core.specs.Indexes.{is_row, row_at}
+use Rattle.pref_core.specs.Kept.{IsOldPlace, ClosesAt, missed}
 use Rattle.pref_core.proofs.Counting.{is_needed-empty}
 
 pub count_by-cons : {X : Type 0} (p : X → Bool) (x : X) (xs : List X) → count_by p (x ∷ xs) ≡ cond (p x) 1 0 + count_by p xs
@@ -204,7 +205,7 @@ closes_at contents state ns made id place h r = go (slice_get contents.slots pla
         }
 
 -- A place that shows an id's row is in the table.
-has_row_at : (stamp id : ℕ) (slots : List (Option Version)) (place : ℕ) → row_at stamp id slots place ≡ true → has (visible stamp slots) id ≡ true
+pub has_row_at : (stamp id : ℕ) (slots : List (Option Version)) (place : ℕ) → row_at stamp id slots place ≡ true → has (visible stamp slots) id ≡ true
 has_row_at stamp id [] place h = absurd (cc)
 has_row_at stamp id (None ∷ slots) zero h = absurd (cc)
 has_row_at stamp id (Some version ∷ slots) zero h =

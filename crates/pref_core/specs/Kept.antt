@@ -1,16 +1,17 @@
 -- No public contract cites this.
 -- What a store keeps beside its slots, so that no change looks through them.
-use Rattle.std.specs.Prelude.{◌≡◌, ℕ, List, [], ◌∷◌, map, Bool, true, false, ◌&&◌, ◌==◌, Option, Some, None, slice_get, slice_set}
+use Rattle.std.specs.Prelude.{◌≡◌, ℕ, List, [], ◌∷◌, map, Bool, false, Option, Some, None, option_map, slice_get, slice_set}
 use Rattle.pref_core.specs.declared.store.version.Version.{Version}
 use Rattle.pref_core.specs.declared.store.places.Zone.{Zone}
 use Rattle.pref_core.specs.declared.store.places.Zone.TheVariants.{Free, Live}
 use Rattle.pref_sky.specs.declared.entry.Entry.{Entry}
-use Rattle.pref_core.specs.Table.{has}
+use Rattle.pref_core.specs.Rows.{Row}
 use Rattle.pref_core.specs.State.{State}
-use Rattle.pref_core.specs.Slots.{Contents, StandsFor, is_visible, visible, begins}
+use Rattle.pref_core.specs.Slots.{Contents, StandsFor, begins}
 use Rattle.pref_core.specs.Operations.{close}
 use Rattle.pref_core.specs.Bounds.{IsBounded}
 use Rattle.pref_core.specs.Places.{is_free_zone, zone_of}
+use Rattle.pref_core.specs.Indexes.{IsPlaceOf}
 
 -- A store's slots stand for a state, and each place is in the zone of its slot.
 pub record IsKept (contents : Contents) (zones : List Zone) : Type 0 where
@@ -19,18 +20,10 @@ pub record IsKept (contents : Contents) (zones : List Zone) : Type 0 where
   pub stands : StandsFor contents state
   pub listed : zones ≡ map (zone_of (begins contents.callers)) contents.slots
 
--- whether the slot shows the row of this id at the stamp
-abbrev pub is_row : ℕ → ℕ → Option Version → Bool
-is_row stamp id None = false
-is_row stamp id (Some version) = (version.id == id) && is_visible stamp version
-
-abbrev pub row_at : ℕ → ℕ → List (Option Version) → ℕ → Bool
-row_at stamp id slots place = elim (slice_get slots place) [ None ↦ false | Some slot ↦ is_row stamp id slot ]
-
--- the place where the id's row stands, or that there is none
-abbrev pub IsPlaceOf : ℕ → ℕ → List (Option Version) → Option ℕ → Type 0
-IsPlaceOf stamp id slots None = has (visible stamp slots) id ≡ false
-IsPlaceOf stamp id slots (Some place) = row_at stamp id slots place ≡ true
+-- the row at a place, where one stands there
+abbrev pub row_in : List (Option Version) → Option ℕ → Option Row
+row_in slots None = None
+row_in slots (Some place) = elim (slice_get slots place) [ None ↦ None | Some slot ↦ option_map (λ (version : Version). version.row) slot ]
 
 -- the place of the row that a call ends
 abbrev pub IsOldPlace : ℕ → List ℕ → List (Option Version) → Option ℕ → Type 0

@@ -6,6 +6,7 @@ pub mod Step
 pub mod History
 pub mod Slots
 pub mod Operations
+pub mod Indexes
 pub mod Stability
 pub mod Scans
 pub mod Queries

@@ -1,6 +1,6 @@
 -- No public contract cites this.
 -- What the parts of a machine do.
-use Rattle.std.specs.Prelude.{◌≡◌, ℕ, Bool, true, false, List, Option, Some, None, Result, Ok, Err}
+use Rattle.std.specs.Prelude.{◌≡◌, ◌++◌, [], ◌∷◌, ℕ, Bool, true, false, List, nat_lt, Option, Some, None, Result, Ok, Err, MatchResult}
 use Rattle.std.specs.Global.{Vec}
 use Rattle.pref_sky.specs.declared.entry.Ranked.{Ranked}
 use Rattle.pref_core.specs.declared.store.version.Version.{Version}
@@ -13,17 +13,19 @@ use Rattle.pref_core.specs.declared.call.Outcome.TheVariants.{Added, Done, NoSuc
 use Rattle.pref_core.specs.declared.event.Act.TheVariants.{Begin}
 use Rattle.pref_core.specs.declared.event.Act.{Act}
 use Rattle.pref_core.specs.declared.event.Reply.{Reply}
-use Rattle.pref_core.specs.State.{seat, with_seat}
+use Rattle.pref_core.specs.State.{seat, with_seat, added}
 use Rattle.pref_core.specs.Limits.{Limits}
 use Rattle.pref_core.specs.declared.call.Call.{Call}
 use Rattle.pref_core.specs.Step.{System, Step, step, refused, numbered, change}
 use Rattle.pref_core.specs.Scans.{Scan, NextIsNew, Scans, Answers}
-use Rattle.pref_core.specs.Systems.{Running, StandsForSystem, Tells}
+use Rattle.pref_core.specs.Indexes.{IsIndexOf}
+use Rattle.pref_core.specs.Systems.{Running, StandsForSystem, Tells, may_want_memory}
 
--- a machine stands for a system
-pub record IsInOrder (running : Running) : Type 0 where
+-- a machine stands for a system, and its index is its store's
+pub record IsInOrder (running : Running) (index : List (ℕ × ℕ)) : Type 0 where
   pub system : System
   pub stands : StandsForSystem running system
+  pub indexed : IsIndexOf running.contents index
 
 -- an act, done
 pub record Does (before : Running) (client : ℕ) (act : Act) (result : Result Reply CoreFault) (after : Running) : Type 0 where
@@ -64,7 +66,8 @@ change_of limits system client call done = elim (seat client system.members) [
 -- a change, done: what it tells, and what it leaves, where this is its reply if it succeeds
 pub record Changes (before : Running) (client : ℕ) (call : Call) (done : Reply) (result : Result Reply CoreFault) (after : Running) : Type 0 where
   pub limits : after.limits ≡ before.limits
-  pub tells : (system : System) → StandsForSystem before system → (act : Act) → Tells before (change_of before.limits system client call done) act result after
+  pub tells : (system : System) → StandsForSystem before system → (act : Act) → (nat_lt 0 (added call) ≡ true → may_want_memory act ≡ true)
+      → Tells before (change_of before.limits system client call done) act result after
 
 -- what a change tells by its outcome, where this is its reply if it succeeds
 abbrev pub told_of : Outcome → Reply → Result Reply CoreFault
@@ -87,3 +90,13 @@ replied_fault fault = Ok (Refused fault)
 abbrev pub replied : Result Reply StepFault → Result Reply CoreFault
 replied (Ok told) = Ok told
 replied (Err refused) = replied_fault refused.fault
+
+-- the reply of a step, added
+pub record AddedReply (before : List Reply) (step : Result Reply StepFault) (after : List Reply) : Type 0 where
+  pub reply : Reply
+  pub told : replied step ≡ Ok reply
+  pub added : after ≡ before ++ reply ∷ []
+
+-- the reply of a step, added, or none where memory is wanting
+abbrev pub AddsReply : List Reply → Result Reply StepFault → Result (Unit {0}) CoreFault → List Reply → Type 0
+AddsReply before step result after = MatchResult result (λ _. AddedReply before step after) (λ _. after ≡ before)

@@ -4,7 +4,7 @@ use Rattle.pref_core.specs.declared.store.version.Version.{Version}
 use Rattle.pref_core.specs.declared.fault.CoreFault.{CoreFault}
 use Rattle.pref_core.specs.declared.fault.CoreFault.TheVariants.{OutOfMemory}
 use Rattle.pref_core.specs.declared.event.Act.{Act}
-use Rattle.pref_core.specs.declared.event.Act.TheVariants.{Scan as ActScan, Finish as ActFinish}
+use Rattle.pref_core.specs.declared.event.Act.TheVariants.{Insert as ActInsert, Scan as ActScan, Finish as ActFinish}
 use Rattle.pref_core.specs.declared.event.Event.{Event}
 use Rattle.pref_core.specs.declared.event.Reply.{Reply}
 use Rattle.pref_core.specs.declared.event.Reply.TheVariants.{Refused}
@@ -51,6 +51,7 @@ pub record StandsForSystem (running : Running) (system : System) : Type 0 where
 
 -- whether an act may be answered out of memory
 abbrev pub may_want_memory : Act → Bool
+may_want_memory (ActInsert row) = true
 may_want_memory ActScan = true
 may_want_memory ActFinish = true
 may_want_memory act = false

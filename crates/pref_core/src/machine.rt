@@ -12,6 +12,7 @@ ghost use Rattle.pref_core.specs.Parts.{Does, Changes, is_begin, told_of};
 use crate::call::{Call, Outcome};
 use crate::event::{Act, Event, RankedList, Reply, StepFault};
 use crate::fault::CoreFault;
+use crate::index::Index;
 use crate::query::Query;
 use crate::setup::Setup;
 use crate::store::Store;
@@ -24,6 +25,7 @@ use std::marker::Model;
 #[derive(Drop)]
 pub struct Machine {
     store: Store,
+    index: Index,
     setup: Setup,
     queries: Vec<Option<Query>>,
 }
@@ -40,7 +42,7 @@ impl Model for Machine {
 
     ghost view = { λ m. record { contents = m.store; limits = m.setup; scans = m.queries.items } };
 
-    ghost invariant = { λ m. IsInOrder (record { contents = m.store; limits = m.setup; scans = m.queries.items }) };
+    ghost invariant = { λ m. IsInOrder (record { contents = m.store; limits = m.setup; scans = m.queries.items }) m.index };
 }
 
 impl Machine {
@@ -53,9 +55,11 @@ impl Machine {
         ensures other { IfErr result (λ fault. (fault ≡ CoreFault.OutOfMemory) ⊎ (setup.capacity < length rows.now)) }
     {
         let store = Store::new(alloc, &setup, rows)?;
+        let index = Index::new(alloc, &store)?;
         let queries = no_queries(alloc, setup.clients())?;
         Ok(Machine {
             store,
+            index,
             setup,
             queries,
         })
@@ -63,17 +67,17 @@ impl Machine {
 
     /// One event: its reply, and the next state, are those of the sequential table. A refused event is handed back.
     ///
-    /// `OutOfMemory` comes for a scan and a finish alone, and nothing has changed then; every other refusal is the
-    /// sequential table's, and so is what it leaves. Cost: a change, a get and a room read each slot a fixed number
-    /// of times, a scan its block; a begin and an abandon copy nothing.
+    /// `OutOfMemory` comes for a scan, a finish and an insert alone, and nothing has changed then; every other refusal is
+    /// the sequential table's, and so is what it leaves. Cost: a change, a get, a room and a begin are constant in the
+    /// slots, a scan reads its block, a finish and an abandon go over the ended versions that an open query needs.
     pub fn step(&mut self, alloc: Global, event: Event) -> Result<Reply, StepFault>
         ensures { Steps self.old event result self.new }
     {
         let client = event.client;
         match &event.act {
-            Act::Insert(row) => handed_back(self.insert(client, row), event),
-            Act::Update(id, row) => handed_back(self.update(client, *id, row), event),
-            Act::Delete(id) => handed_back(self.delete(client, *id), event),
+            Act::Insert(row) => handed_back(self.insert(alloc, client, row), event),
+            Act::Update(id, row) => handed_back(self.update(alloc, client, *id, row), event),
+            Act::Delete(id) => handed_back(self.delete(alloc, client, *id), event),
             Act::Begin(_) => self.begin(event),
             Act::Scan => handed_back(self.scan(alloc, client), event),
             Act::Finish => handed_back(self.finish(alloc, client), event),
@@ -83,33 +87,40 @@ impl Machine {
         }
     }
 
-    fn insert(&mut self, client: u8, row: &Row) -> Result<Reply, CoreFault>
+    fn insert(&mut self, alloc: Global, client: u8, row: &Row) -> Result<Reply, CoreFault>
         ensures { Does self.old client (Act.Insert row.now) result self.new }
     {
         let done = Reply::Inserted(self.store.next_id());
-        self.change(client, &Call::Insert(*row), done)
+        self.change(alloc, client, &Call::Insert(*row), done)
     }
 
-    fn update(&mut self, client: u8, id: u64, row: &Row) -> Result<Reply, CoreFault>
+    fn update(&mut self, alloc: Global, client: u8, id: u64, row: &Row) -> Result<Reply, CoreFault>
         ensures { Does self.old client (Act.Update id row.now) result self.new }
     {
-        self.change(client, &Call::Update(id, *row), Reply::Updated(id))
+        self.change(alloc, client, &Call::Update(id, *row), Reply::Updated(id))
     }
 
-    fn delete(&mut self, client: u8, id: u64) -> Result<Reply, CoreFault>
+    fn delete(&mut self, alloc: Global, client: u8, id: u64) -> Result<Reply, CoreFault>
         ensures { Does self.old client (Act.Delete id) result self.new }
     {
-        self.change(client, &Call::Delete(id), Reply::Deleted(id))
+        self.change(alloc, client, &Call::Delete(id), Reply::Deleted(id))
     }
 
     /// A change, and the reply where it succeeds.
-    fn change(&mut self, client: u8, call: &Call, done: Reply) -> Result<Reply, CoreFault>
+    fn change(
+        &mut self,
+        alloc: Global,
+        client: u8,
+        call: &Call,
+        done: Reply,
+    ) -> Result<Reply, CoreFault>
         requires change { is_change call.now ≡ true }
         requires quiet { is_refusal done ≡ false }
         ensures { Changes self.old client call.now done result self.new }
     {
-        let op = self.store.plan(client, *call)?;
-        self.store.apply(&op);
+        let op = self.store.plan_at(&self.index, client, *call)?;
+        self.index.prepare(alloc, &op)?;
+        self.store.apply_at(&mut self.index, &op);
         told(op.outcome, done)
     }
 
@@ -168,7 +179,7 @@ impl Machine {
         if !is_client(&self.queries, client) {
             return Err(CoreFault::NoSuchClient);
         }
-        match self.store.get(id) {
+        match self.store.get_at(&self.index, id) {
             Some(row) => Ok(Reply::Found(id, row)),
             None => Err(CoreFault::NoSuchRow { id }),
         }

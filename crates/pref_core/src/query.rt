@@ -1,12 +1,14 @@
 //! An open query: it holds the best levels of what the blocks that it has scanned showed at its begin.
 
-ghost use Rattle.std.specs.Prelude.{◌≡◌};
-ghost use Rattle.pref_core.specs.Scans.{Scan, begin, NextIsNew, Scans, Answers};
+ghost use Rattle.std.specs.Prelude.{◌≡◌, ◌<◌, ◌++◌, List, Option, map};
+ghost use Rattle.pref_sky.specs.Levels.{HaveDifferentIds, entry_of};
+ghost use Rattle.pref_core.specs.declared.store.version.Version.{Version};
+ghost use Rattle.pref_core.specs.Scans.{begin, next_block, NextIsNew, Reads, Scans, Answers};
 
 use crate::fault::CoreFault;
 use crate::setup::Setup;
 use crate::store::Store;
-use pref_sky::{Partial, Ranked, answer};
+use pref_sky::{Entry, Partial, Ranked, answer};
 use pref_term::Ask;
 use std::alloc::Global;
 use std::marker::Model;
@@ -76,13 +78,34 @@ impl Query {
         requires { NextIsNew self.old store.now.slots }
         ensures { Scans self.old store.now.slots result self.new }
     {
+        let shown = self.read(alloc, store)?;
+        self.add(alloc, &shown)
+    }
+
+    /// What the next block shows, copied out of the store, so that [`add`](Query::add) needs no store.
+    ///
+    /// Refused `AllScanned` where no block is left, else `OutOfMemory` where memory is wanting. Cost: each slot of the
+    /// block once.
+    pub fn read(&self, alloc: Global, store: &Store) -> Result<Vec<Entry>, CoreFault>
+        ensures { Reads self.now store.now.slots result }
+    {
         if self.left == 0 {
             return Err(CoreFault::AllScanned);
         }
-        let shown = store.block(alloc, self.done, self.size, self.stamp)?;
+        Ok(store.block(alloc, self.done, self.size, self.stamp)?)
+    }
+
+    /// Adds what the next block shows, as [`read`](Query::read) copied it out, and answers how many blocks are left.
+    ///
+    /// Refused `OutOfMemory` where memory is wanting; the query is then as it was.
+    pub fn add(&mut self, alloc: Global, shown: &[Entry]) -> Result<u32, CoreFault>
+        requires some { 0 < self.old.left }
+        requires new { HaveDifferentIds (map entry_of self.old.partial ++ shown.now) }
+        ensures { (slots : List (Option Version)) → next_block self.old slots ≡ shown.now → Scans self.old slots result self.new }
+    {
         let cut = self.ask.cut();
         self.partial
-            .add(alloc, &self.ask, self.window as usize, cut, &shown)?;
+            .add(alloc, &self.ask, self.window as usize, cut, shown)?;
         self.done += 1;
         self.left -= 1;
         Ok(self.left)

@@ -1,8 +1,8 @@
 //! The replies to a list of events.
 
-ghost use Rattle.std.specs.Prelude.{◌≡◌, ◌<◌, length, Err, IfOk, IfErr, ◌⊎◌, ◌↔◌};
+ghost use Rattle.std.specs.Prelude.{◌≡◌, ◌<◌, nat_lt, length, take, Err, IfOk, IfErr, ◌⊎◌, ◌↔◌};
 ghost use Rattle.pref_core.specs.Step.{replies};
-ghost use Rattle.pref_core.specs.Parts.{replied};
+ghost use Rattle.pref_core.specs.Parts.{AddsReply, replied};
 
 use crate::event::{Event, Reply, StepFault};
 use crate::fault::CoreFault;
@@ -10,6 +10,55 @@ use crate::machine::Machine;
 use crate::setup::Setup;
 use pref_table::Row;
 use std::alloc::Global;
+
+/// What was replied before memory was wanting, or all of it.
+#[derive(Drop)]
+pub struct Part {
+    /// One reply to each of the first events, in their order.
+    pub replies: Vec<Reply>,
+    /// Whether an event was left without a reply, because memory was wanting.
+    pub stopped: bool,
+}
+
+/// The replies to the first events of a list, as many as memory is there for: those that the sequential table gives.
+///
+/// It stops at the first event whose reply wants memory, keeps the replies before it, and says so. Refused `Full`
+/// where there are more opening rows than slots, else `OutOfMemory` where memory is wanting for the opening table,
+/// before the first event. No reply is `OutOfMemory`. Cost: that of each event, and one list of replies.
+///
+/// ```text
+/// let part = replay_part(alloc, setup, &rows, events)?;
+/// if part.stopped {
+///     // the event of place part.replies.len() and those behind it have no reply
+/// }
+/// ```
+pub fn replay_part(
+    alloc: Global,
+    setup: Setup,
+    rows: &[Row],
+    events: Vec<Event>,
+) -> Result<Part, CoreFault>
+    ensures replies { IfOk result (λ part. part.replies.items ≡ take (length part.replies.items) (replies setup rows.now events.items)) }
+    ensures stopped { IfOk result (λ part. part.stopped ≡ nat_lt (length part.replies.items) (length events.items)) }
+    ensures full { result ≡ Err (CoreFault.Full (length rows.now)) ↔ (setup.capacity < length rows.now) }
+    ensures other { IfErr result (λ fault. (fault ≡ CoreFault.OutOfMemory) ⊎ (setup.capacity < length rows.now)) }
+{
+    let mut machine = Machine::new(alloc, setup, rows)?;
+    let mut told = Vec::new(alloc);
+    for event in events {
+        let step = machine.step(alloc, event);
+        if push_reply(&mut told, step).is_err() {
+            return Ok(Part {
+                replies: told,
+                stopped: true,
+            });
+        }
+    }
+    Ok(Part {
+        replies: told,
+        stopped: false,
+    })
+}
 
 /// The replies to a list of events, one to each: those that the sequential table gives, whatever changes, uses of
 /// slots and other queries fall between a query's begin and its end.
@@ -30,13 +79,19 @@ pub fn replay(
     ensures full { result ≡ Err (CoreFault.Full (length rows.now)) ↔ (setup.capacity < length rows.now) }
     ensures other { IfErr result (λ fault. (fault ≡ CoreFault.OutOfMemory) ⊎ (setup.capacity < length rows.now)) }
 {
-    let mut machine = Machine::new(alloc, setup, rows)?;
-    let mut told = Vec::new(alloc);
-    for event in events {
-        let reply = replied(machine.step(alloc, event))?;
-        told.push(reply).map_err(|_| CoreFault::OutOfMemory)?;
+    let part = replay_part(alloc, setup, rows, events)?;
+    if part.stopped {
+        return Err(CoreFault::OutOfMemory);
     }
-    Ok(told)
+    Ok(part.replies)
+}
+
+/// Adds the reply of a step. Want of memory, for the step or for the list, adds none.
+fn push_reply(told: &mut Vec<Reply>, step: Result<Reply, StepFault>) -> Result<(), CoreFault>
+    ensures { AddsReply told.old.items step result told.new.items }
+{
+    let reply = replied(step)?;
+    told.push(reply).map_err(|_| CoreFault::OutOfMemory)
 }
 
 /// A refusal is a reply; want of memory is none.

@@ -7,6 +7,7 @@
 
 pub(crate) mod applying;
 pub(crate) mod caller;
+pub(crate) mod indexing;
 pub(crate) mod needs;
 pub(crate) mod opening;
 pub(crate) mod places;
@@ -19,10 +20,12 @@ ghost use Rattle.std.specs.Option.{unwrap_or};
 ghost use Rattle.pref_core.specs.Table.{line_of, entries};
 ghost use Rattle.pref_core.specs.State.{State, opening, calls_of, needed};
 ghost use Rattle.pref_core.specs.Slots.{Contents, StandsFor, caller_calls, visible, block_of, opening_contents};
-ghost use Rattle.pref_core.specs.Operations.{applied, Plans, PlansIn, AppliesIn};
+ghost use Rattle.pref_core.specs.Indexes.{IsIndexOf, IsReady};
+ghost use Rattle.pref_core.specs.Operations.{applied, IsPlan, Plans, PlansIn, AppliesIn};
 
 use crate::call::{Call, Op};
 use crate::fault::CoreFault;
+use crate::index::Index;
 use crate::setup::Setup;
 use caller::Caller;
 use places::Places;
@@ -87,6 +90,22 @@ impl Store {
         })
     }
 
+    /// Another store that holds the same. `Err` is want of memory. Cost: each slot is copied.
+    pub fn copy(&self, alloc: Global) -> Result<Store, AllocError>
+        ensures { IfOk result (λ copy. copy ≡ self.now) }
+    {
+        let slots = Vec::from_slice(alloc, &self.slots)?;
+        let callers = Vec::from_slice(alloc, &self.callers)?;
+        let places = self.places.copy(alloc)?;
+        Ok(Store {
+            slots,
+            stamp: self.stamp,
+            next_id: self.next_id,
+            callers,
+            places,
+        })
+    }
+
     /// How many commits there were, the opening rows among them.
     pub fn stamp(&self) -> u64
         ensures { result ≡ self.now.stamp }
@@ -109,11 +128,33 @@ impl Store {
         caller::calls_of(&self.callers, client)
     }
 
-    /// The row of this id in the table now. Reads each slot once at most.
+    /// The row of this id in the table now. Looks at the place of its id first, and searches the slots where another
+    /// row stands there.
     pub fn get(&self, id: u64) -> Option<Row>
         ensures { (state : State) → StandsFor self.now state → result ≡ option_map (λ line. line.row) (line_of state.table id) }
     {
-        reads::find_row(&self.slots, self.stamp, id)
+        match reads::place_of(&self.slots, self.stamp, id) {
+            Some(place) => reads::row_in(&self.slots, place as usize),
+            None => None,
+        }
+    }
+
+    /// The same by an index of this store: one look.
+    pub fn get_at(&self, index: &Index, id: u64) -> Option<Row>
+        requires { IsIndexOf self.now index.now }
+        ensures { (state : State) → StandsFor self.now state → result ≡ option_map (λ line. line.row) (line_of state.table id) }
+    {
+        match index.slot(id) {
+            Some(place) => reads::row_in(&self.slots, place),
+            None => None,
+        }
+    }
+
+    /// The index of this store.
+    pub(crate) fn index(&self, alloc: Global) -> Result<Index, AllocError>
+        ensures { IfOk result (λ index. IsIndexOf self.now index) }
+    {
+        indexing::index_rows(alloc, &self.slots, self.stamp)
     }
 
     /// What the slots of a block show at a stamp: those from `block` times `size` up to before the next block's
@@ -147,30 +188,77 @@ impl Store {
         ensures exact { Plans self.now client call result }
         ensures state { (state : State) → StandsFor self.now state → PlansIn state self.now client call result }
     {
+        let old = reads::old_place(&self.slots, self.stamp, call.ended());
         planning::plan(
             &self.slots,
             self.stamp,
             self.next_id,
             &self.callers,
             &self.places,
+            old,
+            client,
+            call,
+        )
+    }
+
+    /// The same by an index of this store: constant in the slots.
+    pub fn plan_at(&self, index: &Index, client: u8, call: Call) -> Result<Op, CoreFault>
+        requires { IsIndexOf self.now index.now }
+        ensures exact { Plans self.now client call result }
+        ensures state { (state : State) → StandsFor self.now state → PlansIn state self.now client call result }
+    {
+        let old = indexing::indexed_place(&self.slots, self.stamp, index, call.ended());
+        planning::plan(
+            &self.slots,
+            self.stamp,
+            self.next_id,
+            &self.callers,
+            &self.places,
+            old,
             client,
             call,
         )
     }
 
     /// Does a planned call. One that is not legal here changes nothing: so an operation is done once, and in its
-    /// turn. Takes no memory. Plans again to see that it is legal, and then writes the slots that end or begin.
+    /// turn. Takes no memory. Plans again to see that it is legal, and then writes the slots that end or begin; a finish
+    /// or an abandon goes over the ended versions that an open query needs.
     pub fn apply(&mut self, op: &Op)
         ensures exact { self.new ≡ applied self.old op.now }
         ensures state { (state : State) → StandsFor self.old state → AppliesIn state self.old op.now self.new }
     {
+        let old = reads::old_place(&self.slots, self.stamp, op.call.ended());
         applying::apply(
             &mut self.slots,
             &mut self.stamp,
             &mut self.next_id,
             &mut self.callers,
             &mut self.places,
+            old,
             op,
         );
+    }
+
+    /// Does an op that was planned here, by an index that is ready for it ([`Index::prepare`]); the index then is this
+    /// store's again. Takes no memory. Constant in the slots, but that a finish or an abandon goes over the ended
+    /// versions that an open query needs.
+    pub fn apply_at(&mut self, index: &mut Index, op: &Op)
+        requires plan { IsPlan self.old op.now.client op.now.call op.now }
+        requires ready { IsReady self.old op.now index.old }
+        ensures exact { self.new ≡ applied self.old op.now }
+        ensures index { IsIndexOf self.new index.new }
+        ensures state { (state : State) → StandsFor self.old state → AppliesIn state self.old op.now self.new }
+    {
+        let old = indexing::indexed_place(&self.slots, self.stamp, index, op.call.ended());
+        applying::apply(
+            &mut self.slots,
+            &mut self.stamp,
+            &mut self.next_id,
+            &mut self.callers,
+            &mut self.places,
+            old,
+            op,
+        );
+        index.follow(op);
     }
 }

@@ -1,7 +1,11 @@
-//! Runs whose replies are known from outside, through `replay`, `Machine`, `Store` and `Query`.
+//! Runs whose replies are known from outside, through `replay`, `Machine` and `Store`.
+
+mod index;
+mod refusals;
 
 use crate::{
-    Act, Call, CoreFault, Event, Machine, Outcome, Query, RankedList, Reply, Setup, Store, replay,
+    Act, Call, CoreFault, Event, Machine, Outcome, RankedList, Reply, Setup, Store, replay,
+    replay_part,
 };
 use pref_table::{Row, Schema};
 use pref_term::read_ask;
@@ -313,6 +317,28 @@ fn a_million_events_are_answered_in_turn(rt: HostRuntime) -> Result<(), Fail> {
 }
 
 #[test]
+fn a_part_is_the_whole_where_memory_is_there(rt: HostRuntime) -> Result<(), Fail> {
+    let alloc = rt.alloc();
+    let setup = Setup::new(1, 1, 1, 1).ok_or("setup")?;
+    let mut events = Vec::new(alloc);
+    for _event in 0..3 {
+        events.push(Event {
+            client: 1,
+            act: Act::Room,
+        })?;
+    }
+    let part = replay_part(alloc, setup, &[], events)?;
+    assert!(rt; !part.stopped);
+    assert_eq!(rt; part.replies.len(), 3);
+    assert!(rt;
+        part.replies
+            .iter()
+            .all(|reply| matches!(reply, Reply::Room(1)))
+    );
+    Ok(())
+}
+
+#[test]
 fn too_many_opening_rows_are_refused(rt: HostRuntime) -> Result<(), Fail> {
     let alloc = rt.alloc();
     let schema = columns(alloc)?;
@@ -320,6 +346,8 @@ fn too_many_opening_rows_are_refused(rt: HostRuntime) -> Result<(), Fail> {
     let opening = rows(alloc, &schema, &[1, 2, 3])?;
     let told = replay(alloc, setup, &opening, Vec::new(alloc)).err();
     assert_eq!(rt; told, Some(CoreFault::Full { needed: 3 }));
+    let part = replay_part(alloc, setup, &opening, Vec::new(alloc));
+    assert_eq!(rt; part.err(), Some(CoreFault::Full { needed: 3 }));
     Ok(())
 }
 
@@ -387,20 +415,17 @@ fn a_store_plans_and_applies(rt: HostRuntime) -> Result<(), Fail> {
 }
 
 #[test]
-fn a_query_is_scanned_from_a_store(rt: HostRuntime) -> Result<(), Fail> {
+fn a_copy_of_a_store_goes_its_own_way(rt: HostRuntime) -> Result<(), Fail> {
     let alloc = rt.alloc();
     let schema = columns(alloc)?;
     let setup = Setup::new(1, 3, 2, 1).ok_or("setup")?;
     let store = Store::new(alloc, &setup, &rows(alloc, &schema, &[4])?)?;
-    let ask = read_ask(alloc, &schema, b"top_level 2 low(x)")?;
-    let mut query = Query::begin(ask, store.stamp(), &setup);
-    assert_eq!(rt; setup.blocks(), 2);
-    assert_eq!(rt; query.left(), 2);
-    assert_eq!(rt;
-        query.answer(alloc).err(),
-        Some(CoreFault::NotDone { left: 2 })
-    );
-    assert_eq!(rt; query.scan(alloc, &store)?, 1);
+    let mut copy = store.copy(alloc)?;
+    assert_eq!(rt; copy.get(1), store.get(1));
+    let op = copy.plan(1, Call::Update(1, row(&schema, 5)?))?;
+    copy.apply(&op);
+    assert_eq!(rt; copy.get(1), Some(row(&schema, 5)?));
+    assert_eq!(rt; store.get(1), Some(row(&schema, 4)?));
     Ok(())
 }
 

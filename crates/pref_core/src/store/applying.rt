@@ -14,7 +14,6 @@ use crate::store::caller::{Caller, caller_of, count};
 use crate::store::needs::{is_free_place, zone_of};
 use crate::store::places::Places;
 use crate::store::planning::{outcome, refusal};
-use crate::store::reads::old_place;
 use crate::store::version::{Version, born, closed};
 use pref_sky::Entry;
 
@@ -177,21 +176,22 @@ fn ends_query(call: &Call) -> bool
     }
 }
 
-/// An op, done where it is legal.
+/// An op that ends the row at this place, done where it is legal.
 pub(crate) fn apply(
     slots: &mut [Option<Version>],
     stamp: &mut u64,
     next_id: &mut u64,
     callers: &mut [Caller],
     places: &mut Places,
+    old: Option<u32>,
     op: &Op,
 )
-    requires { IsKept (record { slots = slots.old; stamp = stamp.old; next_id = next_id.old; callers = callers.old }) places.old }
+    requires kept { IsKept (record { slots = slots.old; stamp = stamp.old; next_id = next_id.old; callers = callers.old }) places.old }
+    requires old { IsOldPlace stamp.old (ended op.now.call) slots.old old }
     ensures done { record { slots = slots.new; stamp = stamp.new; next_id = next_id.new; callers = callers.new }
         ≡ applied (record { slots = slots.old; stamp = stamp.old; next_id = next_id.old; callers = callers.old }) op.now }
     ensures kept { IsKept (record { slots = slots.new; stamp = stamp.new; next_id = next_id.new; callers = callers.new }) places.new }
 {
-    let old = old_place(slots, *stamp, op.call.ended());
     if is_next(slots, *stamp, *next_id, callers, places, old, op)
         && fits(slots, *stamp, *next_id, callers, op)
     {

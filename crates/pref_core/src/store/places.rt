@@ -72,6 +72,20 @@ impl Places {
         })
     }
 
+    /// The same places once more.
+    pub(crate) fn copy(&self, alloc: Global) -> Result<Places, AllocError>
+        ensures { IfOk result (λ copy. copy ≡ self.now) }
+    {
+        let order = Vec::from_slice(alloc, &self.order)?;
+        let positions = Vec::from_slice(alloc, &self.positions)?;
+        Ok(Places {
+            order,
+            positions,
+            free: self.free,
+            held: self.held,
+        })
+    }
+
     /// After an open query went: each ended place that nobody needs is free.
     pub(crate) fn sweep(&mut self, slots: &[Option<Version>], callers: &[Caller])
         requires { AllZip MayBecome self.old (map (zone_of (begins callers.now)) slots.now) }

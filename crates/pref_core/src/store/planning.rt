@@ -14,7 +14,7 @@ use crate::fault::CoreFault;
 use crate::store::caller::{Caller, caller_of};
 use crate::store::needs::frees;
 use crate::store::places::{Places, Zone};
-use crate::store::reads::{home, old_place};
+use crate::store::reads::home;
 use crate::store::version::Version;
 
 /// Why a call would get no number.
@@ -171,19 +171,21 @@ pub(crate) fn place(
     }
 }
 
-/// What becomes of a call, and where its new row goes; or why it gets no number.
+/// What becomes of a call that ends the row at this place, and where its new row goes; or why it gets no number.
 pub(crate) fn plan(
     slots: &[Option<Version>],
     stamp: u64,
     next_id: u64,
     callers: &[Caller],
     places: &Places,
+    old: Option<u32>,
     client: u8,
     call: Call,
 ) -> Result<Op, CoreFault>
     requires few { length slots.now ≤ 65536 }
     requires early { stamp < 2 ^ 63 }
     requires kept { IsKept (record { slots = slots.now; stamp = stamp; next_id = next_id; callers = callers.now }) places.now }
+    requires old { IsOldPlace stamp (ended call) slots.now old }
     ensures { Plans (record { slots = slots.now; stamp = stamp; next_id = next_id; callers = callers.now }) client call result }
 {
     let caller = caller_of(callers, client);
@@ -193,7 +195,6 @@ pub(crate) fn plan(
     let Some(caller) = caller else {
         return Err(CoreFault::NoSuchClient);
     };
-    let old = old_place(slots, stamp, call.ended());
     let outcome = outcome(slots, stamp, next_id, callers, places, old, &call);
     let slot = place(slots, stamp, next_id, callers, places, old, &call, outcome);
     Ok(Op {

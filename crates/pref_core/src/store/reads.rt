@@ -1,10 +1,11 @@
 //! What slots show at a stamp.
 
 ghost use Rattle.std.specs.Option.{option_to_list};
-ghost use Rattle.std.specs.Prelude.{IfOk, length, option_map, ◌≡◌, ◌<◌, ◌≤◌};
-ghost use Rattle.pref_core.specs.Kept.{is_row, IsPlaceOf, IsOldPlace};
-ghost use Rattle.pref_core.specs.Slots.{line, visible, block_of};
-ghost use Rattle.pref_core.specs.Table.{line_of, entries};
+ghost use Rattle.std.specs.Prelude.{IfOk, Some, length, ◌≡◌, ◌<◌, ◌≤◌};
+ghost use Rattle.pref_core.specs.Indexes.{is_row, IsPlaceOf};
+ghost use Rattle.pref_core.specs.Kept.{row_in, IsOldPlace};
+ghost use Rattle.pref_core.specs.Slots.{visible, block_of};
+ghost use Rattle.pref_core.specs.Table.{entries};
 
 use crate::store::version::Version;
 use pref_sky::Entry;
@@ -73,18 +74,14 @@ pub(crate) fn old_place(slots: &[Option<Version>], stamp: u64, ended: Option<u64
     }
 }
 
-/// The row of this id in the table at this stamp.
-pub(crate) fn find_row(slots: &[Option<Version>], stamp: u64, id: u64) -> Option<Row>
-    ensures { result ≡ option_map (λ line. line.row) (line_of (visible stamp slots.now) id) }
+/// The row at this place, where one stands there.
+pub(crate) fn row_in(slots: &[Option<Version>], place: usize) -> Option<Row>
+    ensures { result ≡ row_in slots.now (Some place) }
 {
-    for slot in slots {
-        if let Some(version) = slot {
-            if version.id == id && version.is_visible_at(stamp) {
-                return Some(version.row);
-            }
-        }
+    match slots.get(place) {
+        Some(Some(version)) => Some(version.row),
+        _ => None,
     }
-    None
 }
 
 /// What these slots show at a stamp.

@@ -1,12 +1,13 @@
-use Rattle.std.proofs.Common.{◌≡◌, Ok, Err, None, length, arith, sym, subst, ◌∙◌, ap, rules}
+use Rattle.std.proofs.Common.{◌≡◌, Ok, Err, None, length, arith, refl, sym, subst, ◌∙◌, ap, rules}
 use Rattle.std.specs.Vec.{with_items}
 use Rattle.std.proofs.lemmas.List.{with_items_is}
 use Rattle.pref_core.specs.State.{with_seat}
 use Rattle.pref_core.specs.Parts.{Does}
 use Rattle.pref_core.proofs.Steps.{running_of}
+use Rattle.pref_core.specs.declared.call.Call.TheVariants.{Abandon}
 use Rattle.pref_core.specs.declared.event.Act.TheVariants.{Abandon as ActAbandon}
 use Rattle.pref_core.specs.declared.event.Reply.TheVariants.{Abandoned}
-use Rattle.pref_core.proofs.Doing.{abandon_does, abandon_not, in_order_after}
+use Rattle.pref_core.proofs.Doing.{abandon_does, abandon_not, in_order_quiet}
 use Rattle.pref_core.proofs.machine.Machine.abandon.Goals as goal
 
 pub returns-in_err-op : goal.returns-in_err-op
@@ -25,7 +26,7 @@ invariant_of-self c =
     let scans = with_items_is c.self.inside.queries c.set.new.queries long ∙ c.set.ensures ∙ ap (with_seat c.args.client None) c.deref_mut.ensures.value in
     let base = abandon_does old c.args.client c.in_ok-op.op c.apply.new.self c.in_ok-op.ensures.state c.apply.ensures.exact in
     let placed = subst (λ l. Does old c.args.client ActAbandon (Ok Abandoned) (running_of c.apply.new.self c.self.inside.setup l)) (sym scans) base in
-    in_order_after old _ c.args.client ActAbandon (Ok Abandoned) c.self.invariant placed
+    in_order_quiet old c.apply.new.self _ c.self.inside.index c.args.client Abandon c.in_ok-op.op ActAbandon (Ok Abandoned) refl c.in_ok-op.ensures.exact c.apply.ensures.exact c.self.invariant placed
 
 pub returns : goal.returns
 returns c =

@@ -2,13 +2,14 @@ use Rattle.std.proofs.Common.{◌≡◌, Ok, Err, Some, length, arith, refl, sym
 use Rattle.std.specs.Vec.{with_items}
 use Rattle.std.proofs.lemmas.List.{with_items_is}
 use Rattle.pref_core.specs.State.{with_seat}
+use Rattle.pref_core.specs.declared.call.Call.TheVariants.{Begin}
 use Rattle.pref_core.specs.declared.event.Act.TheVariants.{Begin as ActBegin}
 use Rattle.pref_core.specs.declared.event.Reply.TheVariants.{Begun}
 use Rattle.pref_core.specs.Limits.{blocks}
 use Rattle.pref_core.specs.Systems.{Steps}
 use Rattle.pref_core.specs.Parts.{Does}
 use Rattle.pref_core.proofs.Steps.{running_of}
-use Rattle.pref_core.proofs.Doing.{begin_does, begin_steps_not, steps_does, in_order_after}
+use Rattle.pref_core.proofs.Doing.{begin_does, begin_steps_not, steps_does, in_order_quiet}
 use Rattle.pref_core.proofs.machine.Machine.begin.Goals as goal
 
 pub returns-in-Err : goal.returns-in-Err
@@ -26,7 +27,7 @@ invariant_of-self c =
     let scans = with_items_is c.self.inside.queries c.set.new.queries long ∙ c.set.ensures ∙ (λ i. with_seat client (Some (c.begin-query.ensures i)) (c.deref_mut.ensures.value i)) in
     let base = begin_does old client ask c.in-Ok.op c.apply.new.self c.stamp.result c.blocks-2.ensures.allowed c.stamp.ensures c.in-Ok.ensures.state c.apply.ensures.exact in
     let placed = subst (λ l. Does old client (ActBegin ask) (Ok (Begun (blocks limits))) (running_of c.apply.new.self limits l)) (sym scans) base in
-    in_order_after old _ client (ActBegin ask) (Ok (Begun (blocks limits))) c.self.invariant placed
+    in_order_quiet old c.apply.new.self _ c.self.inside.index client Begin c.in-Ok.op (ActBegin ask) (Ok (Begun (blocks limits))) refl c.in-Ok.ensures.exact c.apply.ensures.exact c.self.invariant placed
 
 pub returns : goal.returns
 returns c =

@@ -1,7 +1,10 @@
-use Rattle.std.proofs.Common.{◌≡◌, Err, sym, subst, rules}
+use Rattle.std.proofs.Common.{◌≡◌, nat_lt, true, Err, refl, sym, subst, rules}
+use Rattle.pref_core.specs.declared.fault.CoreFault.TheVariants.{OutOfMemory}
+use Rattle.pref_core.specs.State.{added}
 use Rattle.pref_core.specs.Parts.{Changes}
 use Rattle.pref_core.proofs.Steps.{running_of}
-use Rattle.pref_core.proofs.Doing.{change_done, change_not, in_order_changed}
+use Rattle.pref_core.proofs.Doing.{change_done, change_not, change_unmade, in_order_changed}
+use Rattle.pref_core.proofs.Reindexing.{adds_planned}
 use Rattle.pref_core.proofs.machine.Machine.change.Goals as goal
 
 pub returns-in_err-op : goal.returns-in_err-op
@@ -13,15 +16,35 @@ returns-in_err-op c =
     (change_not (running_of c.self.inside.store c.self.inside.setup c.self.inside.queries.items) c.args.client c.args.call.now c.args.done c.in_err-op.field-0.0 c.requires.change c.in_err-op.ensures.state)
     )
 
-pub invariant_of-self : goal.invariant_of-self
-invariant_of-self c =
-    let old = running_of c.self.inside.store c.self.inside.setup c.self.inside.queries.items in
-    in_order_changed old _ c.args.client c.args.call.now c.args.done _ c.self.invariant
-    (change_done old c.args.client c.args.call.now c.args.done c.in_ok-op.op c.apply.new.self c.requires.change c.requires.quiet c.in_ok-op.ensures.state c.apply.ensures.exact)
+pub apply_at-requires : goal.apply_at-requires
+apply_at-requires c =
+    let plan = c.in_ok-op.ensures.exact in
+    record {
+      plan = record { by = refl; what = refl; next = plan.next; fits = plan.fits };
+      ready = record { before = c.self.inside.index; is_index = c.self.invariant.indexed; prepares = c.in_ok-prepare.ensures.prepared };
+    }
+
+pub returns-in_err-prepare : goal.returns-in_err-prepare
+returns-in_err-prepare c =
+    let plan = c.in_ok-op.ensures.exact in
+    let adds : nat_lt 0 (added c.args.call.now) ≡ true = subst (λ call. nat_lt 0 (added call) ≡ true) plan.what (adds_planned c.self.inside.store c.in_ok-op.op plan.next c.in_err-prepare.ensures.refused) in
+    let is : c.from_residual-in_err-prepare.result ≡ Err OutOfMemory = search rules in
+    subst (λ t. Changes c.args.self.now c.args.client c.args.call.now c.args.done t (running_of c.self.inside.store c.self.inside.setup c.self.inside.queries.items)) (sym is)
+    (
+    subst (λ r. Changes r c.args.client c.args.call.now c.args.done (Err OutOfMemory) (running_of c.self.inside.store c.self.inside.setup c.self.inside.queries.items)) c.self.view_is
+    (change_unmade (running_of c.self.inside.store c.self.inside.setup c.self.inside.queries.items) c.args.client c.args.call.now c.args.done adds)
+    )
 
 pub returns : goal.returns
 returns c =
     let old = running_of c.self.inside.store c.self.inside.setup c.self.inside.queries.items in
-    let base = change_done old c.args.client c.args.call.now c.args.done c.in_ok-op.op c.apply.new.self c.requires.change c.requires.quiet c.in_ok-op.ensures.state c.apply.ensures.exact in
-    let told = subst (λ t. Changes old c.args.client c.args.call.now c.args.done t (running_of c.apply.new.self c.self.inside.setup c.self.inside.queries.items)) (sym c.told.ensures) base in
-    subst (λ r. Changes r c.args.client c.args.call.now c.args.done c.told.result (running_of c.apply.new.self c.self.inside.setup c.self.inside.queries.items)) c.self.view_is told
+    let base = change_done old c.args.client c.args.call.now c.args.done c.in_ok-op.op c.apply_at.new.self c.requires.change c.requires.quiet c.in_ok-op.ensures.state c.apply_at.ensures.exact in
+    let told = subst (λ t. Changes old c.args.client c.args.call.now c.args.done t (running_of c.apply_at.new.self c.self.inside.setup c.self.inside.queries.items)) (sym c.told.ensures) base in
+    subst (λ r. Changes r c.args.client c.args.call.now c.args.done c.told.result (running_of c.apply_at.new.self c.self.inside.setup c.self.inside.queries.items)) c.self.view_is told
+
+pub invariant_of-self-2 : goal.invariant_of-self-2
+invariant_of-self-2 c =
+    let old = running_of c.self.inside.store c.self.inside.setup c.self.inside.queries.items in
+    in_order_changed old _ c.self.inside.index c.apply_at.new.index c.args.client c.args.call.now c.args.done _ c.self.invariant
+    (change_done old c.args.client c.args.call.now c.args.done c.in_ok-op.op c.apply_at.new.self c.requires.change c.requires.quiet c.in_ok-op.ensures.state c.apply_at.ensures.exact)
+    c.apply_at.ensures.index

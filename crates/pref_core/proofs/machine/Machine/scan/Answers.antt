@@ -13,7 +13,7 @@ use Rattle.pref_core.proofs.machine.Machine.scan.Goals.{in-Ok, in-Err}
 pub scan_at-requires : goal.scan_at-requires
 scan_at-requires c =
     subst (λ l. NextIsNewAt (seat c.args.client l) c.self.inside.store.slots) (sym c.deref_mut.ensures.value)
-    (next_is_new_in_order (running_of c.self.inside.store c.self.inside.setup c.self.inside.queries.items) c.args.client c.self.invariant)
+    (next_is_new_in_order (running_of c.self.inside.store c.self.inside.setup c.self.inside.queries.items) c.self.inside.index c.args.client c.self.invariant)
 
 pub invariant_of-self : goal.invariant_of-self
 invariant_of-self c =
@@ -23,7 +23,7 @@ invariant_of-self c =
     let says = subst (λ l. ScansAt (seat c.args.client l) c.self.inside.store.slots c.args.client l c.scan_at.result c.scan_at.new.queries) c.deref_mut.ensures.value c.scan_at.ensures in
     let base = scan_does old c.args.client c.scan_at.result c.scan_at.new.queries says in
     let placed = subst (λ l. Does old c.args.client ActScan (told_scan c.scan_at.result) (running_of c.self.inside.store c.self.inside.setup l)) (sym scans) base in
-    in_order_after old _ c.args.client ActScan (told_scan c.scan_at.result) c.self.invariant placed
+    in_order_after old _ c.self.inside.index c.self.inside.index c.args.client ActScan (told_scan c.scan_at.result) c.self.invariant placed c.self.invariant.indexed
 
 pub returns : goal.returns
 returns c =

@@ -5,8 +5,8 @@ use Rattle.pref_core.proofs.Ends.{kept_same}
 use Rattle.pref_core.proofs.Legal.{applies_in}
 use Rattle.pref_core.proofs.store.Store.apply.Goals as goal
 
-pub apply-requires : goal.apply-requires
-apply-requires c = kept_same _ c.deref_mut.result.now c.self.inside.stamp c.self.inside.next_id _ c.deref_mut-2.result.now c.self.inside.places c.deref_mut.ensures.value c.deref_mut-2.ensures.value c.self.invariant
+pub apply-requires-clause-kept : goal.apply-requires-clause-kept
+apply-requires-clause-kept c = kept_same _ c.deref_mut.result.now c.self.inside.stamp c.self.inside.next_id _ c.deref_mut-2.result.now c.self.inside.places c.deref_mut.ensures.value c.deref_mut-2.ensures.value c.self.invariant
 
 pub invariant_of-self : goal.invariant_of-self
 invariant_of-self c =

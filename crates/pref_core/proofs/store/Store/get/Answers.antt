@@ -1,13 +1,23 @@
-use Rattle.std.proofs.Common.{◌∙◌, ap}
-use Rattle.std.specs.Option.{option_map}
-use Rattle.pref_core.specs.Table.{line_of, Line}
-use Rattle.pref_core.specs.Slots.{visible, Contents}
-use Rattle.pref_core.proofs.Lookups.{line_of-shown}
+use Rattle.std.proofs.Common.{Some, None, ◌∙◌, ap, subst}
+use Rattle.pref_core.specs.Slots.{Contents}
+use Rattle.pref_core.specs.Indexes.{IsPlaceOf}
+use Rattle.pref_core.specs.Kept.{row_in}
+use Rattle.pref_core.proofs.Lookups.{row_of_place}
 use Rattle.pref_core.proofs.store.Store.get.Goals as goal
 
-pub returns : goal.returns
-returns c state h =
-    c.find_row.ensures
-    ∙ (λ i. option_map (λ (line : Line). line.row) (line_of (visible c.self.inside.stamp (c.deref.ensures.value i)) c.args.id))
-    ∙ ap (λ (s : Contents). option_map (λ (line : Line). line.row) (line_of (visible s.stamp s.slots) c.args.id)) c.self.view_is
-    ∙ ap (option_map (λ (line : Line). line.row)) (line_of-shown c.args.self.now.slots c.args.self.now.stamp state.table c.args.id h.table)
+pub returns-in-Some : goal.returns-in-Some
+returns-in-Some c state h =
+    let there = subst (λ (s : Contents). IsPlaceOf s.stamp c.args.id s.slots (Some c.in-Some.place)) c.self.view_is
+    (subst (λ slots. IsPlaceOf c.self.inside.stamp c.args.id slots (Some c.in-Some.place)) c.deref.ensures.value
+    (subst (IsPlaceOf c.self.inside.stamp c.args.id c.deref.result.now) c.in-Some.is c.place_of.ensures)) in
+    c.row_in.ensures
+    ∙ ap (λ slots. row_in slots (Some c.in-Some.place)) c.deref-in-Some.ensures.value
+    ∙ ap (λ (s : Contents). row_in s.slots (Some c.in-Some.place)) c.self.view_is
+    ∙ row_of_place c.args.self.now.slots c.args.self.now.stamp state.table c.args.id (Some c.in-Some.place) h.table there
+
+pub returns-in-None : goal.returns-in-None
+returns-in-None c state h =
+    let nowhere = subst (λ (s : Contents). IsPlaceOf s.stamp c.args.id s.slots None) c.self.view_is
+    (subst (λ slots. IsPlaceOf c.self.inside.stamp c.args.id slots None) c.deref.ensures.value
+    (subst (IsPlaceOf c.self.inside.stamp c.args.id c.deref.result.now) c.in-None.is c.place_of.ensures)) in
+    row_of_place c.args.self.now.slots c.args.self.now.stamp state.table c.args.id None h.table nowhere

@@ -4,10 +4,10 @@ use Rattle.pref_core.proofs.Ends.{kept_stepped}
 use Rattle.pref_core.proofs.store.applying.apply.Goals as goal
 
 pub is_next-requires-clause-early : goal.is_next-requires-clause-early
-is_next-requires-clause-early c = let small = stamp-small _ c.requires.bounded in omega arith
+is_next-requires-clause-early c = let small = stamp-small _ c.requires.kept.bounded in omega arith
 
 pub fits-requires : goal.fits-requires
-fits-requires c = record { early = let small = stamp-small _ c.requires.bounded in omega arith }
+fits-requires c = record { early = let small = stamp-small _ c.requires.kept.bounded in omega arith }
 
 pub returns-then-fits-clause-kept : goal.returns-then-fits-clause-kept
-returns-then-fits-clause-kept c = kept_stepped _ c.args.op.now c.step.new.slots c.args.places.now _ c.step.new.places c.requires (sym c.if-is_next.ensures) c.step.ensures.slots c.step.ensures.rest c.step.ensures.zones
+returns-then-fits-clause-kept c = kept_stepped _ c.args.op.now c.step.new.slots c.args.places.now _ c.step.new.places c.requires.kept (sym c.if-is_next.ensures) c.step.ensures.slots c.step.ensures.rest c.step.ensures.zones

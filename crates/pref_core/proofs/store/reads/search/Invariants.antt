@@ -1,5 +1,5 @@
 use Rattle.std.proofs.Common.{◌≡◌, ◌<◌, ℕ, false}
-use Rattle.pref_core.specs.Kept.{row_at}
+use Rattle.pref_core.specs.Indexes.{row_at}
 use Rattle.pref_core.proofs.store.reads.search.Given as goal
 
 abbrev pub invariant-loop-place : goal.invariant-loop-place

@@ -1,7 +1,7 @@
 use Rattle.std.proofs.Common.{◌≡◌, ◌≤◌, ◌++◌, length, drop}
 use Rattle.pref_core.specs.Step.{System, replies, replies_from}
 use Rattle.pref_core.specs.Systems.{StandsForSystem}
-use Rattle.pref_core.proofs.run.replay.Given as goal
+use Rattle.pref_core.proofs.run.replay_part.Given as goal
 
 abbrev pub invariant-loop-event : goal.invariant-loop-event
 invariant-loop-event l = record {
@@ -9,5 +9,6 @@ invariant-loop-event l = record {
   few : length l.fn.rows ≤ l.fn.setup.capacity;
   system : System;
   stands : StandsForSystem l.machine system;
+  count : length l.told.items ≡ length l.yielded;
   rest : l.told.items ++ replies_from l.fn.setup system (drop (length l.yielded) l.fn.events.items) ≡ replies l.fn.setup l.fn.rows l.fn.events.items;
 }

@@ -3,10 +3,10 @@ use Rattle.pref_core.specs.State.{opening_table}
 use Rattle.pref_core.specs.Slots.{Shows}
 use Rattle.pref_core.specs.Scans.{NextIsNew, begin}
 use Rattle.pref_core.proofs.Following.{begun_on_its_way, next_is_new_on_its_way}
-use Rattle.pref_core.proofs.tests.a_query_is_scanned_from_a_store.Goals as goal
+use Rattle.pref_core.proofs.tests.refusals.a_query_is_scanned_and_answered_again_after_a_refusal.Goals as goal
 
-pub scan-requires : goal.scan-requires
-scan-requires g c =
+pub scan_in_the_end-requires : goal.scan_in_the_end-requires
+scan_in_the_end-requires g c =
     let slots = c.in_ok-store.store.slots in
     let table = opening_table 0 c.deref.result.now in
     let query = begin c.in_ok-ask.ask c.stamp.result c.in_ok-setup.setup in

@@ -1,0 +1,33 @@
+use Rattle.std.proofs.Common.{◌≡◌, length, arith, ◌∙◌, ap, sym, subst}
+use Rattle.std.proofs.lemmas.List.{with_items_is}
+use Rattle.std.specs.List.{AllByRecursion}
+use Rattle.std.specs.Option.{option_to_list}
+use Rattle.pref_core.specs.Slots.{Contents, IsWithin}
+use Rattle.pref_core.specs.Indexes.{IsPlaceOf, IsIndexOf, slot_of}
+use Rattle.pref_core.specs.Operations.{AppliesIn, applied}
+use Rattle.pref_core.proofs.Legal.{applies_in}
+use Rattle.pref_core.proofs.Reindexing.{ready_ended, indexed}
+use Rattle.pref_core.proofs.store.Store.apply_at.Goals as goal
+
+pub indexed_place-old-requires-clause-index : goal.indexed_place-old-requires-clause-index
+indexed_place-old-requires-clause-index c id ends =
+    let there = ready_ended c.args.self.now c.args.op.now c.args.index.now c.requires.plan.next c.requires.ready id (sym c.ended.ensures ∙ ap option_to_list ends) in
+    subst (λ slots. IsPlaceOf c.self.inside.stamp id slots (slot_of c.args.index.now id)) (sym c.deref.ensures.value)
+    (subst (λ (s : Contents). IsPlaceOf s.stamp id s.slots (slot_of c.args.index.now id)) (sym c.self.view_is) there)
+
+pub returns-clause-exact : goal.returns-clause-exact
+returns-clause-exact c =
+    let slots : length c.apply.new.slots ≡ c.self.inside.slots.len = omega arith in
+    let callers : length c.apply.new.callers ≡ c.self.inside.callers.len = omega arith in
+    (λ i. record { slots = with_items_is c.self.inside.slots c.apply.new.slots slots i; stamp = c.apply.new.stamp; next_id = c.apply.new.next_id; callers = with_items_is c.self.inside.callers c.apply.new.callers callers i })
+    ∙ c.apply.ensures.done
+    ∙ (λ i. applied (record { slots = c.deref_mut.ensures.value i; stamp = c.self.inside.stamp; next_id = c.self.inside.next_id; callers = c.deref_mut-2.ensures.value i }) c.args.op.now)
+    ∙ ap (λ s. applied s c.args.op.now) c.self.view_is
+
+pub returns-clause-index : goal.returns-clause-index
+returns-clause-index c =
+    subst (λ s. IsIndexOf s c.follow.new.self) (sym (returns-clause-exact c))
+    (indexed c.args.self.now c.args.op.now c.args.index.now c.follow.new.self (subst (λ (s : Contents). AllByRecursion (IsWithin s.next_id s.stamp) s.slots) c.self.view_is c.self.invariant.stands.within) c.requires.plan.next c.requires.plan.fits c.requires.ready c.follow.ensures)
+
+pub returns-clause-state : goal.returns-clause-state
+returns-clause-state c state h = subst (AppliesIn state c.args.self.now c.args.op.now) (sym (returns-clause-exact c)) (applies_in c.args.self.now state c.args.op.now h)

@@ -1,0 +1,121 @@
+//! An index from row id to slot, which finds a row of a store without a look at other slots.
+
+ghost use Rattle.std.specs.Prelude.{◌≡◌, ℕ, [], ◌∷◌, true, is_some, None, Some, IfOk, OnOk, OnErr};
+ghost use Rattle.pref_core.specs.Indexes.{slot_of, Points, Prepares, Withdraws, Follows, adds, IsIndexOf, IsReady};
+ghost use Rattle.pref_core.specs.Operations.{IsPlan};
+ghost use Rattle.pref_core.specs.Slots.{Contents, StandsFor};
+ghost use Rattle.pref_core.specs.State.{State, ended, succeeds};
+
+use crate::call::{Op, Outcome};
+use crate::store::Store;
+use indexmap::IndexMap;
+use std::alloc::{AllocError, Global};
+use std::marker::Model;
+
+/// The slot of each row that is in the table now, by id: a hash map beside a store. Contracts see it as its list of
+/// pairs of id and slot.
+///
+/// [`Store::plan_at`] and [`Store::apply_at`] go by it, and keep it that of the store. (this project)
+#[derive(Drop)]
+pub struct Index {
+    slots: IndexMap<u64, usize>,
+}
+
+impl Model for Index {
+    ghost use Rattle.std.specs.Prelude.{ℕ, List};
+
+    ghost Value = { List (ℕ × ℕ) };
+
+    ghost view = { λ index. index.slots.entries };
+}
+
+impl Index {
+    /// The index of a store, with room for all its slots where memory allows. Reads each slot once.
+    pub fn new(alloc: Global, store: &Store) -> Result<Index, AllocError>
+        ensures { IfOk result (λ index. IsIndexOf store.now index) }
+    {
+        store.index(alloc)
+    }
+
+    /// An index of no rows, with room for this many.
+    pub(crate) fn with_room(alloc: Global, room: usize) -> Result<Index, AllocError>
+        ensures { IfOk result (λ index. index ≡ []) }
+    {
+        let slots = IndexMap::with_capacity(alloc, room)?;
+        Ok(Index { slots })
+    }
+
+    /// The slot of the row of this id, where the table has it.
+    pub fn slot(&self, id: u64) -> Option<usize>
+        ensures { result ≡ slot_of self.now id }
+    {
+        self.slots.get(&id).copied()
+    }
+
+    /// Puts the slot of a new row. `Err` is want of memory, and leaves the index as it was.
+    pub fn put(&mut self, alloc: Global, id: u64, slot: usize) -> Result<(), AllocError>
+        ensures put { OnOk result (Points self.old id (Some slot) self.new) }
+        ensures err { OnErr result (self.new ≡ self.old) }
+    {
+        match self.slots.insert(id, slot) {
+            Ok(_) => Ok(()),
+            Err(_) => Err(AllocError),
+        }
+    }
+
+    /// Moves a row that the index has to this slot. Takes no memory.
+    pub fn set(&mut self, id: u64, slot: usize)
+        requires { is_some (slot_of self.old id) ≡ true }
+        ensures { Points self.old id (Some slot) self.new }
+    {
+        if self.slots.insert(id, slot).is_err() {
+            unreachable!()
+        }
+    }
+
+    /// Takes a row out, where it is there. Takes no memory.
+    pub fn take(&mut self, id: u64)
+        ensures { Points self.old id None self.new }
+    {
+        self.slots.swap_remove(&id);
+    }
+
+    /// Puts the row that a planned op adds, before the op is done, so that [`Store::apply_at`] takes no memory.
+    /// `Err` is want of memory, comes only for an op that adds a row, and leaves the index as it was.
+    pub fn prepare(&mut self, alloc: Global, op: &Op) -> Result<(), AllocError>
+        ensures prepared { OnOk result (Prepares op.now.outcome op.now.slot self.old self.new) }
+        ensures err { OnErr result (self.new ≡ self.old) }
+        ensures refused { OnErr result (adds op.now.outcome ≡ true) }
+    {
+        match (op.outcome, op.slot) {
+            (Outcome::Added(id), Some(slot)) => self.put(alloc, id, slot as usize),
+            _ => Ok(()),
+        }
+    }
+
+    /// Takes out again what was put for an op that won't be done: then the index is the store's as before.
+    pub fn withdraw(&mut self, op: &Op)
+        ensures out { Withdraws op.now.outcome self.old self.new }
+        ensures index { (contents : Contents) (state : State) → StandsFor contents state → IsPlan contents op.now.client op.now.call op.now → IsReady contents op.now self.old → IsIndexOf contents self.new }
+    {
+        if let Outcome::Added(id) = op.outcome {
+            self.take(id);
+        }
+    }
+
+    /// Goes along with an op that was done: the row that its call ended now stands in the op's slot, or is gone.
+    pub(crate) fn follow(&mut self, op: &Op)
+        requires { (id : ℕ) → ended op.now.call ≡ id ∷ [] → succeeds op.now.outcome ≡ true → is_some (slot_of self.old id) ≡ true }
+        ensures { Follows op.now self.old self.new }
+    {
+        if !op.outcome.succeeds() {
+            return;
+        }
+        if let Some(id) = op.call.ended() {
+            match op.slot {
+                Some(slot) => self.set(id, slot as usize),
+                None => self.take(id),
+            }
+        }
+    }
+}
