@@ -1,0 +1,109 @@
+-- Legal operations: how a list of them grows, and what its store stands for.
+use Rattle.std.proofs.Common.{◌≡◌, ◌+◌, ◌-◌, ◌≤◌, true, List, [], ◌∷◌, ◌++◌, map, length, replicate, Option, is_some, refl, sym, ap, ◌∙◌, subst, arith}
+use mathlib.Core.List.{IsPrefix}
+use Rattle.std.proofs.lemmas.List.{map-append}
+use Rattle.pref_core.specs.declared.store.version.Version.{Version}
+use Rattle.pref_core.specs.declared.call.Op.{Op}
+use Rattle.pref_core.specs.Limits.{AreAllowed}
+use Rattle.pref_core.specs.State.{State, after}
+use Rattle.pref_core.specs.Slots.{Contents, StandsFor}
+use Rattle.pref_core.specs.Operations.{IsLegal as IsLegalAt, applied, ran, is_next, slots_after}
+use Rattle.pref_core.specs.History.{state_after, numbered_of, AreLegalOps}
+use Rattle.pref_core.proofs.Legal.{applied_stands, is_next-from, IsNext-from}
+use Rattle.pref_core.proofs.Shown.{length-applied, length-ran}
+use Rattle.pref_core.proofs.Histories.{ops_are_history}
+use Rattle.pref_core.proofs.Openings.{opened_stands}
+use Rattle.pref_share.specs.Openings.{Opening, IsLegal, MayFollow, LegalIsHistory, first_contents, first_state, history_of, contents_at, state_at}
+use Rattle.pref_share.specs.Views.{AreLetIn}
+
+abbrev pub reached : Contents → State → List Op → State
+reached contents state ops = state_after (length contents.slots) state (map numbered_of ops)
+
+pub ran-append : (contents : Contents) (xs ys : List Op) → ran contents (xs ++ ys) ≡ ran (ran contents xs) ys
+ran-append contents [] ys = refl
+ran-append contents (x ∷ xs) ys = ran-append (applied contents x) xs ys
+
+pub legal_beginning : (contents : Contents) (state : State) (xs ys : List Op) → AreLegalOps state contents (xs ++ ys) → AreLegalOps state contents xs
+legal_beginning contents state [] ys legal = tt
+legal_beginning contents state (x ∷ xs) ys legal = (legal.0, legal_beginning (applied contents x) (after (length contents.slots) state x.client x.call) xs ys legal.1)
+
+pub legal_rest : (contents : Contents) (state : State) (xs ys : List Op) → StandsFor contents state → AreLegalOps state contents (xs ++ ys) → AreLegalOps (reached contents state xs) (ran contents xs) ys
+legal_rest contents state [] ys stands legal = legal
+legal_rest contents state (x ∷ xs) ys stands legal =
+    let next = after (length contents.slots) state x.client x.call in
+    let size = length-applied contents state x stands legal.0 in
+    subst (λ n. AreLegalOps (state_after n next (map numbered_of xs)) (ran (applied contents x) xs) ys) size
+    (legal_rest (applied contents x) next xs ys (applied_stands contents state x stands legal.0) legal.1)
+
+pub legal_append : (contents : Contents) (state : State) (xs ys : List Op) → StandsFor contents state → AreLegalOps state contents xs → AreLegalOps (reached contents state xs) (ran contents xs) ys → AreLegalOps state contents (xs ++ ys)
+legal_append contents state [] ys stands legal more = more
+legal_append contents state (x ∷ xs) ys stands legal more =
+    let next = after (length contents.slots) state x.client x.call in
+    let size = length-applied contents state x stands legal.0 in (
+      legal.0,
+      legal_append (applied contents x) next xs ys (applied_stands contents state x stands legal.0) legal.1
+          (subst (λ n. AreLegalOps (state_after n next (map numbered_of xs)) (ran (applied contents x) xs) ys) (sym size) more),
+    )
+
+-- what the test of each operation lets in is legal, ..
+pub legal_from_let_in : (contents : Contents) (state : State) (ops : List Op) → StandsFor contents state → AreLetIn contents ops → AreLegalOps state contents ops
+legal_from_let_in contents state [] stands let_in = tt
+legal_from_let_in contents state (op ∷ ops) stands let_in =
+    let legal : IsLegalAt state contents op = record { next = IsNext-from contents state op stands let_in.0; fits = let_in.1 } in
+    (legal, legal_from_let_in (applied contents op) (after (length contents.slots) state op.client op.call) ops (applied_stands contents state op stands legal) let_in.2)
+
+-- .. and the other way round
+pub let_in_from_legal : (contents : Contents) (state : State) (ops : List Op) → StandsFor contents state → AreLegalOps state contents ops → AreLetIn contents ops
+let_in_from_legal contents state [] stands legal = tt
+let_in_from_legal contents state (op ∷ ops) stands legal =
+    (is_next-from contents state op stands legal.0.next, legal.0.fits, let_in_from_legal (applied contents op) (after (length contents.slots) state op.client op.call) ops (applied_stands contents state op stands legal.0) legal.1)
+
+-- the opening, over which all histories of a board stand
+pub opens : (o : Opening) → length o.rows ≤ o.limits.capacity → StandsFor (first_contents o) (first_state o) × (length (first_contents o).slots ≡ o.limits.capacity)
+opens o fits = opened_stands o.limits.clients o.limits.capacity o.rows (first_contents o) fits refl refl refl refl
+
+pub state_at_is : (o : Opening) (ops : List Op) → length o.rows ≤ o.limits.capacity → reached (first_contents o) (first_state o) ops ≡ state_at o ops
+state_at_is o ops fits = ap (λ n. state_after n (first_state o) (history_of ops)) (opens o fits).1
+
+pub legal_stands : (o : Opening) (ops : List Op) → IsLegal o ops → StandsFor (contents_at o ops) (state_at o ops)
+legal_stands o ops legal =
+    subst (StandsFor (contents_at o ops)) (state_at_is o ops legal.fits) (ops_are_history (first_contents o) (first_state o) ops (opens o legal.fits).0 legal.each).1
+
+pub legal_capacity : (o : Opening) (ops : List Op) → length o.rows ≤ o.limits.capacity → length (contents_at o ops).slots ≡ o.limits.capacity
+legal_capacity o ops fits = length-ran ops (first_contents o) ∙ (opens o fits).1
+
+pub legal_is_history : LegalIsHistory
+legal_is_history o ops legal =
+    let opened = opens o legal.fits in
+    subst (λ n. Rattle.pref_core.specs.History.IsLegalHistory n (first_state o) (history_of ops)) opened.1 (ops_are_history (first_contents o) (first_state o) ops opened.0 legal.each).0
+
+pub contents_at-append : (o : Opening) (xs ys : List Op) → contents_at o (xs ++ ys) ≡ ran (contents_at o xs) ys
+contents_at-append o xs ys = ran-append (first_contents o) xs ys
+
+-- a beginning of a legal history is legal, and what follows is legal there
+pub legal-prefix : (o : Opening) (xs ys : List Op) → IsPrefix xs ys → IsLegal o ys → IsLegal o xs
+legal-prefix o xs ys p legal = record {
+  allowed = legal.allowed;
+  fits = legal.fits;
+  each = legal_beginning (first_contents o) (first_state o) xs p.0 (subst (AreLegalOps (first_state o) (first_contents o)) (sym p.1) legal.each);
+}
+
+pub legal-rest : (o : Opening) (xs ys : List Op) → IsLegal o (xs ++ ys) → AreLegalOps (state_at o xs) (contents_at o xs) ys
+legal-rest o xs ys legal =
+    subst (λ s. AreLegalOps s (contents_at o xs) ys) (state_at_is o xs legal.fits) (legal_rest (first_contents o) (first_state o) xs ys (opens o legal.fits).0 legal.each)
+
+-- one more operation
+pub legal-more : (o : Opening) (xs : List Op) (op : Op) → IsLegal o xs → MayFollow o xs op → IsLegal o (xs ++ op ∷ [])
+legal-more o xs op legal may = record {
+  allowed = legal.allowed;
+  fits = legal.fits;
+  each = legal_append (first_contents o) (first_state o) xs (op ∷ []) (opens o legal.fits).0 legal.each
+      (subst (λ s. AreLegalOps s (contents_at o xs) (op ∷ [])) (sym (state_at_is o xs legal.fits)) (may, tt));
+}
+
+state_after-append : (n : _) (state : State) (xs ys : List Op) → state_after n state (map numbered_of (xs ++ ys)) ≡ state_after n (state_after n state (map numbered_of xs)) (map numbered_of ys)
+state_after-append n state [] ys = refl
+state_after-append n state (x ∷ xs) ys = state_after-append n (after n state x.client x.call) xs ys
+
+pub state_at-append : (o : Opening) (xs ys : List Op) → state_at o (xs ++ ys) ≡ state_after o.limits.capacity (state_at o xs) (history_of ys)
+state_at-append o xs ys = state_after-append o.limits.capacity (first_state o) xs ys

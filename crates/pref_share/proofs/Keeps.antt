@@ -1,0 +1,143 @@
+-- The steps of the writer and of the readers keep the rule.
+use Rattle.std.proofs.Common.{◌≡◌, ◌≢◌, ℕ, List, [], ◌∷◌, ◌++◌, length, set, fold, true, false, is_some, Some, refl, ap, sym, subst, ◌∙◌, ⊎_elim, arith}
+use mathlib.Core.Option.{some}
+use lib.ListN.{get_elem?}
+use Rattle.logbook.specs.Pages.{Book}
+use Rattle.crossbeam_utils.specs.Register.{Admits, TurnsAt, Forks, Merges}
+use Rattle.atomic_table.proofs.Lists.{at_set, at_snoc}
+use Rattle.std.proofs.lemmas.List.Sums.{fold-append}
+use Rattle.pref_core.specs.declared.call.Op.{Op}
+use Rattle.pref_core.specs.Slots.{Contents}
+use Rattle.pref_core.specs.Operations.{applied, ran, is_next, slots_after}
+use Rattle.pref_core.proofs.Legal.{is_next-from}
+use Rattle.pref_share.specs.Openings.{Opening, IsLegal, MayFollow, first_contents, contents_at, state_at}
+use Rattle.pref_share.proofs.Histories.{ran-append, legal_stands}
+use Rattle.pref_share.specs.declared.published.Base.{Base}
+use Rattle.pref_share.specs.declared.published.View.{View}
+use Rattle.pref_share.specs.declared.published.Published.{Published}
+use Rattle.pref_share.specs.declared.published.Stamp.{Stamp}
+use Rattle.pref_share.specs.Views.{stamped, StandsFor, Fits, Kept, newcomer, Knows, Opens, Stays, Reads, AreLetIn}
+
+fits_newcomer : (opening : Contents) (book : Book) → Fits opening book newcomer
+fits_newcomer opening book = record { has_opening = (λ b e. absurd cc); has_book = (λ b e. absurd cc) }
+
+AllFit : Contents → Book → List View → Type 0
+AllFit opening book views = (seat : ℕ) (v : View) → get_elem? views seat ≡ some v → Fits opening book v
+
+set_fits : (opening : Contents) (book : Book) (views : List View) (seat : ℕ) (w : View) → Fits opening book w → ((k : ℕ) (v : View) → get_elem? views k ≡ some v → Fits opening book v)
+    → (k : ℕ) (v : View) → get_elem? (set views seat w) k ≡ some v → Fits opening book v
+set_fits opening book views seat w fit each k v e =
+    ⊎_elim (λ (t : (k ≡ seat) × (w ≡ v)). subst (Fits opening book) t.1 fit) (λ (t : (k ≢ seat) × (get_elem? views k ≡ some v)). each k v t.1) (at_set views seat k w v e)
+
+snoc_fits : (opening : Contents) (book : Book) (views : List View) (w : View) → Fits opening book w → ((k : ℕ) (v : View) → get_elem? views k ≡ some v → Fits opening book v)
+    → (k : ℕ) (v : View) → get_elem? (views ++ w ∷ []) k ≡ some v → Fits opening book v
+snoc_fits opening book views w fit each k v e = ⊎_elim (each k v) (λ (same : w ≡ v). subst (Fits opening book) same fit) (at_snoc views w v k e)
+
+pub admits : Admits Kept newcomer
+admits x views k = record { opening = k.opening; book = k.book; stands = k.stands; each = snoc_fits k.opening k.book views newcomer (fits_newcomer k.opening k.book) k.each }
+
+-- the first copy, with one seat that knows nothing
+pub kept_first : (x : Published) → x.seen.log ≡ [] → x.len ≡ 0 → Kept x (newcomer ∷ [])
+kept_first x empty none = record {
+  opening = x.store;
+  book = x.seen.book;
+  stands = record {
+    legal = subst (AreLetIn x.store) (sym empty) tt;
+    store = ap (ran x.store) (sym empty);
+    len = none ∙ ap length (sym empty);
+    in_book = refl;
+  };
+  each = snoc_fits x.store x.seen.book [] newcomer (fits_newcomer x.store x.seen.book) (λ k v e. absurd cc);
+}
+
+-- one seat changes its view
+reviewed : (x : Published) (views : List View) (seat : ℕ) (w : View) (k : Kept x views) → Fits k.opening k.book w → Kept x (set views seat w)
+reviewed x views seat w k fit = record { opening = k.opening; book = k.book; stands = k.stands; each = set_fits k.opening k.book views seat w fit k.each }
+
+base_of : Contents → Published → Base
+base_of opening x = record { opening = opening; seen = x.seen }
+
+pub opens : (seat : ℕ) (v : View) (x y : Published) → y ≡ x → TurnsAt Kept seat v x y Opens
+unfolding base_of
+opens seat v x y same views k at =
+    let w : View = record { base = Some (base_of k.opening x) } in
+    let back : (b : Base) → w.base ≡ Some b → base_of k.opening x ≡ b = λ (b : Base). λ e. cc in
+    let fit : Fits k.opening k.book w = record {
+      has_opening = (λ b e. sym (ap (λ (t : Base). t.opening) (back b e)));
+      has_book = (λ b e. sym (ap (λ (t : Base). t.seen.book) (back b e)) ∙ k.stands.in_book);
+    } in (
+      w,
+      subst (λ (z : Published). Kept z (set views seat w)) (sym same) (reviewed x views seat w k fit),
+      (λ empty. record { at = base_of k.opening x; known = refl; has_opening = sym (k.stands.store ∙ ap (ran k.opening) empty); has_book = refl }),
+    )
+
+pub stays : (seat : ℕ) (v : View) (x y : Published) (opening : Contents) (book : Book) → Knows opening book v → StandsFor opening book y → TurnsAt Kept seat v x y Stays
+stays seat v x y opening book knows stands views k at =
+    let f = k.each seat v at in
+    let o : opening ≡ k.opening = sym knows.has_opening ∙ f.has_opening knows.at knows.known in
+    let b : book ≡ k.book = sym knows.has_book ∙ f.has_book knows.at knows.known in
+    let stands' : StandsFor k.opening k.book y = subst (λ (s : Contents). StandsFor s k.book y) o (subst (λ (t : Book). StandsFor opening t y) b stands) in (
+      v,
+      record { opening = k.opening; book = k.book; stands = stands'; each = set_fits k.opening k.book views seat v f k.each },
+      refl,
+    )
+
+pub reads : (seat : ℕ) (v : View) (x : Published) → TurnsAt Kept seat v x x Reads
+reads seat v x views k at =
+    let f = k.each seat v at in (
+      v,
+      reviewed x views seat v k f,
+      (
+        refl,
+        (λ opening book knows.
+            let o : k.opening ≡ opening = sym (f.has_opening knows.at knows.known) ∙ knows.has_opening in
+            let b : k.book ≡ book = sym (f.has_book knows.at knows.known) ∙ knows.has_book in
+            subst (λ (s : Contents). StandsFor s book x) o (subst (λ (t : Book). StandsFor k.opening t x) b k.stands)),
+      ),
+    )
+
+pub tells : (seat : ℕ) (v : View) → Forks Kept seat v v v
+tells seat v x views k at =
+    let f = k.each seat v at in
+    record { opening = k.opening; book = k.book; stands = k.stands; each = snoc_fits k.opening k.book (set views seat v) v f (set_fits k.opening k.book views seat v f k.each) }
+
+pub hears : (seat : ℕ) (v : View) (other : ℕ) (w : View) → Merges Kept seat v other w w newcomer
+hears seat v other w x views k at apart there =
+    let n : Fits k.opening k.book w = ⊎_elim (λ (t : (other ≡ seat) × (w ≡ w)). absurd (apart t.0)) (λ (t : (other ≢ seat) × (get_elem? views other ≡ some w)). k.each other w t.1) (at_set views seat other w w there) in
+    record { opening = k.opening; book = k.book; stands = k.stands; each = set_fits k.opening k.book (set views seat w) other newcomer (fits_newcomer k.opening k.book) (set_fits k.opening k.book views seat w n k.each) }
+
+let_in_more : (contents : Contents) (xs : List Op) (op : Op) → AreLetIn contents xs → is_next (ran contents xs) op ≡ true → is_some (slots_after (ran contents xs) op) ≡ true → AreLetIn contents (xs ++ op ∷ [])
+let_in_more contents [] op let_in next fits = (next, fits, tt)
+let_in_more contents (x ∷ xs) op let_in next fits = (let_in.0, let_in.1, let_in_more (applied contents x) xs op let_in.2 next fits)
+
+-- the copy after the stamp of the next operation stands for the history with it
+pub stamped_stands : (opening : Contents) (book : Book) (x : Published) (s : Stamp) → StandsFor opening book x → s.seen.log ≡ x.seen.log ++ s.op ∷ [] → is_next (ran opening x.seen.log) s.op ≡ true → is_some (slots_after (ran opening x.seen.log) s.op) ≡ true
+    → s.len ≡ length s.seen.log → s.seen.book ≡ book → StandsFor opening book (stamped x s)
+stamped_stands opening book x s stands ends next fits len in_book = record {
+  legal = subst (AreLetIn opening) (sym ends) (let_in_more opening x.seen.log s.op stands.legal next fits);
+  store = ap (λ (t : Contents). applied t s.op) stands.store ∙ (sym (ran-append opening x.seen.log (s.op ∷ [])) ∙ ap (ran opening) (sym ends));
+  len = len;
+  in_book = in_book;
+}
+
+-- no store lets in a call of nobody
+nobody : (contents : Contents) (op : Op) → op.client ≡ 0 → is_next contents op ≡ false
+nobody contents op none = rw none refl
+
+pub blank_keeps : (x : Published) (s : Stamp) → s.op.client ≡ 0 → s.len ≡ x.len → s.seen ≡ x.seen → stamped x s ≡ x
+blank_keeps x s none len seen =
+    let same : applied x.store s.op ≡ x.store = rw (nobody x.store s.op none) refl in
+    λ i. record { store = same i; len = len i; seen = seen i }
+
+-- one more stamp of no call
+pub blank_more : (x : Published) (ops : List Stamp) (s : Stamp) → fold stamped x ops ≡ x → s.op.client ≡ 0 → s.len ≡ x.len → s.seen ≡ x.seen → fold stamped x (ops ++ s ∷ []) ≡ x
+blank_more x ops s so none len seen = fold-append stamped x ops (s ∷ []) ∙ (ap (λ (y : Published). stamped y s) so ∙ blank_keeps x s none len seen)
+
+-- the copy that a planned operation leaves
+pub published_next : (o : Opening) (book : Book) (x : Published) (s : Stamp) (history : List Op) → IsLegal o history → x.seen.log ≡ history → StandsFor (first_contents o) book x → MayFollow o history s.op → s.seen.log ≡ history ++ s.op ∷ [] → s.len ≡ length s.seen.log → s.seen.book ≡ book
+    → StandsFor (first_contents o) book (stamped x s)
+published_next o book x s history legal same stands may ends len in_book =
+    let next : is_next (contents_at o history) s.op ≡ true = is_next-from (contents_at o history) (state_at o history) s.op (legal_stands o history legal) may.next in
+    stamped_stands (first_contents o) book x s stands (ends ∙ ap (λ (l : List Op). l ++ s.op ∷ []) (sym same))
+    (subst (λ (l : List Op). is_next (ran (first_contents o) l) s.op ≡ true) (sym same) next)
+    (subst (λ (l : List Op). is_some (slots_after (ran (first_contents o) l) s.op) ≡ true) (sym same) may.fits) len in_book

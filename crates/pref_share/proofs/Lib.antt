@@ -1,0 +1,12 @@
+pub mod Prefixes
+pub mod Adding
+pub mod Histories
+pub mod Counting
+pub mod Seen
+pub mod Keeps
+pub mod Standings
+pub mod Lists
+pub mod Acting
+pub mod Refusing
+pub mod Running
+pub mod Sending

@@ -1,0 +1,66 @@
+-- A client and its acts may go to another thread: a question is a tree, which crosses with its parts.
+use denote.RattleType.{RattleType}
+use denote.Param.Send.{IsSend, sendable, view_send}
+use denote.Param.SendFields.{declared_send, variants_send, as_row_send}
+use Rattle.std.proofs.Crossing.{frees}
+use Rattle.std.proofs.alloc.Global.TheSendSync as heap
+use Rattle.std.proofs.boxed.Box.TheSendSync as boxes
+use Rattle.std.proofs.vec.Vec.TheSendSync as vectors
+use Rattle.std.specs.contracts.alloc.Global as global
+use Rattle.pref_table.proofs.row.Row.TheSendSync as rows
+use Rattle.pref_term.proofs.term.Term.TheLaws.TheKnot as knot
+use Rattle.pref_term.proofs.term.Numbers.TheSendSync as numbers
+use Rattle.pref_term.proofs.ask.Mode.TheSendSync as modes
+use Rattle.pref_term.specs.contracts.ask.Ask as ask
+use Rattle.pref_term.specs.contracts.term.Term as term
+use Rattle.pref_sky.proofs.partial.Partial.TheSendSync as partials
+use Rattle.std.proofs.option.Option.TheSendSync as options
+use Rattle.left_right.proofs.reader.Reader.TheSendSync as readers
+use Rattle.pref_core.proofs.setup.Setup.TheSendSync as setups
+use Rattle.pref_share.proofs.history.Prefix.TheSendSync as prefixes
+use Rattle.pref_share.proofs.published.Published.TheSendSync as published
+use Rattle.pref_core.specs.contracts.event.Act as act
+use Rattle.pref_share.specs.contracts.client.Asking as asking
+use Rattle.pref_share.specs.contracts.client.Asking.TheInside as asking_fields
+use Rattle.pref_share.specs.contracts.client.Client.TheInside as client_fields
+use Rattle.pref_share.specs.contracts.client.Client as client
+use Rattle.pref_core.specs.contracts.query.Query as query
+
+pub term_send : IsSend (term.the_field).row
+term_send = knot.send-Term (search sendable) (search sendable) numbers.the_send (λ h s. boxes.the_send h global.the_row _ s heap.the_send frees)
+
+pub ask_send : IsSend ask.the_row
+ask_send = search (sendable, declared_send, as_row_send, term_send, modes.the_send, vectors.the_send, heap.the_send, frees) depth 14
+
+pub act_send : IsSend act.the_row
+act_send = search (sendable, variants_send, as_row_send, ask_send, rows.the_send) depth 14
+
+pub query_send : IsSend query.the_row
+query_send = search (sendable, declared_send, as_row_send, ask_send, partials.the_send) depth 14
+
+asking_inside : (J : RattleType) (N : _) → IsSend (asking_fields.the_row J N)
+asking_inside J N = search (sendable, declared_send, as_row_send, query_send, prefixes.the_send) depth 14
+
+asking_send : (J : RattleType) (N : _) → IsSend (asking.the_row J N)
+asking_send J N = view_send _ _ _ _ _ (asking_inside J N)
+
+client_inside : (J : RattleType) (N : _) → IsSend (client_fields.the_row J N)
+client_inside J N = declared_send (client_fields.the_type J N) (
+  search (sendable, as_row_send),
+  (
+    search (sendable, as_row_send),
+    (
+      search (sendable, as_row_send, setups.the_send),
+      (
+        search (sendable, as_row_send, prefixes.the_send),
+        (
+          search (sendable, as_row_send, options.the_send, asking_send),
+          (search (sendable, as_row_send, readers.the_field_send, heap.the_send, published.the_sync, heap.the_sync, frees) depth 9, tt),
+        ),
+      ),
+    ),
+  ),
+)
+
+pub client_send : (J : RattleType) (N : _) → IsSend (client.the_row J N)
+client_send J N = view_send _ _ _ _ _ (client_inside J N)

@@ -1,0 +1,15 @@
+use Rattle.std.proofs.Common.{◌≡◌, suc, ◌+◌, sym, subst, arith}
+use Rattle.pref_share.specs.Standing.{Standing}
+use Rattle.pref_share.specs.Following.{IsJoined}
+use Rattle.pref_share.proofs.Standings.{stands_ended}
+use Rattle.pref_share.proofs.client.Client.end.Goals as goal
+
+pub invariant_of-self : goal.invariant_of-self
+invariant_of-self g c =
+    let o = g.J.Naming.opening in
+    let s = c.self.inside in
+    let mine : Standing = record { number = s.number; counter = s.counter; seen = s.seen; query = s.asking } in
+    let j = c.in-Ok.joined in
+    let joined : IsJoined o mine c.args.call.now j.outcome j.seen j.stamp = subst (λ (x : Standing). IsJoined o x c.args.call.now j.outcome j.seen j.stamp) (sym c.self.view_is) c.in-Ok.ensures.joined in
+    let up : s.counter + 1 ≡ suc s.counter = omega arith in
+    (c.self.invariant.0, c.self.invariant.1, stands_ended o mine c.args.call.now j.outcome j.seen j.stamp (s.counter + 1) c.self.invariant.2 joined c.requires.ends up)

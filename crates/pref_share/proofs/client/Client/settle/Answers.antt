@@ -1,0 +1,33 @@
+use Rattle.std.proofs.Common.{◌≡◌, ℕ, suc, ◌+◌, List, subst, ◌∙◌, ap, sym, arith}
+use Rattle.std.specs.Option.{unwrap_or}
+use Rattle.pref_core.specs.declared.call.Op.{Op}
+use Rattle.pref_share.specs.Openings.{HasCall, calls_at}
+use Rattle.pref_share.proofs.Standings.{ahead, even}
+use Rattle.pref_share.proofs.client.Client.settle.Goals as goal
+
+pub returns-then-last-self-clause-stops : goal.returns-then-last-self-clause-stops
+returns-then-last-self-clause-stops g c =
+    let o = g.J.Naming.opening in
+    let history = c.args.master.now in
+    let number = c.self.inside.number in
+    let counter = c.self.inside.counter in
+    let last : c.last.result ≡ unwrap_or (calls_at o history number) 0 = c.last.ensures ∙ ap (λ (l : List Op). unwrap_or (calls_at o l number) 0) c.check.ensures.same in
+    let next : suc counter ≡ counter + 1 = omega arith in
+    record {
+      client = number;
+      seen = history;
+      legal = c.check.ensures.legal;
+      holds = subst (HasCall history number) next (ahead o number counter c.last.result c.self.inside.seen history c.self.inside.asking c.self.invariant.2 c.check.ensures.begins c.check.ensures.legal last c.if-last-self.true);
+    }
+
+pub returns-clause-settled : goal.returns-clause-settled
+returns-clause-settled g c =
+    let o = g.J.Naming.opening in
+    let history = c.args.master.now in
+    let number = c.self.inside.number in
+    let last : c.last.result ≡ unwrap_or (calls_at o history number) 0 = c.last.ensures ∙ ap (λ (l : List Op). unwrap_or (calls_at o l number) 0) c.check.ensures.same in
+    rw (← c.self.view_is)
+    (record {
+      inside = c.check.ensures.begins;
+      alone = even o number c.self.inside.counter c.last.result c.self.inside.seen history c.self.inside.asking c.self.invariant.2 c.check.ensures.begins c.check.ensures.legal last c.if-last-self.false;
+    })

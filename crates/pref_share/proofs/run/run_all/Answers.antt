@@ -1,0 +1,15 @@
+use Rattle.std.proofs.Common.{List, ◌<◌, ℕ, subst, length, get_or, rules}
+use Rattle.pref_share.specs.declared.run.Report.{Report}
+use Rattle.pref_share.specs.Performing.{IsIn}
+use Rattle.pref_share.proofs.Running.{joined}
+use Rattle.pref_share.proofs.run.run_all.Goals as goal
+
+pub returns-clause-joint : goal.returns-clause-joint
+returns-clause-joint g c =
+    let o = g.J.Naming.opening in
+    let whole = c.in_ok-_whole._whole in
+    let all = c.in_ok-reports.reports.items in
+    let settled : (i : ℕ) (d : Report g.row.J.Denot) → i < length all → IsIn o whole (get_or all i d).client =
+    subst (λ (l : List (Report g.row.J.Denot)). (i : ℕ) (d : Report g.row.J.Denot) → i < length l → IsIn o whole (get_or l i d).client) c.deref.ensures.value c.in_ok-_whole.ensures.settled in
+    joined o whole (λ j. j.client) (λ j. j.acts) (λ r. r.client) (λ r. r.replies) c.in_ok-jobs.jobs.items c.in_ok-work_all.field-0.items all c.args.clients.items c.args.acts.items c.in_ok-replies.replies.items
+    c.in_ok-jobs.ensures.paired.0 c.in_ok-jobs.ensures.paired.1 _ c.in_ok-work_all.ensures.each (search rules) (search rules) c.in_ok-reports.ensures.all c.in_ok-_whole.ensures.legal settled c.in_ok-replies.ensures.all

@@ -1,0 +1,120 @@
+-- What a client's numbered calls do. (this project)
+use Rattle.std.specs.Prelude.{◌≡◌, ℕ, suc, ◌<◌, List, [], ◌∷◌, ◌++◌, Option, Some, None, is_some, Result, MatchResult}
+use Rattle.std.specs.Global.{Vec}
+use mathlib.Core.List.{IsPrefix}
+use Rattle.pref_term.specs.Question.{Question}
+use Rattle.pref_sky.specs.declared.entry.Ranked.{Ranked}
+use Rattle.pref_sky.specs.Answers.{answer_of}
+use Rattle.pref_core.specs.declared.call.Op.{Op}
+use Rattle.pref_core.specs.declared.call.Call.{Call}
+use Rattle.pref_core.specs.declared.call.Call.TheVariants.{Begin, Finish}
+use Rattle.pref_core.specs.declared.call.Outcome.{Outcome}
+use Rattle.pref_core.specs.declared.call.Outcome.TheVariants.{Done, NoSuchRow, Full}
+use Rattle.pref_core.specs.declared.fault.CoreFault.{CoreFault}
+use Rattle.pref_core.specs.declared.fault.CoreFault.TheVariants.{NotDone, NoSuchRow as MissingRow, Full as TooFull, OutOfMemory}
+use Rattle.pref_core.specs.Table.{entries}
+use Rattle.pref_core.specs.State.{outcome, refusal_of}
+use Rattle.pref_core.specs.History.{numbered_of}
+use Rattle.pref_core.specs.Scans.{begin}
+use Rattle.pref_core.specs.Limits.{blocks}
+use Rattle.pref_share.specs.declared.fault.ShareFault.{ShareFault}
+use Rattle.pref_share.specs.declared.fault.ShareFault.TheVariants.{Core, ClientInUse, Held, Closed}
+use Rattle.pref_share.specs.declared.fault.BeginFault.{BeginFault}
+use Rattle.pref_share.specs.Openings.{Opening, IsLegal, HasCall, state_at, calls_at}
+use Rattle.pref_share.specs.Standing.{Asking, Standing}
+
+-- why the client's call gets no number, by its own counter and query
+abbrev pub own_refusal : Standing → Call → Option CoreFault
+own_refusal s call = refusal_of (Some s.counter) (is_some s.query) call
+
+-- The call joined the history: what was seen then ends with it, and its outcome is the sequential table's at that place.
+pub record Joins (o : Opening) (old : Standing) (call : Call) (told : Outcome) (new : Standing) : Type 0 where
+  pub accepted : own_refusal old call ≡ None
+  pub before : List Op
+  pub op : Op
+  pub further : IsPrefix old.seen before
+  pub ends : new.seen ≡ before ++ op ∷ []
+  pub is : numbered_of op ≡ record { client = old.number; number = suc old.counter; call = call; outcome = told }
+  pub alone : calls_at o before old.number ≡ Some old.counter
+  pub reply : told ≡ outcome o.limits.capacity (state_at o before) call
+  pub legal : IsLegal o new.seen
+  pub counted : new.counter ≡ suc old.counter
+  pub same : new.number ≡ old.number
+
+-- the same, and the open query stays
+abbrev pub Changes : Opening → Standing → Call → Outcome → Standing → Type 0
+Changes o old call told new = Joins o old call told new × (new.query ≡ old.query)
+
+-- no call was made, and no less was seen
+pub record Sees (o : Opening) (old new : Standing) : Type 0 where
+  pub further : IsPrefix old.seen new.seen
+  pub legal : IsLegal o new.seen
+  pub counted : new.counter ≡ old.counter
+  pub same : new.number ≡ old.number
+  pub query : new.query ≡ old.query
+
+-- what was seen holds a call of this client above its own counter
+pub record IsInUse (o : Opening) (old : Standing) (number : ℕ) (new : Standing) : Type 0 where
+  pub sees : Sees o old new
+  pub holds : HasCall new.seen old.number number
+  pub above : old.counter < number
+
+-- what a refusal of a numbered call tells, where its outcome is no refusal of a change
+abbrev pub Refused : Opening → Standing → Call → CoreFault → Standing → Type 0
+Refused o old call OutOfMemory new = (own_refusal old call ≡ None) × (new ≡ old)
+Refused o old call fault new = (own_refusal old call ≡ Some fault) × (new ≡ old)
+
+-- what a refusal of a change tells: a row that is missing, or a full table, is an outcome of a call that joined
+abbrev pub RefusedChange : Opening → Standing → Call → CoreFault → Standing → Type 0
+RefusedChange o old call (MissingRow id) new = Changes o old call (NoSuchRow id) new
+RefusedChange o old call (TooFull needed) new = Changes o old call (Full needed) new
+RefusedChange o old call fault new = Refused o old call fault new
+
+-- a refusal, by what the client meets
+abbrev pub Refuses : (CoreFault → Type 0) → Opening → Standing → Call → ShareFault → Standing → Type 0
+Refuses core o old call (Core fault) new = core fault
+Refuses core o old call (ClientInUse number) new = (own_refusal old call ≡ None) × IsInUse o old number new
+Refuses core o old call (Held client) new = ⊥
+Refuses core o old call Closed new = ⊥
+
+-- the same, for a change
+abbrev pub RefusesChange : Opening → Standing → Call → ShareFault → Standing → Type 0
+RefusesChange o old call fault new = Refuses (λ core. RefusedChange o old call core new) o old call fault new
+
+-- A query began: it has scanned nothing, and looks at the table as its begin left it.
+pub record Begins (o : Opening) (old : Standing) (ask : Question) (left : ℕ) (new : Standing) : Type 0 where
+  pub joins : Joins o old Begin Done new
+  pub query : new.query ≡ Some (record { scan = begin ask (state_at o new.seen).commits o.limits; begun = new.seen })
+  pub left_is : left ≡ blocks o.limits
+
+-- the open query has no block left, and this is its answer, by the table at its begin
+pub record IsAnswer (o : Opening) (s : Standing) (ranked : List Ranked) : Type 0 where
+  pub asking : Asking
+  pub is_open : s.query ≡ Some asking
+  pub done : asking.scan.left ≡ 0
+  pub answer : ranked ≡ answer_of asking.scan.ask (entries (state_at o asking.begun).table)
+
+-- the open query has so many blocks left
+pub record HasLeft (s : Standing) (left : ℕ) : Type 0 where
+  pub asking : Asking
+  pub is_open : s.query ≡ Some asking
+  pub left_is : left ≡ asking.scan.left
+  pub some : 0 < left
+
+-- A query ended with its answer.
+pub record Finishes (o : Opening) (old : Standing) (ranked : List Ranked) (new : Standing) : Type 0 where
+  pub joins : Joins o old Finish Done new
+  pub query : new.query ≡ None
+  pub answer : IsAnswer o old ranked
+
+abbrev pub RefusedFinish : Opening → Standing → CoreFault → Standing → Type 0
+RefusedFinish o old (NotDone left) new = (own_refusal old Finish ≡ None) × HasLeft old left × (new ≡ old)
+RefusedFinish o old fault new = Refused o old Finish fault new
+
+-- the same, for a finish
+abbrev pub RefusesFinish : Opening → Standing → ShareFault → Standing → Type 0
+RefusesFinish o old fault new = Refuses (λ core. RefusedFinish o old core new) o old Finish fault new
+
+-- the same, for a begin, which hands its ask back
+abbrev pub RefusesBegin : Opening → Standing → Question → BeginFault → Standing → Type 0
+RefusesBegin o old ask refused new = (refused.ask ≡ ask) × Refuses (λ core. Refused o old Begin core new) o old Begin refused.fault new

@@ -1,0 +1,83 @@
+-- No public contract cites this.
+-- What the history that a client has seen says of its counter and its open query.
+use Rattle.std.specs.Prelude.{◌≡◌, ℕ, suc, ◌<◌, ◌≤◌, List, [], ◌∷◌, ◌++◌, Option, Some, None, Result, Ok, Err, MatchResult}
+use Rattle.std.specs.Global.{Vec}
+use mathlib.Core.List.{IsPrefix}
+use Rattle.pref_core.specs.declared.call.Call.{Call}
+use Rattle.pref_core.specs.declared.call.Op.{Op}
+use Rattle.pref_core.specs.declared.call.Outcome.{Outcome}
+use Rattle.pref_core.specs.declared.call.Outcome.TheVariants.{Added, Done, NoSuchRow, Full}
+use Rattle.pref_core.specs.declared.fault.CoreFault.{CoreFault}
+use Rattle.pref_core.specs.declared.fault.CoreFault.TheVariants.{NotDone, NoSuchRow as MissingRow, Full as TooFull, OutOfMemory}
+use Rattle.pref_core.specs.History.{numbered_of}
+use Rattle.pref_core.specs.declared.store.version.Version.{Version}
+use Rattle.pref_core.specs.Scans.{Reads}
+use Rattle.pref_sky.specs.declared.entry.Entry.{Entry}
+use Rattle.pref_core.specs.State.{Snapshot, begun_of}
+use Rattle.pref_core.specs.Queries.{IsOnItsWay}
+use Rattle.pref_share.specs.declared.fault.ShareFault.{ShareFault}
+use Rattle.pref_share.specs.declared.fault.ShareFault.TheVariants.{Core}
+use Rattle.pref_share.specs.Openings.{Opening, IsLegal, MayFollow, HasCall, contents_at, state_at, calls_at}
+use Rattle.pref_share.specs.Standing.{Asking, Standing}
+use Rattle.pref_share.specs.Clients.{HasLeft}
+
+-- what a query found that began at the end of this history
+abbrev pub snapshot_at : Opening → List Op → Snapshot
+snapshot_at o begun = record { table = (state_at o begun).table; commits = (state_at o begun).commits }
+
+-- the open query is the one that the sequential table has here for the client
+pub record Asks (o : Opening) (at : List Op) (number : ℕ) (asking : Asking) : Type 0 where
+  pub begun : IsPrefix asking.begun at
+  pub found : begun_of (state_at o at) number ≡ Some (snapshot_at o asking.begun)
+  pub stamp : asking.scan.stamp ≡ (state_at o asking.begun).commits
+  pub way : IsOnItsWay (contents_at o at).slots asking.scan
+
+-- the same, or none is open
+abbrev pub Follows : Opening → List Op → ℕ → Option Asking → Type 0
+Follows o at number None = begun_of (state_at o at) number ≡ None
+Follows o at number (Some asking) = Asks o at number asking
+
+-- Some beginning of what was seen holds just the calls that the client counts, and has its query.
+pub record Stands (o : Opening) (number counter : ℕ) (seen : List Op) (query : Option Asking) : Type 0 where
+  pub legal : IsLegal o seen
+  pub one_of : (0 < number) × (number ≤ o.limits.clients)
+  pub at : List Op
+  pub before : IsPrefix at seen
+  pub count : calls_at o at number ≡ Some counter
+  pub follows : Follows o at number query
+
+-- A call of the client joined the history, which is this then, with so many commits.
+pub record IsJoined (o : Opening) (old : Standing) (call : Call) (told : Outcome) (seen : List Op) (stamp : ℕ) : Type 0 where
+  pub before : List Op
+  pub op : Op
+  pub further : IsPrefix old.seen before
+  pub legal : IsLegal o before
+  pub may : MayFollow o before op
+  pub ends : seen ≡ before ++ op ∷ []
+  pub is : numbered_of op ≡ record { client = old.number; number = suc old.counter; call = call; outcome = told }
+  pub alone : calls_at o before old.number ≡ Some old.counter
+  pub commits : stamp ≡ (state_at o seen).commits
+
+-- the whole history holds the client's next call
+pub record IsAhead (o : Opening) (old : Standing) (whole : List Op) : Type 0 where
+  pub further : IsPrefix old.seen whole
+  pub legal : IsLegal o whole
+  pub holds : HasCall whole old.number (suc old.counter)
+
+-- the outcome of a change, or the refusal that it is
+abbrev pub done_or_refused : Outcome → Result Outcome ShareFault
+done_or_refused (NoSuchRow id) = Err (Core (MissingRow id))
+done_or_refused (Full needed) = Err (Core (TooFull needed))
+done_or_refused (Added id) = Ok (Added id)
+done_or_refused Done = Ok Done
+
+-- why an open query gives no answer
+abbrev pub GivesNone : Standing → CoreFault → Type 0
+GivesNone s (NotDone left) = HasLeft s left
+GivesNone s OutOfMemory = Unit {0}
+GivesNone s fault = ⊥
+
+-- what the next block of an open query shows, copied out
+abbrev pub ReadsBlock : Option Asking → List (Option Version) → Result (Vec Entry) CoreFault → Type 0
+ReadsBlock None slots shown = ⊥
+ReadsBlock (Some asking) slots shown = Reads asking.scan slots shown

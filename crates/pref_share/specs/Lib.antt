@@ -1,0 +1,10 @@
+pub mod Openings
+pub mod Standing
+pub mod Clients
+pub mod Scanning
+pub mod Runs
+pub mod Performing
+pub mod Following
+pub mod Reached
+pub mod Book
+pub mod Views

@@ -1,0 +1,114 @@
+-- Acts of clients on threads, and when they with their replies are one run of the sequential table. (this project)
+use Rattle.std.specs.Prelude.{◌≡◌, ℕ, suc, ◌<◌, ◌≤◌, List, [], ◌∷◌, ◌++◌, length, slice_get, Option, Some, None, ◌⊎◌}
+use Rattle.std.specs.Option.{option_map}
+use Rattle.std.specs.Global.{Vec}
+use mathlib.Core.List.{IsPrefix}
+use Rattle.pref_core.specs.declared.call.Op.{Op}
+use Rattle.pref_core.specs.declared.call.Call.{Call}
+use Rattle.pref_core.specs.declared.call.Call.TheVariants.{Insert as CallInsert, Update as CallUpdate, Delete as CallDelete, Begin as CallBegin, Finish as CallFinish, Abandon as CallAbandon}
+use Rattle.pref_core.specs.declared.event.Act.{Act}
+use Rattle.pref_core.specs.declared.event.Act.TheVariants.{Insert, Update, Delete, Begin, Scan, Finish, Abandon, Get, Room}
+use Rattle.pref_core.specs.declared.event.Reply.{Reply}
+use Rattle.pref_core.specs.declared.fault.CoreFault.{CoreFault}
+use Rattle.pref_core.specs.declared.fault.CoreFault.TheVariants.{OutOfMemory}
+use Rattle.pref_core.specs.State.{State, seat}
+use Rattle.pref_core.specs.Step.{Open, Member, System, Step, state_of, step}
+use Rattle.pref_share.specs.declared.fault.ShareFault.{ShareFault}
+use Rattle.pref_share.specs.declared.fault.ShareFault.TheVariants.{Core, ClientInUse, Held, Closed}
+use Rattle.pref_share.specs.Openings.{Opening, IsLegal, HasCall, state_at, calls_at}
+use Rattle.pref_share.specs.Standing.{Asking, Standing}
+
+-- the open query of a client, as its own acts give it: the table at its begin is that of the history that it began at
+abbrev pub open_of : Opening → Asking → Open
+open_of o asking = record { ask = asking.scan.ask; table = (state_at o asking.begun).table; commits = (state_at o asking.begun).commits; left = asking.scan.left }
+
+-- the client, as its own acts give it
+abbrev pub member_of : Opening → Standing → Member
+member_of o s = record { calls = s.counter; query = option_map (open_of o) s.query }
+
+-- the numbered call that an act is
+abbrev pub call_of : Act → Option Call
+call_of (Insert row) = Some (CallInsert row)
+call_of (Update id row) = Some (CallUpdate id row)
+call_of (Delete id) = Some (CallDelete id)
+call_of (Begin ask) = Some CallBegin
+call_of Finish = Some CallFinish
+call_of Abandon = Some CallAbandon
+call_of act = None
+
+-- the step of the sequential table for a client's act
+abbrev pub step_by : Opening → Standing → Act → System → Step
+step_by o s act system = step o.limits system (record { client = s.number; act = act })
+
+-- In a system that has this client as its own acts give it, the sequential table gives this reply, goes on to the state of
+-- the history that was seen then, and has the client as its acts give it then.
+pub record IsStep (o : Opening) (s : Standing) (act : Act) (reply : Reply) (t : Standing) (system : System) : Type 0 where
+  pub reply_is : (step_by o s act system).reply ≡ reply
+  pub state : state_of (step_by o s act system).next ≡ state_at o t.seen
+  pub member : seat s.number (step_by o s act system).next.members ≡ Some (member_of o t)
+
+-- no call joined the history, and the act was answered at what was seen then
+pub record Looks (s t : Standing) (at : List Op) : Type 0 where
+  pub seen : t.seen ≡ at
+  pub counted : t.counter ≡ s.counter
+
+-- the act is a call that joined the history, behind the place where it was answered
+pub record Adds (o : Opening) (s : Standing) (act : Act) (t : Standing) (at : List Op) : Type 0 where
+  pub op : Op
+  pub seen : t.seen ≡ at ++ op ∷ []
+  pub call : call_of act ≡ Some op.call
+  pub by : op.client ≡ s.number
+  pub number : op.number ≡ suc s.counter
+  pub counted : t.counter ≡ suc s.counter
+  pub alone : calls_at o at s.number ≡ Some s.counter
+
+-- One act: at some place of the history, no earlier than what was seen before, its reply is the sequential table's, whatever the
+-- other clients ask and however many blocks they have left.
+pub record StepsTo (o : Opening) (s : Standing) (act : Act) (reply : Reply) (t : Standing) : Type 0 where
+  pub at : List Op
+  pub further : IsPrefix s.seen at
+  pub legal : IsLegal o t.seen
+  pub same : t.number ≡ s.number
+  pub joins : Looks s t at ⊎ Adds o s act t at
+  pub told : (system : System) → state_of system ≡ state_at o at → seat s.number system.members ≡ Some (member_of o s) → IsStep o s act reply t system
+
+-- acts in order, with the reply to each, and how the client stands after each
+pub data Runs (o : Opening) (s : Standing) : List Act → List Reply → List Standing → Standing → Type 0 where
+  none : Runs o s [] [] [] s
+  then : (acts : List Act) (replies : List Reply) (stands : List Standing) (t : Standing) (act : Act) (reply : Reply) (u : Standing) → Runs o s acts replies stands t → StepsTo o t act reply u
+      → Runs o s (acts ++ act ∷ []) (replies ++ reply ∷ []) (stands ++ u ∷ []) u
+
+-- some acts with their replies, from one standing to another
+pub record RunsTo (o : Opening) (s : Standing) (acts : List Act) (replies : List Reply) (t : Standing) : Type 0 where
+  pub stands : List Standing
+  pub runs : Runs o s acts replies stands t
+
+-- One client's acts with their replies are its part of the history: it has seen a beginning of it, and the history holds just the
+-- calls that it made.
+pub record IsPart (o : Opening) (history : List Op) (s : Standing) (acts : List Act) (replies : List Reply) : Type 0 where
+  pub last : Standing
+  pub runs : RunsTo o s acts replies last
+  pub inside : IsPrefix last.seen history
+  pub alone : calls_at o history last.number ≡ Some last.counter
+
+-- Act lists with the replies to each, one list for each client, are a joint run: there is one legal history of which each is a part.
+pub record IsJointRun (o : Opening) (clients : List Standing) (acts : List (Vec Act)) (replies : List (Vec Reply)) : Type 0 where
+  pub history : List Op
+  pub legal : IsLegal o history
+  pub lists : length replies ≡ length clients
+  pub each : (i : ℕ) (client : Standing) (list : Vec Act) → slice_get clients i ≡ Some client → slice_get acts i ≡ Some list
+      → (told : Vec Reply) × (slice_get replies i ≡ Some told) × IsPart o history client list.items told.items
+
+-- some history holds a call of this number
+pub record HoldsSome (o : Opening) (number : ℕ) : Type 0 where
+  pub client : ℕ
+  pub seen : List Op
+  pub legal : IsLegal o seen
+  pub holds : HasCall seen client number
+
+-- why a run stops: no refusal of the table does but want of memory
+abbrev pub Stops : Opening → ShareFault → Type 0
+Stops o (Core fault) = fault ≡ OutOfMemory
+Stops o (ClientInUse number) = HoldsSome o number
+Stops o (Held client) = (0 < client) × (client ≤ o.limits.clients)
+Stops o Closed = Unit {0}

@@ -1,0 +1,97 @@
+//! A board that threads share: how it is opened and closed.
+
+ghost use Rattle.std.specs.Prelude.{◌≡◌, ◌<◌, [], length, Err, IfOk, IfErr, ◌⊎◌, ◌↔◌};
+ghost use Rattle.pref_core.specs.declared.fault.CoreFault as fault;
+ghost use Rattle.pref_share.specs.Openings.{IsLegal};
+ghost use Rattle.pref_share.specs.Standing.{newcomers};
+
+use crate::book::{Name, Naming};
+use crate::client::Client;
+use crate::fault::ShareFault;
+use crate::history::Prefix;
+use crate::master::Master;
+use pref_core::{CoreFault, Setup, Store};
+use pref_table::Row;
+use std::alloc::Global;
+use std::sync::{Mutex, Wait};
+
+/// What the clients of one table share. It is not `Drop`, since the writer to its readers is not: end it by
+/// [`close`](Board::close).
+pub struct Board<J: Naming> {
+    pub(crate) master: Mutex<Master<J>>,
+}
+
+impl<J: Naming> Board<J> {
+    /// Lets no reader in from now on: clients that read are refused `Closed`. Waits for those that are reading.
+    pub fn close<R: Wait>(self, rt: &R) {
+        let Board { master } = self;
+        master.into_inner().close(rt);
+    }
+}
+
+/// Opens a table with these rows under a new name, and gives its clients, in order of number.
+///
+/// Refused `Full` where there are more rows than slots, else `OutOfMemory` where memory is wanting. `Closed` stands where
+/// no reader is given or somebody has opened a board under this name, which nobody can. Nothing is kept then. Cost: three
+/// stores of all slots, since readers take two copies in turn.
+///
+/// ```text
+/// let (board, clients) = open_board::<J, R>(rt, alloc, Name::new(), setup, &rows)?;
+/// board.close(rt);
+/// ```
+pub fn open_board<J: Naming, R: Wait>(
+    rt: &R,
+    alloc: Global,
+    name: Name,
+    setup: Setup,
+    rows: &[Row],
+) -> Result<(Board<J>, Vec<Client<J>>), ShareFault>
+    requires book { name.seen.book ≡ J.book }
+    requires opening { J.opening ≡ record { limits = setup; rows = rows.now } }
+    ensures clients { IfOk result (λ r. r.1.items ≡ newcomers setup.clients) }
+    ensures full { result ≡ Err (ShareFault.Core (CoreFault.Full (length rows.now))) ↔ (setup.capacity < length rows.now) }
+    ensures other { IfErr result (λ fault. (fault ≡ ShareFault.Core CoreFault.OutOfMemory) ⊎ (fault ≡ ShareFault.Closed) ⊎ (setup.capacity < length rows.now)) }
+{
+    let store = Store::new(alloc, &setup, rows)?;
+    let Some((history, nothing)) = name.begin::<J>() else {
+        return Err(ShareFault::Closed);
+    };
+    let mut master = Master::open(rt, alloc, store, history, setup.clients())?;
+    match all_clients(alloc, &mut master, &nothing, setup) {
+        Ok(clients) => Ok((
+            Board {
+                master: Mutex::new(master),
+            },
+            clients,
+        )),
+        Err(fault) => {
+            master.close(rt);
+            Err(fault)
+        }
+    }
+}
+
+/// The clients, who have seen nothing.
+fn all_clients<J: Naming>(
+    alloc: Global,
+    master: &mut Master<J>,
+    nothing: &Prefix<J>,
+    setup: Setup,
+) -> Result<Vec<Client<J>>, ShareFault>
+    requires nothing { nothing.now ≡ [] }
+    requires setup { setup ≡ J.opening.limits }
+    ensures clients { IfOk result (λ all. all.items ≡ newcomers setup.clients) }
+    ensures other { IfErr result (λ fault. (fault ≡ ShareFault.Core CoreFault.OutOfMemory) ⊎ (fault ≡ ShareFault.Closed)) }
+{
+    let mut all = Vec::new(alloc);
+    for client in 0..setup.clients() {
+        let Ok(reader) = master.reader() else {
+            return Err(ShareFault::Closed);
+        };
+        let client = Client::new(client + 1, setup, nothing.again(), reader);
+        if all.push(client).is_err() {
+            return Err(ShareFault::Core(CoreFault::OutOfMemory));
+        }
+    }
+    Ok(all)
+}

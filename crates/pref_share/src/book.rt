@@ -1,0 +1,223 @@
+//! The book in which all operations of a board are noted, in one order. It exists in the proofs alone: what threads share of it is a
+//! word that says nothing.
+//!
+//! Who has the pen of the next operation knows the whole history: a pen that has added an entry is home, and no pen can
+//! add two. So under the lock, where the pen lies, a beginning of the history that any client has seen is shown to begin
+//! it, and an operation is added behind it, by proof.
+
+ghost use Rattle.std.specs.Prelude.{◌≡◌, [], List, MatchBool};
+ghost use mathlib.Core.List.{IsPrefix};
+ghost use Rattle.logbook.specs.Pages.{may_write};
+ghost use Rattle.pref_share.specs.declared.entry.Entry.{Entry as EntryValue};
+ghost use Rattle.pref_share.specs.Book.{word_of, ops_of, first_key};
+
+use crate::entry::Entry;
+use logbook::{Gain, Offer, Pen, Plain, Play, Rule, Seen, Start, Word};
+use pref_core::{Call, Op, Outcome};
+use std::marker::{Brand, Model};
+
+/// The rule of the book.
+pub struct Law;
+
+impl Rule<Entry, u64> for Law {
+    ghost use Rattle.std.specs.Prelude.{[]};
+    ghost use base.Fml.{ftrue};
+    ghost use Rattle.pref_share.specs.Book.{IsKept};
+
+    ghost holds = { λ cells log. IsKept cells log };
+
+    ghost first = { [] };
+
+    ghost hinted = { λ n log. Unit {0} };
+
+    ghost shows = { λ log. [] };
+
+    ghost keeps = { λ names log. ftrue };
+
+    ghost moves = { λ ask before after answer. Unit {0} };
+}
+
+/// What shows that the book reached some entries. It has no bytes.
+pub(crate) type Entries = Seen<Entry, u64, Law>;
+
+/// The word of the book.
+pub(crate) type Turn = Word<Entry, u64, Law>;
+
+/// What shows that the book reached a history. It has no bytes.
+#[derive(Drop)]
+pub struct Token {
+    seen: Entries,
+}
+
+impl Model for Token {
+    ghost use Rattle.pref_share.specs.Book.{ops_of};
+    ghost use Rattle.pref_share.specs.Reached.{Reached};
+
+    ghost Value = { Reached };
+
+    ghost view = { λ t. record { log = ops_of t.seen.log; book = t.seen.book } };
+}
+
+impl Token {
+    pub(crate) fn of(seen: &Entries) -> Token
+        ensures log { result.log ≡ ops_of seen.now.log }
+        ensures book { result.book ≡ seen.now.book }
+    {
+        Token { seen: seen.again() }
+    }
+
+    /// A copy.
+    pub(crate) fn again(&self) -> Token
+        ensures { result ≡ self.now }
+    {
+        Token {
+            seen: self.seen.again(),
+        }
+    }
+
+    /// Afterwards it knows what both knew.
+    pub(crate) fn learn(&mut self, other: &Token)
+        requires { other.now.book ≡ self.old.book }
+        ensures book { self.new.book ≡ self.old.book }
+        ensures this { IsPrefix self.old.log self.new.log }
+        ensures that { IsPrefix other.now.log self.new.log }
+    {
+        self.seen.learn(&other.seen);
+    }
+
+    /// Tells the same of entries.
+    pub(crate) fn teach(&self, seen: &mut Entries)
+        requires { self.now.book ≡ seen.old.book }
+        ensures book { seen.new.book ≡ seen.old.book }
+        ensures more { IsPrefix seen.old.log seen.new.log }
+        ensures told { (log : List EntryValue) × IsPrefix log seen.new.log × (ops_of log ≡ self.now.log) }
+    {
+        seen.learn(&self.seen);
+    }
+}
+
+/// Callers trade nothing.
+pub struct Nothing;
+
+impl Gain<Entry, u64> for Nothing {
+    ghost use base.Fml.{ftrue};
+
+    ghost after = { λ names about answer. ftrue };
+}
+
+/// A step that makes a pen.
+pub struct Begin;
+
+impl Play<Entry, u64> for Begin {
+    ghost use Rattle.pref_share.specs.Book.{Begins};
+
+    ghost then = { Begins };
+}
+
+/// A step that shows that the history is whole.
+pub struct Check;
+
+impl Play<Entry, u64> for Check {
+    ghost use Rattle.pref_share.specs.Book.{IsWhole};
+
+    ghost then = { IsWhole };
+}
+
+/// A step that adds an operation.
+pub struct Add;
+
+impl Play<Entry, u64> for Add {
+    ghost use Rattle.pref_share.specs.Book.{Adds};
+
+    ghost then = { Adds };
+}
+
+/// An operation, and the pen of the next one.
+pub(crate) struct Adding {
+    pub(crate) op: Op,
+    pub(crate) next: Pen,
+}
+
+/// What a step asks for: the operation, and who may add the next one.
+impl Plain<Adding, Entry, u64> for Add {
+    ghost use Rattle.std.specs.Prelude.{None};
+
+    ghost ask = { λ a. record { op = a.op; key = a.next.nib.key } };
+
+    ghost state = { λ a. None };
+}
+
+/// An operation that no store lets in.
+pub(crate) const NO_CALL: Op = Op {
+    client: 0,
+    number: 0,
+    call: Call::Begin,
+    slot: None,
+    outcome: Outcome::Done,
+};
+
+/// For a step that adds nothing. No value of what it asks for is used.
+impl Plain<Op, Entry, u64> for Check {
+    ghost use Rattle.std.specs.Prelude.{None};
+
+    ghost ask = { λ op. record { op = op; key = 0 } };
+
+    ghost state = { λ op. None };
+}
+
+/// A pen, and whether it is the first.
+pub(crate) fn new_pen(turn: &Turn, seen: &Entries) -> (Pen, bool)
+    requires { turn.now ≡ word_of seen.now.book }
+    ensures book { result.0.book ≡ seen.now.book }
+    ensures right { result.0.nib.right ≡ may_write }
+    ensures key { MatchBool result.1 (result.0.nib.key ≡ first_key) (Unit {0}) }
+{
+    let mut seen = seen.again();
+    let mut offer: Offer<Entry, u64, Law, Nothing> = seen.plain::<Nothing, Op, Check>(&NO_CALL);
+    let mut pen = seen.no_pen();
+    let found = turn.compare_exchange::<Begin, Nothing>(0, 1, &mut seen, &mut offer, &mut pen);
+    let _word: Turn = Word::tracked(0, &mut pen);
+    (pen, found == 0)
+}
+
+/// Which board it is: the book of its history, and what it opens with. Whoever opens a board picks it.
+pub trait Naming {
+    ghost use Rattle.logbook.specs.Pages.{Book};
+    ghost use Rattle.pref_share.specs.Openings.{Opening};
+
+    ghost book: { Book };
+
+    ghost opening: { Opening };
+}
+
+impl Naming for Brand {
+    ghost use Rattle.std.specs.Prelude.{[]};
+
+    ghost book = { record { number = 0; log_name = 0; cells_name = 0 } };
+
+    ghost opening = { record { limits = record { clients = 0; capacity = 0; block = 0; window = 0 }; rows = [] } };
+}
+
+/// The name of a board: a book with an empty history. It takes no memory.
+///
+/// ```text
+/// let (board, clients) = open_board::<J, R>(rt, alloc, Name::new(), setup, &rows)?;
+/// ```
+#[derive(Drop)]
+pub struct Name {
+    pub(crate) turn: Turn,
+    pub(crate) seen: Entries,
+    pub ghost empty: { seen.log ≡ [] },
+    pub ghost turn_is: { turn ≡ word_of seen.book },
+}
+
+impl Name {
+    /// A name that no board has.
+    pub fn new() -> Name {
+        let (seen, mut first, _second) = Seen::open(Start::alone(), 0, 0);
+        Name {
+            turn: Word::tracked(0, &mut first),
+            seen,
+        }
+    }
+}

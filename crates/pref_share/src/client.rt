@@ -1,0 +1,161 @@
+//! A client, which may go to a thread of its own, and the words by which clients tell each other what they have seen.
+
+mod calls;
+mod reads;
+
+ghost use Rattle.std.specs.Prelude.{◌≡◌, ◌<◌, ◌≤◌, [], length, IfErr, OnOk};
+ghost use mathlib.Core.List.{IsPrefix};
+ghost use Rattle.left_right.specs.Sides.{view};
+ghost use Rattle.pref_share.specs.Openings.{IsLegal, first_contents};
+ghost use Rattle.pref_share.specs.Standing.{newcomer};
+ghost use Rattle.pref_share.specs.Clients.{Sees};
+ghost use Rattle.pref_share.specs.Performing.{IsIn};
+ghost use Rattle.pref_share.specs.Runs.{Stops};
+ghost use Rattle.pref_share.specs.Views.{Knows};
+
+use crate::book::Naming;
+use crate::fault::ShareFault;
+use crate::history::Prefix;
+use crate::master::Master;
+use crate::published::StoreReader;
+use pref_core::{Query, Setup};
+use std::marker::Model;
+
+/// A beginning of the history, which a client tells others. Contracts see its operations.
+#[derive(Drop)]
+pub struct Word<J: Naming> {
+    seen: Prefix<J>,
+}
+
+impl<J: Naming> Model for Word<J> {
+    ghost use Rattle.std.specs.Prelude.{List};
+    ghost use Rattle.pref_core.specs.declared.call.Op.{Op};
+
+    ghost Value = { List Op };
+
+    ghost view = { λ w. w.seen };
+}
+
+/// An open query, and the history that ends with its begin.
+#[derive(Drop)]
+pub(crate) struct Asking<J: Naming> {
+    query: Query,
+    begun: Prefix<J>,
+}
+
+impl<J: Naming> Model for Asking<J> {
+    ghost use Rattle.pref_share.specs.Standing.{Asking as AskingValue};
+    ghost use Rattle.pref_term.specs.PreferenceCode.{coded_question};
+    ghost use Rattle.std.specs.Coded.{codes};
+
+    ghost Value = { AskingValue };
+
+    ghost coded = { Prim.hlevel (codes, coded_question) };
+
+    ghost view = { λ a. record { scan = a.query; begun = a.begun } };
+}
+
+/// One client of a board: it counts its numbered calls, and keeps its open query, its reader of the published table, and what it has
+/// seen of the history. It may be moved to a thread of its own.
+///
+/// A client that is dropped with a query open keeps that query's versions needed.
+#[derive(Drop)]
+pub struct Client<J: Naming> {
+    number: u8,
+    counter: u64,
+    setup: Setup,
+    seen: Prefix<J>,
+    asking: Option<Asking<J>>,
+    reader: StoreReader,
+}
+
+impl<J: Naming> Model for Client<J> {
+    ghost use Rattle.std.specs.Prelude.{◌≡◌};
+    ghost use Rattle.left_right.specs.Sides.{view as view_of};
+    ghost use Rattle.pref_share.specs.Openings.{first_contents};
+    ghost use Rattle.pref_share.specs.Views.{Knows};
+    ghost use Rattle.pref_share.specs.Following.{Stands};
+    ghost use Rattle.pref_share.specs.Standing.{Standing};
+    ghost use Rattle.pref_term.specs.PreferenceCode.{coded_question};
+    ghost use Rattle.std.specs.Coded.{codes};
+
+    ghost Value = { Standing };
+
+    ghost coded = { Prim.hlevel (codes, coded_question) };
+
+    ghost view = { λ c. record { number = c.number; counter = c.counter; seen = c.seen; query = c.asking } };
+
+    ghost invariant = { λ c. Knows (first_contents J.opening) J.book (view_of c.reader.place) × (c.setup ≡ J.opening.limits) × Stands J.opening c.number c.counter c.seen c.asking };
+}
+
+impl<J: Naming> Client<J> {
+    pub(crate) fn new(number: u8, setup: Setup, seen: Prefix<J>, reader: StoreReader) -> Client<J>
+        requires knows { Knows (first_contents J.opening) J.book (view reader.place) }
+        requires number { (0 < number) × (number ≤ setup.clients) }
+        requires setup { setup ≡ J.opening.limits }
+        requires seen { seen ≡ [] }
+        ensures { result ≡ newcomer number }
+    {
+        let seen = seen.again();
+        Client {
+            number,
+            counter: 0,
+            setup,
+            seen,
+            asking: None,
+            reader,
+        }
+    }
+
+    /// Its number, from 1 on.
+    pub fn number(&self) -> u8
+        ensures value { result ≡ self.now.number }
+        ensures one_of { (0 < result) × (result ≤ J.opening.limits.clients) }
+    {
+        self.number
+    }
+
+    /// How many numbered calls of all clients it has seen.
+    pub fn seen(&self) -> u64
+        ensures count { result ≡ length self.now.seen }
+        ensures legal { IsLegal J.opening self.now.seen }
+    {
+        self.seen.len()
+    }
+
+    /// What it has seen, for other clients to hear. Takes no memory and waits for nobody.
+    pub fn word(&self) -> Word<J>
+        ensures { result ≡ self.now.seen }
+    {
+        Word {
+            seen: self.seen.again(),
+        }
+    }
+
+    /// Hears what another client had seen: from now on it has seen no less, so its later replies are at histories that hold every
+    /// numbered call that the speaker had made. Takes no memory and waits for nobody.
+    pub fn hear(&mut self, word: Word<J>)
+        ensures sees { Sees J.opening self.old self.new }
+        ensures heard { IsPrefix word self.new.seen }
+    {
+        let Word { seen } = word;
+        if self.seen.begins(&seen) {
+            self.seen = seen;
+        }
+    }
+
+    /// Whether the whole history holds just the calls that it made.
+    pub(crate) fn settle(&self, master: &mut Master<J>) -> Result<(), ShareFault>
+        ensures same { master.new ≡ master.old }
+        ensures settled { OnOk result (IsIn J.opening master.old self.now) }
+        ensures stops { IfErr result (λ fault. Stops J.opening fault) }
+    {
+        master.check(&self.seen);
+        if master.last(self.number) > self.counter {
+            return Err(ShareFault::ClientInUse {
+                number: self.counter + 1,
+            });
+        }
+        Ok(())
+    }
+}

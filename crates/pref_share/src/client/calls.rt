@@ -1,0 +1,280 @@
+//! The numbered calls of a client: each joins the history under the lock of the board, and is published once.
+
+ghost use Rattle.std.specs.Prelude.{◌≡◌, ℕ, suc, true, None, IfOk, IfErr, OnOk, MatchResult};
+ghost use Rattle.pref_core.specs.declared.call.Outcome.TheVariants.{Added, Done};
+ghost use Rattle.pref_core.specs.State.{is_change, granted};
+ghost use Rattle.pref_core.specs.Stability.{is_end};
+ghost use Rattle.pref_share.specs.declared.fault.ShareFault.TheVariants.{ClientInUse};
+ghost use Rattle.pref_share.specs.Clients.{own_refusal, Changes, Joins, Begins, Finishes, IsAnswer, Refused, Refuses, RefusesChange, RefusesBegin, RefusesFinish, IsInUse};
+ghost use Rattle.pref_share.specs.Following.{IsJoined, IsAhead, done_or_refused, GivesNone};
+
+use crate::board::Board;
+use crate::book::Naming;
+use crate::client::{Asking, Client};
+use crate::fault::{BeginFault, ShareFault};
+use crate::history::Prefix;
+use pref_core::{Call, CoreFault, Outcome, Query};
+use pref_sky::Ranked;
+use pref_table::Row;
+use pref_term::Ask;
+use std::alloc::Global;
+use std::sync::Wait;
+
+/// So many numbered calls a client makes at most.
+const MOST_CALLS: u64 = 1 << 56;
+
+/// A call that joined the history: all of it then, what became of the call, and how many commits there were.
+#[derive(Drop)]
+pub(super) struct Joined<J: Naming> {
+    seen: Prefix<J>,
+    outcome: Outcome,
+    stamp: u64,
+}
+
+impl<J: Naming> Client<J> {
+    /// Inserts a row, and answers its id. Waits for the board.
+    ///
+    /// Refused `Spent`, `Full` (which is numbered), or `OutOfMemory`; and `ClientInUse`.
+    pub fn insert<R: Wait>(
+        &mut self,
+        rt: &R,
+        _alloc: Global,
+        board: &Board<J>,
+        row: Row,
+    ) -> Result<u64, ShareFault>
+        ensures inserted { IfOk result (λ id. Changes J.opening self.old (Call.Insert row) (Added id) self.new) }
+        ensures refused { IfErr result (λ fault. RefusesChange J.opening self.old (Call.Insert row) fault self.new) }
+    {
+        match self.change(rt, board, &Call::Insert(row))? {
+            Outcome::Added(id) => Ok(id),
+            _ => unreachable!(),
+        }
+    }
+
+    /// Puts another row in place of the one of this id, in one commit. Waits for the board.
+    ///
+    /// Refused `Spent`, `NoSuchRow` or `Full` (which are numbered), or `OutOfMemory`; and `ClientInUse`.
+    pub fn update<R: Wait>(
+        &mut self,
+        rt: &R,
+        _alloc: Global,
+        board: &Board<J>,
+        id: u64,
+        row: Row,
+    ) -> Result<(), ShareFault>
+        ensures updated { IfOk result (λ _. Changes J.opening self.old (Call.Update id row) Done self.new) }
+        ensures refused { IfErr result (λ fault. RefusesChange J.opening self.old (Call.Update id row) fault self.new) }
+    {
+        match self.change(rt, board, &Call::Update(id, row))? {
+            Outcome::Done => Ok(()),
+            _ => unreachable!(),
+        }
+    }
+
+    /// Deletes the row of this id. Waits for the board.
+    ///
+    /// Refused `Spent`, or `NoSuchRow` (which is numbered); and `ClientInUse`.
+    pub fn delete<R: Wait>(
+        &mut self,
+        rt: &R,
+        _alloc: Global,
+        board: &Board<J>,
+        id: u64,
+    ) -> Result<(), ShareFault>
+        ensures deleted { IfOk result (λ _. Changes J.opening self.old (Call.Delete id) Done self.new) }
+        ensures refused { IfErr result (λ fault. RefusesChange J.opening self.old (Call.Delete id) fault self.new) }
+    {
+        match self.change(rt, board, &Call::Delete(id))? {
+            Outcome::Done => Ok(()),
+            _ => unreachable!(),
+        }
+    }
+
+    /// Begins a query of the table as it is now, and answers how many blocks it has to scan. Waits for the board, and copies
+    /// nothing.
+    ///
+    /// Refused `Spent` or `QueryOpen`; and `ClientInUse`. A refusal hands the ask back.
+    pub fn begin<R: Wait>(
+        &mut self,
+        rt: &R,
+        _alloc: Global,
+        board: &Board<J>,
+        ask: Ask,
+    ) -> Result<u32, BeginFault>
+        ensures begun { IfOk result (λ left. Begins J.opening self.old ask left self.new) }
+        ensures refused { IfErr result (λ fault. RefusesBegin J.opening self.old ask fault self.new) }
+    {
+        if let Some(fault) = self.refusal(&Call::Begin) {
+            return Err(BeginFault {
+                fault: ShareFault::Core(fault),
+                ask,
+            });
+        }
+        match self.join(rt, board, &Call::Begin) {
+            Ok(joined) => {
+                let query = Query::begin(ask, joined.stamp, &self.setup);
+                let begun = joined.seen.again();
+                self.asking = Some(Asking { query, begun });
+                self.counter += 1;
+                self.seen = joined.seen;
+                Ok(self.setup.blocks())
+            }
+            Err(whole) => Err(BeginFault {
+                fault: self.in_use(whole),
+                ask,
+            }),
+        }
+    }
+
+    /// Ends the open query with its answer, by the table at its begin. Waits for the board; the answer is put together before.
+    ///
+    /// Refused `Spent`, `NoQuery` or `NotDone`, or `OutOfMemory`; and `ClientInUse`. The query stays open then.
+    pub fn finish<R: Wait>(
+        &mut self,
+        rt: &R,
+        alloc: Global,
+        board: &Board<J>,
+    ) -> Result<Vec<Ranked>, ShareFault>
+        ensures finished { IfOk result (λ ranked. Finishes J.opening self.old ranked.items self.new) }
+        ensures refused { IfErr result (λ fault. RefusesFinish J.opening self.old fault self.new) }
+    {
+        if let Some(fault) = self.refusal(&Call::Finish) {
+            return Err(ShareFault::Core(fault));
+        }
+        let ranked = self.answer(alloc)?;
+        self.end(rt, board, &Call::Finish)?;
+        Ok(ranked)
+    }
+
+    /// Ends the open query without an answer. Waits for the board.
+    ///
+    /// Refused `Spent` or `NoQuery`; and `ClientInUse`. The query stays open then.
+    pub fn abandon<R: Wait>(
+        &mut self,
+        rt: &R,
+        _alloc: Global,
+        board: &Board<J>,
+    ) -> Result<(), ShareFault>
+        ensures abandoned { IfOk result (λ _. Joins J.opening self.old Call.Abandon Done self.new × (self.new.query ≡ None)) }
+        ensures refused { IfErr result (λ fault. Refuses (λ core. Refused J.opening self.old Call.Abandon core self.new) J.opening self.old Call.Abandon fault self.new) }
+    {
+        if let Some(fault) = self.refusal(&Call::Abandon) {
+            return Err(ShareFault::Core(fault));
+        }
+        self.end(rt, board, &Call::Abandon)
+    }
+
+    /// Why a call gets no number, by the client's own counter and query.
+    fn refusal(&self, call: &Call) -> Option<CoreFault>
+        ensures { result ≡ own_refusal self.now call.now }
+    {
+        if self.counter >= MOST_CALLS {
+            return Some(CoreFault::Spent);
+        }
+        match *call {
+            Call::Begin if self.asking.is_some() => Some(CoreFault::QueryOpen),
+            Call::Finish | Call::Abandon if self.asking.is_none() => Some(CoreFault::NoQuery),
+            _ => None,
+        }
+    }
+
+    /// A change of rows. Where the row is missing or the table full, the call has joined all the same.
+    fn change<R: Wait>(
+        &mut self,
+        rt: &R,
+        board: &Board<J>,
+        call: &Call,
+    ) -> Result<Outcome, ShareFault>
+        requires change { is_change call.now ≡ true }
+        ensures changed { IfOk result (λ told. Changes J.opening self.old call.now told self.new) }
+        ensures granted { IfOk result (λ told. (next_id : ℕ) × (told ≡ granted next_id call.now)) }
+        ensures refused { IfErr result (λ fault. RefusesChange J.opening self.old call.now fault self.new) }
+    {
+        if let Some(fault) = self.refusal(call) {
+            return Err(ShareFault::Core(fault));
+        }
+        match self.join(rt, board, call) {
+            Ok(joined) => {
+                self.counter += 1;
+                self.seen = joined.seen;
+                done_or_refused(joined.outcome)
+            }
+            Err(whole) => Err(self.in_use(whole)),
+        }
+    }
+
+    /// The open query ends.
+    fn end<R: Wait>(&mut self, rt: &R, board: &Board<J>, call: &Call) -> Result<(), ShareFault>
+        requires accepted { own_refusal self.old call.now ≡ None }
+        requires ends { is_end call.now ≡ true }
+        ensures ended { OnOk result (Joins J.opening self.old call.now Done self.new × (self.new.query ≡ None)) }
+        ensures refused { IfErr result (λ fault. (fault ≡ ClientInUse (suc self.old.counter)) × IsInUse J.opening self.old (suc self.old.counter) self.new) }
+    {
+        match self.join(rt, board, call) {
+            Ok(joined) => {
+                self.asking = None;
+                self.counter += 1;
+                self.seen = joined.seen;
+                Ok(())
+            }
+            Err(whole) => Err(self.in_use(whole)),
+        }
+    }
+
+    /// The answer of the open query.
+    fn answer(&self, alloc: Global) -> Result<Vec<Ranked>, CoreFault>
+        requires { own_refusal self.now Call.Finish ≡ None }
+        ensures { MatchResult result (λ ranked. IsAnswer J.opening self.now ranked.items) (λ fault. GivesNone self.now fault) }
+    {
+        match &self.asking {
+            Some(asking) => asking.query.answer(alloc),
+            None => unreachable!(),
+        }
+    }
+
+    /// A call joins the history. `Err` is all of the history, which holds a call of this client that it has not made.
+    fn join<R: Wait>(&self, rt: &R, board: &Board<J>, call: &Call) -> Result<Joined<J>, Prefix<J>>
+        requires { own_refusal self.now call.now ≡ None }
+        ensures joined { IfOk result (λ joined. IsJoined J.opening self.now call.now joined.outcome joined.seen joined.stamp) }
+        ensures ahead { IfErr result (λ whole. IsAhead J.opening self.now whole) }
+    {
+        let mut guard = board.master.lock(rt);
+        let master = &mut *guard;
+        master.check(&self.seen);
+        if master.last(self.number) > self.counter {
+            return Err(master.whole());
+        }
+        let Ok(op) = master.plan(self.number, call) else {
+            unreachable!()
+        };
+        master.publish(rt, &op);
+        Ok(Joined {
+            seen: master.whole(),
+            outcome: op.outcome,
+            stamp: master.stamp(),
+        })
+    }
+
+    /// The refusal of a client whose next call stands in the history, which it has seen now.
+    pub(super) fn in_use(&mut self, whole: Prefix<J>) -> ShareFault
+        requires { IsAhead J.opening self.old whole }
+        ensures fault { result ≡ ClientInUse (suc self.old.counter) }
+        ensures sees { IsInUse J.opening self.old (suc self.old.counter) self.new }
+    {
+        self.seen = whole;
+        ShareFault::ClientInUse {
+            number: self.counter + 1,
+        }
+    }
+}
+
+/// The outcome of a change, or the refusal that it is.
+fn done_or_refused(outcome: Outcome) -> Result<Outcome, ShareFault>
+    ensures { result ≡ done_or_refused outcome }
+{
+    match outcome {
+        Outcome::NoSuchRow(id) => Err(ShareFault::Core(CoreFault::NoSuchRow { id })),
+        Outcome::Full(needed) => Err(ShareFault::Core(CoreFault::Full { needed })),
+        done => Ok(done),
+    }
+}

@@ -1,0 +1,61 @@
+//! Why a call of a client is refused.
+
+ghost use Rattle.std.specs.Prelude.{◌≡◌};
+ghost use Rattle.pref_core.specs.declared.fault.CoreFault.TheVariants.{OutOfMemory};
+ghost use Rattle.pref_share.specs.declared.fault.ShareFault.TheVariants.{Core};
+
+use pref_core::CoreFault;
+use pref_term::Ask;
+use std::alloc::AllocError;
+use thiserror::Error;
+
+/// A refusal. Those of the table are tested in their order; `Spent`, `QueryOpen`, `NoQuery`, `AllScanned` and `NotDone`
+/// before the others of this type.
+///
+/// After `OutOfMemory`, `ClientInUse` and `Closed` the client's counter and its query are as they were, and no call has joined the history.
+#[derive(Clone, Copy, Debug, PartialEq, Eq, Error)]
+pub enum ShareFault {
+    /// The table's refusal.
+    #[error("{0}")]
+    Core(CoreFault),
+    /// The history holds a call of this client above its own counter. Clients of one board never meet it.
+    #[error("client in use at {number}")]
+    ClientInUse {
+        /// The number of that call.
+        number: u64,
+    },
+    /// The gate answered false to this client.
+    #[error("held client {client}")]
+    Held {
+        /// The client's number.
+        client: u8,
+    },
+    /// The published table gives no reader, or does not let one in: the board is closed.
+    #[error("closed")]
+    Closed,
+}
+
+impl From<CoreFault> for ShareFault {
+    ghost from_gives = { λ fault share. share ≡ Core fault };
+
+    fn from(fault: CoreFault) -> ShareFault {
+        ShareFault::Core(fault)
+    }
+}
+
+impl From<AllocError> for ShareFault {
+    ghost from_gives = { λ _ share. share ≡ Core OutOfMemory };
+
+    fn from(_error: AllocError) -> ShareFault {
+        ShareFault::Core(CoreFault::OutOfMemory)
+    }
+}
+
+/// A refused begin, which hands its ask back.
+#[derive(Drop)]
+pub struct BeginFault {
+    /// Why it is refused.
+    pub fault: ShareFault,
+    /// The ask, as it was.
+    pub ask: Ask,
+}

@@ -1,0 +1,26 @@
+//! Clients on threads of their own, over one table: each changes it, asks it and reads it, while the others do.
+//!
+//! [`open_board`] gives a [`Board`] and its [`Client`]s. What a client changes joins one history under the board's
+//! lock, and is published to readers; what it reads takes no lock and waits for nobody. Each call's reply is that
+//! of the sequential table at one place of that history, and the history that a client has seen never gets
+//! shorter. [`run_all`] runs the acts of all clients, each on a thread.
+#![tactic(auto)]
+
+mod board;
+mod book;
+mod client;
+mod entry;
+mod fault;
+mod history;
+pub mod laws;
+mod master;
+mod published;
+mod run;
+#[cfg(test)]
+mod tests;
+
+pub use board::{Board, open_board};
+pub use book::{Name, Naming};
+pub use client::{Client, Word};
+pub use fault::{BeginFault, ShareFault};
+pub use run::{Gate, run_all};

@@ -1,0 +1,231 @@
+//! What lies under the lock of a board: the master store, the whole history, and the writer that publishes it.
+
+ghost use Rattle.std.specs.Prelude.{◌≡◌, ◌++◌, ◌∷◌, ◌<◌, ◌^◌, [], drop, fold, IfOk};
+ghost use Rattle.std.specs.Option.{unwrap_or};
+ghost use mathlib.Core.List.{IsPrefix};
+ghost use Rattle.left_right.specs.Sides.{view};
+ghost use Rattle.pref_core.specs.Operations.{PlansIn};
+ghost use Rattle.pref_share.specs.Openings.{IsLegal, MayFollow, first_contents, contents_at, state_at, calls_at};
+ghost use Rattle.pref_share.specs.Views.{stamped, StandsFor, Knows};
+
+use crate::book::{NO_CALL, Naming};
+use crate::history::{History, Prefix};
+use crate::published::{
+    Hearing, Opening, Published, Stamp, Staying, StoreReader, StoreWriter, Telling,
+};
+use core::mem::replace_with;
+use pref_core::{Call, CoreFault, Op, Store};
+use std::alloc::{AllocError, Global};
+use std::marker::Model;
+use std::mem::ManuallyDrop;
+use std::sync::Wait;
+
+/// The master store, which is what the whole history leaves, and the writer, which has published it. Contracts see the
+/// history.
+pub(crate) struct Master<J: Naming> {
+    history: History<J>,
+    store: Store,
+    // A lock may hold only what is dropped or needs no drop; `close` takes the writer out.
+    writer: ManuallyDrop<StoreWriter>,
+}
+
+impl<J: Naming> Model for Master<J> {
+    ghost use Rattle.std.specs.Prelude.{◌≡◌, List, [], drop};
+    ghost use Rattle.core.specs.Mem.{manually_drop_value};
+    ghost use Rattle.left_right.specs.Sides.{view as view_of};
+    ghost use Rattle.pref_core.specs.declared.call.Op.{Op};
+    ghost use Rattle.pref_share.specs.Openings.{IsLegal, first_contents, contents_at};
+    ghost use Rattle.pref_share.specs.Views.{StandsFor, Knows};
+
+    ghost Value = { List Op };
+
+    ghost view = { λ m. m.history };
+
+    ghost invariant = { λ m. IsLegal J.opening m.history × (m.store ≡ contents_at J.opening m.history) × ((manually_drop_value m.writer).desk.shown.value.seen.log ≡ m.history) × StandsFor (first_contents J.opening) J.book (manually_drop_value m.writer).desk.shown.value × Knows (first_contents J.opening) J.book (view_of (manually_drop_value m.writer).desk.place) × (drop (manually_drop_value m.writer).behind (manually_drop_value m.writer).log.items ≡ []) };
+}
+
+/// Lets the writer know what the board opens with. What is pending changes nothing.
+fn open_with<R: Wait>(rt: &R, writer: StoreWriter) -> StoreWriter
+    requires pending { fold stamped writer.desk.shown.value (drop writer.behind writer.log.items) ≡ writer.desk.shown.value }
+    requires empty { writer.desk.shown.value.seen.log ≡ [] }
+    ensures knows { Knows writer.desk.shown.value.store writer.desk.shown.value.seen.book (view result.desk.place) }
+    ensures shown { result.desk.shown.value ≡ writer.desk.shown.value }
+    ensures pending { drop result.behind result.log.items ≡ [] }
+{
+    let (writer, opened) = writer.publish_as::<Opening, R>(rt);
+    let Ok(()) = opened else { unreachable!() };
+    writer
+}
+
+/// So many stamps are kept at most: those that one copy lacks, and the one of a call.
+const KEPT: usize = 3;
+
+/// Makes room for the stamps of later calls, by stamps that change nothing. The room stays, so later calls need not grow it.
+fn with_room(mut writer: StoreWriter) -> Result<StoreWriter, StoreWriter>
+    requires empty { writer.desk.shown.value.len ≡ 0 }
+    requires pending { drop writer.behind writer.log.items ≡ [] }
+    ensures shown { IfOk result (λ w. w.desk.shown.value ≡ writer.desk.shown.value) }
+    ensures pending { IfOk result (λ w. fold stamped w.desk.shown.value (drop w.behind w.log.items) ≡ w.desk.shown.value) }
+{
+    for _ in 0..KEPT {
+        let blank = Stamp {
+            op: NO_CALL,
+            len: 0,
+            seen: writer.published().seen.again(),
+        };
+        if writer.append(blank).is_err() {
+            return Err(writer);
+        }
+    }
+    Ok(writer)
+}
+
+/// Publishes what is pending.
+fn publish<J: Naming, R: Wait>(rt: &R, writer: StoreWriter) -> StoreWriter
+    requires knows { Knows (first_contents J.opening) J.book (view writer.desk.place) }
+    requires stands { StandsFor (first_contents J.opening) J.book (fold stamped writer.desk.shown.value (drop writer.behind writer.log.items)) }
+    ensures view { view result.desk.place ≡ view writer.desk.place }
+    ensures shown { result.desk.shown.value ≡ fold stamped writer.desk.shown.value (drop writer.behind writer.log.items) }
+    ensures pending { drop result.behind result.log.items ≡ [] }
+{
+    let (writer, published) = writer.publish_as::<Staying, R>(rt);
+    let Ok(()) = published else { unreachable!() };
+    writer
+}
+
+/// Appends a stamp. Where there is no memory for it, waits until there is: its operation has joined the history.
+fn append<R: Wait>(rt: &R, writer: &mut StoreWriter, stamp: Stamp)
+    ensures desk { writer.new.desk ≡ writer.old.desk }
+    ensures pending { drop writer.new.behind writer.new.log.items ≡ drop writer.old.behind writer.old.log.items ++ stamp ∷ [] }
+{
+    let mut waiting = stamp;
+    for _ in rt.forever() {
+        match writer.append(waiting) {
+            Ok(()) => return,
+            Err(stamp) => waiting = stamp,
+        }
+    }
+    unreachable!()
+}
+
+impl<J: Naming> Master<J> {
+    /// Publishes the store as it is opened, to so many readers.
+    pub(crate) fn open<R: Wait>(
+        rt: &R,
+        alloc: Global,
+        store: Store,
+        history: History<J>,
+        readers: u8,
+    ) -> Result<Master<J>, AllocError>
+        requires opening { store ≡ first_contents J.opening }
+        requires legal { IsLegal J.opening [] }
+        requires history { history ≡ [] }
+        requires readers { 0 < readers }
+        ensures { IfOk result (λ m. m ≡ []) }
+    {
+        let first = Published {
+            store: store.copy(alloc)?,
+            len: 0,
+            seen: history.whole().token(),
+        };
+        let second = Published {
+            store: store.copy(alloc)?,
+            len: 0,
+            seen: first.seen.again(),
+        };
+        let writer = StoreWriter::new(alloc, first, second, readers as usize)?;
+        match with_room(writer) {
+            Ok(writer) => Ok(Master {
+                history,
+                store,
+                writer: unsafe { ManuallyDrop::new_unchecked(open_with(rt, writer)) },
+            }),
+            Err(writer) => {
+                drop(writer.take(rt));
+                Err(AllocError)
+            }
+        }
+    }
+
+    /// The history.
+    pub(crate) fn whole(&self) -> Prefix<J>
+        ensures same { result ≡ self.now }
+        ensures legal { IsLegal J.opening self.now }
+    {
+        self.history.whole()
+    }
+
+    /// Shows that a beginning that was seen on this board begins the history.
+    pub(crate) fn check(&mut self, prefix: &Prefix<J>)
+        ensures same { self.new ≡ self.old }
+        ensures begins { IsPrefix prefix.now self.old }
+        ensures legal { IsLegal J.opening self.old }
+    {
+        self.history.check(prefix);
+    }
+
+    /// How many calls this client has made.
+    pub(crate) fn last(&self, client: u8) -> u64
+        ensures { result ≡ unwrap_or (calls_at J.opening self.now client) 0 }
+    {
+        self.store.last(client)
+    }
+
+    /// How many commits there were.
+    pub(crate) fn stamp(&self) -> u64
+        ensures { result ≡ (state_at J.opening self.now).commits }
+    {
+        self.store.stamp()
+    }
+
+    /// What becomes of a call.
+    pub(crate) fn plan(&self, client: u8, call: &Call) -> Result<Op, CoreFault>
+        ensures { PlansIn (state_at J.opening self.now) (contents_at J.opening self.now) client call.now result }
+    {
+        self.store.plan(client, *call)
+    }
+
+    /// A reader that knows the board.
+    pub(crate) fn reader(&mut self) -> Result<StoreReader, AllocError>
+        ensures kept { self.new ≡ self.old }
+        ensures knows { IfOk result (λ r. Knows (first_contents J.opening) J.book (view r.place)) }
+    {
+        let mut reader = self.writer.factory().reader()?;
+        reader.learn::<Hearing>(self.writer.tell::<Telling>());
+        Ok(reader)
+    }
+
+    /// An operation joins the history, and is published.
+    pub(crate) fn publish<R: Wait>(&mut self, rt: &R, op: &Op)
+        requires { MayFollow J.opening self.old op.now }
+        ensures { self.new ≡ self.old ++ op.now ∷ [] }
+    {
+        self.history.add(op);
+        let seen = self.history.whole();
+        let stamp = Stamp {
+            op: *op,
+            len: seen.len(),
+            seen: seen.token(),
+        };
+        append(rt, &mut *self.writer, stamp);
+        replace_with(
+            &mut *self.writer,
+            rt,
+            |writer: StoreWriter, rt: &R| -> (StoreWriter, ())
+                requires { Knows (first_contents J.opening) J.book (view writer.desk.place) × StandsFor (first_contents J.opening) J.book (fold stamped writer.desk.shown.value (drop writer.behind writer.log.items)) }
+                ensures { (view result.0.desk.place ≡ view writer.desk.place) × (result.0.desk.shown.value ≡ fold stamped writer.desk.shown.value (drop writer.behind writer.log.items)) × (drop result.0.behind result.0.log.items ≡ []) }
+            { (publish::<J, R>(rt, writer), ()) },
+        );
+        self.store.apply(op);
+    }
+
+    /// Readers take nothing from now on. Waits for those that are reading.
+    pub(crate) fn close<R: Wait>(self, rt: &R) {
+        let Master {
+            history: _history,
+            store: _store,
+            writer,
+        } = self;
+        drop(ManuallyDrop::into_inner(writer).take(rt));
+    }
+}

@@ -1,0 +1,121 @@
+//! The store that readers take, with the history that it stands for, and the rule over it.
+//!
+//! The rule says that there is one opening and one book, over which the published store stands for its history. Each seat of
+//! the writer or of a reader knows them from its first step on.
+
+use crate::book::Token;
+use atomic_table::{Join, Split};
+use crossbeam_utils::rule::{Outcome, Protocol};
+use left_right::Absorb;
+use left_right::reader::Reader;
+use left_right::writer::Writer;
+use pref_core::{Op, Store};
+use std::alloc::AllocError;
+
+/// A store, and the token of the history that made it.
+#[derive(Drop)]
+pub struct Published {
+    pub store: Store,
+    pub len: u64,
+    pub seen: Token,
+}
+
+/// An operation that joined the history, and the token of the history that it ends.
+#[derive(Drop)]
+pub struct Stamp {
+    pub op: Op,
+    pub len: u64,
+    pub seen: Token,
+}
+
+impl Absorb<Stamp> for Published {
+    ghost use Rattle.pref_share.specs.Views.{stamped};
+
+    type State = Published;
+
+    ghost state = { λ p. p };
+
+    ghost applied = { stamped };
+
+    ghost never_fails = { Unit {0} };
+
+    fn absorb_first(&mut self, operation: &Stamp, _other: &Published) -> Result<(), AllocError> {
+        self.store.apply(&operation.op);
+        self.len = operation.len;
+        self.seen = operation.seen.again();
+        Ok(())
+    }
+}
+
+/// The opening of a board, and a token of its book. No value of it is made.
+pub struct Base {
+    pub opening: Store,
+    pub seen: Token,
+}
+
+/// What a seat knows. No value of it is made.
+pub struct View {
+    pub base: Option<Base>,
+}
+
+/// The rule of the published store.
+pub struct Rule;
+
+impl Protocol<Published, View> for Rule {
+    ghost use Rattle.pref_share.specs.Views.{Kept, newcomer};
+
+    ghost holds = { Kept };
+
+    ghost first = { newcomer };
+}
+
+/// The writer's first step.
+pub(crate) struct Opening;
+
+impl Outcome<Published, View> for Opening {
+    ghost use Rattle.pref_share.specs.Views.{Opens};
+
+    ghost then = { Opens };
+}
+
+/// A step of the writer that publishes.
+pub(crate) struct Staying;
+
+impl Outcome<Published, View> for Staying {
+    ghost use Rattle.pref_share.specs.Views.{Stays};
+
+    ghost then = { Stays };
+}
+
+/// A step of a reader that reads.
+pub(crate) struct Reading;
+
+impl Outcome<Published, View> for Reading {
+    ghost use Rattle.pref_share.specs.Views.{Reads};
+
+    ghost then = { Reads };
+}
+
+/// What the writer tells a new reader: all that it knows.
+pub(crate) struct Telling;
+
+impl Split<View> for Telling {
+    ghost left = { λ v. v };
+
+    ghost right = { λ v. v };
+}
+
+/// What a new reader makes of it: the same.
+pub(crate) struct Hearing;
+
+impl Join<View> for Hearing {
+    ghost use Rattle.pref_share.specs.Views.{hearing, newcomer};
+
+    ghost both = { hearing };
+
+    ghost spent = { newcomer };
+}
+
+pub(crate) type StoreReader = Reader<Published, View, Rule>;
+
+pub(crate) type StoreWriter = Writer<Published, Stamp, View, Rule>;

@@ -1,0 +1,144 @@
+//! Runs of clients whose replies are known from outside.
+
+mod calls;
+mod refusals;
+mod threads;
+mod words;
+
+ghost use Rattle.std.specs.Prelude.{◌≡◌};
+
+use crate::run::acts::perform;
+use crate::{Board, Client, Name, Naming, open_board};
+use pref_core::{Act, Reply, Setup};
+use pref_sky::Ranked;
+use pref_table::{Row, Schema};
+use pref_term::read_ask;
+use std::alloc::Global;
+use std::process::Abort;
+use std::sync::Wait;
+use std::test::Fail;
+
+/// What a client does, over a table with the column x alone. A query asks for the rows with the smallest x.
+#[derive(Clone, Copy)]
+enum Does {
+    Inserts(i64),
+    Updates(u64, i64),
+    Deletes(u64),
+    Begins,
+    Scans,
+    Finishes,
+    Abandons,
+    Gets(u64),
+    AsksRoom,
+}
+
+/// The column x alone.
+fn columns(alloc: Global) -> Result<Schema, Fail> {
+    let names = [b"x".as_slice()];
+    Ok(Schema::new(alloc, names.as_slice())?)
+}
+
+fn row(schema: &Schema, value: i64) -> Result<Row, Fail> {
+    let cells = [value];
+    Ok(Row::of(schema, cells.as_slice())?)
+}
+
+fn rows(alloc: Global, schema: &Schema, values: &[i64]) -> Result<Vec<Row>, Fail> {
+    let mut made = Vec::new(alloc);
+    for value in values {
+        made.push(row(schema, *value)?)?;
+    }
+    Ok(made)
+}
+
+fn setup(clients: u8, capacity: u32, block: u32) -> Result<Setup, Fail> {
+    Ok(Setup::new(clients, capacity, block, 64).ok_or("setup")?)
+}
+
+/// The rows of an answer: of each its level, its id and its x.
+fn answer_text(alloc: Global, rows: &[Ranked]) -> Result<String, Fail> {
+    let mut text = format!(in alloc; "answer")?;
+    for ranked in rows {
+        let level = ranked.level;
+        let id = ranked.id;
+        let value = ranked.row.cell(0);
+        text.push_str(format!(in alloc; " level {level} id {id}: {value}")?.as_str())?;
+    }
+    Ok(text)
+}
+
+fn act(alloc: Global, schema: &Schema, does: Does) -> Result<Act, Fail> {
+    Ok(match does {
+        Does::Inserts(value) => Act::Insert(row(schema, value)?),
+        Does::Updates(id, value) => Act::Update(id, row(schema, value)?),
+        Does::Deletes(id) => Act::Delete(id),
+        Does::Begins => Act::Begin(read_ask(alloc, schema, b"best low(x)")?),
+        Does::Scans => Act::Scan,
+        Does::Finishes => Act::Finish,
+        Does::Abandons => Act::Abandon,
+        Does::Gets(id) => Act::Get(id),
+        Does::AsksRoom => Act::Room,
+    })
+}
+
+fn reply_text(alloc: Global, reply: &Reply) -> Result<String, Fail> {
+    Ok(match reply {
+        Reply::Inserted(id) => format!(in alloc; "inserted {id}")?,
+        Reply::Updated(id) => format!(in alloc; "updated {id}")?,
+        Reply::Deleted(id) => format!(in alloc; "deleted {id}")?,
+        Reply::Begun(blocks) => format!(in alloc; "begun {blocks}")?,
+        Reply::Left(blocks) => format!(in alloc; "left {blocks}")?,
+        Reply::Answer(list) => answer_text(alloc, list.as_slice())?,
+        Reply::Abandoned => format!(in alloc; "abandoned")?,
+        Reply::Found(id, row) => found_text(alloc, *id, row)?,
+        Reply::Room(room) => format!(in alloc; "room {room}")?,
+        Reply::Refused(fault) => format!(in alloc; "refused: {fault}")?,
+    })
+}
+
+fn found_text(alloc: Global, id: u64, row: &Row) -> Result<String, Fail> {
+    let value = row.cell(0);
+    Ok(format!(in alloc; "row {id}: {value}")?)
+}
+
+/// What the clients of a board are told, one call after the other.
+fn told<J: Naming, R: Wait>(
+    rt: &R,
+    alloc: Global,
+    board: &Board<J>,
+    clients: &mut [Client<J>],
+    run: &[(u8, Does)],
+) -> Result<String, Fail> {
+    let schema = columns(alloc)?;
+    let mut text = String::new(alloc);
+    for (number, does) in run {
+        let act = act(alloc, &schema, *does)?;
+        let client = clients.get_mut(*number as usize).ok_or("client")?;
+        let reply = match perform(rt, alloc, board, client, act) {
+            Ok(reply) => reply_text(alloc, &reply)?,
+            Err(fault) => format!(in alloc; "stopped: {fault}")?,
+        };
+        text.push_str(reply.as_str())?;
+        text.push_str(" / ")?;
+    }
+    Ok(text)
+}
+
+/// A new board with its first two clients.
+fn opened_for_two<J: Naming, R: Wait + Abort>(
+    rt: &R,
+    alloc: Global,
+    name: Name,
+    setup: Setup,
+    rows: &[Row],
+) -> Result<(Board<J>, Client<J>, Client<J>), Fail>
+    requires book { name.seen.book ≡ J.book }
+    requires opening { J.opening ≡ record { limits = setup; rows = rows.now } }
+{
+    let (board, clients) = open_board::<J, R>(rt, alloc, name, setup, rows)?;
+    let mut clients = clients.into_iter();
+    match (clients.next(), clients.next()) {
+        (Some(first), Some(second)) => Ok((board, first, second)),
+        _ => panic!(rt; "there are two clients"),
+    }
+}

@@ -1,0 +1,236 @@
+//! Requests for memory that are refused. `tests/refuse_each_allocation.sh` runs these tests once for each of their requests,
+//! and refuses it; where none is refused they show that each call of a client succeeds.
+
+ghost use Rattle.std.specs.Prelude.{◌≡◌};
+
+use super::{answer_text, columns, opened_for_two, row, rows, setup};
+use crate::{BeginFault, Board, Client, Name, Naming, ShareFault};
+use pref_core::{CoreFault, Setup};
+use pref_sky::Ranked;
+use pref_table::Row;
+use pref_term::{Ask, read_ask};
+use std::alloc::Global;
+use std::marker::Brand;
+use std::process::Abort;
+use std::sync::Wait;
+use std::test::Fail;
+
+/// Memory was refused, and nothing has joined the history that the client sees.
+fn check_refusal<J: Naming>(
+    rt: &impl Abort,
+    fault: ShareFault,
+    client: &Client<J>,
+    seen_before: u64,
+) {
+    assert_eq!(rt; fault, ShareFault::Core(CoreFault::OutOfMemory));
+    assert_eq!(rt; client.seen(), seen_before);
+}
+
+/// Inserts a row, once more where memory was refused.
+fn insert_in_the_end<J: Naming, R: Wait + Abort>(
+    rt: &R,
+    alloc: Global,
+    board: &Board<J>,
+    client: &mut Client<J>,
+    row: &Row,
+) -> u64 {
+    let before = client.seen();
+    match client.insert(rt, alloc, board, *row) {
+        Ok(id) => id,
+        Err(fault) => {
+            check_refusal(rt, fault, client, before);
+            client.insert(rt, alloc, board, *row).expect(rt, "memory")
+        }
+    }
+}
+
+/// Updates a row, once more where memory was refused.
+fn update_in_the_end<J: Naming, R: Wait + Abort>(
+    rt: &R,
+    alloc: Global,
+    board: &Board<J>,
+    client: &mut Client<J>,
+    id: u64,
+    row: &Row,
+) {
+    let before = client.seen();
+    if let Err(fault) = client.update(rt, alloc, board, id, *row) {
+        check_refusal(rt, fault, client, before);
+        client
+            .update(rt, alloc, board, id, *row)
+            .expect(rt, "memory");
+    }
+}
+
+/// Deletes a row, once more where memory was refused.
+fn delete_in_the_end<J: Naming, R: Wait + Abort>(
+    rt: &R,
+    alloc: Global,
+    board: &Board<J>,
+    client: &mut Client<J>,
+    id: u64,
+) {
+    let before = client.seen();
+    if let Err(fault) = client.delete(rt, alloc, board, id) {
+        check_refusal(rt, fault, client, before);
+        client.delete(rt, alloc, board, id).expect(rt, "memory");
+    }
+}
+
+/// Begins a query, once more where memory was refused, with the ask that was handed back.
+fn begin_in_the_end<J: Naming, R: Wait + Abort>(
+    rt: &R,
+    alloc: Global,
+    board: &Board<J>,
+    client: &mut Client<J>,
+    ask: Ask,
+) -> u32 {
+    let before = client.seen();
+    let ask = match client.begin(rt, alloc, board, ask) {
+        Ok(blocks) => return blocks,
+        Err(BeginFault { fault, ask }) => {
+            check_refusal(rt, fault, client, before);
+            ask
+        }
+    };
+    match client.begin(rt, alloc, board, ask) {
+        Ok(blocks) => blocks,
+        Err(_) => panic!(rt; "memory"),
+    }
+}
+
+/// Scans a block, once more where memory was refused.
+fn scan_in_the_end<J: Naming>(rt: &impl Abort, alloc: Global, client: &mut Client<J>) -> u32 {
+    let before = client.seen();
+    match client.scan(alloc) {
+        Ok(left) => left,
+        Err(fault) => {
+            check_refusal(rt, fault, client, before);
+            client.scan(alloc).expect(rt, "memory")
+        }
+    }
+}
+
+/// Ends a query with its answer, once more where memory was refused.
+fn finish_in_the_end<J: Naming, R: Wait + Abort>(
+    rt: &R,
+    alloc: Global,
+    board: &Board<J>,
+    client: &mut Client<J>,
+) -> Vec<Ranked> {
+    let before = client.seen();
+    match client.finish(rt, alloc, board) {
+        Ok(ranked) => ranked,
+        Err(fault) => {
+            check_refusal(rt, fault, client, before);
+            client.finish(rt, alloc, board).expect(rt, "memory")
+        }
+    }
+}
+
+/// Ends a query without an answer, once more where memory was refused.
+fn abandon_in_the_end<J: Naming, R: Wait + Abort>(
+    rt: &R,
+    alloc: Global,
+    board: &Board<J>,
+    client: &mut Client<J>,
+) {
+    let before = client.seen();
+    if let Err(fault) = client.abandon(rt, alloc, board) {
+        check_refusal(rt, fault, client, before);
+        client.abandon(rt, alloc, board).expect(rt, "memory");
+    }
+}
+
+/// Changes a table with the one row 5 of id 1, and reads it.
+fn change_and_read<J: Naming, R: Wait + Abort>(
+    rt: &R,
+    alloc: Global,
+    board: &Board<J>,
+    client: &mut Client<J>,
+    row: &Row,
+) {
+    assert_eq!(rt; insert_in_the_end(rt, alloc, board, client, row), 2);
+    update_in_the_end(rt, alloc, board, client, 1, row);
+    delete_in_the_end(rt, alloc, board, client, 2);
+    assert_eq!(rt; client.get(1), Ok(*row));
+    assert_eq!(rt; client.room(), Ok(3));
+}
+
+fn changed_and_read<J: Naming, R: Wait + Abort>(
+    rt: &R,
+    alloc: Global,
+    name: Name,
+    setup: Setup,
+    rows: &[Row],
+    row: &Row,
+) -> Result<(), Fail>
+    requires book { name.seen.book ≡ J.book }
+    requires opening { J.opening ≡ record { limits = setup; rows = rows.now } }
+{
+    let (board, mut client, _other) = opened_for_two::<J, R>(rt, alloc, name, setup, rows)?;
+    change_and_read(rt, alloc, &board, &mut client, row);
+    board.close(rt);
+    Ok(())
+}
+
+#[test]
+fn refused_then_again(rt: HostRuntime) -> Result<(), Fail> {
+    let alloc = rt.alloc();
+    let schema = columns(alloc)?;
+    let opening = rows(alloc, &schema, &[5])?;
+    let changed = row(&schema, 6)?;
+    let setup = setup(2, 4, 2)?;
+    changed_and_read::<Brand, _>(&rt, alloc, Name::new(), setup, &opening, &changed)
+}
+
+/// Abandons a query of two blocks, and asks it again to its end.
+fn abandon_and_ask<J: Naming, R: Wait + Abort>(
+    rt: &R,
+    alloc: Global,
+    board: &Board<J>,
+    client: &mut Client<J>,
+    asks: (Ask, Ask),
+) -> Vec<Ranked> {
+    assert_eq!(rt; begin_in_the_end(rt, alloc, board, client, asks.0), 2);
+    abandon_in_the_end(rt, alloc, board, client);
+    assert_eq!(rt; begin_in_the_end(rt, alloc, board, client, asks.1), 2);
+    assert_eq!(rt; scan_in_the_end(rt, alloc, client), 1);
+    assert_eq!(rt; scan_in_the_end(rt, alloc, client), 0);
+    finish_in_the_end(rt, alloc, board, client)
+}
+
+fn answered<J: Naming, R: Wait + Abort>(
+    rt: &R,
+    alloc: Global,
+    name: Name,
+    setup: Setup,
+    rows: &[Row],
+    asks: (Ask, Ask),
+) -> Result<Vec<Ranked>, Fail>
+    requires book { name.seen.book ≡ J.book }
+    requires opening { J.opening ≡ record { limits = setup; rows = rows.now } }
+{
+    let (board, mut client, _other) = opened_for_two::<J, R>(rt, alloc, name, setup, rows)?;
+    let ranked = abandon_and_ask(rt, alloc, &board, &mut client, asks);
+    board.close(rt);
+    Ok(ranked)
+}
+
+#[test]
+fn a_query_refused_then_again(rt: HostRuntime) -> Result<(), Fail> {
+    let alloc = rt.alloc();
+    let schema = columns(alloc)?;
+    let opening = rows(alloc, &schema, &[5, 4, 6])?;
+    let asks = (
+        read_ask(alloc, &schema, b"best low(x)")?,
+        read_ask(alloc, &schema, b"best low(x)")?,
+    );
+    let setup = setup(2, 4, 2)?;
+    let ranked = answered::<Brand, _>(&rt, alloc, Name::new(), setup, &opening, asks)?;
+    assert_eq!(rt;
+        answer_text(alloc, &ranked)?.as_str(),
+        "answer level 1 id 2: 4"
+    );
+    Ok(())
+}
