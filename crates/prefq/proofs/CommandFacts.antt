@@ -4,7 +4,7 @@ use Rattle.std.specs.List.{list_all}
 use Rattle.std.proofs.lemmas.List.{append-nil}
 use Rattle.pref_table.specs.Number.{is_blank}
 use Rattle.pref_core.specs.declared.event.Event.{Event}
-use Rattle.prefq.specs.Commands.{Command, refused, runs, command_of, commands_in, commands_of, event_of, events_of}
+use Rattle.prefq.specs.Commands.{Command, refused, runs, commands_in, commands_of, event_of, events_of}
 use Rattle.prefq.specs.Reading.{Adds, line_for}
 use Rattle.prefq.specs.Script.{line_of, raw_lines}
 use Rattle.prefq.specs.declared.command.Refusal.{Refusal}

@@ -4,5 +4,7 @@ pub mod WordsFacts
 pub mod CommandFacts
 pub mod TextFacts
 pub mod OutputFacts
+pub mod ClientFacts
+pub mod ThreadsFacts
 pub mod Examples
 pub mod QuestionExamples

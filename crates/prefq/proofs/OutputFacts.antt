@@ -1,7 +1,7 @@
 -- The output of a script, part by part.
-use Rattle.std.proofs.Common.{◌≡◌, ◌∙◌, ℕ, ◌<◌, List, [], ◌∷◌, ◌++◌, length, sym, ap, refl, arith, Ok, Err, Bool, true, false, ◌⊎◌, inl, inr, Option, take, map, ℤ}
+use Rattle.std.proofs.Common.{◌≡◌, ◌∙◌, ℕ, ◌<◌, List, [], ◌∷◌, ◌++◌, length, ap, refl, arith, Ok, Err, Bool, true, false, ◌⊎◌, inl, inr, Option, take, map, ℤ}
 use Rattle.std.proofs.lemmas.Bool.{cases_lt, le-ltb, lt-ltb}
-use Rattle.std.proofs.lemmas.List.{append-nil, take_all}
+use Rattle.std.proofs.lemmas.List.{take_all}
 use Rattle.std.specs.Prelude.{nat_lt}
 use Rattle.std.specs.List.{position_or_len}
 use Rattle.std.specs.Io.KnownBytes.{Appends}
@@ -14,9 +14,9 @@ use Rattle.pref_core.specs.declared.fault.CoreFault.TheVariants as core
 use Rattle.pref_core.specs.declared.fault.CoreFault.{CoreFault}
 use Rattle.pref_core.specs.declared.event.Event.{Event}
 use Rattle.pref_core.specs.declared.event.Reply.{Reply}
-use Rattle.prefq.specs.Commands.{Command, refused, runs, commands_of, events_of}
-use Rattle.prefq.specs.Output.{Script, fault_text, output, script_of, script_with, told}
-use Rattle.prefq.specs.Reading.{ScriptFault, core_fault, line_for, lines_text, table_fault}
+use Rattle.prefq.specs.Commands.{Command, refused, runs, events_of}
+use Rattle.prefq.specs.Output.{ScriptFault, fault_text, output, script_of, script_with, told}
+use Rattle.prefq.specs.Reading.{core_fault, line_for, lines_text, table_fault}
 use Rattle.prefq.specs.Script.{Parts, is_end, is_table, parts_of, raw_lines}
 use Rattle.prefq.specs.Text.{refused_line, reply_lines}
 use Rattle.prefq.specs.declared.commands.Line.{Line}
@@ -105,3 +105,4 @@ wrote-part limits fault.Memory bytes count held holds h a = (0, rw (take_all {A 
 wrote-part limits fault.Read bytes count held holds h a = absurd h
 wrote-part limits fault.Write bytes count held holds h a = absurd h
 wrote-part limits fault.TooLarge bytes count held holds h a = absurd h
+wrote-part limits (fault.Threads why) bytes count held holds h a = absurd h

@@ -1,24 +1,23 @@
 -- Lines that are printed one after the other.
-use Rattle.std.proofs.Common.{◌≡◌, ◌∙◌, ℕ, ◌+◌, ◌<◌, ◌≤◌, List, [], ◌∷◌, ◌++◌, length, drop, get_or, sym, ap, refl, arith, append_assoc}
+use Rattle.std.proofs.Common.{◌≡◌, ◌∙◌, ℕ, ◌+◌, ◌<◌, ◌≤◌, List, ◌++◌, length, drop, get_or, sym, append_assoc}
 use Rattle.std.proofs.lemmas.List.{append-nil, drop_more, drop_all}
-use Rattle.pref_sky.specs.declared.entry.Ranked.{Ranked}
 use Rattle.pref_core.specs.declared.event.Reply.{Reply}
 use Rattle.prefq.specs.Reading.{line_text, lines_text, replies_after}
-use Rattle.prefq.specs.Text.{level_line, level_lines}
+use Rattle.prefq.specs.Text.{texts}
 use Rattle.prefq.specs.declared.commands.Line.{Line}
 
--- one row of an answer more
-pub levels-more : (out wrote all : List ℕ) (width : ℕ) (rows : List Ranked) (place : ℕ) (row d : Ranked) → place < length rows → get_or rows place d ≡ row
-    → out ++ level_lines width (drop place rows) ≡ all → wrote ≡ out ++ level_line width row → wrote ++ level_lines width (drop (place + 1) rows) ≡ all
-unfolding level_lines
-levels-more out wrote all width rows place row d inside here before now =
-    let whole = rw (drop_more rows place d inside, here) at before in
-    rw now (append_assoc out (level_line width row) (level_lines width (drop (place + 1) rows)) ∙ whole)
+-- one text more
+pub texts-more : {A : Type 0} (text : A → List ℕ) (out wrote all : List ℕ) (xs : List A) (place : ℕ) (x d : A) → place < length xs → get_or xs place d ≡ x
+    → out ++ texts text (drop place xs) ≡ all → wrote ≡ out ++ text x → wrote ++ texts text (drop (place + 1) xs) ≡ all
+unfolding texts
+texts-more text out wrote all xs place x d inside here before now =
+    let whole = rw (drop_more xs place d inside, here) at before in
+    rw now (append_assoc out (text x) (texts text (drop (place + 1) xs)) ∙ whole)
 
 -- and none more
-pub levels-end : (out all : List ℕ) (width : ℕ) (rows : List Ranked) (place : ℕ) → length rows ≤ place → out ++ level_lines width (drop place rows) ≡ all → out ≡ all
-unfolding level_lines
-levels-end out all width rows place none before = sym (append-nil out) ∙ rw (drop_all place rows none) at before
+pub texts-end : {A : Type 0} (text : A → List ℕ) (out all : List ℕ) (xs : List A) (place : ℕ) → length xs ≤ place → out ++ texts text (drop place xs) ≡ all → out ≡ all
+unfolding texts
+texts-end text out all xs place none before = sym (append-nil out) ∙ rw (drop_all place xs none) at before
 
 -- one command line more
 pub lines-more : (out wrote all : List ℕ) (width : ℕ) (lines : List Line) (place : ℕ) (line d : Line) (replies left : List Reply) → place < length lines → get_or lines place d ≡ line

@@ -8,3 +8,4 @@ pub mod Output
 pub mod Run
 pub mod Status
 pub mod Reading
+pub mod Threads

@@ -1,5 +1,5 @@
 -- The output of a script. (this project)
-use Rattle.std.specs.Prelude.{ℕ, ℤ, List, [], ◌∷◌, length, Result, Ok, Err, nat_lt, if◌then◌else◌, codes}
+use Rattle.std.specs.Prelude.{ℕ, ℤ, ◌≡◌, ⊤, List, [], ◌∷◌, length, Result, Ok, Err, nat_lt, if◌then◌else◌, codes}
 use Rattle.pref_table.specs.Numbered.{◌>>=◌}
 use Rattle.pref_table.specs.Tables.{Table, table_of}
 use Rattle.pref_table.specs.declared.fault.TableFault.{TableFault}
@@ -23,6 +23,7 @@ fault_text fault.Read = []
 fault_text fault.Write = []
 fault_text fault.TooLarge = []
 fault_text fault.Memory = []
+fault_text (fault.Threads why) = []
 
 -- a table, or the script's fault for the table's
 abbrev pub in_script : Result Table TableFault → Result Table RunFault
@@ -64,3 +65,15 @@ output_of limits (Err why) = fault_text why
 -- the whole output of a script
 abbrev pub output : Limits → List ℕ → List ℕ
 output limits bytes = output_of limits (script_of limits bytes)
+
+-- a fault that comes after the input was read and before the output is written
+abbrev pub ScriptFault : RunFault → Result Script RunFault → Type 0
+ScriptFault fault.Memory said = ⊤
+ScriptFault fault.NoTable said = said ≡ Err fault.NoTable
+ScriptFault fault.NoEnd said = said ≡ Err fault.NoEnd
+ScriptFault (fault.Table why) said = said ≡ Err (fault.Table why)
+ScriptFault (fault.Opening why) said = said ≡ Err (fault.Opening why)
+ScriptFault fault.Read said = ⊥
+ScriptFault fault.Write said = ⊥
+ScriptFault fault.TooLarge said = ⊥
+ScriptFault (fault.Threads why) said = ⊥

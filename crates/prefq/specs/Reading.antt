@@ -1,14 +1,22 @@
 -- No public contract cites this.
 -- How the code goes through a script. (this project)
-use Rattle.std.specs.Prelude.{ℕ, ◌≡◌, ⊤, List, [], ◌∷◌, ◌++◌, map, Result, Ok, Err}
+use Rattle.std.specs.Prelude.{ℕ, suc, ◌≡◌, ◌<◌, ⊤, List, [], ◌∷◌, ◌++◌, length, map, Result, Ok, Err, if◌then◌else◌, slice_index_or}
+use Rattle.std.specs.Global.{Vec}
+use Rattle.pref_table.specs.Tables.{table_of}
 use Rattle.pref_table.specs.declared.fault.TableFault.{TableFault}
 use Rattle.pref_table.specs.declared.fault.TableFault.TheVariants as table
-use Rattle.pref_core.specs.Limits.{Limits}
 use Rattle.pref_core.specs.declared.fault.CoreFault.{CoreFault}
 use Rattle.pref_core.specs.declared.fault.CoreFault.TheVariants as core
 use Rattle.pref_core.specs.declared.event.Reply.{Reply}
-use Rattle.prefq.specs.Commands.{Command, refused, runs, events_of}
-use Rattle.prefq.specs.Output.{Script, script_of}
+use Rattle.pref_core.specs.declared.event.Act.{Act}
+use Rattle.pref_core.specs.declared.event.Event.{Event}
+use Rattle.pref_core.specs.declared.event.Reply.TheVariants.{Refused as NotThere}
+use Rattle.pref_core.specs.declared.fault.CoreFault.TheVariants.{NoSuchClient}
+use Rattle.pref_share.specs.declared.fault.ShareFault.{ShareFault}
+use Rattle.pref_share.specs.declared.fault.ShareFault.TheVariants as share
+use Rattle.prefq.specs.Threads.{acts_of, is_client}
+use Rattle.prefq.specs.Commands.{Command, refused, runs, commands_of, events_of}
+use Rattle.prefq.specs.Script.{Parts, parts_of, raw_lines}
 use Rattle.prefq.specs.Text.{◌<>◌, refused_line, reply_lines}
 use Rattle.prefq.specs.declared.command.Refusal.{Refusal}
 use Rattle.prefq.specs.declared.command.Stop.{Stop}
@@ -18,6 +26,7 @@ use Rattle.prefq.specs.declared.commands.Line.TheVariants.{Refused as LineRefuse
 use Rattle.prefq.specs.declared.commands.Commands.{Commands}
 use Rattle.prefq.specs.declared.fault.RunFault.{RunFault}
 use Rattle.prefq.specs.declared.fault.RunFault.TheVariants as fault
+use Rattle.prefq.specs.declared.reading.Script.{Script as Read}
 
 -- what was read is what is said, unless memory ran out
 abbrev pub Reads : {X : Type 0} → Result X Stop → Result X Refusal → Type 0
@@ -61,13 +70,25 @@ abbrev pub core_fault : CoreFault → RunFault
 core_fault core.OutOfMemory = fault.Memory
 core_fault why = fault.Opening why
 
--- a fault that comes after the input was read and before the output is written
-abbrev pub ScriptFault : RunFault → Result Script RunFault → Type 0
-ScriptFault fault.Memory said = ⊤
-ScriptFault fault.NoTable said = said ≡ Err fault.NoTable
-ScriptFault fault.NoEnd said = said ≡ Err fault.NoEnd
-ScriptFault (fault.Table why) said = said ≡ Err (fault.Table why)
-ScriptFault (fault.Opening why) said = said ≡ Err (fault.Opening why)
-ScriptFault fault.Read said = ⊥
-ScriptFault fault.Write said = ⊥
-ScriptFault fault.TooLarge said = ⊥
+-- what stopped the clients as a fault of the run
+abbrev pub share_fault : ShareFault → RunFault
+share_fault (share.Core why) = core_fault why
+share_fault why = fault.Threads why
+
+-- what was read is the script of these bytes, whether or not there is room for its rows
+pub record IsReadOf (bytes : List ℕ) (read : Read) : Type 0 where
+  pub parts : Parts
+  pub cut : parts_of (raw_lines bytes) ≡ Ok parts
+  pub table : table_of parts.table ≡ Ok (read.schema, read.rows.items)
+  pub lines : read.commands.lines.items ≡ map line_for (commands_of read.schema parts.first parts.commands)
+  pub events : read.commands.events.items ≡ events_of (commands_of read.schema parts.first parts.commands)
+
+-- what is told of a line that belongs to no client, as the code holds it
+abbrev pub unowned_text : ℕ → ℕ → Line → List ℕ
+unowned_text clients width (LineRefused number why) = refused_line number why
+unowned_text clients width (LineAnswered client) = if is_client clients client then [] else reply_lines width client (NotThere NoSuchClient)
+
+-- an event more: its act stands behind those of its client
+pub record AddsAct (event : Event) (old new : List (Vec Act)) : Type 0 where
+  pub lists : length new ≡ length old
+  pub each : (place : ℕ) (d : Vec Act) → place < length old → (slice_index_or new place d).items ≡ (slice_index_or old place d).items ++ acts_of (suc place) (event ∷ [])

@@ -1,5 +1,5 @@
 -- What a run of a script reads and writes. (this project)
-use Rattle.std.specs.Prelude.{ℕ, ◌≡◌, ◌<◌, ◌≤◌, Bool, true, List, length, take, Option, Result, Ok, Err, IsOk}
+use Rattle.std.specs.Prelude.{ℕ, ◌≡◌, ◌≤◌, Bool, true, List, length, take, Option, Result, Ok, Err, IsOk}
 use Rattle.std.specs.Io.KnownBytes.{Appends, Consumes, IsAtEnd, Keeps}
 use Rattle.pref_core.specs.Limits.{Limits}
 use Rattle.prefq.specs.Input.{HadTooMany}
@@ -44,3 +44,4 @@ Ran limits ports (Err fault.NoTable) = ToldFault limits ports fault.NoTable
 Ran limits ports (Err fault.NoEnd) = ToldFault limits ports fault.NoEnd
 Ran limits ports (Err (fault.Table why)) = ToldFault limits ports (fault.Table why)
 Ran limits ports (Err (fault.Opening why)) = ToldFault limits ports (fault.Opening why)
+Ran limits ports (Err (fault.Threads why)) = ⊥

@@ -9,6 +9,7 @@ status_of fault.Read = 1
 status_of fault.Write = 1
 status_of fault.TooLarge = 1
 status_of fault.Memory = 1
+status_of (fault.Threads why) = 1
 status_of fault.NoTable = 2
 status_of fault.NoEnd = 2
 status_of (fault.Table why) = 2

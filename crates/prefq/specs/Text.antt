@@ -62,10 +62,14 @@ row_text width cells = join_with_byte 44 (map (λ col. signed_decimal (slice_ind
 abbrev pub level_line : ℕ → Ranked → List ℕ
 level_line width ranked = codes "level " <> decimal ranked.level <> codes " id " <> decimal ranked.id <> codes ": " <> row_text width ranked.row <> codes "\n"
 
+-- the texts of some things, one after the other
+unfoldable pub texts : {A : Type 0} → (A → List ℕ) → List A → List ℕ
+texts text [] = []
+texts text (x ∷ more) = text x <> texts text more
+
 -- the lines of the rows in an answer
-unfoldable pub level_lines : ℕ → List Ranked → List ℕ
-level_lines width [] = []
-level_lines width (ranked ∷ more) = level_line width ranked <> level_lines width more
+abbrev pub level_lines : ℕ → List Ranked → List ℕ
+level_lines width rows = texts (level_line width) rows
 
 -- the line or the lines of a reply to a client; rows are printed over the width of the table
 abbrev pub reply_lines : ℕ → ℕ → Reply → List ℕ

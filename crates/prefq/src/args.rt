@@ -105,7 +105,7 @@ fn program<'a>(alloc: Global) -> Result<Command<'a>, AllocError> {
         .subcommand(run_command(
             alloc,
             "threads",
-            "Runs each client on a thread of its own (not there yet)",
+            "Runs the script of standard input, each client on a thread of its own",
         )?)
 }
 

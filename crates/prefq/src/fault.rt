@@ -3,6 +3,7 @@ ghost use Rattle.std.specs.Prelude.{◌≡◌};
 ghost use Rattle.prefq.specs.declared.fault.RunFault.TheVariants.{Memory};
 
 use pref_core::CoreFault;
+use pref_share::ShareFault;
 use pref_table::TableFault;
 use std::alloc::{AllocError, AllocFailed};
 use thiserror::Error;
@@ -34,6 +35,9 @@ pub enum RunFault {
     /// The engine refuses the opening rows.
     #[error("opening: {0}")]
     Opening(CoreFault),
+    /// The clients on threads were stopped: by the gate, by a client in use or by a closed board.
+    #[error("threads: {0}")]
+    Threads(ShareFault),
 }
 
 impl From<AllocError> for RunFault {
@@ -61,7 +65,11 @@ impl RunFault {
         ensures { result ≡ status_of self.now }
     {
         match self {
-            RunFault::Read | RunFault::Write | RunFault::TooLarge | RunFault::Memory => 1,
+            RunFault::Read
+            | RunFault::Write
+            | RunFault::TooLarge
+            | RunFault::Memory
+            | RunFault::Threads(_) => 1,
             RunFault::NoTable | RunFault::NoEnd | RunFault::Table(_) | RunFault::Opening(_) => 2,
         }
     }

@@ -1,27 +1,36 @@
 //! A preference table that runs a script.
 #![tactic(auto)]
 
+mod acts;
 mod args;
 mod command;
 mod commands;
 mod fault;
 mod input;
 mod output;
+mod reading;
 mod replies;
 mod run;
 mod script;
 mod text;
+mod threads;
 mod watched;
 mod words;
 
-use args::{ArgsFault, read_args};
+use args::{Args, ArgsFault, read_args};
 use fault::RunFault;
+use input::read_input;
+use output::write_output;
 use pref_core::Setup;
+use run::{fault_line, run_script};
 use std::alloc::{AllocError, Global};
 use std::env;
-use std::io::ErrorKind;
+use std::io::{ErrorKind, Read, Write};
 use std::process::ExitCode;
 use std::rt::Env;
+use std::sync::Wait;
+use std::thread::Threads;
+use threads::{OpenGate, run_threads};
 use watched::Watched;
 
 /// The status of refused arguments.
@@ -79,6 +88,7 @@ fn report(rt: &impl Print, fault: &RunFault) {
         RunFault::Read => say(rt, "fault: read"),
         RunFault::TooLarge => say(rt, "fault: too large"),
         RunFault::Memory => say(rt, "fault: memory"),
+        RunFault::Threads(_) => say(rt, "fault: threads"),
         RunFault::Write
         | RunFault::NoTable
         | RunFault::NoEnd
@@ -91,7 +101,7 @@ fn report(rt: &impl Print, fault: &RunFault) {
 fn play(rt: &HostRuntime, setup: Setup) -> u8 {
     let mut reader = Watched::new(rt.stdin());
     let mut writer = Watched::new(rt.stdout());
-    match run::run_script(rt.alloc(), &mut reader, &mut writer, setup) {
+    match run_script(rt.alloc(), &mut reader, &mut writer, setup) {
         Ok(()) => 0,
         Err(fault) => {
             report(rt, &fault);
@@ -100,26 +110,61 @@ fn play(rt: &HostRuntime, setup: Setup) -> u8 {
     }
 }
 
-fn status(rt: &HostRuntime) -> u8 {
-    let words = match arguments(rt) {
-        Ok(words) => words,
-        Err(fault) => return refuse(rt, fault),
+/// The output of the script that is read, each client's events on a thread of its own.
+fn threads_output<T: Threads + Wait + Sync + AllocGlobal, R: Read + Drop>(
+    rt: &T,
+    reader: R,
+    setup: Setup,
+) -> Result<Vec<u8>, RunFault> {
+    let mut reader = Watched::new(reader);
+    let input = read_input(rt.alloc(), &mut reader)?;
+    run_threads(rt, rt.alloc(), input.as_slice(), setup, &OpenGate)
+}
+
+/// Runs the script that is read, each client's events on a thread of its own, and writes the output or a fault's line.
+fn run_on_threads<T: Threads + Wait + Sync + AllocGlobal + Print, R: Read + Drop, W: Write + Drop>(
+    rt: &T,
+    reader: R,
+    writer: W,
+    setup: Setup,
+) -> u8 {
+    let mut writer = Watched::new(writer);
+    let fault = match threads_output(rt, reader, setup) {
+        Ok(output) => match write_output(&mut writer, output.as_slice()) {
+            Ok(()) => return 0,
+            Err(fault) => fault,
+        },
+        Err(fault) => {
+            if let Ok(line) = fault_line(rt.alloc(), &fault) {
+                let _ = write_output(&mut writer, line.as_slice());
+            }
+            fault
+        }
     };
+    report(rt, &fault);
+    fault.status()
+}
+
+/// What the program's words ask for.
+fn given_args(rt: &(impl Env + AllocGlobal)) -> Result<Args, ArgsFault> {
+    let words = arguments(rt)?;
     let Ok(lent) = lent(rt.alloc(), words.as_slice()) else {
-        return refuse(rt, ArgsFault::Memory);
+        return Err(ArgsFault::Memory);
     };
-    let args = match read_args(rt.alloc(), lent.as_slice()) {
-        Ok(args) => args,
-        Err(fault) => return refuse(rt, fault),
-    };
-    if args.threads {
-        return refuse(rt, ArgsFault::Refused);
-    }
-    play(rt, args.setup)
+    read_args(rt.alloc(), lent.as_slice())
 }
 
 fn main(rt: HostRuntime) -> ExitCode {
-    ExitCode::from(status(&rt))
+    let args = match given_args(&rt) {
+        Ok(args) => args,
+        Err(fault) => return ExitCode::from(refuse(&rt, fault)),
+    };
+    let status = if args.threads {
+        run_on_threads(&rt, rt.stdin(), rt.stdout(), args.setup)
+    } else {
+        play(&rt, args.setup)
+    };
+    ExitCode::from(status)
 }
 
 #[cfg(test)]

@@ -1,10 +1,12 @@
 //! The lines of a script's replies.
-ghost use Rattle.std.specs.Prelude.{◌≡◌, ◌≤◌, ◌++◌, IfOk, OnOk, string_bytes};
-ghost use Rattle.prefq.specs.Reading.{line_text, lines_text, replies_after};
+ghost use Rattle.std.specs.Prelude.{◌≡◌, ◌≤◌, ◌++◌, IfOk, OnOk, length, string_bytes};
+ghost use Rattle.prefq.specs.Reading.{line_text, lines_text, replies_after, unowned_text};
+ghost use Rattle.prefq.specs.Text.{reply_lines, texts};
+ghost use Rattle.prefq.specs.Threads.{clients_lines, is_client};
 
 use crate::commands::Line;
 use crate::text::{push_refused, push_reply};
-use pref_core::Reply;
+use pref_core::{CoreFault, Reply};
 use std::alloc::AllocError;
 
 /// Appends what a line is told: its refusal, or the first of these replies. Gives the replies that are left.
@@ -46,6 +48,89 @@ pub fn push_lines(
     let mut left = replies;
     for line in lines {
         left = push_line(out, width, line, left)?;
+    }
+    Ok(())
+}
+
+/// Whether one of so many clients has this number.
+fn is_client(clients: u8, number: u8) -> bool
+    ensures { result ≡ is_client clients number }
+{
+    0 < number && number <= clients
+}
+
+/// Appends what a line is told that belongs to none of so many clients: its refusal, or that there is no such client.
+fn push_if_unowned(
+    out: &mut String,
+    width: usize,
+    clients: u8,
+    line: &Line,
+) -> Result<(), AllocError>
+    requires { width ≤ 16 }
+    ensures { OnOk result (string_bytes out.new ≡ string_bytes out.old ++ unowned_text clients width line.now) }
+{
+    match line {
+        Line::Refused(number, why) => push_refused(out, *number, why),
+        Line::Answered(client) => {
+            if is_client(clients, *client) {
+                return Ok(());
+            }
+            push_reply(
+                out,
+                width,
+                *client,
+                &Reply::Refused(CoreFault::NoSuchClient),
+            )
+        }
+    }
+}
+
+/// Appends the lines that belong to none of so many clients.
+pub fn push_unowned(
+    out: &mut String,
+    width: usize,
+    clients: u8,
+    lines: &[Line],
+) -> Result<(), AllocError>
+    requires { width ≤ 16 }
+    ensures { OnOk result (string_bytes out.new ≡ string_bytes out.old ++ texts (unowned_text clients width) lines.now) }
+{
+    for line in lines {
+        push_if_unowned(out, width, clients, line)?;
+    }
+    Ok(())
+}
+
+/// Appends the lines of a client's replies.
+fn push_replies(
+    out: &mut String,
+    width: usize,
+    client: u8,
+    replies: &[Reply],
+) -> Result<(), AllocError>
+    requires { width ≤ 16 }
+    ensures { OnOk result (string_bytes out.new ≡ string_bytes out.old ++ texts (reply_lines width client) replies.now) }
+{
+    for reply in replies {
+        push_reply(out, width, client, reply)?;
+    }
+    Ok(())
+}
+
+/// Appends the lines of each client's replies, in order of the clients.
+pub fn push_clients(
+    out: &mut String,
+    width: usize,
+    replies: &[Vec<Reply>],
+) -> Result<(), AllocError>
+    requires width { width ≤ 16 }
+    requires few { length replies.now ≤ 8 }
+    ensures { OnOk result (string_bytes out.new ≡ string_bytes out.old ++ clients_lines width 1 replies.now) }
+{
+    let mut client = 1;
+    for told in replies {
+        push_replies(out, width, client, told.as_slice())?;
+        client += 1;
     }
     Ok(())
 }

@@ -1,21 +1,19 @@
 //! A script from its bytes to the bytes of its output.
 ghost use Rattle.std.specs.Prelude.{◌≡◌, ◌≤◌, ◌<◌, ℕ, List, false, length, IfOk, IsOk, MatchResult, string_bytes};
 ghost use Rattle.std.specs.Io.KnownBytes.{Consumes};
-ghost use Rattle.prefq.specs.Output.{fault_text, output, script_of};
-ghost use Rattle.prefq.specs.Reading.{ScriptFault, core_fault, table_fault};
+ghost use Rattle.prefq.specs.Output.{ScriptFault, fault_text, output, script_of};
+ghost use Rattle.prefq.specs.Reading.{core_fault};
 ghost use Rattle.prefq.specs.Run.{Ran};
 ghost use Rattle.prefq.specs.Watched.{has_failed, inside};
 
-use crate::commands::read_commands;
 use crate::fault::RunFault;
 use crate::input::read_input;
 use crate::output::write_output;
+use crate::reading::{Script, read_script};
 use crate::replies::push_lines;
-use crate::script::parts;
 use crate::text::{push_core_fault, push_table_fault};
 use crate::watched::Watched;
 use pref_core::{CoreFault, Setup, replay};
-use pref_table::{TableFault, read_table};
 use std::alloc::{AllocError, Global};
 use std::io::{Read, Write};
 
@@ -37,21 +35,17 @@ pub fn fault_line(alloc: Global, fault: &RunFault) -> Result<Vec<u8>, AllocError
             push_core_fault(&mut line, *why)?;
             write!(line, "\n")?;
         }
-        RunFault::Read | RunFault::Write | RunFault::TooLarge | RunFault::Memory => {}
+        RunFault::Read
+        | RunFault::Write
+        | RunFault::TooLarge
+        | RunFault::Memory
+        | RunFault::Threads(_) => {}
     }
     Ok(line.into_bytes())
 }
 
-fn of_table(why: TableFault) -> RunFault
-    ensures { result ≡ table_fault why }
-{
-    match why {
-        TableFault::OutOfMemory => RunFault::Memory,
-        _ => RunFault::Table(why),
-    }
-}
-
-fn of_core(why: CoreFault) -> RunFault
+/// The engine's refusal of a script as a fault of the run.
+pub fn of_core(why: CoreFault) -> RunFault
     ensures { result ≡ core_fault why }
 {
     match why {
@@ -62,15 +56,13 @@ fn of_core(why: CoreFault) -> RunFault
 
 /// The text of a script's replies, or the script's fault.
 fn reply_text(alloc: Global, setup: Setup, bytes: &[u8]) -> Result<String, RunFault>
-    requires { length bytes.now ≤ 16777216 }
     ensures { MatchResult result (λ text. IsOk (script_of setup bytes.now) × (string_bytes text ≡ output setup bytes.now)) (λ fault. ScriptFault fault (script_of setup bytes.now)) }
 {
-    let script = parts(bytes)?;
-    let (schema, rows) = match read_table(alloc, script.table) {
-        Ok(table) => table,
-        Err(why) => return Err(of_table(why)),
-    };
-    let commands = read_commands(alloc, &schema, script)?;
+    let Script {
+        schema,
+        rows,
+        commands,
+    } = read_script(alloc, bytes)?;
     let replies = match replay(alloc, setup, rows.as_slice(), commands.events) {
         Ok(replies) => replies,
         Err(why) => return Err(of_core(why)),

@@ -1,9 +1,12 @@
 //! Runs of scripts, and of the arguments.
 mod arguments;
 mod ends;
+mod examples;
 mod faults;
 mod questions;
+mod refusals;
 mod rows;
+mod threads;
 
 use crate::fault::RunFault;
 use crate::run::run_script;

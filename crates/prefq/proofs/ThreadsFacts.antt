@@ -1,0 +1,75 @@
+-- What a run of a script on threads gives.
+use Rattle.std.proofs.Common.{◌≡◌, ◌∙◌, ℕ, ◌<◌, List, [], ◌++◌, length, refl, Ok, Err, ◌⊎◌, inl, inr, ℤ}
+use Rattle.std.specs.Global.{Vec}
+use Rattle.pref_core.specs.Limits.{Limits}
+use Rattle.pref_core.specs.declared.event.Act.{Act}
+use Rattle.pref_core.specs.declared.event.Reply.{Reply}
+use Rattle.pref_core.specs.declared.fault.CoreFault.TheVariants as core
+use Rattle.pref_share.specs.Runs.{IsJointRun, Stops}
+use Rattle.pref_share.specs.Standing.{newcomers}
+use Rattle.pref_share.specs.declared.fault.ShareFault.{ShareFault}
+use Rattle.pref_share.specs.declared.fault.ShareFault.TheVariants as share
+use Rattle.prefq.specs.Commands.{commands_of}
+use Rattle.prefq.specs.Output.{ScriptFault, script_of, script_with}
+use Rattle.prefq.specs.Reading.{IsReadOf, share_fault, unowned_text}
+use Rattle.prefq.specs.Text.{texts}
+use Rattle.prefq.specs.Threads.{AreActs, RanOnThreads, clients_lines, unowned_lines}
+use Rattle.prefq.specs.declared.commands.Line.{Line}
+use Rattle.prefq.specs.declared.fault.RunFault.{RunFault}
+use Rattle.prefq.specs.declared.fault.RunFault.TheVariants as fault
+use Rattle.prefq.specs.declared.reading.Script.{Script as Read}
+use Rattle.prefq.proofs.ClientFacts.{told-unowned}
+use Rattle.prefq.proofs.OutputFacts.{script-core-fault, script-ok}
+
+-- a fault of the script
+pub ran-fault : (limits : Limits) (bytes : List ℕ) (why : RunFault) → ScriptFault why (script_of limits bytes) → RanOnThreads limits bytes (Err why)
+ran-fault limits bytes fault.Memory h = h
+ran-fault limits bytes fault.NoTable h = h
+ran-fault limits bytes fault.NoEnd h = h
+ran-fault limits bytes (fault.Table why) h = h
+ran-fault limits bytes (fault.Opening why) h = h
+ran-fault limits bytes fault.Read h = h
+ran-fault limits bytes fault.Write h = h
+ran-fault limits bytes fault.TooLarge h = h
+ran-fault limits bytes (fault.Threads why) h = absurd h
+
+-- the clients were stopped
+ran-stopped : (limits : Limits) (bytes : List ℕ) (r : Read) → IsReadOf bytes r → (limits.capacity < length r.rows.items → ⊥) → (why : ShareFault)
+    → Stops (record { limits = limits; rows = r.rows.items }) why → RanOnThreads limits bytes (Err (share_fault why))
+ran-stopped limits bytes r read room (share.Core why) stops = rw stops tt
+ran-stopped limits bytes r read room (share.ClientInUse number) stops = (script_with read.parts (r.schema, r.rows.items), script-ok limits bytes read.parts (r.schema, r.rows.items) read.cut read.table room, stops)
+ran-stopped limits bytes r read room (share.Held client) stops = (script_with read.parts (r.schema, r.rows.items), script-ok limits bytes read.parts (r.schema, r.rows.items) read.cut read.table room, stops)
+ran-stopped limits bytes r read room share.Closed stops = (script_with read.parts (r.schema, r.rows.items), script-ok limits bytes read.parts (r.schema, r.rows.items) read.cut read.table room, stops)
+
+-- the board was not opened, or the clients were stopped
+pub ran-refused : (limits : Limits) (bytes : List ℕ) (r : Read) → IsReadOf bytes r → (rows : List (List ℤ)) → rows ≡ r.rows.items → (why : ShareFault)
+    → ((limits.capacity < length rows) × (why ≡ share.Core (core.Full (length rows)))) ⊎ ((limits.capacity < length rows → ⊥) × Stops (record { limits = limits; rows = rows }) why)
+    → RanOnThreads limits bytes (Err (share_fault why))
+ran-refused limits bytes r read rows same why refused = by (rw same at refused)
+  where
+    by : ((limits.capacity < length r.rows.items) × (why ≡ share.Core (core.Full (length r.rows.items)))) ⊎ ((limits.capacity < length r.rows.items → ⊥) × Stops (record { limits = limits; rows = r.rows.items }) why)
+        → RanOnThreads limits bytes (Err (share_fault why))
+    by (inl (many, full)) = rw full (script-core-fault limits bytes read.parts (r.schema, r.rows.items) (core.Full (length r.rows.items)) read.cut read.table (λ _. refl) (inr many))
+    by (inr (room, stops)) = ran-stopped limits bytes r read room why stops
+
+-- what is printed before the clients' lines
+unowned-printed : (clients width : ℕ) (bytes : List ℕ) (r : Read) (read : IsReadOf bytes r) (lines : List Line) (start unowned : List ℕ) → width ≡ length r.schema → lines ≡ r.commands.lines.items
+    → start ≡ [] → unowned ≡ start ++ texts (unowned_text clients width) lines → unowned ≡ unowned_lines clients (length r.schema) (commands_of r.schema read.parts.first read.parts.commands)
+unowned-printed clients width bytes r read lines start unowned wide all empty wrote =
+    let printed = rw (empty, wide, all ∙ read.lines) at wrote in
+    printed ∙ told-unowned clients (length r.schema) (commands_of r.schema read.parts.first read.parts.commands)
+
+-- the output of a joint run
+pub ran-told : (limits : Limits) (bytes : List ℕ) (r : Read) (read : IsReadOf bytes r) (rows : List (List ℤ)) (width : ℕ) (lines : List Line) (acts : List (Vec Act)) (replies : List (Vec Reply))
+    (shown : List (Vec Reply)) (start unowned out : List ℕ) (text : Vec ℕ) → rows ≡ r.rows.items → (limits.capacity < length rows → ⊥) → width ≡ length r.schema → lines ≡ r.commands.lines.items
+    → start ≡ [] → unowned ≡ start ++ texts (unowned_text limits.clients width) lines → shown ≡ replies → out ≡ unowned ++ clients_lines width 1 shown → text.items ≡ out
+    → AreActs limits.clients r.commands.events.items acts → IsJointRun (record { limits = limits; rows = rows }) (newcomers limits.clients) acts replies → RanOnThreads limits bytes (Ok text)
+ran-told limits bytes r read rows width lines acts replies shown start unowned out text same room wide all empty first every wrote whole owned joint =
+    let space = rw same at room in
+    let run = rw same at joint in
+    let before = unowned-printed limits.clients width bytes r read lines start unowned wide all empty first in
+    let printed = rw (wide, every, before) at (whole ∙ wrote) in (
+      script_with read.parts (r.schema, r.rows.items),
+      script-ok limits bytes read.parts (r.schema, r.rows.items) read.cut read.table space,
+      record { acts = acts; replies = replies; of_script = rw read.events at owned; joint = run; told = printed },
+    )

@@ -1,0 +1,74 @@
+-- The output of a script whose clients run on threads. (this project)
+use Rattle.std.specs.Prelude.{ℕ, suc, ◌≡◌, ◌+◌, ◌==◌, ◌&&◌, List, [], ◌∷◌, length, Bool, nat_le, nat_lt, if◌then◌else◌, Some, Result, Ok, Err, slice_get}
+use Rattle.std.specs.Global.{Vec}
+use Rattle.pref_core.specs.Limits.{Limits}
+use Rattle.pref_core.specs.declared.event.Act.{Act}
+use Rattle.pref_core.specs.declared.event.Event.{Event}
+use Rattle.pref_core.specs.declared.event.Reply.{Reply}
+use Rattle.pref_core.specs.declared.event.Reply.TheVariants.{Refused}
+use Rattle.pref_core.specs.declared.fault.CoreFault.TheVariants.{NoSuchClient}
+use Rattle.pref_share.specs.Openings.{Opening}
+use Rattle.pref_share.specs.Runs.{IsJointRun, Stops}
+use Rattle.pref_share.specs.Standing.{newcomers}
+use Rattle.pref_share.specs.declared.fault.ShareFault.{ShareFault}
+use Rattle.pref_share.specs.declared.fault.ShareFault.TheVariants as share
+use Rattle.prefq.specs.Commands.{Command, refused, runs, events_of}
+use Rattle.prefq.specs.Output.{Script, ScriptFault, script_of}
+use Rattle.prefq.specs.Text.{◌<>◌, refused_line, reply_lines, texts}
+use Rattle.prefq.specs.declared.fault.RunFault.{RunFault}
+use Rattle.prefq.specs.declared.fault.RunFault.TheVariants as fault
+
+-- whether one of so many clients has this number
+abbrev pub is_client : ℕ → ℕ → Bool
+is_client clients number = nat_lt 0 number && nat_le number clients
+
+-- the acts of a client, in order
+unfoldable pub acts_of : ℕ → List Event → List Act
+acts_of client [] = []
+acts_of client (event ∷ more) = if event.client == client then event.act ∷ acts_of client more else acts_of client more
+
+-- the acts of so many clients, a list for each
+pub record AreActs (clients : ℕ) (events : List Event) (acts : List (Vec Act)) : Type 0 where
+  pub lists : length acts ≡ clients
+  pub each : (place : ℕ) (list : Vec Act) → slice_get acts place ≡ Some list → list.items ≡ acts_of (suc place) events
+
+-- what is told of a command that belongs to no client: a refused line, or an event of a client that there isn't
+abbrev pub unowned_line : ℕ → ℕ → Command → List ℕ
+unowned_line clients width (refused number why) = refused_line number why
+unowned_line clients width (runs event) = if is_client clients event.client then [] else reply_lines width event.client (Refused NoSuchClient)
+
+-- the lines of all these, in order of the script
+abbrev pub unowned_lines : ℕ → ℕ → List Command → List ℕ
+unowned_lines clients width commands = texts (unowned_line clients width) commands
+
+-- the lines of each client's replies, in order of the clients, of which the first has this number
+unfoldable pub clients_lines : ℕ → ℕ → List (Vec Reply) → List ℕ
+clients_lines width client [] = []
+clients_lines width client (replies ∷ more) = texts (reply_lines width client) replies.items <> clients_lines width (client + 1) more
+
+-- the whole output, by the replies to each client
+abbrev pub threads_text : Limits → Script → List (Vec Reply) → List ℕ
+threads_text limits script replies = unowned_lines limits.clients (length script.names) script.commands <> clients_lines (length script.names) 1 replies
+
+-- what the board of a script opens with
+abbrev pub opening_of : Limits → Script → Opening
+opening_of limits script = record { limits = limits; rows = script.rows }
+
+-- The text is the output of a joint run: one legal history gives these replies to the acts of the script's clients.
+pub record TellsJointRun (limits : Limits) (script : Script) (text : List ℕ) : Type 0 where
+  pub acts : List (Vec Act)
+  pub replies : List (Vec Reply)
+  pub of_script : AreActs limits.clients (events_of script.commands) acts
+  pub joint : IsJointRun (opening_of limits script) (newcomers limits.clients) acts replies
+  pub told : text ≡ threads_text limits script replies
+
+-- why the clients of a script were stopped, for another reason than want of memory
+abbrev pub StopsClients : Opening → ShareFault → Type 0
+StopsClients opening (share.Core why) = ⊥
+StopsClients opening why = Stops opening why
+
+-- what a run of a script on threads gives
+abbrev pub RanOnThreads : Limits → List ℕ → Result (Vec ℕ) RunFault → Type 0
+RanOnThreads limits bytes (Ok text) = (script : Script) × (script_of limits bytes ≡ Ok script) × TellsJointRun limits script text.items
+RanOnThreads limits bytes (Err (fault.Threads why)) = (script : Script) × (script_of limits bytes ≡ Ok script) × StopsClients (opening_of limits script) why
+RanOnThreads limits bytes (Err why) = ScriptFault why (script_of limits bytes)

@@ -1,0 +1,49 @@
+//! A script as it is read: its table and its commands.
+ghost use Rattle.std.specs.Prelude.{◌≡◌, ◌+◌, ◌<◌, ◌^◌, length, IfOk, IfErr};
+ghost use Rattle.pref_core.specs.Limits.{Limits};
+ghost use Rattle.prefq.specs.Output.{ScriptFault, script_of};
+ghost use Rattle.prefq.specs.Reading.{IsReadOf, table_fault};
+
+use crate::commands::{Commands, read_commands};
+use crate::fault::RunFault;
+use crate::script::parts;
+use pref_table::{Row, Schema, TableFault, read_table};
+use std::alloc::Global;
+
+/// A script: its columns, its opening rows and its commands.
+#[derive(Drop)]
+pub struct Script {
+    pub schema: Schema,
+    pub rows: Vec<Row>,
+    pub commands: Commands,
+}
+
+fn of_table(why: TableFault) -> RunFault
+    ensures { result ≡ table_fault why }
+{
+    match why {
+        TableFault::OutOfMemory => RunFault::Memory,
+        _ => RunFault::Table(why),
+    }
+}
+
+/// Reads a script. Whether there is room for its opening rows is not tested.
+///
+/// Refused `NoTable`, `NoEnd` or `Table`, in this order, and `Memory` wherever it is met.
+pub fn read_script(alloc: Global, bytes: &[u8]) -> Result<Script, RunFault>
+    requires { length bytes.now + 3 < 2 ^ 64 }
+    ensures read { IfOk result (λ script. IsReadOf bytes.now script) }
+    ensures fault { IfErr result (λ fault. (limits : Limits) → ScriptFault fault (script_of limits bytes.now)) }
+{
+    let text = parts(bytes)?;
+    let (schema, rows) = match read_table(alloc, text.table) {
+        Ok(table) => table,
+        Err(why) => return Err(of_table(why)),
+    };
+    let commands = read_commands(alloc, &schema, text)?;
+    Ok(Script {
+        schema,
+        rows,
+        commands,
+    })
+}

@@ -1,0 +1,45 @@
+//! Requests for memory that are refused. `tests/refuse_each_allocation.sh` runs these tests once for each of their requests,
+//! and refuses it; where none is refused they show that the run succeeds.
+use super::{Full, Narrow, Run, in_steps, run_through, setup_of};
+use crate::fault::RunFault;
+use pref_core::Setup;
+use std::alloc::Global;
+use std::test::Fail;
+
+/// A row is deleted and its slot is wanted while a query needs it.
+const SCRIPT: &[u8] =
+    b"table\nx\n5\n7\n9\nend\nas 1 begin best low(x)\nas 1 scan\nas 2 delete 1\nas 2 insert 1\nas 2 room\nas 1 scan\nas 1 finish\n";
+
+const TOLD: &str =
+    "1 begun 2\n1 left 1\n2 deleted 1\n2 inserted 4\n2 room 0\n1 left 0\n1 answer 1\nlevel 1 id 1: 5\n";
+
+/// A run whose writer asks for no memory.
+fn run_into(alloc: Global, setup: Setup, taken: Vec<u8>) -> Run {
+    let writer = Narrow {
+        taken,
+        step: 8192,
+        room: usize::MAX,
+        full: Full::Fails,
+    };
+    run_through(alloc, in_steps(SCRIPT, 8192), writer, setup)
+}
+
+#[test]
+fn a_refused_run_has_written_nothing_and_is_made_again(rt: HostRuntime) -> Result<(), Fail> {
+    let alloc = rt.alloc();
+    let setup = setup_of(4, 2).ok_or("no setup")?;
+    let room = Vec::with_capacity(alloc, 1024)?;
+    let first = run_into(alloc, setup, room);
+    let run = match first.result {
+        Ok(()) => first,
+        Err(fault) => {
+            assert_eq!(rt; fault, RunFault::Memory);
+            assert!(rt; first.output.is_empty());
+            assert!(rt; !first.read_failed && !first.write_failed);
+            run_into(alloc, setup, first.output)
+        }
+    };
+    assert_eq!(rt; run.result, Ok(()));
+    assert_eq!(rt; run.text(), TOLD);
+    Ok(())
+}
