@@ -1,13 +1,15 @@
 -- Legal operations: how a list of them grows, and what its store stands for.
-use Rattle.std.proofs.Common.{◌≡◌, ◌+◌, ◌-◌, ◌≤◌, true, List, [], ◌∷◌, ◌++◌, map, length, replicate, Option, is_some, refl, sym, ap, ◌∙◌, subst, arith}
+use Rattle.std.proofs.Common.{◌≡◌, ◌+◌, ◌-◌, ◌≤◌, true, List, [], ◌∷◌, ◌++◌, map, length, replicate, Option, Some, Ok, Err, is_some, ℕ, refl, sym, ap, ◌∙◌, subst, arith}
 use mathlib.Core.List.{IsPrefix}
 use Rattle.std.proofs.lemmas.List.{map-append}
 use Rattle.pref_core.specs.declared.store.version.Version.{Version}
+use Rattle.pref_core.specs.declared.call.Call.{Call}
 use Rattle.pref_core.specs.declared.call.Op.{Op}
+use Rattle.pref_core.specs.declared.fault.CoreFault.{CoreFault}
 use Rattle.pref_core.specs.Limits.{AreAllowed}
-use Rattle.pref_core.specs.State.{State, after}
+use Rattle.pref_core.specs.State.{State, after, refusal}
 use Rattle.pref_core.specs.Slots.{Contents, StandsFor}
-use Rattle.pref_core.specs.Operations.{IsLegal as IsLegalAt, applied, ran, is_next, slots_after}
+use Rattle.pref_core.specs.Operations.{IsLegal as IsLegalAt, PlansIn, applied, ran, is_next, slots_after}
 use Rattle.pref_core.specs.History.{state_after, numbered_of, AreLegalOps}
 use Rattle.pref_core.proofs.Legal.{applied_stands, is_next-from, IsNext-from}
 use Rattle.pref_core.proofs.Shown.{length-applied, length-ran}
@@ -68,6 +70,19 @@ state_at_is o ops fits = ap (λ n. state_after n (first_state o) (history_of ops
 pub legal_stands : (o : Opening) (ops : List Op) → IsLegal o ops → StandsFor (contents_at o ops) (state_at o ops)
 legal_stands o ops legal =
     subst (StandsFor (contents_at o ops)) (state_at_is o ops legal.fits) (ops_are_history (first_contents o) (first_state o) ops (opens o legal.fits).0 legal.each).1
+
+-- A plan on the store that a legal history leaves may follow it, ..
+pub planned : (o : Opening) (ops : List Op) (store : Contents) (client : ℕ) (call : Call) (op : Op) → IsLegal o ops → store ≡ contents_at o ops
+    → ((state : State) → StandsFor store state → PlansIn state store client call (Ok op)) → (op.client ≡ client) × (op.call ≡ call) × MayFollow o ops op
+planned o ops store client call op legal is plans =
+    subst (λ (x : Contents). (op.client ≡ client) × (op.call ≡ call) × IsLegalAt (state_at o ops) x op) is
+    (plans (state_at o ops) (subst (λ (x : Contents). StandsFor x (state_at o ops)) (sym is) (legal_stands o ops legal)))
+
+-- .. and a refusal to plan is the sequential table's.
+pub unplanned : (o : Opening) (ops : List Op) (store : Contents) (client : ℕ) (call : Call) (fault : CoreFault) → IsLegal o ops → store ≡ contents_at o ops
+    → ((state : State) → StandsFor store state → PlansIn state store client call (Err fault)) → refusal (state_at o ops) client call ≡ Some fault
+unplanned o ops store client call fault legal is plans =
+    plans (state_at o ops) (subst (λ (x : Contents). StandsFor x (state_at o ops)) (sym is) (legal_stands o ops legal))
 
 pub legal_capacity : (o : Opening) (ops : List Op) → length o.rows ≤ o.limits.capacity → length (contents_at o ops).slots ≡ o.limits.capacity
 legal_capacity o ops fits = length-ran ops (first_contents o) ∙ (opens o fits).1

@@ -33,7 +33,7 @@ impl<J: Naming> Board<J> {
 ///
 /// Refused `Full` where there are more rows than slots, else `OutOfMemory` where memory is wanting. `Closed` stands where
 /// no reader is given or somebody has opened a board under this name, which nobody can. Nothing is kept then. Cost: three
-/// stores of all slots, since readers take two copies in turn.
+/// stores of all slots, since readers take two copies in turn, and an index of the rows.
 ///
 /// ```text
 /// let (board, clients) = open_board::<J, R>(rt, alloc, Name::new(), setup, &rows)?;

@@ -1,10 +1,10 @@
 //! What lies under the lock of a board: the master store, the whole history, and the writer that publishes it.
 
-ghost use Rattle.std.specs.Prelude.{◌≡◌, ◌++◌, ◌∷◌, ◌<◌, ◌^◌, [], drop, fold, IfOk};
+ghost use Rattle.std.specs.Prelude.{◌≡◌, ◌++◌, ◌∷◌, ◌<◌, ◌⊎◌, [], drop, fold, true, Some, IfOk, IfErr};
 ghost use Rattle.std.specs.Option.{unwrap_or};
 ghost use mathlib.Core.List.{IsPrefix};
 ghost use Rattle.left_right.specs.Sides.{view};
-ghost use Rattle.pref_core.specs.Operations.{PlansIn};
+ghost use Rattle.pref_core.specs.State.{refusal, is_change};
 ghost use Rattle.pref_share.specs.Openings.{IsLegal, MayFollow, first_contents, contents_at, state_at, calls_at};
 ghost use Rattle.pref_share.specs.Views.{stamped, StandsFor, Knows};
 
@@ -14,17 +14,18 @@ use crate::published::{
     Hearing, Opening, Published, Stamp, Staying, StoreReader, StoreWriter, Telling,
 };
 use core::mem::replace_with;
-use pref_core::{Call, CoreFault, Op, Store};
+use pref_core::{Call, CoreFault, Index, Op, Store};
 use std::alloc::{AllocError, Global};
 use std::marker::Model;
 use std::mem::ManuallyDrop;
 use std::sync::Wait;
 
-/// The master store, which is what the whole history leaves, and the writer, which has published it. Contracts see the
-/// history.
+/// The master store, which is what the whole history leaves, its index, and the writer, which has published it. Contracts see
+/// the history.
 pub(crate) struct Master<J: Naming> {
     history: History<J>,
     store: Store,
+    index: Index,
     // A lock may hold only what is dropped or needs no drop; `close` takes the writer out.
     writer: ManuallyDrop<StoreWriter>,
 }
@@ -34,6 +35,7 @@ impl<J: Naming> Model for Master<J> {
     ghost use Rattle.core.specs.Mem.{manually_drop_value};
     ghost use Rattle.left_right.specs.Sides.{view as view_of};
     ghost use Rattle.pref_core.specs.declared.call.Op.{Op};
+    ghost use Rattle.pref_core.specs.Indexes.{IsIndexOf};
     ghost use Rattle.pref_share.specs.Openings.{IsLegal, first_contents, contents_at};
     ghost use Rattle.pref_share.specs.Views.{StandsFor, Knows};
 
@@ -41,7 +43,7 @@ impl<J: Naming> Model for Master<J> {
 
     ghost view = { λ m. m.history };
 
-    ghost invariant = { λ m. IsLegal J.opening m.history × (m.store ≡ contents_at J.opening m.history) × ((manually_drop_value m.writer).desk.shown.value.seen.log ≡ m.history) × StandsFor (first_contents J.opening) J.book (manually_drop_value m.writer).desk.shown.value × Knows (first_contents J.opening) J.book (view_of (manually_drop_value m.writer).desk.place) × (drop (manually_drop_value m.writer).behind (manually_drop_value m.writer).log.items ≡ []) };
+    ghost invariant = { λ m. IsLegal J.opening m.history × (m.store ≡ contents_at J.opening m.history) × IsIndexOf m.store m.index × ((manually_drop_value m.writer).desk.shown.value.seen.log ≡ m.history) × StandsFor (first_contents J.opening) J.book (manually_drop_value m.writer).desk.shown.value × Knows (first_contents J.opening) J.book (view_of (manually_drop_value m.writer).desk.place) × (drop (manually_drop_value m.writer).behind (manually_drop_value m.writer).log.items ≡ []) };
 }
 
 /// Lets the writer know what the board opens with. What is pending changes nothing.
@@ -123,6 +125,7 @@ impl<J: Naming> Master<J> {
         requires readers { 0 < readers }
         ensures { IfOk result (λ m. m ≡ []) }
     {
+        let index = Index::new(alloc, &store)?;
         let first = Published {
             store: store.copy(alloc)?,
             len: 0,
@@ -138,6 +141,7 @@ impl<J: Naming> Master<J> {
             Ok(writer) => Ok(Master {
                 history,
                 store,
+                index,
                 writer: unsafe { ManuallyDrop::new_unchecked(open_with(rt, writer)) },
             }),
             Err(writer) => {
@@ -178,13 +182,6 @@ impl<J: Naming> Master<J> {
         self.store.stamp()
     }
 
-    /// What becomes of a call.
-    pub(crate) fn plan(&self, client: u8, call: &Call) -> Result<Op, CoreFault>
-        ensures { PlansIn (state_at J.opening self.now) (contents_at J.opening self.now) client call.now result }
-    {
-        self.store.plan(client, *call)
-    }
-
     /// A reader that knows the board.
     pub(crate) fn reader(&mut self) -> Result<StoreReader, AllocError>
         ensures kept { self.new ≡ self.old }
@@ -195,15 +192,26 @@ impl<J: Naming> Master<J> {
         Ok(reader)
     }
 
-    /// An operation joins the history, and is published.
-    pub(crate) fn publish<R: Wait>(&mut self, rt: &R, op: &Op)
-        requires { MayFollow J.opening self.old op.now }
-        ensures { self.new ≡ self.old ++ op.now ∷ [] }
+    /// A call joins the history, and is published, planned by the index. `Err` is why it gets no number, or want of memory for a
+    /// new row's place in the index, which only an insert meets; nothing has changed then.
+    pub(crate) fn join<R: Wait>(
+        &mut self,
+        rt: &R,
+        alloc: Global,
+        client: u8,
+        call: &Call,
+    ) -> Result<Op, CoreFault>
+        ensures planned { IfOk result (λ op. (op.client ≡ client) × (op.call ≡ call.now) × MayFollow J.opening self.old op) }
+        ensures joined { IfOk result (λ op. self.new ≡ self.old ++ op ∷ []) }
+        ensures refused { IfErr result (λ fault. (refusal (state_at J.opening self.old) client call.now ≡ Some fault) ⊎ (is_change call.now ≡ true)) }
+        ensures same { IfErr result (λ fault. self.new ≡ self.old) }
     {
-        self.history.add(op);
+        let op = self.store.plan_at(&self.index, client, *call)?;
+        self.index.prepare(alloc, &op)?;
+        self.history.add(&op);
         let seen = self.history.whole();
         let stamp = Stamp {
-            op: *op,
+            op,
             len: seen.len(),
             seen: seen.token(),
         };
@@ -216,7 +224,8 @@ impl<J: Naming> Master<J> {
                 ensures { (view result.0.desk.place ≡ view writer.desk.place) × (result.0.desk.shown.value ≡ fold stamped writer.desk.shown.value (drop writer.behind writer.log.items)) × (drop result.0.behind result.0.log.items ≡ []) }
             { (publish::<J, R>(rt, writer), ()) },
         );
-        self.store.apply(op);
+        self.store.apply_at(&mut self.index, &op);
+        Ok(op)
     }
 
     /// Readers take nothing from now on. Waits for those that are reading.
@@ -224,6 +233,7 @@ impl<J: Naming> Master<J> {
         let Master {
             history: _history,
             store: _store,
+            index: _index,
             writer,
         } = self;
         drop(ManuallyDrop::into_inner(writer).take(rt));

@@ -1,6 +1,6 @@
 //! The numbered calls of a client: each joins the history under the lock of the board, and is published once.
 
-ghost use Rattle.std.specs.Prelude.{◌≡◌, ℕ, suc, true, None, IfOk, IfErr, OnOk, MatchResult};
+ghost use Rattle.std.specs.Prelude.{◌≡◌, ℕ, suc, true, None, IfOk, IfErr, OnOk, OnErr, MatchResult};
 ghost use Rattle.pref_core.specs.declared.call.Outcome.TheVariants.{Added, Done};
 ghost use Rattle.pref_core.specs.State.{is_change, granted};
 ghost use Rattle.pref_core.specs.Stability.{is_end};
@@ -17,7 +17,7 @@ use pref_core::{Call, CoreFault, Outcome, Query};
 use pref_sky::Ranked;
 use pref_table::Row;
 use pref_term::Ask;
-use std::alloc::Global;
+use std::alloc::{AllocError, Global};
 use std::sync::Wait;
 
 /// So many numbered calls a client makes at most.
@@ -38,14 +38,14 @@ impl<J: Naming> Client<J> {
     pub fn insert<R: Wait>(
         &mut self,
         rt: &R,
-        _alloc: Global,
+        alloc: Global,
         board: &Board<J>,
         row: Row,
     ) -> Result<u64, ShareFault>
         ensures inserted { IfOk result (λ id. Changes J.opening self.old (Call.Insert row) (Added id) self.new) }
         ensures refused { IfErr result (λ fault. RefusesChange J.opening self.old (Call.Insert row) fault self.new) }
     {
-        match self.change(rt, board, &Call::Insert(row))? {
+        match self.change(rt, alloc, board, &Call::Insert(row))? {
             Outcome::Added(id) => Ok(id),
             _ => unreachable!(),
         }
@@ -57,7 +57,7 @@ impl<J: Naming> Client<J> {
     pub fn update<R: Wait>(
         &mut self,
         rt: &R,
-        _alloc: Global,
+        alloc: Global,
         board: &Board<J>,
         id: u64,
         row: Row,
@@ -65,7 +65,7 @@ impl<J: Naming> Client<J> {
         ensures updated { IfOk result (λ _. Changes J.opening self.old (Call.Update id row) Done self.new) }
         ensures refused { IfErr result (λ fault. RefusesChange J.opening self.old (Call.Update id row) fault self.new) }
     {
-        match self.change(rt, board, &Call::Update(id, row))? {
+        match self.change(rt, alloc, board, &Call::Update(id, row))? {
             Outcome::Done => Ok(()),
             _ => unreachable!(),
         }
@@ -77,14 +77,14 @@ impl<J: Naming> Client<J> {
     pub fn delete<R: Wait>(
         &mut self,
         rt: &R,
-        _alloc: Global,
+        alloc: Global,
         board: &Board<J>,
         id: u64,
     ) -> Result<(), ShareFault>
         ensures deleted { IfOk result (λ _. Changes J.opening self.old (Call.Delete id) Done self.new) }
         ensures refused { IfErr result (λ fault. RefusesChange J.opening self.old (Call.Delete id) fault self.new) }
     {
-        match self.change(rt, board, &Call::Delete(id))? {
+        match self.change(rt, alloc, board, &Call::Delete(id))? {
             Outcome::Done => Ok(()),
             _ => unreachable!(),
         }
@@ -97,7 +97,7 @@ impl<J: Naming> Client<J> {
     pub fn begin<R: Wait>(
         &mut self,
         rt: &R,
-        _alloc: Global,
+        alloc: Global,
         board: &Board<J>,
         ask: Ask,
     ) -> Result<u32, BeginFault>
@@ -110,7 +110,10 @@ impl<J: Naming> Client<J> {
                 ask,
             });
         }
-        match self.join(rt, board, &Call::Begin) {
+        let Ok(told) = self.join(rt, alloc, board, &Call::Begin) else {
+            unreachable!()
+        };
+        match told {
             Ok(joined) => {
                 let query = Query::begin(ask, joined.stamp, &self.setup);
                 let begun = joined.seen.again();
@@ -142,7 +145,7 @@ impl<J: Naming> Client<J> {
             return Err(ShareFault::Core(fault));
         }
         let ranked = self.answer(alloc)?;
-        self.end(rt, board, &Call::Finish)?;
+        self.end(rt, alloc, board, &Call::Finish)?;
         Ok(ranked)
     }
 
@@ -152,7 +155,7 @@ impl<J: Naming> Client<J> {
     pub fn abandon<R: Wait>(
         &mut self,
         rt: &R,
-        _alloc: Global,
+        alloc: Global,
         board: &Board<J>,
     ) -> Result<(), ShareFault>
         ensures abandoned { IfOk result (λ _. Joins J.opening self.old Call.Abandon Done self.new × (self.new.query ≡ None)) }
@@ -161,7 +164,7 @@ impl<J: Naming> Client<J> {
         if let Some(fault) = self.refusal(&Call::Abandon) {
             return Err(ShareFault::Core(fault));
         }
-        self.end(rt, board, &Call::Abandon)
+        self.end(rt, alloc, board, &Call::Abandon)
     }
 
     /// Why a call gets no number, by the client's own counter and query.
@@ -182,6 +185,7 @@ impl<J: Naming> Client<J> {
     fn change<R: Wait>(
         &mut self,
         rt: &R,
+        alloc: Global,
         board: &Board<J>,
         call: &Call,
     ) -> Result<Outcome, ShareFault>
@@ -193,7 +197,7 @@ impl<J: Naming> Client<J> {
         if let Some(fault) = self.refusal(call) {
             return Err(ShareFault::Core(fault));
         }
-        match self.join(rt, board, call) {
+        match self.join(rt, alloc, board, call)? {
             Ok(joined) => {
                 self.counter += 1;
                 self.seen = joined.seen;
@@ -204,13 +208,22 @@ impl<J: Naming> Client<J> {
     }
 
     /// The open query ends.
-    fn end<R: Wait>(&mut self, rt: &R, board: &Board<J>, call: &Call) -> Result<(), ShareFault>
+    fn end<R: Wait>(
+        &mut self,
+        rt: &R,
+        alloc: Global,
+        board: &Board<J>,
+        call: &Call,
+    ) -> Result<(), ShareFault>
         requires accepted { own_refusal self.old call.now ≡ None }
         requires ends { is_end call.now ≡ true }
         ensures ended { OnOk result (Joins J.opening self.old call.now Done self.new × (self.new.query ≡ None)) }
         ensures refused { IfErr result (λ fault. (fault ≡ ClientInUse (suc self.old.counter)) × IsInUse J.opening self.old (suc self.old.counter) self.new) }
     {
-        match self.join(rt, board, call) {
+        let Ok(told) = self.join(rt, alloc, board, call) else {
+            unreachable!()
+        };
+        match told {
             Ok(joined) => {
                 self.asking = None;
                 self.counter += 1;
@@ -232,27 +245,34 @@ impl<J: Naming> Client<J> {
         }
     }
 
-    /// A call joins the history. `Err` is all of the history, which holds a call of this client that it has not made.
-    fn join<R: Wait>(&self, rt: &R, board: &Board<J>, call: &Call) -> Result<Joined<J>, Prefix<J>>
+    /// A call joins the history. The inner `Err` is all of the history, which holds a call of this client that it has not made;
+    /// the outer is want of memory, which comes for a change alone.
+    fn join<R: Wait>(
+        &self,
+        rt: &R,
+        alloc: Global,
+        board: &Board<J>,
+        call: &Call,
+    ) -> Result<Result<Joined<J>, Prefix<J>>, AllocError>
         requires { own_refusal self.now call.now ≡ None }
-        ensures joined { IfOk result (λ joined. IsJoined J.opening self.now call.now joined.outcome joined.seen joined.stamp) }
-        ensures ahead { IfErr result (λ whole. IsAhead J.opening self.now whole) }
+        ensures joined { IfOk result (λ told. IfOk told (λ joined. IsJoined J.opening self.now call.now joined.outcome joined.seen joined.stamp)) }
+        ensures ahead { IfOk result (λ told. IfErr told (λ whole. IsAhead J.opening self.now whole)) }
+        ensures memory { OnErr result (is_change call.now ≡ true) }
     {
         let mut guard = board.master.lock(rt);
         let master = &mut *guard;
         master.check(&self.seen);
         if master.last(self.number) > self.counter {
-            return Err(master.whole());
+            return Ok(Err(master.whole()));
         }
-        let Ok(op) = master.plan(self.number, call) else {
-            unreachable!()
-        };
-        master.publish(rt, &op);
-        Ok(Joined {
-            seen: master.whole(),
-            outcome: op.outcome,
-            stamp: master.stamp(),
-        })
+        match master.join(rt, alloc, self.number, call) {
+            Ok(op) => Ok(Ok(Joined {
+                seen: master.whole(),
+                outcome: op.outcome,
+                stamp: master.stamp(),
+            })),
+            Err(_) => Err(AllocError),
+        }
     }
 
     /// The refusal of a client whose next call stands in the history, which it has seen now.

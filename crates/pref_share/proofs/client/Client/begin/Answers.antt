@@ -1,6 +1,7 @@
 use Rattle.std.proofs.Common.{◌≡◌, suc, ◌+◌, Option, Some, sym, subst, ap, ◌∙◌, arith}
 use Rattle.pref_core.specs.declared.call.Call.TheVariants.{Begin}
 use Rattle.pref_core.specs.Scans.{Scan, begin}
+use Rattle.std.proofs.lemmas.Result.{IfOk-at_ok}
 use Rattle.pref_share.specs.Standing.{Asking, Standing}
 use Rattle.pref_share.specs.Following.{IsJoined, Stands}
 use Rattle.pref_share.proofs.Standings.{stands_begun}
@@ -11,8 +12,8 @@ invariant_of-self g c =
     let o = g.J.Naming.opening in
     let s = c.self.inside in
     let mine : Standing = record { number = s.number; counter = s.counter; seen = s.seen; query = s.asking } in
-    let j = c.in-Ok.joined in
-    let joined : IsJoined o mine Begin j.outcome j.seen j.stamp = subst (λ (x : Standing). IsJoined o x Begin j.outcome j.seen j.stamp) (sym c.self.view_is) c.in-Ok.ensures.joined in
+    let j = c.in-Ok-told.joined in
+    let joined : IsJoined o mine Begin j.outcome j.seen j.stamp = subst (λ (x : Standing). IsJoined o x Begin j.outcome j.seen j.stamp) (sym c.self.view_is) (IfOk-at_ok _ c.in-Ok-told.is c.in-Ok.ensures.joined) in
     let up : s.counter + 1 ≡ suc s.counter = omega arith in
     let scan : c.begin-query.result ≡ begin c.args.ask j.stamp o.limits = c.begin-query.ensures ∙ ap (begin c.args.ask j.stamp) c.self.invariant.1 in
     let asking : Some (record { scan = c.begin-query.result; begun = c.again-begun.result }) ≡ Some (record { scan = begin c.args.ask j.stamp o.limits; begun = j.seen }) = λ i. Some (record { scan = scan i; begun = c.again-begun.ensures.same i }) in

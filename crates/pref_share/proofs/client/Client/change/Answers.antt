@@ -1,4 +1,5 @@
 use Rattle.std.proofs.Common.{◌≡◌, suc, ◌+◌, None, refl, sym, subst, ◌∙◌, arith}
+use Rattle.std.proofs.lemmas.Result.{IfOk-at_ok}
 use Rattle.pref_share.specs.Standing.{Standing}
 use Rattle.pref_share.specs.Clients.{own_refusal}
 use Rattle.pref_share.specs.Following.{IsJoined}
@@ -11,7 +12,7 @@ invariant_of-self g c =
     let s = c.self.inside in
     let mine : Standing = record { number = s.number; counter = s.counter; seen = s.seen; query = s.asking } in
     let j = c.in-Ok.joined in
-    let joined : IsJoined o mine c.args.call.now j.outcome j.seen j.stamp = subst (λ (x : Standing). IsJoined o x c.args.call.now j.outcome j.seen j.stamp) (sym c.self.view_is) c.in-Ok.ensures.joined in
+    let joined : IsJoined o mine c.args.call.now j.outcome j.seen j.stamp = subst (λ (x : Standing). IsJoined o x c.args.call.now j.outcome j.seen j.stamp) (sym c.self.view_is) (IfOk-at_ok _ c.in-Ok.is c.in_ok-joined.ensures.joined) in
     let up : s.counter + 1 ≡ suc s.counter = omega arith in
     (c.self.invariant.0, c.self.invariant.1, stands_changed o mine c.args.call.now j.outcome j.seen j.stamp (s.counter + 1) c.self.invariant.2 joined c.requires.change up)
 
@@ -21,7 +22,7 @@ returns-in-Ok-clause-changed g c =
     let s = c.self.inside in
     let mine : Standing = record { number = s.number; counter = s.counter; seen = s.seen; query = s.asking } in
     let j = c.in-Ok.joined in
-    let joined : IsJoined o mine c.args.call.now j.outcome j.seen j.stamp = subst (λ (x : Standing). IsJoined o x c.args.call.now j.outcome j.seen j.stamp) (sym c.self.view_is) c.in-Ok.ensures.joined in
+    let joined : IsJoined o mine c.args.call.now j.outcome j.seen j.stamp = subst (λ (x : Standing). IsJoined o x c.args.call.now j.outcome j.seen j.stamp) (sym c.self.view_is) (IfOk-at_ok _ c.in-Ok.is c.in_ok-joined.ensures.joined) in
     let accepted : own_refusal mine c.args.call.now ≡ None = subst (λ (x : Standing). own_refusal x c.args.call.now ≡ None) (sym c.self.view_is) (sym c.refusal.ensures ∙ c.in_default.is) in
     let up : s.counter + 1 ≡ suc s.counter = omega arith in
     rw (← c.self.view_is)
@@ -33,7 +34,7 @@ returns-in-Ok-clause-refused g c =
     let s = c.self.inside in
     let mine : Standing = record { number = s.number; counter = s.counter; seen = s.seen; query = s.asking } in
     let j = c.in-Ok.joined in
-    let joined : IsJoined o mine c.args.call.now j.outcome j.seen j.stamp = subst (λ (x : Standing). IsJoined o x c.args.call.now j.outcome j.seen j.stamp) (sym c.self.view_is) c.in-Ok.ensures.joined in
+    let joined : IsJoined o mine c.args.call.now j.outcome j.seen j.stamp = subst (λ (x : Standing). IsJoined o x c.args.call.now j.outcome j.seen j.stamp) (sym c.self.view_is) (IfOk-at_ok _ c.in-Ok.is c.in_ok-joined.ensures.joined) in
     let accepted : own_refusal mine c.args.call.now ≡ None = subst (λ (x : Standing). own_refusal x c.args.call.now ≡ None) (sym c.self.view_is) (sym c.refusal.ensures ∙ c.in_default.is) in
     let up : s.counter + 1 ≡ suc s.counter = omega arith in
     rw (← c.self.view_is)

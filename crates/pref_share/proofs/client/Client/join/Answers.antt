@@ -1,4 +1,4 @@
-use Rattle.std.proofs.Common.{◌≡◌, ℕ, ◌++◌, ◌∷◌, [], List, Some, None, sym, subst, ◌∙◌, ap}
+use Rattle.std.proofs.Common.{◌≡◌, ℕ, ◌++◌, ◌∷◌, [], List, Some, None, ⊎_elim, sym, subst, ◌∙◌, ap}
 use Rattle.std.specs.Option.{unwrap_or}
 use Rattle.pref_core.specs.declared.call.Op.{Op}
 use Rattle.pref_core.specs.State.{refusal}
@@ -22,8 +22,8 @@ returns-then-last-self-clause-ahead g c =
       holds = ahead o s.number s.counter c.last.result s.seen history s.asking c.self.invariant.2 c.check.ensures.begins c.check.ensures.legal last c.if-last-self.true;
     })
 
-pub unreachable-requires : goal.unreachable-requires
-unreachable-requires g c =
+pub returns-clause-memory : goal.returns-clause-memory
+returns-clause-memory g c =
     let o = g.J.Naming.opening in
     let s = c.self.inside in
     let mine : Standing = record { number = s.number; counter = s.counter; seen = s.seen; query = s.asking } in
@@ -31,19 +31,19 @@ unreachable-requires g c =
     let last : c.last.result ≡ unwrap_or (calls_at o history s.number) 0 = c.last.ensures ∙ ap (λ (l : List Op). unwrap_or (calls_at o l s.number) 0) c.check.ensures.same in
     let is = even o s.number s.counter c.last.result s.seen history s.asking c.self.invariant.2 c.check.ensures.begins c.check.ensures.legal last c.if-last-self.false in
     let follows = moved_up o s.number s.counter s.seen history s.asking c.self.invariant.2 c.check.ensures.begins c.check.ensures.legal is in
-    let told : refusal (state_at o history) s.number c.args.call.now ≡ Some c.in_default.field-0 = ap (λ (l : List Op). refusal (state_at o l) s.number c.args.call.now) (sym c.check.ensures.same) ∙ c.in_default.ensures in
     let none : own_refusal mine c.args.call.now ≡ None = subst (λ (x : Standing). own_refusal x c.args.call.now ≡ None) (sym c.self.view_is) c.requires in
-    absurd (cc (told, same_refusal o mine history c.args.call.now is follows, none))
+    ⊎_elim (λ told. absurd (let here : refusal (state_at o history) s.number c.args.call.now ≡ Some c.in-Err.field-0 = ap (λ (l : List Op). refusal (state_at o l) s.number c.args.call.now) (sym c.check.ensures.same) ∙ told in cc (here, same_refusal o mine history c.args.call.now is follows, none)))
+    (λ is_one. is_one) c.in-Err.ensures.refused
 
-pub returns-clause-joined : goal.returns-clause-joined
-returns-clause-joined g c =
+pub returns-in-Ok-clause-joined : goal.returns-in-Ok-clause-joined
+returns-in-Ok-clause-joined g c =
     let o = g.J.Naming.opening in
     let s = c.self.inside in
     let history = c.deref_mut-master.result.now in
     let op = c.in-Ok.op in
     let last : c.last.result ≡ unwrap_or (calls_at o history s.number) 0 = c.last.ensures ∙ ap (λ (l : List Op). unwrap_or (calls_at o l s.number) 0) c.check.ensures.same in
     let is = even o s.number s.counter c.last.result s.seen history s.asking c.self.invariant.2 c.check.ensures.begins c.check.ensures.legal last c.if-last-self.false in
-    let plan = subst (λ (l : List Op). (op.client ≡ s.number) × (op.call ≡ c.args.call.now) × MayFollow o l op) c.check.ensures.same c.in-Ok.ensures in
-    subst (λ (x : Standing). IsJoined o x c.args.call.now op.outcome c.whole-2.result c.stamp.result) c.self.view_is
-    (joined o (record { number = s.number; counter = s.counter; seen = s.seen; query = s.asking }) c.args.call.now history c.whole-2.result op c.stamp.result c.check.ensures.begins c.check.ensures.legal is plan
-    (c.whole-2.ensures.same ∙ c.publish.ensures ∙ ap (λ (l : List Op). l ++ op ∷ []) c.check.ensures.same) (c.stamp.ensures ∙ ap (λ (l : List Op). (state_at o l).commits) (sym c.whole-2.ensures.same)))
+    let plan = subst (λ (l : List Op). (op.client ≡ s.number) × (op.call ≡ c.args.call.now) × MayFollow o l op) c.check.ensures.same c.in-Ok.ensures.planned in
+    subst (λ (x : Standing). IsJoined o x c.args.call.now op.outcome c.whole-in-Ok.result c.stamp.result) c.self.view_is
+    (joined o (record { number = s.number; counter = s.counter; seen = s.seen; query = s.asking }) c.args.call.now history c.whole-in-Ok.result op c.stamp.result c.check.ensures.begins c.check.ensures.legal is plan
+    (c.whole-in-Ok.ensures.same ∙ c.in-Ok.ensures.joined ∙ ap (λ (l : List Op). l ++ op ∷ []) c.check.ensures.same) (c.stamp.ensures ∙ ap (λ (l : List Op). (state_at o l).commits) (sym c.whole-in-Ok.ensures.same)))
