@@ -3,6 +3,7 @@ pub mod Standing
 pub mod Clients
 pub mod Scanning
 pub mod Runs
+pub mod Interleavings
 pub mod Performing
 pub mod Following
 pub mod Reached

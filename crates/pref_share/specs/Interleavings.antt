@@ -1,0 +1,48 @@
+-- Runs in which the acts of all clients are interleaved, and the replies of the sequential table to them. (this project)
+use Rattle.std.specs.Prelude.{◌≡◌, ◌==◌, ℕ, suc, ◌<◌, ◌≤◌, List, map, filter, length, All, Some, slice_get}
+use Rattle.std.specs.Global.{Vec}
+use Rattle.pref_core.specs.declared.event.Act.{Act}
+use Rattle.pref_core.specs.declared.event.Event.{Event}
+use Rattle.pref_core.specs.declared.event.Reply.{Reply}
+use Rattle.pref_core.specs.Step.{replies}
+use Rattle.pref_share.specs.Openings.{Opening}
+use Rattle.pref_share.specs.Runs.{IsJointRun}
+use Rattle.pref_share.specs.Standing.{newcomers}
+
+-- an event, and the reply to it
+pub record Answered : Type 0 where
+  pub event : Event
+  pub reply : Reply
+
+-- the events of a run, in order
+abbrev pub events_of : List Answered → List Event
+events_of run = map (λ answered. answered.event) run
+
+-- the acts of a run, whoever did them
+abbrev pub acts_of : List Answered → List Act
+acts_of run = map (λ answered. answered.event.act) run
+
+-- the replies of a run
+abbrev pub replies_of : List Answered → List Reply
+replies_of run = map (λ answered. answered.reply) run
+
+-- what one client did in a run, and was told
+abbrev pub part_of : ℕ → List Answered → List Answered
+part_of client run = filter (λ answered. answered.event.client == client) run
+
+-- The run has each act of each client once, in the client's order, with the reply that the client was told, and nothing else. The
+-- first lists are those of client 1.
+pub record IsInterleaving (acts : List (Vec Act)) (told : List (Vec Reply)) (run : List Answered) : Type 0 where
+  pub acts_in_order : (place : ℕ) (list : Vec Act) → slice_get acts place ≡ Some list → acts_of (part_of (suc place) run) ≡ list.items
+  pub replies_in_order : (place : ℕ) (list : Vec Reply) → slice_get told place ≡ Some list → replies_of (part_of (suc place) run) ≡ list.items
+  pub nobody_else : All (λ answered. (0 < answered.event.client) × (answered.event.client ≤ length acts)) run
+
+-- There is an interleaving of the lists whose replies are those of the sequential table, from the opening on.
+pub record IsSequential (o : Opening) (acts : List (Vec Act)) (told : List (Vec Reply)) : Type 0 where
+  pub run : List Answered
+  pub interleaving : IsInterleaving acts told run
+  pub answers : replies o.limits o.rows (events_of run) ≡ replies_of run
+
+-- A joint run of one act list for each client is one run of the sequential table, for some interleaving of the lists.
+abbrev pub JointRunsAreSequential : Type 0
+JointRunsAreSequential = (o : Opening) (acts : List (Vec Act)) (told : List (Vec Reply)) → length acts ≡ o.limits.clients → IsJointRun o (newcomers o.limits.clients) acts told → IsSequential o acts told
