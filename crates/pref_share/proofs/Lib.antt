@@ -10,3 +10,4 @@ pub mod Acting
 pub mod Refusing
 pub mod Running
 pub mod Sending
+pub mod Sequences
