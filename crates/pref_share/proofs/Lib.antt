@@ -11,3 +11,4 @@ pub mod Refusing
 pub mod Running
 pub mod Sending
 pub mod Sequences
+pub mod LastCalls

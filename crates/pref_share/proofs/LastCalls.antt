@@ -1,0 +1,148 @@
+-- The last operation of a history: whose call it is, and what the others' counts are before it.
+use Rattle.std.proofs.Common.{◌≡◌, ℕ, zero, suc, ◌<◌, ◌≤◌, List, [], ◌∷◌, ◌++◌, length, Option, Some, None, refl, sym, ap, ◌∙◌, subst, arith, inl, inr, ◌⊎◌}
+use Rattle.std.proofs.lemmas.List.{length-append, length-set}
+use Rattle.std.proofs.lemmas.Option.{slice_get_within}
+use mathlib.Core.List.{IsPrefix}
+use Rattle.pref_core.specs.declared.call.Call.{Call}
+use Rattle.pref_core.specs.declared.call.Op.{Op}
+use Rattle.pref_core.specs.declared.event.Act.{Act}
+use Rattle.pref_core.specs.declared.event.Reply.{Reply}
+use Rattle.pref_core.specs.State.{State, Client, seat, with_seat, after, calls_of, idle_clients}
+use Rattle.pref_core.specs.History.{IsLegalHistory, state_after}
+use Rattle.pref_share.specs.Openings.{Opening, IsLegal, history_of, first_state, state_at, calls_at}
+use Rattle.pref_share.specs.Standing.{Standing, newcomer}
+use Rattle.pref_share.specs.Runs.{Looks, Adds, Runs, none, then}
+use Rattle.pref_share.proofs.Histories.{legal_is_history, state_at-append}
+use Rattle.pref_share.proofs.Counting.{IsCaller, IsGrown, after_clients, caller, calls_own, calls_grow, idle_seat, one_more, seat_other}
+
+-- a list is empty, or has a last element
+pub last_of : {A : Type 0} (xs : List A) → (xs ≡ []) ⊎ ((before : List A) × (x : A) × (before ++ x ∷ [] ≡ xs))
+last_of [] = inl refl
+last_of (x ∷ xs) = inr (go x xs)
+  where
+    go : {A : Type 0} (x : A) (xs : List A) → (before : List A) × (y : A) × (before ++ y ∷ [] ≡ x ∷ xs)
+    go x [] = ([], x, refl)
+    go x (y ∷ ys) = let rest = go y ys in (x ∷ rest.0, rest.1, ap (λ l. x ∷ l) rest.2)
+
+-- two lists that are the same have the same last element, and the same before it
+pub same_last : {A : Type 0} (xs ys : List A) (x y : A) → xs ++ x ∷ [] ≡ ys ++ y ∷ [] → (xs ≡ ys) × (x ≡ y)
+same_last [] [] x y e = (refl, cc (e))
+same_last [] (z ∷ ys) x y e = absurd (omega (arith, ap length e, length-append ys (y ∷ [])))
+same_last (z ∷ xs) [] x y e = absurd (omega (arith, ap length e, length-append xs (x ∷ [])))
+same_last (w ∷ xs) (z ∷ ys) x y e = let rest = same_last xs ys x y (cc (e)) in (cc (e, rest.0), rest.1)
+
+history_rest : (n : ℕ) (s : State) (xs ys : List Op) → IsLegalHistory n s (history_of (xs ++ ys)) → IsLegalHistory n (state_after n s (history_of xs)) (history_of ys)
+history_rest n s [] ys legal = legal
+history_rest n s (x ∷ xs) ys legal = history_rest n (after n s x.client x.call) xs ys legal.1
+
+-- who made the last call
+pub last_caller : (o : Opening) (before : List Op) (op : Op) → IsLegal o (before ++ op ∷ []) → IsCaller (state_at o before) op
+last_caller o before op legal =
+    caller o.limits.capacity (state_at o before) op (history_rest o.limits.capacity (first_state o) before (op ∷ []) (legal_is_history o (before ++ op ∷ []) legal)).0
+
+-- its client's count then, ..
+pub last_own : (o : Opening) (before : List Op) (op : Op) → IsLegal o (before ++ op ∷ []) → calls_at o (before ++ op ∷ []) op.client ≡ Some op.number
+last_own o before op legal =
+    ap (λ s. calls_of s op.client) (state_at-append o before (op ∷ [])) ∙ calls_own o.limits.capacity (state_at o before) op (last_caller o before op legal)
+
+-- .. which is one more than before, ..
+pub last_number : (o : Opening) (before : List Op) (op : Op) (count : ℕ) → IsLegal o (before ++ op ∷ []) → calls_at o before op.client ≡ Some count → op.number ≡ suc count
+last_number o before op count legal is =
+    let c = last_caller o before op legal in
+    let same : Some c.who.calls ≡ Some count = ap (λ (found : Option Client). elim found as (λ x. Option ℕ) [ None ↦ None | Some who ↦ Some who.calls ]) (sym c.at) ∙ is in
+    c.number ∙ ap suc (cc (same))
+
+-- .. and the count of another, which stays
+pub last_other : (o : Opening) (before : List Op) (op : Op) (client : ℕ) → (client ≡ op.client → ⊥) → calls_at o (before ++ op ∷ []) client ≡ calls_at o before client
+last_other o before op client apart =
+    ap (λ s. calls_of s client) (state_at-append o before (op ∷ []))
+    ∙ ap (λ (found : Option Client). elim found as (λ x. Option ℕ) [ None ↦ None | Some who ↦ Some who.calls ]) (seat_other o.limits.capacity (state_at o before) client op.client op.call apart)
+
+length-with_seat : (client : ℕ) (new : Client) (clients : List Client) → length (with_seat client new clients) ≡ length clients
+length-with_seat zero new clients = refl
+length-with_seat (suc k) new clients = length-set clients k new
+
+length-after : (n : ℕ) (s : State) (client : ℕ) (call : Call) → length (after n s client call).clients ≡ length s.clients
+length-after n s client call = ap length (after_clients n s client call) ∙ go (seat client s.clients)
+  where
+    go : (found : Option Client) → length (elim found as (λ x. List Client) [ None ↦ s.clients | Some who ↦ with_seat client (one_more s call who) s.clients ]) ≡ length s.clients
+    go None = refl
+    go (Some who) = length-with_seat client (one_more s call who) s.clients
+
+length-state_after : (n : ℕ) (s : State) (ops : List Op) → length (state_after n s (history_of ops)).clients ≡ length s.clients
+length-state_after n s [] = refl
+length-state_after n s (op ∷ ops) = length-state_after n (after n s op.client op.call) ops ∙ length-after n s op.client op.call
+
+length-idle : (n : ℕ) → length (idle_clients n) ≡ n
+length-idle zero = refl
+length-idle (suc n) = ap suc (length-idle n)
+
+seated : (clients : List Client) (client : ℕ) (who : Client) → seat client clients ≡ Some who → (0 < client) × (client ≤ length clients)
+seated clients zero who e = absurd (cc)
+seated clients (suc k) who e = let within = slice_get_within clients k who e in (omega arith, omega arith)
+
+-- one of the clients of the opening
+abbrev pub IsOneOf : Opening → ℕ → Type 0
+IsOneOf o client = (0 < client) × (client ≤ o.limits.clients)
+
+pub last_one_of : (o : Opening) (before : List Op) (op : Op) → IsLegal o (before ++ op ∷ []) → IsOneOf o op.client
+last_one_of o before op legal =
+    let c = last_caller o before op legal in
+    let within = seated (state_at o before).clients op.client c.who c.at in
+    let all : length (state_at o before).clients ≡ o.limits.clients = length-state_after o.limits.capacity (first_state o) before ∙ length-idle o.limits.clients in
+    (within.0, omega (arith, within.1, all))
+
+-- a count only grows
+pub grown_further : (o : Opening) (xs ys : List Op) (client least : ℕ) → IsPrefix xs ys → IsLegal o ys → IsGrown (calls_at o xs client) least → IsGrown (calls_at o ys client) least
+grown_further o xs ys client least p legal h =
+    let rest = history_rest o.limits.capacity (first_state o) xs p.0 (legal_is_history o (xs ++ p.0) (subst (IsLegal o) (sym p.1) legal)) in
+    let more = calls_grow o.limits.capacity (state_at o xs) p.0 client h.count rest h.is in
+    let some : least ≤ h.count = h.more in
+    let most : h.count ≤ more.count = more.more in
+    record { count = more.count; is = ap (λ l. calls_at o l client) (sym p.1) ∙ ap (λ s. calls_of s client) (state_at-append o xs p.0) ∙ more.is; more = omega arith }
+
+-- The client has its number still, and what it has seen holds the calls that it counts, and more if others made them.
+pub record Counts (o : Opening) (number : ℕ) (s : Standing) : Type 0 where
+  pub same : s.number ≡ number
+  pub grown : IsGrown (calls_at o s.seen number) s.counter
+
+counts_new : (o : Opening) (number : ℕ) → IsOneOf o number → Counts o number (newcomer number)
+counts_new o number one_of = record {
+  same = refl;
+  grown = record {
+    count = 0;
+    is = ap (λ (found : Option Client). elim found as (λ x. Option ℕ) [ None ↦ None | Some who ↦ Some who.calls ]) (idle_seat o.limits.clients number one_of.0 one_of.1);
+    more = omega arith;
+  };
+}
+
+counts_looked : (o : Opening) (number : ℕ) (s t : Standing) (at : List Op) → Counts o number s → t.number ≡ s.number → IsPrefix s.seen at → IsLegal o t.seen → Looks s t at → Counts o number t
+counts_looked o number s t at c same further legal looks = record {
+  same = same ∙ c.same;
+  grown = subst (λ n. IsGrown (calls_at o t.seen number) n) (sym looks.counted)
+      (grown_further o s.seen t.seen number s.counter (subst (IsPrefix s.seen) (sym looks.seen) further) legal c.grown);
+}
+
+counts_added : (o : Opening) (number : ℕ) (s t : Standing) (at : List Op) (act : Act) → Counts o number s → t.number ≡ s.number → IsLegal o t.seen → Adds o s act t at → Counts o number t
+counts_added o number s t at act c same legal adds =
+    let own = last_own o at adds.op (subst (IsLegal o) adds.seen legal) in
+    let numbered : adds.op.number ≡ suc s.counter = adds.number in
+    let counted : t.counter ≡ suc s.counter = adds.counted in
+    record {
+      same = same ∙ c.same;
+      grown = record {
+        count = adds.op.number;
+        is = ap (λ l. calls_at o l number) adds.seen ∙ ap (calls_at o (at ++ adds.op ∷ [])) (sym (adds.by ∙ c.same)) ∙ own;
+        more = omega arith;
+      };
+    }
+
+-- after its acts a client's counts are right still
+pub counts : (o : Opening) (number : ℕ) → IsOneOf o number → (acts : List Act) (replies : List Reply) (stands : List Standing) (s : Standing) → Runs o (newcomer number) acts replies stands s → Counts o number s
+counts o number one_of _ _ _ _ none = counts_new o number one_of
+counts o number one_of _ _ _ _ (then acts replies stands t act reply u runs step) =
+    let c = counts o number one_of acts replies stands t runs in
+    elim step.joins as (λ x. Counts o number u) [
+      | inl looks ↦ counts_looked o number t u step.at c step.same step.further step.legal looks
+      | inr adds ↦ counts_added o number t u step.at act c step.same step.legal adds
+    ]
