@@ -12,3 +12,4 @@ pub mod Running
 pub mod Sending
 pub mod Sequences
 pub mod LastCalls
+pub mod Parts
