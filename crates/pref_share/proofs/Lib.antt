@@ -13,3 +13,4 @@ pub mod Sending
 pub mod Sequences
 pub mod LastCalls
 pub mod Parts
+pub mod Reaching
