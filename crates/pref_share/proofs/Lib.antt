@@ -14,3 +14,4 @@ pub mod Sequences
 pub mod LastCalls
 pub mod Parts
 pub mod Reaching
+pub mod Interleavings

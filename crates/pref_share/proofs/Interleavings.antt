@@ -1,0 +1,98 @@
+-- A joint run is one run of the sequential table.
+use Rattle.std.proofs.Common.{◌≡◌, ℕ, zero, suc, ◌<◌, ◌≤◌, List, [], ◌∷◌, ◌++◌, length, get_or, Some, None, slice_get, refl, sym, ap, ◌∙◌, subst, arith, ◌⊎◌, inl, inr, ⊎_elim}
+use Rattle.std.specs.List.{All}
+use Rattle.std.specs.Global.{Vec}
+use Rattle.std.proofs.lemmas.Bool.{cases_eq}
+use Rattle.std.proofs.lemmas.List.{length-append}
+use Rattle.std.proofs.lemmas.Option.{slice_get_within, slice_get_cases}
+use Rattle.pref_core.specs.declared.call.Op.{Op}
+use Rattle.pref_core.specs.declared.event.Act.{Act}
+use Rattle.pref_core.specs.declared.event.Reply.{Reply}
+use Rattle.pref_share.specs.Openings.{Opening}
+use Rattle.pref_share.specs.Standing.{newcomer, newcomers}
+use Rattle.pref_share.specs.Runs.{IsPart, IsJointRun}
+use Rattle.pref_share.specs.Interleavings.{Answered, JointRunsAreSequential}
+use Rattle.pref_share.proofs.Prefixes.{prefix_get}
+use Rattle.pref_share.proofs.LastCalls.{IsOneOf}
+use Rattle.pref_share.proofs.Parts.{Part, nothing_done, IsPartAt}
+use Rattle.pref_share.proofs.Reaching.{Reached, reached}
+
+length-newcomers : (n : ℕ) → length (newcomers n) ≡ n
+length-newcomers zero = refl
+length-newcomers (suc n) = omega (arith, length-append (newcomers n) (newcomer (suc n) ∷ []), length-newcomers n)
+
+at_end : {A : Type 0} (xs : List A) (x : A) → slice_get (xs ++ x ∷ []) (length xs) ≡ Some x
+at_end [] x = refl
+at_end (y ∷ xs) x = at_end xs x
+
+-- the clients stand in order of number
+newcomer_at : (n place : ℕ) → place < n → slice_get (newcomers n) place ≡ Some (newcomer (suc place))
+newcomer_at zero place l = absurd (omega arith)
+newcomer_at (suc n) place l =
+    ⊎_elim (λ (e : place ≡ n). subst (λ k. slice_get (newcomers n ++ newcomer (suc n) ∷ []) k ≡ Some (newcomer (suc k))) (sym e)
+    (ap (slice_get (newcomers n ++ newcomer (suc n) ∷ [])) (sym (length-newcomers n)) ∙ at_end (newcomers n) (newcomer (suc n))))
+    (λ (apart : place ≡ n → ⊥). prefix_get (newcomers n) (newcomers (suc n)) place (newcomer (suc place)) (newcomer (suc n) ∷ [], refl) (newcomer_at n place (omega (arith, apart, l))))
+    (cases_eq place n)
+
+-- the part of the client whose lists stand at this place
+record Found (o : Opening) (history : List Op) (acts : List (Vec Act)) (told : List (Vec Reply)) (place : ℕ) : Type 0 where
+  part : Part
+  is_part : IsOneOf o (suc place) → IsPartAt o history (suc place) part
+  acts_are : (list : Vec Act) → slice_get acts place ≡ Some list → part.acts ≡ list.items
+  told_are : (list : Vec Reply) → slice_get told place ≡ Some list → part.told ≡ list.items
+
+found_part : (o : Opening) (history : List Op) (acts : List (Vec Act)) (told : List (Vec Reply)) (place : ℕ) (list : Vec Act) (replies : Vec Reply) → slice_get acts place ≡ Some list → slice_get told place ≡ Some replies
+    → IsPart o history (newcomer (suc place)) list.items replies.items → Found o history acts told place
+found_part o history acts told place list replies acts_at told_at h = record {
+  part = record { acts = list.items; told = replies.items; last = h.last };
+  is_part = λ one_of. record { runs = h.runs; is_in = record { inside = h.inside; alone = h.alone } };
+  acts_are = λ other e. let same : Some list ≡ Some other = sym acts_at ∙ e in let is : list ≡ other = cc in ap (λ (l : Vec Act). l.items) is;
+  told_are = λ other e. let same : Some replies ≡ Some other = sym told_at ∙ e in let is : replies ≡ other = cc in ap (λ (l : Vec Reply). l.items) is;
+}
+
+-- nobody's lists stand past the end
+found_none : (o : Opening) (history : List Op) (acts : List (Vec Act)) (told : List (Vec Reply)) (place : ℕ) → length acts ≡ o.limits.clients → length told ≡ o.limits.clients → length acts ≤ place → Found o history acts told place
+found_none o history acts told place many as_many past = record {
+  part = nothing_done (suc place);
+  is_part = λ one_of. absurd (omega (arith, one_of.1, many, past));
+  acts_are = λ list e. absurd (omega (arith, slice_get_within acts place list e, past));
+  told_are = λ list e. absurd (omega (arith, slice_get_within told place list e, many, as_many, past));
+}
+
+found : (o : Opening) (acts : List (Vec Act)) (told : List (Vec Reply)) (joint : IsJointRun o (newcomers o.limits.clients) acts told) → length acts ≡ o.limits.clients → (place : ℕ) → Found o joint.history acts told place
+found o acts told joint many place = go (slice_get_cases acts place).1
+  where
+    go : ((list : Vec Act) × (place < length acts) × (slice_get acts place ≡ Some list) × (get_or acts place list ≡ list)) ⊎ ((length acts ≤ place) × (slice_get acts place ≡ None)) → Found o joint.history acts told place
+    go (inl here) =
+        let there = joint.each place (newcomer (suc place)) here.0 (newcomer_at o.limits.clients place (omega (arith, here.1, many))) here.2 in
+        found_part o joint.history acts told place here.0 there.0 here.2 there.1 there.2
+    go (inr past) = found_none o joint.history acts told place many (joint.lists ∙ length-newcomers o.limits.clients) past.0
+
+-- the parts of all clients
+abbrev parts_of : (o : Opening) (acts : List (Vec Act)) (told : List (Vec Reply)) → IsJointRun o (newcomers o.limits.clients) acts told → length acts ≡ o.limits.clients → ℕ → Part
+parts_of o acts told joint many zero = nothing_done zero
+parts_of o acts told joint many (suc place) = (found o acts told joint many place).part
+
+pub joint_runs_are_sequential : JointRunsAreSequential
+joint_runs_are_sequential o acts told many joint = record {
+  run = r.run;
+  interleaving = record {
+    acts_in_order = λ place list e. r.acts (suc place) (one_of place (omega (arith, slice_get_within acts place list e, many))) ∙ (found o acts told joint many place).acts_are list e;
+    replies_in_order = λ place list e. r.told (suc place) (one_of place (omega (arith, slice_get_within told place list e, as_many))) ∙ (found o acts told joint many place).told_are list e;
+    nobody_else = subst (λ n. All (λ (x : Answered). (0 < x.event.client) × (x.event.client ≤ n)) r.run) (sym many) r.nobody_else;
+  };
+  answers = r.answers;
+}
+  where
+    as_many : length told ≡ o.limits.clients
+    as_many = joint.lists ∙ length-newcomers o.limits.clients
+
+    one_of : (place : ℕ) → place < o.limits.clients → IsOneOf o (suc place)
+    one_of place l = (omega arith, omega arith)
+
+    each : (number : ℕ) → IsOneOf o number → IsPartAt o joint.history number (parts_of o acts told joint many number)
+    each zero one = absurd (omega (arith, one.0))
+    each (suc place) one = (found o acts told joint many place).is_part one
+
+    r : Reached o joint.history (parts_of o acts told joint many)
+    r = reached o joint.history joint.legal (parts_of o acts told joint many) each

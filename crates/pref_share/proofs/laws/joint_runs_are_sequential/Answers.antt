@@ -1,0 +1,5 @@
+use Rattle.pref_share.proofs.Interleavings.{joint_runs_are_sequential}
+use Rattle.pref_share.proofs.laws.joint_runs_are_sequential.Goals as goal
+
+pub returns : goal.returns
+returns c = joint_runs_are_sequential
