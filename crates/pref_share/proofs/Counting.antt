@@ -202,14 +202,14 @@ idle_few : (n : ℕ) → AllByRecursion (λ who. who.calls ≤ 2 ^ 56) (idle_cli
 idle_few zero = tt
 idle_few (suc n) = (omega arith, idle_few n)
 
-idle_long : (n : ℕ) → length (idle_clients n) ≡ n
-idle_long zero = refl
-idle_long (suc n) = ap suc (idle_long n)
+pub length-idle : (n : ℕ) → length (idle_clients n) ≡ n
+length-idle zero = refl
+length-idle (suc n) = ap suc (length-idle n)
 
 pub few_ops : (n clients : ℕ) (s : State) (ops : List Op) → s.clients ≡ idle_clients clients → clients ≤ 8 → IsLegalHistory n s (history_of ops) → length ops ≤ 2 ^ 59
 few_ops n clients s ops is eight legal =
     let most = few_from n s ops legal (subst (AllByRecursion (λ who. who.calls ≤ 2 ^ 56)) (sym is) (idle_few clients)) in
-    let long : length s.clients ≡ clients = ap length is ∙ idle_long clients in
+    let long : length s.clients ≡ clients = ap length is ∙ length-idle clients in
     let bound : length s.clients * 2 ^ 56 ≡ clients * 2 ^ 56 = ap (λ k. k * 2 ^ 56) long in
     omega arith
 

@@ -10,7 +10,7 @@ use Rattle.pref_core.specs.Limits.{AreAllowed}
 use Rattle.pref_core.specs.State.{State, after, refusal}
 use Rattle.pref_core.specs.Slots.{Contents, StandsFor}
 use Rattle.pref_core.specs.Operations.{IsLegal as IsLegalAt, PlansIn, applied, ran, is_next, slots_after}
-use Rattle.pref_core.specs.History.{state_after, numbered_of, AreLegalOps}
+use Rattle.pref_core.specs.History.{IsLegalHistory, state_after, numbered_of, AreLegalOps}
 use Rattle.pref_core.proofs.Legal.{applied_stands, is_next-from, IsNext-from}
 use Rattle.pref_core.proofs.Shown.{length-applied, length-ran}
 use Rattle.pref_core.proofs.Histories.{ops_are_history}
@@ -87,10 +87,14 @@ unplanned o ops store client call fault legal is plans =
 pub legal_capacity : (o : Opening) (ops : List Op) → length o.rows ≤ o.limits.capacity → length (contents_at o ops).slots ≡ o.limits.capacity
 legal_capacity o ops fits = length-ran ops (first_contents o) ∙ (opens o fits).1
 
+pub history_rest : (n : ℕ) (s : State) (xs ys : List Op) → IsLegalHistory n s (history_of (xs ++ ys)) → IsLegalHistory n (state_after n s (history_of xs)) (history_of ys)
+history_rest n s [] ys legal = legal
+history_rest n s (x ∷ xs) ys legal = history_rest n (after n s x.client x.call) xs ys legal.1
+
 pub legal_is_history : LegalIsHistory
 legal_is_history o ops legal =
     let opened = opens o legal.fits in
-    subst (λ n. Rattle.pref_core.specs.History.IsLegalHistory n (first_state o) (history_of ops)) opened.1 (ops_are_history (first_contents o) (first_state o) ops opened.0 legal.each).0
+    subst (λ n. IsLegalHistory n (first_state o) (history_of ops)) opened.1 (ops_are_history (first_contents o) (first_state o) ops opened.0 legal.each).0
 
 pub contents_at-append : (o : Opening) (xs ys : List Op) → contents_at o (xs ++ ys) ≡ ran (contents_at o xs) ys
 contents_at-append o xs ys = ran-append (first_contents o) xs ys

@@ -17,7 +17,7 @@ use Rattle.pref_share.proofs.LastCalls.{IsOneOf}
 use Rattle.pref_share.proofs.Parts.{Part, nothing_done, IsPartAt}
 use Rattle.pref_share.proofs.Reaching.{Reached, reached}
 
-length-newcomers : (n : ℕ) → length (newcomers n) ≡ n
+pub length-newcomers : (n : ℕ) → length (newcomers n) ≡ n
 length-newcomers zero = refl
 length-newcomers (suc n) = omega (arith, length-append (newcomers n) (newcomer (suc n) ∷ []), length-newcomers n)
 

@@ -12,8 +12,8 @@ use Rattle.pref_core.specs.History.{IsLegalHistory, state_after}
 use Rattle.pref_share.specs.Openings.{Opening, IsLegal, history_of, first_state, state_at, calls_at}
 use Rattle.pref_share.specs.Standing.{Standing, newcomer}
 use Rattle.pref_share.specs.Runs.{Looks, Adds, Runs, none, then}
-use Rattle.pref_share.proofs.Histories.{legal_is_history, state_at-append}
-use Rattle.pref_share.proofs.Counting.{IsCaller, IsGrown, after_clients, caller, calls_own, calls_grow, idle_seat, one_more, seat_other}
+use Rattle.pref_share.proofs.Histories.{history_rest, legal_is_history, state_at-append}
+use Rattle.pref_share.proofs.Counting.{IsCaller, IsGrown, after_clients, caller, calls_own, calls_grow, idle_seat, length-idle, one_more, seat_other}
 
 -- a list is empty, or has a last element
 pub last_of : {A : Type 0} (xs : List A) → (xs ≡ []) ⊎ ((before : List A) × (x : A) × (before ++ x ∷ [] ≡ xs))
@@ -30,10 +30,6 @@ same_last [] [] x y e = (refl, cc (e))
 same_last [] (z ∷ ys) x y e = absurd (omega (arith, ap length e, length-append ys (y ∷ [])))
 same_last (z ∷ xs) [] x y e = absurd (omega (arith, ap length e, length-append xs (x ∷ [])))
 same_last (w ∷ xs) (z ∷ ys) x y e = let rest = same_last xs ys x y (cc (e)) in (cc (e, rest.0), rest.1)
-
-history_rest : (n : ℕ) (s : State) (xs ys : List Op) → IsLegalHistory n s (history_of (xs ++ ys)) → IsLegalHistory n (state_after n s (history_of xs)) (history_of ys)
-history_rest n s [] ys legal = legal
-history_rest n s (x ∷ xs) ys legal = history_rest n (after n s x.client x.call) xs ys legal.1
 
 -- who made the last call
 pub last_caller : (o : Opening) (before : List Op) (op : Op) → IsLegal o (before ++ op ∷ []) → IsCaller (state_at o before) op
@@ -72,10 +68,6 @@ length-after n s client call = ap length (after_clients n s client call) ∙ go 
 length-state_after : (n : ℕ) (s : State) (ops : List Op) → length (state_after n s (history_of ops)).clients ≡ length s.clients
 length-state_after n s [] = refl
 length-state_after n s (op ∷ ops) = length-state_after n (after n s op.client op.call) ops ∙ length-after n s op.client op.call
-
-length-idle : (n : ℕ) → length (idle_clients n) ≡ n
-length-idle zero = refl
-length-idle (suc n) = ap suc (length-idle n)
 
 seated : (clients : List Client) (client : ℕ) (who : Client) → seat client clients ≡ Some who → (0 < client) × (client ≤ length clients)
 seated clients zero who e = absurd (cc)

@@ -35,15 +35,12 @@ use Rattle.pref_share.specs.Standing.{Asking, Standing}
 use Rattle.pref_share.specs.Clients.{Sees, Joins, Changes, RefusesChange, IsAnswer, own_refusal}
 use Rattle.pref_share.specs.Following.{Follows, Asks, Stands, IsJoined, GivesNone, ReadsBlock, snapshot_at, done_or_refused}
 use Rattle.pref_share.proofs.Prefixes.{prefix_self, prefix_trans}
-use Rattle.pref_share.proofs.Histories.{legal-rest, legal-more, legal-prefix, legal_stands, legal_capacity, contents_at-append, state_at-append, legal_is_history}
+use Rattle.pref_share.proofs.Histories.{legal-rest, legal-more, legal-prefix, legal_stands, legal_capacity, contents_at-append, state_at-append, history_rest, legal_is_history}
 use Rattle.pref_share.proofs.Counting.{IsCaller, IsGrown, caller, calls_own, begun_own, calls_grow, none_own, has_call, calls_few, idle_seat}
 
 -- what follows a beginning is a legal history there
 rest_history : (o : Opening) (xs ys : List Op) → IsLegal o (xs ++ ys) → IsLegalHistory o.limits.capacity (state_at o xs) (history_of ys)
-rest_history o xs ys legal =
-    let first : IsLegal o xs = legal-prefix o xs (xs ++ ys) (ys, refl) legal in
-    subst (λ n. IsLegalHistory n (state_at o xs) (history_of ys)) (legal_capacity o xs legal.fits)
-    (ops_are_history (contents_at o xs) (state_at o xs) ys (legal_stands o xs first) (legal-rest o xs ys legal)).0
+rest_history o xs ys legal = history_rest o.limits.capacity (first_state o) xs ys (legal_is_history o (xs ++ ys) legal)
 
 none_ends : (client : ℕ) (ops : List Op) → AllByRecursion (λ op. (op.client == client) ≡ false) ops → AllByRecursion (λ op. ends_query client op ≡ false) ops
 none_ends client [] h = tt

@@ -7,6 +7,7 @@ ghost use Rattle.pref_share.specs.Openings.{IsLegal, calls_at};
 ghost use Rattle.pref_share.specs.Standing.{newcomers};
 ghost use Rattle.pref_share.specs.Runs.{RunsTo, IsJointRun, Stops};
 ghost use Rattle.pref_share.specs.Performing.{IsIn};
+ghost use Rattle.pref_share.specs.Interleavings.{IsSequential};
 
 use crate::board::Board;
 use crate::book::Naming;
@@ -45,7 +46,7 @@ struct Report<J: Naming> {
 }
 
 /// Runs each client's acts on a thread of its own, in order, with the gate's `before` and `after` round each. The replies are those of
-/// one legal history, and so of one run of the sequential table.
+/// one legal history, and so of the sequential table for one interleaving of the acts.
 ///
 /// Acts that the table refuses have its refusal as their reply, and stop nobody. A client that meets `OutOfMemory`,
 /// `ClientInUse` or `Closed`, or to which the gate answers false (`Held`), stops; where several do, the refusal is that of the
@@ -65,6 +66,7 @@ pub fn run_all<J: Naming + Send + Sync, R: Threads + Wait + Sync, G: Gate + Sync
     requires clients { clients.items ≡ newcomers J.opening.limits.clients }
     requires lists { vec_len acts ≡ vec_len clients }
     ensures joint { IfOk result (λ replies. IsJointRun J.opening clients.items acts.items replies.items) }
+    ensures sequential { IfOk result (λ replies. IsSequential J.opening acts.items replies.items) }
     ensures refused { IfErr result (λ fault. Stops J.opening fault) }
 {
     let jobs = paired(alloc, clients, acts)?;

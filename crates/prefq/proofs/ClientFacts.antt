@@ -8,16 +8,10 @@ use Rattle.std.proofs.lemmas.Option.{get_or_from_slice_get, slice_get-get_or, sl
 use Rattle.pref_core.specs.declared.event.Act.{Act}
 use Rattle.pref_core.specs.declared.event.Event.{Event}
 use Rattle.pref_core.specs.declared.event.Reply.{Reply}
-use Rattle.pref_share.specs.Standing.{newcomer, newcomers}
 use Rattle.prefq.specs.Commands.{Command, refused, runs}
 use Rattle.prefq.specs.Reading.{AddsAct, line_for, unowned_text}
 use Rattle.prefq.specs.Text.{reply_lines, texts}
 use Rattle.prefq.specs.Threads.{AreActs, acts_of, clients_lines, unowned_line}
-
--- as many clients as are asked for
-pub length-newcomers : (n : ℕ) → length (newcomers n) ≡ n
-length-newcomers zero = refl
-length-newcomers (suc n) = let all = length-append (newcomers n) (newcomer (suc n) ∷ []) in let few = length-newcomers n in omega (arith, all, few)
 
 -- one event is an act of its client alone
 acts-own : (event : Event) (client : ℕ) → event.client ≡ client → acts_of client (event ∷ []) ≡ event.act ∷ []

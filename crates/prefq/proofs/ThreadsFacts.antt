@@ -5,6 +5,7 @@ use Rattle.pref_core.specs.Limits.{Limits}
 use Rattle.pref_core.specs.declared.event.Act.{Act}
 use Rattle.pref_core.specs.declared.event.Reply.{Reply}
 use Rattle.pref_core.specs.declared.fault.CoreFault.TheVariants as core
+use Rattle.pref_share.specs.Interleavings.{IsSequential}
 use Rattle.pref_share.specs.Runs.{IsJointRun, Stops}
 use Rattle.pref_share.specs.Standing.{newcomers}
 use Rattle.pref_share.specs.declared.fault.ShareFault.{ShareFault}
@@ -63,13 +64,15 @@ unowned-printed clients width bytes r read lines start unowned wide all empty wr
 pub ran-told : (limits : Limits) (bytes : List ℕ) (r : Read) (read : IsReadOf bytes r) (rows : List (List ℤ)) (width : ℕ) (lines : List Line) (acts : List (Vec Act)) (replies : List (Vec Reply))
     (shown : List (Vec Reply)) (start unowned out : List ℕ) (text : Vec ℕ) → rows ≡ r.rows.items → (limits.capacity < length rows → ⊥) → width ≡ length r.schema → lines ≡ r.commands.lines.items
     → start ≡ [] → unowned ≡ start ++ texts (unowned_text limits.clients width) lines → shown ≡ replies → out ≡ unowned ++ clients_lines width 1 shown → text.items ≡ out
-    → AreActs limits.clients r.commands.events.items acts → IsJointRun (record { limits = limits; rows = rows }) (newcomers limits.clients) acts replies → RanOnThreads limits bytes (Ok text)
-ran-told limits bytes r read rows width lines acts replies shown start unowned out text same room wide all empty first every wrote whole owned joint =
+    → AreActs limits.clients r.commands.events.items acts → IsJointRun (record { limits = limits; rows = rows }) (newcomers limits.clients) acts replies
+    → IsSequential (record { limits = limits; rows = rows }) acts replies → RanOnThreads limits bytes (Ok text)
+ran-told limits bytes r read rows width lines acts replies shown start unowned out text same room wide all empty first every wrote whole owned joint sequential =
     let space = rw same at room in
     let run = rw same at joint in
+    let answers = rw same at sequential in
     let before = unowned-printed limits.clients width bytes r read lines start unowned wide all empty first in
     let printed = rw (wide, every, before) at (whole ∙ wrote) in (
       script_with read.parts (r.schema, r.rows.items),
       script-ok limits bytes read.parts (r.schema, r.rows.items) read.cut read.table space,
-      record { acts = acts; replies = replies; of_script = rw read.events at owned; joint = run; told = printed },
+      record { acts = acts; replies = replies; of_script = rw read.events at owned; joint = run; sequential = answers; told = printed },
     )

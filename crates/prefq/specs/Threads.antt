@@ -8,6 +8,7 @@ use Rattle.pref_core.specs.declared.event.Reply.{Reply}
 use Rattle.pref_core.specs.declared.event.Reply.TheVariants.{Refused}
 use Rattle.pref_core.specs.declared.fault.CoreFault.TheVariants.{NoSuchClient}
 use Rattle.pref_share.specs.Openings.{Opening}
+use Rattle.pref_share.specs.Interleavings.{IsSequential}
 use Rattle.pref_share.specs.Runs.{IsJointRun, Stops}
 use Rattle.pref_share.specs.Standing.{newcomers}
 use Rattle.pref_share.specs.declared.fault.ShareFault.{ShareFault}
@@ -54,12 +55,14 @@ threads_text limits script replies = unowned_lines limits.clients (length script
 abbrev pub opening_of : Limits → Script → Opening
 opening_of limits script = record { limits = limits; rows = script.rows }
 
--- The text is the output of a joint run: one legal history gives these replies to the acts of the script's clients.
+-- The text is the output of a joint run: one legal history gives these replies to the acts of the script's clients, and so does the
+-- sequential table for one interleaving of them.
 pub record TellsJointRun (limits : Limits) (script : Script) (text : List ℕ) : Type 0 where
   pub acts : List (Vec Act)
   pub replies : List (Vec Reply)
   pub of_script : AreActs limits.clients (events_of script.commands) acts
   pub joint : IsJointRun (opening_of limits script) (newcomers limits.clients) acts replies
+  pub sequential : IsSequential (opening_of limits script) acts replies
   pub told : text ≡ threads_text limits script replies
 
 -- why the clients of a script were stopped, for another reason than want of memory

@@ -1,6 +1,7 @@
 //! A script whose clients run on threads, from its bytes to the bytes of its output.
 ghost use Rattle.std.specs.Prelude.{◌≡◌, ◌<◌, true, length, IfOk, IfErr, ◌⊎◌};
 ghost use Rattle.pref_core.specs.declared.fault.CoreFault.TheVariants as core;
+ghost use Rattle.pref_share.specs.Interleavings.{IsSequential};
 ghost use Rattle.pref_share.specs.Runs.{IsJointRun, Stops};
 ghost use Rattle.pref_share.specs.Standing.{newcomers};
 ghost use Rattle.prefq.specs.Threads.{RanOnThreads};
@@ -55,6 +56,7 @@ fn joint_replies<J: Naming + Send + Sync, R: Threads + Wait + Sync, G: Gate + Sy
     requires opening { J.opening ≡ record { limits = setup; rows = rows.now } }
     requires lists { length acts.items ≡ setup.clients }
     ensures joint { IfOk result (λ replies. IsJointRun (record { limits = setup; rows = rows.now }) (newcomers setup.clients) acts.items replies.items) }
+    ensures sequential { IfOk result (λ replies. IsSequential (record { limits = setup; rows = rows.now }) acts.items replies.items) }
     ensures room { IfOk result (λ replies. setup.capacity < length rows.now → ⊥) }
     ensures stops { IfErr result (λ why. (setup.capacity < length rows.now) × (why ≡ ShareFault.Core (core.Full (length rows.now)))
         ⊎ (setup.capacity < length rows.now → ⊥) × Stops (record { limits = setup; rows = rows.now }) why) }
@@ -68,7 +70,8 @@ fn joint_replies<J: Naming + Send + Sync, R: Threads + Wait + Sync, G: Gate + Sy
 /// Runs a script under a setup, each client's events on a thread of its own with the gate's calls round each, and gives the
 /// output: first the lines that belong to no client, then the lines of each client, each in order of the script.
 ///
-/// The replies are those of one legal history; which one is open. Refused `NoTable`, `NoEnd`, `Table`, `Opening`, in this
+/// The replies are those of one legal history, and of the sequential table for one interleaving of the clients' acts; which
+/// one is open. Refused `NoTable`, `NoEnd`, `Table`, `Opening`, in this
 /// order, `Memory` wherever it is met, and `Threads` where a client was stopped: by the gate (`Held`), or by
 /// `ClientInUse` or `Closed`, which no run of a script is known to meet.
 ///

@@ -1,6 +1,9 @@
-use Rattle.std.proofs.Common.{List, ◌<◌, ℕ, subst, length, get_or, rules}
+use Rattle.std.proofs.Common.{List, ◌<◌, ◌≡◌, ℕ, ap, arith, subst, length, get_or, rules}
 use Rattle.pref_share.specs.declared.run.Report.{Report}
 use Rattle.pref_share.specs.Performing.{IsIn}
+use Rattle.pref_share.specs.Runs.{IsJointRun}
+use Rattle.pref_share.specs.Standing.{Standing}
+use Rattle.pref_share.proofs.Interleavings.{joint_runs_are_sequential, length-newcomers}
 use Rattle.pref_share.proofs.Running.{joined}
 use Rattle.pref_share.proofs.run.run_all.Goals as goal
 
@@ -13,3 +16,10 @@ returns-clause-joint g c =
     subst (λ (l : List (Report g.row.J.Denot)). (i : ℕ) (d : Report g.row.J.Denot) → i < length l → IsIn o whole (get_or l i d).client) c.deref.ensures.value c.in_ok-_whole.ensures.settled in
     joined o whole (λ j. j.client) (λ j. j.acts) (λ r. r.client) (λ r. r.replies) c.in_ok-jobs.jobs.items c.in_ok-work_all.field-0.items all c.args.clients.items c.args.acts.items c.in_ok-replies.replies.items
     c.in_ok-jobs.ensures.paired.0 c.in_ok-jobs.ensures.paired.1 _ c.in_ok-work_all.ensures.each (search rules) (search rules) c.in_ok-reports.ensures.all c.in_ok-_whole.ensures.legal settled c.in_ok-replies.ensures.all
+
+pub returns-clause-sequential : goal.returns-clause-sequential
+returns-clause-sequential g c =
+    let o = g.J.Naming.opening in
+    let many : length c.args.acts.items ≡ o.limits.clients = omega (arith, c.args.acts.ok.0, c.args.clients.ok.0, c.requires.lists, ap length c.requires.clients, length-newcomers o.limits.clients) in
+    joint_runs_are_sequential o c.args.acts.items c.in_ok-replies.replies.items many
+    (subst (λ (clients : List Standing). IsJointRun o clients c.args.acts.items c.in_ok-replies.replies.items) c.requires.clients (returns-clause-joint g c))

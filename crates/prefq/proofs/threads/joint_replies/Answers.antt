@@ -1,5 +1,5 @@
 use Rattle.std.proofs.Common.{ap, arith, length}
-use Rattle.prefq.proofs.ClientFacts.{length-newcomers}
+use Rattle.pref_share.proofs.Interleavings.{length-newcomers}
 use Rattle.prefq.proofs.threads.joint_replies.Goals as goal
 
 pub run_all-replies-requires-clause-lists : goal.run_all-replies-requires-clause-lists

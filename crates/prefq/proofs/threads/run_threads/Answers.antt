@@ -1,7 +1,7 @@
 use Rattle.std.proofs.Common.{Err, ap, arith, length, subst, sym}
 use Rattle.std.proofs.lemmas.Result.{err_from_is_err_and}
 use Rattle.prefq.specs.Threads.{RanOnThreads}
-use Rattle.prefq.proofs.ClientFacts.{length-newcomers}
+use Rattle.pref_share.proofs.Interleavings.{length-newcomers}
 use Rattle.prefq.proofs.ThreadsFacts.{ran-fault, ran-refused, ran-told}
 use Rattle.prefq.proofs.threads.run_threads.Goals as goal
 
@@ -21,4 +21,4 @@ pub returns : goal.returns
 returns g c =
     ran-told c.args.setup c.args.bytes.now c.in_ok-schema.field-0 c.in_ok-schema.ensures.read _ _ _ c.in_ok-acts.acts.items _ _ _ _ _ c.into_bytes.result c.as_slice-2.ensures.value c.in-Ok.ensures.room c.width-width.ensures.value
     c.as_slice.ensures.value c.new-text.ensures.bytes (rw c.clients.ensures.value at c.in_ok-push_unowned.ensures) c.as_slice-3.ensures.value c.in_ok-push_clients.ensures (ap (λ v. v.items) c.into_bytes.ensures.value)
-    (rw c.clients-2.ensures.value at c.in_ok-acts.ensures) c.in-Ok.ensures.joint
+    (rw c.clients-2.ensures.value at c.in_ok-acts.ensures) c.in-Ok.ensures.joint c.in-Ok.ensures.sequential
