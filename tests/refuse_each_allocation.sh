@@ -10,7 +10,7 @@ set -euo pipefail
 cd "$(dirname "$0")/.."
 room=$(mktemp -d)
 trap 'rm -rf "$room"' EXIT
-cc -O2 -Wall -shared -fPIC -o "$room/refuse.so" tests/refuse_allocation.c
+cc -O2 -Wall -shared -fPIC -o "$room/watch.so" tests/watch_allocations.c
 ulimit -c 0
 
 failed_assertion() { # crate, test, number
@@ -25,7 +25,7 @@ refuse_in_turn() { # crate, test
     while true; do
         number=$((number + 1))
         status=0
-        REFUSE=$number LD_PRELOAD="$room/refuse.so" "crates/$1/out/$1_tests" "$2" >"$room/out" 2>"$room/err" || status=$?
+        REFUSE=$number LD_PRELOAD="$room/watch.so" "crates/$1/out/$1_tests" "$2" >"$room/out" 2>"$room/err" || status=$?
         if ! grep -q 'a request for memory was refused' "$room/err"; then
             [ "$status" = 0 ] || failed_assertion "$1" "$2" none
             break

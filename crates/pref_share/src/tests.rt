@@ -2,6 +2,7 @@
 
 mod calls;
 mod refusals;
+mod rounds;
 mod threads;
 mod words;
 
