@@ -9,7 +9,7 @@ mod words;
 ghost use Rattle.std.specs.Prelude.{◌≡◌};
 
 use crate::run::acts::perform;
-use crate::{Board, Client, Name, Naming, open_board};
+use crate::{Board, Client, Gate, Name, Naming, ShareFault, open_board, run_all};
 use pref_core::{Act, Reply, Setup};
 use pref_sky::Ranked;
 use pref_table::{Row, Schema};
@@ -18,6 +18,7 @@ use std::alloc::Global;
 use std::process::Abort;
 use std::sync::Wait;
 use std::test::Fail;
+use std::thread::Threads;
 
 /// What a client does, over a table with the column x alone. A query asks for the rows with the smallest x.
 #[derive(Clone, Copy)]
@@ -82,6 +83,14 @@ fn act(alloc: Global, schema: &Schema, does: Does) -> Result<Act, Fail> {
     })
 }
 
+fn acts_of(alloc: Global, schema: &Schema, run: &[Does]) -> Result<Vec<Act>, Fail> {
+    let mut acts = Vec::new(alloc);
+    for does in run {
+        acts.push(act(alloc, schema, *does)?)?;
+    }
+    Ok(acts)
+}
+
 fn reply_text(alloc: Global, reply: &Reply) -> Result<String, Fail> {
     Ok(match reply {
         Reply::Inserted(id) => format!(in alloc; "inserted {id}")?,
@@ -100,6 +109,18 @@ fn reply_text(alloc: Global, reply: &Reply) -> Result<String, Fail> {
 fn found_text(alloc: Global, id: u64, row: &Row) -> Result<String, Fail> {
     let value = row.cell(0);
     Ok(format!(in alloc; "row {id}: {value}")?)
+}
+
+/// What all clients were told, client after client.
+fn replies_text(alloc: Global, lists: &[Vec<Reply>]) -> Result<String, Fail> {
+    let mut text = String::new(alloc);
+    for replies in lists {
+        for reply in replies {
+            text.push_str(reply_text(alloc, reply)?.as_str())?;
+            text.push_str(" / ")?;
+        }
+    }
+    Ok(text)
 }
 
 /// What the clients of a board are told, one call after the other.
@@ -142,4 +163,26 @@ fn opened_for_two<J: Naming, R: Wait + Abort>(
         (Some(first), Some(second)) => Ok((board, first, second)),
         _ => panic!(rt; "there are two clients"),
     }
+}
+
+/// What all clients of a new board are told, each on a thread of its own.
+fn replies_of_a_run<J: Naming + Send + Sync, R: Threads + Wait + Abort + Sync, G: Gate + Sync>(
+    rt: &R,
+    alloc: Global,
+    name: Name,
+    setup: Setup,
+    rows: &[Row],
+    acts: Vec<Vec<Act>>,
+    gate: &G,
+) -> Result<Vec<Vec<Reply>>, ShareFault>
+    requires book { name.seen.book ≡ J.book }
+    requires opening { J.opening ≡ record { limits = setup; rows = rows.now } }
+{
+    let (board, clients) = open_board::<J, R>(rt, alloc, name, setup, rows)?;
+    if acts.len() != clients.len() {
+        panic!(rt; "there is a list for each");
+    }
+    let told = run_all(rt, alloc, &board, clients, acts, gate);
+    board.close(rt);
+    told
 }

@@ -3,17 +3,55 @@
 
 ghost use Rattle.std.specs.Prelude.{◌≡◌};
 
-use super::{answer_text, columns, opened_for_two, row, rows, setup};
-use crate::{BeginFault, Board, Client, Name, Naming, ShareFault};
-use pref_core::{CoreFault, Setup};
+use super::{
+    Does, acts_of, answer_text, columns, opened_for_two, replies_of_a_run, replies_text, row, rows,
+    setup,
+};
+use crate::{BeginFault, Board, Client, Gate, Name, Naming, ShareFault, open_board};
+use pref_core::{Act, CoreFault, Setup};
 use pref_sky::Ranked;
-use pref_table::Row;
+use pref_table::{Row, Schema};
 use pref_term::{Ask, read_ask};
 use std::alloc::Global;
 use std::marker::Brand;
 use std::process::Abort;
 use std::sync::Wait;
 use std::test::Fail;
+
+/// How many clients a board has that is opened and closed.
+fn clients_of_an_opening<J: Naming, R: Wait>(
+    rt: &R,
+    alloc: Global,
+    name: Name,
+    setup: Setup,
+    rows: &[Row],
+) -> Result<usize, ShareFault>
+    requires book { name.seen.book ≡ J.book }
+    requires opening { J.opening ≡ record { limits = setup; rows = rows.now } }
+{
+    let (board, clients) = open_board::<J, R>(rt, alloc, name, setup, rows)?;
+    board.close(rt);
+    Ok(clients.len())
+}
+
+#[test]
+fn an_opening_refused_then_again(rt: HostRuntime) -> Result<(), Fail> {
+    let alloc = rt.alloc();
+    let schema = columns(alloc)?;
+    let rows = rows(alloc, &schema, &[5, 4, 6])?;
+    let setup = setup(2, 4, 2)?;
+    let clients = match clients_of_an_opening::<Brand, _>(&rt, alloc, Name::new(), setup, &rows) {
+        Ok(clients) => clients,
+        Err(fault) => {
+            assert_eq!(rt; fault, ShareFault::Core(CoreFault::OutOfMemory));
+            clients_of_an_opening::<Brand, _>(&rt, alloc, Name::new(), setup, &rows).expect(
+                &rt, "memory",
+            )
+        }
+    };
+    assert_eq!(rt; clients, 2);
+    Ok(())
+}
 
 /// Memory was refused, and nothing has joined the history that the client sees.
 fn check_refusal<J: Naming>(
@@ -142,7 +180,7 @@ fn abandon_in_the_end<J: Naming, R: Wait + Abort>(
     }
 }
 
-/// Changes a table with the one row 5 of id 1, and reads it.
+/// Inserts thirteen rows into a table with the one row of id 1, changes two, and reads it.
 fn change_and_read<J: Naming, R: Wait + Abort>(
     rt: &R,
     alloc: Global,
@@ -150,14 +188,16 @@ fn change_and_read<J: Naming, R: Wait + Abort>(
     client: &mut Client<J>,
     row: &Row,
 ) {
-    assert_eq!(rt; insert_in_the_end(rt, alloc, board, client, row), 2);
+    for id in 2..15 {
+        assert_eq!(rt; insert_in_the_end(rt, alloc, board, client, row), id);
+    }
     update_in_the_end(rt, alloc, board, client, 1, row);
     delete_in_the_end(rt, alloc, board, client, 2);
     assert_eq!(rt; client.get(1), Ok(*row));
     assert_eq!(rt; client.room(), Ok(3));
 }
 
-fn changed_and_read<J: Naming, R: Wait + Abort>(
+fn changed_and_heard<J: Naming, R: Wait + Abort>(
     rt: &R,
     alloc: Global,
     name: Name,
@@ -168,20 +208,22 @@ fn changed_and_read<J: Naming, R: Wait + Abort>(
     requires book { name.seen.book ≡ J.book }
     requires opening { J.opening ≡ record { limits = setup; rows = rows.now } }
 {
-    let (board, mut client, _other) = opened_for_two::<J, R>(rt, alloc, name, setup, rows)?;
+    let (board, mut client, mut other) = opened_for_two::<J, R>(rt, alloc, name, setup, rows)?;
     change_and_read(rt, alloc, &board, &mut client, row);
+    other.hear(client.word());
+    assert_eq!(rt; other.get(1), Ok(*row));
     board.close(rt);
     Ok(())
 }
 
 #[test]
-fn refused_then_again(rt: HostRuntime) -> Result<(), Fail> {
+fn changes_refused_then_again(rt: HostRuntime) -> Result<(), Fail> {
     let alloc = rt.alloc();
     let schema = columns(alloc)?;
     let opening = rows(alloc, &schema, &[5])?;
     let changed = row(&schema, 6)?;
-    let setup = setup(2, 4, 2)?;
-    changed_and_read::<Brand, _>(&rt, alloc, Name::new(), setup, &opening, &changed)
+    let setup = setup(2, 16, 4)?;
+    changed_and_heard::<Brand, _>(&rt, alloc, Name::new(), setup, &opening, &changed)
 }
 
 /// Abandons a query of two blocks, and asks it again to its end.
@@ -231,6 +273,73 @@ fn a_query_refused_then_again(rt: HostRuntime) -> Result<(), Fail> {
     assert_eq!(rt;
         answer_text(alloc, &ranked)?.as_str(),
         "answer level 1 id 2: 4"
+    );
+    Ok(())
+}
+
+/// A gate that holds nobody up.
+struct Open;
+
+impl Gate for Open {
+    fn before(&self, _client: u8, _turn: usize) -> bool {
+        true
+    }
+
+    fn after(&self, _client: u8, _turn: usize) {}
+}
+
+/// The acts of one client.
+fn acts_of_one(alloc: Global, schema: &Schema) -> Result<Vec<Vec<Act>>, Fail> {
+    let run = [
+        Does::Inserts(3),
+        Does::Begins,
+        Does::Scans,
+        Does::Scans,
+        Does::Finishes,
+        Does::Gets(2),
+    ];
+    let mut lists = Vec::new(alloc);
+    lists.push(acts_of(alloc, schema, &run)?)?;
+    Ok(lists)
+}
+
+#[test]
+fn a_run_refused_then_again(rt: HostRuntime) -> Result<(), Fail> {
+    let alloc = rt.alloc();
+    let schema = columns(alloc)?;
+    let opening = rows(alloc, &schema, &[5])?;
+    let setup = setup(1, 4, 2)?;
+    let first = acts_of_one(alloc, &schema)?;
+    let second = acts_of_one(alloc, &schema)?;
+    let replies = match replies_of_a_run::<Brand, _, _>(
+        &rt,
+        alloc,
+        Name::new(),
+        setup,
+        &opening,
+        first,
+        &Open,
+    ) {
+        Ok(replies) => replies,
+        Err(fault) => {
+            assert_eq!(rt; fault, ShareFault::Core(CoreFault::OutOfMemory));
+            match replies_of_a_run::<Brand, _, _>(
+                &rt,
+                alloc,
+                Name::new(),
+                setup,
+                &opening,
+                second,
+                &Open,
+            ) {
+                Ok(replies) => replies,
+                Err(_) => panic!(rt; "memory"),
+            }
+        }
+    };
+    assert_eq!(rt;
+        replies_text(alloc, &replies)?.as_str(),
+        "inserted 2 / begun 2 / left 1 / left 0 / answer level 1 id 2: 3 / row 2: 3 / "
     );
     Ok(())
 }

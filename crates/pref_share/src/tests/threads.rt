@@ -2,8 +2,8 @@
 
 ghost use Rattle.std.specs.Prelude.{◌≡◌};
 
-use super::{Does, act, columns, reply_text, rows, setup};
-use crate::{Gate, Name, Naming, open_board, run_all};
+use super::{Does, act, acts_of, columns, replies_of_a_run, replies_text, rows, setup};
+use crate::{Gate, Name, Naming};
 use pref_core::{Act, Setup};
 use pref_table::{Row, Schema};
 use std::alloc::Global;
@@ -97,7 +97,7 @@ impl Gate for HoldsScans {
     }
 }
 
-/// What all clients of a new board are told, at once: each is asked for the same acts.
+/// What all clients of a new board are told, or what stopped them.
 fn run<J: Naming + Send + Sync, R: Threads + Wait + Abort + Sync, G: Gate + Sync>(
     rt: &R,
     alloc: Global,
@@ -110,35 +110,10 @@ fn run<J: Naming + Send + Sync, R: Threads + Wait + Abort + Sync, G: Gate + Sync
     requires book { name.seen.book ≡ J.book }
     requires opening { J.opening ≡ record { limits = setup; rows = rows.now } }
 {
-    let Ok((board, clients)) = open_board::<J, R>(rt, alloc, name, setup, rows) else {
-        panic!(rt; "it opens");
-    };
-    if acts.len() != clients.len() {
-        panic!(rt; "there is a list for each");
+    match replies_of_a_run::<J, R, G>(rt, alloc, name, setup, rows, acts, gate) {
+        Ok(lists) => replies_text(alloc, &lists),
+        Err(fault) => Ok(format!(in alloc; "{fault}")?),
     }
-    let told = run_all(rt, alloc, &board, clients, acts, gate);
-    board.close(rt);
-    let mut text = String::new(alloc);
-    match told {
-        Ok(lists) => {
-            for replies in &lists {
-                for reply in replies {
-                    text.push_str(reply_text(alloc, reply)?.as_str())?;
-                    text.push_str(" / ")?;
-                }
-            }
-        }
-        Err(fault) => text.push_str(format!(in alloc; "{fault}")?.as_str())?,
-    }
-    Ok(text)
-}
-
-fn acts_of(alloc: Global, schema: &Schema, run: &[Does]) -> Result<Vec<Act>, Fail> {
-    let mut acts = Vec::new(alloc);
-    for does in run {
-        acts.push(act(alloc, schema, *does)?)?;
-    }
-    Ok(acts)
 }
 
 fn same_acts(alloc: Global, clients: u8, run: &[Does]) -> Result<Vec<Vec<Act>>, Fail> {
