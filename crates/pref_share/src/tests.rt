@@ -1,6 +1,7 @@
 //! Runs of clients whose replies are known from outside.
 
 mod calls;
+mod reads;
 mod refusals;
 mod rounds;
 mod threads;

@@ -1,0 +1,56 @@
+//! Reads of a client, which take no lock: they are answered while another holds the board's.
+
+ghost use Rattle.std.specs.Prelude.{◌≡◌};
+
+use super::{columns, opened_for_two, row, rows, setup};
+use crate::{Client, Name, Naming, ShareFault};
+use pref_core::Setup;
+use pref_table::Row;
+use pref_term::{Ask, read_ask};
+use std::alloc::Global;
+use std::marker::Brand;
+use std::process::Abort;
+use std::sync::Wait;
+use std::test::Fail;
+
+/// The row of id 1, the room, and the blocks that are left after a scan. There is no handle here that may wait, as taking a lock
+/// wants one, so reads that took a lock would not compile.
+fn read<J: Naming>(alloc: Global, client: &mut Client<J>) -> Result<(Row, u32, u32), ShareFault> {
+    Ok((client.get(1)?, client.room()?, client.scan(alloc)?))
+}
+
+/// What a client with an open query reads while the board's lock is taken.
+fn read_under_the_lock<J: Naming, R: Wait + Abort>(
+    rt: &R,
+    alloc: Global,
+    name: Name,
+    setup: Setup,
+    rows: &[Row],
+    ask: Ask,
+) -> Result<(Row, u32, u32), Fail>
+    requires book { name.seen.book ≡ J.book }
+    requires opening { J.opening ≡ record { limits = setup; rows = rows.now } }
+{
+    let (board, mut client, _other) = opened_for_two::<J, R>(rt, alloc, name, setup, rows)?;
+    let begun = client
+        .begin(rt, alloc, &board, ask)
+        .map_err(|refusal| refusal.fault);
+    let taken = board.master.lock(rt);
+    let told = read(alloc, &mut client);
+    drop(taken);
+    board.close(rt);
+    begun?;
+    Ok(told?)
+}
+
+#[test]
+fn reads_while_the_lock_is_taken(rt: HostRuntime) -> Result<(), Fail> {
+    let alloc = rt.alloc();
+    let schema = columns(alloc)?;
+    let opening = rows(alloc, &schema, &[5, 4, 6])?;
+    let setup = setup(2, 4, 2)?;
+    let ask = read_ask(alloc, &schema, b"best low(x)")?;
+    let told = read_under_the_lock::<Brand, _>(&rt, alloc, Name::new(), setup, &opening, ask)?;
+    assert_eq!(rt; told, (row(&schema, 5)?, 1, 1));
+    Ok(())
+}
