@@ -1,31 +1,29 @@
 -- What each act of a client is in the sequential table.
-use Rattle.std.proofs.Common.{◌≡◌, ℕ, zero, suc, ◌+◌, ◌-◌, ◌^◌, ◌<◌, ◌≤◌, Bool, true, false, cond, nat_lt, List, [], ◌∷◌, ◌++◌, map, length, Option, Some, None, is_some, refl, sym, ap, ◌∙◌, subst, arith, inl, inr}
+use Rattle.std.proofs.Common.{◌≡◌, ℕ, suc, ◌-◌, ◌^◌, ◌<◌, Bool, true, false, cond, nat_lt, List, [], ◌∷◌, map, length, Option, Some, None, is_some, refl, sym, ap, ◌∙◌, subst, arith, inl, inr}
 use Rattle.std.specs.Option.{option_map}
-use mathlib.Core.List.{IsPrefix}
 use Rattle.pref_term.specs.Question.{Question}
 use Rattle.pref_sky.specs.declared.entry.Ranked.{Ranked}
 use Rattle.pref_sky.specs.Answers.{answer_of}
 use Rattle.pref_core.specs.Rows.{Row}
-use Rattle.pref_core.specs.declared.call.Op.{Op}
 use Rattle.pref_core.specs.declared.call.Call.{Call}
 use Rattle.pref_core.specs.declared.call.Call.TheVariants.{Insert as CallInsert, Update as CallUpdate, Delete as CallDelete, Begin as CallBegin, Finish as CallFinish, Abandon as CallAbandon}
 use Rattle.pref_core.specs.declared.call.Outcome.{Outcome}
-use Rattle.pref_core.specs.declared.call.Outcome.TheVariants.{Added, Done, NoSuchRow, Full}
+use Rattle.pref_core.specs.declared.call.Outcome.TheVariants.{Added, Done, Full}
 use Rattle.pref_core.specs.declared.event.Act.{Act}
 use Rattle.pref_core.specs.declared.event.Act.TheVariants.{Insert, Update, Delete, Begin, Scan as ScanAct, Finish, Abandon, Get, Room}
 use Rattle.pref_core.specs.declared.event.Reply.{Reply}
 use Rattle.pref_core.specs.declared.event.Reply.TheVariants.{Inserted, Updated, Deleted, Begun, Left, Answer, Abandoned, Found, Room as RoomIs, Refused as RefusedReply}
 use Rattle.pref_core.specs.declared.fault.CoreFault.{CoreFault}
-use Rattle.pref_core.specs.declared.fault.CoreFault.TheVariants.{Spent, QueryOpen, NoQuery, AllScanned, NotDone, NoSuchRow as MissingRow, Full as TooFull, OutOfMemory}
+use Rattle.pref_core.specs.declared.fault.CoreFault.TheVariants.{Spent, QueryOpen, NoQuery, AllScanned, NotDone, NoSuchRow as MissingRow}
 use Rattle.pref_core.specs.Limits.{Limits, blocks}
 use Rattle.pref_core.specs.Table.{Line, line_of, entries}
-use Rattle.pref_core.specs.State.{State, Client, Snapshot, seat, with_seat, is_change, needed, outcome, after, begun_after, refusal_of, refusal_by_query}
+use Rattle.pref_core.specs.State.{State, Snapshot, seat, with_seat, is_change, needed, outcome, after, begun_after, refusal_of, refusal_by_query}
 use Rattle.pref_core.specs.Step.{Open, Member, System, Step, snapshot, client_of, state_of, refused, counted_with, one_less, scanned_with, changed, change, numbered, step_of}
 use Rattle.pref_core.proofs.Stability.{seat-with_seat_same}
 use Rattle.pref_core.proofs.Seats.{with_seat_self, with_seat-map}
 use Rattle.pref_core.proofs.Steps.{somebody_steps, let_in_steps}
 use Rattle.pref_core.proofs.Scanning.{some_left, no_left}
-use Rattle.pref_core.proofs.Systems.{client_there, state_of-counted, after_quiet, state_of-changed, members-changed, begun_after-change}
+use Rattle.pref_core.proofs.Systems.{client_there, state_of-counted, after_quiet, state_of-changed, members-changed}
 use Rattle.pref_share.specs.Openings.{Opening, IsLegal, state_at}
 use Rattle.pref_share.specs.Standing.{Asking, Standing}
 use Rattle.pref_share.specs.Clients.{own_refusal, Joins, Changes, Sees, Begins, Finishes, HasLeft}

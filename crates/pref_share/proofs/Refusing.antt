@@ -1,11 +1,10 @@
 -- What a refusal of a client's call is as the reply to an act.
-use Rattle.std.proofs.Common.{◌≡◌, ℕ, suc, true, List, Some, None, Result, Ok, Err, refl, sym, ap, subst, ◌∙◌}
-use Rattle.pref_term.specs.Question.{Question}
+use Rattle.std.proofs.Common.{◌≡◌, ℕ, true, Some, refl, sym, subst}
 use Rattle.pref_core.specs.declared.call.Call.{Call}
-use Rattle.pref_core.specs.declared.call.Call.TheVariants.{Begin as CallBegin, Finish as CallFinish, Abandon as CallAbandon}
+use Rattle.pref_core.specs.declared.call.Call.TheVariants.{Finish as CallFinish}
 use Rattle.pref_core.specs.declared.call.Outcome.TheVariants.{NoSuchRow as NoRow, Full as NoRoom}
 use Rattle.pref_core.specs.declared.event.Act.{Act}
-use Rattle.pref_core.specs.declared.event.Act.TheVariants.{Begin, Scan, Finish, Abandon, Get, Room}
+use Rattle.pref_core.specs.declared.event.Act.TheVariants.{Scan, Finish, Get}
 use Rattle.pref_core.specs.declared.fault.CoreFault.{CoreFault}
 use Rattle.pref_core.specs.declared.fault.CoreFault.TheVariants.{NoSuchClient, Spent, QueryOpen, NoQuery, AllScanned, NotDone, NoSuchRow, Full, OutOfMemory}
 use Rattle.pref_core.specs.State.{is_change}
@@ -13,7 +12,7 @@ use Rattle.pref_share.specs.declared.fault.ShareFault.{ShareFault}
 use Rattle.pref_share.specs.declared.fault.ShareFault.TheVariants.{Core, ClientInUse, Held, Closed}
 use Rattle.pref_share.specs.Openings.{Opening, IsLegal}
 use Rattle.pref_share.specs.Standing.{Standing}
-use Rattle.pref_share.specs.Clients.{own_refusal, IsInUse, Refused, RefusedChange, RefusedFinish, Refuses, RefusesChange, RefusesFinish}
+use Rattle.pref_share.specs.Clients.{IsInUse, Refused, RefusedChange, RefusedFinish, Refuses, RefusesChange, RefusesFinish}
 use Rattle.pref_share.specs.Scanning.{RefusedScan, RefusesScan, RefusesGet}
 use Rattle.pref_share.specs.Runs.{HoldsSome, call_of}
 use Rattle.pref_share.specs.Performing.{Performs, reply_or_stop, reply_or_stop_core}

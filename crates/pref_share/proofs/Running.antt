@@ -1,12 +1,11 @@
 -- Runs of acts, one act longer, and the parts of all clients.
-use Rattle.std.proofs.Common.{◌≡◌, ℕ, zero, suc, ◌<◌, ◌≤◌, List, [], ◌∷◌, ◌++◌, length, map, get_or, Option, Some, None, Result, Ok, IfOk, slice_get, refl, sym, ap, ◌∙◌, subst, arith}
+use Rattle.std.proofs.Common.{◌≡◌, ℕ, zero, suc, ◌<◌, List, [], ◌∷◌, ◌++◌, length, map, get_or, Some, Result, Ok, IfOk, slice_get, refl, sym, ap, ◌∙◌, subst, arith}
 use Rattle.std.specs.Global.{Vec}
-use mathlib.Core.List.{IsPrefix}
 use Rattle.pref_core.specs.declared.call.Op.{Op}
 use Rattle.pref_core.specs.declared.event.Act.{Act}
 use Rattle.pref_core.specs.declared.event.Reply.{Reply}
 use Rattle.pref_share.specs.Openings.{Opening, IsLegal}
-use Rattle.pref_share.specs.Standing.{Standing, newcomer, newcomers}
+use Rattle.pref_share.specs.Standing.{Standing}
 use Rattle.pref_share.specs.Runs.{StepsTo, none, then, RunsTo, IsPart, IsJointRun}
 use Rattle.pref_share.specs.Performing.{IsIn}
 

@@ -1,6 +1,5 @@
 -- What a board opens with, and the histories that may follow. (this project)
 use Rattle.std.specs.Prelude.{◌≡◌, ℕ, ◌≤◌, List, map, length, Option, Some, slice_get}
-use Rattle.std.specs.Option.{unwrap_or}
 use Rattle.pref_core.specs.Rows.{Row}
 use Rattle.pref_core.specs.declared.call.Op.{Op}
 use Rattle.pref_core.specs.Limits.{Limits, AreAllowed}

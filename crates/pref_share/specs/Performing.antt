@@ -9,7 +9,7 @@ use Rattle.pref_core.specs.declared.event.Reply.TheVariants.{Refused}
 use Rattle.pref_core.specs.declared.fault.CoreFault.{CoreFault}
 use Rattle.pref_core.specs.declared.fault.CoreFault.TheVariants.{OutOfMemory}
 use Rattle.pref_share.specs.declared.fault.ShareFault.{ShareFault}
-use Rattle.pref_share.specs.declared.fault.ShareFault.TheVariants.{Core, ClientInUse, Held, Closed}
+use Rattle.pref_share.specs.declared.fault.ShareFault.TheVariants.{Core}
 use Rattle.pref_share.specs.Openings.{Opening, calls_at}
 use Rattle.pref_share.specs.Standing.{Standing}
 use Rattle.pref_share.specs.Runs.{StepsTo, Stops}

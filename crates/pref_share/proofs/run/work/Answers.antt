@@ -1,4 +1,4 @@
-use Rattle.std.proofs.Common.{rules, refl}
+use Rattle.std.proofs.Common.{rules}
 use Rattle.pref_share.proofs.Running.{runs_none, runs_more}
 use Rattle.pref_share.proofs.run.work.Goals as goal
 

@@ -1,4 +1,3 @@
-use Rattle.std.proofs.Common.{◌≡◌}
 use Rattle.pref_share.specs.Runs.{RunsTo}
 use Rattle.pref_share.proofs.run.work.Given as goal
 

@@ -1,4 +1,3 @@
-use Rattle.std.proofs.Common.{refl}
 use Rattle.pref_share.proofs.Acting.{finished}
 use Rattle.pref_share.proofs.Refusing.{finish_refused}
 use Rattle.pref_share.proofs.run.acts.finish.Goals as goal

@@ -1,4 +1,3 @@
-use Rattle.std.proofs.Common.{refl}
 use Rattle.pref_share.proofs.Acting.{got}
 use Rattle.pref_share.proofs.Refusing.{get_refused}
 use Rattle.pref_share.proofs.run.acts.get.Goals as goal

@@ -1,4 +1,3 @@
-use Rattle.std.proofs.Common.{refl}
 use Rattle.pref_share.proofs.Acting.{has_room}
 use Rattle.pref_share.proofs.run.acts.room.Goals as goal
 

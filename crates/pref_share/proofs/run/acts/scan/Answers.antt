@@ -1,4 +1,3 @@
-use Rattle.std.proofs.Common.{refl}
 use Rattle.pref_share.proofs.Acting.{scanned_step}
 use Rattle.pref_share.proofs.Refusing.{scan_refused}
 use Rattle.pref_share.proofs.run.acts.scan.Goals as goal
