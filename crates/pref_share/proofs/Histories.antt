@@ -1,15 +1,12 @@
 -- Legal operations: how a list of them grows, and what its store stands for.
-use Rattle.std.proofs.Common.{◌≡◌, ◌+◌, ◌-◌, ◌≤◌, true, List, [], ◌∷◌, ◌++◌, map, length, replicate, Option, Some, Ok, Err, is_some, ℕ, refl, sym, ap, ◌∙◌, subst, arith}
+use Rattle.std.proofs.Common.{◌≡◌, ◌≤◌, List, [], ◌∷◌, ◌++◌, map, length, Some, Ok, Err, ℕ, refl, sym, ap, ◌∙◌, subst}
 use mathlib.Core.List.{IsPrefix}
-use Rattle.std.proofs.lemmas.List.{map-append}
-use Rattle.pref_core.specs.declared.store.version.Version.{Version}
 use Rattle.pref_core.specs.declared.call.Call.{Call}
 use Rattle.pref_core.specs.declared.call.Op.{Op}
 use Rattle.pref_core.specs.declared.fault.CoreFault.{CoreFault}
-use Rattle.pref_core.specs.Limits.{AreAllowed}
 use Rattle.pref_core.specs.State.{State, after, refusal}
 use Rattle.pref_core.specs.Slots.{Contents, StandsFor}
-use Rattle.pref_core.specs.Operations.{IsLegal as IsLegalAt, PlansIn, applied, ran, is_next, slots_after}
+use Rattle.pref_core.specs.Operations.{IsLegal as IsLegalAt, PlansIn, applied, ran}
 use Rattle.pref_core.specs.History.{IsLegalHistory, state_after, numbered_of, AreLegalOps}
 use Rattle.pref_core.proofs.Legal.{applied_stands, is_next-from, IsNext-from}
 use Rattle.pref_core.proofs.Shown.{length-applied, length-ran}

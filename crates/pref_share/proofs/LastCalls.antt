@@ -7,8 +7,8 @@ use Rattle.pref_core.specs.declared.call.Call.{Call}
 use Rattle.pref_core.specs.declared.call.Op.{Op}
 use Rattle.pref_core.specs.declared.event.Act.{Act}
 use Rattle.pref_core.specs.declared.event.Reply.{Reply}
-use Rattle.pref_core.specs.State.{State, Client, seat, with_seat, after, calls_of, idle_clients}
-use Rattle.pref_core.specs.History.{IsLegalHistory, state_after}
+use Rattle.pref_core.specs.State.{State, Client, seat, with_seat, after, calls_of}
+use Rattle.pref_core.specs.History.{state_after}
 use Rattle.pref_share.specs.Openings.{Opening, IsLegal, history_of, first_state, state_at, calls_at}
 use Rattle.pref_share.specs.Standing.{Standing, newcomer}
 use Rattle.pref_share.specs.Runs.{Looks, Adds, Runs, none, then}

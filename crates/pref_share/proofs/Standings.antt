@@ -1,5 +1,5 @@
 -- What a client's counter and query are along the history that it sees.
-use Rattle.std.proofs.Common.{◌≡◌, ℕ, zero, suc, ◌+◌, ◌^◌, ◌<◌, ◌≤◌, Bool, true, false, ◌&&◌, ◌==◌, List, [], ◌∷◌, ◌++◌, length, Option, Some, None, is_some, Result, Ok, Err, slice_get, refl, sym, ap, ◌∙◌, subst, arith, inl, inr, MatchResult, IfOk, IfErr}
+use Rattle.std.proofs.Common.{◌≡◌, ℕ, suc, ◌^◌, ◌<◌, ◌≤◌, Bool, true, false, ◌&&◌, ◌==◌, List, [], ◌∷◌, ◌++◌, Option, Some, None, is_some, Result, Ok, Err, refl, sym, ap, ◌∙◌, subst, arith, inl, inr, MatchResult, IfOk, IfErr}
 use Rattle.std.specs.List.{AllByRecursion}
 use Rattle.std.specs.Option.{unwrap_or}
 use Rattle.std.specs.Global.{Vec}
@@ -15,12 +15,11 @@ use Rattle.pref_core.specs.declared.call.Outcome.{Outcome}
 use Rattle.pref_core.specs.declared.call.Outcome.TheVariants.{Added, Done, NoSuchRow, Full}
 use Rattle.pref_share.specs.declared.fault.ShareFault.{ShareFault}
 use Rattle.pref_core.specs.declared.fault.CoreFault.{CoreFault}
-use Rattle.pref_core.specs.Table.{Line}
 use Rattle.pref_core.specs.State.{State, Client, Snapshot, is_change, calls_of, begun_of, begun_after, after, outcome, refusal, refusal_of}
 use Rattle.pref_core.specs.Slots.{Contents, StandsFor, Shows, ShowsBegin}
 use Rattle.std.proofs.lemmas.Bool.{eqb-true}
 use Rattle.pref_core.specs.Operations.{ran, same_number}
-use Rattle.pref_core.specs.History.{IsLegalHistory, state_after, numbered_of}
+use Rattle.pref_core.specs.History.{IsLegalHistory, state_after}
 use Rattle.pref_core.specs.Stability.{is_end, ends_query}
 use Rattle.pref_sky.specs.declared.entry.Entry.{Entry}
 use Rattle.pref_core.specs.Scans.{Scan, begin, next_block, NextIsNew, IsScanned, Reads, Answers}
@@ -28,15 +27,14 @@ use Rattle.pref_share.specs.Scanning.{Scanned}
 use Rattle.pref_core.proofs.Outcomes.{SameSeat, nobody, somebody, same_seat}
 use Rattle.pref_core.proofs.Shown.{begun_kept}
 use Rattle.pref_core.proofs.Systems.{begun_after-change}
-use Rattle.pref_core.proofs.Histories.{ops_are_history}
 use Rattle.pref_core.proofs.Following.{stays_on_its_way, begun_on_its_way, next_is_new_on_its_way, scanned_on_its_way, answers_the_begin}
 use Rattle.pref_share.specs.Openings.{Opening, IsLegal, HasCall, MayFollow, history_of, contents_at, state_at, calls_at, first_state}
 use Rattle.pref_share.specs.Standing.{Asking, Standing}
 use Rattle.pref_share.specs.Clients.{Sees, Joins, Changes, RefusesChange, IsAnswer, own_refusal}
 use Rattle.pref_share.specs.Following.{Follows, Asks, Stands, IsJoined, GivesNone, ReadsBlock, snapshot_at, done_or_refused}
 use Rattle.pref_share.proofs.Prefixes.{prefix_self, prefix_trans}
-use Rattle.pref_share.proofs.Histories.{legal-rest, legal-more, legal-prefix, legal_stands, legal_capacity, contents_at-append, state_at-append, history_rest, legal_is_history}
-use Rattle.pref_share.proofs.Counting.{IsCaller, IsGrown, caller, calls_own, begun_own, calls_grow, none_own, has_call, calls_few, idle_seat}
+use Rattle.pref_share.proofs.Histories.{legal-more, legal-prefix, legal_stands, legal_capacity, contents_at-append, state_at-append, history_rest, legal_is_history}
+use Rattle.pref_share.proofs.Counting.{IsGrown, caller, calls_own, begun_own, calls_grow, none_own, has_call, calls_few, idle_seat}
 
 -- what follows a beginning is a legal history there
 rest_history : (o : Opening) (xs ys : List Op) → IsLegal o (xs ++ ys) → IsLegalHistory o.limits.capacity (state_at o xs) (history_of ys)

@@ -1,4 +1,4 @@
-use Rattle.std.proofs.Common.{◌≡◌, Option, Some, sym, subst, ap, ◌∙◌, MatchResult}
+use Rattle.std.proofs.Common.{◌≡◌, Option, Some, sym, subst, ◌∙◌, MatchResult}
 use Rattle.pref_core.specs.Scans.{Answers}
 use Rattle.pref_share.specs.Standing.{Asking, Standing}
 use Rattle.pref_share.specs.Clients.{IsAnswer}

@@ -1,6 +1,6 @@
 use Rattle.std.proofs.Common.{◌≡◌, suc, ◌+◌, Option, Some, sym, subst, ap, ◌∙◌, arith}
 use Rattle.pref_core.specs.declared.call.Call.TheVariants.{Begin}
-use Rattle.pref_core.specs.Scans.{Scan, begin}
+use Rattle.pref_core.specs.Scans.{begin}
 use Rattle.std.proofs.lemmas.Result.{IfOk-at_ok}
 use Rattle.pref_share.specs.Standing.{Asking, Standing}
 use Rattle.pref_share.specs.Following.{IsJoined, Stands}

@@ -1,4 +1,4 @@
-use Rattle.std.proofs.Common.{◌≡◌, ℕ, suc, ◌+◌, List, subst, ◌∙◌, ap, sym, arith}
+use Rattle.std.proofs.Common.{◌≡◌, suc, ◌+◌, List, subst, ◌∙◌, ap, arith}
 use Rattle.std.specs.Option.{unwrap_or}
 use Rattle.pref_core.specs.declared.call.Op.{Op}
 use Rattle.pref_share.specs.Openings.{HasCall, calls_at}

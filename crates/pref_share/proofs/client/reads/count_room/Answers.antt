@@ -1,6 +1,5 @@
 use Rattle.std.proofs.Common.{◌≡◌, ◌-◌, length, sym, subst, ap, ◌∙◌}
 use Rattle.pref_core.specs.State.{needed}
-use Rattle.pref_core.specs.Scans.{Reads}
 use Rattle.pref_core.specs.Slots.{Contents, StandsFor as StandsForState}
 use Rattle.pref_share.specs.declared.published.Published.{Published}
 use Rattle.pref_share.specs.Openings.{first_contents, contents_at, state_at}

@@ -1,12 +1,11 @@
-use Rattle.std.proofs.Common.{◌≡◌, ◌-◌, length, sym, subst, ap, ◌∙◌}
-use Rattle.pref_core.specs.State.{needed}
+use Rattle.std.proofs.Common.{◌≡◌, sym, subst}
 use Rattle.pref_core.specs.Scans.{Reads}
 use Rattle.pref_core.specs.Slots.{Contents, StandsFor as StandsForState}
 use Rattle.pref_share.specs.declared.published.Published.{Published}
 use Rattle.pref_share.specs.Openings.{first_contents, contents_at, state_at}
 use Rattle.pref_share.specs.Views.{StandsFor}
 use Rattle.pref_share.proofs.Keeps.{reads}
-use Rattle.pref_share.proofs.Histories.{legal_stands, legal_capacity}
+use Rattle.pref_share.proofs.Histories.{legal_stands}
 use Rattle.pref_share.proofs.client.reads.read_block.Goals as goal
 
 pub enter_as-requires : goal.enter_as-requires
