@@ -38,7 +38,7 @@ Example, as a script on standard input:
     as 1 finish
 
 It prints an answer of one row: level 1 id 2: 20.
-The commands and the question language are explained in README.md.";
+The commands and the question language are explained in docs/GUIDE.md.";
 
 /// An option that takes a whole number from 1 on.
 fn number_option<'a>(
