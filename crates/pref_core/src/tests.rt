@@ -4,7 +4,7 @@ mod index;
 mod refusals;
 
 use crate::{
-    Act, Call, CoreFault, Event, Machine, Outcome, RankedList, Reply, Setup, Store, replay,
+    Act, Call, CoreFault, Event, Machine, Op, Outcome, RankedList, Reply, Setup, Store, replay,
     replay_part,
 };
 use pref_table::{Row, Schema};
@@ -385,32 +385,69 @@ fn a_refused_begin_hands_its_ask_back(rt: HostRuntime) -> Result<(), Fail> {
     Ok(())
 }
 
-/// A planned call is done once: its number is one above the client's last.
-#[test]
-fn a_store_plans_and_applies(rt: HostRuntime) -> Result<(), Fail> {
-    let alloc = rt.alloc();
-    let schema = columns(alloc)?;
+/// A store of three slots with these rows, for two clients.
+fn store_of(alloc: Global, schema: &Schema, values: &[i64]) -> Result<Store, Fail> {
     let setup = Setup::new(2, 3, 2, 1).ok_or("setup")?;
-    let opening = rows(alloc, &schema, &[4, 6])?;
-    let mut store = Store::new(alloc, &setup, &opening)?;
-    let op = store.plan(2, Call::Insert(row(&schema, 5)?))?;
-    assert_eq!(rt; op.outcome, Outcome::Added(3));
-    assert_eq!(rt; op.slot, Some(2));
-    store.apply(&op);
-    store.apply(&op);
+    Ok(Store::new(alloc, &setup, &rows(alloc, schema, values)?)?)
+}
+
+/// Does an op, and once more, which changes nothing: its number is one above the client's last.
+fn apply_twice(store: &mut Store, op: &Op) {
+    store.apply(op);
+    store.apply(op);
+}
+
+/// The ids that a block of two slots shows.
+fn shown_ids(alloc: Global, store: &Store, block: u32, stamp: u64) -> Result<Vec<u64>, Fail> {
+    let mut ids = Vec::new(alloc);
+    for entry in store.block(alloc, block, 2, stamp)? {
+        ids.push(entry.id)?;
+    }
+    Ok(ids)
+}
+
+/// A store with a third row, whose insert by client 2 was done twice.
+fn store_with_a_third(alloc: Global, schema: &Schema) -> Result<Store, Fail> {
+    let mut store = store_of(alloc, schema, &[4, 6])?;
+    let op = store.plan(2, Call::Insert(row(schema, 5)?))?;
+    apply_twice(&mut store, &op);
+    Ok(store)
+}
+
+#[test]
+fn a_planned_call_is_done_once(rt: HostRuntime) -> Result<(), Fail> {
+    let alloc = rt.alloc();
+    let store = store_with_a_third(alloc, &columns(alloc)?)?;
     assert_eq!(rt; store.stamp(), 3);
     assert_eq!(rt; store.last(2), 1);
     assert_eq!(rt; store.last(1), 0);
     assert_eq!(rt; store.room(), 0);
+    Ok(())
+}
+
+#[test]
+fn an_added_row_is_shown_in_its_block(rt: HostRuntime) -> Result<(), Fail> {
+    let alloc = rt.alloc();
+    let schema = columns(alloc)?;
+    let store = store_with_a_third(alloc, &schema)?;
     assert_eq!(rt; store.get(3), Some(row(&schema, 5)?));
+    assert_eq!(rt; shown_ids(alloc, &store, 1, 3)?.as_slice(), [3].as_slice());
+    assert_eq!(rt; shown_ids(alloc, &store, 1, 2)?.len(), 0);
+    Ok(())
+}
+
+#[test]
+fn a_plan_tells_what_becomes_of_a_call(rt: HostRuntime) -> Result<(), Fail> {
+    let alloc = rt.alloc();
+    let schema = columns(alloc)?;
+    let store = store_of(alloc, &schema, &[4, 6])?;
+    let op = store.plan(2, Call::Insert(row(&schema, 5)?))?;
+    assert_eq!(rt; op.outcome, Outcome::Added(3));
+    assert_eq!(rt; op.slot, Some(2));
     assert_eq!(rt;
         store.plan(9, Call::Abandon).err(),
         Some(CoreFault::NoSuchClient)
     );
-    let second = store.block(alloc, 1, 2, 3)?;
-    assert!(rt; second.iter().all(|entry| entry.id == 3));
-    assert_eq!(rt; second.len(), 1);
-    assert_eq!(rt; store.block(alloc, 1, 2, 2)?.len(), 0);
     Ok(())
 }
 
