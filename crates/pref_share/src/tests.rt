@@ -112,14 +112,21 @@ fn found_text(alloc: Global, id: u64, row: &Row) -> Result<String, Fail> {
     Ok(format!(in alloc; "row {id}: {value}")?)
 }
 
+/// What a client was told, reply after reply.
+fn replies_text(alloc: Global, replies: &[Reply]) -> Result<String, Fail> {
+    let mut text = String::new(alloc);
+    for reply in replies {
+        text.push_str(reply_text(alloc, reply)?.as_str())?;
+        text.push_str(" / ")?;
+    }
+    Ok(text)
+}
+
 /// What all clients were told, client after client.
-fn replies_text(alloc: Global, lists: &[Vec<Reply>]) -> Result<String, Fail> {
+fn lists_text(alloc: Global, lists: &[Vec<Reply>]) -> Result<String, Fail> {
     let mut text = String::new(alloc);
     for replies in lists {
-        for reply in replies {
-            text.push_str(reply_text(alloc, reply)?.as_str())?;
-            text.push_str(" / ")?;
-        }
+        text.push_str(replies_text(alloc, replies)?.as_str())?;
     }
     Ok(text)
 }

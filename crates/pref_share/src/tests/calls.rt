@@ -2,7 +2,7 @@
 
 ghost use Rattle.std.specs.Prelude.{◌≡◌};
 
-use super::{Does, act, columns, opened_for_two, reply_text, rows, setup, told};
+use super::{Does, act, columns, opened_for_two, replies_text, rows, setup, told};
 use crate::{Board, Client, Name, Naming, open_board};
 use pref_core::{Event, Setup, replay};
 use pref_table::Row;
@@ -188,12 +188,7 @@ fn replayed(alloc: Global, setup: Setup, rows: &[Row], run: &[(u8, Does)]) -> Re
             act: act(alloc, &schema, *does)?,
         })?;
     }
-    let mut text = String::new(alloc);
-    for reply in &replay(alloc, setup, rows, events)? {
-        text.push_str(reply_text(alloc, reply)?.as_str())?;
-        text.push_str(" / ")?;
-    }
-    Ok(text)
+    replies_text(alloc, &replay(alloc, setup, rows, events)?)
 }
 
 #[test]

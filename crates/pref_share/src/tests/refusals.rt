@@ -4,7 +4,7 @@
 ghost use Rattle.std.specs.Prelude.{◌≡◌};
 
 use super::{
-    Does, acts_of, answer_text, columns, opened_for_two, replies_of_a_run, replies_text, row, rows,
+    Does, acts_of, answer_text, columns, lists_text, opened_for_two, replies_of_a_run, row, rows,
     setup,
 };
 use crate::{BeginFault, Board, Client, Gate, Name, Naming, ShareFault, open_board};
@@ -64,55 +64,18 @@ fn check_refusal<J: Naming>(
     assert_eq!(rt; client.seen(), seen_before);
 }
 
-/// Inserts a row, once more where memory was refused.
-fn insert_in_the_end<J: Naming, R: Wait + Abort>(
-    rt: &R,
-    alloc: Global,
-    board: &Board<J>,
-    client: &mut Client<J>,
-    row: &Row,
-) -> u64 {
-    let before = client.seen();
-    match client.insert(rt, alloc, board, *row) {
-        Ok(id) => id,
-        Err(fault) => {
-            check_refusal(rt, fault, client, before);
-            client.insert(rt, alloc, board, *row).expect(rt, "memory")
+/// Makes a call of a client, once more where memory was refused.
+macro_rules! in_the_end {
+    ($rt:expr, $client:expr, $call:expr) => {{
+        let before = $client.seen();
+        match $call {
+            Ok(told) => told,
+            Err(fault) => {
+                check_refusal($rt, fault, $client, before);
+                $call.expect($rt, "memory")
+            }
         }
-    }
-}
-
-/// Updates a row, once more where memory was refused.
-fn update_in_the_end<J: Naming, R: Wait + Abort>(
-    rt: &R,
-    alloc: Global,
-    board: &Board<J>,
-    client: &mut Client<J>,
-    id: u64,
-    row: &Row,
-) {
-    let before = client.seen();
-    if let Err(fault) = client.update(rt, alloc, board, id, *row) {
-        check_refusal(rt, fault, client, before);
-        client
-            .update(rt, alloc, board, id, *row)
-            .expect(rt, "memory");
-    }
-}
-
-/// Deletes a row, once more where memory was refused.
-fn delete_in_the_end<J: Naming, R: Wait + Abort>(
-    rt: &R,
-    alloc: Global,
-    board: &Board<J>,
-    client: &mut Client<J>,
-    id: u64,
-) {
-    let before = client.seen();
-    if let Err(fault) = client.delete(rt, alloc, board, id) {
-        check_refusal(rt, fault, client, before);
-        client.delete(rt, alloc, board, id).expect(rt, "memory");
-    }
+    }};
 }
 
 /// Begins a query, once more where memory was refused, with the ask that was handed back.
@@ -137,49 +100,6 @@ fn begin_in_the_end<J: Naming, R: Wait + Abort>(
     }
 }
 
-/// Scans a block, once more where memory was refused.
-fn scan_in_the_end<J: Naming>(rt: &impl Abort, alloc: Global, client: &mut Client<J>) -> u32 {
-    let before = client.seen();
-    match client.scan(alloc) {
-        Ok(left) => left,
-        Err(fault) => {
-            check_refusal(rt, fault, client, before);
-            client.scan(alloc).expect(rt, "memory")
-        }
-    }
-}
-
-/// Ends a query with its answer, once more where memory was refused.
-fn finish_in_the_end<J: Naming, R: Wait + Abort>(
-    rt: &R,
-    alloc: Global,
-    board: &Board<J>,
-    client: &mut Client<J>,
-) -> Vec<Ranked> {
-    let before = client.seen();
-    match client.finish(rt, alloc, board) {
-        Ok(ranked) => ranked,
-        Err(fault) => {
-            check_refusal(rt, fault, client, before);
-            client.finish(rt, alloc, board).expect(rt, "memory")
-        }
-    }
-}
-
-/// Ends a query without an answer, once more where memory was refused.
-fn abandon_in_the_end<J: Naming, R: Wait + Abort>(
-    rt: &R,
-    alloc: Global,
-    board: &Board<J>,
-    client: &mut Client<J>,
-) {
-    let before = client.seen();
-    if let Err(fault) = client.abandon(rt, alloc, board) {
-        check_refusal(rt, fault, client, before);
-        client.abandon(rt, alloc, board).expect(rt, "memory");
-    }
-}
-
 /// Inserts thirteen rows into a table with the one row of id 1, changes two, and reads it.
 fn change_and_read<J: Naming, R: Wait + Abort>(
     rt: &R,
@@ -189,10 +109,11 @@ fn change_and_read<J: Naming, R: Wait + Abort>(
     row: &Row,
 ) {
     for id in 2..15 {
-        assert_eq!(rt; insert_in_the_end(rt, alloc, board, client, row), id);
+        let inserted = in_the_end!(rt, client, client.insert(rt, alloc, board, *row));
+        assert_eq!(rt; inserted, id);
     }
-    update_in_the_end(rt, alloc, board, client, 1, row);
-    delete_in_the_end(rt, alloc, board, client, 2);
+    in_the_end!(rt, client, client.update(rt, alloc, board, 1, *row));
+    in_the_end!(rt, client, client.delete(rt, alloc, board, 2));
     assert_eq!(rt; client.get(1), Ok(*row));
     assert_eq!(rt; client.room(), Ok(3));
 }
@@ -235,11 +156,11 @@ fn abandon_and_ask<J: Naming, R: Wait + Abort>(
     asks: (Ask, Ask),
 ) -> Vec<Ranked> {
     assert_eq!(rt; begin_in_the_end(rt, alloc, board, client, asks.0), 2);
-    abandon_in_the_end(rt, alloc, board, client);
+    in_the_end!(rt, client, client.abandon(rt, alloc, board));
     assert_eq!(rt; begin_in_the_end(rt, alloc, board, client, asks.1), 2);
-    assert_eq!(rt; scan_in_the_end(rt, alloc, client), 1);
-    assert_eq!(rt; scan_in_the_end(rt, alloc, client), 0);
-    finish_in_the_end(rt, alloc, board, client)
+    assert_eq!(rt; in_the_end!(rt, client, client.scan(alloc)), 1);
+    assert_eq!(rt; in_the_end!(rt, client, client.scan(alloc)), 0);
+    in_the_end!(rt, client, client.finish(rt, alloc, board))
 }
 
 fn answered<J: Naming, R: Wait + Abort>(
@@ -338,7 +259,7 @@ fn a_run_refused_then_again(rt: HostRuntime) -> Result<(), Fail> {
         }
     };
     assert_eq!(rt;
-        replies_text(alloc, &replies)?.as_str(),
+        lists_text(alloc, &replies)?.as_str(),
         "inserted 2 / begun 2 / left 1 / left 0 / answer level 1 id 2: 3 / row 2: 3 / "
     );
     Ok(())

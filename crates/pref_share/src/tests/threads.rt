@@ -2,7 +2,7 @@
 
 ghost use Rattle.std.specs.Prelude.{◌≡◌};
 
-use super::{Does, act, acts_of, columns, replies_of_a_run, replies_text, rows, setup};
+use super::{Does, act, acts_of, columns, lists_text, replies_of_a_run, rows, setup};
 use crate::{Gate, Name, Naming};
 use pref_core::{Act, Setup};
 use pref_table::{Row, Schema};
@@ -111,7 +111,7 @@ fn run<J: Naming + Send + Sync, R: Threads + Wait + Abort + Sync, G: Gate + Sync
     requires opening { J.opening ≡ record { limits = setup; rows = rows.now } }
 {
     match replies_of_a_run::<J, R, G>(rt, alloc, name, setup, rows, acts, gate) {
-        Ok(lists) => replies_text(alloc, &lists),
+        Ok(lists) => lists_text(alloc, &lists),
         Err(fault) => Ok(format!(in alloc; "{fault}")?),
     }
 }
@@ -181,28 +181,12 @@ fn two_clients_at_once(rt: HostRuntime) -> Result<(), Fail> {
     let schema = columns(alloc)?;
     let opening = rows(alloc, &schema, &[3])?;
     let setup = setup(2, 4, 4)?;
-    let first = same_acts(alloc, 2, &[Does::Gets(1)])?;
-    let text = run::<Brand, _, _>(
-        &rt,
-        alloc,
-        Name::new(),
-        setup,
-        &opening,
-        first,
-        &held_until(1, 2),
-    )?;
-    assert_eq!(rt; text.as_str(), "row 1: 3 / row 1: 3 / ");
-    let second = same_acts(alloc, 2, &[Does::Gets(1)])?;
-    let text = run::<Brand, _, _>(
-        &rt,
-        alloc,
-        Name::new(),
-        setup,
-        &opening,
-        second,
-        &held_until(2, 1),
-    )?;
-    assert_eq!(rt; text.as_str(), "row 1: 3 / row 1: 3 / ");
+    for (held, until) in [(1, 2), (2, 1)] {
+        let acts = same_acts(alloc, 2, &[Does::Gets(1)])?;
+        let gate = held_until(held, until);
+        let text = run::<Brand, _, _>(&rt, alloc, Name::new(), setup, &opening, acts, &gate)?;
+        assert_eq!(rt; text.as_str(), "row 1: 3 / row 1: 3 / ");
+    }
     Ok(())
 }
 
