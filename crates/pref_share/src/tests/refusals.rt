@@ -100,7 +100,8 @@ fn begin_in_the_end<J: Naming, R: Wait + Abort>(
     }
 }
 
-/// Inserts thirteen rows into a table with the one row of id 1, changes two, and reads it.
+/// Fills a table of 18 slots with the one row of id 1, then changes and reads it. A row that takes the place of another may make
+/// the index of a full table grow.
 fn change_and_read<J: Naming, R: Wait + Abort>(
     rt: &R,
     alloc: Global,
@@ -108,14 +109,18 @@ fn change_and_read<J: Naming, R: Wait + Abort>(
     client: &mut Client<J>,
     row: &Row,
 ) {
-    for id in 2..15 {
+    for id in 2..19 {
         let inserted = in_the_end!(rt, client, client.insert(rt, alloc, board, *row));
         assert_eq!(rt; inserted, id);
     }
+    for id in 2..200 {
+        in_the_end!(rt, client, client.delete(rt, alloc, board, id));
+        let inserted = in_the_end!(rt, client, client.insert(rt, alloc, board, *row));
+        assert_eq!(rt; inserted, id + 17);
+    }
     in_the_end!(rt, client, client.update(rt, alloc, board, 1, *row));
-    in_the_end!(rt, client, client.delete(rt, alloc, board, 2));
     assert_eq!(rt; client.get(1), Ok(*row));
-    assert_eq!(rt; client.room(), Ok(3));
+    assert_eq!(rt; client.room(), Ok(0));
 }
 
 fn changed_and_heard<J: Naming, R: Wait + Abort>(
@@ -143,7 +148,7 @@ fn changes_refused_then_again(rt: HostRuntime) -> Result<(), Fail> {
     let schema = columns(alloc)?;
     let opening = rows(alloc, &schema, &[5])?;
     let changed = row(&schema, 6)?;
-    let setup = setup(2, 16, 4)?;
+    let setup = setup(2, 18, 6)?;
     changed_and_heard::<Brand, _>(&rt, alloc, Name::new(), setup, &opening, &changed)
 }
 
