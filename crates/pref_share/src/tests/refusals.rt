@@ -100,9 +100,8 @@ fn begin_in_the_end<J: Naming, R: Wait + Abort>(
     }
 }
 
-/// Fills a table of 18 slots with the one row of id 1, then changes and reads it. A row that takes the place of another may make
-/// the index of a full table grow.
-fn change_and_read<J: Naming, R: Wait + Abort>(
+/// Fills a table of 18 slots that has the one row of id 1.
+fn fill<J: Naming, R: Wait + Abort>(
     rt: &R,
     alloc: Global,
     board: &Board<J>,
@@ -113,6 +112,16 @@ fn change_and_read<J: Naming, R: Wait + Abort>(
         let inserted = in_the_end!(rt, client, client.insert(rt, alloc, board, *row));
         assert_eq!(rt; inserted, id);
     }
+}
+
+/// Changes a full table of 18 slots, and reads it. A row that takes the place of another may make the index grow.
+fn change_and_read<J: Naming, R: Wait + Abort>(
+    rt: &R,
+    alloc: Global,
+    board: &Board<J>,
+    client: &mut Client<J>,
+    row: &Row,
+) {
     for id in 2..200 {
         in_the_end!(rt, client, client.delete(rt, alloc, board, id));
         let inserted = in_the_end!(rt, client, client.insert(rt, alloc, board, *row));
@@ -135,6 +144,7 @@ fn changed_and_heard<J: Naming, R: Wait + Abort>(
     requires opening { J.opening ≡ record { limits = setup; rows = rows.now } }
 {
     let (board, mut client, mut other) = opened_for_two::<J, R>(rt, alloc, name, setup, rows)?;
+    fill(rt, alloc, &board, &mut client, row);
     change_and_read(rt, alloc, &board, &mut client, row);
     other.hear(client.word());
     assert_eq!(rt; other.get(1), Ok(*row));
