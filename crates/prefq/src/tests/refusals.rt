@@ -2,6 +2,7 @@
 //! and refuses it; where none is refused they show that the run succeeds.
 use super::{Full, Narrow, Run, in_steps, run_through, setup_of};
 use crate::fault::RunFault;
+use crate::threads::{OpenGate, run_threads};
 use pref_core::Setup;
 use std::alloc::Global;
 use std::test::Fail;
@@ -41,5 +42,26 @@ fn a_refused_run_has_written_nothing_and_is_made_again(rt: HostRuntime) -> Resul
     };
     assert_eq!(rt; run.result, Ok(()));
     assert_eq!(rt; run.text(), TOLD);
+    Ok(())
+}
+
+/// One client alone, so that its requests come in the same order in each run.
+const SCRIPT_OF_ONE: &[u8] =
+    b"table\nx\n5\nend\nas 1 insert 3\nas 7 room\nas 1 begin best low(x)\nas 1 scan\nas 1 scan\nas 1 finish\n";
+
+const TOLD_TO_ONE: &[u8] =
+    b"7 refused 1: no such client\n1 inserted 2\n1 begun 2\n1 left 1\n1 left 0\n1 answer 1\nlevel 1 id 2: 3\n";
+
+#[test]
+fn a_refused_run_on_threads_is_made_again(rt: HostRuntime) -> Result<(), Fail> {
+    let setup = Setup::new(1, 4, 2, 64).ok_or("no setup")?;
+    let output = match run_threads(&rt, rt.alloc(), SCRIPT_OF_ONE, setup, &OpenGate) {
+        Ok(output) => output,
+        Err(fault) => {
+            assert_eq!(rt; fault, RunFault::Memory);
+            run_threads(&rt, rt.alloc(), SCRIPT_OF_ONE, setup, &OpenGate).expect(&rt, "memory")
+        }
+    };
+    assert_eq!(rt; output.as_slice(), TOLD_TO_ONE);
     Ok(())
 }
