@@ -1,0 +1,66 @@
+//! How many gets, updates and scans the clients of one board do in a second, each on a thread of its own.
+#![tactic(auto)]
+
+mod random;
+mod threads;
+
+ghost use Rattle.std.specs.Prelude.{◌≤◌, ◌+◌, IfSome};
+
+use pref_core::Setup;
+use pref_share::Name;
+use pref_table::{Row, Schema, TableFault};
+use random::{ROWS, Random};
+use std::alloc::Global;
+use std::marker::Brand;
+use std::{env, io};
+use threads::{Does, Plan, Tally, measure};
+
+const USAGE: &str =
+    "readers_speed READERS WRITERS SCANNERS MILLISECONDS: 1 to 8 clients of 40000 rows in 65536 slots";
+
+/// What these words ask for.
+fn plan_of(words: &[String]) -> Option<Plan>
+    ensures { IfSome result (λ plan. plan.readers + plan.writers ≤ plan.setup.clients) }
+{
+    let [readers, writers, scanners, milliseconds] = words else {
+        return None;
+    };
+    let readers: u8 = readers.parse().ok()?;
+    let writers: u8 = writers.parse().ok()?;
+    let scanners: u8 = scanners.parse().ok()?;
+    let clients = readers.checked_add(writers)?.checked_add(scanners)?;
+    Some(Plan {
+        setup: Setup::new(clients, 65_536, 65_536, 64)?,
+        readers,
+        writers,
+        milliseconds: milliseconds.parse().ok()?,
+    })
+}
+
+fn opening_rows(alloc: Global, schema: &Schema) -> Result<Vec<Row>, TableFault> {
+    let mut random = Random(0);
+    (0..ROWS).map(|_| random.row(schema)).try_collect(alloc)
+}
+
+/// Prints how often in a second this was done.
+fn print_rate(rt: &impl Print, tallies: &[Tally], does: Does, milliseconds: u32) -> io::Result<()> {
+    let done = tallies.iter().filter(|tally| tally.does == does);
+    let times = done.fold(0u64, |sum, tally| sum.saturating_add(tally.times));
+    let rate = times.saturating_mul(1000) / u64::from(milliseconds).max(1);
+    println!(rt; "{does:?} a second: {rate}")
+}
+
+fn main(rt: HostRuntime) -> anyhow::Result<()> {
+    let words: Vec<String> = env::args(&rt)?.skip(1).collect(rt.alloc())?;
+    let Some(plan) = plan_of(&words) else {
+        return Ok(rt.println(USAGE)?);
+    };
+    let names = [b"a".as_slice(), b"b", b"c", b"d", b"e", b"f"];
+    let schema = Schema::new(rt.alloc(), names.as_slice())?;
+    let rows = opening_rows(rt.alloc(), &schema)?;
+    let tallies = measure::<Brand, _>(&rt, Name::new(), &schema, &rows, plan)?;
+    for does in [Does::Gets, Does::Updates, Does::Scans] {
+        print_rate(&rt, &tallies, does, plan.milliseconds)?;
+    }
+    Ok(())
+}

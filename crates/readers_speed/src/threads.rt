@@ -1,0 +1,149 @@
+//! What clients do again and again on threads of their own, and how often.
+
+ghost use Rattle.std.specs.Prelude.{◌≡◌, ◌+◌, ◌<◌, ◌≤◌, ◌↔◌, IfOk, vec_len, length};
+ghost use Rattle.pref_share.specs.Standing.{newcomers};
+
+use crate::random::Random;
+use pref_core::Setup;
+use pref_share::{Board, Client, Name, Naming, ShareFault, open_board};
+use pref_table::{Row, Schema};
+use pref_term::read_ask;
+use std::sync::Wait;
+use std::thread::{self, Threads};
+use std::time::{Clock, Duration, Instant};
+
+/// What a client does again and again.
+#[derive(Clone, Copy, Debug, PartialEq, Eq)]
+pub enum Does {
+    Gets,
+    Updates,
+    /// Begins a query, scans its one block, which is the whole table, and abandons it.
+    Scans,
+}
+
+/// How large the table is, how many of its clients do what, and for how long.
+#[derive(Clone, Copy)]
+pub struct Plan {
+    pub setup: Setup,
+    pub readers: u8,
+    pub writers: u8,
+    pub milliseconds: u32,
+}
+
+impl Plan {
+    /// What the client of a number does: first come the readers, then the writers.
+    fn does(self, number: u8) -> Does
+        ensures gets { (result ≡ Does.Gets) ↔ (number ≤ self.readers) }
+        ensures scans { (result ≡ Does.Scans) ↔ (self.readers + self.writers < number) }
+    {
+        if number <= self.readers {
+            Does::Gets
+        } else if number - self.readers <= self.writers {
+            Does::Updates
+        } else {
+            Does::Scans
+        }
+    }
+}
+
+/// How often a client did it.
+#[derive(Clone, Copy)]
+pub struct Tally {
+    pub does: Does,
+    pub times: u64,
+}
+
+/// So many gets are made between two looks at the clock.
+const GETS: u64 = 256;
+
+/// The sum of all numbers of a row, which are 0 and up.
+fn sum(row: &Row) -> i64 {
+    (0..16).fold(0i64, |sum, column| sum.wrapping_add(row.cell(column)))
+}
+
+/// How many gets found a row. All its numbers are looked at: their sum is 1 or more.
+fn gets<J: Naming>(client: &mut Client<J>, random: &mut Random) -> u64 {
+    let mut found = 0u64;
+    for _ in 0..GETS {
+        if client.get(random.id()).is_ok_and(|row| sum(&row) > 0) {
+            found = found.saturating_add(1);
+        }
+    }
+    found
+}
+
+/// What all clients share.
+#[derive(Drop)]
+struct Run<'a, J: Naming, R> {
+    rt: &'a R,
+    board: &'a Board<J>,
+    schema: &'a Schema,
+    plan: Plan,
+}
+
+impl<'a, J: Naming, R: Wait + Clock + AllocGlobal> Run<'a, J, R> {
+    fn update(&self, client: &mut Client<J>, random: &mut Random) -> Option<()> {
+        let row = random.row(self.schema).ok()?;
+        let id = random.id();
+        client
+            .update(self.rt, self.rt.alloc(), self.board, id, row)
+            .ok()
+    }
+
+    fn scan(&self, client: &mut Client<J>) -> Option<()> {
+        let question = b"best low(a) * low(b) * low(c) * low(d) * low(e) * low(f)";
+        let ask = read_ask(self.rt.alloc(), self.schema, question).ok()?;
+        client
+            .begin(self.rt, self.rt.alloc(), self.board, ask)
+            .ok()?;
+        client.scan(self.rt.alloc()).ok()?;
+        client.abandon(self.rt, self.rt.alloc(), self.board).ok()
+    }
+
+    /// Does its part of the plan until the time is over. What is refused is not counted.
+    fn work(&self, mut client: Client<J>) -> Tally {
+        let does = self.plan.does(client.number());
+        let mut random = Random(u64::from(client.number()));
+        let span = Duration::from_millis(u64::from(self.plan.milliseconds));
+        let mut times = 0u64;
+        let Ok(start) = Instant::now(self.rt) else {
+            return Tally { does, times };
+        };
+        for _ in 0..u64::MAX {
+            if !start.elapsed(self.rt).is_ok_and(|elapsed| elapsed < span) {
+                break;
+            }
+            times = times.saturating_add(match does {
+                Does::Gets => gets(&mut client, &mut random),
+                Does::Updates => u64::from(self.update(&mut client, &mut random).is_some()),
+                Does::Scans => u64::from(self.scan(&mut client).is_some()),
+            });
+        }
+        Tally { does, times }
+    }
+}
+
+/// What the clients of a new board do at once, each on a thread of its own. Its reader of the published table moves there with it.
+pub fn measure<J: Naming + Send + Sync, R: Threads + Wait + Clock + AllocGlobal + Sync>(
+    rt: &R,
+    name: Name,
+    schema: &Schema,
+    rows: &[Row],
+    plan: Plan,
+) -> Result<Vec<Tally>, ShareFault>
+    requires book { name.seen.book ≡ J.book }
+    requires opening { J.opening ≡ record { limits = plan.setup; rows = rows.now } }
+    ensures { IfOk result (λ tallies. vec_len tallies ≡ length (newcomers plan.setup.clients)) }
+{
+    let (board, clients) = open_board::<J, R>(rt, rt.alloc(), name, plan.setup, rows)?;
+    let run = Run {
+        rt,
+        board: &board,
+        schema,
+        plan,
+    };
+    let work = |client: Client<J>| -> Tally { run.work(client) };
+    let tallies = thread::map_vec(rt, clients, &work);
+    board.close(rt);
+    Ok(tallies?)
+}
