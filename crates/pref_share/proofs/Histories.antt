@@ -26,14 +26,6 @@ pub legal_beginning : (contents : Contents) (state : State) (xs ys : List Op) �
 legal_beginning contents state [] ys legal = tt
 legal_beginning contents state (x ∷ xs) ys legal = (legal.0, legal_beginning (applied contents x) (after (length contents.slots) state x.client x.call) xs ys legal.1)
 
-pub legal_rest : (contents : Contents) (state : State) (xs ys : List Op) → StandsFor contents state → AreLegalOps state contents (xs ++ ys) → AreLegalOps (reached contents state xs) (ran contents xs) ys
-legal_rest contents state [] ys stands legal = legal
-legal_rest contents state (x ∷ xs) ys stands legal =
-    let next = after (length contents.slots) state x.client x.call in
-    let size = length-applied contents state x stands legal.0 in
-    subst (λ n. AreLegalOps (state_after n next (map numbered_of xs)) (ran (applied contents x) xs) ys) size
-    (legal_rest (applied contents x) next xs ys (applied_stands contents state x stands legal.0) legal.1)
-
 pub legal_append : (contents : Contents) (state : State) (xs ys : List Op) → StandsFor contents state → AreLegalOps state contents xs → AreLegalOps (reached contents state xs) (ran contents xs) ys → AreLegalOps state contents (xs ++ ys)
 legal_append contents state [] ys stands legal more = more
 legal_append contents state (x ∷ xs) ys stands legal more =
@@ -103,10 +95,6 @@ legal-prefix o xs ys p legal = record {
   fits = legal.fits;
   each = legal_beginning (first_contents o) (first_state o) xs p.0 (subst (AreLegalOps (first_state o) (first_contents o)) (sym p.1) legal.each);
 }
-
-pub legal-rest : (o : Opening) (xs ys : List Op) → IsLegal o (xs ++ ys) → AreLegalOps (state_at o xs) (contents_at o xs) ys
-legal-rest o xs ys legal =
-    subst (λ s. AreLegalOps s (contents_at o xs) ys) (state_at_is o xs legal.fits) (legal_rest (first_contents o) (first_state o) xs ys (opens o legal.fits).0 legal.each)
 
 -- one more operation
 pub legal-more : (o : Opening) (xs : List Op) (op : Op) → IsLegal o xs → MayFollow o xs op → IsLegal o (xs ++ op ∷ [])

@@ -1,11 +1,10 @@
 -- The steps of the writer and of the readers keep the rule.
-use Rattle.std.proofs.Common.{◌≡◌, ◌≢◌, ℕ, List, [], ◌∷◌, ◌++◌, length, set, fold, true, false, is_some, Some, refl, ap, sym, subst, ◌∙◌, ⊎_elim}
+use Rattle.std.proofs.Common.{◌≡◌, ◌≢◌, ℕ, List, [], ◌∷◌, ◌++◌, length, set, true, false, is_some, Some, refl, ap, sym, subst, ◌∙◌, ⊎_elim}
 use mathlib.Core.Option.{some}
 use lib.ListN.{get_elem?}
 use Rattle.logbook.specs.Pages.{Book}
 use Rattle.crossbeam_utils.specs.Register.{Admits, TurnsAt, Forks, Merges}
 use Rattle.atomic_table.proofs.Lists.{at_set, at_snoc}
-use Rattle.std.proofs.lemmas.List.Sums.{fold-append}
 use Rattle.pref_core.specs.declared.call.Op.{Op}
 use Rattle.pref_core.specs.Slots.{Contents}
 use Rattle.pref_core.specs.Operations.{applied, ran, is_next, slots_after}
@@ -35,20 +34,6 @@ snoc_fits opening book views w fit each k v e = ⊎_elim (each k v) (λ (same : 
 
 pub admits : Admits Kept newcomer
 admits x views k = record { opening = k.opening; book = k.book; stands = k.stands; each = snoc_fits k.opening k.book views newcomer (fits_newcomer k.opening k.book) k.each }
-
--- the first copy, with one seat that knows nothing
-pub kept_first : (x : Published) → x.seen.log ≡ [] → x.len ≡ 0 → Kept x (newcomer ∷ [])
-kept_first x empty none = record {
-  opening = x.store;
-  book = x.seen.book;
-  stands = record {
-    legal = subst (AreLetIn x.store) (sym empty) tt;
-    store = ap (ran x.store) (sym empty);
-    len = none ∙ ap length (sym empty);
-    in_book = refl;
-  };
-  each = snoc_fits x.store x.seen.book [] newcomer (fits_newcomer x.store x.seen.book) (λ k v e. absurd cc);
-}
 
 -- one seat changes its view
 reviewed : (x : Published) (views : List View) (seat : ℕ) (w : View) (k : Kept x views) → Fits k.opening k.book w → Kept x (set views seat w)
@@ -128,10 +113,6 @@ pub blank_keeps : (x : Published) (s : Stamp) → s.op.client ≡ 0 → s.len �
 blank_keeps x s none len seen =
     let same : applied x.store s.op ≡ x.store = rw (nobody x.store s.op none) refl in
     λ i. record { store = same i; len = len i; seen = seen i }
-
--- one more stamp of no call
-pub blank_more : (x : Published) (ops : List Stamp) (s : Stamp) → fold stamped x ops ≡ x → s.op.client ≡ 0 → s.len ≡ x.len → s.seen ≡ x.seen → fold stamped x (ops ++ s ∷ []) ≡ x
-blank_more x ops s so none len seen = fold-append stamped x ops (s ∷ []) ∙ (ap (λ (y : Published). stamped y s) so ∙ blank_keeps x s none len seen)
 
 -- the copy that a planned operation leaves
 pub published_next : (o : Opening) (book : Book) (x : Published) (s : Stamp) (history : List Op) → IsLegal o history → x.seen.log ≡ history → StandsFor (first_contents o) book x → MayFollow o history s.op → s.seen.log ≡ history ++ s.op ∷ [] → s.len ≡ length s.seen.log → s.seen.book ≡ book
