@@ -1,5 +1,5 @@
 -- The steps of the writer and of the readers keep the rule.
-use Rattle.std.proofs.Common.{◌≡◌, ◌≢◌, ℕ, List, [], ◌∷◌, ◌++◌, length, set, true, false, is_some, Some, refl, ap, sym, subst, ◌∙◌, ⊎_elim}
+use Rattle.std.proofs.Common.{◌≡◌, ◌≢◌, ℕ, List, [], ◌∷◌, ◌++◌, length, set, true, is_some, Some, refl, ap, sym, subst, ◌∙◌, ⊎_elim}
 use mathlib.Core.Option.{some}
 use lib.ListN.{get_elem?}
 use Rattle.logbook.specs.Pages.{Book}
@@ -104,15 +104,6 @@ stamped_stands opening book x s stands ends next fits len in_book = record {
   len = len;
   in_book = in_book;
 }
-
--- no store lets in a call of nobody
-nobody : (contents : Contents) (op : Op) → op.client ≡ 0 → is_next contents op ≡ false
-nobody contents op none = rw none refl
-
-pub blank_keeps : (x : Published) (s : Stamp) → s.op.client ≡ 0 → s.len ≡ x.len → s.seen ≡ x.seen → stamped x s ≡ x
-blank_keeps x s none len seen =
-    let same : applied x.store s.op ≡ x.store = rw (nobody x.store s.op none) refl in
-    λ i. record { store = same i; len = len i; seen = seen i }
 
 -- the copy that a planned operation leaves
 pub published_next : (o : Opening) (book : Book) (x : Published) (s : Stamp) (history : List Op) → IsLegal o history → x.seen.log ≡ history → StandsFor (first_contents o) book x → MayFollow o history s.op → s.seen.log ≡ history ++ s.op ∷ [] → s.len ≡ length s.seen.log → s.seen.book ≡ book
