@@ -1,5 +1,6 @@
 -- What runs, the system that it stands for, and a step of it. (this project)
 use Rattle.std.specs.Prelude.{◌≡◌, ℕ, List, length, Bool, true, false, Option, Some, None, Result, Ok, Err, MatchResult, ◌⊎◌}
+use Rattle.std.specs.declared.alloc.AllocError.{AllocError}
 use Rattle.pref_core.specs.declared.store.version.Version.{Version}
 use Rattle.pref_core.specs.declared.fault.CoreFault.{CoreFault}
 use Rattle.pref_core.specs.declared.fault.CoreFault.TheVariants.{OutOfMemory}
@@ -77,3 +78,10 @@ pub record Steps (before : Running) (event : Event) (result : Result Reply StepF
   pub limits : after.limits ≡ before.limits
   pub tells : (system : System) → StandsForSystem before system → Tells before (step before.limits system event) event.act (without_event result) after
   pub handed_back : MatchResult result (λ told. Unit {0}) (λ fault. fault.event ≡ event)
+
+-- A reply is the system's, in each system that what runs stands for, refusals too; or memory is wanting, and nothing has changed.
+pub record Replies (before : Running) (event : Event) (result : Result Reply AllocError) (after : Running) : Type 0 where
+  pub limits : after.limits ≡ before.limits
+  pub tells : (system : System) → StandsForSystem before system → MatchResult result
+      (λ reply. (reply ≡ (step before.limits system event).reply) × StandsForSystem after (step before.limits system event).next)
+      (λ _. (may_want_memory event.act ≡ true) × (after ≡ before))

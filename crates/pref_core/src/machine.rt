@@ -6,7 +6,7 @@ mod seats;
 ghost use Rattle.std.specs.Prelude.{true, false, ◌≡◌, ◌<◌, length, Ok, Err, IfOk, IfErr, MatchResult, ◌⊎◌, ◌↔◌};
 ghost use Rattle.pref_core.specs.State.{is_change};
 ghost use Rattle.pref_core.specs.Step.{opened};
-ghost use Rattle.pref_core.specs.Systems.{Running, StandsForSystem, Steps, is_refusal, without_event};
+ghost use Rattle.pref_core.specs.Systems.{Replies, Running, StandsForSystem, Steps, is_refusal, without_event};
 ghost use Rattle.pref_core.specs.Parts.{Does, Changes, is_begin, told_of};
 
 use crate::call::{Call, Outcome};
@@ -18,7 +18,7 @@ use crate::setup::Setup;
 use crate::store::Store;
 use pref_table::Row;
 use seats::{answer_at, is_client, no_queries, scan_at, set};
-use std::alloc::Global;
+use std::alloc::{AllocError, Global};
 use std::marker::Model;
 
 /// A table with its clients. It always stands for a state of the sequential table.
@@ -84,6 +84,21 @@ impl Machine {
             Act::Abandon => handed_back(self.abandon(client), event),
             Act::Get(id) => handed_back(self.get(client, *id), event),
             Act::Room => handed_back(self.room(client), event),
+        }
+    }
+
+    /// The reply to one event, which may be a refusal: what [`Machine::step`] tells, with no event handed back.
+    ///
+    /// `Err` is want of memory. It comes for a scan, a finish and an insert alone, and nothing has changed then.
+    pub fn reply(&mut self, alloc: Global, event: Event) -> Result<Reply, AllocError>
+        ensures { Replies self.old event result self.new }
+    {
+        match self.step(alloc, event) {
+            Ok(reply) => Ok(reply),
+            Err(refused) => match refused.fault {
+                CoreFault::OutOfMemory => Err(AllocError),
+                fault => Ok(Reply::Refused(fault)),
+            },
         }
     }
 

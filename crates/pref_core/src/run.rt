@@ -2,14 +2,14 @@
 
 ghost use Rattle.std.specs.Prelude.{◌≡◌, ◌<◌, nat_lt, length, take, Err, IfOk, IfErr, ◌⊎◌, ◌↔◌};
 ghost use Rattle.pref_core.specs.Step.{replies};
-ghost use Rattle.pref_core.specs.Parts.{AddsReply, replied};
+ghost use Rattle.pref_core.specs.Parts.{AddsReply};
 
-use crate::event::{Event, Reply, StepFault};
+use crate::event::{Event, Reply};
 use crate::fault::CoreFault;
 use crate::machine::Machine;
 use crate::setup::Setup;
 use pref_table::Row;
-use std::alloc::Global;
+use std::alloc::{AllocError, Global};
 
 /// What was replied before memory was wanting, or all of it.
 #[derive(Drop)]
@@ -46,8 +46,8 @@ pub fn replay_part(
     let mut machine = Machine::new(alloc, setup, rows)?;
     let mut told = Vec::new(alloc);
     for event in events {
-        let step = machine.step(alloc, event);
-        if push_reply(&mut told, step).is_err() {
+        let reply = machine.reply(alloc, event);
+        if push_reply(&mut told, reply).is_err() {
             return Ok(Part {
                 replies: told,
                 stopped: true,
@@ -86,23 +86,10 @@ pub fn replay(
     Ok(part.replies)
 }
 
-/// Adds the reply of a step. Want of memory, for the step or for the list, adds none.
-fn push_reply(told: &mut Vec<Reply>, step: Result<Reply, StepFault>) -> Result<(), CoreFault>
-    ensures { AddsReply told.old.items step result told.new.items }
+/// Adds a reply. Want of memory, for the reply or for the list, adds none.
+fn push_reply(told: &mut Vec<Reply>, reply: Result<Reply, AllocError>) -> Result<(), AllocError>
+    ensures { AddsReply told.old.items reply result told.new.items }
 {
-    let reply = replied(step)?;
-    told.push(reply).map_err(|_| CoreFault::OutOfMemory)
-}
-
-/// A refusal is a reply; want of memory is none.
-fn replied(told: Result<Reply, StepFault>) -> Result<Reply, CoreFault>
-    ensures { result ≡ replied told }
-{
-    match told {
-        Ok(reply) => Ok(reply),
-        Err(refused) => match refused.fault {
-            CoreFault::OutOfMemory => Err(CoreFault::OutOfMemory),
-            fault => Ok(Reply::Refused(fault)),
-        },
-    }
+    told.push(reply?)?;
+    Ok(())
 }

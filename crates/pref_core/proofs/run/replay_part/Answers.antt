@@ -5,7 +5,7 @@ use Rattle.std.proofs.lemmas.Iterator.Consumers.{YieldsList-turn}
 use Rattle.std.proofs.lemmas.Iterator.Adapters.{YieldsList-from_vec}
 use Rattle.pref_core.specs.Step.{step, replies_from}
 use Rattle.pref_core.specs.Systems.{StandsForSystem}
-use Rattle.pref_core.proofs.Replies.{reply_is_added, replied_steps, one_reply_more, stopped_replies}
+use Rattle.pref_core.proofs.Replies.{reply_is_added, replies_step, one_reply_more, stopped_replies}
 use Rattle.pref_core.proofs.run.replay_part.Goals as goal
 
 pub loop-event-preserved : goal.loop-event-preserved
@@ -14,26 +14,26 @@ loop-event-preserved c =
     let turn = YieldsList-turn (YieldsList-from_vec {s = c.into_iter-event-iterator.result} c.args.events.items gives.0 (gives.1 ∙ c.args.events.ok.0)) c.loop-event.yielded c.loop-event.event-iterator c.loop-event.yielded_by c.next.result c.next.new.self c.in-Some.event c.in-Some.is c.next.ensures.steps in
     let inv = c.loop-event.invariant in
     let event = c.in-Some.event in
-    let one = reply_is_added c.loop-event.told.items c.step-step.result c.push_reply.result c.push_reply.new.told.items c.push_reply.ensures (sym c.if-is_err.ensures.value) in
-    let said = replied_steps c.loop-event.machine c.step-step.new.self inv.system event c.step-step.result one.reply inv.stands c.step-step.ensures one.told in
+    let one = reply_is_added c.loop-event.told.items c.reply-reply.result c.push_reply.result c.push_reply.new.told.items c.push_reply.ensures (sym c.if-is_err.ensures.value) in
+    let said = replies_step c.loop-event.machine c.reply-reply.new.self inv.system event c.reply-reply.result one.reply inv.stands c.reply-reply.ensures one.is in
     let more = one_reply_more c.args.setup inv.system c.loop-event.told.items c.args.events.items c.loop-event.yielded event one.reply _ turn (subst (λ l. one.reply ≡ (step l inv.system event).reply) inv.limits said.0) inv.rest in
     let one_each : length (c.loop-event.told.items ++ one.reply ∷ []) ≡ length (c.loop-event.yielded ++ event ∷ []) = omega (arith, inv.count, length_push c.loop-event.told.items one.reply, length_push c.loop-event.yielded event) in
     record {
-      limits = c.step-step.ensures.limits ∙ inv.limits;
+      limits = c.reply-reply.ensures.limits ∙ inv.limits;
       few = inv.few;
       system = (step c.args.setup inv.system event).next;
-      stands = subst (λ l. StandsForSystem c.step-step.new.self (step l inv.system event).next) inv.limits said.1;
+      stands = subst (λ l. StandsForSystem c.reply-reply.new.self (step l inv.system event).next) inv.limits said.1;
       count = ap length one.added ∙ one_each;
       rest = ap (λ l. l ++ replies_from c.args.setup (step c.args.setup inv.system event).next (drop (length (c.loop-event.yielded ++ event ∷ [])) c.args.events.items)) one.added ∙ more;
     }
 
 pub returns-then-is_err-clause-replies : goal.returns-then-is_err-clause-replies
-returns-then-is_err-clause-replies c = (stopped_replies c.loop-event.told.items c.step-step.result c.push_reply.result c.push_reply.new.told.items _ _ c.push_reply.ensures (sym c.is_err.ensures.value ∙ c.if-is_err.true) c.loop-event.invariant.rest).1
+returns-then-is_err-clause-replies c = (stopped_replies c.loop-event.told.items c.reply-reply.result c.push_reply.result c.push_reply.new.told.items _ _ c.push_reply.ensures (sym c.is_err.ensures.value ∙ c.if-is_err.true) c.loop-event.invariant.rest).1
 
 pub returns-then-is_err-clause-stopped : goal.returns-then-is_err-clause-stopped
 returns-then-is_err-clause-stopped c =
     let gives = c.into_iter-event-iterator.ensures.into_iter_gives in
     let turn = YieldsList-turn (YieldsList-from_vec {s = c.into_iter-event-iterator.result} c.args.events.items gives.0 (gives.1 ∙ c.args.events.ok.0)) c.loop-event.yielded c.loop-event.event-iterator c.loop-event.yielded_by c.next.result c.next.new.self c.in-Some.event c.in-Some.is c.next.ensures.steps in
-    let none = (stopped_replies c.loop-event.told.items c.step-step.result c.push_reply.result c.push_reply.new.told.items _ _ c.push_reply.ensures (sym c.is_err.ensures.value ∙ c.if-is_err.true) c.loop-event.invariant.rest).0 in
+    let none = (stopped_replies c.loop-event.told.items c.reply-reply.result c.push_reply.result c.push_reply.new.told.items _ _ c.push_reply.ensures (sym c.is_err.ensures.value ∙ c.if-is_err.true) c.loop-event.invariant.rest).0 in
     let less : length c.push_reply.new.told.items < length c.args.events.items = omega (arith, ap length none, c.loop-event.invariant.count, turn.0) in
     sym (lt-ltb _ _ less)
