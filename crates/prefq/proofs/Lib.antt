@@ -4,6 +4,7 @@ pub mod WordsFacts
 pub mod CommandFacts
 pub mod TextFacts
 pub mod OutputFacts
+pub mod PlayFacts
 pub mod ClientFacts
 pub mod ThreadsFacts
 pub mod Examples

@@ -1,5 +1,5 @@
 -- The output of a script, part by part.
-use Rattle.std.proofs.Common.{◌≡◌, ◌∙◌, ℕ, ◌<◌, List, [], ◌∷◌, ◌++◌, length, ap, refl, arith, Ok, Err, Bool, true, false, ◌⊎◌, inl, inr, Option, take, map, ℤ}
+use Rattle.std.proofs.Common.{◌≡◌, ◌∙◌, ℕ, ◌<◌, List, [], ◌∷◌, length, ap, refl, arith, Ok, Err, Bool, true, false, ◌⊎◌, inl, inr, Option, take}
 use Rattle.std.proofs.lemmas.Bool.{cases_lt, le-ltb, lt-ltb}
 use Rattle.std.proofs.lemmas.List.{take_all}
 use Rattle.std.specs.Prelude.{nat_lt}
@@ -9,37 +9,13 @@ use Rattle.pref_table.specs.Tables.{Fails, Table, table_of}
 use Rattle.pref_table.specs.declared.fault.TableFault.TheVariants as table
 use Rattle.pref_table.specs.declared.fault.TableFault.{TableFault}
 use Rattle.pref_core.specs.Limits.{Limits}
-use Rattle.pref_core.specs.Step.{replies}
 use Rattle.pref_core.specs.declared.fault.CoreFault.TheVariants as core
 use Rattle.pref_core.specs.declared.fault.CoreFault.{CoreFault}
-use Rattle.pref_core.specs.declared.event.Event.{Event}
-use Rattle.pref_core.specs.declared.event.Reply.{Reply}
-use Rattle.prefq.specs.Commands.{Command, refused, runs, events_of}
-use Rattle.prefq.specs.Output.{ScriptFault, fault_text, output, script_of, script_with, told}
-use Rattle.prefq.specs.Reading.{core_fault, line_for, lines_text, table_fault}
+use Rattle.prefq.specs.Output.{ScriptFault, fault_text, output, script_of, script_with}
+use Rattle.prefq.specs.Reading.{core_fault, table_fault}
 use Rattle.prefq.specs.Script.{Parts, is_end, is_table, parts_of, raw_lines}
-use Rattle.prefq.specs.Text.{refused_line, reply_lines}
-use Rattle.prefq.specs.declared.commands.Line.{Line}
 use Rattle.prefq.specs.declared.fault.RunFault.{RunFault}
 use Rattle.prefq.specs.declared.fault.RunFault.TheVariants as fault
-
--- what is printed by the lines that were kept is what the commands are told
-pub told-lines : (width : ℕ) (commands : List Command) (answers : List Reply) → lines_text width (map line_for commands) answers ≡ told width commands answers
-unfolding lines_text told
-told-lines width [] answers = refl
-told-lines width (refused number why ∷ more) answers = ap (λ (t : List ℕ). refused_line number why ++ t) (told-lines width more answers)
-told-lines width (runs event ∷ more) [] = told-lines width more []
-told-lines width (runs event ∷ more) (reply ∷ rest) = ap (λ (t : List ℕ). reply_lines width event.client reply ++ t) (told-lines width more rest)
-
--- the same, of what was kept and answered
-pub printed-told : (limits : Limits) (rows : List (List ℤ)) (commands : List Command) (names : List (List ℕ)) (start printed : List ℕ) (width : ℕ)
-    (kept lines : List Line) (events : List Event) (answers given : List Reply) → printed ≡ start ++ lines_text width lines given → start ≡ [] → width ≡ length names
-    → lines ≡ kept → kept ≡ map line_for commands → given ≡ answers → answers ≡ replies limits rows events → events ≡ events_of commands
-    → printed ≡ told (length names) commands (replies limits rows (events_of commands))
-printed-told limits rows commands names start printed width kept lines events answers given wrote empty wide all each told_all said asked =
-    let answered : given ≡ replies limits rows (events_of commands) = told_all ∙ said ∙ ap (λ (e : List Event). replies limits rows e) asked in
-    let printed_all = rw (empty, wide, all ∙ each, answered) at wrote in
-    printed_all ∙ told-lines (length names) commands (replies limits rows (events_of commands))
 
 -- a script's parts fail in two ways
 parts-faults : (raws : List (List ℕ)) (why : RunFault) → parts_of raws ≡ Err why → (why ≡ fault.NoTable) ⊎ (why ≡ fault.NoEnd)

@@ -7,5 +7,6 @@ pub mod Commands
 pub mod Output
 pub mod Run
 pub mod Status
+pub mod Playing
 pub mod Reading
 pub mod Threads

@@ -7,7 +7,6 @@ use Rattle.pref_table.specs.declared.fault.TableFault.{TableFault}
 use Rattle.pref_table.specs.declared.fault.TableFault.TheVariants as table
 use Rattle.pref_core.specs.declared.fault.CoreFault.{CoreFault}
 use Rattle.pref_core.specs.declared.fault.CoreFault.TheVariants as core
-use Rattle.pref_core.specs.declared.event.Reply.{Reply}
 use Rattle.pref_core.specs.declared.event.Act.{Act}
 use Rattle.pref_core.specs.declared.event.Event.{Event}
 use Rattle.pref_core.specs.declared.event.Reply.TheVariants.{Refused as NotThere}
@@ -17,7 +16,7 @@ use Rattle.pref_share.specs.declared.fault.ShareFault.TheVariants as share
 use Rattle.prefq.specs.Threads.{acts_of, is_client}
 use Rattle.prefq.specs.Commands.{Command, refused, runs, commands_of, events_of}
 use Rattle.prefq.specs.Script.{Parts, parts_of, raw_lines}
-use Rattle.prefq.specs.Text.{◌<>◌, refused_line, reply_lines}
+use Rattle.prefq.specs.Text.{refused_line, reply_lines}
 use Rattle.prefq.specs.declared.command.Refusal.{Refusal}
 use Rattle.prefq.specs.declared.command.Stop.{Stop}
 use Rattle.prefq.specs.declared.command.Stop.TheVariants.{Refused as StopRefused, OutOfMemory as StopMemory}
@@ -26,6 +25,7 @@ use Rattle.prefq.specs.declared.commands.Line.TheVariants.{Refused as LineRefuse
 use Rattle.prefq.specs.declared.commands.Commands.{Commands}
 use Rattle.prefq.specs.declared.fault.RunFault.{RunFault}
 use Rattle.prefq.specs.declared.fault.RunFault.TheVariants as fault
+use Rattle.prefq.specs.declared.reading.Opening.{Opening as OpeningRead}
 use Rattle.prefq.specs.declared.reading.Script.{Script as Read}
 
 -- what was read is what is said, unless memory ran out
@@ -44,22 +44,6 @@ pub record Adds (old new : Commands) (commands : List Command) : Type 0 where
   pub lines : new.lines.items ≡ old.lines.items ++ map line_for commands
   pub events : new.events.items ≡ old.events.items ++ events_of commands
 
--- what is printed for a line, and the replies that are left after it
-abbrev pub line_text : ℕ → Line → List Reply → List ℕ
-line_text width (LineRefused number why) replies = refused_line number why
-line_text width (LineAnswered client) [] = []
-line_text width (LineAnswered client) (reply ∷ rest) = reply_lines width client reply
-
-abbrev pub replies_after : Line → List Reply → List Reply
-replies_after (LineRefused number why) replies = replies
-replies_after (LineAnswered client) [] = []
-replies_after (LineAnswered client) (reply ∷ rest) = rest
-
--- what is printed for lines and the replies to those that were events
-unfoldable pub lines_text : ℕ → List Line → List Reply → List ℕ
-lines_text width [] replies = []
-lines_text width (line ∷ more) replies = line_text width line replies <> lines_text width more (replies_after line replies)
-
 -- a table's fault as one of the run
 abbrev pub table_fault : TableFault → RunFault
 table_fault table.OutOfMemory = fault.Memory
@@ -74,6 +58,14 @@ core_fault why = fault.Opening why
 abbrev pub share_fault : ShareFault → RunFault
 share_fault (share.Core why) = core_fault why
 share_fault why = fault.Threads why
+
+-- the table that was read is that of these bytes, and these are their parts
+pub record IsOpeningOf (bytes : List ℕ) (opening : OpeningRead) : Type 0 where
+  pub parts : Parts
+  pub cut : parts_of (raw_lines bytes) ≡ Ok parts
+  pub table : table_of parts.table ≡ Ok (opening.schema, opening.rows.items)
+  pub commands : raw_lines opening.text.commands.now ≡ parts.commands
+  pub first : opening.text.first ≡ parts.first
 
 -- what was read is the script of these bytes, whether or not there is room for its rows
 pub record IsReadOf (bytes : List ℕ) (read : Read) : Type 0 where

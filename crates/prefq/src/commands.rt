@@ -27,7 +27,8 @@ pub struct Commands {
     pub events: Vec<Event>,
 }
 
-fn is_blank_line(line: &[u8]) -> bool
+/// Whether a line says nothing.
+pub fn is_blank_line(line: &[u8]) -> bool
     ensures { result ≡ list_all is_blank line.now }
 {
     line.iter().all(|byte| *byte == b' ' || *byte == b'\t')

@@ -8,6 +8,7 @@ mod commands;
 mod fault;
 mod input;
 mod output;
+mod playing;
 mod reading;
 mod replies;
 mod run;

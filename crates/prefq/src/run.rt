@@ -1,6 +1,8 @@
 //! A script from its bytes to the bytes of its output.
-ghost use Rattle.std.specs.Prelude.{◌≡◌, ◌≤◌, ◌<◌, ℕ, List, false, length, IfOk, IsOk, MatchResult, string_bytes};
+ghost use Rattle.std.specs.Prelude.{◌≡◌, ◌≤◌, ◌<◌, ◌⊎◌, ◌↔◌, ℕ, List, Err, false, length, IfErr, IfOk, IsOk, MatchResult, string_bytes};
 ghost use Rattle.std.specs.Io.KnownBytes.{Consumes};
+ghost use Rattle.pref_core.specs.Step.{opened};
+ghost use Rattle.pref_core.specs.Systems.{StandsForSystem};
 ghost use Rattle.prefq.specs.Output.{ScriptFault, fault_text, output, script_of};
 ghost use Rattle.prefq.specs.Reading.{core_fault};
 ghost use Rattle.prefq.specs.Run.{Ran};
@@ -9,11 +11,12 @@ ghost use Rattle.prefq.specs.Watched.{has_failed, inside};
 use crate::fault::RunFault;
 use crate::input::read_input;
 use crate::output::write_output;
-use crate::reading::{Script, read_script};
-use crate::replies::push_lines;
+use crate::playing::play_lines;
+use crate::reading::{Opening, read_opening};
 use crate::text::{push_core_fault, push_table_fault};
 use crate::watched::Watched;
-use pref_core::{CoreFault, Setup, replay};
+use pref_core::{CoreFault, Machine, Setup};
+use pref_table::Row;
 use std::alloc::{AllocError, Global};
 use std::io::{Read, Write};
 
@@ -54,27 +57,26 @@ pub fn of_core(why: CoreFault) -> RunFault
     }
 }
 
+/// A table with these opening rows, which are let go.
+fn opened(alloc: Global, setup: Setup, rows: Vec<Row>) -> Result<Machine, CoreFault>
+    ensures opened { IfOk result (λ machine. (machine.limits ≡ setup) × StandsForSystem machine (opened setup rows.items)) }
+    ensures full { result ≡ Err (CoreFault.Full (length rows.items)) ↔ (setup.capacity < length rows.items) }
+    ensures other { IfErr result (λ fault. (fault ≡ CoreFault.OutOfMemory) ⊎ (setup.capacity < length rows.items)) }
+{
+    Machine::new(alloc, setup, rows.as_slice())
+}
+
 /// The text of a script's replies, or the script's fault.
 fn reply_text(alloc: Global, setup: Setup, bytes: &[u8]) -> Result<String, RunFault>
     ensures { MatchResult result (λ text. IsOk (script_of setup bytes.now) × (string_bytes text ≡ output setup bytes.now)) (λ fault. ScriptFault fault (script_of setup bytes.now)) }
 {
-    let Script {
-        schema,
-        rows,
-        commands,
-    } = read_script(alloc, bytes)?;
-    let replies = match replay(alloc, setup, rows.as_slice(), commands.events) {
-        Ok(replies) => replies,
+    let Opening { schema, rows, text } = read_opening(alloc, bytes)?;
+    let machine = match opened(alloc, setup, rows) {
+        Ok(machine) => machine,
         Err(why) => return Err(of_core(why)),
     };
-    let mut text = String::new(alloc);
-    push_lines(
-        &mut text,
-        schema.width(),
-        commands.lines.as_slice(),
-        replies.as_slice(),
-    )?;
-    Ok(text)
+    let told = play_lines(alloc, &schema, machine, text)?;
+    Ok(told)
 }
 
 /// Reads a script, runs it under a setup and writes its output. The whole output is made before its first byte is written.

@@ -1,6 +1,6 @@
 use Rattle.std.proofs.lemmas.Result.{err_from_is_err_and}
 use Rattle.prefq.proofs.OutputFacts.{script-parts-fault, script-table-fault}
-use Rattle.prefq.proofs.reading.read_script.Goals as goal
+use Rattle.prefq.proofs.reading.read_opening.Goals as goal
 
 pub returns-in_err-text-clause-fault : goal.returns-in_err-text-clause-fault
 returns-in_err-text-clause-fault c =

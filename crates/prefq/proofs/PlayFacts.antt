@@ -1,0 +1,99 @@
+-- Commands that are played one after the other.
+use Rattle.std.proofs.Common.{◌≡◌, ◌∙◌, ℕ, ℤ, ◌+◌, List, [], ◌∷◌, ◌++◌, length, Ok, sym, ap, refl, subst, arith, append_assoc}
+use Rattle.std.proofs.lemmas.List.{append-nil}
+use Rattle.pref_core.specs.Limits.{Limits}
+use Rattle.pref_core.specs.Step.{System, opened, replies, step}
+use Rattle.pref_core.specs.Systems.{Replies, Running, StandsForSystem}
+use Rattle.pref_core.specs.declared.event.Event.{Event}
+use Rattle.pref_core.specs.declared.event.Reply.{Reply}
+use Rattle.prefq.specs.Commands.{Command, refused, runs, commands_in, commands_of, events_of}
+use Rattle.prefq.specs.Output.{told}
+use Rattle.prefq.specs.Playing.{Plays, TellsAll, told_from}
+use Rattle.prefq.specs.Script.{line_of, raw_lines}
+use Rattle.prefq.specs.Text.{refused_line, reply_lines}
+use Rattle.prefq.specs.declared.command.Refusal.{Refusal}
+use Rattle.prefq.proofs.ScriptFacts.{lines_none}
+
+-- no command
+pub plays_none : (width : ℕ) (running : Running) (text : List ℕ) → Plays width running [] text text running
+plays_none width running text = record {
+  limits = refl;
+  plays = λ system h. record { next = system; said = []; stands = h; added = sym (append-nil text); passes = record { goes_on = λ more. refl } };
+}
+
+-- a refused line
+pub plays_refused : (width : ℕ) (running : Running) (number : ℕ) (why : Refusal) (old new : List ℕ) → new ≡ old ++ refused_line number why → Plays width running (refused number why ∷ []) old new running
+unfolding told events_of
+plays_refused width running number why old new added = record {
+  limits = refl;
+  plays = λ system h. record { next = system; said = refused_line number why; stands = h; added = added; passes = record { goes_on = λ more. refl } };
+}
+
+-- an event
+pub plays_event : (width : ℕ) (before after : Running) (event : Event) (reply : Reply) (old new : List ℕ) → Replies before event (Ok reply) after → new ≡ old ++ reply_lines width event.client reply
+    → Plays width before (runs event ∷ []) old new after
+unfolding told events_of
+plays_event width before after event reply old new replies added = record {
+  limits = replies.limits;
+  plays = λ system h. let says = replies.tells system h in record {
+    next = (step before.limits system event).next;
+    said = reply_lines width event.client reply;
+    stands = says.1;
+    added = added;
+    passes = record { goes_on = λ more. ap (λ (r : Reply). reply_lines width event.client r ++ told_from before.limits width (step before.limits system event).next more) (sym says.0) };
+  };
+}
+
+-- what was told so far, and what is left to be told from here on, is what all are told
+pub record PlayingFrom (width : ℕ) (limits : Limits) (system : System) (all : List Command) (text : List ℕ) (now : Running) (rest : List Command) : Type 0 where
+  pub next : System
+  pub stands : StandsForSystem now next
+  pub whole : text ++ told_from limits width next rest ≡ told_from limits width system all
+
+pub record Playing (width : ℕ) (first : Running) (all : List Command) (text : List ℕ) (now : Running) (rest : List Command) : Type 0 where
+  pub limits : now.limits ≡ first.limits
+  pub from : (system : System) → StandsForSystem first system → PlayingFrom width first.limits system all text now rest
+
+-- before the first command
+pub playing_start : (width : ℕ) (first : Running) (all : List Command) (text : List ℕ) → text ≡ [] → Playing width first all text first all
+playing_start width first all text none = rw none (record { limits = refl; from = λ system h. record { next = system; stands = h; whole = refl } })
+
+-- some commands more
+playing_more : (width : ℕ) (first now after : Running) (all commands rest : List Command) (text new : List ℕ) → Playing width first all text now (commands ++ rest) → Plays width now commands text new after → Playing width first all new after rest
+playing_more width first now after all commands rest text new playing plays = record {
+  limits = plays.limits ∙ playing.limits;
+  from = λ system h.
+    let so_far = playing.from system h in
+    let one = plays.plays so_far.next so_far.stands in
+    let same : told_from first.limits width so_far.next (commands ++ rest) ≡ one.said ++ told_from first.limits width one.next rest
+        = subst (λ (l : Limits). told_from l width so_far.next (commands ++ rest) ≡ one.said ++ told_from l width one.next rest) playing.limits (one.passes.goes_on rest) in
+    record {
+      next = one.next;
+      stands = one.stands;
+      whole = rw one.added (append_assoc text one.said (told_from first.limits width one.next rest) ∙ ap (λ (t : List ℕ). text ++ t) (sym same) ∙ so_far.whole);
+    };
+}
+
+-- a line more
+pub playing_line : (width : ℕ) (names : List (List ℕ)) (first now after : Running) (all : List Command) (number : ℕ) (left raw tail text new : List ℕ)
+    → Playing width first all text now (commands_of names number (raw_lines left)) → raw_lines left ≡ raw ∷ raw_lines tail
+    → Plays width now (commands_in names number (line_of raw)) text new after → Playing width first all new after (commands_of names (number + 1) (raw_lines tail))
+unfolding commands_of
+playing_line width names first now after all number left raw tail text new playing cut plays =
+    playing_more width first now after all (commands_in names number (line_of raw)) (commands_of names (number + 1) (raw_lines tail)) text new (rw cut at playing) plays
+
+-- no line is left
+pub playing_all : (width : ℕ) (names : List (List ℕ)) (first now : Running) (all : List Command) (number : ℕ) (left text : List ℕ)
+    → Playing width first all text now (commands_of names number (raw_lines left)) → length left ≡ 0 → TellsAll width first all text
+unfolding commands_of told
+playing_all width names first now all number [] text playing none = λ system h. sym (append-nil text) ∙ (rw lines_none at (playing.from system h).whole)
+playing_all width names first now all number (x ∷ xs) text playing none = absurd (omega arith)
+
+-- all that the commands of a script are told
+pub tells_output : (limits : Limits) (rows : List (List ℤ)) (names : List (List ℕ)) (number first : ℕ) (lines raws : List (List ℕ)) (running : Running) (text : List ℕ)
+    → running.limits ≡ limits → StandsForSystem running (opened limits rows) → TellsAll (length names) running (commands_of names number lines) text → number ≡ first → lines ≡ raws
+    → text ≡ told (length names) (commands_of names first raws) (replies limits rows (events_of (commands_of names first raws)))
+tells_output limits rows names number first lines raws running text same stands tells is all =
+    subst (λ (l : Limits). text ≡ told_from l (length names) (opened limits rows) (commands_of names first raws)) same
+    (subst (λ (n : ℕ). text ≡ told_from running.limits (length names) (opened limits rows) (commands_of names n raws)) is
+    (subst (λ (r : List (List ℕ)). text ≡ told_from running.limits (length names) (opened limits rows) (commands_of names number r)) all (tells (opened limits rows) stands)))

@@ -1,0 +1,33 @@
+-- No public contract cites this.
+-- What commands are told while they are played one after the other. (this project)
+use Rattle.std.specs.Prelude.{ℕ, ◌≡◌, List, ◌++◌}
+use Rattle.pref_core.specs.Limits.{Limits}
+use Rattle.pref_core.specs.Step.{System, replies_from}
+use Rattle.pref_core.specs.Systems.{Running, StandsForSystem}
+use Rattle.prefq.specs.Commands.{Command, events_of}
+use Rattle.prefq.specs.Output.{told}
+
+-- what commands are told by the sequential table from a system on
+abbrev pub told_from : Limits → ℕ → System → List Command → List ℕ
+told_from limits width system commands = told width commands (replies_from limits system (events_of commands))
+
+-- some first commands are told this, and leave this system, whatever commands follow
+pub record Passes (limits : Limits) (width : ℕ) (system : System) (commands : List Command) (said : List ℕ) (next : System) : Type 0 where
+  pub goes_on : (more : List Command) → told_from limits width system (commands ++ more) ≡ said ++ told_from limits width next more
+
+-- from one system that what ran stands for to one that what runs stands for, these commands are told what was added to the text
+pub record PlaysFrom (width : ℕ) (system : System) (limits : Limits) (commands : List Command) (old new : List ℕ) (after : Running) : Type 0 where
+  pub next : System
+  pub said : List ℕ
+  pub stands : StandsForSystem after next
+  pub added : new ≡ old ++ said
+  pub passes : Passes limits width system commands said next
+
+-- commands were played
+pub record Plays (width : ℕ) (before : Running) (commands : List Command) (old new : List ℕ) (after : Running) : Type 0 where
+  pub limits : after.limits ≡ before.limits
+  pub plays : (system : System) → StandsForSystem before system → PlaysFrom width system before.limits commands old new after
+
+-- a text is all that the commands are told
+abbrev pub TellsAll : ℕ → Running → List Command → List ℕ → Type 0
+TellsAll width running commands text = (system : System) → StandsForSystem running system → text ≡ told_from running.limits width system commands
