@@ -193,7 +193,7 @@ closes_place contents state zones call outcome old begun_by made h listed next t
     let c = begins_change contents.next_id call begun_by b some in
     closes_call contents state zones call old made h listed c (none_missing contents call outcome told ok c) is
 
--- What a plan finds: the old row's place where it is free then, else a free one.
+-- What a plan finds: a place that is free before, or the old row's where that is free then.
 pub finds_old : (contents : Contents) (state : State) (zones : List Zone) (ids : List ℕ) (made : ℕ) (old : Option ℕ) → StandsFor contents state → zones ≡ map (zone_of (begins contents.callers)) contents.slots → made ≡ suc contents.stamp
     → Closes ids made contents.slots zones old → frees (begins contents.callers) ids made contents.slots old ≡ true → Finds contents ids made old
 finds_old contents state zones ids made old h listed next =
@@ -205,14 +205,14 @@ finds_old contents state zones ids made old h listed next =
     go (Some place) at free = (old_free contents state ids place h at free, tt)
 
 pub finds_any : (contents : Contents) (state : State) (zones : List Zone) (ids : List ℕ) (made : ℕ) (old found : Option ℕ) → StandsFor contents state → zones ≡ map (zone_of (begins contents.callers)) contents.slots → made ≡ suc contents.stamp
-    → Closes ids made contents.slots zones old → frees (begins contents.callers) ids made contents.slots old ≡ false → IfSome found (λ place. slice_get zones place ≡ Some Free) → IfNone found (count_by is_free_zone zones ≡ 0) → Finds contents ids made found
+    → Closes ids made contents.slots zones old → (is_some found ≡ false → frees (begins contents.callers) ids made contents.slots old ≡ false) → IfSome found (λ place. slice_get zones place ≡ Some Free) → IfNone found (count_by is_free_zone zones ≡ 0) → Finds contents ids made found
 finds_any contents state zones ids made old found h listed next =
-    subst (λ z. Closes ids made contents.slots z old → frees (begins contents.callers) ids made contents.slots old ≡ false → IfSome found (λ place. slice_get z place ≡ Some Free) → IfNone found (count_by is_free_zone z ≡ 0) → Finds contents ids made found) (sym listed)
-    (subst (λ m. Closes ids m contents.slots (map (zone_of (begins contents.callers)) contents.slots) old → frees (begins contents.callers) ids m contents.slots old ≡ false → IfSome found (λ place. slice_get (map (zone_of (begins contents.callers)) contents.slots) place ≡ Some Free) → IfNone found (count_by is_free_zone (map (zone_of (begins contents.callers)) contents.slots) ≡ 0) → Finds contents ids m found) (sym next) (go found))
+    subst (λ z. Closes ids made contents.slots z old → (is_some found ≡ false → frees (begins contents.callers) ids made contents.slots old ≡ false) → IfSome found (λ place. slice_get z place ≡ Some Free) → IfNone found (count_by is_free_zone z ≡ 0) → Finds contents ids made found) (sym listed)
+    (subst (λ m. Closes ids m contents.slots (map (zone_of (begins contents.callers)) contents.slots) old → (is_some found ≡ false → frees (begins contents.callers) ids m contents.slots old ≡ false) → IfSome found (λ place. slice_get (map (zone_of (begins contents.callers)) contents.slots) place ≡ Some Free) → IfNone found (count_by is_free_zone (map (zone_of (begins contents.callers)) contents.slots) ≡ 0) → Finds contents ids m found) (sym next) (go found))
   where
-    go : (found : Option ℕ) → Closes ids (suc contents.stamp) contents.slots (map (zone_of (begins contents.callers)) contents.slots) old → frees (begins contents.callers) ids (suc contents.stamp) contents.slots old ≡ false
+    go : (found : Option ℕ) → Closes ids (suc contents.stamp) contents.slots (map (zone_of (begins contents.callers)) contents.slots) old → (is_some found ≡ false → frees (begins contents.callers) ids (suc contents.stamp) contents.slots old ≡ false)
         → IfSome found (λ place. slice_get (map (zone_of (begins contents.callers)) contents.slots) place ≡ Some Free) → IfNone found (count_by is_free_zone (map (zone_of (begins contents.callers)) contents.slots) ≡ 0) → Finds contents ids (suc contents.stamp) found
-    go None at keeps some none = (tt, none_free contents state ids old h at keeps none)
+    go None at keeps some none = (tt, none_free contents state ids old h at (keeps refl) none)
     go (Some place) at keeps some none = (place_free contents state ids old place h at some, tt)
 
 -- The size that code computes.

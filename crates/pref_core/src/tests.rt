@@ -1,6 +1,7 @@
 //! Runs whose replies are known from outside, through `replay`, `Machine` and `Store`.
 
 mod index;
+mod moves;
 mod refusals;
 
 use crate::{

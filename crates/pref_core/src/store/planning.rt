@@ -106,8 +106,8 @@ fn granted(next_id: u64, call: &Call) -> Outcome
     }
 }
 
-/// A slot that can be used again after a commit that ends the row of this id: that row's own where nobody
-/// needs it then, else the home of the new row where it is free, else any.
+/// A slot that can be used again after a commit that ends the row of this id: the home of the new row where it is free,
+/// so that a row that had to move comes home, else the ended row's own where nobody needs it then, else any.
 fn free_place(
     slots: &[Option<Version>],
     stamp: u64,
@@ -124,26 +124,31 @@ fn free_place(
     ensures found { IfSome result (λ place. is_free ((stamp + 1) ∷ begins callers.now) (map (close (ended call.now) (stamp + 1)) slots.now) place ≡ true) }
     ensures none { IfNone result (count_by (is_needed ((stamp + 1) ∷ begins callers.now)) (map (close (ended call.now) (stamp + 1)) slots.now) ≡ length slots.now) }
 {
-    if frees(slots, callers, call.ended(), old, stamp + 1) {
+    let ended = call.ended();
+    if let Some(home) = free_home(slots, places, ended.unwrap_or(next_id)) {
+        return Some(home);
+    }
+    if frees(slots, callers, ended, old, stamp + 1) {
         old
     } else {
-        any_place(slots, places, call.ended().unwrap_or(next_id))
+        places.any_free()
     }
 }
 
-/// A free place, the id's home where that is free.
-fn any_place(slots: &[Option<Version>], places: &Places, id: u64) -> Option<u32>
+/// The home of this id, where it is free.
+fn free_home(slots: &[Option<Version>], places: &Places, id: u64) -> Option<u32>
     requires { length slots.now ≤ 65536 }
-    ensures found { IfSome result (λ place. slice_get places.now place ≡ Some Zone.Free) }
-    ensures none { IfNone result (count_by is_free_zone places.now ≡ 0) }
+    ensures { IfSome result (λ place. slice_get places.now place ≡ Some Zone.Free) }
 {
-    if !slots.is_empty() {
-        let home = home(slots, id);
-        if places.is_free(home) {
-            return Some(home);
-        }
+    if slots.is_empty() {
+        return None;
     }
-    places.any_free()
+    let home = home(slots, id);
+    if places.is_free(home) {
+        Some(home)
+    } else {
+        None
+    }
 }
 
 /// A slot for the new row of a call, where it has one.
