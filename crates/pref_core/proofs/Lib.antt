@@ -38,3 +38,4 @@ pub mod Fewer
 pub mod Fits
 pub mod Indexing
 pub mod Reindexing
+pub mod Hinting

@@ -7,6 +7,7 @@
 
 pub(crate) mod applying;
 pub(crate) mod caller;
+pub(crate) mod hints;
 pub(crate) mod indexing;
 pub(crate) mod needs;
 pub(crate) mod opening;
@@ -28,6 +29,7 @@ use crate::fault::CoreFault;
 use crate::index::Index;
 use crate::setup::Setup;
 use caller::Caller;
+use hints::Hints;
 use places::Places;
 use pref_sky::Entry;
 use pref_table::Row;
@@ -48,17 +50,19 @@ pub struct Store {
     next_id: u64,
     callers: Vec<Caller>,
     places: Places,
+    hints: Hints,
 }
 
 impl Model for Store {
     ghost use Rattle.pref_core.specs.Slots.{Contents};
+    ghost use Rattle.pref_core.specs.Hints.{AreHints};
     ghost use Rattle.pref_core.specs.Kept.{IsKept};
 
     ghost Value = { Contents };
 
     ghost view = { λ s. record { slots = s.slots.items; stamp = s.stamp; next_id = s.next_id; callers = s.callers.items } };
 
-    ghost invariant = { λ s. IsKept (record { slots = s.slots.items; stamp = s.stamp; next_id = s.next_id; callers = s.callers.items }) s.places };
+    ghost invariant = { λ s. IsKept (record { slots = s.slots.items; stamp = s.stamp; next_id = s.next_id; callers = s.callers.items }) s.places × AreHints s.stamp s.slots.items s.hints };
 }
 
 impl Store {
@@ -81,12 +85,14 @@ impl Store {
         let slots = opening::opening(alloc, capacity, rows)?;
         let callers = caller::idle(alloc, setup.clients())?;
         let places = Places::new(alloc, capacity, rows.len() as u32)?;
+        let hints = Hints::new(alloc, capacity)?;
         Ok(Store {
             slots,
             stamp: rows.len() as u64,
             next_id: rows.len() as u64 + 1,
             callers,
             places,
+            hints,
         })
     }
 
@@ -97,12 +103,14 @@ impl Store {
         let slots = Vec::from_slice(alloc, &self.slots)?;
         let callers = Vec::from_slice(alloc, &self.callers)?;
         let places = self.places.copy(alloc)?;
+        let hints = self.hints.copy(alloc)?;
         Ok(Store {
             slots,
             stamp: self.stamp,
             next_id: self.next_id,
             callers,
             places,
+            hints,
         })
     }
 
@@ -128,12 +136,12 @@ impl Store {
         caller::calls_of(&self.callers, client)
     }
 
-    /// The row of this id in the table now. Looks at the place of its id first, and searches the slots where another
-    /// row stands there.
+    /// The row of this id in the table now. Looks at the home of its id, the slot `id - 1` modulo the capacity, and where the
+    /// home's hint says; searches the slots only where two rows of one home have been away from it at once.
     pub fn get(&self, id: u64) -> Option<Row>
         ensures { (state : State) → StandsFor self.now state → result ≡ option_map (λ line. line.row) (line_of state.table id) }
     {
-        match reads::place_of(&self.slots, self.stamp, id) {
+        match reads::place_of(&self.slots, &self.hints, self.stamp, id) {
             Some(place) => reads::row_in(&self.slots, place as usize),
             None => None,
         }
@@ -182,13 +190,13 @@ impl Store {
     /// What becomes of a call, and where its new row goes. Changes nothing.
     ///
     /// Refused `NoSuchClient`, `Spent`, `QueryOpen` or `NoQuery`, and then the call has no number. Else an operation
-    /// that is legal here, whose outcome may be that the row is missing or the table full. Looks for the row at the
-    /// place of its id first, and searches the slots where another row stands there; all else is constant in the slots.
+    /// that is legal here, whose outcome may be that the row is missing or the table full. Looks for the row as
+    /// [`Store::get`] does; all else is constant in the slots.
     pub fn plan(&self, client: u8, call: Call) -> Result<Op, CoreFault>
         ensures exact { Plans self.now client call result }
         ensures state { (state : State) → StandsFor self.now state → PlansIn state self.now client call result }
     {
-        let old = reads::old_place(&self.slots, self.stamp, call.ended());
+        let old = reads::old_place(&self.slots, &self.hints, self.stamp, call.ended());
         planning::plan(
             &self.slots,
             self.stamp,
@@ -227,13 +235,14 @@ impl Store {
         ensures exact { self.new ≡ applied self.old op.now }
         ensures state { (state : State) → StandsFor self.old state → AppliesIn state self.old op.now self.new }
     {
-        let old = reads::old_place(&self.slots, self.stamp, op.call.ended());
+        let old = reads::old_place(&self.slots, &self.hints, self.stamp, op.call.ended());
         applying::apply(
             &mut self.slots,
             &mut self.stamp,
             &mut self.next_id,
             &mut self.callers,
             &mut self.places,
+            &mut self.hints,
             old,
             op,
         );
@@ -256,6 +265,7 @@ impl Store {
             &mut self.next_id,
             &mut self.callers,
             &mut self.places,
+            &mut self.hints,
             old,
             op,
         );

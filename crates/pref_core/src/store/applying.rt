@@ -2,6 +2,7 @@
 
 ghost use Rattle.std.specs.Option.{option_to_list};
 ghost use Rattle.std.specs.Prelude.{ℕ, map, length, true, List, Some, is_some, ◌≡◌, ◌^◌, ◌<◌, ◌≤◌};
+ghost use Rattle.pref_core.specs.Hints.{AreHints};
 ghost use Rattle.pref_core.specs.Kept.{IsKept, IsOldPlace, Closes, HasPlace};
 ghost use Rattle.pref_core.specs.Operations.{close, filled, same_outcome, is_next, slots_after, stepped, applied};
 ghost use Rattle.pref_core.specs.Places.{zone_of};
@@ -11,6 +12,7 @@ ghost use Rattle.pref_core.specs.State.{ended};
 
 use crate::call::{Call, Op, Outcome};
 use crate::store::caller::{Caller, caller_of, count};
+use crate::store::hints::Hints;
 use crate::store::needs::{is_free_place, zone_of};
 use crate::store::places::Places;
 use crate::store::planning::{outcome, refusal};
@@ -101,6 +103,7 @@ fn commit(
     slots: &mut [Option<Version>],
     callers: &[Caller],
     places: &mut Places,
+    hints: &mut Hints,
     ended: Option<u64>,
     old: Option<u32>,
     begun: Option<Entry>,
@@ -111,13 +114,16 @@ fn commit(
     requires closes { Closes (option_to_list ended) stamp slots.old places.old old }
     requires zones { places.old ≡ map (zone_of (begins callers.now)) slots.old }
     requires place { HasPlace (map (zone_of (begins callers.now)) (map (close (option_to_list ended) stamp) slots.old)) begun place }
+    requires hints { AreHints stamp (map (close (option_to_list ended) stamp) slots.old) hints.old }
     ensures slots { (ns : List ℕ) → is_some (filled ns stamp (option_to_list place) (option_to_list begun) (map (close (option_to_list ended) stamp) slots.old)) ≡ true
         → filled ns stamp (option_to_list place) (option_to_list begun) (map (close (option_to_list ended) stamp) slots.old) ≡ Some slots.new }
     ensures zones { places.new ≡ map (zone_of (begins callers.now)) slots.new }
+    ensures hints { AreHints stamp slots.new hints.new }
 {
     close_old(slots, callers, places, ended, old, stamp);
     if let (Some(entry), Some(place)) = (begun, place) {
         if (place as usize) < slots.len() {
+            hints.allow(slots, stamp, entry.id, place);
             slots[place as usize] = born(entry, stamp);
             places.take(place);
         }
@@ -131,6 +137,7 @@ fn step(
     next_id: &mut u64,
     callers: &mut [Caller],
     places: &mut Places,
+    hints: &mut Hints,
     old: Option<u32>,
     op: &Op,
 )
@@ -138,10 +145,12 @@ fn step(
     requires old { IsOldPlace stamp.old (ended op.now.call) slots.old old }
     requires next { is_next (record { slots = slots.old; stamp = stamp.old; next_id = next_id.old; callers = callers.old }) op.now ≡ true }
     requires fits { is_some (slots_after (record { slots = slots.old; stamp = stamp.old; next_id = next_id.old; callers = callers.old }) op.now) ≡ true }
+    requires hints { AreHints stamp.old slots.old hints.old }
     ensures slots { slots_after (record { slots = slots.old; stamp = stamp.old; next_id = next_id.old; callers = callers.old }) op.now ≡ Some slots.new }
     ensures rest { record { slots = slots.new; stamp = stamp.new; next_id = next_id.new; callers = callers.new }
         ≡ stepped (record { slots = slots.old; stamp = stamp.old; next_id = next_id.old; callers = callers.old }) op.now slots.new }
     ensures zones { places.new ≡ map (zone_of (begins callers.new)) slots.new }
+    ensures hints { AreHints stamp.new slots.new hints.new }
 {
     if op.call.is_change() && op.outcome.succeeds() {
         let fresh = op.call.begun(*next_id);
@@ -149,6 +158,7 @@ fn step(
             slots,
             callers,
             places,
+            hints,
             op.call.ended(),
             old,
             fresh,
@@ -183,18 +193,21 @@ pub(crate) fn apply(
     next_id: &mut u64,
     callers: &mut [Caller],
     places: &mut Places,
+    hints: &mut Hints,
     old: Option<u32>,
     op: &Op,
 )
     requires kept { IsKept (record { slots = slots.old; stamp = stamp.old; next_id = next_id.old; callers = callers.old }) places.old }
     requires old { IsOldPlace stamp.old (ended op.now.call) slots.old old }
+    requires hints { AreHints stamp.old slots.old hints.old }
     ensures done { record { slots = slots.new; stamp = stamp.new; next_id = next_id.new; callers = callers.new }
         ≡ applied (record { slots = slots.old; stamp = stamp.old; next_id = next_id.old; callers = callers.old }) op.now }
     ensures kept { IsKept (record { slots = slots.new; stamp = stamp.new; next_id = next_id.new; callers = callers.new }) places.new }
+    ensures hints { AreHints stamp.new slots.new hints.new }
 {
     if is_next(slots, *stamp, *next_id, callers, places, old, op)
         && fits(slots, *stamp, *next_id, callers, op)
     {
-        step(slots, stamp, next_id, callers, places, old, op);
+        step(slots, stamp, next_id, callers, places, hints, old, op);
     }
 }

@@ -12,9 +12,9 @@ ghost use Rattle.pref_core.specs.State.{refusal_of, ended, granted};
 use crate::call::{Call, Op, Outcome};
 use crate::fault::CoreFault;
 use crate::store::caller::{Caller, caller_of};
+use crate::store::hints::home_of;
 use crate::store::needs::frees;
 use crate::store::places::{Places, Zone};
-use crate::store::reads::home;
 use crate::store::version::Version;
 
 /// Why a call would get no number.
@@ -143,7 +143,7 @@ fn free_home(slots: &[Option<Version>], places: &Places, id: u64) -> Option<u32>
     if slots.is_empty() {
         return None;
     }
-    let home = home(slots, id);
+    let home = home_of(slots, id);
     if places.is_free(home) {
         Some(home)
     } else {

@@ -2,11 +2,13 @@
 
 ghost use Rattle.std.specs.Option.{option_to_list};
 ghost use Rattle.std.specs.Prelude.{IfOk, Some, length, ◌≡◌, ◌<◌, ◌≤◌};
-ghost use Rattle.pref_core.specs.Indexes.{is_row, IsPlaceOf};
+ghost use Rattle.pref_core.specs.Hints.{AreHints};
+ghost use Rattle.pref_core.specs.Indexes.{is_row, row_at, IsPlaceOf};
 ghost use Rattle.pref_core.specs.Kept.{row_in, IsOldPlace};
 ghost use Rattle.pref_core.specs.Slots.{visible, block_of};
 ghost use Rattle.pref_core.specs.Table.{entries};
 
+use crate::store::hints::{Hint, Hints, home_of};
 use crate::store::version::Version;
 use pref_sky::Entry;
 use pref_table::Row;
@@ -22,35 +24,40 @@ fn shows(slot: Option<Version>, stamp: u64, id: u64) -> bool
     }
 }
 
-/// Where the row of an id stands first of all: opening rows stand there, and new rows where it is free.
-pub(crate) fn home(slots: &[Option<Version>], id: u64) -> u32
-    requires some { 0 < length slots.now }
-    requires few { length slots.now ≤ 65536 }
-    ensures { result < length slots.now }
+/// Whether the row of this id stands at the place in the table at this stamp.
+fn stands_at(slots: &[Option<Version>], place: u32, stamp: u64, id: u64) -> bool
+    ensures { result ≡ row_at stamp id slots.now place }
 {
-    if id == 0 {
-        0
-    } else {
-        ((id - 1) % slots.len() as u64) as u32
+    match slots.get(place as usize) {
+        Some(slot) => shows(*slot, stamp, id),
+        None => false,
     }
 }
 
-/// The place of the row of this id in the table at this stamp. Looks at the id's home first.
-pub(crate) fn place_of(slots: &[Option<Version>], stamp: u64, id: u64) -> Option<u32>
-    requires { length slots.now ≤ 65536 }
+/// The place of the row of this id in the table at this stamp. Looks at the id's home and where the home's hint says, and at
+/// all slots only where two rows of this home have been away from it at once.
+pub(crate) fn place_of(slots: &[Option<Version>], hints: &Hints, stamp: u64, id: u64) -> Option<u32>
+    requires few { length slots.now ≤ 65536 }
+    requires hints { AreHints stamp slots.now hints.now }
     ensures { IsPlaceOf stamp id slots.now result }
 {
     if slots.is_empty() {
         return None;
     }
-    let place = home(slots, id);
-    if shows(slots[place as usize], stamp, id) {
-        return Some(place);
+    let home = home_of(slots, id);
+    if stands_at(slots, home, stamp, id) {
+        return Some(home);
     }
-    search(slots, stamp, id)
+    match hints.of(home) {
+        Hint::Home => None,
+        Hint::One(place) if stands_at(slots, place, stamp, id) => Some(place),
+        Hint::One(_) => None,
+        Hint::Many(place) if stands_at(slots, place, stamp, id) => Some(place),
+        Hint::Many(_) => search(slots, stamp, id),
+    }
 }
 
-/// The same, by a look at each slot.
+/// The place of the row of this id, by a look at each slot.
 fn search(slots: &[Option<Version>], stamp: u64, id: u64) -> Option<u32>
     requires { length slots.now ≤ 65536 }
     ensures { IsPlaceOf stamp id slots.now result }
@@ -64,12 +71,18 @@ fn search(slots: &[Option<Version>], stamp: u64, id: u64) -> Option<u32>
 }
 
 /// The place of the row that a call ends, where it ends one.
-pub(crate) fn old_place(slots: &[Option<Version>], stamp: u64, ended: Option<u64>) -> Option<u32>
-    requires { length slots.now ≤ 65536 }
+pub(crate) fn old_place(
+    slots: &[Option<Version>],
+    hints: &Hints,
+    stamp: u64,
+    ended: Option<u64>,
+) -> Option<u32>
+    requires few { length slots.now ≤ 65536 }
+    requires hints { AreHints stamp slots.now hints.now }
     ensures { IsOldPlace stamp (option_to_list ended) slots.now result }
 {
     match ended {
-        Some(id) => place_of(slots, stamp, id),
+        Some(id) => place_of(slots, hints, stamp, id),
         None => None,
     }
 }

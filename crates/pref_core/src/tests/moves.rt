@@ -55,3 +55,27 @@ fn a_moved_row_comes_home(rt: HostRuntime) -> Result<(), Fail> {
     assert_eq!(rt; store.get(1), Some(row(&schema, 7)?));
     Ok(())
 }
+
+/// A store of three slots and two rows, 1 and 4, that share a home and have both been away from it.
+fn store_with_two_moved_rows(alloc: Global, schema: &Schema) -> Result<Store, Fail> {
+    let mut store = store_of(alloc, schema, &[4])?;
+    for id in 2..4 {
+        done(&mut store, 1, Call::Insert(row(schema, 5)?))?;
+        done(&mut store, 1, Call::Delete(id))?;
+    }
+    done(&mut store, 1, Call::Insert(row(schema, 6)?))?;
+    done(&mut store, 1, Call::Begin)?;
+    done(&mut store, 2, Call::Update(1, row(schema, 7)?))?;
+    Ok(store)
+}
+
+#[test]
+fn two_moved_rows_of_one_home_are_found(rt: HostRuntime) -> Result<(), Fail> {
+    let alloc = rt.alloc();
+    let schema = columns(alloc)?;
+    let store = store_with_two_moved_rows(alloc, &schema)?;
+    assert_eq!(rt; store.get(1), Some(row(&schema, 7)?));
+    assert_eq!(rt; store.get(4), Some(row(&schema, 6)?));
+    assert_eq!(rt; store.get(3), None);
+    Ok(())
+}

@@ -27,7 +27,7 @@ returns-clause-exact c =
 pub returns-clause-index : goal.returns-clause-index
 returns-clause-index c =
     subst (λ s. IsIndexOf s c.follow.new.self) (sym (returns-clause-exact c))
-    (indexed c.args.self.now c.args.op.now c.args.index.now c.follow.new.self (subst (λ (s : Contents). AllByRecursion (IsWithin s.next_id s.stamp) s.slots) c.self.view_is c.self.invariant.stands.within) c.requires.plan.next c.requires.plan.fits c.requires.ready c.follow.ensures)
+    (indexed c.args.self.now c.args.op.now c.args.index.now c.follow.new.self (subst (λ (s : Contents). AllByRecursion (IsWithin s.next_id s.stamp) s.slots) c.self.view_is c.self.invariant.0.stands.within) c.requires.plan.next c.requires.plan.fits c.requires.ready c.follow.ensures)
 
 pub returns-clause-state : goal.returns-clause-state
 returns-clause-state c state h = subst (AppliesIn state c.args.self.now c.args.op.now) (sym (returns-clause-exact c)) (applies_in c.args.self.now state c.args.op.now h)

@@ -3,16 +3,20 @@ use Rattle.pref_core.specs.declared.store.version.Version.{Version}
 use Rattle.pref_core.specs.Slots.{begins, opening_slots}
 use Rattle.pref_core.specs.State.{opening}
 use Rattle.pref_core.proofs.Ends.{zones_opened}
+use Rattle.pref_core.proofs.Hinting.{hints_opened}
 use Rattle.pref_core.proofs.Openings.{opened_stands, opened_bounded}
 use Rattle.pref_core.proofs.store.Store.new.Goals as goal
 
 pub invariant_of-result : goal.invariant_of-result
-invariant_of-result c = record {
-  bounded = opened_bounded c.clients.result c.capacity-capacity.result c.args.rows.now _ (omega arith) c.capacity-capacity.ensures.range.1 c.clients.ensures.range.1 c.in_ok-slots.ensures refl refl c.in_ok-callers.ensures;
-  state = opening c.clients.result c.args.rows.now;
-  stands = (opened_stands c.clients.result c.capacity-capacity.result c.args.rows.now _ (omega arith) c.in_ok-slots.ensures refl refl c.in_ok-callers.ensures).0;
-  listed = zones_opened (begins c.in_ok-callers.callers.items) c.capacity-capacity.result c.args.rows.now c.in_ok-slots.slots.items c.in_ok-places.places c.in_ok-slots.ensures c.in_ok-places.ensures;
-}
+invariant_of-result c = (
+  record {
+    bounded = opened_bounded c.clients.result c.capacity-capacity.result c.args.rows.now _ (omega arith) c.capacity-capacity.ensures.range.1 c.clients.ensures.range.1 c.in_ok-slots.ensures refl refl c.in_ok-callers.ensures;
+    state = opening c.clients.result c.args.rows.now;
+    stands = (opened_stands c.clients.result c.capacity-capacity.result c.args.rows.now _ (omega arith) c.in_ok-slots.ensures refl refl c.in_ok-callers.ensures).0;
+    listed = zones_opened (begins c.in_ok-callers.callers.items) c.capacity-capacity.result c.args.rows.now c.in_ok-slots.slots.items c.in_ok-places.places c.in_ok-slots.ensures c.in_ok-places.ensures;
+  },
+  hints_opened (length c.args.rows.now) _ c.args.rows.now c.in_ok-slots.slots.items c.in_ok-hints.hints c.in_ok-slots.ensures,
+)
 
 pub returns-clause-opening : goal.returns-clause-opening
 returns-clause-opening c =

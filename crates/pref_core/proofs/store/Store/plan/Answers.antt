@@ -5,7 +5,7 @@ use Rattle.pref_core.proofs.Legal.{plans_in}
 use Rattle.pref_core.proofs.store.Store.plan.Goals as goal
 
 pub plan-requires-clause-early : goal.plan-requires-clause-early
-plan-requires-clause-early c = let small = stamp-small _ c.self.invariant.bounded in omega arith
+plan-requires-clause-early c = let small = stamp-small _ c.self.invariant.0.bounded in omega arith
 
 pub returns-clause-state : goal.returns-clause-state
 returns-clause-state c state h =

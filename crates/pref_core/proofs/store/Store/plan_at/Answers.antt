@@ -12,7 +12,7 @@ indexed_place-old-requires-clause-index c id ends =
     (subst (λ (s : Contents). IsPlaceOf s.stamp id s.slots (slot_of c.args.index.now id)) (sym c.self.view_is) (c.requires id))
 
 pub plan-requires-clause-early : goal.plan-requires-clause-early
-plan-requires-clause-early c = let small = stamp-small _ c.self.invariant.bounded in omega arith
+plan-requires-clause-early c = let small = stamp-small _ c.self.invariant.0.bounded in omega arith
 
 pub returns-clause-state : goal.returns-clause-state
 returns-clause-state c state h =

@@ -9,6 +9,7 @@ use Rattle.pref_core.specs.Slots.{Contents, begins}
 use Rattle.pref_core.proofs.Applied.{IsAllowed-from}
 use Rattle.pref_core.proofs.Bounds.{stamp-small, next_id-small, added-small}
 use Rattle.pref_core.proofs.Ends.{begins_change, zones_kept, zones_end}
+use Rattle.pref_core.proofs.Hinting.{hints_closed}
 use Rattle.pref_core.proofs.Plans.{slots_after-committed}
 use Rattle.pref_core.proofs.Room.{closes_call, fits_place, none_missing}
 use Rattle.pref_core.proofs.store.applying.step.Goals as goal
@@ -39,6 +40,10 @@ commit-requires-clause-place c =
     let next : suc c.args.stamp.now ≡ c.args.stamp.now + 1 = omega arith in
     subst (λ made. HasPlace (map (zone_of (begins c.args.callers.now)) (map (close (option_to_list c.ended.result) made) c.args.slots.now)) c.begun-fresh.result c.args.op.now.slot) next
     (fits_place contents c.requires.kept.state c.args.op.now c.ended.result c.begun-fresh.result c.requires.kept.stands change ok c.ended.ensures c.begun-fresh.ensures c.requires.fits)
+
+pub commit-requires-clause-hints : goal.commit-requires-clause-hints
+commit-requires-clause-hints c =
+    hints_closed c.args.next_id.now c.args.stamp.now (c.args.stamp.now + 1) (option_to_list c.ended.result) c.args.slots.now c.args.hints.now c.requires.kept.stands.within (omega arith) c.requires.hints
 
 pub sweep-requires : goal.sweep-requires
 sweep-requires c =
