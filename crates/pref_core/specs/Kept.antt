@@ -1,6 +1,6 @@
 -- No public contract cites this.
 -- What a store keeps beside its slots, so that no change looks through them.
-use Rattle.std.specs.Prelude.{◌≡◌, ℕ, List, [], ◌∷◌, map, Bool, false, Option, Some, None, option_map, slice_get, slice_set}
+use Rattle.std.specs.Prelude.{◌≡◌, ◌==◌, ℕ, List, [], ◌∷◌, map, Bool, false, Option, Some, None, option_map, slice_get, slice_set}
 use Rattle.pref_core.specs.declared.store.version.Version.{Version}
 use Rattle.pref_core.specs.declared.store.places.Zone.{Zone}
 use Rattle.pref_core.specs.declared.store.places.Zone.TheVariants.{Free, Live}
@@ -39,6 +39,11 @@ missed ended (Some place) = None
 abbrev pub frees : List ℕ → List ℕ → ℕ → List (Option Version) → Option ℕ → Bool
 frees begins ids stamp slots None = false
 frees begins ids stamp slots (Some place) = elim (slice_get slots place) [ None ↦ false | Some slot ↦ is_free_zone (zone_of begins (close ids stamp slot)) ]
+
+-- whether a row's new slot is its old one
+abbrev pub stays : Option ℕ → Option ℕ → Bool
+stays (Some slot) (Some old) = slot == old
+stays slot old = false
 
 -- one slot ends, where the row of these ids stands
 pub record ClosesAt (ids : List ℕ) (stamp : ℕ) (slots : List (Option Version)) (zones : List Zone) (place : ℕ) : Type 0 where

@@ -2,6 +2,7 @@
 
 ghost use Rattle.std.specs.Prelude.{◌≡◌, ℕ, [], ◌∷◌, true, is_some, None, Some, IfOk, OnOk, OnErr};
 ghost use Rattle.pref_core.specs.Indexes.{slot_of, Points, Prepares, Withdraws, Follows, adds, IsIndexOf, IsReady};
+ghost use Rattle.pref_core.specs.Kept.{stays};
 ghost use Rattle.pref_core.specs.Operations.{IsPlan};
 ghost use Rattle.pref_core.specs.Slots.{Contents, StandsFor};
 ghost use Rattle.pref_core.specs.State.{State, ended, succeeds};
@@ -103,12 +104,14 @@ impl Index {
         }
     }
 
-    /// Goes along with an op that was done: the row that its call ended now stands in the op's slot, or is gone.
-    pub(crate) fn follow(&mut self, op: &Op)
-        requires { (id : ℕ) → ended op.now.call ≡ id ∷ [] → succeeds op.now.outcome ≡ true → is_some (slot_of self.old id) ≡ true }
+    /// Goes along with an op that was done, whose call ended the row at `old`: the row now stands in the op's slot, or is
+    /// gone. Where it stands in its old slot the index is as before.
+    pub(crate) fn follow(&mut self, op: &Op, old: Option<u32>)
+        requires there { (id : ℕ) → ended op.now.call ≡ id ∷ [] → succeeds op.now.outcome ≡ true → is_some (slot_of self.old id) ≡ true }
+        requires kept { (id : ℕ) → ended op.now.call ≡ id ∷ [] → stays op.now.slot old ≡ true → slot_of self.old id ≡ op.now.slot }
         ensures { Follows op.now self.old self.new }
     {
-        if !op.outcome.succeeds() {
+        if stays(op.slot, old) || !op.outcome.succeeds() {
             return;
         }
         if let Some(id) = op.call.ended() {
@@ -117,5 +120,15 @@ impl Index {
                 None => self.take(id),
             }
         }
+    }
+}
+
+/// Whether a row's new slot is its old one.
+fn stays(slot: Option<u32>, old: Option<u32>) -> bool
+    ensures { result ≡ stays slot old }
+{
+    match (slot, old) {
+        (Some(slot), Some(old)) => slot == old,
+        _ => false,
     }
 }

@@ -147,13 +147,13 @@ impl Store {
         }
     }
 
-    /// The same by an index of this store: one look.
+    /// The same by an index of this store, which is asked where another row stands at the id's home.
     pub fn get_at(&self, index: &Index, id: u64) -> Option<Row>
         requires { IsIndexOf self.now index.now }
         ensures { (state : State) → StandsFor self.now state → result ≡ option_map (λ line. line.row) (line_of state.table id) }
     {
-        match index.slot(id) {
-            Some(place) => reads::row_in(&self.slots, place),
+        match indexing::indexed_place(&self.slots, self.stamp, index, id) {
+            Some(place) => reads::row_in(&self.slots, place as usize),
             None => None,
         }
     }
@@ -215,7 +215,7 @@ impl Store {
         ensures exact { Plans self.now client call result }
         ensures state { (state : State) → StandsFor self.now state → PlansIn state self.now client call result }
     {
-        let old = indexing::indexed_place(&self.slots, self.stamp, index, call.ended());
+        let old = indexing::indexed_old_place(&self.slots, self.stamp, index, call.ended());
         planning::plan(
             &self.slots,
             self.stamp,
@@ -258,7 +258,7 @@ impl Store {
         ensures index { IsIndexOf self.new index.new }
         ensures state { (state : State) → StandsFor self.old state → AppliesIn state self.old op.now self.new }
     {
-        let old = indexing::indexed_place(&self.slots, self.stamp, index, op.call.ended());
+        let old = indexing::indexed_old_place(&self.slots, self.stamp, index, op.call.ended());
         applying::apply(
             &mut self.slots,
             &mut self.stamp,
@@ -269,6 +269,6 @@ impl Store {
             old,
             op,
         );
-        index.follow(op);
+        index.follow(op, old);
     }
 }

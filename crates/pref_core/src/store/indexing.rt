@@ -6,6 +6,8 @@ ghost use Rattle.pref_core.specs.Indexes.{slot_of, IsPlaceOf};
 ghost use Rattle.pref_core.specs.Kept.{IsOldPlace};
 
 use crate::index::Index;
+use crate::store::hints::home_of;
+use crate::store::reads::stands_at;
 use crate::store::version::Version;
 use std::alloc::{AllocError, Global};
 
@@ -31,8 +33,31 @@ pub(crate) fn index_rows(
     Ok(index)
 }
 
-/// The place of the row that a call ends, where it ends one.
+/// The place of the row of this id in the table. Looks at the id's home, and asks the index where another row stands there.
 pub(crate) fn indexed_place(
+    slots: &[Option<Version>],
+    stamp: u64,
+    index: &Index,
+    id: u64,
+) -> Option<u32>
+    requires few { length slots.now ≤ 65536 }
+    requires index { IsPlaceOf stamp id slots.now (slot_of index.now id) }
+    ensures { IsPlaceOf stamp id slots.now result }
+{
+    if !slots.is_empty() {
+        let home = home_of(slots, id);
+        if stands_at(slots, home, stamp, id) {
+            return Some(home);
+        }
+    }
+    match index.slot(id) {
+        Some(place) => Some(place as u32),
+        None => None,
+    }
+}
+
+/// The place of the row that a call ends, where it ends one.
+pub(crate) fn indexed_old_place(
     slots: &[Option<Version>],
     stamp: u64,
     index: &Index,
@@ -43,10 +68,7 @@ pub(crate) fn indexed_place(
     ensures { IsOldPlace stamp (option_to_list ended) slots.now result }
 {
     match ended {
-        Some(id) => match index.slot(id) {
-            Some(place) => Some(place as u32),
-            None => None,
-        },
+        Some(id) => indexed_place(slots, stamp, index, id),
         None => None,
     }
 }

@@ -25,7 +25,7 @@ fn shows(slot: Option<Version>, stamp: u64, id: u64) -> bool
 }
 
 /// Whether the row of this id stands at the place in the table at this stamp.
-fn stands_at(slots: &[Option<Version>], place: u32, stamp: u64, id: u64) -> bool
+pub(crate) fn stands_at(slots: &[Option<Version>], place: u32, stamp: u64, id: u64) -> bool
     ensures { result ≡ row_at stamp id slots.now place }
 {
     match slots.get(place as usize) {
@@ -105,7 +105,7 @@ pub(crate) fn entries_at(
 ) -> Result<Vec<Entry>, AllocError>
     ensures { IfOk result (λ v. v.items ≡ entries (visible stamp slots.now)) }
 {
-    let mut found = Vec::new(alloc);
+    let mut found = Vec::with_capacity(alloc, slots.len())?;
     for slot in slots {
         if let Some(version) = slot {
             if version.is_visible_at(stamp) {

@@ -6,8 +6,8 @@ use Rattle.pref_core.proofs.Bounds.{stamp-small}
 use Rattle.pref_core.proofs.Legal.{plans_in}
 use Rattle.pref_core.proofs.store.Store.plan_at.Goals as goal
 
-pub indexed_place-old-requires-clause-index : goal.indexed_place-old-requires-clause-index
-indexed_place-old-requires-clause-index c id ends =
+pub indexed_old_place-old-requires-clause-index : goal.indexed_old_place-old-requires-clause-index
+indexed_old_place-old-requires-clause-index c id ends =
     subst (λ slots. IsPlaceOf c.self.inside.stamp id slots (slot_of c.args.index.now id)) (sym c.deref.ensures.value)
     (subst (λ (s : Contents). IsPlaceOf s.stamp id s.slots (slot_of c.args.index.now id)) (sym c.self.view_is) (c.requires id))
 
