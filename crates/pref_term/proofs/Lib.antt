@@ -1,5 +1,6 @@
 pub mod Sizes
 pub mod WalkLaws
+pub mod FactorLaws
 pub mod WorkedTerms
 pub mod Sound
 pub mod TokenLemmas

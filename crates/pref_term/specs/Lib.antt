@@ -10,6 +10,7 @@ pub mod Equal
 pub mod EqualLaws
 pub mod PreferenceCode
 pub mod Walk
+pub mod Factors
 pub mod Token
 pub mod Grammar
 pub mod Spells

@@ -1,12 +1,14 @@
 //! Asks: a term, the columns that group the rows, and how many of the best are wanted.
-ghost use Rattle.std.specs.Prelude.{◌≡◌, ◌<◌, All};
+ghost use Rattle.std.specs.Prelude.{◌≡◌, ◌<◌, All, IfOk};
 ghost use Rattle.pref_term.specs.Better.{in_same_group};
 
 use crate::dominance::Dominance;
+use crate::factor::{Factor, compare_by_factors, factors_of};
 use crate::relation::Relation;
 use crate::term::Term;
 use crate::walk::compare;
 use pref_table::Row;
+use std::alloc::{AllocError, Global};
 use std::marker::Model;
 
 /// How many of the best are wanted. A count is 1 to 1000.
@@ -24,11 +26,15 @@ pub enum Mode {
 #[derive(Drop)]
 pub struct Ask {
     term: Term,
+    // The term's factors, where it is a product of base terms without a set: a comparison goes over them and not over the term.
+    factors: Option<Vec<Factor>>,
     group: Vec<usize>,
     mode: Mode,
 }
 
 impl Model for Ask {
+    ghost use Rattle.std.specs.Option.{IfSome};
+    ghost use Rattle.pref_term.specs.Factors.{AreFactorsOf};
     ghost use Rattle.pref_term.specs.Preference.{preference_of};
     ghost use Rattle.pref_term.specs.PreferenceCode.{coded_question};
     ghost use Rattle.pref_term.specs.Question.{Question, IsAsk};
@@ -39,19 +45,33 @@ impl Model for Ask {
 
     ghost view = { λ a. record { preference = preference_of a.term; group = a.group.items; mode = a.mode } };
 
-    ghost invariant = { λ a. IsAsk (record { preference = preference_of a.term; group = a.group.items; mode = a.mode }) };
+    ghost invariant = { λ a. IsAsk (record { preference = preference_of a.term; group = a.group.items; mode = a.mode })
+        × IfSome a.factors (λ factors. AreFactorsOf (preference_of a.term) factors.items) };
 }
 
 impl Ask {
+    ghost use Rattle.pref_term.specs.Better.{better, same};
+    ghost use Rattle.pref_term.specs.Order.{is_better, is_same, is_worse};
     ghost use Rattle.pref_term.specs.Preference.{preference_of};
     ghost use Rattle.pref_term.specs.Question.{IsAsk, IsCount, FitsWidth, cut_of};
 
-    /// An ask of these parts.
-    pub(crate) fn new(term: Term, group: Vec<usize>, mode: Mode) -> Ask
+    /// An ask of these parts. Takes memory for the list of the term's factors, once.
+    pub(crate) fn new(
+        alloc: Global,
+        term: Term,
+        group: Vec<usize>,
+        mode: Mode,
+    ) -> Result<Ask, AllocError>
         requires { IsAsk (record { preference = preference_of term; group = group.items; mode = mode }) }
-        ensures { result ≡ record { preference = preference_of term; group = group.items; mode = mode } }
+        ensures { IfOk result (λ ask. ask ≡ record { preference = preference_of term; group = group.items; mode = mode }) }
     {
-        Ask { term, group, mode }
+        let factors = factors_of(alloc, &term)?;
+        Ok(Ask {
+            term,
+            factors,
+            group,
+            mode,
+        })
     }
 
     /// The term that ranks the rows.
@@ -88,6 +108,19 @@ impl Ask {
         match self.mode {
             Mode::Best => 1,
             Mode::TopLevel(k) | Mode::AtLeast(k) => k,
+        }
+    }
+
+    /// Compares two rows by the term alone.
+    #[inline(always)]
+    fn compare_in_group(&self, a: &Row, b: &Row) -> Relation
+        ensures better { is_better result ≡ better self.now.preference a.now b.now }
+        ensures worse { is_worse result ≡ better self.now.preference b.now a.now }
+        ensures same { is_same result ≡ same self.now.preference a.now b.now }
+    {
+        match &self.factors {
+            Some(factors) => compare_by_factors(factors, a, b),
+            None => compare(&self.term, a, b),
         }
     }
 }
@@ -138,14 +171,17 @@ impl Dominance for Ask {
         self.compare(a, b).is_better()
     }
 
-    /// Compares the group's columns first, and then walks the term once. Rows of two groups are `Neither`.
+    /// Compares the group's columns first. Rows of two groups are `Neither`.
+    ///
+    /// A product of base terms without a set is compared in one loop over its factors, up to the first after which neither row
+    /// can be better; any other term in one walk. Takes no memory.
     fn compare(&self, a: &Row, b: &Row) -> Relation
         ensures better { is_better result ≡ over self.now a.now b.now }
         ensures worse { is_worse result ≡ over self.now b.now a.now }
         ensures same { is_same result ≡ alike self.now a.now b.now }
     {
         if in_same_group(&self.group, a, b) {
-            compare(&self.term, a, b)
+            self.compare_in_group(a, b)
         } else {
             Relation::Neither
         }

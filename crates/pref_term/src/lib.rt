@@ -4,6 +4,7 @@
 mod ask;
 mod cursor;
 mod dominance;
+mod factor;
 mod fault;
 mod front;
 pub mod laws;

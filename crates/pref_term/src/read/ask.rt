@@ -7,7 +7,7 @@ ghost use Rattle.pref_term.specs.Grammar as grammar;
 ghost use Rattle.pref_term.specs.Led as led;
 ghost use Rattle.pref_term.specs.Reading as reading;
 ghost use Rattle.pref_term.specs.Spells as spells;
-ghost use Rattle.pref_term.specs.Question.{FitsWidth, IsCount, cut_of};
+ghost use Rattle.pref_term.specs.Question.{FitsWidth, IsAsk, IsCount, cut_of};
 ghost use Rattle.pref_term.specs.Preference.{preference_of};
 ghost use Rattle.pref_term.specs.Preference as terms;
 
@@ -112,6 +112,15 @@ fn grouping<'a>(alloc: Global, schema: &Schema, cursor: Cursor<'a>) -> Result<Ve
     group_columns(alloc, schema, by.next)
 }
 
+/// The ask of these parts.
+fn ask_of(alloc: Global, term: Term, group: Vec<usize>, mode: Mode) -> Result<Ask, TermFault>
+    requires { IsAsk (record { preference = preference_of term; group = group.items; mode = mode }) }
+    ensures ok { IfOk result (λ a. a ≡ record { preference = preference_of term; group = group.items; mode = mode }) }
+    ensures err { IfErr result (λ f. f ≡ TermFault.OutOfMemory) }
+{
+    Ask::new(alloc, term, group, mode).map_err(|_| TermFault::OutOfMemory)
+}
+
 /// Takes what stands behind the words that say how many are wanted.
 fn rated<'a>(
     alloc: Global,
@@ -126,7 +135,7 @@ fn rated<'a>(
 {
     let (term, next) = prior(alloc, schema, 0, cursor)?;
     let group = grouping(alloc, schema, next)?;
-    Ok(Ask::new(term, group, mode))
+    ask_of(alloc, term, group, mode)
 }
 
 /// Takes the word `of`.
@@ -264,7 +273,7 @@ fn skyline<'a>(alloc: Global, schema: &Schema, cursor: Cursor<'a>) -> Result<Ask
     let behind = of(cursor)?;
     let Clause { product, group } = dimensions(alloc, schema, behind)?;
     match product {
-        Some(term) => Ok(Ask::new(term, group, Mode::Best)),
+        Some(term) => ask_of(alloc, term, group, Mode::Best),
         None => Err(TermFault::NoMinOrMax),
     }
 }

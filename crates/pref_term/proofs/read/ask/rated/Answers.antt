@@ -1,4 +1,5 @@
 use Rattle.std.proofs.Common.{sym, subst, length, ◌≡◌}
+use Rattle.std.proofs.lemmas.Result.{IfOk-weaker}
 use Rattle.pref_term.specs.Ahead.{ahead}
 use Rattle.pref_term.specs.Grammar.{HeadText}
 use Rattle.pref_term.specs.Spells.{mode_of}
@@ -24,22 +25,26 @@ returns-in_err-group-clause-err c =
     err_exit c.from_residual-in_err-group.result f (λ (g : TermFault). (head : HeadText) → mode_of head ≡ c.args.mode → AsksNothing c.args.schema.now (operand (in_whole head)) (ahead c.args.cursor) g) c.from_residual-in_err-group.ensures.1
     (λ head _. rated_group_fails c.args.schema.now (ahead c.args.cursor) (ahead v.next) (preference_of v.term) f v.ensures.ok c.in_err-group.ensures.err head)
 
-pub new-requires : goal.new-requires
-new-requires c =
+pub ask_of-requires : goal.ask_of-requires
+ask_of-requires c =
     let v = c.in_ok-term in
     let g = c.in_ok-group in
     is_ask c.args.schema.now (preference_of v.term) g.group.items c.args.mode v.ensures.ok.products.known g.ensures.ok.known c.requires
 
 pub returns-clause-ok : goal.returns-clause-ok
-returns-clause-ok c head e =
+returns-clause-ok c =
     let v = c.in_ok-term in
     let g = c.in_ok-group in
-    subst (Asks c.args.schema.now (operand (in_whole head)) (ahead c.args.cursor)) (sym c.new.ensures)
-    (rated_read c.args.schema.now (ahead c.args.cursor) (ahead v.next) (preference_of v.term) g.group.items c.args.mode v.ensures.ok g.ensures.ok head e)
+    IfOk-weaker c.ask_of.result _ _
+    (λ a is head e. subst (Asks c.args.schema.now (operand (in_whole head)) (ahead c.args.cursor)) (sym is)
+    (rated_read c.args.schema.now (ahead c.args.cursor) (ahead v.next) (preference_of v.term) g.group.items c.args.mode v.ensures.ok g.ensures.ok head e))
+    c.ask_of.ensures.ok
 
 pub returns-clause-known : goal.returns-clause-known
 returns-clause-known c =
     let v = c.in_ok-term in
     let g = c.in_ok-group in
-    subst (FitsWidth (length c.args.schema.now)) (sym c.new.ensures)
-    (fits_width c.args.schema.now (preference_of v.term) g.group.items c.args.mode v.ensures.ok.products.known g.ensures.ok.known)
+    IfOk-weaker c.ask_of.result _ _
+    (λ a is. subst (FitsWidth (length c.args.schema.now)) (sym is)
+    (fits_width c.args.schema.now (preference_of v.term) g.group.items c.args.mode v.ensures.ok.products.known g.ensures.ok.known))
+    c.ask_of.ensures.ok

@@ -1,5 +1,6 @@
 use Rattle.std.proofs.Common.{List, ℕ, Option, sym, subst, length, arith}
 use Rattle.std.specs.Option.{option_map}
+use Rattle.std.proofs.lemmas.Result.{IfOk-weaker}
 use Rattle.pref_term.specs.Ahead.{ahead}
 use Rattle.pref_term.specs.Reading.{skyline_named}
 use Rattle.pref_term.specs.Preference.{preference_of}
@@ -24,13 +25,15 @@ returns-in_err-product-clause-err c =
     err_exit c.from_residual-in_err-product.result f (λ (g : TermFault). (s : List ℕ) → AsksNothing c.args.schema.now (skyline_named s) (ahead c.args.cursor) g) c.from_residual-in_err-product.ensures.1
     (clause_fails c.args.schema.now (ahead c.args.cursor) (ahead c.in_ok-behind.behind) f c.in_ok-behind.ensures.ok c.in_err-product.ensures.err)
 
-pub new-requires : goal.new-requires
-new-requires c =
+pub ask_of-requires : goal.ask_of-requires
+ask_of-requires c =
     let r = subst (λ (o : Option Term). ReadsClause c.args.schema.now (ahead c.in_ok-behind.behind) (option_map preference_of o) c.in_ok-product.field-0.group.items) c.in-Some.is c.in_ok-product.ensures.ok in
     is_ask c.args.schema.now (preference_of c.in-Some.term) c.in_ok-product.field-0.group.items Best r.product_known r.group_known (omega arith, omega arith)
 
 pub returns-in-Some-clause-known : goal.returns-in-Some-clause-known
 returns-in-Some-clause-known c =
     let r = subst (λ (o : Option Term). ReadsClause c.args.schema.now (ahead c.in_ok-behind.behind) (option_map preference_of o) c.in_ok-product.field-0.group.items) c.in-Some.is c.in_ok-product.ensures.ok in
-    subst (FitsWidth (length c.args.schema.now)) (sym c.new.ensures)
-    (fits_width c.args.schema.now (preference_of c.in-Some.term) c.in_ok-product.field-0.group.items Best r.product_known r.group_known)
+    IfOk-weaker c.ask_of.result _ _
+    (λ a is. subst (FitsWidth (length c.args.schema.now)) (sym is)
+    (fits_width c.args.schema.now (preference_of c.in-Some.term) c.in_ok-product.field-0.group.items Best r.product_known r.group_known))
+    c.ask_of.ensures.ok

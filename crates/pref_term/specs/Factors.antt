@@ -1,0 +1,51 @@
+-- No public contract cites this.
+-- Pareto products of base terms alone, as lists of their factors. (this project)
+use Rattle.std.specs.Prelude.{◌≡◌, ℤ, List, [], ◌∷◌, ◌++◌, Bool, true, false, All}
+use Rattle.pref_term.specs.Columns.{ReadsBelow}
+use Rattle.pref_term.specs.Preference.{Preference, scored, low, high, around, reverse}
+use Rattle.pref_term.specs.Walk.{in_product, walked}
+use Rattle.pref_term.specs.declared.factor.Factor.{Factor}
+use Rattle.pref_term.specs.declared.factor.Factor.TheVariants.{Low, High, Around, AwayFrom}
+use Rattle.pref_term.specs.declared.factor.Sense.{Sense}
+use Rattle.pref_term.specs.declared.factor.Sense.TheVariants.{Direct, Reversed}
+use Rattle.pref_term.specs.declared.relation.Relation.{Relation}
+use Rattle.pref_term.specs.declared.relation.Relation.TheVariants.{Better, Worse, Same, Neither}
+
+-- what a factor prefers
+abbrev pub preference_of_factor : Factor → Preference
+preference_of_factor (Low col) = scored (low col)
+preference_of_factor (High col) = scored (high col)
+preference_of_factor (Around col centre) = scored (around col centre)
+preference_of_factor (AwayFrom col centre) = reverse (scored (around col centre))
+
+-- each factor's column is within a row
+abbrev pub AreInRow : List Factor → Type 0
+AreInRow factors = All (λ factor. ReadsBelow 16 (preference_of_factor factor)) factors
+
+-- how a first row stands to a second one by the product of these factors
+abbrev pub by_factors : List Factor → List ℤ → List ℤ → Relation
+by_factors [] a b = Same
+by_factors (factor ∷ factors) a b = in_product (walked (preference_of_factor factor) a b) (by_factors factors a b)
+
+-- their product compares any two rows as the preference does
+pub record AreFactorsOf (p : Preference) (factors : List Factor) : Type 0 where
+  pub in_row : AreInRow factors
+  pub alike : (a b : List ℤ) → by_factors factors a b ≡ walked p a b
+
+-- factors of the preference stand behind the shorter list
+pub record EndsInFactorsOf (p : Preference) (shorter longer : List Factor) : Type 0 where
+  pub more : List Factor
+  pub appended : longer ≡ shorter ++ more
+  pub are_factors : AreFactorsOf p more
+
+-- a preference in this sense
+abbrev pub in_sense : Sense → Preference → Preference
+in_sense Direct p = p
+in_sense Reversed p = reverse p
+
+-- the relation of two rows, from whether the first and whether the second is better in some part
+abbrev pub by_sides : Bool → Bool → Relation
+by_sides true false = Better
+by_sides false true = Worse
+by_sides false false = Same
+by_sides true true = Neither
