@@ -1,6 +1,6 @@
 -- No public contract cites this.
 -- Pareto products of base terms alone, as lists of their factors. (this project)
-use Rattle.std.specs.Prelude.{◌≡◌, ℤ, List, [], ◌∷◌, ◌++◌, Bool, true, false, All}
+use Rattle.std.specs.Prelude.{◌≡◌, ℤ, List, [], ◌∷◌, ◌++◌, All}
 use Rattle.pref_term.specs.Columns.{ReadsBelow}
 use Rattle.pref_term.specs.Preference.{Preference, scored, low, high, around, reverse}
 use Rattle.pref_term.specs.Walk.{in_product, walked}
@@ -9,7 +9,7 @@ use Rattle.pref_term.specs.declared.factor.Factor.TheVariants.{Low, High, Around
 use Rattle.pref_term.specs.declared.factor.Sense.{Sense}
 use Rattle.pref_term.specs.declared.factor.Sense.TheVariants.{Direct, Reversed}
 use Rattle.pref_term.specs.declared.relation.Relation.{Relation}
-use Rattle.pref_term.specs.declared.relation.Relation.TheVariants.{Better, Worse, Same, Neither}
+use Rattle.pref_term.specs.declared.relation.Relation.TheVariants.{Same}
 
 -- what a factor prefers
 abbrev pub preference_of_factor : Factor → Preference
@@ -42,10 +42,3 @@ pub record EndsInFactorsOf (p : Preference) (shorter longer : List Factor) : Typ
 abbrev pub in_sense : Sense → Preference → Preference
 in_sense Direct p = p
 in_sense Reversed p = reverse p
-
--- the relation of two rows, from whether the first and whether the second is better in some part
-abbrev pub by_sides : Bool → Bool → Relation
-by_sides true false = Better
-by_sides false true = Worse
-by_sides false false = Same
-by_sides true true = Neither

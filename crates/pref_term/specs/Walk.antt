@@ -10,6 +10,13 @@ use Rattle.pref_term.specs.declared.relation.Relation.TheVariants.{Better, Worse
 abbrev pub by_scores : ℤ → ℤ → Relation
 by_scores x y = if int_lt x y then Better else if int_lt y x then Worse else Same
 
+-- from whether the first row is better in some part, and whether the second is
+abbrev pub by_sides : Bool → Bool → Relation
+by_sides true false = Better
+by_sides false true = Worse
+by_sides false false = Same
+by_sides true true = Neither
+
 -- by a product, from what its parts say
 abbrev pub in_product : Relation → Relation → Relation
 in_product Same second = second

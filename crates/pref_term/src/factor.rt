@@ -2,9 +2,9 @@
 ghost use Rattle.std.specs.Prelude.{◌≡◌, ◌-ℤ◌, ℤ, List, [], ◌∷◌, IfOk, pos, unsigned_abs};
 ghost use Rattle.std.specs.Option.{IfSome};
 ghost use Rattle.pref_term.specs.Columns.{ReadsBelow};
-ghost use Rattle.pref_term.specs.Factors.{AreFactorsOf, AreInRow, EndsInFactorsOf, by_factors, by_sides, in_sense, preference_of_factor};
+ghost use Rattle.pref_term.specs.Factors.{AreFactorsOf, AreInRow, EndsInFactorsOf, by_factors, in_sense, preference_of_factor};
 ghost use Rattle.pref_term.specs.Preference.{Preference, preference_of};
-ghost use Rattle.pref_term.specs.Walk.{by_scores, walked};
+ghost use Rattle.pref_term.specs.Walk.{by_scores, by_sides, walked};
 
 use crate::relation::Relation;
 use crate::term::Term;
@@ -66,6 +66,16 @@ impl Factor {
             Sense::Direct => self,
             Sense::Reversed => self.converse(),
         }
+    }
+
+    /// How the first row stands to the second one by this factor.
+    #[inline(always)]
+    pub(crate) fn compare(self, a: &Row, b: &Row) -> Relation
+        requires { ReadsBelow 16 (preference_of_factor self) }
+        ensures { result ≡ walked (preference_of_factor self) a.now b.now }
+    {
+        let (better, worse) = self.sides(a, b);
+        Relation::by_sides(better, worse)
     }
 
     /// Whether the first row is better by this factor, and whether the second is.
@@ -171,10 +181,5 @@ pub(crate) fn compare_by_factors(factors: &[Factor], a: &Row, b: &Row) -> Relati
             return Relation::Neither;
         }
     }
-    match (better, worse) {
-        (true, false) => Relation::Better,
-        (false, true) => Relation::Worse,
-        (false, false) => Relation::Same,
-        (true, true) => Relation::Neither,
-    }
+    Relation::by_sides(better, worse)
 }

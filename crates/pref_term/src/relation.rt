@@ -1,7 +1,7 @@
 //! How a row stands to another.
 ghost use Rattle.std.specs.Prelude.{◌≡◌};
 ghost use Rattle.pref_term.specs.Order.{is_better, is_same, is_worse};
-ghost use Rattle.pref_term.specs.Walk.{in_product, is_neither};
+ghost use Rattle.pref_term.specs.Walk.{by_sides, in_product, is_neither};
 
 /// How a first row stands to a second one: the two questions "is it better" and "is it worse" in one answer.
 #[derive(Clone, Copy, Debug, PartialEq, Eq)]
@@ -43,6 +43,19 @@ impl Relation {
         ensures { result ≡ is_neither self }
     {
         matches!(self, Relation::Neither)
+    }
+
+    /// The relation, from whether the first row is better in some part and whether the second is.
+    #[inline(always)]
+    pub(crate) fn by_sides(first: bool, second: bool) -> Relation
+        ensures { result ≡ by_sides first second }
+    {
+        match (first, second) {
+            (true, false) => Relation::Better,
+            (false, true) => Relation::Worse,
+            (false, false) => Relation::Same,
+            (true, true) => Relation::Neither,
+        }
     }
 
     /// The relation by a Pareto product, from those by its two parts.

@@ -1,5 +1,5 @@
 //! When a row is better than another: one walk over a term for each pair of rows.
-ghost use Rattle.std.specs.Prelude.{◌≡◌, ◌-ℤ◌, neg_ℤ, pos, unsigned_abs, Bool, not};
+ghost use Rattle.std.specs.Prelude.{◌≡◌};
 ghost use Rattle.std.specs.List.{list_any};
 ghost use Rattle.std.specs.Ordering.{int_eq};
 ghost use Rattle.pref_term.specs.Better as better;
@@ -8,6 +8,7 @@ ghost use Rattle.pref_term.specs.Order.{is_better, is_same, is_worse};
 ghost use Rattle.pref_term.specs.Preference.{preference_of};
 ghost use Rattle.pref_term.specs.Walk.{by_scores, in_priority, in_product, walked};
 
+use crate::factor::Factor;
 use crate::relation::Relation;
 use crate::term::{Numbers, Term};
 use pref_table::Row;
@@ -41,7 +42,7 @@ pub fn same(term: &Term, a: &Row, b: &Row) -> bool
     compare(term, a, b).is_same()
 }
 
-/// A base term is compared here; composed ones walk their parts.
+/// A base term is compared as a factor, or by its set; composed ones walk their parts.
 #[cycle(walk)]
 #[inline(always)]
 fn walk(term: &Term, a: &Row, b: &Row) -> Relation
@@ -49,9 +50,13 @@ fn walk(term: &Term, a: &Row, b: &Row) -> Relation
     ensures { result ≡ walked (preference_of term.now) a.now b.now }
 {
     match term {
-        Term::Low { col } => by_value(a.cell(*col), b.cell(*col)),
-        Term::High { col } => by_value_reversed(a.cell(*col), b.cell(*col)),
-        Term::Around { col, centre } => by_distance(a.cell(*col), b.cell(*col), *centre),
+        Term::Low { col } => Factor::Low { col: *col }.compare(a, b),
+        Term::High { col } => Factor::High { col: *col }.compare(a, b),
+        Term::Around { col, centre } => Factor::Around {
+            col: *col,
+            centre: *centre,
+        }
+        .compare(a, b),
         Term::Pos { col, set } => by_member(a.cell(*col), b.cell(*col), set),
         Term::Pareto(p, q) => product(Relation::Same, p, q, a, b),
         Term::Prior(p, q) => priority(p, q, a, b),
@@ -99,41 +104,6 @@ fn converse(p: &Term, a: &Row, b: &Row) -> Relation
     ensures { result ≡ walked (preference_of p.now) b.now a.now }
 {
     walk(p, b, a)
-}
-
-/// The smaller value is better.
-fn by_value(a: i64, b: i64) -> Relation
-    ensures { result ≡ by_scores a b }
-{
-    if a < b {
-        Relation::Better
-    } else if b < a {
-        Relation::Worse
-    } else {
-        Relation::Same
-    }
-}
-
-/// The larger value is better.
-fn by_value_reversed(a: i64, b: i64) -> Relation
-    ensures { result ≡ by_scores (neg_ℤ a) (neg_ℤ b) }
-{
-    by_value(b, a)
-}
-
-/// The value nearer to the centre is better. A distance is at most 2^64 - 1.
-fn by_distance(a: i64, b: i64, centre: i64) -> Relation
-    ensures { result ≡ by_scores (pos (unsigned_abs (a -ℤ centre))) (pos (unsigned_abs (b -ℤ centre))) }
-{
-    let first = a.abs_diff(centre);
-    let second = b.abs_diff(centre);
-    if first < second {
-        Relation::Better
-    } else if second < first {
-        Relation::Worse
-    } else {
-        Relation::Same
-    }
 }
 
 /// A value in the set is better than one outside it.

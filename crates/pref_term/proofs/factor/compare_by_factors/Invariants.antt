@@ -1,6 +1,6 @@
 use Rattle.std.proofs.Common.{◌≡◌, drop}
-use Rattle.pref_term.specs.Factors.{by_factors, by_sides}
-use Rattle.pref_term.specs.Walk.{in_product}
+use Rattle.pref_term.specs.Factors.{by_factors}
+use Rattle.pref_term.specs.Walk.{by_sides, in_product}
 use Rattle.pref_term.proofs.factor.compare_by_factors.Given as goal
 
 -- what the factors so far say, beside the factors that are left
