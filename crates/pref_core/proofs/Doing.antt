@@ -8,7 +8,7 @@ use Rattle.pref_core.specs.declared.call.Call.{Call}
 use Rattle.pref_core.specs.declared.call.Call.TheVariants.{Insert as CallInsert, Update as CallUpdate, Delete as CallDelete, Begin, Finish, Abandon}
 use Rattle.pref_core.specs.declared.call.Op.{Op}
 use Rattle.pref_core.specs.declared.fault.CoreFault.{CoreFault}
-use Rattle.pref_core.specs.declared.fault.CoreFault.TheVariants.{NoSuchClient, OutOfMemory}
+use Rattle.pref_core.specs.declared.fault.CoreFault.TheVariants.{OutOfMemory}
 use Rattle.pref_core.specs.declared.event.Act.{Act}
 use Rattle.pref_core.specs.declared.event.Act.TheVariants.{Insert as ActInsert, Update as ActUpdate, Delete as ActDelete, Begin as ActBegin, Scan as ActScan, Finish as ActFinish, Abandon as ActAbandon, Get as ActGet, Room as ActRoom}
 use Rattle.pref_core.specs.declared.event.Event.{Event}
@@ -29,7 +29,7 @@ use Rattle.pref_core.specs.Parts.{IsInOrder, Does, Changes, change_of, told_of, 
 use Rattle.pref_core.proofs.Steps.{PlansAlways, running_of, change_tells, change_refused, begin_tells, begin_refused}
 use Rattle.pref_core.proofs.Reindexing.{indexed_still}
 use Rattle.pref_core.proofs.Scanning.{next_is_new_at, told_scan, scan_tells}
-use Rattle.pref_core.proofs.Endings.{abandon_tells, abandon_refused, finish_tells, finish_refused, finish_not_done, nobody_tells, told_get, get_tells, room_tells}
+use Rattle.pref_core.proofs.Endings.{abandon_tells, abandon_refused, finish_tells, finish_refused, finish_not_done, told_get, get_tells, room_tells}
 
 -- What is left stands for a system again.
 in_order_told : (before after : Running) (system : System) (right : Step) (act : Act) (result : Result Reply CoreFault) (index : List (ℕ × ℕ)) → StandsForSystem before system → Tells before right act result after → IsIndexOf after.contents index → IsInOrder after index
@@ -122,9 +122,6 @@ pub finish_early : (old : Running) (client : ℕ) (op : Op) (fault : CoreFault) 
 finish_early old client op fault plans says = record { limits = refl; tells = λ system h. finish_not_done old system client op fault h plans says }
 
 -- Reads.
-pub nobody_does : (old : Running) (client : ℕ) (act : Act) → is_some (seat client old.scans) ≡ false → Does old client act (Err NoSuchClient) old
-nobody_does old client act none = record { limits = refl; tells = λ system h. nobody_tells old system client act h none }
-
 pub get_does : (old : Running) (client id : ℕ) (row : Option Row) → is_some (seat client old.scans) ≡ true
     → ((state : State) → StandsFor old.contents state → row ≡ option_map (λ (l : Line). l.row) (line_of state.table id)) → Does old client (ActGet id) (told_get id row) old
 get_does old client id row some says = record { limits = refl; tells = λ system h. get_tells old system client id row h some says }

@@ -1,22 +1,20 @@
 -- There is a slot for the new row of a call that isn't refused.
-use Rattle.std.proofs.Common.{◌≡◌, ℕ, suc, ◌+◌, ◌≤◌, Bool, true, false, not, ◌||◌, cond, nat_lt, List, [], ◌∷◌, map, length, Option, Some, None, is_some, IfSome, IfNone, slice_set, refl, sym, ap, ap₂, ◌∙◌, subst, arith}
+use Rattle.std.proofs.Common.{◌≡◌, ℕ, suc, ◌+◌, ◌≤◌, Bool, true, false, ◌||◌, cond, nat_lt, List, [], ◌∷◌, map, length, Option, Some, None, is_some, IfSome, IfNone, slice_set, refl, sym, ap, ap₂, ◌∙◌, subst, arith}
 use Rattle.std.specs.List.{count_by, list_any}
 use Rattle.std.specs.Option.{option_to_list}
 use Rattle.std.proofs.lemmas.List.Sums.{sum_by-cons}
-use Rattle.std.proofs.lemmas.Bool.{ltb-false, and_from, eq-eqb}
-use Rattle.std.specs.Option.{option_map, option_and_then}
+use Rattle.std.proofs.lemmas.Bool.{ltb-false, eq-eqb}
 use Rattle.std.proofs.lemmas.List.{length-map}
 use Rattle.pref_core.specs.declared.store.version.Version.{Version}
-use Rattle.pref_core.specs.declared.store.caller.Caller.{Caller}
 use Rattle.pref_core.specs.declared.call.Op.{Op}
 use Rattle.pref_sky.specs.declared.entry.Entry.{Entry}
 use Rattle.pref_core.specs.declared.call.Call.{Call}
 use Rattle.pref_core.specs.declared.call.Call.TheVariants.{Insert, Update, Delete, Begin, Finish, Abandon}
 use Rattle.pref_core.specs.declared.call.Outcome.{Outcome}
 use Rattle.pref_core.specs.declared.call.Outcome.TheVariants.{Added, Done, NoSuchRow, Full}
-use Rattle.pref_core.specs.State.{ended, begun, granted, missing, outcome_of, succeeds, is_change, seat, refusal_of}
+use Rattle.pref_core.specs.State.{ended, begun, granted, missing, outcome_of, succeeds, is_change}
 use Rattle.pref_core.specs.Slots.{Contents, is_needed, begins, seen, visible, born}
-use Rattle.pref_core.specs.Operations.{close, is_free, filled, outcome_at, placed, close_at, same_outcome, is_next, same_number, refusal_at, slots_after}
+use Rattle.pref_core.specs.Operations.{close, is_free, filled, outcome_at, placed, close_at, same_outcome, slots_after}
 use Rattle.pref_core.proofs.Visible.{seen_born}
 
 count_by-cons_yes : {X : Type 0} (p : X → Bool) (x : X) (xs : List X) → p x ≡ true → count_by p (x ∷ xs) ≡ suc (count_by p xs)
@@ -98,29 +96,6 @@ same_outcome_refl (Added n) = eq-eqb n n refl
 same_outcome_refl Done = refl
 same_outcome_refl (NoSuchRow n) = eq-eqb n n refl
 same_outcome_refl (Full n) = eq-eqb n n refl
-
--- a call that is let in, with its number and its outcome
-pub is_next_planned : (contents : Contents) (op : Op) (caller : Caller) → seat op.client contents.callers ≡ Some caller → refusal_at contents op.client op.call ≡ None → op.number ≡ caller.calls + 1 → op.outcome ≡ outcome_at contents op.call → is_next contents op ≡ true
-is_next_planned contents op caller at accepted number told =
-    and_from _ _ (and_from _ _ (ap (λ o. not (is_some o)) accepted) (numbered (seat op.client contents.callers) at)) (ap (same_outcome op.outcome) (sym told) ∙ same_outcome_refl op.outcome)
-  where
-    numbered : (o : Option Caller) → o ≡ Some caller → same_number (elim o as (λ x. Option ℕ) [ None ↦ None | Some found ↦ Some found.calls ]) op.number ≡ true
-    numbered None e = absurd (cc)
-    numbered (Some found) e =
-        let calls : found.calls ≡ caller.calls = let same : found ≡ caller = cc in ap (λ (c : Caller). c.calls) same in
-        eq-eqb (suc found.calls) op.number (omega arith)
-
--- the refusal by what is kept of the caller
-pub refusal_at-seat : (contents : Contents) (client : ℕ) (call : Call) (o : Option Caller) → o ≡ seat client contents.callers → refusal_of (option_map (λ c. c.calls) o) (is_some (option_and_then (λ c. c.begun) o)) call ≡ refusal_at contents client call
-refusal_at-seat contents client call o e = ap₂ (λ calls b. refusal_of calls (is_some b) call) (calls_same o) (begun_same o) ∙ ap (λ s. refusal_of (elim s as (λ x. Option ℕ) [ None ↦ None | Some found ↦ Some found.calls ]) (is_some (elim s as (λ x. Option ℕ) [ None ↦ None | Some found ↦ found.begun ])) call) e
-  where
-    calls_same : (o : Option Caller) → option_map (λ c. c.calls) o ≡ elim o as (λ x. Option ℕ) [ None ↦ None | Some found ↦ Some found.calls ]
-    calls_same None = refl
-    calls_same (Some c) = refl
-
-    begun_same : (o : Option Caller) → option_and_then (λ c. c.begun) o ≡ elim o as (λ x. Option ℕ) [ None ↦ None | Some found ↦ found.begun ]
-    begun_same None = refl
-    begun_same (Some c) = refl
 
 -- what `commit` says, of the slots after an op
 pub slots_after-committed : (contents : Contents) (op : Op) (begun_by : Option Entry) (ended_by : Option ℕ) (after : List (Option Version)) → is_change op.call ≡ true → succeeds op.outcome ≡ true

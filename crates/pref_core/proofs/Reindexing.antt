@@ -11,7 +11,7 @@ use Rattle.pref_core.specs.declared.call.Outcome.TheVariants.{Added, Done, NoSuc
 use Rattle.pref_core.specs.declared.call.Op.{Op}
 use Rattle.pref_sky.specs.declared.entry.Entry.{Entry}
 use Rattle.pref_core.specs.Rows.{Row}
-use Rattle.pref_core.specs.Table.{among, has}
+use Rattle.pref_core.specs.Table.{among}
 use Rattle.pref_core.specs.State.{outcome_of, missing, is_change, succeeds, added, ended}
 use Rattle.pref_core.specs.Slots.{Contents, IsWithin, visible, begins, born}
 use Rattle.pref_core.specs.Operations.{close, is_free, filled, used, grown, outcome_at, placed, stepped, slots_after, is_next, applied}
@@ -252,28 +252,6 @@ ready_ended contents op index next is id ends = go op.outcome op.slot refl is.pr
     go Done slot e prepared = stays prepared
     go (NoSuchRow n) slot e prepared = stays prepared
     go (Full n) slot e prepared = stays prepared
-
--- .. and has it, where the op succeeds.
-pub ready_there : (contents : Contents) (op : Op) (index : Pairs) → is_next contents op ≡ true → IsReady contents op index → (id : ℕ) → ended op.call ≡ id ∷ [] → succeeds op.outcome ≡ true → is_some (slot_of index id) ≡ true
-ready_there contents op index next is id ends ok = go (slot_of index id) (ready_ended contents op index next is id ends)
-  where
-    lost : (call : Call) → ended call ≡ id ∷ [] → has (visible contents.stamp contents.slots) id ≡ false → outcome_at contents call ≡ NoSuchRow id
-    lost (Insert row) e none = absurd (cc)
-    lost (Update n row) e none =
-        let same : n ≡ id = cc in
-        let gone : has (visible contents.stamp contents.slots) n ≡ false = ap (has (visible contents.stamp contents.slots)) same ∙ none in
-        rw gone (ap NoSuchRow same)
-    lost (Delete n) e none =
-        let same : n ≡ id = cc in
-        let gone : has (visible contents.stamp contents.slots) n ≡ false = ap (has (visible contents.stamp contents.slots)) same ∙ none in
-        rw gone (ap NoSuchRow same)
-    lost Begin e none = absurd (cc)
-    lost Finish e none = absurd (cc)
-    lost Abandon e none = absurd (cc)
-
-    go : (o : Option ℕ) → IsPlaceOf contents.stamp id contents.slots o → is_some o ≡ true
-    go (Some place) h = refl
-    go None h = absurd (let w : succeeds (NoSuchRow id) ≡ true = ap succeeds (sym ((IsAllowed-from contents op next).outcome ∙ lost op.call ends h)) ∙ ok in cc)
 
 -- Only an insert adds a row.
 pub adds_planned : (contents : Contents) (op : Op) → is_next contents op ≡ true → adds op.outcome ≡ true → nat_lt 0 (added op.call) ≡ true
