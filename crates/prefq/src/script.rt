@@ -4,6 +4,7 @@ ghost use Rattle.std.specs.List.{concat, position_or_len};
 ghost use Rattle.prefq.specs.Script.{is_end, is_table, line_of, parts_of, raw_lines, without_last};
 
 use crate::fault::RunFault;
+use memchr::memchr;
 
 /// The first line of a text with its end, and the text after it.
 pub fn cut_line(text: &[u8]) -> (&[u8], &[u8])
@@ -12,12 +13,10 @@ pub fn cut_line(text: &[u8]) -> (&[u8], &[u8])
     ensures some { 0 < length result.0.now }
     ensures lines { raw_lines text.now ≡ result.0.now ∷ raw_lines result.1.now }
 {
-    for (place, byte) in text.iter().enumerate() {
-        if *byte == b'\n' {
-            return text.split_at(place + 1);
-        }
+    match memchr(b'\n', text) {
+        Some(place) => text.split_at(place + 1),
+        None => text.split_at(text.len()),
     }
-    text.split_at(text.len())
 }
 
 fn drop_last(byte: u8, text: &[u8]) -> &[u8]
