@@ -26,7 +26,7 @@ at_end [] x = refl
 at_end (y ∷ xs) x = at_end xs x
 
 -- the clients stand in order of number
-newcomer_at : (n place : ℕ) → place < n → slice_get (newcomers n) place ≡ Some (newcomer (suc place))
+pub newcomer_at : (n place : ℕ) → place < n → slice_get (newcomers n) place ≡ Some (newcomer (suc place))
 newcomer_at zero place l = absurd (omega arith)
 newcomer_at (suc n) place l =
     ⊎_elim (λ (e : place ≡ n). subst (λ k. slice_get (newcomers n ++ newcomer (suc n) ∷ []) k ≡ Some (newcomer (suc k))) (sym e)

@@ -1,5 +1,5 @@
 -- Acts of clients on threads, and when they with their replies are one run of the sequential table. (this project)
-use Rattle.std.specs.Prelude.{◌≡◌, ℕ, suc, ◌<◌, ◌≤◌, List, [], ◌∷◌, ◌++◌, length, slice_get, Option, Some, None, ◌⊎◌}
+use Rattle.std.specs.Prelude.{◌≡◌, ℕ, suc, ◌<◌, List, [], ◌∷◌, ◌++◌, length, slice_get, Option, Some, None, ◌⊎◌}
 use Rattle.std.specs.Option.{option_map}
 use Rattle.std.specs.Global.{Vec}
 use mathlib.Core.List.{IsPrefix}
@@ -15,7 +15,7 @@ use Rattle.pref_core.specs.Step.{Open, Member, System, Step, state_of, step}
 use Rattle.pref_share.specs.declared.fault.ShareFault.{ShareFault}
 use Rattle.pref_share.specs.declared.fault.ShareFault.TheVariants.{Core, ClientInUse, Held, Closed}
 use Rattle.pref_share.specs.Openings.{Opening, IsLegal, HasCall, state_at, calls_at}
-use Rattle.pref_share.specs.Standing.{Asking, Standing}
+use Rattle.pref_share.specs.Standing.{Asking, Standing, newcomer}
 
 -- the open query of a client, as its own acts give it: the table at its begin is that of the history that it began at
 abbrev pub open_of : Opening → Asking → Open
@@ -105,9 +105,37 @@ pub record HoldsSome (o : Opening) (number : ℕ) : Type 0 where
   pub legal : IsLegal o seen
   pub holds : HasCall seen client number
 
--- why a run stops: no refusal of the table does but want of memory
-abbrev pub Stops : Opening → ShareFault → Type 0
-Stops o (Core fault) = fault ≡ OutOfMemory
-Stops o (ClientInUse number) = HoldsSome o number
-Stops o (Held client) = (0 < client) × (client ≤ o.limits.clients)
-Stops o Closed = Unit {0}
+-- a client did all these acts
+pub record DidAll (o : Opening) (s : Standing) (acts : List Act) : Type 0 where
+  pub replies : List Reply
+  pub last : Standing
+  pub runs : RunsTo o s acts replies last
+
+-- A client was held before one of its acts: it had done those before, and this is what the gate tells of that turn.
+pub record IsHeld (o : Opening) (may_hold : ℕ → ℕ → Type 0) (s : Standing) (acts : List Act) : Type 0 where
+  pub done : List Act
+  pub next : Act
+  pub more : List Act
+  pub in_order : acts ≡ done ++ next ∷ more
+  pub did : DidAll o s done
+  pub may : may_hold s.number (length done)
+
+-- The client of this number was held, and each client of a less number did all its acts. The first list is that of client 1.
+pub record IsFirstHeld (o : Opening) (may_hold : ℕ → ℕ → Type 0) (lists : List (Vec Act)) (number : ℕ) : Type 0 where
+  pub place : ℕ
+  pub acts : Vec Act
+  pub number_is : number ≡ suc place
+  pub there : slice_get lists place ≡ Some acts
+  pub held : IsHeld o may_hold (newcomer number) acts.items
+  pub before : (lower : ℕ) (others : Vec Act) → lower < place → slice_get lists lower ≡ Some others → DidAll o (newcomer (suc lower)) others.items
+
+-- Why a run stops: no refusal of the table does but want of memory. What is so where a client was held is said of its number.
+abbrev pub Stops : Opening → (ℕ → Type 0) → ShareFault → Type 0
+Stops o held (Core fault) = fault ≡ OutOfMemory
+Stops o held (ClientInUse number) = HoldsSome o number
+Stops o held (Held client) = held client
+Stops o held Closed = Unit {0}
+
+-- where there is no gate
+abbrev pub nobody : ℕ → Type 0
+nobody client = ⊥

@@ -24,7 +24,7 @@ pub enum ShareFault {
         /// The number of that call.
         number: u64,
     },
-    /// The gate answered false to this client.
+    /// The gate answered false to this client, before an act; each client of a less number did all its acts.
     #[error("held client {client}")]
     Held {
         /// The client's number.

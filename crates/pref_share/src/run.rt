@@ -2,11 +2,12 @@
 
 pub(crate) mod acts;
 
-ghost use Rattle.std.specs.Prelude.{◌≡◌, ◌<◌, ◌≤◌, ℕ, Ok, map, length, vec_len, slice_get, slice_index_or, Some, IfOk, IfErr, OnOk};
+ghost use Rattle.std.specs.Prelude.{◌≡◌, false, ◌⊎◌, ◌<◌, ◌≤◌, ℕ, Ok, map, length, vec_len, slice_get, slice_index_or, Some, IfOk, IfErr, OnOk};
+ghost use Rattle.pref_core.specs.declared.fault.CoreFault.TheVariants.{OutOfMemory};
 ghost use Rattle.pref_share.specs.Openings.{IsLegal, calls_at};
 ghost use Rattle.pref_share.specs.Standing.{newcomers};
-ghost use Rattle.pref_share.specs.Runs.{RunsTo, IsJointRun, Stops};
-ghost use Rattle.pref_share.specs.Performing.{IsIn};
+ghost use Rattle.pref_share.specs.Runs.{RunsTo, IsJointRun, IsFirstHeld, Stops, nobody};
+ghost use Rattle.pref_share.specs.Performing.{IsIn, IsFirstErr, StopsOne};
 ghost use Rattle.pref_share.specs.Interleavings.{IsSequential};
 
 use crate::board::Board;
@@ -24,8 +25,15 @@ use std::thread::Threads;
 
 /// What holds up each act, and is told of it.
 pub trait Gate {
+    ghost use Rattle.std.specs.Prelude.{ℕ};
+
+    /// What is so wherever this gate answers false, by the client's number and its turn. Whoever writes a gate picks it, and
+    /// `before` is proved to keep it: `⊥` for a gate that holds nobody.
+    ghost may_hold: { Self → ℕ → ℕ → Type 0 };
+
     /// Called before each act of a client, whose turns count from 0. Where it answers false the client stops.
-    fn before(&self, client: u8, turn: usize) -> bool;
+    fn before(&self, client: u8, turn: usize) -> bool
+        ensures { result ≡ false → may_hold self.now client turn };
 
     /// Called once the act is answered.
     fn after(&self, client: u8, turn: usize);
@@ -50,7 +58,8 @@ struct Report<J: Naming> {
 ///
 /// Acts that the table refuses have its refusal as their reply, and stop nobody. A client that meets `OutOfMemory`,
 /// `ClientInUse` or `Closed`, or to which the gate answers false (`Held`), stops; where several do, the refusal is that of the
-/// one with the least number. What had joined the history stays.
+/// one with the least number. So where it is `Held`, that client did its acts before the turn at which it was held, and each
+/// client of a less number did all its acts. What had joined the history stays.
 ///
 /// ```text
 /// let replies = run_all(rt, alloc, &board, clients, acts, &gate)?;
@@ -67,7 +76,7 @@ pub fn run_all<J: Naming + Send + Sync, R: Threads + Wait + Sync, G: Gate + Sync
     requires lists { vec_len acts ≡ vec_len clients }
     ensures joint { IfOk result (λ replies. IsJointRun J.opening clients.items acts.items replies.items) }
     ensures sequential { IfOk result (λ replies. IsSequential J.opening acts.items replies.items) }
-    ensures refused { IfErr result (λ fault. Stops J.opening fault) }
+    ensures refused { IfErr result (Stops J.opening (IsFirstHeld J.opening (G.may_hold gate.now) acts.items)) }
 {
     let jobs = paired(alloc, clients, acts)?;
     let reports = gather(alloc, work_all(rt, alloc, board, jobs, gate)?)?;
@@ -84,7 +93,7 @@ fn paired<J: Naming>(
 ) -> Result<Vec<Job<J>>, ShareFault>
     requires { vec_len acts ≡ vec_len clients }
     ensures paired { IfOk result (λ jobs. (map (λ job. job.client) jobs.items ≡ clients.items) × (map (λ job. job.acts) jobs.items ≡ acts.items)) }
-    ensures other { IfErr result (λ fault. Stops J.opening fault) }
+    ensures other { IfErr result (Stops J.opening nobody) }
 {
     let mut jobs = Vec::new(alloc);
     let mut lists = acts.into_iter();
@@ -108,7 +117,7 @@ fn work<J: Naming, R: Wait, G: Gate>(
     job: Job<J>,
 ) -> Result<Report<J>, ShareFault>
     ensures runs { IfOk result (λ report. RunsTo J.opening job.client job.acts.items report.replies.items report.client) }
-    ensures stops { IfErr result (λ fault. Stops J.opening fault) }
+    ensures stops { IfErr result (StopsOne J.opening (G.may_hold gate.now) job.client job.acts.items) }
 {
     let Job { mut client, acts } = job;
     let number = client.number();
@@ -137,14 +146,14 @@ fn work_all<J: Naming + Send + Sync, R: Threads + Wait + Sync, G: Gate + Sync>(
 ) -> Result<Vec<Result<Report<J>, ShareFault>>, ShareFault>
     ensures len { IfOk result (λ all. vec_len all ≡ vec_len jobs) }
     ensures each { IfOk result (λ all. (i : ℕ) (job : _) (d : _) → i < vec_len jobs → IfOk (slice_index_or all.items i d) (λ report. RunsTo J.opening (slice_index_or jobs.items i job).client (slice_index_or jobs.items i job).acts.items report.replies.items report.client)) }
-    ensures stops { IfOk result (λ all. (i : ℕ) (d : _) → i < vec_len jobs → IfErr (slice_index_or all.items i d) (λ fault. Stops J.opening fault)) }
-    ensures other { IfErr result (λ fault. Stops J.opening fault) }
+    ensures stops { IfOk result (λ all. (i : ℕ) (job : _) (d : _) → i < vec_len jobs → IfErr (slice_index_or all.items i d) (StopsOne J.opening (G.may_hold gate.now) (slice_index_or jobs.items i job).client (slice_index_or jobs.items i job).acts.items)) }
+    ensures other { IfErr result (Stops J.opening nobody) }
 {
     match thread::map_vec(
         rt,
         jobs,
         &|job: Job<J>| -> Result<Report<J>, ShareFault>
-            ensures { IfOk result (λ report. RunsTo J.opening job.client job.acts.items report.replies.items report.client) × IfErr result (λ fault. Stops J.opening fault) }
+            ensures { IfOk result (λ report. RunsTo J.opening job.client job.acts.items report.replies.items report.client) × IfErr result (StopsOne J.opening (G.may_hold gate.entry.now) job.client job.acts.items) }
         { work(rt, alloc, board, gate, job) },
     ) {
         Ok(reports) => Ok(reports),
@@ -157,9 +166,8 @@ fn gather<J: Naming>(
     alloc: Global,
     reports: Vec<Result<Report<J>, ShareFault>>,
 ) -> Result<Vec<Report<J>>, ShareFault>
-    requires { (i : ℕ) (d : _) → i < vec_len reports → IfErr (slice_index_or reports.items i d) (λ fault. Stops J.opening fault) }
     ensures all { IfOk result (λ all. reports.items ≡ map Ok all.items) }
-    ensures stops { IfErr result (λ fault. Stops J.opening fault) }
+    ensures first { IfErr result (λ fault. IsFirstErr reports.items fault ⊎ (fault ≡ ShareFault.Core OutOfMemory)) }
 {
     let mut all = Vec::new(alloc);
     for report in reports {
@@ -179,7 +187,7 @@ fn gather<J: Naming>(
 fn settle_each<J: Naming>(master: &mut Master<J>, reports: &[Report<J>]) -> Result<(), ShareFault>
     ensures same { master.new ≡ master.old }
     ensures settled { OnOk result ((i : ℕ) (d : _) → i < length reports.now → IsIn J.opening master.old (slice_index_or reports.now i d).client) }
-    ensures stops { IfErr result (λ fault. Stops J.opening fault) }
+    ensures stops { IfErr result (Stops J.opening nobody) }
 {
     for report in reports {
         report.client.settle(master)?;
@@ -195,7 +203,7 @@ fn settle_all<J: Naming, R: Wait>(
 ) -> Result<Prefix<J>, ShareFault>
     ensures legal { IfOk result (λ whole. IsLegal J.opening whole) }
     ensures settled { IfOk result (λ whole. (i : ℕ) (d : _) → i < length reports.now → IsIn J.opening whole (slice_index_or reports.now i d).client) }
-    ensures stops { IfErr result (λ fault. Stops J.opening fault) }
+    ensures stops { IfErr result (Stops J.opening nobody) }
 {
     let mut guard = board.master.lock(rt);
     let master = &mut *guard;
@@ -209,7 +217,7 @@ fn replies_of<J: Naming>(
     reports: Vec<Report<J>>,
 ) -> Result<Vec<Vec<Reply>>, ShareFault>
     ensures all { IfOk result (λ all. all.items ≡ map (λ r. r.replies) reports.items) }
-    ensures stops { IfErr result (λ fault. Stops J.opening fault) }
+    ensures stops { IfErr result (Stops J.opening nobody) }
 {
     let mut all = Vec::new(alloc);
     for report in reports {

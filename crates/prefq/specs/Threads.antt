@@ -9,7 +9,7 @@ use Rattle.pref_core.specs.declared.event.Reply.TheVariants.{Refused}
 use Rattle.pref_core.specs.declared.fault.CoreFault.TheVariants.{NoSuchClient}
 use Rattle.pref_share.specs.Openings.{Opening}
 use Rattle.pref_share.specs.Interleavings.{IsSequential}
-use Rattle.pref_share.specs.Runs.{IsJointRun, Stops}
+use Rattle.pref_share.specs.Runs.{IsFirstHeld, IsJointRun, Stops}
 use Rattle.pref_share.specs.Standing.{newcomers}
 use Rattle.pref_share.specs.declared.fault.ShareFault.{ShareFault}
 use Rattle.pref_share.specs.declared.fault.ShareFault.TheVariants as share
@@ -65,13 +65,24 @@ pub record TellsJointRun (limits : Limits) (script : Script) (text : List ℕ) :
   pub sequential : IsSequential (opening_of limits script) acts replies
   pub told : text ≡ threads_text limits script replies
 
--- why the clients of a script were stopped, for another reason than want of memory
-abbrev pub StopsClients : Opening → ShareFault → Type 0
-StopsClients opening (share.Core why) = ⊥
-StopsClients opening why = Stops opening why
+-- why clients were stopped, for another reason than want of memory
+abbrev pub StopsClients : Opening → (ℕ → Type 0) → ShareFault → Type 0
+StopsClients opening held (share.Core why) = ⊥
+StopsClients opening held why = Stops opening held why
 
--- what a run of a script on threads gives
-abbrev pub RanOnThreads : Limits → List ℕ → Result (Vec ℕ) RunFault → Type 0
-RanOnThreads limits bytes (Ok text) = (script : Script) × (script_of limits bytes ≡ Ok script) × TellsJointRun limits script text.items
-RanOnThreads limits bytes (Err (fault.Threads why)) = (script : Script) × (script_of limits bytes ≡ Ok script) × StopsClients (opening_of limits script) why
-RanOnThreads limits bytes (Err why) = ScriptFault why (script_of limits bytes)
+-- The clients of a script were stopped, behind a gate that tells this of each turn at which it holds a client.
+pub record WereStopped (limits : Limits) (may_hold : ℕ → ℕ → Type 0) (script : Script) (why : ShareFault) : Type 0 where
+  pub acts : List (Vec Act)
+  pub of_script : AreActs limits.clients (events_of script.commands) acts
+  pub stops : StopsClients (opening_of limits script) (IsFirstHeld (opening_of limits script) may_hold acts) why
+
+-- what a run of a script on threads gives, behind such a gate
+abbrev pub RanOnThreads : Limits → (ℕ → ℕ → Type 0) → List ℕ → Result (Vec ℕ) RunFault → Type 0
+RanOnThreads limits may_hold bytes (Ok text) = (script : Script) × (script_of limits bytes ≡ Ok script) × TellsJointRun limits script text.items
+RanOnThreads limits may_hold bytes (Err (fault.Threads why)) = (script : Script) × (script_of limits bytes ≡ Ok script) × WereStopped limits may_hold script why
+RanOnThreads limits may_hold bytes (Err why) = ScriptFault why (script_of limits bytes)
+
+-- no client was held
+abbrev pub HoldsNobody : RunFault → Type 0
+HoldsNobody (fault.Threads (share.Held client)) = ⊥
+HoldsNobody why = Unit {0}

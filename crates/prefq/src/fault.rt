@@ -35,7 +35,7 @@ pub enum RunFault {
     /// The engine refuses the opening rows.
     #[error("opening: {0}")]
     Opening(CoreFault),
-    /// The clients on threads were stopped: by the gate, by a client in use or by a closed board.
+    /// The clients on threads were stopped: by the gate, which in the program holds nobody, by a client in use or by a closed board.
     #[error("threads: {0}")]
     Threads(ShareFault),
 }

@@ -20,7 +20,6 @@ mod words;
 
 use args::{Args, ArgsFault, read_args};
 use fault::RunFault;
-use input::read_input;
 use output::write_output;
 use pref_core::Setup;
 use run::{fault_line, run_script};
@@ -31,7 +30,7 @@ use std::process::ExitCode;
 use std::rt::Env;
 use std::sync::Wait;
 use std::thread::Threads;
-use threads::{OpenGate, run_threads};
+use threads::threads_output;
 use watched::Watched;
 
 /// The status of refused arguments.
@@ -109,17 +108,6 @@ fn play(rt: &HostRuntime, setup: Setup) -> u8 {
             fault.status()
         }
     }
-}
-
-/// The output of the script that is read, each client's events on a thread of its own.
-fn threads_output<T: Threads + Wait + Sync + AllocGlobal, R: Read + Drop>(
-    rt: &T,
-    reader: R,
-    setup: Setup,
-) -> Result<Vec<u8>, RunFault> {
-    let mut reader = Watched::new(reader);
-    let input = read_input(rt.alloc(), &mut reader)?;
-    run_threads(rt, rt.alloc(), input.as_slice(), setup, &OpenGate)
 }
 
 /// Runs the script that is read, each client's events on a thread of its own, and writes the output or a fault's line.

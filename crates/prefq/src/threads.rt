@@ -1,21 +1,24 @@
 //! A script whose clients run on threads, from its bytes to the bytes of its output.
-ghost use Rattle.std.specs.Prelude.{◌≡◌, ◌<◌, true, length, IfOk, IfErr, ◌⊎◌};
+ghost use Rattle.std.specs.Prelude.{◌≡◌, ◌<◌, length, IfOk, IfErr, ◌⊎◌};
 ghost use Rattle.pref_core.specs.declared.fault.CoreFault.TheVariants as core;
 ghost use Rattle.pref_share.specs.Interleavings.{IsSequential};
-ghost use Rattle.pref_share.specs.Runs.{IsJointRun, Stops};
+ghost use Rattle.pref_share.specs.Runs.{IsFirstHeld, IsJointRun, Stops};
 ghost use Rattle.pref_share.specs.Standing.{newcomers};
-ghost use Rattle.prefq.specs.Threads.{RanOnThreads};
+ghost use Rattle.prefq.specs.Threads.{HoldsNobody, RanOnThreads};
 ghost use Rattle.prefq.specs.Reading.{share_fault};
 
 use crate::acts::acts_by_client;
 use crate::fault::RunFault;
+use crate::input::read_input;
 use crate::reading::{Script, read_script};
 use crate::replies::{push_clients, push_unowned};
 use crate::run::of_core;
+use crate::watched::Watched;
 use pref_core::{Act, Reply, Setup};
 use pref_share::{Gate, Name, Naming, ShareFault, open_board, run_all};
 use pref_table::Row;
 use std::alloc::Global;
+use std::io::Read;
 use std::marker::Brand;
 use std::sync::Wait;
 use std::thread::Threads;
@@ -24,9 +27,9 @@ use std::thread::Threads;
 pub struct OpenGate;
 
 impl Gate for OpenGate {
-    fn before(&self, _client: u8, _turn: usize) -> bool
-        ensures { result ≡ true }
-    {
+    ghost may_hold = { λ gate client turn. ⊥ };
+
+    fn before(&self, _client: u8, _turn: usize) -> bool {
         true
     }
 
@@ -59,7 +62,7 @@ fn joint_replies<J: Naming + Send + Sync, R: Threads + Wait + Sync, G: Gate + Sy
     ensures sequential { IfOk result (λ replies. IsSequential (record { limits = setup; rows = rows.now }) acts.items replies.items) }
     ensures room { IfOk result (λ replies. setup.capacity < length rows.now → ⊥) }
     ensures stops { IfErr result (λ why. (setup.capacity < length rows.now) × (why ≡ ShareFault.Core (core.Full (length rows.now)))
-        ⊎ (setup.capacity < length rows.now → ⊥) × Stops (record { limits = setup; rows = rows.now }) why) }
+        ⊎ (setup.capacity < length rows.now → ⊥) × Stops (record { limits = setup; rows = rows.now }) (IsFirstHeld (record { limits = setup; rows = rows.now }) (G.may_hold gate.now) acts.items) why) }
 {
     let (board, clients) = open_board::<J, R>(rt, alloc, name, setup, rows)?;
     let replies = run_all(rt, alloc, &board, clients, acts, gate);
@@ -72,8 +75,8 @@ fn joint_replies<J: Naming + Send + Sync, R: Threads + Wait + Sync, G: Gate + Sy
 ///
 /// The replies are those of one legal history, and of the sequential table for one interleaving of the clients' acts; which
 /// one is open. Refused `NoTable`, `NoEnd`, `Table`, `Opening`, in this
-/// order, `Memory` wherever it is met, and `Threads` where a client was stopped: by the gate (`Held`), or by
-/// `ClientInUse` or `Closed`, which no run of a script is known to meet.
+/// order, `Memory` wherever it is met, and `Threads` where a client was stopped: by the gate (`Held`, which an [`OpenGate`]
+/// never does), or by `ClientInUse` or `Closed`, which no run of a script is known to meet.
 ///
 /// ```text
 /// let output = run_threads(rt, alloc, script, setup, &OpenGate)?;
@@ -85,7 +88,7 @@ pub fn run_threads<R: Threads + Wait + Sync, G: Gate + Sync>(
     setup: Setup,
     gate: &G,
 ) -> Result<Vec<u8>, RunFault>
-    ensures { RanOnThreads setup bytes.now result }
+    ensures { RanOnThreads setup (G.may_hold gate.now) bytes.now result }
 {
     let Script {
         schema,
@@ -110,4 +113,19 @@ pub fn run_threads<R: Threads + Wait + Sync, G: Gate + Sync>(
     };
     push_clients(&mut text, width, replies.as_slice())?;
     Ok(text.into_bytes())
+}
+
+/// The output of the script that is read, each client's events on a thread of its own. The gate is open, so no client is held.
+///
+/// Refused `Read` or `TooLarge` where the input is not read whole, and as `run_threads` is.
+pub fn threads_output<T: Threads + Wait + Sync + AllocGlobal, R: Read + Drop>(
+    rt: &T,
+    reader: R,
+    setup: Setup,
+) -> Result<Vec<u8>, RunFault>
+    ensures { IfErr result HoldsNobody }
+{
+    let mut reader = Watched::new(reader);
+    let input = read_input(rt.alloc(), &mut reader)?;
+    run_threads(rt, rt.alloc(), input.as_slice(), setup, &OpenGate)
 }

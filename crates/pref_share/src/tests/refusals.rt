@@ -217,6 +217,8 @@ fn a_query_refused_then_again(rt: HostRuntime) -> Result<(), Fail> {
 struct Open;
 
 impl Gate for Open {
+    ghost may_hold = { λ gate client turn. ⊥ };
+
     fn before(&self, _client: u8, _turn: usize) -> bool {
         true
     }

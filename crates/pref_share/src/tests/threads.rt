@@ -35,6 +35,10 @@ struct Holds {
 }
 
 impl Gate for Holds {
+    ghost use Rattle.std.specs.Prelude.{◌≡◌};
+
+    ghost may_hold = { λ gate client turn. client ≡ gate.held };
+
     fn before(&self, client: u8, _turn: usize) -> bool {
         client != self.held || is_reached(&self.answered, 1)
     }
@@ -58,6 +62,10 @@ fn held_until(held: u8, until: u8) -> Holds {
 struct HoldsTwo;
 
 impl Gate for HoldsTwo {
+    ghost use Rattle.std.specs.Prelude.{◌≡◌, ◌⊎◌};
+
+    ghost may_hold = { λ gate client turn. (client ≡ 3) × (turn ≡ 2) ⊎ (client ≡ 5) × (turn ≡ 0) };
+
     fn before(&self, client: u8, turn: usize) -> bool {
         !(client == 3 && turn == 2 || client == 5 && turn == 0)
     }
@@ -74,6 +82,10 @@ struct HoldsScans {
 }
 
 impl Gate for HoldsScans {
+    ghost use Rattle.std.specs.Prelude.{◌≡◌, ◌⊎◌};
+
+    ghost may_hold = { λ gate client turn. (client ≡ 1) ⊎ (turn ≡ 0) };
+
     fn before(&self, client: u8, turn: usize) -> bool {
         if client != 1 {
             return turn > 0 || is_reached(&self.begun, 1);

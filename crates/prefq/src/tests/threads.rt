@@ -1,4 +1,6 @@
 //! Scripts whose clients run on threads.
+ghost use Rattle.std.specs.Prelude.{◌≡◌};
+
 use super::{defaults, setup_of};
 use crate::fault::RunFault;
 use crate::run::fault_line;
@@ -22,6 +24,8 @@ struct HoldsUntil {
 }
 
 impl Gate for HoldsUntil {
+    ghost may_hold = { λ gate client turn. client ≡ gate.held };
+
     fn before(&self, client: u8, _turn: usize) -> bool {
         if client != self.held {
             return true;
@@ -50,6 +54,8 @@ struct StopsAt {
 }
 
 impl Gate for StopsAt {
+    ghost may_hold = { λ gate client turn. (client ≡ gate.client) × (turn ≡ gate.turn) };
+
     fn before(&self, client: u8, turn: usize) -> bool {
         client != self.client || turn != self.turn
     }

@@ -1,5 +1,7 @@
+use Rattle.std.proofs.Common.{◌≡◌, ◌++◌}
+use Rattle.std.specs.Vec.Iter.{into_iter_items}
 use Rattle.pref_share.specs.Runs.{RunsTo}
 use Rattle.pref_share.proofs.run.work.Given as goal
 
 abbrev pub invariant-loop-act : goal.invariant-loop-act
-invariant-loop-act g l = RunsTo g.J.Naming.opening l.fn.job.client l.yielded l.replies.items l.client
+invariant-loop-act g l = RunsTo g.J.Naming.opening l.fn.job.client l.yielded l.replies.items l.client × (l.yielded ++ into_iter_items l.act-iterator ≡ l.fn.job.acts.items)
