@@ -1,5 +1,5 @@
 -- How many terms a preference is put together of: what a walk over it goes down.
-use Rattle.std.proofs.Common.{ℕ, suc, ◌+◌}
+use Rattle.std.proofs.Common.{ℕ, ◌+◌}
 use Rattle.pref_term.specs.Preference.{Preference, scored, pareto, prior, reverse}
 
 abbrev pub size : Preference → ℕ

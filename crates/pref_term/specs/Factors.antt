@@ -1,22 +1,26 @@
 -- No public contract cites this.
 -- Pareto products of base terms alone, as lists of their factors. (this project)
-use Rattle.std.specs.Prelude.{◌≡◌, ℤ, List, [], ◌∷◌, ◌++◌, All}
+use Rattle.std.specs.Prelude.{◌≡◌, ℤ, Bool, List, [], ◌∷◌, ◌++◌, All}
 use Rattle.pref_term.specs.Columns.{ReadsBelow}
 use Rattle.pref_term.specs.Preference.{Preference, scored, low, high, around, reverse}
-use Rattle.pref_term.specs.Walk.{in_product, walked}
+use Rattle.pref_term.specs.Walk.{by_sides, in_product, walked}
 use Rattle.pref_term.specs.declared.factor.Factor.{Factor}
-use Rattle.pref_term.specs.declared.factor.Factor.TheVariants.{Low, High, Around, AwayFrom}
+use Rattle.pref_term.specs.declared.factor.Factor.TheVariants.{Low, High, Distance}
 use Rattle.pref_term.specs.declared.factor.Sense.{Sense}
 use Rattle.pref_term.specs.declared.factor.Sense.TheVariants.{Direct, Reversed}
 use Rattle.pref_term.specs.declared.relation.Relation.{Relation}
 use Rattle.pref_term.specs.declared.relation.Relation.TheVariants.{Same}
 
+-- a preference in this sense
+abbrev pub in_sense : Sense → Preference → Preference
+in_sense Direct p = p
+in_sense Reversed p = reverse p
+
 -- what a factor prefers
 abbrev pub preference_of_factor : Factor → Preference
 preference_of_factor (Low col) = scored (low col)
 preference_of_factor (High col) = scored (high col)
-preference_of_factor (Around col centre) = scored (around col centre)
-preference_of_factor (AwayFrom col centre) = reverse (scored (around col centre))
+preference_of_factor (Distance col centre sense) = in_sense sense (scored (around col centre))
 
 -- each factor's column is within a row
 abbrev pub AreInRow : List Factor → Type 0
@@ -38,7 +42,7 @@ pub record EndsInFactorsOf (p : Preference) (shorter longer : List Factor) : Typ
   pub appended : longer ≡ shorter ++ more
   pub are_factors : AreFactorsOf p more
 
--- a preference in this sense
-abbrev pub in_sense : Sense → Preference → Preference
-in_sense Direct p = p
-in_sense Reversed p = reverse p
+-- the relation by whether the first row is better and whether the second is, in this sense
+abbrev pub sides_in_sense : Sense → Bool → Bool → Relation
+sides_in_sense Direct better worse = by_sides better worse
+sides_in_sense Reversed better worse = by_sides worse better

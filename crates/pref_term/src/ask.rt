@@ -111,8 +111,9 @@ impl Ask {
         }
     }
 
-    /// Compares two rows by the term alone.
-    #[inline(always)]
+    /// Compares two rows by the term alone. A call of its own, so that the test of their groups before it is small and stands
+    /// where rows are compared.
+    #[inline(never)]
     fn compare_in_group(&self, a: &Row, b: &Row) -> Relation
         ensures better { is_better result ≡ better self.now.preference a.now b.now }
         ensures worse { is_worse result ≡ better self.now.preference b.now a.now }
@@ -146,6 +147,7 @@ impl Eq for Ask {
 }
 
 /// Whether two rows have equal cells in each of these columns. Takes no memory.
+#[inline(always)]
 pub fn in_same_group(columns: &[usize], a: &Row, b: &Row) -> bool
     requires { All (λ col. col < 16) columns.now }
     ensures { result ≡ in_same_group columns.now a.now b.now }
@@ -167,6 +169,7 @@ impl Dominance for Ask {
 
     ghost strict = { order_of_is_strict };
 
+    #[inline(always)]
     fn over(&self, a: &Row, b: &Row) -> bool {
         self.compare(a, b).is_better()
     }
@@ -175,6 +178,7 @@ impl Dominance for Ask {
     ///
     /// A product of base terms without a set is compared in one loop over its factors, up to the first after which neither row
     /// can be better; any other term in one walk. Takes no memory.
+    #[inline(always)]
     fn compare(&self, a: &Row, b: &Row) -> Relation
         ensures better { is_better result ≡ over self.now a.now b.now }
         ensures worse { is_worse result ≡ over self.now b.now a.now }

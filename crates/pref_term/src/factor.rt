@@ -2,7 +2,7 @@
 ghost use Rattle.std.specs.Prelude.{◌≡◌, ◌-ℤ◌, ℤ, List, [], ◌∷◌, IfOk, pos, unsigned_abs};
 ghost use Rattle.std.specs.Option.{IfSome};
 ghost use Rattle.pref_term.specs.Columns.{ReadsBelow};
-ghost use Rattle.pref_term.specs.Factors.{AreFactorsOf, AreInRow, EndsInFactorsOf, by_factors, in_sense, preference_of_factor};
+ghost use Rattle.pref_term.specs.Factors.{AreFactorsOf, AreInRow, EndsInFactorsOf, by_factors, in_sense, preference_of_factor, sides_in_sense};
 ghost use Rattle.pref_term.specs.Preference.{Preference, preference_of};
 ghost use Rattle.pref_term.specs.Walk.{by_scores, by_sides, walked};
 
@@ -15,18 +15,24 @@ use std::alloc::{AllocError, Global};
 #[derive(Clone, Copy)]
 pub(crate) enum Factor {
     /// Smaller values are better.
-    Low { col: usize },
+    Low {
+        col: usize,
+    },
     /// Larger values are better.
-    High { col: usize },
-    /// Values nearer to the centre are better.
-    Around { col: usize, centre: i64 },
-    /// Values farther from the centre are better.
-    AwayFrom { col: usize, centre: i64 },
+    High {
+        col: usize,
+    },
+    /// Values nearer to the centre are better, or in the other sense those farther from it.
+    Distance {
+        col: usize,
+        centre: i64,
+        sense: Sense,
+    },
 }
 
 /// The sense of a part of a term: as it is written, or its converse.
 #[derive(Clone, Copy)]
-enum Sense {
+pub(crate) enum Sense {
     Direct,
     Reversed,
 }
@@ -41,6 +47,17 @@ impl Sense {
             Sense::Reversed => Sense::Direct,
         }
     }
+
+    /// Whether the first row is better and whether the second is, in this sense.
+    #[inline(always)]
+    fn turned(self, better: bool, worse: bool) -> (bool, bool)
+        ensures { by_sides result.0 result.1 ≡ sides_in_sense self better worse }
+    {
+        match self {
+            Sense::Direct => (better, worse),
+            Sense::Reversed => (worse, better),
+        }
+    }
 }
 
 impl Factor {
@@ -52,8 +69,11 @@ impl Factor {
         match self {
             Factor::Low { col } => Factor::High { col },
             Factor::High { col } => Factor::Low { col },
-            Factor::Around { col, centre } => Factor::AwayFrom { col, centre },
-            Factor::AwayFrom { col, centre } => Factor::Around { col, centre },
+            Factor::Distance { col, centre, sense } => Factor::Distance {
+                col,
+                centre,
+                sense: sense.opposite(),
+            },
         }
     }
 
@@ -87,8 +107,10 @@ impl Factor {
         match self {
             Factor::Low { col } => sides_by_value(a.cell(col), b.cell(col)),
             Factor::High { col } => sides_by_value(b.cell(col), a.cell(col)),
-            Factor::Around { col, centre } => sides_by_distance(a.cell(col), b.cell(col), centre),
-            Factor::AwayFrom { col, centre } => sides_by_distance(b.cell(col), a.cell(col), centre),
+            Factor::Distance { col, centre, sense } => {
+                let (nearer, farther) = sides_by_distance(a.cell(col), b.cell(col), centre);
+                sense.turned(nearer, farther)
+            }
         }
     }
 }
@@ -135,9 +157,10 @@ fn with_factors(
         Term::High { col } => with_factor(factors, Factor::High { col: *col }, sense),
         Term::Around { col, centre } => with_factor(
             factors,
-            Factor::Around {
+            Factor::Distance {
                 col: *col,
                 centre: *centre,
+                sense: Sense::Direct,
             },
             sense,
         ),

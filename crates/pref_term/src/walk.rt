@@ -8,7 +8,7 @@ ghost use Rattle.pref_term.specs.Order.{is_better, is_same, is_worse};
 ghost use Rattle.pref_term.specs.Preference.{preference_of};
 ghost use Rattle.pref_term.specs.Walk.{by_scores, in_priority, in_product, walked};
 
-use crate::factor::Factor;
+use crate::factor::{Factor, Sense};
 use crate::relation::Relation;
 use crate::term::{Numbers, Term};
 use pref_table::Row;
@@ -52,9 +52,10 @@ fn walk(term: &Term, a: &Row, b: &Row) -> Relation
     match term {
         Term::Low { col } => Factor::Low { col: *col }.compare(a, b),
         Term::High { col } => Factor::High { col: *col }.compare(a, b),
-        Term::Around { col, centre } => Factor::Around {
+        Term::Around { col, centre } => Factor::Distance {
             col: *col,
             centre: *centre,
+            sense: Sense::Direct,
         }
         .compare(a, b),
         Term::Pos { col, set } => by_member(a.cell(*col), b.cell(*col), set),
