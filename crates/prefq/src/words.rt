@@ -1,7 +1,6 @@
 //! The words of a command line.
 ghost use Rattle.std.specs.Prelude.{◌≡◌, ◌≤◌, ℕ, IfSome, option_map};
-ghost use Rattle.std.specs.Str.{all_ascii_digits};
-ghost use Rattle.pref_table.specs.Number.{after_blanks, is_blank, is_numeral};
+ghost use Rattle.pref_table.specs.Number.{after_blanks, is_blank};
 ghost use Rattle.prefq.specs.Words.{alone as alone_of, after_word, said, said_by, said_in, verb_of, word_number, word_of};
 
 /// What a command asks for.
@@ -62,33 +61,24 @@ fn cut_word(text: &[u8]) -> (&[u8], &[u8])
     (text, skip_blanks(&text[text.len()..]))
 }
 
-fn all_digits(word: &[u8]) -> bool
-    ensures { result ≡ all_ascii_digits word.now }
-{
-    word.iter().all(|byte| byte.is_ascii_digit())
-}
-
-fn is_digits(word: &[u8]) -> bool
-    ensures { result ≡ is_numeral word.now }
-{
-    !word.is_empty() && all_digits(word)
-}
-
 /// The number of a word of digits, where it is small enough.
 fn number_word(most: u64, word: &[u8]) -> Option<u64>
     ensures value { result ≡ word_number most word.now }
     ensures small { IfSome result (λ number. number ≤ most) }
 {
-    if !is_digits(word) {
+    if word.is_empty() {
         return None;
     }
-    let Ok(text) = str::from_utf8(word) else {
-        return None;
-    };
-    match text.parse::<u64>() {
-        Ok(number) if number <= most => Some(number),
-        _ => None,
+    let mut number: u64 = 0;
+    for digit in word {
+        if !digit.is_ascii_digit() {
+            return None;
+        }
+        number = number
+            .checked_mul(10)?
+            .checked_add(u64::from(*digit - b'0'))?;
     }
+    if number <= most { Some(number) } else { None }
 }
 
 /// What a word asks for.
