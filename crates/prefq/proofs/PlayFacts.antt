@@ -63,15 +63,15 @@ playing_more : (width : ℕ) (first now after : Running) (all commands rest : Li
 playing_more width first now after all commands rest text new playing plays = record {
   limits = plays.limits ∙ playing.limits;
   from = λ system h.
-    let so_far = playing.from system h in
-    let one = plays.plays so_far.next so_far.stands in
-    let same : told_from first.limits width so_far.next (commands ++ rest) ≡ one.said ++ told_from first.limits width one.next rest
-        = subst (λ (l : Limits). told_from l width so_far.next (commands ++ rest) ≡ one.said ++ told_from l width one.next rest) playing.limits (one.passes.goes_on rest) in
-    record {
-      next = one.next;
-      stands = one.stands;
-      whole = rw one.added (append_assoc text one.said (told_from first.limits width one.next rest) ∙ ap (λ (t : List ℕ). text ++ t) (sym same) ∙ so_far.whole);
-    };
+      let so_far = playing.from system h in
+      let one = plays.plays so_far.next so_far.stands in
+      let same : told_from first.limits width so_far.next (commands ++ rest) ≡ one.said ++ told_from first.limits width one.next rest
+      = subst (λ (l : Limits). told_from l width so_far.next (commands ++ rest) ≡ one.said ++ told_from l width one.next rest) playing.limits (one.passes.goes_on rest) in
+      record {
+        next = one.next;
+        stands = one.stands;
+        whole = rw one.added (append_assoc text one.said (told_from first.limits width one.next rest) ∙ ap (λ (t : List ℕ). text ++ t) (sym same) ∙ so_far.whole);
+      };
 }
 
 -- a line more
