@@ -1,12 +1,12 @@
 -- What a client's numbered calls do. (this project)
-use Rattle.std.specs.Prelude.{◌≡◌, ℕ, suc, ◌<◌, List, [], ◌∷◌, ◌++◌, Option, Some, None, is_some}
+use Rattle.std.specs.Prelude.{◌≡◌, ℕ, suc, ◌<◌, Bool, true, false, List, [], ◌∷◌, ◌++◌, Option, Some, None, is_some}
 use mathlib.Core.List.{IsPrefix}
 use Rattle.pref_term.specs.Question.{Question}
 use Rattle.pref_sky.specs.declared.entry.Ranked.{Ranked}
 use Rattle.pref_sky.specs.Answers.{answer_of}
 use Rattle.pref_core.specs.declared.call.Op.{Op}
 use Rattle.pref_core.specs.declared.call.Call.{Call}
-use Rattle.pref_core.specs.declared.call.Call.TheVariants.{Begin, Finish}
+use Rattle.pref_core.specs.declared.call.Call.TheVariants.{Insert, Begin, Finish}
 use Rattle.pref_core.specs.declared.call.Outcome.{Outcome}
 use Rattle.pref_core.specs.declared.call.Outcome.TheVariants.{Done, NoSuchRow, Full}
 use Rattle.pref_core.specs.declared.fault.CoreFault.{CoreFault}
@@ -58,9 +58,15 @@ pub record IsInUse (o : Opening) (old : Standing) (number : ℕ) (new : Standing
   pub holds : HasCall new.seen old.number number
   pub above : old.counter < number
 
+-- whether a call asks for memory: for a new row's place in the index, or for an answer
+abbrev pub asks_for_memory : Call → Bool
+asks_for_memory (Insert row) = true
+asks_for_memory Finish = true
+asks_for_memory call = false
+
 -- what a refusal of a numbered call tells, where its outcome is no refusal of a change
 abbrev pub Refused : Opening → Standing → Call → CoreFault → Standing → Type 0
-Refused o old call OutOfMemory new = (own_refusal old call ≡ None) × (new ≡ old)
+Refused o old call OutOfMemory new = (asks_for_memory call ≡ true) × (own_refusal old call ≡ None) × (new ≡ old)
 Refused o old call fault new = (own_refusal old call ≡ Some fault) × (new ≡ old)
 
 -- what a refusal of a change tells: a row that is missing, or a full table, is an outcome of a call that joined

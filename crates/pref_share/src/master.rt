@@ -1,10 +1,10 @@
 //! What lies under the lock of a board: the master store, the whole history, and the writer that publishes it.
 
-ghost use Rattle.std.specs.Prelude.{◌≡◌, ◌++◌, ◌∷◌, ◌<◌, ◌⊎◌, [], drop, fold, true, Some, IfOk, IfErr};
+ghost use Rattle.std.specs.Prelude.{◌≡◌, ◌++◌, ◌∷◌, ◌<◌, ◌⊎◌, [], drop, fold, nat_lt, true, Some, IfOk, IfErr};
 ghost use Rattle.std.specs.Option.{unwrap_or};
 ghost use mathlib.Core.List.{IsPrefix};
 ghost use Rattle.left_right.specs.Sides.{view};
-ghost use Rattle.pref_core.specs.State.{refusal, is_change};
+ghost use Rattle.pref_core.specs.State.{added, refusal};
 ghost use Rattle.pref_share.specs.Openings.{IsLegal, MayFollow, first_contents, contents_at, state_at, calls_at};
 ghost use Rattle.pref_share.specs.Views.{stamped, StandsFor, Knows};
 
@@ -203,7 +203,7 @@ impl<J: Naming> Master<J> {
     ) -> Result<Op, CoreFault>
         ensures planned { IfOk result (λ op. (op.client ≡ client) × (op.call ≡ call.now) × MayFollow J.opening self.old op) }
         ensures joined { IfOk result (λ op. self.new ≡ self.old ++ op ∷ []) }
-        ensures refused { IfErr result (λ fault. (refusal (state_at J.opening self.old) client call.now ≡ Some fault) ⊎ (is_change call.now ≡ true)) }
+        ensures refused { IfErr result (λ fault. (refusal (state_at J.opening self.old) client call.now ≡ Some fault) ⊎ (nat_lt 0 (added call.now) ≡ true)) }
         ensures same { IfErr result (λ fault. self.new ≡ self.old) }
     {
         let op = self.store.plan_at(&self.index, client, *call)?;

@@ -1,8 +1,8 @@
 //! The numbered calls of a client: each joins the history under the lock of the board, and is published once.
 
-ghost use Rattle.std.specs.Prelude.{◌≡◌, ℕ, suc, true, None, IfOk, IfErr, OnOk, OnErr, MatchResult};
+ghost use Rattle.std.specs.Prelude.{◌≡◌, ℕ, suc, nat_lt, true, None, IfOk, IfErr, OnOk, OnErr, MatchResult};
 ghost use Rattle.pref_core.specs.declared.call.Outcome.TheVariants.{Added, Done};
-ghost use Rattle.pref_core.specs.State.{is_change, granted};
+ghost use Rattle.pref_core.specs.State.{added, is_change, granted};
 ghost use Rattle.pref_core.specs.Stability.{is_end};
 ghost use Rattle.pref_share.specs.declared.fault.ShareFault.TheVariants.{ClientInUse};
 ghost use Rattle.pref_share.specs.Clients.{own_refusal, Changes, Joins, Begins, Finishes, IsAnswer, Refused, Refuses, RefusesChange, RefusesBegin, RefusesFinish, IsInUse};
@@ -53,7 +53,7 @@ impl<J: Naming> Client<J> {
 
     /// Puts another row in place of the one of this id, in one commit. Waits for the board.
     ///
-    /// Refused `Spent`, `NoSuchRow` or `Full` (which are numbered), or `OutOfMemory`; and `ClientInUse`.
+    /// Refused `Spent`, or `NoSuchRow` or `Full` (which are numbered); and `ClientInUse`.
     pub fn update<R: Wait>(
         &mut self,
         rt: &R,
@@ -246,7 +246,7 @@ impl<J: Naming> Client<J> {
     }
 
     /// A call joins the history. The inner `Err` is all of the history, which holds a call of this client that it has not made;
-    /// the outer is want of memory, which comes for a change alone.
+    /// the outer is want of memory, which comes for an insert alone.
     fn join<R: Wait>(
         &self,
         rt: &R,
@@ -257,7 +257,7 @@ impl<J: Naming> Client<J> {
         requires { own_refusal self.now call.now ≡ None }
         ensures joined { IfOk result (λ told. IfOk told (λ joined. IsJoined J.opening self.now call.now joined.outcome joined.seen joined.stamp)) }
         ensures ahead { IfOk result (λ told. IfErr told (λ whole. IsAhead J.opening self.now whole)) }
-        ensures memory { OnErr result (is_change call.now ≡ true) }
+        ensures memory { OnErr result (nat_lt 0 (added call.now) ≡ true) }
     {
         let mut guard = board.master.lock(rt);
         let master = &mut *guard;

@@ -1,8 +1,8 @@
-use Rattle.std.proofs.Common.{rules, Result, Err, Some, true, IfErr, ◌⊎◌, inl, ◌≡◌, ◌++◌, ◌∷◌, List, [], length, drop, fold, sym, subst, ◌∙◌, ap, refl}
+use Rattle.std.proofs.Common.{rules, nat_lt, Result, Err, Some, true, IfErr, ◌⊎◌, inl, ◌≡◌, ◌++◌, ◌∷◌, List, [], length, drop, fold, sym, subst, ◌∙◌, ap, refl}
 use Rattle.core.specs.Mem.{manually_drop_value}
 use Rattle.pref_core.specs.declared.call.Op.{Op}
 use Rattle.pref_core.specs.declared.fault.CoreFault.{CoreFault}
-use Rattle.pref_core.specs.State.{refusal, is_change}
+use Rattle.pref_core.specs.State.{added, refusal}
 use Rattle.pref_core.specs.Operations.{applied}
 use Rattle.pref_core.specs.Slots.{Contents}
 use Rattle.pref_share.specs.Openings.{MayFollow, first_contents, contents_at, state_at}
@@ -17,8 +17,8 @@ pub returns-in_err-op-clause-refused : goal.returns-in_err-op-clause-refused
 returns-in_err-op-clause-refused g c =
     let o = g.J.Naming.opening in
     let is : c.from_residual.result ≡ Err c.in_err-op.field-0.0 = search rules in
-    subst (λ (r : Result Op CoreFault). IfErr r (λ (fault : CoreFault). (refusal (state_at o c.args.self.now) c.args.client c.args.call.now ≡ Some fault) ⊎ (is_change c.args.call.now ≡ true))) (sym is)
-    (subst (λ (l : List Op). (refusal (state_at o l) c.args.client c.args.call.now ≡ Some c.in_err-op.field-0.0) ⊎ (is_change c.args.call.now ≡ true)) c.self.view_is
+    subst (λ (r : Result Op CoreFault). IfErr r (λ (fault : CoreFault). (refusal (state_at o c.args.self.now) c.args.client c.args.call.now ≡ Some fault) ⊎ (nat_lt 0 (added c.args.call.now) ≡ true))) (sym is)
+    (subst (λ (l : List Op). (refusal (state_at o l) c.args.client c.args.call.now ≡ Some c.in_err-op.field-0.0) ⊎ (nat_lt 0 (added c.args.call.now) ≡ true)) c.self.view_is
     (inl (unplanned o c.self.inside.history c.self.inside.store c.args.client c.args.call.now c.in_err-op.field-0.0 c.self.invariant.0 c.self.invariant.1 c.in_err-op.ensures.state)))
 
 pub add-requires : goal.add-requires
