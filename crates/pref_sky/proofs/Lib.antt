@@ -16,3 +16,4 @@ pub mod EarlyDrop
 pub mod Selections
 pub mod LevelLaws
 pub mod Worked
+pub mod Sifting

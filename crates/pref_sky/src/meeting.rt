@@ -1,5 +1,6 @@
 //! An entry before a list, and coming entries before a held level: one comparison a pair.
 
+ghost use Rattle.std.specs.List.Sorted.{IsPermutation};
 ghost use Rattle.std.specs.Prelude.{◌≡◌, ◌&&◌, filter, IfOk};
 ghost use Rattle.pref_sky.specs.Best.{is_beaten};
 ghost use Rattle.pref_sky.specs.Levels.{entry_order};
@@ -19,8 +20,8 @@ pub(crate) fn is_beaten<D: Dominance>(dominance: &D, entries: &[Entry], entry: &
 /// How an entry stands to a list.
 #[derive(Clone, Copy, Debug, PartialEq, Eq)]
 pub(crate) enum Meeting {
-    /// Something of the list is over it.
-    Beaten,
+    /// Something of the list is over it: the entry at this place.
+    Beaten { place: usize },
     /// Nothing is, and it is over something.
     Above,
     /// Neither.
@@ -32,9 +33,9 @@ pub(crate) fn meet<D: Dominance>(dominance: &D, entries: &[Entry], entry: &Entry
     ensures { Meets (entry_order (D.order dominance.now)) entries.now entry.now result }
 {
     let mut above = false;
-    for other in entries {
+    for (place, other) in entries.iter().enumerate() {
         match compare(dominance, other, entry) {
-            Relation::Better => return Meeting::Beaten,
+            Relation::Better => return Meeting::Beaten { place },
             Relation::Worse => above = true,
             Relation::Same | Relation::Neither => {}
         }
@@ -71,6 +72,18 @@ impl Losers {
     }
 }
 
+/// The same, and the entry that beat it goes half way to the front, since it may beat the next one too.
+fn meet_and_move<D: Dominance>(dominance: &D, entries: &mut Vec<Entry>, entry: &Entry) -> Meeting
+    ensures meets { Meets (entry_order (D.order dominance.now)) entries.old.items entry.now result }
+    ensures permutation { IsPermutation entries.old.items entries.new.items }
+{
+    let meeting = meet(dominance, entries, entry);
+    if let Meeting::Beaten { place } = meeting {
+        entries.swap(place / 2, place);
+    }
+    meeting
+}
+
 /// Coming entries, sifted by a held level.
 #[derive(Drop)]
 pub(crate) struct Sifted {
@@ -82,7 +95,29 @@ pub(crate) struct Sifted {
     pub(crate) turned_away: Vec<Entry>,
 }
 
-/// Sifts coming entries by a held level: at most one comparison for each pair of them.
+impl Sifted {
+    ghost use Rattle.std.specs.Prelude.{OnOk};
+    ghost use Rattle.pref_sky.specs.Meetings.{Puts};
+
+    /// Puts an entry where what it met sends it.
+    fn put(&mut self, entry: &Entry, meeting: Meeting, losers: Losers) -> Result<(), AllocError>
+        ensures { OnOk result (Puts self.old self.new entry.now meeting losers) }
+    {
+        match (meeting, losers) {
+            (Meeting::Beaten { .. }, Losers::Kept) => self.turned_away.push(*entry)?,
+            (Meeting::Beaten { .. }, Losers::Dropped) => {}
+            (Meeting::Above, _) => {
+                self.let_in.push(*entry)?;
+                self.displacing.push(*entry)?;
+            }
+            (Meeting::Apart, _) => self.let_in.push(*entry)?,
+        }
+        Ok(())
+    }
+}
+
+/// Sifts coming entries by a held level: at most one comparison for each pair of them. Those that beat often come to be compared
+/// early, in a copy of the level.
 pub(crate) fn sift<D: Dominance>(
     alloc: Global,
     dominance: &D,
@@ -94,23 +129,15 @@ pub(crate) fn sift<D: Dominance>(
     ensures displacing { IfOk result (λ s. s.displacing.items ≡ displacing (entry_order (D.order dominance.now)) held.now coming.now) }
     ensures turned_away { IfOk result (λ s. s.turned_away.items ≡ filter (λ e. is_kept losers && is_beaten (entry_order (D.order dominance.now)) held.now e) coming.now) }
 {
+    let mut order = Vec::from_slice(alloc, held)?;
     let mut sifted = Sifted {
         let_in: Vec::with_capacity(alloc, coming.len())?,
         displacing: Vec::new(alloc),
         turned_away: Vec::new(alloc),
     };
     for entry in coming {
-        match meet(dominance, held, entry) {
-            Meeting::Beaten => match losers {
-                Losers::Kept => sifted.turned_away.push(*entry)?,
-                Losers::Dropped => {}
-            },
-            Meeting::Above => {
-                sifted.let_in.push(*entry)?;
-                sifted.displacing.push(*entry)?;
-            }
-            Meeting::Apart => sifted.let_in.push(*entry)?,
-        }
+        let meeting = meet_and_move(dominance, &mut order, entry);
+        sifted.put(entry, meeting, losers)?;
     }
     Ok(sifted)
 }

@@ -96,24 +96,6 @@ pub(crate) fn merge_level<D: Dominance>(
     Ok(Merged { level: held, down })
 }
 
-/// The entries that no held one is over.
-fn unbeaten<D: Dominance>(
-    alloc: Global,
-    dominance: &D,
-    held: &[Entry],
-    entries: &[Entry],
-) -> Result<Vec<Entry>, AllocError>
-    ensures { IfOk result (λ kept. kept.items ≡ let_in (entry_order (D.order dominance.now)) held.now entries.now) }
-{
-    let mut kept = Vec::with_capacity(alloc, entries.len())?;
-    for entry in entries {
-        if !is_beaten(dominance, held, entry) {
-            kept.push(*entry)?;
-        }
-    }
-    Ok(kept)
-}
-
 /// The entries that are held at a level.
 fn held_on(alloc: Global, ranked: &[Ranked], level: u32) -> Result<Vec<Entry>, AllocError>
     ensures { IfOk result (λ held. held.items ≡ held_on level ranked.now) }
@@ -146,7 +128,8 @@ pub(crate) fn first_coming<D: Dominance>(
         return Vec::from_slice(alloc, entries);
     }
     let last = held_on(alloc, ranked, cut)?;
-    unbeaten(alloc, dominance, &last, entries)
+    let sifted = sift(alloc, dominance, &last, entries, Losers::Dropped)?;
+    Ok(sifted.let_in)
 }
 
 /// How many entries from the front on are of a level.

@@ -131,7 +131,7 @@ impl Window {
         ensures size { self.new.size ≡ self.old.size }
     {
         let above = match meet(dominance, &self.entries, &entry) {
-            Meeting::Beaten => return Offer::Dropped,
+            Meeting::Beaten { .. } => return Offer::Dropped,
             Meeting::Above => true,
             Meeting::Apart => false,
         };

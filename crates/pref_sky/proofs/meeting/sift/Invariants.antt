@@ -1,4 +1,5 @@
 use Rattle.std.proofs.Common.{◌≡◌, ◌&&◌, filter, take}
+use Rattle.std.specs.List.Sorted.{IsPermutation}
 use Rattle.pref_sky.specs.Best.{is_beaten}
 use Rattle.pref_sky.specs.Levels.{entry_order}
 use Rattle.pref_sky.specs.Meetings.{let_in, displacing, is_kept}
@@ -9,6 +10,7 @@ invariant-loop-entry g l =
     let over = entry_order (g.D.Dominance.order l.dominance) in
     let seen = take l.entry-index l.coming in
     record {
+      order : IsPermutation l.held l.order.items;
       inside : l.sifted.let_in.items ≡ let_in over l.held seen;
       above : l.sifted.displacing.items ≡ displacing over l.held seen;
       away : l.sifted.turned_away.items ≡ filter (λ e. is_kept l.losers && is_beaten over l.held e) seen;
