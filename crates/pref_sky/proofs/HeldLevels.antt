@@ -25,10 +25,6 @@ same_beaten over xs ys same e = same_answer (is_beaten over xs e) (is_beaten ove
 unbeaten : (over : Entry → Entry → Bool) (xs : List Entry) (y e : Entry) → is_beaten over xs e ≡ false → Among y xs → over y e ≡ false
 unbeaten over xs y e none m = false_from_ne_true (over y e) (λ above. both_ways (is_beaten over xs e) none (any_from (λ x. over x e) xs y m above))
 
--- nothing held is over a held entry
-apart_unbeaten : (over : Entry → Entry → Bool) (held : List Entry) → IsApart over held → (e : Entry) → Among e held → is_beaten over held e ≡ false
-apart_unbeaten over held apart e m = false_from_ne_true (is_beaten over held e) (λ h. let w = any_gives (λ x. over x e) held h in both_ways (over w.0 e) (apart w.0 e w.1 m) w.2)
-
 -- what is over a held entry, no held entry is over
 over_held : (over : Entry → Entry → Bool) → IsStrictOrder over → (held : List Entry) → IsApart over held → (c e : Entry) → Among e held → over c e ≡ true → is_beaten over held c ≡ false
 over_held over strict held apart c e m above =

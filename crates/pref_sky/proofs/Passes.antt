@@ -9,7 +9,7 @@ use Rattle.pref_sky.specs.Best.{is_beaten}
 use Rattle.pref_sky.specs.declared.window.Offer.{Offer}
 use Rattle.pref_sky.specs.declared.window.Offer.TheVariants.{Dropped, Joined, Overflow}
 use Rattle.pref_sky.specs.Windows.{Held, Offers, joined, not_below}
-use Rattle.pref_sky.specs.Passes.{IsBestOf, InPlay, Passing, IsApart}
+use Rattle.pref_sky.specs.Passes.{IsBestOf, InPlay, Passing}
 use Rattle.pref_sky.specs.Passes.InPlay.{is_early, is_late, is_overflow, is_left}
 use Rattle.pref_sky.proofs.Members.{Among, any_from, any_gives, in_filter, from_filter, in_left, in_right, in_either}
 use Rattle.pref_sky.proofs.Merges.{count_filter}
@@ -31,20 +31,6 @@ best_was over strict P Q within covered e b =
         | inl q ↦ b.unbeaten y q
         | inr w ↦ false_from_ne_true (over y e) (λ above. both_ways (over w.0 e) (b.unbeaten w.0 w.1) (strict.transitive w.0 y e w.2 above))
       ];
-    }
-
-pub pass_begins : (over : Entry → Entry → Bool) (start input : List Entry) → IsApart over start → Passing over start input start [] [] input false
-pass_begins over start input apart =
-    record {
-      stays = λ e b. b;
-      was = λ e b. b;
-      apart = λ x y mx my. elim mx [ inl ex ↦ elim my [ inl ey ↦ apart x y ex ey | inr none ↦ absurd none ] | inr none ↦ absurd none ];
-      settled = λ x z mx mz. absurd mz;
-      counts = λ p. omega arith;
-      lengths = omega arith;
-      fresh = λ h. (refl, refl);
-      spilled = λ h. absurd (false≢true h);
-      falls = λ h. absurd (false≢true h);
     }
 
 -- an entry that something in the window is over is dropped

@@ -1,5 +1,5 @@
 -- The selection for at least k, level by level: the entries on the levels before one's own stand before it in the list.
-use Rattle.std.proofs.Common.{◌≡◌, ℕ, zero, suc, ◌≤◌, ◌<◌, ◌+◌, ◌-◌, Bool, true, false, cond, ◌&&◌, inl, inr, List, [], ◌++◌, map, length, take, drop, filter, ltb, refl, sym, ◌∙◌, ap, subst, arith, append-nil, append_assoc, length-append}
+use Rattle.std.proofs.Common.{◌≡◌, ℕ, zero, suc, ◌≤◌, ◌<◌, ◌+◌, ◌-◌, Bool, true, false, cond, ◌&&◌, inl, inr, List, [], ◌++◌, map, length, take, drop, filter, ltb, refl, sym, ◌∙◌, ap, subst, arith, append_assoc, length-append}
 use Rattle.std.specs.List.{count_by}
 use Rattle.std.proofs.lemmas.Bool.{le-ltb, lt-ltb}
 use Rattle.std.proofs.lemmas.List.{take-append-drop, length-take-le}
@@ -10,7 +10,7 @@ use Rattle.pref_sky.specs.declared.entry.Entry.{Entry}
 use Rattle.pref_sky.specs.declared.entry.Ranked.{Ranked}
 use Rattle.pref_sky.specs.Best.{best, rest}
 use Rattle.pref_sky.specs.Levels.{in_order_of_id, at_level, levels}
-use Rattle.pref_sky.specs.Answers.{at_least, count_before}
+use Rattle.pref_sky.specs.Answers.{count_before}
 use Rattle.pref_sky.specs.Meetings.{length_of_level}
 use Rattle.pref_sky.proofs.Members.{Among, in_either, from_map}
 use Rattle.pref_sky.proofs.Splits.{cut_at}
@@ -88,11 +88,3 @@ selecting_more over all same k n ranked place count kept more level within long 
       back = cut.1 ∙ cuts.1;
       chosen = more_is ∙ (ap (λ l. l ++ filter few_before level) s.chosen ∙ (ap (λ l. filter few front ++ l) agree ∙ (sym (filter-append few front level) ∙ ap (filter few) (sym cut.0))));
     }
-
--- when all levels are selected, all of the list is
-pub all_selected : (over : Entry → Entry → Bool) (all : List Entry) (same : Row → Row → Bool) (k n : ℕ) (ranked : List Ranked) (place : ℕ) (kept : List Ranked) → n ≡ k → Selecting over all same k n ranked place kept → kept ≡ at_least same k ranked
-all_selected over all same k n ranked place kept ended s =
-    let steps : k - n ≡ 0 = omega (arith, ended) in
-    let nothing : drop place ranked ≡ [] = s.back ∙ ap (levels_behind over all n) steps in
-    let whole : take place ranked ≡ ranked = sym (append-nil (take place ranked)) ∙ (ap (λ l. take place ranked ++ l) (sym nothing) ∙ take-append-drop place ranked) in
-    s.chosen ∙ ap (filter (λ r. ltb (count_before same ranked r) k)) whole

@@ -1,5 +1,5 @@
 -- From pass to pass: what is told is best, and nothing best is lost.
-use Rattle.std.proofs.Common.{◌≡◌, ◌<◌, ◌+◌, Bool, cond, not, ◌⊎◌, inl, inr, List, [], ◌∷◌, ◌++◌, length, refl, ap, subst, arith, ◌==◌}
+use Rattle.std.proofs.Common.{◌≡◌, Bool, cond, not, ◌⊎◌, inl, inr, List, [], ◌∷◌, ◌++◌, length, refl, subst, arith, ◌==◌}
 use Rattle.std.proofs.lemmas.Bool.{not-true, not_from_false, false_from_ne_true, cases_Bool, both_ways}
 use Rattle.std.proofs.lemmas.List.Sums.{sum_by-append}
 use Rattle.pref_sky.specs.declared.entry.Entry.{Entry}
@@ -69,15 +69,6 @@ telling_more over all told window input early late overflow o t s =
       apart = λ x y mx my. s.apart x y (inr mx) (inr my);
       empty = λ none. elim (cases_Bool o) [ inl since ↦ absurd (omega (arith, s.spilled since, none)) | inr first ↦ (s.fresh first).0 ];
     }
-
--- a pass over some input leaves less in play
-pub pass_falls : (over : Entry → Entry → Bool) (window input early late overflow : List Entry) (o : Bool) → Passing over window input early late overflow [] o → 0 < length input → length late + length overflow < length window + length input
-pass_falls over window input early late overflow o s some =
-    let l = s.lengths in
-    elim (cases_Bool o) [
-      | inl since ↦ elim (s.falls since) [ inl told ↦ omega arith | inr less ↦ omega arith ]
-      | inr first ↦ let none = ap length (s.fresh first).0 in let neither = ap length (s.fresh first).1 in omega arith
-    ]
 
 -- at the end the told entries are the best
 pub all_told : (over : Entry → Entry → Bool) (all told window input : List Entry) → Telling over all told window input → length input ≡ 0 → SameMembers told (best over all)

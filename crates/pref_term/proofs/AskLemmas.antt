@@ -1,7 +1,6 @@
 -- What the parts of the reader promise that read what stands around a term, and skyline clauses.
 use Rattle.std.proofs.Common.{◌≡◌, ℕ, List, [], ◌∷◌, ◌++◌, length, map, Bool, true, false, Option, Some, None, Ok, refl, sym, ap, subst, ◌∙◌, append-nil}
-use Rattle.std.specs.Prelude.{All, ◌≢◌, IfSome, cond, unwrap_or}
-use Rattle.std.specs.Option.{option_map}
+use Rattle.std.specs.Prelude.{All, IfSome, cond, unwrap_or}
 use Rattle.std.proofs.lemmas.List.{map-append}
 use Rattle.std.proofs.lemmas.List.Elements.{All-append, All-nil}
 use Rattle.std.proofs.lemmas.List.Sums.{fold-append}
@@ -10,7 +9,7 @@ use Rattle.pref_term.specs.Token.{comma, Token, word, digits, sign, finish, Plac
 use Rattle.pref_term.specs.Grammar.{Keyword, best_word, top_level_word, at_least_word, by_word, keyword_of, skyline_word, of_word, cased_of, Direction, minimal, maximal, different, direction_word, DimText, HeadText, best_head, top_level_head, at_least_head, PriorText, one_product, then_product, rated, name, mark, column_name, count_digits, cased, last}
 use Rattle.pref_term.specs.Spells.{Names, own_fault, column_at, decimal_value, is_count, mode_of, order_by, group_by, orders_of, groups_of, product_of, bad_count}
 use Rattle.pref_term.specs.Reading.{State, start, operand, whole, in_whole, ranked, top_level_named, at_least_named, group_due, skyline_named, dim_due, dim_named, done, listed_column, listed_dim, directed, begun, of_named, grouped_by, next}
-use Rattle.pref_term.specs.Asked.{ordered, meant}
+use Rattle.pref_term.specs.Asked.{meant}
 use Rattle.pref_term.specs.Led.{Goes, Fails, Passes, IsNoWord, IsKnown, IsTermOf, IsColumn, WantsColumn, TakesColumn, FailsColumn, ReadsPrior, FailsPrior, Asks, AsksNothing, IsNoDigits, WantsCount, TakesCount, FailsCount, left_over, ReadsGroupColumn, FailsGroupColumn, ReadsColumns, FailsColumns, ReadsGrouping, FailsGrouping, TakesDirection, FailsDirection, behind_dim, ReadsDim, FailsDim, with_order, ReadsDims, ReadsClause, FailsClause, PassesOf, FailsOf}
 use Rattle.pref_term.specs.Preference.{Preference, scored, low, high, pareto, prior, reverse}
 use Rattle.pref_term.specs.Columns.{ReadsBelow}
@@ -19,9 +18,7 @@ use Rattle.pref_term.specs.Question.{Question, FitsWidth, IsAsk, IsCount, cut_of
 use Rattle.pref_term.specs.declared.ask.Mode.{Mode}
 use Rattle.pref_term.specs.declared.ask.Mode.TheVariants.{Best, TopLevel, AtLeast}
 use Rattle.pref_term.specs.declared.fault.TermFault.{TermFault}
-use Rattle.pref_term.specs.declared.fault.TermFault.TheVariants.{Unexpected, NoMinOrMax}
-use Rattle.pref_term.proofs.Complete.{ranked_whole}
-use Rattle.pref_term.proofs.LedLemmas.{at_place, goes_then, goes_fails, passes_goes, stuck_fails, column_good, unless_map, all_one}
+use Rattle.pref_term.proofs.LedLemmas.{at_place, goes_then, goes_fails, passes_goes, column_good, unless_map, all_one}
 
 -- ---- a column of a group
 
@@ -39,18 +36,6 @@ group_comma : (head : HeadText) (r : PriorText) (some : List (List ℕ)) (letter
 group_comma head r [] letters = refl
 group_comma head r (c ∷ cs) letters = refl
 
-group_finish : (head : HeadText) (r : PriorText) (some : List (List ℕ)) (letters : List ℕ) → next (listed_column head r some letters) finish ≡ Some (last, done (rated head r (some ++ letters ∷ [])))
-group_finish head r [] letters = refl
-group_finish head r (c ∷ cs) letters = refl
-
-group_stuck : (head : HeadText) (r : PriorText) (some : List (List ℕ)) (letters : List ℕ) (u : Token) → u ≢ sign comma → u ≢ finish → next (listed_column head r some letters) u ≡ None
-group_stuck head r [] letters (sign comma) nc nf = absurd (nc refl)
-group_stuck head r [] letters finish nc nf = absurd (nf refl)
-group_stuck head r [] letters _ nc nf = refl
-group_stuck head r (c ∷ cs) letters (sign comma) nc nf = absurd (nc refl)
-group_stuck head r (c ∷ cs) letters finish nc nf = absurd (nf refl)
-group_stuck head r (c ∷ cs) letters _ nc nf = refl
-
 pub group_more : (names : Names) (ts us vs : List Placed) (col : ℕ) → TakesColumn names ts col us → Passes (sign comma) us vs → ReadsGroupColumn names ts col true vs
 group_more names ts us vs col t c =
     record {
@@ -60,22 +45,8 @@ group_more names ts us vs col t c =
           (passes_goes names (sign comma) us vs _ _ (mark comma) c (group_comma head r some t.letters) refl);
     }
 
-pub group_last : (names : Names) (ts us vs : List Placed) (col at : ℕ) → TakesColumn names ts col us → us ≡ at_place finish at ∷ [] → ReadsGroupColumn names ts col false vs
-group_last names ts us vs col at t e =
-    record {
-      letters = t.letters;
-      found = t.found;
-      goes = λ head r some. goes_then names _ (listed_column head r some t.letters) (done (rated head r (some ++ t.letters ∷ []))) ts us [] (column_goes names ts us col _ _ (wants_group head r some) t)
-          (passes_goes names finish us [] (listed_column head r some t.letters) (done (rated head r (some ++ t.letters ∷ []))) last (at, e) (group_finish head r some t.letters) refl);
-    }
-
 pub group_column_fails : (names : Names) (ts : List Placed) (f : TermFault) → FailsColumn names ts f → FailsGroupColumn names ts f
 group_column_fails names ts f h head r some = h (group_due head r some) (λ letters. listed_column head r some letters) (wants_group head r some)
-
-pub group_end_fails : (names : Names) (ts us vs : List Placed) (col : ℕ) (t : Token) (at : ℕ) → TakesColumn names ts col us → us ≡ at_place t at ∷ vs → t ≢ sign comma → t ≢ finish → FailsGroupColumn names ts (Unexpected at)
-group_end_fails names ts us vs col t at k e nc nf head r some =
-    goes_fails names _ _ ts us (Unexpected at) (column_goes names ts us col _ _ (wants_group head r some) k)
-    (stuck_fails names t at vs us _ e (group_stuck head r some k.letters t nc nf))
 
 -- ---- the columns of a group
 
@@ -105,15 +76,6 @@ columns_fail names ts us columns f r l head p = goes_fails names _ _ ts us f (r.
 ranked_by_word : (head : HeadText) (r : PriorText) (letters : List ℕ) → keyword_of letters ≡ Some by_word → next (ranked (whole head) r) (word letters) ≡ Some (name by_word, group_due head r [])
 ranked_by_word head (one_product p) letters e = ap (grouped_by (whole head) (one_product p)) e
 ranked_by_word head (then_product r p) letters e = ap (grouped_by (whole head) (then_product r p)) e
-
-pub grouping_none : (names : Names) (ts : List Placed) (at : ℕ) → ts ≡ at_place finish at ∷ [] → ReadsGrouping names ts []
-grouping_none names ts at e =
-    record {
-      some = [];
-      meaning = refl;
-      known = All-nil (IsKnown names);
-      goes = λ head r p. let g = passes_goes names finish ts [] (ranked (whole head) r) (done (rated head r [])) last (at, e) (ranked_whole head r) refl p in g.1;
-    }
 
 pub grouping_read : (names : Names) (letters : List ℕ) (ts us : List Placed) (columns : List ℕ) → Passes (word letters) ts us → keyword_of letters ≡ Some by_word → ReadsColumns names us columns false [] → ReadsGrouping names ts columns
 grouping_read names letters ts us columns c e r =
@@ -183,14 +145,6 @@ dim_finish : (s o : List ℕ) (some : List DimText) (d : DimText) → next (list
 dim_finish s o [] d = refl
 dim_finish s o (e ∷ es) d = refl
 
-dim_stuck : (s o : List ℕ) (some : List DimText) (d : DimText) (u : Token) → u ≢ sign comma → u ≢ finish → next (listed_dim s o some d) u ≡ None
-dim_stuck s o [] d (sign comma) nc nf = absurd (nc refl)
-dim_stuck s o [] d finish nc nf = absurd (nf refl)
-dim_stuck s o [] d _ nc nf = refl
-dim_stuck s o (e ∷ es) d (sign comma) nc nf = absurd (nc refl)
-dim_stuck s o (e ∷ es) d finish nc nf = absurd (nf refl)
-dim_stuck s o (e ∷ es) d _ nc nf = refl
-
 two_goes : (names : Names) (ts us vs : List Placed) (col : ℕ) (d : Direction) (s o : List ℕ) (some : List DimText) → (t : TakesColumn names ts col us) → (g : TakesDirection us d vs) → Goes names (dim_due s o some) ts (listed_dim s o some (dim_of t.letters d g.letters)) vs
 two_goes names ts us vs col d s o some t g =
     goes_then names _ (dim_named s o some t.letters) _ ts us vs (column_goes names ts us col _ _ (wants_dim s o some) t) (direction_goes names us vs d s o some t.letters g)
@@ -221,11 +175,6 @@ dim_column_fails names ts f h s o some = h (dim_due s o some) (λ letters. dim_n
 pub dim_direction_fails : (names : Names) (ts us : List Placed) (col : ℕ) (f : TermFault) → TakesColumn names ts col us → FailsDirection us f → FailsDim names ts f
 dim_direction_fails names ts us col f t h s o some =
     goes_fails names _ _ ts us f (column_goes names ts us col _ _ (wants_dim s o some) t) (h names s o some t.letters)
-
-pub dim_end_fails : (names : Names) (ts us vs ws : List Placed) (col : ℕ) (d : Direction) (u : Token) (at : ℕ) → TakesColumn names ts col us → TakesDirection us d vs → vs ≡ at_place u at ∷ ws → u ≢ sign comma → u ≢ finish → FailsDim names ts (Unexpected at)
-dim_end_fails names ts us vs ws col d u at t g e nc nf s o some =
-    goes_fails names _ _ ts vs (Unexpected at) (two_goes names ts us vs col d s o some t g)
-    (stuck_fails names u at ws vs _ e (dim_stuck s o some (dim_of t.letters d g.letters) u nc nf))
 
 -- ---- some dimensions
 
@@ -295,19 +244,6 @@ dims_all names ts us vs product group col d r l =
 of_goes : (names : Names) (s : List ℕ) (ts us : List Placed) → (c : PassesOf ts us) → Goes names (skyline_named s) ts (dim_due s c.0 []) us
 of_goes names s ts us c = passes_goes names (word c.0) ts us (skyline_named s) (dim_due s c.0 []) (cased of_word c.0) c.2 (ap (of_named s c.0) c.1) refl
 
-pub clause_read : (names : Names) (ts us : List Placed) (p : Preference) (group : List ℕ) → PassesOf ts us → ReadsClause names us (Some p) group → (s : List ℕ) → Asks names (skyline_named s) ts (record { preference = p; group = group; mode = Best })
-clause_read names ts us p group c r s =
-    goes_asks names _ (dim_due s c.0 []) ts us _ (of_goes names s ts us c)
-    (λ k. ap (meant names) (r.goes s c.0 k)
-    ∙ (ap (λ o. ordered (option_map (λ x. record { preference = x; group = groups_of names (r.first ∷ r.others); mode = Best }) o)) r.product_is
-    ∙ ap (λ g. Ok (record { preference = p; group = g; mode = Best })) r.group_is))
-
-pub clause_unordered : (names : Names) (ts us : List Placed) (group : List ℕ) → PassesOf ts us → ReadsClause names us None group → (s : List ℕ) → AsksNothing names (skyline_named s) ts NoMinOrMax
-clause_unordered names ts us group c r s =
-    goes_asks_nothing names _ (dim_due s c.0 []) ts us NoMinOrMax (of_goes names s ts us c)
-    (λ k. ap (meant names) (r.goes s c.0 k)
-    ∙ ap (λ o. ordered (option_map (λ x. record { preference = x; group = groups_of names (r.first ∷ r.others); mode = Best }) o)) r.product_is)
-
 pub clause_fails : (names : Names) (ts us : List Placed) (f : TermFault) → PassesOf ts us → FailsClause names us f → (s : List ℕ) → AsksNothing names (skyline_named s) ts f
 clause_fails names ts us f c r s = fails_asks names _ ts f (goes_fails names _ _ ts us f (of_goes names s ts us c) (r s c.0))
 
@@ -328,9 +264,6 @@ skyline_fails names letters ts us g c e f h = goes_asks_nothing names start (sky
 
 best_goes : (names : Names) (letters : List ℕ) (ts us : List Placed) → Passes (word letters) ts us → keyword_of letters ≡ Some best_word → Goes names start ts (operand (in_whole best_head)) us
 best_goes names letters ts us c e = passes_goes names (word letters) ts us start (operand (in_whole best_head)) (name best_word) c (ap (λ k. begun letters k (cased_of letters)) e) refl
-
-pub best_read : (names : Names) (letters : List ℕ) (ts us : List Placed) (q : Question) → Passes (word letters) ts us → keyword_of letters ≡ Some best_word → ((head : HeadText) → mode_of head ≡ Best → Asks names (operand (in_whole head)) us q) → Asks names start ts q
-best_read names letters ts us q c e h = goes_asks names start _ ts us q (best_goes names letters ts us c e) (h best_head refl)
 
 pub best_fails : (names : Names) (letters : List ℕ) (ts us : List Placed) (f : TermFault) → Passes (word letters) ts us → keyword_of letters ≡ Some best_word → ((head : HeadText) → mode_of head ≡ Best → AsksNothing names (operand (in_whole head)) us f) → AsksNothing names start ts f
 best_fails names letters ts us f c e h = goes_asks_nothing names start _ ts us f (best_goes names letters ts us c e) (h best_head refl)
@@ -386,9 +319,6 @@ count_goes names k letters ts us vs n c e t =
 mode_said : (k : CountKind) (ds : List ℕ) (n : ℕ) → decimal_value ds ≡ n → mode_of (count_head k ds) ≡ count_mode k n
 mode_said levels ds n e = ap TopLevel e
 mode_said rows ds n e = ap AtLeast e
-
-pub count_read : (names : Names) (k : CountKind) (letters : List ℕ) (ts us vs : List Placed) (n : ℕ) (q : Question) → Passes (word letters) ts us → keyword_of letters ≡ Some (count_word k) → TakesCount us n vs → ((head : HeadText) → mode_of head ≡ count_mode k n → Asks names (operand (in_whole head)) vs q) → Asks names start ts q
-count_read names k letters ts us vs n q c e t h = goes_asks names start _ ts vs q (count_goes names k letters ts us vs n c e t) (h (count_head k t.digits_are) (mode_said k t.digits_are n t.value))
 
 pub count_behind_fails : (names : Names) (k : CountKind) (letters : List ℕ) (ts us vs : List Placed) (n : ℕ) (f : TermFault) → Passes (word letters) ts us → keyword_of letters ≡ Some (count_word k) → TakesCount us n vs → ((head : HeadText) → mode_of head ≡ count_mode k n → AsksNothing names (operand (in_whole head)) vs f) → AsksNothing names start ts f
 count_behind_fails names k letters ts us vs n f c e t h = goes_asks_nothing names start _ ts vs f (count_goes names k letters ts us vs n c e t) (h (count_head k t.digits_are) (mode_said k t.digits_are n t.value))

@@ -1,36 +1,25 @@
 -- What the parts of the reader that call each other promise.
-use Rattle.std.proofs.Common.{◌≡◌, ◌<◌, ◌≤◌, ◌+◌, ℕ, List, [], ◌∷◌, true, false, cond, Some, None, nat_lt, refl, sym, ap, subst, ◌∙◌, arith}
+use Rattle.std.proofs.Common.{◌≡◌, ◌<◌, ◌+◌, ℕ, List, [], ◌∷◌, true, cond, Some, None, nat_lt, refl, sym, ap, subst, ◌∙◌, arith}
 use Rattle.std.specs.Prelude.{◌≢◌}
 use Rattle.std.proofs.lemmas.Bool.Decides.{nat_tests}
 use Rattle.pref_term.specs.Token.{Sign, left, right, star, ampersand, minus, Token, word, sign, Placed}
 use Rattle.pref_term.specs.Grammar.{reverse_word, keyword_of, based, grouped, reversed, negated, one_factor, then_factor, PriorText, one_product, then_product, name, mark, opens}
 use Rattle.pref_term.specs.Spells.{Names, own_fault, too_deep, unary_meaning, product_meaning}
-use Rattle.pref_term.specs.Reading.{BaseKind, low_kind, high_kind, around_kind, pos_kind, kind_word, named, UnaryHole, in_minus, first_factor, next_factor, first_product, next_product, in_group, in_reverse, unary_depth, State, operand, reverse_named, reading, after, ranked, run, led, judged, next, operand_word}
-use Rattle.pref_term.specs.Led.{Goes, Fails, IsOther, Passes, ReadsBase, ReadsUnary, ReadsFactors, ReadsProducts, ReadsProduct, ReadsPrior, ReadsGroup, ReadsReverse, FailsBase, FailsUnary, FailsReverse, FailsGroup, FailsProduct, FailsPrior}
+use Rattle.pref_term.specs.Reading.{BaseKind, low_kind, high_kind, around_kind, pos_kind, kind_word, named, UnaryHole, in_minus, first_factor, next_factor, first_product, next_product, in_group, in_reverse, unary_depth, State, operand, reverse_named, reading, after, ranked, next, operand_word}
+use Rattle.pref_term.specs.Led.{Goes, Fails, IsOther, Passes, ReadsBase, ReadsUnary, ReadsFactors, ReadsProducts, ReadsProduct, ReadsPrior, ReadsGroup, ReadsReverse, FailsBase, FailsUnary, FailsGroup, FailsProduct, FailsPrior}
 use Rattle.pref_term.specs.Preference.{Preference, pareto, prior, reverse}
 use Rattle.pref_term.specs.declared.fault.TermFault.{TermFault}
-use Rattle.pref_term.specs.declared.fault.TermFault.TheVariants.{Unexpected, TooDeep}
 use Rattle.pref_term.proofs.Complete.{ranked_goes_on, ranked_group, ranked_reverse}
-use Rattle.pref_term.proofs.LedLemmas.{at_place, goes_then, goes_fails, passes_goes, stuck_fails}
+use Rattle.pref_term.proofs.LedLemmas.{goes_then, goes_fails, passes_goes, stuck_fails}
 
 -- ---- nestings
 
 pub depth_good : (names : Names) (depth : ℕ) (s : Sign) → depth < 64 → own_fault names (opens depth s) ≡ None
 depth_good names depth s h = let e : nat_lt depth 64 ≡ true = grind (arith, nat_tests) in ap (λ b. cond b None (Some too_deep)) e
 
-depth_bad : (names : Names) (depth : ℕ) (s : Sign) → 64 ≤ depth → own_fault names (opens depth s) ≡ Some too_deep
-depth_bad names depth s h = let e : nat_lt depth 64 ≡ false = grind (arith, nat_tests) in ap (λ b. cond b None (Some too_deep)) e
-
 -- a nesting that opens where there is room
 opens_goes : (names : Names) (depth : ℕ) (g : Sign) (ts us : List Placed) (s m : State) (open_here : ℕ) → open_here ≡ depth → depth < 64 → Passes (sign g) ts us → next s (sign g) ≡ Some (opens open_here g, m) → Goes names s ts m us
 opens_goes names depth g ts us s m here e h c f = passes_goes names (sign g) ts us s m (opens here g) c f (depth_good names here g (subst (λ (d : ℕ). d < 64) (sym e) h))
-
--- the 65th
-opens_fails : (names : Names) (depth : ℕ) (g : Sign) (at : ℕ) (ts us : List Placed) (s m : State) (here : ℕ) → here ≡ depth → 64 ≤ depth → ts ≡ at_place (sign g) at ∷ us → next s (sign g) ≡ Some (opens here g, m) → Fails names s ts (TooDeep at)
-opens_fails names depth g at ts us s m here e h c f p =
-    ap (λ xs. run names xs p s) c
-    ∙ (ap (led names p at (run names us at)) f
-    ∙ ap (judged (opens here g) p at (run names us at m)) (depth_bad names here g (subst (λ (d : ℕ). 64 ≤ d) (sym e) h)))
 
 pub minus_read : (names : Names) (depth : ℕ) (ts us vs : List Placed) (p : Preference) → depth < 64 → Passes (sign minus) ts us → ReadsUnary names (depth + 1) us p vs → ReadsUnary names depth ts (reverse p) vs
 minus_read names depth ts us vs p h c r =
@@ -45,10 +34,6 @@ pub minus_fails : (names : Names) (depth : ℕ) (ts us : List Placed) (f : TermF
 minus_fails names depth ts us f h c r k e =
     goes_fails names _ _ ts us f (opens_goes names depth minus ts us (operand k) (operand (in_minus k)) (unary_depth k) e h c refl) (r (in_minus k) (ap (λ d. d + 1) e))
 
-pub minus_deep : (names : Names) (depth at : ℕ) (ts us : List Placed) (f : TermFault) → 64 ≤ depth → ts ≡ at_place (sign minus) at ∷ us → f ≡ TooDeep at → FailsUnary names depth ts f
-minus_deep names depth at ts us f h c e k d =
-    subst (Fails names (operand k) ts) (sym e) (opens_fails names depth minus at ts us (operand k) (operand (in_minus k)) (unary_depth k) d h c refl)
-
 pub left_read : (names : Names) (depth : ℕ) (ts us vs : List Placed) (p : Preference) → depth < 64 → Passes (sign left) ts us → ReadsGroup names (depth + 1) us p vs → ReadsUnary names depth ts p vs
 left_read names depth ts us vs p h c r =
     record {
@@ -58,14 +43,6 @@ left_read names depth ts us vs p h c r =
       goes = λ k e. goes_then names _ _ _ ts us vs (opens_goes names depth left ts us (operand k) (operand (first_factor (first_product (in_group k)))) (unary_depth k) e h c refl) (r.goes k (ap (λ d. d + 1) e));
     }
 
-pub left_fails : (names : Names) (depth : ℕ) (ts us : List Placed) (f : TermFault) → depth < 64 → Passes (sign left) ts us → FailsGroup names (depth + 1) us f → FailsUnary names depth ts f
-left_fails names depth ts us f h c r k e =
-    goes_fails names _ _ ts us f (opens_goes names depth left ts us (operand k) (operand (first_factor (first_product (in_group k)))) (unary_depth k) e h c refl) (r.plain k (ap (λ d. d + 1) e))
-
-pub left_deep : (names : Names) (depth at : ℕ) (ts us : List Placed) (f : TermFault) → 64 ≤ depth → ts ≡ at_place (sign left) at ∷ us → f ≡ TooDeep at → FailsUnary names depth ts f
-left_deep names depth at ts us f h c e k d =
-    subst (Fails names (operand k) ts) (sym e) (opens_fails names depth left at ts us (operand k) (operand (first_factor (first_product (in_group k)))) (unary_depth k) d h c refl)
-
 pub reverse_read : (names : Names) (depth : ℕ) (ts us vs : List Placed) (p : Preference) → depth < 64 → Passes (sign left) ts us → ReadsGroup names (depth + 1) us p vs → ReadsReverse names depth ts (reverse p) vs
 reverse_read names depth ts us vs p h c r =
     record {
@@ -74,21 +51,6 @@ reverse_read names depth ts us vs p h c r =
       known = r.known;
       goes = λ k e. goes_then names _ _ _ ts us vs (opens_goes names depth left ts us (reverse_named k) (operand (first_factor (first_product (in_reverse k)))) (unary_depth k) e h c refl) (r.goes_reversed k (ap (λ d. d + 1) e));
     }
-
-pub reverse_fails : (names : Names) (depth : ℕ) (ts us : List Placed) (f : TermFault) → depth < 64 → Passes (sign left) ts us → FailsGroup names (depth + 1) us f → FailsReverse names depth ts f
-reverse_fails names depth ts us f h c r k e =
-    goes_fails names _ _ ts us f (opens_goes names depth left ts us (reverse_named k) (operand (first_factor (first_product (in_reverse k)))) (unary_depth k) e h c refl) (r.reversed k (ap (λ d. d + 1) e))
-
-pub reverse_deep : (names : Names) (depth at : ℕ) (ts us : List Placed) (f : TermFault) → 64 ≤ depth → ts ≡ at_place (sign left) at ∷ us → f ≡ TooDeep at → FailsReverse names depth ts f
-reverse_deep names depth at ts us f h c e k d =
-    subst (Fails names (reverse_named k) ts) (sym e) (opens_fails names depth left at ts us (reverse_named k) (operand (first_factor (first_product (in_reverse k)))) (unary_depth k) d h c refl)
-
-reverse_only : (h : UnaryHole) (u : Token) → u ≢ sign left → next (reverse_named h) u ≡ None
-reverse_only h (sign left) ne = absurd (ne refl)
-reverse_only h _ ne = refl
-
-pub reverse_other : (names : Names) (depth at : ℕ) (t : Token) (ts us : List Placed) → ts ≡ at_place t at ∷ us → t ≢ sign left → FailsReverse names depth ts (Unexpected at)
-reverse_other names depth at t ts us c ne k e = stuck_fails names t at us ts (reverse_named k) c (reverse_only k t ne)
 
 -- ---- a group
 
@@ -112,9 +74,6 @@ group_read names inside ts us vs p r c =
       goes = λ h e. goes_then names _ _ _ ts us vs (q.goes (in_group h) e) (passes_goes names (sign right) us vs _ _ (mark right) c (ranked_group h q.tree) refl);
       goes_reversed = λ h e. goes_then names _ _ _ ts us vs (q.goes (in_reverse h) e) (passes_goes names (sign right) us vs _ _ (mark right) c (ranked_reverse h q.tree) refl);
     }
-
-pub group_fails : (names : Names) (inside : ℕ) (ts : List Placed) (f : TermFault) → FailsPrior names inside ts f → FailsGroup names inside ts f
-group_fails names inside ts f r = record { plain = λ h e. r (in_group h) e; reversed = λ h e. r (in_reverse h) e }
 
 pub group_end_fails : (names : Names) (inside : ℕ) (ts us : List Placed) (p : Preference) (f : TermFault) → ReadsPrior names inside ts p us → IsOther (sign right) us f → FailsGroup names inside ts f
 group_end_fails names inside ts [] p f r o = absurd o
@@ -153,10 +112,6 @@ word_reverse_read names depth letters ts us vs p c e r =
       known = r.known;
       goes = λ h d. goes_then names _ _ _ ts us vs (passes_goes names (word letters) ts us (operand h) (reverse_named h) (name reverse_word) c (ap (operand_word h) e) refl) (r.goes h d);
     }
-
-pub word_reverse_fails : (names : Names) (depth : ℕ) (letters : List ℕ) (ts us : List Placed) (f : TermFault) → Passes (word letters) ts us → keyword_of letters ≡ Some reverse_word → FailsReverse names depth us f → FailsUnary names depth ts f
-word_reverse_fails names depth letters ts us f c e r h d =
-    goes_fails names _ _ ts us f (passes_goes names (word letters) ts us (operand h) (reverse_named h) (name reverse_word) c (ap (operand_word h) e) refl) (r h d)
 
 -- ---- products and priors
 

@@ -20,10 +20,6 @@ tokens_in-append : (a b : List Placed) → tokens_in (a ++ b) ≡ tokens_in a ++
 tokens_in-append [] b = refl
 tokens_in-append (x ∷ a) b = rw (tokens_in-append a b)
 
-good_parts : (names : Names) (a b : List Leaf) → AllByRecursion (IsGood names) (a ++ b) → AllByRecursion (IsGood names) a × AllByRecursion (IsGood names) b
-good_parts names [] b h = (tt, h)
-good_parts names (x ∷ a) b h = let k = good_parts names a b h.1 in ((h.0, k.0), k.1)
-
 pub good_both : (names : Names) (a b : List Leaf) → AllByRecursion (IsGood names) a → AllByRecursion (IsGood names) b → AllByRecursion (IsGood names) (a ++ b)
 good_both names [] b h k = k
 good_both names (x ∷ a) b h k = (h.0, good_both names a b h.1 k)

@@ -3,16 +3,15 @@ use Rattle.std.proofs.Common.{◌≡◌, ℕ, ℤ, List, [], ◌∷◌, ◌++◌
 use Rattle.pref_table.specs.Columns.{column_of}
 use Rattle.pref_term.specs.Token.{Sign, left, right, comma, minus, Token, word, digits, sign, Placed}
 use Rattle.pref_term.specs.Grammar.{based, NumberText, low_text, high_text, around_text, pos_text, Leaf, mark, column_name, number_digits}
-use Rattle.pref_term.specs.Spells.{Names, UnlessMemory, own_fault, in_range, signed_value, number_value, column_at, number_range, unknown_column}
+use Rattle.pref_term.specs.Spells.{Names, UnlessMemory, own_fault, in_range, signed_value, number_value, column_at, number_range}
 use Rattle.pref_term.specs.Reading.{BaseKind, low_kind, high_kind, around_kind, pos_kind, centre_of, first_of, named, opened, columned, number_due, number_signed, centred, listed, filled, UnaryHole, State, reading, completed, run, led, judged, next}
 use Rattle.pref_term.specs.Seen.{seen}
 use Rattle.pref_term.specs.Ahead.{ahead, taken, behind_token}
 use Rattle.pref_term.specs.declared.cursor.Taken.{Taken}
 use Rattle.pref_term.specs.declared.front.Token as code
-use Rattle.pref_term.specs.declared.front.Token.TheVariants.{Sign as code_sign}
-use Rattle.pref_term.specs.Led.{Goes, Fails, IsOther, Passes, WantsColumn, TakesColumn, ReadsOpened, IsNoWord, LacksWord, FailsColumn, FailsOpened, ReadsNumber, ReadsListed, ReadsSome, ReadsNumbers, ReadsBase, FailsListed, FailsNumber, FailsNumbers, FailsBase, set_hole, set_text, behind_number}
+use Rattle.pref_term.specs.Led.{Goes, Fails, IsOther, Passes, WantsColumn, TakesColumn, ReadsOpened, IsNoWord, FailsColumn, FailsOpened, ReadsNumber, ReadsListed, ReadsSome, ReadsNumbers, ReadsBase, FailsListed, FailsNumber, FailsNumbers, FailsBase, set_hole, set_text, behind_number}
 use Rattle.pref_term.specs.declared.fault.TermFault.{TermFault}
-use Rattle.pref_term.specs.declared.fault.TermFault.TheVariants.{Unexpected, UnknownColumn, OutOfMemory}
+use Rattle.pref_term.specs.declared.fault.TermFault.TheVariants.{Unexpected, OutOfMemory}
 use Rattle.std.specs.Prelude.{All, FitsSigned, ◌≢◌, IsErrAnd, IfErr, unwrap_or}
 use Rattle.pref_term.specs.Preference.{scored, low, high, around, one_of}
 use Rattle.std.proofs.lemmas.List.{map-append}
@@ -86,20 +85,6 @@ opened_fails names ts us f c r h k =
     goes_fails names _ (reading h (opened k)) ts us f (passes_goes names (sign left) ts us (reading h (named k)) (reading h (opened k)) (mark left) c refl refl)
     (r (reading h (opened k)) (λ letters. reading h (columned k letters)) (wants_opened h k))
 
--- a word that is no column
-pub unknown_fails : (names : Names) (letters : List ℕ) (at : ℕ) (ts us : List Placed) → ts ≡ at_place (word letters) at ∷ us → column_of names letters ≡ None → FailsColumn names ts (UnknownColumn at)
-unknown_fails names letters at ts us e n s behind w p =
-    let own : own_fault names (column_name letters) ≡ Some unknown_column = rw n in
-    ap (λ xs. run names xs p s) e
-    ∙ (ap (led names p at (run names us at)) (w.takes letters)
-    ∙ ap (judged (column_name letters) p at (run names us at (behind letters))) own)
-
--- no word where a column is due
-pub lacks_column : (names : Names) (ts : List Placed) (f : TermFault) → LacksWord ts f → FailsColumn names ts f
-lacks_column names [] f l s behind w = absurd l
-lacks_column names (u ∷ us) f l s behind w =
-    subst (λ (g : TermFault). Fails names s (u ∷ us) g) (sym l.1) (λ p. ap (led names p u.place (run names us u.place)) (w.only u.token l.0))
-
 pub plain_number_read : (names : Names) (ts us : List Placed) (a : ℕ) (ds : List ℕ) (value : ℤ) → ts ≡ at_place (digits ds) a ∷ us → in_range false ds ≡ true → value ≡ signed_value false ds → FitsSigned w64 value → ReadsNumber names ts value us
 plain_number_read names ts us a ds value e fits v held =
     let n : NumberText = record { negative = false; digits = ds } in
@@ -133,10 +118,6 @@ signed_number_read names ts us vs a b ds value e f fits v held =
 -- what was taken, where the token is known
 pub taken_is : (ts : List Placed) (t : Taken) (k : code.Token) → ts ≡ taken t → t.token ≡ k → ts ≡ at_place (seen k) t.at ∷ behind_token k (ahead t.next)
 taken_is ts t k e f = e ∙ ap (λ (x : code.Token). at_place (seen x) t.at ∷ behind_token x (ahead t.next)) f
-
--- a sign that was taken
-pub sign_taken : (ts : List Placed) (t : Taken) (found s : Sign) → ts ≡ taken t → t.token ≡ code_sign found → found ≡ s → ts ≡ at_place (sign s) t.at ∷ ahead t.next
-sign_taken ts t found s e f g = taken_is ts t (code_sign s) e (f ∙ ap code_sign g)
 
 -- what a `?` hands on
 pub err_exit : {T : Type 0} (r : Result T TermFault) (f : TermFault) (P : TermFault → Type 0) → IsErrAnd r (λ g. g ≡ f) → P f → IfErr r P

@@ -30,14 +30,6 @@ higher_apart x y h = grind (arith, ints)
 neither_lower : (x y : ℤ) → int_lt x y ≡ false → int_lt y x ≡ false → int_eq x y ≡ true
 neither_lower x y h k = grind (arith, ints)
 
-scores-worse : (x y : ℤ) → is_worse (by_scores x y) ≡ int_lt y x
-scores-worse x y = go (int_lt x y) (int_lt y x) refl refl
-  where
-    go : (less more : Bool) → int_lt x y ≡ less → int_lt y x ≡ more → is_worse (if less then Better else if more then Worse else Same) ≡ more
-    go true more h k = sym (lower_once x y h) ∙ k
-    go false true h k = refl
-    go false false h k = refl
-
 scores-same : (x y : ℤ) → is_same (by_scores x y) ≡ int_eq x y
 scores-same x y = go (int_lt x y) (int_lt y x) refl refl
   where
