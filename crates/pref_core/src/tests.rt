@@ -1,5 +1,6 @@
 //! Runs whose replies are known from outside, through `replay`, `Machine` and `Store`.
 
+mod copies;
 mod index;
 mod moves;
 mod refusals;
@@ -449,21 +450,6 @@ fn a_plan_tells_what_becomes_of_a_call(rt: HostRuntime) -> Result<(), Fail> {
         store.plan(9, Call::Abandon).err(),
         Some(CoreFault::NoSuchClient)
     );
-    Ok(())
-}
-
-#[test]
-fn a_copy_of_a_store_goes_its_own_way(rt: HostRuntime) -> Result<(), Fail> {
-    let alloc = rt.alloc();
-    let schema = columns(alloc)?;
-    let setup = Setup::new(1, 3, 2, 1).ok_or("setup")?;
-    let store = Store::new(alloc, &setup, &rows(alloc, &schema, &[4])?)?;
-    let mut copy = store.copy(alloc)?;
-    assert_eq!(rt; copy.get(1), store.get(1));
-    let op = copy.plan(1, Call::Update(1, row(&schema, 5)?))?;
-    copy.apply(&op);
-    assert_eq!(rt; copy.get(1), Some(row(&schema, 5)?));
-    assert_eq!(rt; store.get(1), Some(row(&schema, 4)?));
     Ok(())
 }
 

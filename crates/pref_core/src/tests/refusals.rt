@@ -32,12 +32,13 @@ fn told_in_the_end(rt: &impl Abort, alloc: Global, machine: &mut Machine, event:
     }
 }
 
-#[test]
-fn each_act_changes_nothing_where_refused_and_is_made_again(rt: HostRuntime) -> Result<(), Fail> {
-    let alloc = rt.alloc();
-    let schema = columns(alloc)?;
-    let setup = Setup::new(2, 4, 2, 64).ok_or("setup")?;
-    let mut machine = Machine::new(alloc, setup, &rows(alloc, &schema, &[5, 7])?)?;
+/// Each act of a run, once more where memory was refused: what it tells in the end.
+fn go_through_a_run(
+    rt: &impl Abort,
+    alloc: Global,
+    schema: &Schema,
+    machine: &mut Machine,
+) -> Result<(), Fail> {
     let run = [
         (1, Does::Begins, "begun 2"),
         (1, Does::Scans, "left 1"),
@@ -55,12 +56,21 @@ fn each_act_changes_nothing_where_refused_and_is_made_again(rt: HostRuntime) -> 
     for (client, does, wanted) in run {
         let event = Event {
             client,
-            act: act(alloc, &schema, does)?,
+            act: act(alloc, schema, does)?,
         };
-        let reply = told_in_the_end(&rt, alloc, &mut machine, event);
+        let reply = told_in_the_end(rt, alloc, machine, event);
         assert_eq!(rt; reply_text(alloc, &reply)?.as_str(), wanted);
     }
     Ok(())
+}
+
+#[test]
+fn each_act_changes_nothing_where_refused_and_is_made_again(rt: HostRuntime) -> Result<(), Fail> {
+    let alloc = rt.alloc();
+    let schema = columns(alloc)?;
+    let setup = Setup::new(2, 4, 2, 64).ok_or("setup")?;
+    let mut machine = Machine::new(alloc, setup, &rows(alloc, &schema, &[5, 7])?)?;
+    go_through_a_run(&rt, alloc, &schema, &mut machine)
 }
 
 /// Scans a block, once more where memory was refused: until then as many blocks are left as before.
