@@ -4,6 +4,7 @@ mod copies;
 mod index;
 mod moves;
 mod refusals;
+mod replies;
 
 use crate::{
     Act, Call, CoreFault, Event, Machine, Op, Outcome, RankedList, Reply, Setup, Store, replay,
