@@ -79,7 +79,7 @@ pub(crate) fn count(callers: &mut [Caller], client: u8, call: &Call, stamp: u64)
 pub(crate) fn idle(alloc: Global, clients: u8) -> Result<Vec<Caller>, AllocError>
     ensures { IfOk result (λ v. v.items ≡ replicate clients (record { calls = 0; begun = None })) }
 {
-    let mut callers = Vec::new(alloc);
+    let mut callers = Vec::with_capacity(alloc, clients as usize)?;
     for _client in 0..clients {
         callers.push(Caller {
             calls: 0,

@@ -49,7 +49,7 @@ impl Hints {
     pub(crate) fn new(alloc: Global, capacity: u32) -> Result<Hints, AllocError>
         ensures { IfOk result (λ hints. hints ≡ replicate capacity Hint.Home) }
     {
-        let mut by_home = Vec::new(alloc);
+        let mut by_home = Vec::with_capacity(alloc, capacity as usize)?;
         for _home in 0..capacity {
             by_home.push(Hint::Home)?;
         }

@@ -17,7 +17,7 @@ pub(crate) fn opening(
     requires capacity { capacity ≤ 65536 }
     ensures { IfOk result (λ v. v.items ≡ opening_slots 0 rows.now ++ replicate (capacity - length rows.now) None) }
 {
-    let mut slots = Vec::new(alloc);
+    let mut slots = Vec::with_capacity(alloc, capacity as usize)?;
     let mut made: u64 = 0;
     for row in rows {
         made += 1;

@@ -219,7 +219,7 @@ fn turned(alloc: Global, capacity: u32, first: u32) -> Result<Vec<u32>, AllocErr
     requires first { first ≤ capacity }
     ensures { IfOk result (λ v. v.items ≡ map (turned capacity first) (range_with_len 0 capacity)) }
 {
-    let mut numbers = Vec::new(alloc);
+    let mut numbers = Vec::with_capacity(alloc, capacity as usize)?;
     for at in 0..capacity {
         let number = if at < capacity - first {
             first + at
