@@ -26,6 +26,7 @@ pub mod Lookups
 pub mod Shown
 pub mod Seats
 pub mod Following
+pub mod Lives
 pub mod Systems
 pub mod Steps
 pub mod Scanning

@@ -125,9 +125,18 @@ seat-with_seat_other xs zero (suc j) y n = refl
 seat-with_seat_other xs (suc k) zero y n = refl
 seat-with_seat_other xs (suc k) (suc j) y n = slice_get-set_other xs k j y (λ e. n (ap suc e))
 
-begun_at : Option Caller → Option ℕ
-begun_at None = None
-begun_at (Some caller) = caller.begun
+abbrev pub begun_at : Option Caller → Option ℕ
+begun_at o = elim o [ None ↦ None | Some caller ↦ caller.begun ]
+
+-- the client's query after its own call
+pub begun_own : (callers : List Caller) (client : ℕ) (caller : Caller) (call : Call) (now : ℕ) → seat client callers ≡ Some caller → begun_at (seat client (callers_after now callers client call)) ≡ begin_after now call caller.begun
+begun_own callers client caller call now at = go (seat client callers) at
+  where
+    go : (o : Option Caller) → o ≡ Some caller → begun_at (seat client (elim o as (λ x. List Caller) [ None ↦ callers | Some found ↦ with_seat client (record { calls = suc found.calls; begun = begin_after now call found.begun }) callers ])) ≡ begin_after now call caller.begun
+    go None same = absurd (cc)
+    go (Some found) same =
+        let one : found ≡ caller = cc in
+        ap begun_at (seat-with_seat_same callers client caller _ at) ∙ ap (λ (c : Caller). begin_after now call c.begun) one
 
 -- a call that is let in while a query is open, and doesn't end it, leaves it
 begin_after-kept : (calls : Option ℕ) (call : Call) (now stamp : ℕ) → refusal_of calls true call ≡ None → is_end call ≡ false → begin_after now call (Some stamp) ≡ Some stamp
@@ -145,25 +154,17 @@ begin_after-kept calls Abandon now stamp r e = absurd (cc)
 
 kept_at : (contents : Contents) (client stamp : ℕ) (op : Op) → caller_begun contents client ≡ Some stamp → refusal_at contents op.client op.call ≡ None → ends_query client op ≡ false
     → begun_at (seat client (callers_after contents.stamp contents.callers op.client op.call)) ≡ Some stamp
-unfolding begun_at
 kept_at contents client stamp op is accepted open_ = ⊎_elim mine theirs (cases_eq op.client client)
   where
-    found : (o : Option Caller) → elim o as (λ x. Option ℕ) [ None ↦ None | Some caller ↦ caller.begun ] ≡ begun_at o
-    found None = refl
-    found (Some caller) = refl
-
-    begun_is : begun_at (seat client contents.callers) ≡ Some stamp
-    begun_is = sym (found (seat client contents.callers)) ∙ is
-
     theirs : (op.client ≡ client → ⊥) → begun_at (seat client (callers_after contents.stamp contents.callers op.client op.call)) ≡ Some stamp
     theirs n = go (seat op.client contents.callers)
       where
         go : (o : Option Caller) → begun_at (seat client (elim o as (λ x. List Caller) [ None ↦ contents.callers | Some caller ↦ with_seat op.client (record { calls = suc caller.calls; begun = begin_after contents.stamp op.call caller.begun }) contents.callers ])) ≡ Some stamp
-        go None = begun_is
-        go (Some caller) = ap begun_at (seat-with_seat_other contents.callers client op.client _ (λ e. n (sym e))) ∙ begun_is
+        go None = is
+        go (Some caller) = ap begun_at (seat-with_seat_other contents.callers client op.client _ (λ e. n (sym e))) ∙ is
 
     mine : op.client ≡ client → begun_at (seat client (callers_after contents.stamp contents.callers op.client op.call)) ≡ Some stamp
-    mine e = go (seat client contents.callers) refl begun_is
+    mine e = go (seat client contents.callers) refl is
       where
         lasting : is_end op.call ≡ false
         lasting = sym (ap (λ b. b && is_end op.call) (eq-eqb op.client client e)) ∙ open_
@@ -173,29 +174,16 @@ kept_at contents client stamp op is accepted open_ = ⊎_elim mine theirs (cases
 
         go : (o : Option Caller) → seat client contents.callers ≡ o → begun_at o ≡ Some stamp → begun_at (seat client (callers_after contents.stamp contents.callers op.client op.call)) ≡ Some stamp
         go None at b = absurd (cc)
-        go (Some caller) at b = subst (λ n. begun_at (seat client (callers_after contents.stamp contents.callers n op.call)) ≡ Some stamp) (sym e) (here (seat client contents.callers) at)
-          where
-            here : (o : Option Caller) → o ≡ Some caller → begun_at (seat client (elim o as (λ x. List Caller) [ None ↦ contents.callers | Some found ↦ with_seat client (record { calls = suc found.calls; begun = begin_after contents.stamp op.call found.begun }) contents.callers ])) ≡ Some stamp
-            here None same = absurd (cc)
-            here (Some found) same =
-                let one : found ≡ caller = cc in
-                let begun : found.begun ≡ Some stamp = ap (λ (c : Caller). c.begun) one ∙ b in
-                ap begun_at (seat-with_seat_same contents.callers client caller _ at)
-                ∙ ap (begin_after contents.stamp op.call) begun ∙ begin_after-kept (caller_calls contents client) op.call contents.stamp stamp accepted_here lasting
+        go (Some caller) at b =
+            subst (λ n. begun_at (seat client (callers_after contents.stamp contents.callers n op.call)) ≡ Some stamp) (sym e)
+            (begun_own contents.callers client caller op.call contents.stamp at
+            ∙ ap (begin_after contents.stamp op.call) b ∙ begin_after-kept (caller_calls contents client) op.call contents.stamp stamp accepted_here lasting)
 
 -- what lasts over one op
-record Lasts (client stamp : ℕ) (before after : Contents) : Type 0 where
-  begun : begun_at (seat client after.callers) ≡ Some stamp
-  within : stamp ≤ after.stamp
-  shows : shown stamp after.slots ≡ shown stamp before.slots
-
-begun_at-caller : (contents : Contents) (client : ℕ) → caller_begun contents client ≡ begun_at (seat client contents.callers)
-unfolding begun_at
-begun_at-caller contents client = go (seat client contents.callers)
-  where
-    go : (o : Option Caller) → elim o as (λ x. Option ℕ) [ None ↦ None | Some caller ↦ caller.begun ] ≡ begun_at o
-    go None = refl
-    go (Some caller) = refl
+pub record Lasts (client stamp : ℕ) (before after : Contents) : Type 0 where
+  pub begun : caller_begun after client ≡ Some stamp
+  pub within : stamp ≤ after.stamp
+  pub shows : shown stamp after.slots ≡ shown stamp before.slots
 
 lasts_stepped : (contents : Contents) (client stamp : ℕ) (op : Op) (slots : List (Option Version)) → begun_at (seat client (callers_after contents.stamp contents.callers op.client op.call)) ≡ Some stamp → stamp ≤ contents.stamp → shown stamp slots ≡ shown stamp contents.slots
     → Lasts client stamp contents (stepped contents op slots)
@@ -205,11 +193,11 @@ lasts_stepped contents client stamp op slots begun l shows =
     (record { slots = slots; stamp = contents.stamp; next_id = contents.next_id; callers = callers_after contents.stamp contents.callers op.client op.call })))
     [ true ↦ record { begun = begun; within = omega arith; shows = shows } | false ↦ record { begun = begun; within = l; shows = shows } ]
 
-lasts_applied : (contents : Contents) (client stamp : ℕ) (op : Op) → caller_begun contents client ≡ Some stamp → stamp ≤ contents.stamp → ends_query client op ≡ false → Lasts client stamp contents (applied contents op)
+pub lasts_applied : (contents : Contents) (client stamp : ℕ) (op : Op) → caller_begun contents client ≡ Some stamp → stamp ≤ contents.stamp → ends_query client op ≡ false → Lasts client stamp contents (applied contents op)
 lasts_applied contents client stamp op is l open_ = go (is_next contents op) refl (slots_after contents op) refl
   where
     stays : Lasts client stamp contents contents
-    stays = record { begun = sym (begun_at-caller contents client) ∙ is; within = l; shows = refl }
+    stays = record { begun = is; within = l; shows = refl }
 
     go : (b : Bool) → is_next contents op ≡ b → (s : Option (List (Option Version))) → slots_after contents op ≡ s
         → Lasts client stamp contents (cond b (elim s as (λ x. Contents) [ None ↦ contents | Some slots ↦ stepped contents op slots ]) contents)
@@ -222,7 +210,7 @@ pub shown_ran : (ops : List Op) (contents : Contents) (client stamp : ℕ) → c
 shown_ran [] contents client stamp is l h = refl
 shown_ran (op ∷ ops) contents client stamp is l h =
     let once = lasts_applied contents client stamp op is l h.0 in
-    shown_ran ops (applied contents op) client stamp (begun_at-caller (applied contents op) client ∙ once.begun) once.within h.1 ∙ once.shows
+    shown_ran ops (applied contents op) client stamp once.begun once.within h.1 ∙ once.shows
 
 pub is_stable : IsStable
 is_stable contents client stamp is l ops h block size = same_block stamp block size _ _ (shown_ran ops contents client stamp is l h)

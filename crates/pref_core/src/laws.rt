@@ -3,7 +3,7 @@
 
 ghost use Rattle.pref_core.specs.History.{OpsAreHistory};
 ghost use Rattle.pref_core.specs.Laws.{DeletesNeedNoMore, NeededFits, NeededFitsSlots, BlocksAreTheSlots};
-ghost use Rattle.pref_core.specs.Queries.{BegunIsOnItsWay, StaysOnItsWay, NextBlockIsNew, ScannedIsOnItsWay, AnswersTheBegin};
+ghost use Rattle.pref_core.specs.Queries.{NextBlockIsNew, AnswersTheBegin};
 ghost use Rattle.pref_core.specs.Stability.{IsStable};
 
 /// What a block shows at an open query's begin stays the same after every list of operations that does not
@@ -38,28 +38,13 @@ pub fn blocks_are_the_slots()
     ensures { BlocksAreTheSlots }
 {}
 
-/// A query that begins holds what it has scanned, which is nothing.
-pub fn begun_is_on_its_way()
-    ensures { BegunIsOnItsWay }
-{}
-
-/// An open query holds the levels of what it has scanned, whatever is done to the slots between its scans.
-pub fn stays_on_its_way()
-    ensures { StaysOnItsWay }
-{}
-
-/// On slots that stand for a state the next block shows no id twice, and none that the query holds: so a scan
-/// may be made.
+/// As long as a query lives its next block shows no id twice, and none that the query holds: so a scan may be made,
+/// whatever was done to the store since its begin.
 pub fn next_block_is_new()
     ensures { NextBlockIsNew }
 {}
 
-/// A scan adds what its block shows.
-pub fn scanned_is_on_its_way()
-    ensures { ScannedIsOnItsWay }
-{}
-
-/// Once all blocks are scanned, the answer is the question's answer of the table at the query's begin.
+/// What a query answers is its question's answer of the table at its begin, whatever was done to the store since.
 pub fn answers_the_begin()
     ensures { AnswersTheBegin }
 {}

@@ -16,9 +16,9 @@ use std::marker::Model;
 /// An open query: its question, the stamp at its begin, how far it has come, and the best levels of what
 /// its blocks showed there.
 ///
-/// It is lent the store for the time of a scan alone, so others may change the table between two scans. That
-/// what it sees stays the same is a law of the store ([`blocks_stay`](crate::laws::blocks_stay)); what follows for
-/// its answer stands in [`laws`](crate::laws).
+/// It is lent the store for the time of a scan alone, so others may change the table between two scans. What it sees
+/// stays the same nevertheless ([`blocks_stay`](crate::laws::blocks_stay)), and it answers the table at its begin
+/// ([`answers_the_begin`](crate::laws::answers_the_begin)).
 #[derive(Drop)]
 pub struct Query {
     ask: Ask,
@@ -69,7 +69,7 @@ impl Query {
     }
 
     /// Scans the next block, and answers how many are left. No id that the block shows may be held already,
-    /// nor come twice: so it is on slots that stand for a state ([`next_block_is_new`](crate::laws::next_block_is_new)).
+    /// nor come twice: so it is as long as the query lives ([`next_block_is_new`](crate::laws::next_block_is_new)).
     ///
     /// Refused `AllScanned` where no block is left, else `OutOfMemory` where memory is wanting; the query is
     /// then as it was. Cost: each slot of the block once, and then that of adding its rows to a
