@@ -36,6 +36,20 @@ fn opened(alloc: Global, schema: &Schema, values: &[i64]) -> Result<(Store, Inde
     Ok((store, index))
 }
 
+/// Lends a store of these rows, its index and its schema. A proof pays for each way out of a function that owns them, so one
+/// function does.
+fn with_index<L: FnOnce(&Schema, &mut Store, &mut Index) -> Result<(), Fail>>(
+    alloc: Global,
+    values: &[i64],
+    look: L,
+) -> Result<(), Fail>
+    requires { (schema : _) (store : _) (index : _) → IsIndexOf store.now index.now → L.pre look schema store index }
+{
+    let schema = columns(alloc)?;
+    let (mut store, mut index) = opened(alloc, &schema, values)?;
+    look(&schema, &mut store, &mut index)
+}
+
 fn has_an_added_row(
     rt: &impl Abort,
     alloc: Global,
@@ -51,6 +65,14 @@ fn has_an_added_row(
     assert_eq!(rt; index.slot(3), Some(2));
     assert_eq!(rt; store.get_at(index, 3), Some(row(schema, 6)?));
     Ok(())
+}
+
+#[test]
+fn an_index_has_an_added_row(rt: HostRuntime) -> Result<(), Fail> {
+    let alloc = rt.alloc();
+    with_index(alloc, &[4, 5], |schema, store, index| {
+        has_an_added_row(&rt, alloc, schema, store, index)
+    })
 }
 
 fn goes_where_an_update_goes(
@@ -69,6 +91,14 @@ fn goes_where_an_update_goes(
     Ok(())
 }
 
+#[test]
+fn an_index_goes_where_an_update_goes(rt: HostRuntime) -> Result<(), Fail> {
+    let alloc = rt.alloc();
+    with_index(alloc, &[4, 5], |schema, store, index| {
+        goes_where_an_update_goes(&rt, alloc, schema, store, index)
+    })
+}
+
 fn has_no_deleted_row(
     rt: &impl Abort,
     alloc: Global,
@@ -80,6 +110,14 @@ fn has_no_deleted_row(
     done(alloc, store, index, 1, &Call::Delete(2))?;
     assert_eq!(rt; index.slot(2), None);
     Ok(())
+}
+
+#[test]
+fn an_index_has_no_deleted_row(rt: HostRuntime) -> Result<(), Fail> {
+    let alloc = rt.alloc();
+    with_index(alloc, &[4, 5], |_schema, store, index| {
+        has_no_deleted_row(&rt, alloc, store, index)
+    })
 }
 
 fn withdraws_a_row(
@@ -100,54 +138,15 @@ fn withdraws_a_row(
     Ok(())
 }
 
-/// What is looked at of an index.
-#[derive(Clone, Copy)]
-enum Looks {
-    AtAnAddedRow,
-    AtAnUpdatedRow,
-    AtADeletedRow,
-    AtAWithdrawnRow,
-}
-
-/// Opens a table of two rows with its index, and looks. One function has both as its own, since a proof pays for each way out of it.
-fn look(rt: &impl Abort, alloc: Global, looks: Looks) -> Result<(), Fail> {
-    let schema = columns(alloc)?;
-    let (mut store, mut index) = opened(alloc, &schema, &[4, 5])?;
-    match looks {
-        Looks::AtAnAddedRow => has_an_added_row(rt, alloc, &schema, &mut store, &mut index),
-        Looks::AtAnUpdatedRow => {
-            goes_where_an_update_goes(rt, alloc, &schema, &mut store, &mut index)
-        }
-        Looks::AtADeletedRow => has_no_deleted_row(rt, alloc, &mut store, &mut index),
-        Looks::AtAWithdrawnRow => withdraws_a_row(rt, alloc, &schema, &store, &mut index),
-    }
-}
-
-#[test]
-fn an_index_has_an_added_row(rt: HostRuntime) -> Result<(), Fail> {
-    look(&rt, rt.alloc(), Looks::AtAnAddedRow)
-}
-
-#[test]
-fn an_index_goes_where_an_update_goes(rt: HostRuntime) -> Result<(), Fail> {
-    look(&rt, rt.alloc(), Looks::AtAnUpdatedRow)
-}
-
-#[test]
-fn an_index_has_no_deleted_row(rt: HostRuntime) -> Result<(), Fail> {
-    look(&rt, rt.alloc(), Looks::AtADeletedRow)
-}
-
 #[test]
 fn a_row_that_is_not_added_is_withdrawn(rt: HostRuntime) -> Result<(), Fail> {
-    look(&rt, rt.alloc(), Looks::AtAWithdrawnRow)
+    let alloc = rt.alloc();
+    with_index(alloc, &[4, 5], |schema, store, index| {
+        withdraws_a_row(&rt, alloc, schema, store, index)
+    })
 }
 
-#[test]
-fn an_index_is_a_map(rt: HostRuntime) -> Result<(), Fail> {
-    let alloc = rt.alloc();
-    let schema = columns(alloc)?;
-    let (_, mut index) = opened(alloc, &schema, &[])?;
+fn is_a_map(rt: &impl Abort, alloc: Global, index: &mut Index) -> Result<(), Fail> {
     index.put(alloc, 7, 1)?;
     assert_eq!(rt; index.slot(7), Some(1));
     index.set(7, 0);
@@ -155,4 +154,12 @@ fn an_index_is_a_map(rt: HostRuntime) -> Result<(), Fail> {
     index.take(7);
     assert_eq!(rt; index.slot(7), None);
     Ok(())
+}
+
+#[test]
+fn an_index_is_a_map(rt: HostRuntime) -> Result<(), Fail> {
+    let alloc = rt.alloc();
+    with_index(alloc, &[], |_schema, _store, index| {
+        is_a_map(&rt, alloc, index)
+    })
 }
