@@ -3,13 +3,11 @@
 mod copies;
 mod index;
 mod moves;
+mod plans;
 mod refusals;
 mod replies;
 
-use crate::{
-    Act, Call, CoreFault, Event, Machine, Op, Outcome, RankedList, Reply, Setup, Store, replay,
-    replay_part,
-};
+use crate::{Act, CoreFault, Event, Machine, RankedList, Reply, Setup, Store, replay, replay_part};
 use pref_table::{Row, Schema};
 use pref_term::read_ask;
 use std::alloc::Global;
@@ -94,7 +92,34 @@ fn found_text(alloc: Global, id: u64, row: &Row) -> Result<String, Fail> {
     Ok(format!(in alloc; "row {id}: {value}")?)
 }
 
-/// The replies to a run of eight clients, one after the other.
+fn events_of(alloc: Global, schema: &Schema, run: &[(u8, Does)]) -> Result<Vec<Event>, Fail> {
+    let mut events = Vec::new(alloc);
+    for (client, does) in run {
+        events.push(Event {
+            client: *client,
+            act: act(alloc, schema, *does)?,
+        })?;
+    }
+    Ok(events)
+}
+
+fn push_reply_text(alloc: Global, text: &mut String, reply: &Reply) -> Result<(), Fail> {
+    let told = reply_text(alloc, reply)?;
+    text.push_str(told.as_str())?;
+    text.push_str(" / ")?;
+    Ok(())
+}
+
+/// The replies, one after the other.
+fn replies_text(alloc: Global, replies: &[Reply]) -> Result<String, Fail> {
+    let mut text = String::new(alloc);
+    for reply in replies {
+        push_reply_text(alloc, &mut text, reply)?;
+    }
+    Ok(text)
+}
+
+/// The replies to a run of eight clients.
 fn played(
     alloc: Global,
     capacity: u32,
@@ -105,19 +130,37 @@ fn played(
     let schema = columns(alloc)?;
     let setup = Setup::new(8, capacity, block, 64).ok_or("setup")?;
     let opening = rows(alloc, &schema, values)?;
-    let mut events = Vec::new(alloc);
-    for (client, does) in run {
-        events.push(Event {
-            client: *client,
-            act: act(alloc, &schema, *does)?,
-        })?;
-    }
-    let mut text = String::new(alloc);
-    for reply in &replay(alloc, setup, &opening, events)? {
-        text.push_str(reply_text(alloc, reply)?.as_str())?;
-        text.push_str(" / ")?;
-    }
-    Ok(text)
+    let events = events_of(alloc, &schema, run)?;
+    let replies = replay(alloc, setup, &opening, events)?;
+    replies_text(alloc, &replies)
+}
+
+/// Lends a store of three slots with these rows, for two clients, and its schema. A proof pays for each way out of a function that owns
+/// a store, so one function does.
+fn with_store<L: FnOnce(&Schema, &mut Store) -> Result<(), Fail>>(
+    alloc: Global,
+    values: &[i64],
+    look: L,
+) -> Result<(), Fail>
+    requires { L.IsAlwaysCallable look }
+{
+    let schema = columns(alloc)?;
+    let setup = Setup::new(2, 3, 2, 1).ok_or("setup")?;
+    let mut store = Store::new(alloc, &setup, &rows(alloc, &schema, values)?)?;
+    look(&schema, &mut store)
+}
+
+/// Lends a machine of four slots with two rows, for two clients, and its schema.
+fn with_machine<L: FnOnce(&Schema, &mut Machine) -> Result<(), Fail>>(
+    alloc: Global,
+    look: L,
+) -> Result<(), Fail>
+    requires { L.IsAlwaysCallable look }
+{
+    let schema = columns(alloc)?;
+    let setup = Setup::new(2, 4, 2, 64).ok_or("setup")?;
+    let mut machine = Machine::new(alloc, setup, &rows(alloc, &schema, &[5, 7])?)?;
+    look(&schema, &mut machine)
 }
 
 #[test]
@@ -277,22 +320,38 @@ fn two_updates_under_a_query_leave_one_slot(rt: HostRuntime) -> Result<(), Fail>
     Ok(())
 }
 
+/// Each client begins, and updates the one row.
+fn begin_and_update(run: &mut Vec<(u8, Does)>) -> Result<(), Fail> {
+    for client in 1..=8u8 {
+        run.push((client, Does::Begins))?;
+        run.push((client, Does::Updates(1, i64::from(client))))?;
+    }
+    Ok(())
+}
+
+fn scan_and_finish(run: &mut Vec<(u8, Does)>) -> Result<(), Fail> {
+    for client in 1..=8u8 {
+        run.push((client, Does::Scans))?;
+        run.push((client, Does::Finishes))?;
+    }
+    Ok(())
+}
+
+/// What eight clients are told, each of whom begins before it updates the one row, and then how much room there is.
+fn told_at_eight_stamps(alloc: Global) -> Result<String, Fail> {
+    let mut run = Vec::new(alloc);
+    begin_and_update(&mut run)?;
+    scan_and_finish(&mut run)?;
+    run.push((1, Does::AsksRoom))?;
+    played(alloc, 9, 9, &[0], run.as_slice())
+}
+
 /// Client K begins after K - 1 updates of the one row, and is told the row as it was then, while the slots of
 /// the others are needed and used.
 #[test]
 fn eight_clients_ask_at_eight_stamps(rt: HostRuntime) -> Result<(), Fail> {
     let alloc = rt.alloc();
-    let mut run = Vec::new(alloc);
-    for client in 1..=8u8 {
-        run.push((client, Does::Begins))?;
-        run.push((client, Does::Updates(1, i64::from(client))))?;
-    }
-    for client in 1..=8u8 {
-        run.push((client, Does::Scans))?;
-        run.push((client, Does::Finishes))?;
-    }
-    run.push((1, Does::AsksRoom))?;
-    let told = played(alloc, 9, 9, &[0], run.as_slice())?;
+    let told = told_at_eight_stamps(alloc)?;
     let begun = "begun 1 / updated 1 / ".repeat(alloc, 8)?;
     assert!(rt; told.as_str().starts_with(begun.as_str()));
     let finished =
@@ -302,20 +361,30 @@ fn eight_clients_ask_at_eight_stamps(rt: HostRuntime) -> Result<(), Fail> {
     Ok(())
 }
 
-#[test]
-fn a_million_events_are_answered_in_turn(rt: HostRuntime) -> Result<(), Fail> {
-    let alloc = rt.alloc();
-    let setup = Setup::new(1, 1, 1, 1).ok_or("setup")?;
+/// So many events in which client 1 asks for room.
+fn asks_for_room(alloc: Global, count: u32) -> Result<Vec<Event>, Fail> {
     let mut events = Vec::new(alloc);
-    for _event in 0..1_000_000 {
+    for _event in 0..count {
         events.push(Event {
             client: 1,
             act: Act::Room,
         })?;
     }
+    Ok(events)
+}
+
+fn are_all_room(replies: &[Reply]) -> bool {
+    replies.iter().all(|reply| matches!(reply, Reply::Room(1)))
+}
+
+#[test]
+fn a_million_events_are_answered_in_turn(rt: HostRuntime) -> Result<(), Fail> {
+    let alloc = rt.alloc();
+    let setup = Setup::new(1, 1, 1, 1).ok_or("setup")?;
+    let events = asks_for_room(alloc, 1_000_000)?;
     let replies = replay(alloc, setup, &[], events)?;
     assert_eq!(rt; replies.len(), 1_000_000);
-    assert!(rt; replies.iter().all(|reply| matches!(reply, Reply::Room(1))));
+    assert!(rt; are_all_room(&replies));
     Ok(())
 }
 
@@ -323,21 +392,10 @@ fn a_million_events_are_answered_in_turn(rt: HostRuntime) -> Result<(), Fail> {
 fn a_part_is_the_whole_where_memory_is_there(rt: HostRuntime) -> Result<(), Fail> {
     let alloc = rt.alloc();
     let setup = Setup::new(1, 1, 1, 1).ok_or("setup")?;
-    let mut events = Vec::new(alloc);
-    for _event in 0..3 {
-        events.push(Event {
-            client: 1,
-            act: Act::Room,
-        })?;
-    }
-    let part = replay_part(alloc, setup, &[], events)?;
+    let part = replay_part(alloc, setup, &[], asks_for_room(alloc, 3)?)?;
     assert!(rt; !part.stopped);
     assert_eq!(rt; part.replies.len(), 3);
-    assert!(rt;
-        part.replies
-            .iter()
-            .all(|reply| matches!(reply, Reply::Room(1)))
-    );
+    assert!(rt; are_all_room(&part.replies));
     Ok(())
 }
 
@@ -351,106 +409,6 @@ fn too_many_opening_rows_are_refused(rt: HostRuntime) -> Result<(), Fail> {
     assert_eq!(rt; told, Some(CoreFault::Full { needed: 3 }));
     let part = replay_part(alloc, setup, &opening, Vec::new(alloc));
     assert_eq!(rt; part.err(), Some(CoreFault::Full { needed: 3 }));
-    Ok(())
-}
-
-/// How many levels the ask of a begin that is handed back wants, or none.
-fn cut_handed_back(event: &Event) -> Option<u32> {
-    match &event.act {
-        Act::Begin(ask) => Some(ask.cut()),
-        _ => None,
-    }
-}
-
-#[test]
-fn a_refused_begin_hands_its_ask_back(rt: HostRuntime) -> Result<(), Fail> {
-    let alloc = rt.alloc();
-    let schema = columns(alloc)?;
-    let setup = Setup::new(1, 2, 1, 1).ok_or("setup")?;
-    let mut machine = Machine::new(alloc, setup, &[])?;
-    let first = Event {
-        client: 1,
-        act: act(alloc, &schema, Does::Begins)?,
-    };
-    assert!(rt; machine.step(alloc, first).is_ok());
-    let second = Event {
-        client: 1,
-        act: Act::Begin(read_ask(alloc, &schema, b"top_level 3 low(x)")?),
-    };
-    match machine.step(alloc, second) {
-        Ok(_reply) => return Err("let in".into()),
-        Err(refused) => {
-            assert_eq!(rt; refused.fault, CoreFault::QueryOpen);
-            assert_eq!(rt; refused.event.client, 1);
-            assert_eq!(rt; cut_handed_back(&refused.event), Some(3));
-        }
-    }
-    Ok(())
-}
-
-/// A store of three slots with these rows, for two clients.
-fn store_of(alloc: Global, schema: &Schema, values: &[i64]) -> Result<Store, Fail> {
-    let setup = Setup::new(2, 3, 2, 1).ok_or("setup")?;
-    Ok(Store::new(alloc, &setup, &rows(alloc, schema, values)?)?)
-}
-
-/// Does an op, and once more, which changes nothing: its number is one above the client's last.
-fn apply_twice(store: &mut Store, op: &Op) {
-    store.apply(op);
-    store.apply(op);
-}
-
-/// The ids that a block of two slots shows.
-fn shown_ids(alloc: Global, store: &Store, block: u32, stamp: u64) -> Result<Vec<u64>, Fail> {
-    let mut ids = Vec::new(alloc);
-    for entry in store.block(alloc, block, 2, stamp)? {
-        ids.push(entry.id)?;
-    }
-    Ok(ids)
-}
-
-/// A store with a third row, whose insert by client 2 was done twice.
-fn store_with_a_third(alloc: Global, schema: &Schema) -> Result<Store, Fail> {
-    let mut store = store_of(alloc, schema, &[4, 6])?;
-    let op = store.plan(2, Call::Insert(row(schema, 5)?))?;
-    apply_twice(&mut store, &op);
-    Ok(store)
-}
-
-#[test]
-fn a_planned_call_is_done_once(rt: HostRuntime) -> Result<(), Fail> {
-    let alloc = rt.alloc();
-    let store = store_with_a_third(alloc, &columns(alloc)?)?;
-    assert_eq!(rt; store.stamp(), 3);
-    assert_eq!(rt; store.last(2), 1);
-    assert_eq!(rt; store.last(1), 0);
-    assert_eq!(rt; store.room(), 0);
-    Ok(())
-}
-
-#[test]
-fn an_added_row_is_shown_in_its_block(rt: HostRuntime) -> Result<(), Fail> {
-    let alloc = rt.alloc();
-    let schema = columns(alloc)?;
-    let store = store_with_a_third(alloc, &schema)?;
-    assert_eq!(rt; store.get(3), Some(row(&schema, 5)?));
-    assert_eq!(rt; shown_ids(alloc, &store, 1, 3)?.as_slice(), [3].as_slice());
-    assert_eq!(rt; shown_ids(alloc, &store, 1, 2)?.len(), 0);
-    Ok(())
-}
-
-#[test]
-fn a_plan_tells_what_becomes_of_a_call(rt: HostRuntime) -> Result<(), Fail> {
-    let alloc = rt.alloc();
-    let schema = columns(alloc)?;
-    let store = store_of(alloc, &schema, &[4, 6])?;
-    let op = store.plan(2, Call::Insert(row(&schema, 5)?))?;
-    assert_eq!(rt; op.outcome, Outcome::Added(3));
-    assert_eq!(rt; op.slot, Some(2));
-    assert_eq!(rt;
-        store.plan(9, Call::Abandon).err(),
-        Some(CoreFault::NoSuchClient)
-    );
     Ok(())
 }
 

@@ -1,6 +1,6 @@
 //! A store and its copy.
 
-use super::{columns, row, store_of};
+use super::{row, with_store};
 use crate::{Call, Store};
 use pref_table::Schema;
 use std::process::Abort;
@@ -23,8 +23,8 @@ fn goes_its_own_way(
 #[test]
 fn a_copy_of_a_store_goes_its_own_way(rt: HostRuntime) -> Result<(), Fail> {
     let alloc = rt.alloc();
-    let schema = columns(alloc)?;
-    let store = store_of(alloc, &schema, &[4])?;
-    let mut copy = store.copy(alloc)?;
-    goes_its_own_way(&rt, &schema, &store, &mut copy)
+    with_store(alloc, &[4], |schema, store| {
+        let mut copy = store.copy(alloc)?;
+        goes_its_own_way(&rt, schema, store, &mut copy)
+    })
 }

@@ -2,10 +2,12 @@
 //! and refuses it; where none is refused they show that the calls succeed.
 ghost use Rattle.pref_core.specs.Scans.{NextIsNew};
 
-use super::{Does, act, answer_text, columns, reply_text, rows};
+use super::{Does, act, answer_text, columns, events_of, reply_text, rows, with_machine};
 use crate::{
-    Act, CoreFault, Event, Machine, Query, RankedList, Reply, Setup, StepFault, Store, replay_part,
+    Act, CoreFault, Event, Machine, Part, Query, RankedList, Reply, Setup, StepFault, Store,
+    replay_part,
 };
+use pref_sky::Ranked;
 use pref_table::{Row, Schema};
 use pref_term::read_ask;
 use std::alloc::Global;
@@ -67,10 +69,9 @@ fn go_through_a_run(
 #[test]
 fn each_act_changes_nothing_where_refused_and_is_made_again(rt: HostRuntime) -> Result<(), Fail> {
     let alloc = rt.alloc();
-    let schema = columns(alloc)?;
-    let setup = Setup::new(2, 4, 2, 64).ok_or("setup")?;
-    let mut machine = Machine::new(alloc, setup, &rows(alloc, &schema, &[5, 7])?)?;
-    go_through_a_run(&rt, alloc, &schema, &mut machine)
+    with_machine(alloc, |schema, machine| {
+        go_through_a_run(&rt, alloc, schema, machine)
+    })
 }
 
 /// Scans a block, once more where memory was refused: until then as many blocks are left as before.
@@ -88,36 +89,62 @@ fn scan_in_the_end(rt: &impl Abort, alloc: Global, query: &mut Query, store: &St
     }
 }
 
-#[test]
-fn a_query_is_scanned_and_answered_again_after_a_refusal(rt: HostRuntime) -> Result<(), Fail> {
-    let alloc = rt.alloc();
-    let schema = columns(alloc)?;
-    let setup = Setup::new(1, 3, 3, 1).ok_or("setup")?;
-    let store = Store::new(alloc, &setup, &rows(alloc, &schema, &[4, 6, 4])?)?;
-    let ask = read_ask(alloc, &schema, b"top_level 2 low(x)")?;
-    let mut query = Query::begin(ask, store.stamp(), &setup);
-    assert_eq!(rt; setup.blocks(), 1);
+/// The answer, asked for once more where memory was refused.
+fn answer_in_the_end(rt: &impl Abort, alloc: Global, query: &Query) -> Vec<Ranked> {
+    match query.answer(alloc) {
+        Ok(ranked) => ranked,
+        Err(fault) => {
+            assert_eq!(rt; fault, CoreFault::OutOfMemory);
+            query.answer(alloc).expect(rt, "memory")
+        }
+    }
+}
+
+/// Scans the one block of a query, and asks for its answer before and after.
+fn scan_and_answer(
+    rt: &impl Abort,
+    alloc: Global,
+    query: &mut Query,
+    store: &Store,
+) -> Result<(), Fail>
+    requires { NextIsNew query.old store.now.slots }
+{
     assert_eq!(rt; query.left(), 1);
     assert_eq!(rt;
         query.answer(alloc).err(),
         Some(CoreFault::NotDone { left: 1 })
     );
-    assert_eq!(rt; scan_in_the_end(&rt, alloc, &mut query, &store), 0);
-    let ranked = match query.answer(alloc) {
-        Ok(ranked) => ranked,
-        Err(fault) => {
-            assert_eq!(rt; fault, CoreFault::OutOfMemory);
-            query.answer(alloc).expect(&rt, "memory")
-        }
-    };
+    assert_eq!(rt; scan_in_the_end(rt, alloc, query, store), 0);
+    let ranked = RankedList::of(answer_in_the_end(rt, alloc, query));
     assert_eq!(rt;
-        answer_text(alloc, &RankedList::of(ranked))?.as_str(),
+        answer_text(alloc, &ranked)?.as_str(),
         "answer level 1 id 1: 4 level 1 id 3: 4 level 2 id 2: 6"
     );
     Ok(())
 }
 
-/// Whether a run came to its end. The replies that it has are the first of these, and where it stopped some are left.
+#[test]
+fn a_query_is_scanned_and_answered_again_after_a_refusal(rt: HostRuntime) -> Result<(), Fail> {
+    let alloc = rt.alloc();
+    let schema = columns(alloc)?;
+    let setup = Setup::new(1, 3, 3, 1).ok_or("setup")?;
+    assert_eq!(rt; setup.blocks(), 1);
+    let ask = read_ask(alloc, &schema, b"top_level 2 low(x)")?;
+    let store = Store::new(alloc, &setup, &rows(alloc, &schema, &[4, 6, 4])?)?;
+    let mut query = Query::begin(ask, store.stamp(), &setup);
+    scan_and_answer(&rt, alloc, &mut query, &store)
+}
+
+/// The replies of a part are the first of these, and where it stopped some are left.
+fn are_first(rt: &impl Abort, alloc: Global, part: &Part, replies: &[&str]) -> Result<(), Fail> {
+    assert_eq!(rt; part.stopped, part.replies.len() < replies.len());
+    for (reply, wanted) in part.replies.iter().zip(replies) {
+        assert_eq!(rt; reply_text(alloc, reply)?.as_str(), *wanted);
+    }
+    Ok(())
+}
+
+/// Whether a run came to its end. The replies that it has are the first of these.
 fn is_whole(
     rt: &impl Abort,
     alloc: Global,
@@ -133,26 +160,29 @@ fn is_whole(
             return Ok(false);
         }
     };
-    assert_eq!(rt; part.stopped, part.replies.len() < replies.len());
-    for (reply, wanted) in part.replies.iter().zip(replies) {
-        assert_eq!(rt; reply_text(alloc, reply)?.as_str(), *wanted);
-    }
+    are_first(rt, alloc, &part, replies)?;
     Ok(!part.stopped)
 }
 
-fn events_of(alloc: Global, schema: &Schema, run: &[(u8, Does)]) -> Result<Vec<Event>, Fail> {
-    let mut events = Vec::new(alloc);
-    for (client, does) in run {
-        events.push(Event {
-            client: *client,
-            act: act(alloc, schema, *does)?,
-        })?;
+/// Plays a run, once more where it was stopped.
+fn check_run<E: Fn() -> Result<Vec<Event>, Fail>>(
+    rt: &impl Abort,
+    alloc: Global,
+    setup: Setup,
+    opening: &[Row],
+    events: E,
+    replies: &[&str],
+) -> Result<(), Fail>
+    requires { E.IsAlwaysCallable events }
+{
+    if !is_whole(rt, alloc, setup, opening, events()?, replies)? {
+        assert!(rt; is_whole(rt, alloc, setup, opening, events()?, replies)?);
     }
-    Ok(events)
+    Ok(())
 }
 
-/// Plays a run, once more where it was stopped.
-fn check_run(
+/// Plays a run of two clients over the column x.
+fn check_run_of_two(
     rt: &impl Abort,
     alloc: Global,
     capacity: u32,
@@ -163,12 +193,14 @@ fn check_run(
     let schema = columns(alloc)?;
     let setup = Setup::new(2, capacity, 2, 64).ok_or("setup")?;
     let opening = rows(alloc, &schema, values)?;
-    let events = events_of(alloc, &schema, run)?;
-    if !is_whole(rt, alloc, setup, &opening, events, replies)? {
-        let events = events_of(alloc, &schema, run)?;
-        assert!(rt; is_whole(rt, alloc, setup, &opening, events, replies)?);
-    }
-    Ok(())
+    check_run(
+        rt,
+        alloc,
+        setup,
+        &opening,
+        || events_of(alloc, &schema, run),
+        replies,
+    )
 }
 
 #[test]
@@ -201,7 +233,7 @@ fn a_stopped_run_keeps_its_first_replies_while_slots_are_used_again(
         "left 0",
         "answer level 1 id 4: 1",
     ];
-    check_run(&rt, rt.alloc(), 4, &[5, 7, 9], &run, &replies)
+    check_run_of_two(&rt, rt.alloc(), 4, &[5, 7, 9], &run, &replies)
 }
 
 #[test]
@@ -230,7 +262,7 @@ fn a_stopped_run_keeps_its_first_replies_while_a_row_is_updated(
         "room 2",
         "row 1: 2",
     ];
-    check_run(&rt, rt.alloc(), 3, &[5], &run, &replies)
+    check_run_of_two(&rt, rt.alloc(), 3, &[5], &run, &replies)
 }
 
 /// A begin, its two scans and its finish.
@@ -272,10 +304,12 @@ fn a_stopped_run_keeps_its_first_replies_before_an_answer_of_three_levels(
         "answer level 1 id 1: 20 level 1 id 7: 1 level 2 id 6: 21 level 2 id 8: 2 level 3 id 9: 3",
     ];
     let question = b"at_least 5 low(x) * low(y)";
-    let events = asked(alloc, &schema, question)?;
-    if !is_whole(&rt, alloc, setup, &opening, events, &replies)? {
-        let events = asked(alloc, &schema, question)?;
-        assert!(rt; is_whole(&rt, alloc, setup, &opening, events, &replies)?);
-    }
-    Ok(())
+    check_run(
+        &rt,
+        alloc,
+        setup,
+        &opening,
+        || asked(alloc, &schema, question),
+        &replies,
+    )
 }

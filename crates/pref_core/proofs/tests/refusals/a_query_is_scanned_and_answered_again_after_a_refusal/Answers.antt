@@ -5,8 +5,8 @@ use Rattle.pref_core.specs.Scans.{NextIsNew, begin}
 use Rattle.pref_core.proofs.Following.{begun_on_its_way, next_is_new_on_its_way}
 use Rattle.pref_core.proofs.tests.refusals.a_query_is_scanned_and_answered_again_after_a_refusal.Goals as goal
 
-pub scan_in_the_end-requires : goal.scan_in_the_end-requires
-scan_in_the_end-requires g c =
+pub scan_and_answer-requires : goal.scan_and_answer-requires
+scan_and_answer-requires g c =
     let slots = c.in_ok-store.store.slots in
     let table = opening_table 0 c.deref.result.now in
     let query = begin c.in_ok-ask.ask c.stamp.result c.in_ok-setup.setup in
