@@ -60,6 +60,10 @@ pub legal_stands : (o : Opening) (ops : List Op) → IsLegal o ops → StandsFor
 legal_stands o ops legal =
     subst (StandsFor (contents_at o ops)) (state_at_is o ops legal.fits) (ops_are_history (first_contents o) (first_state o) ops (opens o legal.fits).0 legal.each).1
 
+-- the same of a store that is seen to be what the history leaves
+pub left_stands : (o : Opening) (ops : List Op) (store : Contents) → IsLegal o ops → store ≡ contents_at o ops → StandsFor store (state_at o ops)
+left_stands o ops store legal is = subst (λ (s : Contents). StandsFor s (state_at o ops)) (sym is) (legal_stands o ops legal)
+
 -- A plan on the store that a legal history leaves may follow it, ..
 pub planned : (o : Opening) (ops : List Op) (store : Contents) (client : ℕ) (call : Call) (op : Op) → IsLegal o ops → store ≡ contents_at o ops
     → ((state : State) → StandsFor store state → PlansIn state store client call (Ok op)) → (op.client ≡ client) × (op.call ≡ call) × MayFollow o ops op

@@ -6,9 +6,8 @@
 use crate::book::Token;
 use atomic_table::{Join, Split};
 use crossbeam_utils::rule::{Outcome, Protocol};
-use left_right::Absorb;
-use left_right::reader::Reader;
 use left_right::writer::Writer;
+use left_right::{Absorb, reader};
 use pref_core::{Op, Store};
 use std::alloc::AllocError;
 
@@ -116,6 +115,9 @@ impl Join<View> for Hearing {
     ghost spent = { newcomer };
 }
 
-pub(crate) type StoreReader = Reader<Published, View, Rule>;
+pub(crate) type StoreReader = reader::Reader<Published, View, Rule>;
+
+/// A reader that is let in.
+pub(crate) type StoreReading = reader::Reading<Published, View, Rule>;
 
 pub(crate) type StoreWriter = Writer<Published, Stamp, View, Rule>;

@@ -20,7 +20,7 @@ use crate::book::Naming;
 use crate::client::Client;
 use crate::fault::ShareFault;
 use crate::history::Prefix;
-use crate::published::{Published, Reading, StoreReader};
+use crate::published::{Published, Reading, StoreReader, StoreReading};
 use core::mem::replace_with;
 use pref_core::{CoreFault, Query};
 use pref_sky::Entry;
@@ -44,6 +44,23 @@ fn history_of<J: Naming>(published: &Published, seen: &Prefix<J>) -> Option<Pref
     if seen.begins(&now) { Some(now) } else { None }
 }
 
+/// The published table to read from, with its history. The reader comes back where it is not let in, or where the history does not
+/// begin with what was seen.
+fn entered<J: Naming>(
+    reader: StoreReader,
+    seen: &Prefix<J>,
+) -> Result<(StoreReading, Prefix<J>), StoreReader>
+    requires knows { Knows (first_contents J.opening) J.book (view reader.place) }
+    requires legal { IsLegal J.opening seen.now }
+    ensures { MatchResult result (λ entered. (view entered.0.place ≡ view reader.place) × IsPrefix seen.now entered.1 × IsLegal J.opening entered.1 × (entered.0.part.value.store ≡ contents_at J.opening entered.1)) (λ back. view back.place ≡ view reader.place) }
+{
+    let reading = reader.enter_as::<Reading>()?;
+    match history_of(reading.get(), seen) {
+        Some(now) => Ok((reading, now)),
+        None => Err(reading.leave()),
+    }
+}
+
 /// The row of an id, as it is published.
 fn find<J: Naming>(
     reader: StoreReader,
@@ -55,15 +72,11 @@ fn find<J: Naming>(
     ensures view { view result.0.place ≡ view reader.place }
     ensures found { IfSome result.1 (λ found. IsPrefix seen.now found.0 × IsLegal J.opening found.0 × (found.1 ≡ row_at J.opening found.0 id)) }
 {
-    let reading = match reader.enter_as::<Reading>() {
-        Ok(reading) => reading,
+    let (reading, now) = match entered(reader, seen) {
+        Ok(entered) => entered,
         Err(reader) => return (reader, None),
     };
-    let published = reading.get();
-    let Some(now) = history_of(published, seen) else {
-        return (reading.leave(), None);
-    };
-    let row = published.store.get(id);
+    let row = reading.get().store.get(id);
     (reading.leave(), Some((now, row)))
 }
 
@@ -77,15 +90,11 @@ fn count_room<J: Naming>(
     ensures view { view result.0.place ≡ view reader.place }
     ensures found { IfSome result.1 (λ found. IsPrefix seen.now found.0 × IsLegal J.opening found.0 × (found.1 ≡ room_at J.opening found.0)) }
 {
-    let reading = match reader.enter_as::<Reading>() {
-        Ok(reading) => reading,
+    let (reading, now) = match entered(reader, seen) {
+        Ok(entered) => entered,
         Err(reader) => return (reader, None),
     };
-    let published = reading.get();
-    let Some(now) = history_of(published, seen) else {
-        return (reading.leave(), None);
-    };
-    let room = published.store.room();
+    let room = reading.get().store.room();
     (reading.leave(), Some((now, room)))
 }
 
@@ -103,16 +112,13 @@ fn read_block<J: Naming>(
     ensures view { view result.0.place ≡ view reader.place }
     ensures found { IfSome result.1 (λ found. IsPrefix seen.now found.0 × IsLegal J.opening found.0 × (found.1.calls ≡ unwrap_or (calls_at J.opening found.0 client) 0) × Reads query.now (contents_at J.opening found.0).slots found.1.shown) }
 {
-    let reading = match reader.enter_as::<Reading>() {
-        Ok(reading) => reading,
+    let (reading, now) = match entered(reader, seen) {
+        Ok(entered) => entered,
         Err(reader) => return (reader, None),
     };
-    let published = reading.get();
-    let Some(now) = history_of(published, seen) else {
-        return (reading.leave(), None);
-    };
-    let calls = published.store.last(client);
-    let shown = query.read(alloc, &published.store);
+    let store = &reading.get().store;
+    let calls = store.last(client);
+    let shown = query.read(alloc, store);
     (reading.leave(), Some((now, Block { calls, shown })))
 }
 

@@ -1,23 +1,16 @@
-use Rattle.std.proofs.Common.{◌≡◌, ◌-◌, length, sym, subst, ap, ◌∙◌}
+use Rattle.std.proofs.Common.{◌-◌, length, ap, ◌∙◌}
 use Rattle.pref_core.specs.State.{needed}
-use Rattle.pref_core.specs.Slots.{Contents, StandsFor as StandsForState}
+use Rattle.pref_core.specs.Slots.{Contents}
+use Rattle.pref_share.specs.Openings.{state_at}
 use Rattle.pref_share.specs.declared.published.Published.{Published}
-use Rattle.pref_share.specs.Openings.{first_contents, contents_at, state_at}
-use Rattle.pref_share.specs.Views.{StandsFor}
-use Rattle.pref_share.proofs.Keeps.{reads}
-use Rattle.pref_share.proofs.Histories.{legal_stands, legal_capacity}
+use Rattle.pref_share.proofs.Histories.{left_stands, legal_capacity}
 use Rattle.pref_share.proofs.client.reads.count_room.Goals as goal
-
-pub enter_as-requires : goal.enter_as-requires
-enter_as-requires g c x = reads _ _ x
-
-pub history_of-requires-clause-stands : goal.history_of-requires-clause-stands
-history_of-requires-clause-stands g c =
-    subst (λ (y : Published). StandsFor (first_contents g.J.Naming.opening) g.J.Naming.book y) (sym c.get-published.ensures) (c.in-Ok.ensures.1.1 (first_contents g.J.Naming.opening) g.J.Naming.book c.requires.knows)
 
 pub returns-clause-found : goal.returns-clause-found
 returns-clause-found g c =
     let o = g.J.Naming.opening in
-    let store : c.get-published.result.now.store ≡ contents_at o c.in-Some.now = c.in-Some.ensures.2 in
-    let stands : StandsForState c.get-published.result.now.store (state_at o c.in-Some.now) = subst (λ (s : Contents). StandsForState s (state_at o c.in-Some.now)) (sym store) (legal_stands o c.in-Some.now c.in-Some.ensures.1) in
-    (c.in-Some.ensures.0, c.in-Some.ensures.1, c.room-room.ensures (state_at o c.in-Some.now) stands ∙ ap (λ n. n - length (needed (state_at o c.in-Some.now))) (ap (λ (s : Contents). length s.slots) store ∙ legal_capacity o c.in-Some.now c.in-Some.ensures.1.fits))
+    let now = c.in-Ok.entered.1 in
+    let read = c.in-Ok.ensures in
+    let store = ap (λ (x : Published). x.store) c.get.ensures ∙ read.3 in
+    let slots = ap (λ (s : Contents). length s.slots) store ∙ legal_capacity o now read.2.fits in
+    (read.1, read.2, c.room-room.ensures (state_at o now) (left_stands o now _ read.2 store) ∙ ap (λ n. n - length (needed (state_at o now))) slots)
