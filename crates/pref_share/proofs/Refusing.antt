@@ -70,14 +70,14 @@ finish_by_core o s t AllScanned l h = by_itself o s t Finish CallFinish AllScann
 finish_by_core o s t (NotDone left) l h = not_done o s t left (sees_same o s t l h.2) h.0 h.1
 finish_by_core o s t (NoSuchRow id) l h = by_itself o s t Finish CallFinish (NoSuchRow id) l refl h
 finish_by_core o s t (Full needed) l h = by_itself o s t Finish CallFinish (Full needed) l refl h
-finish_by_core o s t OutOfMemory l h = by_itself o s t Finish CallFinish OutOfMemory l refl h
+finish_by_core o s t OutOfMemory l h = refl
 
 pub finish_refused : (o : Opening) (s t : Standing) (fault : ShareFault) (told : _) → told ≡ reply_or_stop fault → IsLegal o s.seen → RefusesFinish o s fault t → Performs o s Finish told t
 finish_refused o s t fault told e l h = subst (λ r. Performs o s Finish r t) (sym e) (go fault h)
   where
     go : (f : ShareFault) → RefusesFinish o s f t → Performs o s Finish (reply_or_stop f) t
     go (Core core) h = finish_by_core o s t core l h
-    go (ClientInUse number) h = in_use o s t number h.1
+    go (ClientInUse number) h = in_use o s t number h.2
     go (Held client) h = absurd h
     go Closed h = absurd h
 
@@ -86,7 +86,7 @@ scan_by_core o s t NoSuchClient l h = absurd h
 scan_by_core o s t Spent l h = absurd h
 scan_by_core o s t QueryOpen l h = absurd h
 scan_by_core o s t NoQuery l h = no_query o s t (sees_same o s t l h.1) h.0
-scan_by_core o s t AllScanned l h = all_scanned o s t h.asking (sees_same o s t l h.same) h.is_open h.left
+scan_by_core o s t AllScanned l h = all_scanned o s t h.0.asking (sees_same o s t l h.1) h.0.is_open h.0.done
 scan_by_core o s t (NotDone left) l h = absurd h
 scan_by_core o s t (NoSuchRow id) l h = absurd h
 scan_by_core o s t (Full needed) l h = absurd h
@@ -97,7 +97,7 @@ scan_refused o s t fault told e l h = subst (λ r. Performs o s Scan r t) (sym e
   where
     go : (f : ShareFault) → RefusesScan o s f t → Performs o s Scan (reply_or_stop f) t
     go (Core core) h = scan_by_core o s t core l h
-    go (ClientInUse number) h = in_use o s t number h
+    go (ClientInUse number) h = in_use o s t number h.1
     go (Held client) h = absurd h
     go Closed h = tt
 

@@ -294,7 +294,7 @@ answers o number counter seen asking (Ok ranked) h told =
     }
 answers o number counter seen asking (Err fault) h (inl t) =
     subst (GivesNone (record { number = number; counter = counter; seen = seen; query = Some asking })) (sym t.0) (record { asking = asking; is_open = refl; left_is = refl; some = t.1 })
-answers o number counter seen asking (Err fault) h (inr t) = subst (GivesNone (record { number = number; counter = counter; seen = seen; query = Some asking })) (sym t.0) tt
+answers o number counter seen asking (Err fault) h (inr t) = subst (GivesNone (record { number = number; counter = counter; seen = seen; query = Some asking })) (sym t.0) (record { asking = asking; is_open = refl; done = t.1 })
 
 -- the next block is new to the open query, ..
 pub next_new : (o : Opening) (number counter : ℕ) (seen now : List Op) (asking : Asking) → Stands o number counter seen (Some asking) → IsPrefix seen now → IsLegal o now → calls_at o now number ≡ Some counter → NextIsNew asking.scan (contents_at o now).slots

@@ -58,10 +58,9 @@ pub record IsInUse (o : Opening) (old : Standing) (number : ℕ) (new : Standing
   pub holds : HasCall new.seen old.number number
   pub above : old.counter < number
 
--- whether a call asks for memory: for a new row's place in the index, or for an answer
+-- whether a call asks for memory: for a new row's place in the index (what a finish asks for is told below)
 abbrev pub asks_for_memory : Call → Bool
 asks_for_memory (Insert row) = true
-asks_for_memory Finish = true
 asks_for_memory call = false
 
 -- what a refusal of a numbered call tells, where its outcome is no refusal of a change
@@ -99,6 +98,12 @@ pub record IsAnswer (o : Opening) (s : Standing) (ranked : List Ranked) : Type 0
   pub done : asking.scan.left ≡ 0
   pub answer : ranked ≡ answer_of asking.scan.ask (entries (state_at o asking.begun).table)
 
+-- a query is open, and has no block left
+pub record HasNoneLeft (s : Standing) : Type 0 where
+  pub asking : Asking
+  pub is_open : s.query ≡ Some asking
+  pub done : asking.scan.left ≡ 0
+
 -- the open query has so many blocks left
 pub record HasLeft (s : Standing) (left : ℕ) : Type 0 where
   pub asking : Asking
@@ -112,13 +117,17 @@ pub record Finishes (o : Opening) (old : Standing) (ranked : List Ranked) (new :
   pub query : new.query ≡ None
   pub answer : IsAnswer o old ranked
 
+-- what a refusal of a finish tells: memory, and whether the client is in use, are met where no block is left
 abbrev pub RefusedFinish : Opening → Standing → CoreFault → Standing → Type 0
 RefusedFinish o old (NotDone left) new = (own_refusal old Finish ≡ None) × HasLeft old left × (new ≡ old)
-RefusedFinish o old fault new = Refused o old Finish fault new
+RefusedFinish o old OutOfMemory new = (own_refusal old Finish ≡ None) × HasNoneLeft old × (new ≡ old)
+RefusedFinish o old fault new = (own_refusal old Finish ≡ Some fault) × (new ≡ old)
 
--- the same, for a finish
 abbrev pub RefusesFinish : Opening → Standing → ShareFault → Standing → Type 0
-RefusesFinish o old fault new = Refuses (λ core. RefusedFinish o old core new) o old Finish fault new
+RefusesFinish o old (Core fault) new = RefusedFinish o old fault new
+RefusesFinish o old (ClientInUse number) new = (own_refusal old Finish ≡ None) × HasNoneLeft old × IsInUse o old number new
+RefusesFinish o old (Held client) new = ⊥
+RefusesFinish o old Closed new = ⊥
 
 -- the same, for a begin, which hands its ask back
 abbrev pub RefusesBegin : Opening → Standing → Question → BeginFault → Standing → Type 0

@@ -19,7 +19,7 @@ use Rattle.pref_share.specs.declared.fault.ShareFault.{ShareFault}
 use Rattle.pref_share.specs.declared.fault.ShareFault.TheVariants.{Core}
 use Rattle.pref_share.specs.Openings.{Opening, IsLegal, MayFollow, HasCall, contents_at, state_at, calls_at}
 use Rattle.pref_share.specs.Standing.{Asking, Standing}
-use Rattle.pref_share.specs.Clients.{HasLeft}
+use Rattle.pref_share.specs.Clients.{HasLeft, HasNoneLeft}
 
 -- what a query found that began at the end of this history
 abbrev pub snapshot_at : Opening → List Op → Snapshot
@@ -74,7 +74,7 @@ done_or_refused Done = Ok Done
 -- why an open query gives no answer
 abbrev pub GivesNone : Standing → CoreFault → Type 0
 GivesNone s (NotDone left) = HasLeft s left
-GivesNone s OutOfMemory = Unit {0}
+GivesNone s OutOfMemory = HasNoneLeft s
 GivesNone s fault = ⊥
 
 -- what the next block of an open query shows, copied out

@@ -12,7 +12,7 @@ use Rattle.pref_share.specs.declared.fault.ShareFault.{ShareFault}
 use Rattle.pref_share.specs.declared.fault.ShareFault.TheVariants.{Core, ClientInUse, Held, Closed}
 use Rattle.pref_share.specs.Openings.{Opening, IsLegal, contents_at, state_at, calls_at}
 use Rattle.pref_share.specs.Standing.{Asking, Standing}
-use Rattle.pref_share.specs.Clients.{Sees, IsInUse}
+use Rattle.pref_share.specs.Clients.{Sees, IsInUse, HasLeft, HasNoneLeft}
 use mathlib.Core.List.{IsPrefix}
 
 -- A block was scanned, of the slots that the history leaves which was seen then.
@@ -29,25 +29,22 @@ pub record Scanned (o : Opening) (old : Standing) (left : ℕ) (new : Standing) 
   pub counted : new.counter ≡ old.counter
   pub same : new.number ≡ old.number
 
--- no block was left
-pub record IsAllScanned (old new : Standing) : Type 0 where
-  pub asking : Asking
-  pub is_open : old.query ≡ Some asking
-  pub left : asking.scan.left ≡ 0
-  pub same : new ≡ old
+-- a query is open, and has a block left
+abbrev pub HasMore : Standing → Type 0
+HasMore s = (left : ℕ) × HasLeft s left
 
--- what a refusal of a scan tells
+-- what a refusal of a scan tells: nothing but the client's own query is met where there is no block to scan
 abbrev pub RefusedScan : Opening → Standing → CoreFault → Standing → Type 0
 RefusedScan o old NoQuery new = (old.query ≡ None) × (new ≡ old)
-RefusedScan o old AllScanned new = IsAllScanned old new
-RefusedScan o old OutOfMemory new = Sees o old new
+RefusedScan o old AllScanned new = HasNoneLeft old × (new ≡ old)
+RefusedScan o old OutOfMemory new = HasMore old × Sees o old new
 RefusedScan o old fault new = ⊥
 
 abbrev pub RefusesScan : Opening → Standing → ShareFault → Standing → Type 0
 RefusesScan o old (Core fault) new = RefusedScan o old fault new
-RefusesScan o old (ClientInUse number) new = IsInUse o old number new
+RefusesScan o old (ClientInUse number) new = HasMore old × IsInUse o old number new
 RefusesScan o old (Held client) new = ⊥
-RefusesScan o old Closed new = new ≡ old
+RefusesScan o old Closed new = HasMore old × (new ≡ old)
 
 -- the row of this id in the table that a history leaves
 abbrev pub row_at : Opening → List Op → ℕ → Option Row

@@ -9,9 +9,8 @@ ghost use mathlib.Core.List.{IsPrefix};
 ghost use Rattle.left_right.specs.Sides.{view};
 ghost use Rattle.pref_core.specs.Scans.{Reads};
 ghost use Rattle.pref_share.specs.Openings.{IsLegal, first_contents, contents_at, calls_at};
-ghost use Rattle.pref_share.specs.Standing.{Asking as AskingValue};
 ghost use Rattle.pref_share.specs.Clients.{Sees};
-ghost use Rattle.pref_share.specs.Scanning.{Scanned, RefusedScan, RefusesScan, RefusesGet, room_at, row_at};
+ghost use Rattle.pref_share.specs.Scanning.{Scanned, HasMore, RefusedScan, RefusesScan, RefusesGet, room_at, row_at};
 ghost use Rattle.pref_share.specs.Following.{ReadsBlock};
 ghost use Rattle.pref_share.specs.Views.{Knows, StandsFor};
 ghost use Rattle.pref_share.specs.declared.fault.ShareFault.TheVariants.{Closed};
@@ -187,7 +186,7 @@ impl<J: Naming> Client<J> {
 
     /// Why there is nothing to scan, by the client's own query.
     fn may_scan(&self) -> Result<(), CoreFault>
-        ensures { MatchResult result (λ _. (asking : AskingValue) × (self.now.query ≡ Some asking) × (0 < asking.scan.left)) (λ fault. RefusedScan J.opening self.now fault self.now) }
+        ensures { MatchResult result (λ _. HasMore self.now) (λ fault. RefusedScan J.opening self.now fault self.now) }
     {
         match &self.asking {
             Some(asking) if asking.query.left() == 0 => Err(CoreFault::AllScanned),

@@ -7,6 +7,7 @@ use Rattle.pref_sky.specs.Levels.{HaveDifferentIds, entry_of}
 use Rattle.pref_core.specs.Scans.{Scan, next_block}
 use Rattle.pref_share.specs.Openings.{IsLegal, calls_at, contents_at}
 use Rattle.pref_share.specs.Standing.{Asking, Standing}
+use Rattle.pref_share.specs.Scanning.{HasMore}
 use Rattle.pref_share.specs.Following.{IsAhead, ReadsBlock, Stands}
 use Rattle.pref_share.proofs.Standings.{ahead, even, next_new, stands_seen, stands_scanned, block_is, sees, scanned}
 use Rattle.pref_share.proofs.client.Client.scan.Goals as goal
@@ -105,4 +106,4 @@ returns-clause-refused g c =
     let block : c.deref.result.now ≡ next_block asking.scan slots = c.deref.ensures.value ∙ ap (λ (v : Vec Entry). v.items) c.in-Ok.shown-is ∙ block_is slots s.asking asking c.in-Some.block.shown c.in-Ok.shown query c.in-Ok.is found.3 in
     let kept : c.add.new.self ≡ asking.scan = (c.in-Err.ensures slots (sym block)).0 in
     rw (← same)
-    (sees o (record { number = s.number; counter = s.counter; seen = s.seen; query = s.asking }) _ found.0 found.1 refl refl ((λ i. Some (record { scan = kept i; begun = asking.begun })) ∙ sym query))
+    (subst HasMore (sym same) c.in_ok-may_scan.ensures, sees o (record { number = s.number; counter = s.counter; seen = s.seen; query = s.asking }) _ found.0 found.1 refl refl ((λ i. Some (record { scan = kept i; begun = asking.begun })) ∙ sym query))
