@@ -15,7 +15,7 @@ use Rattle.pref_share.specs.Interleavings.{Answered, JointRunsAreSequential}
 use Rattle.pref_share.proofs.Prefixes.{prefix_get}
 use Rattle.pref_share.proofs.LastCalls.{IsOneOf}
 use Rattle.pref_share.proofs.Parts.{Part, nothing_done, IsPartAt}
-use Rattle.pref_share.proofs.Reaching.{Reached, reached}
+use Rattle.pref_share.proofs.Reaching.{Reached, acts_of-events, reached}
 
 pub length-newcomers : (n : ℕ) → length (newcomers n) ≡ n
 length-newcomers zero = refl
@@ -77,7 +77,7 @@ pub joint_runs_are_sequential : JointRunsAreSequential
 joint_runs_are_sequential o acts told many joint = record {
   run = r.run;
   interleaving = record {
-    acts_in_order = λ place list e. r.acts (suc place) (one_of place (omega (arith, slice_get_within acts place list e, many))) ∙ (found o acts told joint many place).acts_are list e;
+    acts_in_order = λ place list e. acts_of-events (suc place) r.run ∙ r.acts (suc place) (one_of place (omega (arith, slice_get_within acts place list e, many))) ∙ (found o acts told joint many place).acts_are list e;
     replies_in_order = λ place list e. r.told (suc place) (one_of place (omega (arith, slice_get_within told place list e, as_many))) ∙ (found o acts told joint many place).told_are list e;
     nobody_else = subst (λ n. All (λ (x : Answered). (0 < x.event.client) × (x.event.client ≤ n)) r.run) (sym many) r.nobody_else;
   };

@@ -1,18 +1,19 @@
 -- Runs of the sequential table that reach what the parts of all clients in a history say.
-use Rattle.std.proofs.Common.{◌≡◌, ◌==◌, ℕ, zero, suc, ◌<◌, ◌≤◌, cond, List, [], ◌∷◌, ◌++◌, map, length, Some, refl, sym, ap, ◌∙◌, subst, arith, inl, inr, ◌⊎◌}
-use Rattle.std.specs.List.{All}
+use Rattle.std.proofs.Common.{◌≡◌, ◌==◌, ℕ, zero, suc, ◌<◌, ◌≤◌, Bool, true, false, cond, List, [], ◌∷◌, ◌++◌, map, length, Some, refl, sym, ap, ◌∙◌, subst, arith, inl, inr, ◌⊎◌}
+use Rattle.std.specs.List.{All, filter}
 use Rattle.std.proofs.lemmas.Bool.{eq-eqb, ne_eqb}
 use Rattle.std.proofs.lemmas.List.{length-append, map-append, append-nil}
 use Rattle.std.proofs.lemmas.List.Elements.{filter-append, All-nil, All-push}
 use Rattle.pref_core.specs.declared.call.Op.{Op}
 use Rattle.pref_core.specs.declared.event.Act.{Act}
+use Rattle.pref_core.specs.declared.event.Event.{Event}
 use Rattle.pref_core.specs.declared.event.Reply.{Reply}
 use Rattle.pref_core.specs.State.{seat}
 use Rattle.pref_core.specs.Step.{System, state_of, opened, step, replies, replies_from}
 use Rattle.pref_share.specs.Openings.{Opening, IsLegal, first_state, state_at}
 use Rattle.pref_share.specs.Standing.{Standing}
 use Rattle.pref_share.specs.Runs.{member_of, step_by, IsStep, StepsTo}
-use Rattle.pref_share.specs.Interleavings.{Answered, events_of, acts_of, replies_of, part_of}
+use Rattle.pref_share.specs.Interleavings.{Answered, events_of, replies_of, acts_of, part_of}
 use Rattle.pref_share.proofs.Histories.{legal-prefix}
 use Rattle.pref_share.proofs.Sequences.{system_after, system_after-more, replies_from-more, step_leaves, opened_clients, opened_seat}
 use Rattle.pref_share.proofs.LastCalls.{last_of, last_one_of, IsOneOf, counts}
@@ -25,12 +26,22 @@ system_of o run = system_after o.limits (opened o.limits o.rows) (events_of run)
 -- A run of the sequential table, in which each client has done its part, and which ends where the history does.
 pub record Reached (o : Opening) (history : List Op) (parts : ℕ → Part) : Type 0 where
   pub run : List Answered
-  pub acts : (number : ℕ) → IsOneOf o number → acts_of (part_of number run) ≡ (parts number).acts
+  pub acts : (number : ℕ) → IsOneOf o number → map (λ answered. answered.event.act) (part_of number run) ≡ (parts number).acts
   pub told : (number : ℕ) → IsOneOf o number → replies_of (part_of number run) ≡ (parts number).told
   pub nobody_else : All (λ answered. IsOneOf o answered.event.client) run
   pub answers : replies o.limits o.rows (events_of run) ≡ replies_of run
   pub state : state_of (system_of o run) ≡ state_at o history
   pub seats : (number : ℕ) → IsOneOf o number → seat number (system_of o run).members ≡ Some (member_of o (parts number).last)
+
+-- the acts of a client's part are those of the client among the events
+pub acts_of-events : (number : ℕ) (run : List Answered) → acts_of number (events_of run) ≡ map (λ (x : Answered). x.event.act) (part_of number run)
+acts_of-events number [] = refl
+acts_of-events number (a ∷ run) = go (a.event.client == number) (acts_of-events number run)
+  where
+    go : (own : Bool) → acts_of number (events_of run) ≡ map (λ (x : Answered). x.event.act) (part_of number run)
+        → map (λ (x : Event). x.act) (cond own (a.event ∷ filter (λ (x : Event). x.client == number) (events_of run)) (filter (λ (x : Event). x.client == number) (events_of run))) ≡ map (λ (x : Answered). x.event.act) (cond own (a ∷ part_of number run) (part_of number run))
+    go true e = ap (λ l. a.event.act ∷ l) e
+    go false e = e
 
 -- one event more is in the part of its client, ..
 part_own : {X : Type 0} (f : Answered → X) (number : ℕ) (run : List Answered) (a : Answered) → a.event.client ≡ number → map f (part_of number (run ++ a ∷ [])) ≡ map f (part_of number run) ++ f a ∷ []

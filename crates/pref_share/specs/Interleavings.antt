@@ -18,13 +18,13 @@ pub record Answered : Type 0 where
 abbrev pub events_of : List Answered → List Event
 events_of run = map (λ answered. answered.event) run
 
--- the acts of a run, whoever did them
-abbrev pub acts_of : List Answered → List Act
-acts_of run = map (λ answered. answered.event.act) run
-
 -- the replies of a run
 abbrev pub replies_of : List Answered → List Reply
 replies_of run = map (λ answered. answered.reply) run
+
+-- the acts of one client, in order
+abbrev pub acts_of : ℕ → List Event → List Act
+acts_of client events = map (λ event. event.act) (filter (λ event. event.client == client) events)
 
 -- what one client did in a run, and was told
 abbrev pub part_of : ℕ → List Answered → List Answered
@@ -33,7 +33,7 @@ part_of client run = filter (λ answered. answered.event.client == client) run
 -- The run has each act of each client once, in the client's order, with the reply that the client was told, and nothing else. The
 -- first lists are those of client 1.
 pub record IsInterleaving (acts : List (Vec Act)) (told : List (Vec Reply)) (run : List Answered) : Type 0 where
-  pub acts_in_order : (place : ℕ) (list : Vec Act) → slice_get acts place ≡ Some list → acts_of (part_of (suc place) run) ≡ list.items
+  pub acts_in_order : (place : ℕ) (list : Vec Act) → slice_get acts place ≡ Some list → acts_of (suc place) (events_of run) ≡ list.items
   pub replies_in_order : (place : ℕ) (list : Vec Reply) → slice_get told place ≡ Some list → replies_of (part_of (suc place) run) ≡ list.items
   pub nobody_else : All (λ answered. (0 < answered.event.client) × (answered.event.client ≤ length acts)) run
 
