@@ -54,3 +54,38 @@ fn reads_while_the_lock_is_taken(rt: HostRuntime) -> Result<(), Fail> {
     assert_eq!(rt; told, (row(&schema, 5)?, 1, 1));
     Ok(())
 }
+
+/// A client with an open query reads after its board was closed: it is refused each time.
+fn read_of_a_closed_board<J: Naming, R: Wait + Abort>(
+    rt: &R,
+    alloc: Global,
+    name: Name,
+    setup: Setup,
+    rows: &[Row],
+    ask: Ask,
+) -> Result<(), Fail>
+    requires book { name.seen.book ≡ J.book }
+    requires opening { J.opening ≡ record { limits = setup; rows = rows.now } }
+{
+    let (board, mut client, _other) = opened_for_two::<J, R>(rt, alloc, name, setup, rows)?;
+    let begun = client
+        .begin(rt, alloc, &board, ask)
+        .map_err(|refusal| refusal.fault);
+    board.close(rt);
+    begun?;
+    assert_eq!(rt; client.get(1), Err(ShareFault::Closed));
+    assert_eq!(rt; client.room(), Err(ShareFault::Closed));
+    assert_eq!(rt; client.scan(alloc), Err(ShareFault::Closed));
+    assert_eq!(rt; client.seen(), 1);
+    Ok(())
+}
+
+#[test]
+fn a_closed_board_lets_nobody_in(rt: HostRuntime) -> Result<(), Fail> {
+    let alloc = rt.alloc();
+    let schema = columns(alloc)?;
+    let opening = rows(alloc, &schema, &[5, 4, 6])?;
+    let setup = setup(2, 4, 2)?;
+    let ask = read_ask(alloc, &schema, b"best low(x)")?;
+    read_of_a_closed_board::<Brand, _>(&rt, alloc, Name::new(), setup, &opening, ask)
+}
