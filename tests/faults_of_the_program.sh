@@ -1,0 +1,35 @@
+#!/usr/bin/env bash
+# Shows what the program says and how it ends where its input or output fails, or is too large, and that `threads` gives each client's lines.
+#
+#     (cd crates/prefq && rt run prefq < stdin) && tests/faults_of_the_program.sh
+#
+# Needs Linux, for /dev/full.
+set -euo pipefail
+cd "$(dirname "$0")/.."
+prefq=crates/prefq/out/prefq
+room=$(mktemp -d)
+trap 'rm -rf "$room"' EXIT
+
+# Runs the program on an input, and compares its output and its status.
+expect() { # status output input words..
+    local status=0 said
+    said=$("$prefq" "${@:4}" <"$3") || status=$?
+    [ "$status $said" = "$1 $2" ] || { echo "${*:4} < $3: status $status, output: $said" >&2; exit 1; }
+}
+
+printf 'table\nx\n3\nend\nas 2 get 1\nas 1 get 1\nas 2 room\n' >"$room/script"
+head -c 16777217 /dev/zero | tr '\0' '\n' >"$room/large"
+printf 'as 1 room\n' >"$room/headless"
+
+for mode in play threads; do
+    expect 1 'fault: read' "$room" $mode
+    expect 1 'fault: too large' "$room/large" $mode
+    expect 2 'script refused: no table' "$room/headless" $mode
+    status=0
+    "$prefq" $mode <"$room/script" >/dev/full || status=$?
+    [ "$status" = 1 ] || { echo "$mode: a full disk ends with status $status" >&2; exit 1; }
+done
+expect 0 $'2 row 1: 3\n1 row 1: 3\n2 room 1023' "$room/script" play
+expect 0 $'1 row 1: 3\n2 row 1: 3\n2 room 1023' "$room/script" threads
+expect 2 'arguments refused' "$room/script" jump
+echo 'the program ends as it should'
