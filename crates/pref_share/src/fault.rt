@@ -18,7 +18,7 @@ pub enum ShareFault {
     /// The table's refusal.
     #[error("{0}")]
     Core(CoreFault),
-    /// The history holds a call of this client above its own counter. Clients of one board never meet it.
+    /// A history that goes on from what this client had seen holds a call of it that it has not made. No run is known to meet it.
     #[error("client in use at {number}")]
     ClientInUse {
         /// The number of that call.
@@ -30,7 +30,9 @@ pub enum ShareFault {
         /// The client's number.
         client: u8,
     },
-    /// The published table gives no reader, or does not let one in: the board is closed.
+    /// The published table gives no reader, or does not let one in: the board is closed. Also where what is published is older than
+    /// what the client has seen, and where somebody has begun the book of the name under which a board is opened; no run is known
+    /// to meet these two.
     #[error("closed")]
     Closed,
 }
