@@ -12,14 +12,11 @@ use Rattle.pref_share.specs.declared.fault.ShareFault.{ShareFault}
 use Rattle.pref_share.specs.declared.fault.ShareFault.TheVariants.{Core, ClientInUse, Held, Closed}
 use Rattle.pref_share.specs.Openings.{Opening, IsLegal}
 use Rattle.pref_share.specs.Standing.{Standing}
-use Rattle.pref_share.specs.Clients.{IsInUse, Refused, RefusedChange, RefusedFinish, Refuses, RefusesChange, RefusesFinish}
+use Rattle.pref_share.specs.Clients.{Refused, RefusedChange, RefusedFinish, Refuses, RefusesChange, RefusesFinish}
 use Rattle.pref_share.specs.Scanning.{RefusedScan, RefusesScan, RefusesGet}
-use Rattle.pref_share.specs.Runs.{HoldsSome, call_of}
+use Rattle.pref_share.specs.Runs.{call_of}
 use Rattle.pref_share.specs.Performing.{Performs, reply_or_stop, reply_or_stop_core}
 use Rattle.pref_share.proofs.Acting.{sees_same, refused_by_itself, refused_change, not_done, got_none, no_query, all_scanned}
-
-in_use : (o : Opening) (s t : Standing) (number : ℕ) → IsInUse o s number t → HoldsSome o number
-in_use o s t number h = record { client = s.number; seen = t.seen; legal = h.sees.legal; holds = h.holds }
 
 by_itself : (o : Opening) (s t : Standing) (act : Act) (call : Call) (fault : CoreFault) → IsLegal o s.seen → call_of act ≡ Some call → Refused o s call fault t → Performs o s act (reply_or_stop_core fault) t
 by_itself o s t act call NoSuchClient l a h = refused_by_itself o s t act call NoSuchClient (sees_same o s t l h.1) a h.0
@@ -48,7 +45,7 @@ change_refused o s t act call fault told e l c a h = subst (λ r. Performs o s a
   where
     go : (f : ShareFault) → RefusesChange o s call f t → Performs o s act (reply_or_stop f) t
     go (Core core) h = change_by_core o s t act call core l c a h
-    go (ClientInUse number) h = in_use o s t number h.1
+    go (ClientInUse number) h = (t, h.1)
     go (Held client) h = absurd h
     go Closed h = absurd h
 
@@ -57,7 +54,7 @@ quiet_refused o s t act call fault told e l a h = subst (λ r. Performs o s act 
   where
     go : (f : ShareFault) → Refuses (λ core. Refused o s call core t) o s call f t → Performs o s act (reply_or_stop f) t
     go (Core core) h = by_itself o s t act call core l a h
-    go (ClientInUse number) h = in_use o s t number h.1
+    go (ClientInUse number) h = (t, h.1)
     go (Held client) h = absurd h
     go Closed h = absurd h
 
@@ -77,7 +74,7 @@ finish_refused o s t fault told e l h = subst (λ r. Performs o s Finish r t) (s
   where
     go : (f : ShareFault) → RefusesFinish o s f t → Performs o s Finish (reply_or_stop f) t
     go (Core core) h = finish_by_core o s t core l h
-    go (ClientInUse number) h = in_use o s t number h.2
+    go (ClientInUse number) h = (t, h.2)
     go (Held client) h = absurd h
     go Closed h = absurd h
 
@@ -97,9 +94,9 @@ scan_refused o s t fault told e l h = subst (λ r. Performs o s Scan r t) (sym e
   where
     go : (f : ShareFault) → RefusesScan o s f t → Performs o s Scan (reply_or_stop f) t
     go (Core core) h = scan_by_core o s t core l h
-    go (ClientInUse number) h = in_use o s t number h.1
+    go (ClientInUse number) h = (t, h.1)
     go (Held client) h = absurd h
-    go Closed h = tt
+    go Closed h = refl
 
 pub get_refused : (o : Opening) (s t : Standing) (id : ℕ) (fault : ShareFault) (told : _) → told ≡ reply_or_stop fault → RefusesGet o s id fault t → Performs o s (Get id) told t
 get_refused o s t id fault told e h = subst (λ r. Performs o s (Get id) r t) (sym e) (go fault h)
@@ -108,4 +105,4 @@ get_refused o s t id fault told e h = subst (λ r. Performs o s (Get id) r t) (s
     go (Core core) h = subst (λ x. Performs o s (Get id) (reply_or_stop (Core x)) t) (sym h.0) (got_none o s t id h.1 h.2)
     go (ClientInUse number) h = absurd h
     go (Held client) h = absurd h
-    go Closed h = tt
+    go Closed h = refl

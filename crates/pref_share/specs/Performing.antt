@@ -1,6 +1,6 @@
 -- No public contract cites this.
 -- What the parts of a run do.
-use Rattle.std.specs.Prelude.{◌≡◌, ℕ, List, ◌∷◌, ◌++◌, map, Some, Result, Ok, Err, MatchResult}
+use Rattle.std.specs.Prelude.{◌≡◌, ℕ, List, [], ◌∷◌, ◌++◌, map, Some, Result, Ok, Err, MatchResult, slice_get}
 use mathlib.Core.List.{IsPrefix}
 use Rattle.pref_core.specs.declared.call.Op.{Op}
 use Rattle.pref_core.specs.declared.event.Act.{Act}
@@ -12,11 +12,11 @@ use Rattle.pref_share.specs.declared.fault.ShareFault.{ShareFault}
 use Rattle.pref_share.specs.declared.fault.ShareFault.TheVariants.{Core}
 use Rattle.pref_share.specs.Openings.{Opening, calls_at}
 use Rattle.pref_share.specs.Standing.{Standing}
-use Rattle.pref_share.specs.Runs.{StepsTo, Stops, IsHeld, nobody}
+use Rattle.pref_share.specs.Runs.{StepsTo, StopsAt, nobody}
 
 -- an act, done
 abbrev pub Performs : Opening → Standing → Act → Result Reply ShareFault → Standing → Type 0
-Performs o old act result new = MatchResult result (λ reply. StepsTo o old act reply new) (Stops o nobody)
+Performs o old act result new = MatchResult result (λ reply. StepsTo o old act reply new) (StopsAt o nobody old (act ∷ []))
 
 -- the reply that a refusal of the table is; any other stops the client
 abbrev pub reply_or_stop_core : CoreFault → Result Reply ShareFault
@@ -32,9 +32,12 @@ pub record IsIn (o : Opening) (history : List Op) (s : Standing) : Type 0 where
   pub inside : IsPrefix s.seen history
   pub alone : calls_at o history s.number ≡ Some s.counter
 
--- why one client stops at its acts
-abbrev pub StopsOne : Opening → (ℕ → ℕ → Type 0) → Standing → List Act → ShareFault → Type 0
-StopsOne o may_hold s acts fault = Stops o (λ number. (number ≡ s.number) × IsHeld o may_hold s acts) fault
+-- one of these clients stops, with no acts left
+pub record OneStops (o : Opening) (clients : List Standing) (fault : ShareFault) : Type 0 where
+  pub place : ℕ
+  pub last : Standing
+  pub there : slice_get clients place ≡ Some last
+  pub why : StopsAt o nobody last [] fault
 
 -- the first error of these
 pub record IsFirstErr {A E : Type 0} (results : List (Result A E)) (fault : E) : Type 0 where

@@ -14,8 +14,9 @@ use Rattle.pref_core.specs.State.{seat}
 use Rattle.pref_core.specs.Step.{Open, Member, System, Step, state_of, step}
 use Rattle.pref_share.specs.declared.fault.ShareFault.{ShareFault}
 use Rattle.pref_share.specs.declared.fault.ShareFault.TheVariants.{Core, ClientInUse, Held, Closed}
-use Rattle.pref_share.specs.Openings.{Opening, IsLegal, HasCall, state_at, calls_at}
+use Rattle.pref_share.specs.Openings.{Opening, IsLegal, state_at, calls_at}
 use Rattle.pref_share.specs.Standing.{Asking, Standing, newcomer}
+use Rattle.pref_share.specs.Clients.{IsInUse}
 
 -- the open query of a client, as its own acts give it: the table at its begin is that of the history that it began at
 abbrev pub open_of : Opening → Asking → Open
@@ -98,43 +99,49 @@ pub record IsJointRun (o : Opening) (clients : List Standing) (acts : List (Vec 
   pub each : (i : ℕ) (client : Standing) (list : Vec Act) → slice_get clients i ≡ Some client → slice_get acts i ≡ Some list
       → (told : Vec Reply) × (slice_get replies i ≡ Some told) × IsPart o history client list.items told.items
 
--- some history holds a call of this number
-pub record HoldsSome (o : Opening) (number : ℕ) : Type 0 where
-  pub client : ℕ
-  pub seen : List Op
-  pub legal : IsLegal o seen
-  pub holds : HasCall seen client number
-
 -- a client did all these acts
 pub record DidAll (o : Opening) (s : Standing) (acts : List Act) : Type 0 where
   pub replies : List Reply
   pub last : Standing
   pub runs : RunsTo o s acts replies last
 
--- A client was held before one of its acts: it had done those before, and this is what the gate tells of that turn.
-pub record IsHeld (o : Opening) (may_hold : ℕ → ℕ → Type 0) (s : Standing) (acts : List Act) : Type 0 where
-  pub done : List Act
-  pub next : Act
-  pub more : List Act
-  pub in_order : acts ≡ done ++ next ∷ more
-  pub did : DidAll o s done
-  pub may : may_hold s.number (length done)
+-- the next of these acts is no numbered call: a scan, a get or a room
+abbrev pub ReadsNext : List Act → Type 0
+ReadsNext [] = ⊥
+ReadsNext (next ∷ more) = call_of next ≡ None
 
--- The client of this number was held, and each client of a less number did all its acts. The first list is that of client 1.
-pub record IsFirstHeld (o : Opening) (may_hold : ℕ → ℕ → Type 0) (lists : List (Vec Act)) (number : ℕ) : Type 0 where
+-- Why a client stops that stands so, with these acts left: for want of memory; in use, where a legal history that goes on from what it had seen
+-- holds a call of it, of this number, above its own counter; held before one of its acts, of which this is so by its number; or closed, where
+-- the next of its acts is no numbered call.
+abbrev pub StopsAt : Opening → (ℕ → Type 0) → Standing → List Act → ShareFault → Type 0
+StopsAt o held s rest (Core fault) = fault ≡ OutOfMemory
+StopsAt o held s rest (ClientInUse number) = (seen : Standing) × IsInUse o s number seen
+StopsAt o held s rest (Held client) = (0 < length rest) × held client
+StopsAt o held s rest Closed = ReadsNext rest
+
+-- A client stopped: it did the first of its acts, maybe all, and this is why it stopped as it stood then. Of the turn at which it was held
+-- the gate tells this.
+pub record IsStopped (o : Opening) (may_hold : ℕ → ℕ → Type 0) (s : Standing) (acts : List Act) (fault : ShareFault) : Type 0 where
+  pub done : List Act
+  pub rest : List Act
+  pub in_order : acts ≡ done ++ rest
+  pub replies : List Reply
+  pub last : Standing
+  pub runs : RunsTo o s done replies last
+  pub why : StopsAt o (λ client. (client ≡ s.number) × may_hold client (length done)) last rest fault
+
+-- One of the clients stopped, and each client of a less number did all its acts. The first list is that of client 1.
+pub record IsFirstStopped (o : Opening) (may_hold : ℕ → ℕ → Type 0) (lists : List (Vec Act)) (fault : ShareFault) : Type 0 where
   pub place : ℕ
   pub acts : Vec Act
-  pub number_is : number ≡ suc place
   pub there : slice_get lists place ≡ Some acts
-  pub held : IsHeld o may_hold (newcomer number) acts.items
+  pub stopped : IsStopped o may_hold (newcomer (suc place)) acts.items fault
   pub before : (lower : ℕ) (others : Vec Act) → lower < place → slice_get lists lower ≡ Some others → DidAll o (newcomer (suc lower)) others.items
 
--- Why a run stops: no refusal of the table does but want of memory. What is so where a client was held is said of its number.
-abbrev pub Stops : Opening → (ℕ → Type 0) → ShareFault → Type 0
-Stops o held (Core fault) = fault ≡ OutOfMemory
-Stops o held (ClientInUse number) = HoldsSome o number
-Stops o held (Held client) = held client
-Stops o held Closed = Unit {0}
+-- Why a run stops: no refusal of the table does but want of memory, and at any other fault one of the clients stopped.
+abbrev pub Stops : Opening → (ℕ → ℕ → Type 0) → List (Vec Act) → ShareFault → Type 0
+Stops o may_hold lists (Core fault) = fault ≡ OutOfMemory
+Stops o may_hold lists fault = IsFirstStopped o may_hold lists fault
 
 -- where there is no gate
 abbrev pub nobody : ℕ → Type 0

@@ -10,7 +10,7 @@ ghost use Rattle.pref_share.specs.Openings.{IsLegal, first_contents};
 ghost use Rattle.pref_share.specs.Standing.{newcomer};
 ghost use Rattle.pref_share.specs.Clients.{Sees};
 ghost use Rattle.pref_share.specs.Performing.{IsIn};
-ghost use Rattle.pref_share.specs.Runs.{Stops, nobody};
+ghost use Rattle.pref_share.specs.Runs.{StopsAt, nobody};
 ghost use Rattle.pref_share.specs.Views.{Knows};
 
 use crate::book::Naming;
@@ -148,7 +148,7 @@ impl<J: Naming> Client<J> {
     pub(crate) fn settle(&self, master: &mut Master<J>) -> Result<(), ShareFault>
         ensures same { master.new ≡ master.old }
         ensures settled { OnOk result (IsIn J.opening master.old self.now) }
-        ensures stops { IfErr result (Stops J.opening nobody) }
+        ensures stops { IfErr result (StopsAt J.opening nobody self.now []) }
     {
         master.check(&self.seen);
         if master.last(self.number) > self.counter {

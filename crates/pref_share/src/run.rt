@@ -6,8 +6,8 @@ ghost use Rattle.std.specs.Prelude.{◌≡◌, false, ◌⊎◌, ◌<◌, ◌≤
 ghost use Rattle.pref_core.specs.declared.fault.CoreFault.TheVariants.{OutOfMemory};
 ghost use Rattle.pref_share.specs.Openings.{IsLegal, calls_at};
 ghost use Rattle.pref_share.specs.Standing.{newcomers};
-ghost use Rattle.pref_share.specs.Runs.{RunsTo, IsJointRun, IsFirstHeld, Stops, nobody};
-ghost use Rattle.pref_share.specs.Performing.{IsIn, IsFirstErr, StopsOne};
+ghost use Rattle.pref_share.specs.Runs.{RunsTo, IsJointRun, IsStopped, Stops};
+ghost use Rattle.pref_share.specs.Performing.{IsIn, IsFirstErr, OneStops};
 ghost use Rattle.pref_share.specs.Interleavings.{IsSequential};
 
 use crate::board::Board;
@@ -58,8 +58,9 @@ struct Report<J: Naming> {
 ///
 /// Acts that the table refuses have its refusal as their reply, and stop nobody. A client that meets `OutOfMemory`,
 /// `ClientInUse` or `Closed`, or to which the gate answers false (`Held`), stops; where several do, the refusal is that of the
-/// one with the least number. So where it is `Held`, that client did its acts before the turn at which it was held, and each
-/// client of a less number did all its acts. What had joined the history stays.
+/// one with the least number. So that client did the first of its acts, and each client of a less number did all of its own: where
+/// it is `Held` or `Closed`, those before the act at which it stopped; where it is `ClientInUse`, those after which a history that
+/// goes on from what the client had seen holds a call of it that it has not made. What had joined the history stays.
 ///
 /// ```text
 /// let replies = run_all(rt, alloc, &board, clients, acts, &gate)?;
@@ -76,7 +77,7 @@ pub fn run_all<J: Naming + Send + Sync, R: Threads + Wait + Sync, G: Gate + Sync
     requires lists { vec_len acts ≡ vec_len clients }
     ensures joint { IfOk result (λ replies. IsJointRun J.opening clients.items acts.items replies.items) }
     ensures sequential { IfOk result (λ replies. IsSequential J.opening acts.items replies.items) }
-    ensures refused { IfErr result (Stops J.opening (IsFirstHeld J.opening (G.may_hold gate.now) acts.items)) }
+    ensures refused { IfErr result (Stops J.opening (G.may_hold gate.now) acts.items) }
 {
     let jobs = paired(alloc, clients, acts)?;
     let reports = gather(alloc, work_all(rt, alloc, board, jobs, gate)?)?;
@@ -93,7 +94,7 @@ fn paired<J: Naming>(
 ) -> Result<Vec<Job<J>>, ShareFault>
     requires { vec_len acts ≡ vec_len clients }
     ensures paired { IfOk result (λ jobs. (map (λ job. job.client) jobs.items ≡ clients.items) × (map (λ job. job.acts) jobs.items ≡ acts.items)) }
-    ensures other { IfErr result (Stops J.opening nobody) }
+    ensures other { IfErr result (λ fault. fault ≡ ShareFault.Core OutOfMemory) }
 {
     let mut jobs = Vec::new(alloc);
     let mut lists = acts.into_iter();
@@ -117,7 +118,7 @@ fn work<J: Naming, R: Wait, G: Gate>(
     job: Job<J>,
 ) -> Result<Report<J>, ShareFault>
     ensures runs { IfOk result (λ report. RunsTo J.opening job.client job.acts.items report.replies.items report.client) }
-    ensures stops { IfErr result (StopsOne J.opening (G.may_hold gate.now) job.client job.acts.items) }
+    ensures stops { IfErr result (IsStopped J.opening (G.may_hold gate.now) job.client job.acts.items) }
 {
     let Job { mut client, acts } = job;
     let number = client.number();
@@ -146,14 +147,14 @@ fn work_all<J: Naming + Send + Sync, R: Threads + Wait + Sync, G: Gate + Sync>(
 ) -> Result<Vec<Result<Report<J>, ShareFault>>, ShareFault>
     ensures len { IfOk result (λ all. vec_len all ≡ vec_len jobs) }
     ensures each { IfOk result (λ all. (i : ℕ) (job : _) (d : _) → i < vec_len jobs → IfOk (slice_index_or all.items i d) (λ report. RunsTo J.opening (slice_index_or jobs.items i job).client (slice_index_or jobs.items i job).acts.items report.replies.items report.client)) }
-    ensures stops { IfOk result (λ all. (i : ℕ) (job : _) (d : _) → i < vec_len jobs → IfErr (slice_index_or all.items i d) (StopsOne J.opening (G.may_hold gate.now) (slice_index_or jobs.items i job).client (slice_index_or jobs.items i job).acts.items)) }
-    ensures other { IfErr result (Stops J.opening nobody) }
+    ensures stops { IfOk result (λ all. (i : ℕ) (job : _) (d : _) → i < vec_len jobs → IfErr (slice_index_or all.items i d) (IsStopped J.opening (G.may_hold gate.now) (slice_index_or jobs.items i job).client (slice_index_or jobs.items i job).acts.items)) }
+    ensures other { IfErr result (λ fault. fault ≡ ShareFault.Core OutOfMemory) }
 {
     match thread::map_vec(
         rt,
         jobs,
         &|job: Job<J>| -> Result<Report<J>, ShareFault>
-            ensures { IfOk result (λ report. RunsTo J.opening job.client job.acts.items report.replies.items report.client) × IfErr result (StopsOne J.opening (G.may_hold gate.entry.now) job.client job.acts.items) }
+            ensures { IfOk result (λ report. RunsTo J.opening job.client job.acts.items report.replies.items report.client) × IfErr result (IsStopped J.opening (G.may_hold gate.entry.now) job.client job.acts.items) }
         { work(rt, alloc, board, gate, job) },
     ) {
         Ok(reports) => Ok(reports),
@@ -187,7 +188,7 @@ fn gather<J: Naming>(
 fn settle_each<J: Naming>(master: &mut Master<J>, reports: &[Report<J>]) -> Result<(), ShareFault>
     ensures same { master.new ≡ master.old }
     ensures settled { OnOk result ((i : ℕ) (d : _) → i < length reports.now → IsIn J.opening master.old (slice_index_or reports.now i d).client) }
-    ensures stops { IfErr result (Stops J.opening nobody) }
+    ensures stops { IfErr result (OneStops J.opening (map (λ report. report.client) reports.now)) }
 {
     for report in reports {
         report.client.settle(master)?;
@@ -203,7 +204,7 @@ fn settle_all<J: Naming, R: Wait>(
 ) -> Result<Prefix<J>, ShareFault>
     ensures legal { IfOk result (λ whole. IsLegal J.opening whole) }
     ensures settled { IfOk result (λ whole. (i : ℕ) (d : _) → i < length reports.now → IsIn J.opening whole (slice_index_or reports.now i d).client) }
-    ensures stops { IfErr result (Stops J.opening nobody) }
+    ensures stops { IfErr result (OneStops J.opening (map (λ report. report.client) reports.now)) }
 {
     let mut guard = board.master.lock(rt);
     let master = &mut *guard;
@@ -217,7 +218,7 @@ fn replies_of<J: Naming>(
     reports: Vec<Report<J>>,
 ) -> Result<Vec<Vec<Reply>>, ShareFault>
     ensures all { IfOk result (λ all. all.items ≡ map (λ r. r.replies) reports.items) }
-    ensures stops { IfErr result (Stops J.opening nobody) }
+    ensures other { IfErr result (λ fault. fault ≡ ShareFault.Core OutOfMemory) }
 {
     let mut all = Vec::new(alloc);
     for report in reports {

@@ -6,7 +6,7 @@ use Rattle.pref_core.specs.declared.event.Act.{Act}
 use Rattle.pref_core.specs.declared.event.Reply.{Reply}
 use Rattle.pref_core.specs.declared.fault.CoreFault.TheVariants as core
 use Rattle.pref_share.specs.Interleavings.{IsSequential}
-use Rattle.pref_share.specs.Runs.{IsFirstHeld, IsJointRun, Stops}
+use Rattle.pref_share.specs.Runs.{IsJointRun, Stops}
 use Rattle.pref_share.specs.Standing.{newcomers}
 use Rattle.pref_share.specs.declared.fault.ShareFault.{ShareFault}
 use Rattle.pref_share.specs.declared.fault.ShareFault.TheVariants as share
@@ -14,7 +14,7 @@ use Rattle.prefq.specs.Commands.{commands_of}
 use Rattle.prefq.specs.Output.{Script, ScriptFault, script_of, script_with}
 use Rattle.prefq.specs.Reading.{IsReadOf, share_fault, unowned_text}
 use Rattle.prefq.specs.Text.{texts}
-use Rattle.prefq.specs.Threads.{AreActs, RanOnThreads, StopsClients, WereStopped, clients_lines, opening_of, unowned_lines}
+use Rattle.prefq.specs.Threads.{AreActs, ClosesOrStops, RanOnThreads, StopsClients, WereStopped, clients_lines, opening_of, unowned_lines}
 use Rattle.prefq.specs.declared.commands.Line.{Line}
 use Rattle.prefq.specs.declared.fault.RunFault.{RunFault}
 use Rattle.prefq.specs.declared.fault.RunFault.TheVariants as fault
@@ -34,9 +34,15 @@ ran-fault limits may_hold bytes fault.Write h = h
 ran-fault limits may_hold bytes fault.TooLarge h = h
 ran-fault limits may_hold bytes (fault.Threads why) h = absurd h
 
+pub closes-or-stops : (limits : Limits) (may_hold : ℕ → ℕ → Type 0) (rows : List (List ℤ)) (acts : List (Vec Act)) (why : ShareFault) → Stops (record { limits = limits; rows = rows }) may_hold acts why → ClosesOrStops (record { limits = limits; rows = rows }) may_hold acts why
+closes-or-stops limits may_hold rows acts (share.Core core) h = h
+closes-or-stops limits may_hold rows acts (share.ClientInUse number) h = h
+closes-or-stops limits may_hold rows acts (share.Held client) h = h
+closes-or-stops limits may_hold rows acts share.Closed h = tt
+
 -- what stops clients with these acts, on a board that opens with these rows
 abbrev StopsActs : Limits → (ℕ → ℕ → Type 0) → List (List ℤ) → List (Vec Act) → ShareFault → Type 0
-StopsActs limits may_hold rows acts why = Stops (record { limits = limits; rows = rows }) (IsFirstHeld (record { limits = limits; rows = rows }) may_hold acts) why
+StopsActs limits may_hold rows acts why = ClosesOrStops (record { limits = limits; rows = rows }) may_hold acts why
 
 -- the clients were stopped
 ran-stopped : (limits : Limits) (may_hold : ℕ → ℕ → Type 0) (bytes : List ℕ) (r : Read) → IsReadOf bytes r → (limits.capacity < length r.rows.items → ⊥) → (acts : List (Vec Act)) → AreActs limits.clients r.commands.events.items acts
@@ -49,7 +55,7 @@ ran-stopped limits may_hold bytes r read room acts owned why stops = by why stop
     is_script : script_of limits bytes ≡ Ok script
     is_script = script-ok limits bytes read.parts (r.schema, r.rows.items) read.cut read.table room
 
-    stopped : (why : ShareFault) → StopsClients (opening_of limits script) (IsFirstHeld (opening_of limits script) may_hold acts) why → WereStopped limits may_hold script why
+    stopped : (why : ShareFault) → StopsClients (opening_of limits script) may_hold acts why → WereStopped limits may_hold script why
     stopped why stops = record { acts = acts; of_script = rw read.events at owned; stops = stops }
 
     by : (why : ShareFault) → StopsActs limits may_hold r.rows.items acts why → RanOnThreads limits may_hold bytes (Err (share_fault why))

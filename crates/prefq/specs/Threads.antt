@@ -9,7 +9,7 @@ use Rattle.pref_core.specs.declared.event.Reply.TheVariants.{Refused}
 use Rattle.pref_core.specs.declared.fault.CoreFault.TheVariants.{NoSuchClient}
 use Rattle.pref_share.specs.Openings.{Opening}
 use Rattle.pref_share.specs.Interleavings.{IsSequential}
-use Rattle.pref_share.specs.Runs.{IsFirstHeld, IsJointRun, Stops}
+use Rattle.pref_share.specs.Runs.{IsJointRun, Stops}
 use Rattle.pref_share.specs.Standing.{newcomers}
 use Rattle.pref_share.specs.declared.fault.ShareFault.{ShareFault}
 use Rattle.pref_share.specs.declared.fault.ShareFault.TheVariants as share
@@ -65,16 +65,21 @@ pub record TellsJointRun (limits : Limits) (script : Script) (text : List ℕ) :
   pub sequential : IsSequential (opening_of limits script) acts replies
   pub told : text ≡ threads_text limits script replies
 
--- why clients were stopped, for another reason than want of memory
-abbrev pub StopsClients : Opening → (ℕ → Type 0) → ShareFault → Type 0
-StopsClients opening held (share.Core why) = ⊥
-StopsClients opening held why = Stops opening held why
+-- why clients did not do all their acts: the board was not opened, or closed, or they were stopped
+abbrev pub ClosesOrStops : Opening → (ℕ → ℕ → Type 0) → List (Vec Act) → ShareFault → Type 0
+ClosesOrStops opening may_hold acts share.Closed = Unit {0}
+ClosesOrStops opening may_hold acts why = Stops opening may_hold acts why
+
+-- the same, for another reason than want of memory
+abbrev pub StopsClients : Opening → (ℕ → ℕ → Type 0) → List (Vec Act) → ShareFault → Type 0
+StopsClients opening may_hold acts (share.Core why) = ⊥
+StopsClients opening may_hold acts why = ClosesOrStops opening may_hold acts why
 
 -- The clients of a script were stopped, behind a gate that tells this of each turn at which it holds a client.
 pub record WereStopped (limits : Limits) (may_hold : ℕ → ℕ → Type 0) (script : Script) (why : ShareFault) : Type 0 where
   pub acts : List (Vec Act)
   pub of_script : AreActs limits.clients (events_of script.commands) acts
-  pub stops : StopsClients (opening_of limits script) (IsFirstHeld (opening_of limits script) may_hold acts) why
+  pub stops : StopsClients (opening_of limits script) may_hold acts why
 
 -- what a run of a script on threads gives, behind such a gate
 abbrev pub RanOnThreads : Limits → (ℕ → ℕ → Type 0) → List ℕ → Result (Vec ℕ) RunFault → Type 0

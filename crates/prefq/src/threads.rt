@@ -2,9 +2,9 @@
 ghost use Rattle.std.specs.Prelude.{◌≡◌, ◌<◌, length, IfOk, IfErr, ◌⊎◌};
 ghost use Rattle.pref_core.specs.declared.fault.CoreFault.TheVariants as core;
 ghost use Rattle.pref_share.specs.Interleavings.{IsSequential};
-ghost use Rattle.pref_share.specs.Runs.{IsFirstHeld, IsJointRun, Stops};
+ghost use Rattle.pref_share.specs.Runs.{IsJointRun};
 ghost use Rattle.pref_share.specs.Standing.{newcomers};
-ghost use Rattle.prefq.specs.Threads.{HoldsNobody, RanOnThreads};
+ghost use Rattle.prefq.specs.Threads.{ClosesOrStops, HoldsNobody, RanOnThreads};
 ghost use Rattle.prefq.specs.Reading.{share_fault};
 
 use crate::acts::acts_by_client;
@@ -62,7 +62,7 @@ fn joint_replies<J: Naming + Send + Sync, R: Threads + Wait + Sync, G: Gate + Sy
     ensures sequential { IfOk result (λ replies. IsSequential (record { limits = setup; rows = rows.now }) acts.items replies.items) }
     ensures room { IfOk result (λ replies. setup.capacity < length rows.now → ⊥) }
     ensures stops { IfErr result (λ why. (setup.capacity < length rows.now) × (why ≡ ShareFault.Core (core.Full (length rows.now)))
-        ⊎ (setup.capacity < length rows.now → ⊥) × Stops (record { limits = setup; rows = rows.now }) (IsFirstHeld (record { limits = setup; rows = rows.now }) (G.may_hold gate.now) acts.items) why) }
+        ⊎ (setup.capacity < length rows.now → ⊥) × ClosesOrStops (record { limits = setup; rows = rows.now }) (G.may_hold gate.now) acts.items why) }
 {
     let (board, clients) = open_board::<J, R>(rt, alloc, name, setup, rows)?;
     let replies = run_all(rt, alloc, &board, clients, acts, gate);

@@ -1,4 +1,4 @@
-use Rattle.std.proofs.Common.{rules, ℕ, sym, subst, ap, ◌∙◌, ◌≡◌, ◌++◌, length}
+use Rattle.std.proofs.Common.{rules, ℕ, sym, subst, ap, ◌∙◌, ◌≡◌, ◌++◌, ◌∷◌, length, arith}
 use Rattle.std.proofs.lemmas.List.{append_assoc}
 use Rattle.std.specs.Vec.Iter.{into_iter_items}
 use Rattle.pref_share.proofs.Running.{runs_none, runs_more, length_told}
@@ -17,14 +17,13 @@ pub returns-then-not-before-clause-stops : goal.returns-then-not-before-clause-s
 returns-then-not-before-clause-stops g c =
     let may : ℕ → ℕ → Type 0 = g.G.Gate.may_hold c.args.gate.now in
     let told : may c.number-number.result c.len-turn.result = c.before-in-loop-act.ensures (search rules) in
-    let turn : c.len-turn.result ≡ length c.loop-act.yielded = c.len-turn.ensures ∙ c.loop-act.replies.ok.0 ∙ length_told g.J.Naming.opening _ _ _ _ c.loop-act.invariant.0 in (
-      c.number-number.ensures.value,
-      record {
-        done = c.loop-act.yielded;
-        next = c.in-Some.act;
-        more = into_iter_items c.next.new.self;
-        in_order = search rules;
-        did = record { replies = c.loop-act.replies.items; last = c.loop-act.client; runs = c.loop-act.invariant.0 };
-        may = subst (λ number. may number (length c.loop-act.yielded)) c.number-number.ensures.value (subst (may c.number-number.result) turn told);
-      },
-    )
+    let turn : c.len-turn.result ≡ length c.loop-act.yielded = c.len-turn.ensures ∙ c.loop-act.replies.ok.0 ∙ length_told g.J.Naming.opening _ _ _ _ c.loop-act.invariant.0 in
+    record {
+      done = c.loop-act.yielded;
+      rest = c.in-Some.act ∷ into_iter_items c.next.new.self;
+      in_order = search rules;
+      replies = c.loop-act.replies.items;
+      last = c.loop-act.client;
+      runs = c.loop-act.invariant.0;
+      why = (omega arith, (c.number-number.ensures.value, subst (may c.number-number.result) turn told));
+    }

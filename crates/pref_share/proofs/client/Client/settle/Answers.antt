@@ -1,24 +1,26 @@
-use Rattle.std.proofs.Common.{◌≡◌, suc, ◌+◌, List, subst, ◌∙◌, ap, arith}
+use Rattle.std.proofs.Common.{◌≡◌, suc, ◌+◌, List, ◌∙◌, ap, arith}
 use Rattle.std.specs.Option.{unwrap_or}
 use Rattle.pref_core.specs.declared.call.Op.{Op}
-use Rattle.pref_share.specs.Openings.{HasCall, calls_at}
+use Rattle.pref_share.specs.Openings.{calls_at}
+use Rattle.pref_share.specs.Standing.{Standing}
 use Rattle.pref_share.proofs.Standings.{ahead, even}
+use Rattle.pref_share.proofs.Stopping.{in_use}
 use Rattle.pref_share.proofs.client.Client.settle.Goals as goal
 
 pub returns-then-last-self-clause-stops : goal.returns-then-last-self-clause-stops
 returns-then-last-self-clause-stops g c =
     let o = g.J.Naming.opening in
+    let s = c.self.inside in
     let history = c.args.master.now in
-    let number = c.self.inside.number in
-    let counter = c.self.inside.counter in
-    let last : c.last.result ≡ unwrap_or (calls_at o history number) 0 = c.last.ensures ∙ ap (λ (l : List Op). unwrap_or (calls_at o l number) 0) c.check.ensures.same in
-    let next : suc counter ≡ counter + 1 = omega arith in
-    record {
-      client = number;
-      seen = history;
+    let old : Standing = record { number = s.number; counter = s.counter; seen = s.seen; query = s.asking } in
+    let last : c.last.result ≡ unwrap_or (calls_at o history s.number) 0 = c.last.ensures ∙ ap (λ (l : List Op). unwrap_or (calls_at o l s.number) 0) c.check.ensures.same in
+    let next : suc s.counter ≡ s.counter + 1 = omega arith in
+    rw (← c.self.view_is)
+    (in_use o old history (s.counter + 1) next (record {
+      further = c.check.ensures.begins;
       legal = c.check.ensures.legal;
-      holds = subst (HasCall history number) next (ahead o number counter c.last.result c.self.inside.seen history c.self.inside.asking c.self.invariant.2 c.check.ensures.begins c.check.ensures.legal last c.if-last-self.true);
-    }
+      holds = ahead o s.number s.counter c.last.result s.seen history s.asking c.self.invariant.2 c.check.ensures.begins c.check.ensures.legal last c.if-last-self.true;
+    }))
 
 pub returns-clause-settled : goal.returns-clause-settled
 returns-clause-settled g c =
