@@ -18,7 +18,7 @@ use Rattle.prefq.proofs.ScriptFacts.{lines_none}
 pub plays_none : (width : ℕ) (running : Running) (text : List ℕ) → Plays width running [] text text running
 plays_none width running text = record {
   limits = refl;
-  plays = λ system h. record { next = system; said = []; stands = h; added = sym (append-nil text); passes = record { goes_on = λ more. refl } };
+  plays = λ system h. record { next = system; stands = h; goes_on = λ more. refl };
 }
 
 -- a refused line
@@ -26,22 +26,24 @@ pub plays_refused : (width : ℕ) (running : Running) (number : ℕ) (why : Refu
 unfolding told events_of
 plays_refused width running number why old new added = record {
   limits = refl;
-  plays = λ system h. record { next = system; said = refused_line number why; stands = h; added = added; passes = record { goes_on = λ more. refl } };
+  plays = λ system h. record { next = system; stands = h; goes_on = λ more. rw added (append_assoc old (refused_line number why) (told_from running.limits width system more)) };
 }
 
 -- an event
 pub plays_event : (width : ℕ) (before after : Running) (event : Event) (reply : Reply) (old new : List ℕ) → Replies before event (Ok reply) after → new ≡ old ++ reply_lines width event.client reply
     → Plays width before (runs event ∷ []) old new after
 unfolding told events_of
-plays_event width before after event reply old new replies added = record {
-  limits = replies.limits;
-  plays = λ system h. let says = replies.tells system h in record {
-    next = (step before.limits system event).next;
-    said = reply_lines width event.client reply;
-    stands = says.1;
-    added = added;
-    passes = record { goes_on = λ more. ap (λ (r : Reply). reply_lines width event.client r ++ told_from before.limits width (step before.limits system event).next more) (sym says.0) };
-  };
+plays_event width before after event reply old new answers added = record {
+  limits = answers.limits;
+  plays = λ system h.
+      let says = answers.tells system h in
+      let right = step before.limits system event in record {
+        next = right.next;
+        stands = says.1;
+        goes_on = λ more.
+            let rest = told_from before.limits width right.next more in
+            rw added (append_assoc old (reply_lines width event.client reply) rest ∙ ap (λ (r : Reply). old ++ (reply_lines width event.client r ++ rest)) says.0);
+      };
 }
 
 -- what was told so far, and what is left to be told from here on, is what all are told
@@ -65,13 +67,9 @@ playing_more width first now after all commands rest text new playing plays = re
   from = λ system h.
       let so_far = playing.from system h in
       let one = plays.plays so_far.next so_far.stands in
-      let same : told_from first.limits width so_far.next (commands ++ rest) ≡ one.said ++ told_from first.limits width one.next rest
-      = subst (λ (l : Limits). told_from l width so_far.next (commands ++ rest) ≡ one.said ++ told_from l width one.next rest) playing.limits (one.passes.goes_on rest) in
-      record {
-        next = one.next;
-        stands = one.stands;
-        whole = rw one.added (append_assoc text one.said (told_from first.limits width one.next rest) ∙ ap (λ (t : List ℕ). text ++ t) (sym same) ∙ so_far.whole);
-      };
+      let on : new ++ told_from first.limits width one.next rest ≡ text ++ told_from first.limits width so_far.next (commands ++ rest)
+      = subst (λ (l : Limits). new ++ told_from l width one.next rest ≡ text ++ told_from l width so_far.next (commands ++ rest)) playing.limits (one.goes_on rest) in
+      record { next = one.next; stands = one.stands; whole = on ∙ so_far.whole };
 }
 
 -- a line more

@@ -11,19 +11,14 @@ use Rattle.prefq.specs.Output.{told}
 abbrev pub told_from : Limits → ℕ → System → List Command → List ℕ
 told_from limits width system commands = told width commands (replies_from limits system (events_of commands))
 
--- some first commands are told this, and leave this system, whatever commands follow
-pub record Passes (limits : Limits) (width : ℕ) (system : System) (commands : List Command) (said : List ℕ) (next : System) : Type 0 where
-  pub goes_on : (more : List Command) → told_from limits width system (commands ++ more) ≡ said ++ told_from limits width next more
-
--- from one system that what ran stands for to one that what runs stands for, these commands are told what was added to the text
+-- These commands were played from one system to one that what runs now stands for: whatever commands follow, the old text with
+-- what all are told is the new one with what those that follow are told.
 pub record PlaysFrom (width : ℕ) (system : System) (limits : Limits) (commands : List Command) (old new : List ℕ) (after : Running) : Type 0 where
   pub next : System
-  pub said : List ℕ
   pub stands : StandsForSystem after next
-  pub added : new ≡ old ++ said
-  pub passes : Passes limits width system commands said next
+  pub goes_on : (more : List Command) → new ++ told_from limits width next more ≡ old ++ told_from limits width system (commands ++ more)
 
--- commands were played
+-- the same from each system that what ran stands for
 pub record Plays (width : ℕ) (before : Running) (commands : List Command) (old new : List ℕ) (after : Running) : Type 0 where
   pub limits : after.limits ≡ before.limits
   pub plays : (system : System) → StandsForSystem before system → PlaysFrom width system before.limits commands old new after
