@@ -7,5 +7,6 @@ pub mod OutputFacts
 pub mod PlayFacts
 pub mod ClientFacts
 pub mod ThreadsFacts
+pub mod RunFacts
 pub mod Examples
 pub mod QuestionExamples

@@ -1,17 +1,16 @@
 -- The output of a script, part by part.
-use Rattle.std.proofs.Common.{◌≡◌, ◌∙◌, ℕ, ◌<◌, List, [], ◌∷◌, length, ap, refl, arith, Ok, Err, Bool, true, false, ◌⊎◌, inl, inr, Option, take}
+use Rattle.std.proofs.Common.{◌≡◌, ◌∙◌, ℕ, ◌<◌, List, [], ◌∷◌, length, ap, refl, Ok, Err, Bool, true, false, ◌⊎◌, inl, inr, Result}
 use Rattle.std.proofs.lemmas.Bool.{cases_lt, le-ltb, lt-ltb}
-use Rattle.std.proofs.lemmas.List.{take_all}
-use Rattle.std.specs.Prelude.{nat_lt}
+use Rattle.std.specs.Global.{Global}
+use Rattle.std.specs.Prelude.{IfErr, IfOk, String, nat_lt, string_bytes}
 use Rattle.std.specs.List.{position_or_len}
-use Rattle.std.specs.Io.KnownBytes.{Appends}
 use Rattle.pref_table.specs.Tables.{Fails, Table, table_of}
 use Rattle.pref_table.specs.declared.fault.TableFault.TheVariants as table
 use Rattle.pref_table.specs.declared.fault.TableFault.{TableFault}
 use Rattle.pref_core.specs.Limits.{Limits}
 use Rattle.pref_core.specs.declared.fault.CoreFault.TheVariants as core
 use Rattle.pref_core.specs.declared.fault.CoreFault.{CoreFault}
-use Rattle.prefq.specs.Output.{ScriptFault, fault_text, output, script_of, script_with}
+use Rattle.prefq.specs.Output.{Script, ScriptFault, TellsOutput, in_bytes, output_of, script_of, script_with}
 use Rattle.prefq.specs.Reading.{core_fault, table_fault}
 use Rattle.prefq.specs.Script.{Parts, is_end, is_table, parts_of, raw_lines}
 use Rattle.prefq.specs.declared.fault.RunFault.{RunFault}
@@ -70,15 +69,8 @@ script-ok limits bytes parts table h t room = elim (cases_lt limits.capacity (le
   | inr few ↦ rw (h, t, le-ltb limits.capacity (length table.1) few) refl
 ]
 
--- a beginning of a fault's line is one of the output
-pub wrote-part : (limits : Limits) (why : RunFault) (bytes : List ℕ) (count : ℕ) (held holds : Option (List ℕ)) → ScriptFault why (script_of limits bytes)
-    → Appends held holds (take count (fault_text why)) → (n : ℕ) × Appends held holds (take n (output limits bytes))
-wrote-part limits fault.NoTable bytes count held holds h a = (count, rw h a)
-wrote-part limits fault.NoEnd bytes count held holds h a = (count, rw h a)
-wrote-part limits (fault.Table why) bytes count held holds h a = (count, rw h a)
-wrote-part limits (fault.Opening why) bytes count held holds h a = (count, rw h a)
-wrote-part limits fault.Memory bytes count held holds h a = (0, rw (take_all {A = ℕ} count [] (omega arith)) at a)
-wrote-part limits fault.Read bytes count held holds h a = absurd h
-wrote-part limits fault.Write bytes count held holds h a = absurd h
-wrote-part limits fault.TooLarge bytes count held holds h a = absurd h
-wrote-part limits (fault.Threads why) bytes count held holds h a = absurd h
+-- what a script without a fault is told, unless memory ran out
+pub tells-played : (limits : Limits) (bytes : List ℕ) (script : Script) (result : Result (String Global) RunFault) → script_of limits bytes ≡ Ok script
+    → IfOk result (λ text. string_bytes text ≡ output_of limits (Ok script)) → IfErr result (λ why. why ≡ fault.Memory) → TellsOutput limits bytes (in_bytes result)
+tells-played limits bytes script (Ok text) said told memory = rw said (refl, told)
+tells-played limits bytes script (Err why) said told memory = rw memory tt

@@ -1,4 +1,4 @@
--- What a run of a script on threads gives.
+-- What a script is told whose clients run on threads.
 use Rattle.std.proofs.Common.{◌≡◌, ◌∙◌, ℕ, ◌<◌, List, [], ◌++◌, length, refl, Ok, Err, ◌⊎◌, inl, inr, ℤ}
 use Rattle.std.specs.Global.{Vec}
 use Rattle.pref_core.specs.Limits.{Limits}
@@ -14,7 +14,7 @@ use Rattle.prefq.specs.Commands.{commands_of}
 use Rattle.prefq.specs.Output.{Script, ScriptFault, script_of, script_with}
 use Rattle.prefq.specs.Reading.{IsReadOf, share_fault, unowned_text}
 use Rattle.prefq.specs.Text.{texts}
-use Rattle.prefq.specs.Threads.{AreActs, ClosesOrStops, RanOnThreads, StopsClients, WereStopped, clients_lines, opening_of, unowned_lines}
+use Rattle.prefq.specs.Threads.{AreActs, ClosesOrStops, TellsOnThreads, StopsClients, WereStopped, clients_lines, opening_of, unowned_lines}
 use Rattle.prefq.specs.declared.commands.Line.{Line}
 use Rattle.prefq.specs.declared.fault.RunFault.{RunFault}
 use Rattle.prefq.specs.declared.fault.RunFault.TheVariants as fault
@@ -23,16 +23,16 @@ use Rattle.prefq.proofs.ClientFacts.{told-unowned}
 use Rattle.prefq.proofs.OutputFacts.{script-core-fault, script-ok}
 
 -- a fault of the script
-pub ran-fault : (limits : Limits) (may_hold : ℕ → ℕ → Type 0) (bytes : List ℕ) (why : RunFault) → ScriptFault why (script_of limits bytes) → RanOnThreads limits may_hold bytes (Err why)
-ran-fault limits may_hold bytes fault.Memory h = h
-ran-fault limits may_hold bytes fault.NoTable h = h
-ran-fault limits may_hold bytes fault.NoEnd h = h
-ran-fault limits may_hold bytes (fault.Table why) h = h
-ran-fault limits may_hold bytes (fault.Opening why) h = h
-ran-fault limits may_hold bytes fault.Read h = h
-ran-fault limits may_hold bytes fault.Write h = h
-ran-fault limits may_hold bytes fault.TooLarge h = h
-ran-fault limits may_hold bytes (fault.Threads why) h = absurd h
+pub tells-fault : (limits : Limits) (may_hold : ℕ → ℕ → Type 0) (bytes : List ℕ) (why : RunFault) → ScriptFault why (script_of limits bytes) → TellsOnThreads limits may_hold bytes (Err why)
+tells-fault limits may_hold bytes fault.Memory h = h
+tells-fault limits may_hold bytes fault.NoTable h = h
+tells-fault limits may_hold bytes fault.NoEnd h = h
+tells-fault limits may_hold bytes (fault.Table why) h = h
+tells-fault limits may_hold bytes (fault.Opening why) h = h
+tells-fault limits may_hold bytes fault.Read h = h
+tells-fault limits may_hold bytes fault.Write h = h
+tells-fault limits may_hold bytes fault.TooLarge h = h
+tells-fault limits may_hold bytes (fault.Threads why) h = absurd h
 
 pub closes-or-stops : (limits : Limits) (may_hold : ℕ → ℕ → Type 0) (rows : List (List ℤ)) (acts : List (Vec Act)) (why : ShareFault) → Stops (record { limits = limits; rows = rows }) may_hold acts why → ClosesOrStops (record { limits = limits; rows = rows }) may_hold acts why
 closes-or-stops limits may_hold rows acts (share.Core core) h = h
@@ -45,9 +45,9 @@ abbrev StopsActs : Limits → (ℕ → ℕ → Type 0) → List (List ℤ) → L
 StopsActs limits may_hold rows acts why = ClosesOrStops (record { limits = limits; rows = rows }) may_hold acts why
 
 -- the clients were stopped
-ran-stopped : (limits : Limits) (may_hold : ℕ → ℕ → Type 0) (bytes : List ℕ) (r : Read) → IsReadOf bytes r → (limits.capacity < length r.rows.items → ⊥) → (acts : List (Vec Act)) → AreActs limits.clients r.commands.events.items acts
-    → (why : ShareFault) → StopsActs limits may_hold r.rows.items acts why → RanOnThreads limits may_hold bytes (Err (share_fault why))
-ran-stopped limits may_hold bytes r read room acts owned why stops = by why stops
+tells-stopped : (limits : Limits) (may_hold : ℕ → ℕ → Type 0) (bytes : List ℕ) (r : Read) → IsReadOf bytes r → (limits.capacity < length r.rows.items → ⊥) → (acts : List (Vec Act)) → AreActs limits.clients r.commands.events.items acts
+    → (why : ShareFault) → StopsActs limits may_hold r.rows.items acts why → TellsOnThreads limits may_hold bytes (Err (share_fault why))
+tells-stopped limits may_hold bytes r read room acts owned why stops = by why stops
   where
     script : Script
     script = script_with read.parts (r.schema, r.rows.items)
@@ -58,22 +58,22 @@ ran-stopped limits may_hold bytes r read room acts owned why stops = by why stop
     stopped : (why : ShareFault) → StopsClients (opening_of limits script) may_hold acts why → WereStopped limits may_hold script why
     stopped why stops = record { acts = acts; of_script = rw read.events at owned; stops = stops }
 
-    by : (why : ShareFault) → StopsActs limits may_hold r.rows.items acts why → RanOnThreads limits may_hold bytes (Err (share_fault why))
+    by : (why : ShareFault) → StopsActs limits may_hold r.rows.items acts why → TellsOnThreads limits may_hold bytes (Err (share_fault why))
     by (share.Core core) stops = rw stops tt
     by (share.ClientInUse number) stops = (script, is_script, stopped (share.ClientInUse number) stops)
     by (share.Held client) stops = (script, is_script, stopped (share.Held client) stops)
     by share.Closed stops = (script, is_script, stopped share.Closed stops)
 
 -- the board was not opened, or the clients were stopped
-pub ran-refused : (limits : Limits) (may_hold : ℕ → ℕ → Type 0) (bytes : List ℕ) (r : Read) → IsReadOf bytes r → (rows : List (List ℤ)) → rows ≡ r.rows.items → (acts : List (Vec Act)) → AreActs limits.clients r.commands.events.items acts → (why : ShareFault)
+pub tells-refused : (limits : Limits) (may_hold : ℕ → ℕ → Type 0) (bytes : List ℕ) (r : Read) → IsReadOf bytes r → (rows : List (List ℤ)) → rows ≡ r.rows.items → (acts : List (Vec Act)) → AreActs limits.clients r.commands.events.items acts → (why : ShareFault)
     → ((limits.capacity < length rows) × (why ≡ share.Core (core.Full (length rows)))) ⊎ ((limits.capacity < length rows → ⊥) × StopsActs limits may_hold rows acts why)
-    → RanOnThreads limits may_hold bytes (Err (share_fault why))
-ran-refused limits may_hold bytes r read rows same acts owned why refused = by (rw same at refused)
+    → TellsOnThreads limits may_hold bytes (Err (share_fault why))
+tells-refused limits may_hold bytes r read rows same acts owned why refused = by (rw same at refused)
   where
     by : ((limits.capacity < length r.rows.items) × (why ≡ share.Core (core.Full (length r.rows.items)))) ⊎ ((limits.capacity < length r.rows.items → ⊥) × StopsActs limits may_hold r.rows.items acts why)
-        → RanOnThreads limits may_hold bytes (Err (share_fault why))
+        → TellsOnThreads limits may_hold bytes (Err (share_fault why))
     by (inl (many, full)) = rw full (script-core-fault limits bytes read.parts (r.schema, r.rows.items) (core.Full (length r.rows.items)) read.cut read.table (λ _. refl) (inr many))
-    by (inr (room, stops)) = ran-stopped limits may_hold bytes r read room acts owned why stops
+    by (inr (room, stops)) = tells-stopped limits may_hold bytes r read room acts owned why stops
 
 -- what is printed before the clients' lines
 unowned-printed : (clients width : ℕ) (bytes : List ℕ) (r : Read) (read : IsReadOf bytes r) (lines : List Line) (start unowned : List ℕ) → width ≡ length r.schema → lines ≡ r.commands.lines.items
@@ -83,17 +83,17 @@ unowned-printed clients width bytes r read lines start unowned wide all empty wr
     printed ∙ told-unowned clients (length r.schema) (commands_of r.schema read.parts.first read.parts.commands)
 
 -- the output of a joint run
-pub ran-told : (limits : Limits) (may_hold : ℕ → ℕ → Type 0) (bytes : List ℕ) (r : Read) (read : IsReadOf bytes r) (rows : List (List ℤ)) (width : ℕ) (lines : List Line) (acts : List (Vec Act)) (replies : List (Vec Reply))
-    (shown : List (Vec Reply)) (start unowned out : List ℕ) (text : Vec ℕ) → rows ≡ r.rows.items → (limits.capacity < length rows → ⊥) → width ≡ length r.schema → lines ≡ r.commands.lines.items
-    → start ≡ [] → unowned ≡ start ++ texts (unowned_text limits.clients width) lines → shown ≡ replies → out ≡ unowned ++ clients_lines width 1 shown → text.items ≡ out
+pub tells-joint : (limits : Limits) (may_hold : ℕ → ℕ → Type 0) (bytes : List ℕ) (r : Read) (read : IsReadOf bytes r) (rows : List (List ℤ)) (width : ℕ) (lines : List Line) (acts : List (Vec Act)) (replies : List (Vec Reply))
+    (shown : List (Vec Reply)) (start unowned text : List ℕ) → rows ≡ r.rows.items → (limits.capacity < length rows → ⊥) → width ≡ length r.schema → lines ≡ r.commands.lines.items
+    → start ≡ [] → unowned ≡ start ++ texts (unowned_text limits.clients width) lines → shown ≡ replies → text ≡ unowned ++ clients_lines width 1 shown
     → AreActs limits.clients r.commands.events.items acts → IsJointRun (record { limits = limits; rows = rows }) (newcomers limits.clients) acts replies
-    → IsSequential (record { limits = limits; rows = rows }) acts replies → RanOnThreads limits may_hold bytes (Ok text)
-ran-told limits may_hold bytes r read rows width lines acts replies shown start unowned out text same room wide all empty first every wrote whole owned joint sequential =
+    → IsSequential (record { limits = limits; rows = rows }) acts replies → TellsOnThreads limits may_hold bytes (Ok text)
+tells-joint limits may_hold bytes r read rows width lines acts replies shown start unowned text same room wide all empty first every wrote owned joint sequential =
     let space = rw same at room in
     let run = rw same at joint in
     let answers = rw same at sequential in
     let before = unowned-printed limits.clients width bytes r read lines start unowned wide all empty first in
-    let printed = rw (wide, every, before) at (whole ∙ wrote) in (
+    let printed = rw (wide, every, before) at wrote in (
       script_with read.parts (r.schema, r.rows.items),
       script-ok limits bytes read.parts (r.schema, r.rows.items) read.cut read.table space,
       record { acts = acts; replies = replies; of_script = rw read.events at owned; joint = run; sequential = answers; told = printed },

@@ -1,5 +1,6 @@
 -- The output of a script. (this project)
-use Rattle.std.specs.Prelude.{ℕ, ℤ, ◌≡◌, ⊤, List, [], ◌∷◌, length, Result, Ok, Err, nat_lt, if◌then◌else◌, codes}
+use Rattle.std.specs.Prelude.{ℕ, ℤ, ◌≡◌, ⊤, List, [], ◌∷◌, length, Result, Ok, Err, IsOk, nat_lt, if◌then◌else◌, codes, String, string_bytes}
+use Rattle.std.specs.Global.{Global}
 use Rattle.pref_table.specs.Numbered.{◌>>=◌}
 use Rattle.pref_table.specs.Tables.{Table, table_of}
 use Rattle.pref_table.specs.declared.fault.TableFault.{TableFault}
@@ -77,3 +78,18 @@ ScriptFault fault.Read said = ⊥
 ScriptFault fault.Write said = ⊥
 ScriptFault fault.TooLarge said = ⊥
 ScriptFault (fault.Threads why) said = ⊥
+
+-- what an input is told: its output, which is the replies to a script without a fault, or the fault
+abbrev pub TellsOutput : Limits → List ℕ → Result (List ℕ) RunFault → Type 0
+TellsOutput limits bytes (Ok text) = IsOk (script_of limits bytes) × (text ≡ output limits bytes)
+TellsOutput limits bytes (Err why) = ScriptFault why (script_of limits bytes)
+
+-- what is written of what was told: the text, or the fault's line
+abbrev pub text_of : Result (List ℕ) RunFault → List ℕ
+text_of (Ok text) = text
+text_of (Err why) = fault_text why
+
+-- what was told, by its bytes
+abbrev pub in_bytes : Result (String Global) RunFault → Result (List ℕ) RunFault
+in_bytes (Ok text) = Ok (string_bytes text)
+in_bytes (Err why) = Err why

@@ -1,47 +1,56 @@
 -- What a run of a script reads and writes. (this project)
 use Rattle.std.specs.Prelude.{ℕ, ◌≡◌, ◌≤◌, Bool, true, List, length, take, Option, Result, Ok, Err, IsOk}
 use Rattle.std.specs.Io.KnownBytes.{Appends, Consumes, IsAtEnd, Keeps}
-use Rattle.pref_core.specs.Limits.{Limits}
 use Rattle.prefq.specs.Input.{HadTooMany}
-use Rattle.prefq.specs.Output.{output, script_of}
+use Rattle.prefq.specs.Output.{text_of}
+use Rattle.prefq.specs.Watched.{has_failed, inside}
 use Rattle.prefq.specs.declared.fault.RunFault.{RunFault}
 use Rattle.prefq.specs.declared.fault.RunFault.TheVariants as fault
+use Rattle.prefq.specs.declared.watched.Watched.{Watched}
 
--- the two ends of a run: what the reader had and has left, what the writer held and holds, and whether they have failed
-pub record Ports : Type 0 where
+-- a run's reader: what it had and has left, and whether it has failed
+pub record Source : Type 0 where
   pub had : Option (List ℕ)
   pub left : Option (List ℕ)
-  pub read_failed : Bool
+  pub failed : Bool
+
+-- a run's writer: what it held and holds, and whether it has failed
+pub record Sink : Type 0 where
   pub held : Option (List ℕ)
   pub holds : Option (List ℕ)
-  pub write_failed : Bool
+  pub failed : Bool
 
-abbrev pub NothingWritten : Ports → Type 0
-NothingWritten ports = Keeps ports.held ports.holds
+-- a watched reader before and after, by the bytes that it has left
+abbrev pub source_of : {R : Type 0} → (R → Option (List ℕ)) → Watched R → Watched R → Source
+source_of remaining old new = record { had = remaining (inside old); left = remaining (inside new); failed = has_failed new }
 
-abbrev pub WroteAll : Ports → List ℕ → Type 0
-WroteAll ports text = Appends ports.held ports.holds text
+-- a watched writer before and after, by the bytes that it holds
+abbrev pub sink_of : {W : Type 0} → (W → Option (List ℕ)) → Watched W → Watched W → Sink
+sink_of contents old new = record { held = contents (inside old); holds = contents (inside new); failed = has_failed new }
 
-abbrev pub WroteBeginning : Ports → List ℕ → Type 0
-WroteBeginning ports text = (count : ℕ) × Appends ports.held ports.holds (take count text)
+abbrev pub NothingWritten : Sink → Type 0
+NothingWritten sink = Keeps sink.held sink.holds
+
+abbrev pub WroteAll : Sink → List ℕ → Type 0
+WroteAll sink text = Appends sink.held sink.holds text
+
+abbrev pub WroteBeginning : Sink → List ℕ → Type 0
+WroteBeginning sink text = (count : ℕ) × Appends sink.held sink.holds (take count text)
+
+-- what was written of a text, or of a fault, that was told, by how the run ended
+abbrev pub Wrote : Sink → Result (List ℕ) RunFault → Result (Unit {0}) RunFault → Type 0
+Wrote sink told (Ok done) = IsOk told × WroteAll sink (text_of told)
+Wrote sink told (Err fault.Write) = (sink.failed ≡ true) × WroteBeginning sink (text_of told)
+Wrote sink told (Err fault.Memory) = NothingWritten sink
+Wrote sink told (Err why) = (told ≡ Err why) × WroteAll sink (text_of told)
 
 -- all bytes of the reader were read, no more than a script may have, and P holds of them
-abbrev pub ReadAll : Ports → (List ℕ → Type 0) → Type 0
-ReadAll ports P = (bytes : List ℕ) × Consumes ports.had ports.left bytes × IsAtEnd ports.left × (length bytes ≤ 16777216) × P bytes
+abbrev pub ReadAll : Source → (List ℕ → Type 0) → Type 0
+ReadAll source P = (bytes : List ℕ) × Consumes source.had source.left bytes × IsAtEnd source.left × (length bytes ≤ 16777216) × P bytes
 
--- the script that was read has this fault, and its line was written
-abbrev pub ToldFault : Limits → Ports → RunFault → Type 0
-ToldFault limits ports why = ReadAll ports (λ bytes. (script_of limits bytes ≡ Err why) × WroteAll ports (output limits bytes))
-
--- what a run under these limits read and wrote, by its result
-abbrev pub Ran : Limits → Ports → Result (Unit {0}) RunFault → Type 0
-Ran limits ports (Ok done) = ReadAll ports (λ bytes. IsOk (script_of limits bytes) × WroteAll ports (output limits bytes))
-Ran limits ports (Err fault.Read) = (ports.read_failed ≡ true) × NothingWritten ports
-Ran limits ports (Err fault.TooLarge) = HadTooMany ports.had × NothingWritten ports
-Ran limits ports (Err fault.Memory) = NothingWritten ports
-Ran limits ports (Err fault.Write) = (ports.write_failed ≡ true) × ReadAll ports (λ bytes. WroteBeginning ports (output limits bytes))
-Ran limits ports (Err fault.NoTable) = ToldFault limits ports fault.NoTable
-Ran limits ports (Err fault.NoEnd) = ToldFault limits ports fault.NoEnd
-Ran limits ports (Err (fault.Table why)) = ToldFault limits ports (fault.Table why)
-Ran limits ports (Err (fault.Opening why)) = ToldFault limits ports (fault.Opening why)
-Ran limits ports (Err (fault.Threads why)) = ⊥
+-- what a run read and wrote, by how it ended, where Tells says which text or which fault an input may be told
+abbrev pub Ran : (List ℕ → Result (List ℕ) RunFault → Type 0) → Source → Sink → Result (Unit {0}) RunFault → Type 0
+Ran Tells source sink (Err fault.Read) = (source.failed ≡ true) × NothingWritten sink
+Ran Tells source sink (Err fault.TooLarge) = HadTooMany source.had × NothingWritten sink
+Ran Tells source sink (Err fault.Memory) = NothingWritten sink
+Ran Tells source sink result = ReadAll source (λ bytes. (told : Result (List ℕ) RunFault) × Tells bytes told × Wrote sink told result)

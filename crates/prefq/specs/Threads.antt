@@ -81,11 +81,15 @@ pub record WereStopped (limits : Limits) (may_hold : ℕ → ℕ → Type 0) (sc
   pub of_script : AreActs limits.clients (events_of script.commands) acts
   pub stops : StopsClients (opening_of limits script) may_hold acts why
 
--- what a run of a script on threads gives, behind such a gate
-abbrev pub RanOnThreads : Limits → (ℕ → ℕ → Type 0) → List ℕ → Result (Vec ℕ) RunFault → Type 0
-RanOnThreads limits may_hold bytes (Ok text) = (script : Script) × (script_of limits bytes ≡ Ok script) × TellsJointRun limits script text.items
-RanOnThreads limits may_hold bytes (Err (fault.Threads why)) = (script : Script) × (script_of limits bytes ≡ Ok script) × WereStopped limits may_hold script why
-RanOnThreads limits may_hold bytes (Err why) = ScriptFault why (script_of limits bytes)
+-- what an input is told whose clients run on threads behind such a gate: the text of a joint run, a fault, or why they were stopped
+abbrev pub TellsOnThreads : Limits → (ℕ → ℕ → Type 0) → List ℕ → Result (List ℕ) RunFault → Type 0
+TellsOnThreads limits may_hold bytes (Ok text) = (script : Script) × (script_of limits bytes ≡ Ok script) × TellsJointRun limits script text
+TellsOnThreads limits may_hold bytes (Err (fault.Threads why)) = (script : Script) × (script_of limits bytes ≡ Ok script) × WereStopped limits may_hold script why
+TellsOnThreads limits may_hold bytes (Err why) = ScriptFault why (script_of limits bytes)
+
+-- what a gate tells that is always open
+abbrev pub always_open : ℕ → ℕ → Type 0
+always_open client turn = ⊥
 
 -- no client was held
 abbrev pub HoldsNobody : RunFault → Type 0

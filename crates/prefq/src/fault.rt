@@ -36,6 +36,7 @@ pub enum RunFault {
     #[error("opening: {0}")]
     Opening(CoreFault),
     /// The clients on threads were stopped: by the gate, which in the program holds nobody, by a client in use or by a closed board.
+    /// Nothing was written.
     #[error("threads: {0}")]
     Threads(ShareFault),
 }

@@ -20,9 +20,7 @@ mod words;
 
 use args::{Args, ArgsFault, read_args};
 use fault::RunFault;
-use output::write_output;
-use pref_core::Setup;
-use run::{fault_line, run_script};
+use run::run_script;
 use std::alloc::{AllocError, Global};
 use std::env;
 use std::io::{ErrorKind, Read, Write};
@@ -30,7 +28,7 @@ use std::process::ExitCode;
 use std::rt::Env;
 use std::sync::Wait;
 use std::thread::Threads;
-use threads::threads_output;
+use threads::run_script_on_threads;
 use watched::Watched;
 
 /// The status of refused arguments.
@@ -97,41 +95,28 @@ fn report(rt: &impl Print, fault: &RunFault) {
     }
 }
 
-/// Runs the script of standard input.
-fn play(rt: &HostRuntime, setup: Setup) -> u8 {
-    let mut reader = Watched::new(rt.stdin());
-    let mut writer = Watched::new(rt.stdout());
-    match run_script(rt.alloc(), &mut reader, &mut writer, setup) {
+/// Runs the script that is read as the arguments ask for, and reports how that ended by a line and by the status.
+fn run_as_asked<T: Threads + Wait + Sync + AllocGlobal + Print, R: Read + Drop, W: Write + Drop>(
+    rt: &T,
+    reader: R,
+    writer: W,
+    args: Args,
+) -> u8 {
+    let Args { threads, setup } = args;
+    let mut reader = Watched::new(reader);
+    let mut writer = Watched::new(writer);
+    let result = if threads {
+        run_script_on_threads(rt, rt.alloc(), &mut reader, &mut writer, setup)
+    } else {
+        run_script(rt.alloc(), &mut reader, &mut writer, setup)
+    };
+    match result {
         Ok(()) => 0,
         Err(fault) => {
             report(rt, &fault);
             fault.status()
         }
     }
-}
-
-/// Runs the script that is read, each client's events on a thread of its own, and writes the output or a fault's line.
-fn run_on_threads<T: Threads + Wait + Sync + AllocGlobal + Print, R: Read + Drop, W: Write + Drop>(
-    rt: &T,
-    reader: R,
-    writer: W,
-    setup: Setup,
-) -> u8 {
-    let mut writer = Watched::new(writer);
-    let fault = match threads_output(rt, reader, setup) {
-        Ok(output) => match write_output(&mut writer, output.as_slice()) {
-            Ok(()) => return 0,
-            Err(fault) => fault,
-        },
-        Err(fault) => {
-            if let Ok(line) = fault_line(rt.alloc(), &fault) {
-                let _ = write_output(&mut writer, line.as_slice());
-            }
-            fault
-        }
-    };
-    report(rt, &fault);
-    fault.status()
 }
 
 /// What the program's words ask for.
@@ -144,14 +129,9 @@ fn given_args(rt: &(impl Env + AllocGlobal)) -> Result<Args, ArgsFault> {
 }
 
 fn main(rt: HostRuntime) -> ExitCode {
-    let args = match given_args(&rt) {
-        Ok(args) => args,
-        Err(fault) => return ExitCode::from(refuse(&rt, fault)),
-    };
-    let status = if args.threads {
-        run_on_threads(&rt, rt.stdin(), rt.stdout(), args.setup)
-    } else {
-        play(&rt, args.setup)
+    let status = match given_args(&rt) {
+        Ok(args) => run_as_asked(&rt, rt.stdin(), rt.stdout(), args),
+        Err(fault) => refuse(&rt, fault),
     };
     ExitCode::from(status)
 }

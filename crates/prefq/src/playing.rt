@@ -59,27 +59,19 @@ fn play_line(
 pub fn play_lines(
     alloc: Global,
     schema: &Schema,
-    machine: Machine,
+    machine: &mut Machine,
     script: ScriptText<'_>,
 ) -> Result<String, RunFault>
     requires { script.first + length script.commands.now < 2 ^ 64 }
-    ensures told { IfOk result (λ text. TellsAll (length schema.now) machine (commands_of schema.now script.entry.first (raw_lines script.entry.commands.now)) (string_bytes text)) }
+    ensures told { IfOk result (λ text. TellsAll (length schema.now) machine.old (commands_of schema.now script.entry.first (raw_lines script.entry.commands.now)) (string_bytes text)) }
     ensures memory { IfErr result (λ fault. fault ≡ RunFault.Memory) }
 {
-    let mut machine = machine;
     let mut text = String::new(alloc);
     let mut left = script.commands;
     let mut number = script.first;
     while !left.is_empty() {
         let (raw, tail) = cut_line(left);
-        play_line(
-            alloc,
-            schema,
-            &mut machine,
-            number,
-            line_text(raw),
-            &mut text,
-        )?;
+        play_line(alloc, schema, machine, number, line_text(raw), &mut text)?;
         number += 1;
         left = tail;
     }

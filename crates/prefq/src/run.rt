@@ -1,51 +1,23 @@
 //! A script from its bytes to the bytes of its output.
-ghost use Rattle.std.specs.Prelude.{◌≡◌, ◌≤◌, ◌<◌, ◌⊎◌, ◌↔◌, ℕ, List, Err, false, length, IfErr, IfOk, IsOk, MatchResult, string_bytes};
+ghost use Rattle.std.specs.Prelude.{◌≡◌, ◌≤◌, ◌<◌, ◌⊎◌, ◌↔◌, ℕ, List, Err, false, length, IfErr, IfOk};
 ghost use Rattle.std.specs.Io.KnownBytes.{Consumes};
 ghost use Rattle.pref_core.specs.Step.{opened};
 ghost use Rattle.pref_core.specs.Systems.{StandsForSystem};
-ghost use Rattle.prefq.specs.Output.{ScriptFault, fault_text, output, script_of};
+ghost use Rattle.prefq.specs.Output.{TellsOutput, in_bytes};
 ghost use Rattle.prefq.specs.Reading.{core_fault};
-ghost use Rattle.prefq.specs.Run.{Ran};
+ghost use Rattle.prefq.specs.Run.{Ran, sink_of, source_of};
 ghost use Rattle.prefq.specs.Watched.{has_failed, inside};
 
 use crate::fault::RunFault;
 use crate::input::read_input;
-use crate::output::write_output;
+use crate::output::write_told;
 use crate::playing::play_lines;
 use crate::reading::{Opening, read_opening};
-use crate::text::{push_core_fault, push_table_fault};
 use crate::watched::Watched;
 use pref_core::{CoreFault, Machine, Setup};
 use pref_table::Row;
-use std::alloc::{AllocError, Global};
+use std::alloc::Global;
 use std::io::{Read, Write};
-
-/// The line of a fault of status 2, with its line feed, and nothing for other faults.
-pub fn fault_line(alloc: Global, fault: &RunFault) -> Result<Vec<u8>, AllocError>
-    ensures { IfOk result (λ line. line.items ≡ fault_text fault.now) }
-{
-    let mut line = String::new(alloc);
-    match fault {
-        RunFault::NoTable => write!(line, "script refused: no table\n")?,
-        RunFault::NoEnd => write!(line, "script refused: no end\n")?,
-        RunFault::Table(why) => {
-            write!(line, "table refused ")?;
-            push_table_fault(&mut line, *why)?;
-            write!(line, "\n")?;
-        }
-        RunFault::Opening(why) => {
-            write!(line, "opening refused ")?;
-            push_core_fault(&mut line, *why)?;
-            write!(line, "\n")?;
-        }
-        RunFault::Read
-        | RunFault::Write
-        | RunFault::TooLarge
-        | RunFault::Memory
-        | RunFault::Threads(_) => {}
-    }
-    Ok(line.into_bytes())
-}
 
 /// The engine's refusal of a script as a fault of the run.
 pub fn of_core(why: CoreFault) -> RunFault
@@ -68,15 +40,13 @@ fn opened(alloc: Global, setup: Setup, rows: Vec<Row>) -> Result<Machine, CoreFa
 
 /// The text of a script's replies, or the script's fault.
 fn reply_text(alloc: Global, setup: Setup, bytes: &[u8]) -> Result<String, RunFault>
-    ensures { MatchResult result (λ text. IsOk (script_of setup bytes.now) × (string_bytes text ≡ output setup bytes.now)) (λ fault. ScriptFault fault (script_of setup bytes.now)) }
+    ensures { TellsOutput setup bytes.now (in_bytes result) }
 {
     let Opening { schema, rows, text } = read_opening(alloc, bytes)?;
-    let machine = match opened(alloc, setup, rows) {
-        Ok(machine) => machine,
-        Err(why) => return Err(of_core(why)),
-    };
-    let told = play_lines(alloc, &schema, machine, text)?;
-    Ok(told)
+    match opened(alloc, setup, rows) {
+        Ok(mut machine) => play_lines(alloc, &schema, &mut machine, text),
+        Err(why) => Err(of_core(why)),
+    }
 }
 
 /// Reads a script, runs it under a setup and writes its output. The whole output is made before its first byte is written.
@@ -93,22 +63,9 @@ pub fn run_script<R: Read, W: Write>(
     requires reads { has_failed reader.old ≡ false }
     requires writes { has_failed writer.old ≡ false }
     ensures most { (bytes : List ℕ) × Consumes (R.remaining (inside reader.old)) (R.remaining (inside reader.new)) bytes × (length bytes ≤ 16777217) }
-    ensures ran { Ran setup (record {
-      had = R.remaining (inside reader.old);
-      left = R.remaining (inside reader.new);
-      read_failed = has_failed reader.new;
-      held = W.contents (inside writer.old);
-      holds = W.contents (inside writer.new);
-      write_failed = has_failed writer.new;
-    }) result }
+    ensures ran { Ran (TellsOutput setup) (source_of R.remaining reader.old reader.new) (sink_of W.contents writer.old writer.new) result }
 {
     let input = read_input(alloc, reader)?;
-    match reply_text(alloc, setup, input.as_slice()) {
-        Ok(text) => write_output(writer, text.as_bytes()),
-        Err(fault) => {
-            let line = fault_line(alloc, &fault)?;
-            write_output(writer, line.as_slice())?;
-            Err(fault)
-        }
-    }
+    let told = reply_text(alloc, setup, input.as_slice());
+    write_told(alloc, writer, told)
 }

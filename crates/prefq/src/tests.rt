@@ -96,19 +96,24 @@ impl Run {
     }
 }
 
+/// A run with this end, and what its reader and its writer have seen.
+fn ended(end: Result<(), RunFault>, reader: Watched<Trickle<'_>>, writer: Watched<Narrow>) -> Run {
+    let read_failed = reader.failed();
+    let write_failed = writer.failed();
+    Run {
+        result: end,
+        output: writer.into_inner().taken,
+        read_failed,
+        write_failed,
+    }
+}
+
 /// A run of a text through these two ends.
 fn run_through(alloc: Global, reader: Trickle<'_>, writer: Narrow, setup: Setup) -> Run {
     let mut reader = Watched::new(reader);
     let mut writer = Watched::new(writer);
     let result = run_script(alloc, &mut reader, &mut writer, setup);
-    let read_failed = reader.failed();
-    let write_failed = writer.failed();
-    Run {
-        result,
-        output: writer.into_inner().taken,
-        read_failed,
-        write_failed,
-    }
+    ended(result, reader, writer)
 }
 
 /// A reader that gives so many bytes at a time and never fails.

@@ -1,15 +1,20 @@
 //! A script whose clients run on threads, from its bytes to the bytes of its output.
-ghost use Rattle.std.specs.Prelude.{◌≡◌, ◌<◌, length, IfOk, IfErr, ◌⊎◌};
+ghost use Rattle.std.specs.Prelude.{◌≡◌, ◌<◌, ◌≤◌, ◌⊎◌, ℕ, List, false, length, IfOk, IfErr};
+ghost use Rattle.std.specs.Io.KnownBytes.{Consumes};
 ghost use Rattle.pref_core.specs.declared.fault.CoreFault.TheVariants as core;
 ghost use Rattle.pref_share.specs.Interleavings.{IsSequential};
 ghost use Rattle.pref_share.specs.Runs.{IsJointRun};
 ghost use Rattle.pref_share.specs.Standing.{newcomers};
-ghost use Rattle.prefq.specs.Threads.{ClosesOrStops, HoldsNobody, RanOnThreads};
+ghost use Rattle.prefq.specs.Output.{in_bytes};
 ghost use Rattle.prefq.specs.Reading.{share_fault};
+ghost use Rattle.prefq.specs.Run.{Ran, sink_of, source_of};
+ghost use Rattle.prefq.specs.Threads.{ClosesOrStops, HoldsNobody, TellsOnThreads, always_open};
+ghost use Rattle.prefq.specs.Watched.{has_failed, inside};
 
 use crate::acts::acts_by_client;
 use crate::fault::RunFault;
 use crate::input::read_input;
+use crate::output::write_told;
 use crate::reading::{Script, read_script};
 use crate::replies::{push_clients, push_unowned};
 use crate::run::of_core;
@@ -18,7 +23,7 @@ use pref_core::{Act, Reply, Setup};
 use pref_share::{Gate, Name, Naming, ShareFault, open_board, run_all};
 use pref_table::Row;
 use std::alloc::Global;
-use std::io::Read;
+use std::io::{Read, Write};
 use std::marker::Brand;
 use std::sync::Wait;
 use std::thread::Threads;
@@ -87,8 +92,8 @@ pub fn run_threads<R: Threads + Wait + Sync, G: Gate + Sync>(
     bytes: &[u8],
     setup: Setup,
     gate: &G,
-) -> Result<Vec<u8>, RunFault>
-    ensures { RanOnThreads setup (G.may_hold gate.now) bytes.now result }
+) -> Result<String, RunFault>
+    ensures { TellsOnThreads setup (G.may_hold gate.now) bytes.now (in_bytes result) }
 {
     let Script {
         schema,
@@ -112,20 +117,29 @@ pub fn run_threads<R: Threads + Wait + Sync, G: Gate + Sync>(
         Err(why) => return Err(of_share(why)),
     };
     push_clients(&mut text, width, replies.as_slice())?;
-    Ok(text.into_bytes())
+    Ok(text)
 }
 
-/// The output of the script that is read, each client's events on a thread of its own. The gate is open, so no client is held.
+/// Reads a script, runs it under a setup, each client's events on a thread of its own, and writes its output. The gate is open,
+/// so no client is held. The whole output is made before its first byte is written.
 ///
-/// Refused `Read` or `TooLarge` where the input is not read whole, and as `run_threads` is.
-pub fn threads_output<T: Threads + Wait + Sync + AllocGlobal, R: Read + Drop>(
+/// After `Read`, `TooLarge`, `Memory` and `Threads` nothing was written, and after `Write` a beginning of the output. Each other
+/// fault is the script's own, and its one line is the output. The faults come in the order of [`run_script`](crate::run::run_script),
+/// and `Threads` where a client was stopped after that.
+pub fn run_script_on_threads<T: Threads + Wait + Sync, R: Read, W: Write>(
     rt: &T,
-    reader: R,
+    alloc: Global,
+    reader: &mut Watched<R>,
+    writer: &mut Watched<W>,
     setup: Setup,
-) -> Result<Vec<u8>, RunFault>
-    ensures { IfErr result HoldsNobody }
+) -> Result<(), RunFault>
+    requires reads { has_failed reader.old ≡ false }
+    requires writes { has_failed writer.old ≡ false }
+    ensures most { (bytes : List ℕ) × Consumes (R.remaining (inside reader.old)) (R.remaining (inside reader.new)) bytes × (length bytes ≤ 16777217) }
+    ensures ran { Ran (TellsOnThreads setup always_open) (source_of R.remaining reader.old reader.new) (sink_of W.contents writer.old writer.new) result }
+    ensures nobody { IfErr result HoldsNobody }
 {
-    let mut reader = Watched::new(reader);
-    let input = read_input(rt.alloc(), &mut reader)?;
-    run_threads(rt, rt.alloc(), input.as_slice(), setup, &OpenGate)
+    let input = read_input(alloc, reader)?;
+    let told = run_threads(rt, alloc, input.as_slice(), setup, &OpenGate);
+    write_told(alloc, writer, told)
 }

@@ -1,7 +1,7 @@
 //! Faults of scripts, with their lines and statuses.
 use super::{defaults, run_whole, setup_of};
 use crate::fault::RunFault;
-use crate::run::fault_line;
+use crate::output::fault_line;
 use pref_core::CoreFault;
 use pref_table::TableFault;
 use std::test::Fail;
@@ -81,8 +81,8 @@ fn each_table_fault_has_its_number_and_text(rt: HostRuntime) -> Result<(), Fail>
     ];
     for (fault, line) in cases {
         assert_eq!(rt;
-            fault_line(rt.alloc(), &RunFault::Table(fault))?.as_slice(),
-            line.as_bytes()
+            fault_line(rt.alloc(), &RunFault::Table(fault))?.as_str(),
+            line
         );
     }
     Ok(())
@@ -115,8 +115,8 @@ fn each_engine_fault_has_its_number_and_text(rt: HostRuntime) -> Result<(), Fail
     ];
     for (fault, line) in cases {
         assert_eq!(rt;
-            fault_line(rt.alloc(), &RunFault::Opening(fault))?.as_slice(),
-            line.as_bytes()
+            fault_line(rt.alloc(), &RunFault::Opening(fault))?.as_str(),
+            line
         );
     }
     Ok(())

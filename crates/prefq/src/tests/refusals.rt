@@ -49,8 +49,8 @@ fn a_refused_run_has_written_nothing_and_is_made_again(rt: HostRuntime) -> Resul
 const SCRIPT_OF_ONE: &[u8] =
     b"table\nx\n5\nend\nas 1 insert 3\nas 7 room\nas 1 begin best low(x)\nas 1 scan\nas 1 scan\nas 1 finish\n";
 
-const TOLD_TO_ONE: &[u8] =
-    b"7 refused 1: no such client\n1 inserted 2\n1 begun 2\n1 left 1\n1 left 0\n1 answer 1\nlevel 1 id 2: 3\n";
+const TOLD_TO_ONE: &str =
+    "7 refused 1: no such client\n1 inserted 2\n1 begun 2\n1 left 1\n1 left 0\n1 answer 1\nlevel 1 id 2: 3\n";
 
 #[test]
 fn a_refused_run_on_threads_is_made_again(rt: HostRuntime) -> Result<(), Fail> {
@@ -62,6 +62,6 @@ fn a_refused_run_on_threads_is_made_again(rt: HostRuntime) -> Result<(), Fail> {
             run_threads(&rt, rt.alloc(), SCRIPT_OF_ONE, setup, &OpenGate).expect(&rt, "memory")
         }
     };
-    assert_eq!(rt; output.as_slice(), TOLD_TO_ONE);
+    assert_eq!(rt; output.as_str(), TOLD_TO_ONE);
     Ok(())
 }

@@ -1,16 +1,19 @@
 //! Scripts whose clients run on threads.
 ghost use Rattle.std.specs.Prelude.{◌≡◌};
 
-use super::{defaults, setup_of};
+use super::{Full, Narrow, Run, defaults, ended, in_steps, roomy, setup_of};
 use crate::fault::RunFault;
-use crate::run::fault_line;
-use crate::threads::{OpenGate, run_threads};
+use crate::output::fault_line;
+use crate::threads::{OpenGate, run_script_on_threads, run_threads};
+use crate::watched::Watched;
 use pref_core::{CoreFault, Setup};
 use pref_share::{Gate, ShareFault};
 use pref_table::TableFault;
+use std::sync::Wait;
 use std::sync::atomic::{AtomicU64, Ordering};
 use std::test::Fail;
 use std::thread;
+use std::thread::Threads;
 
 /// How often a gate looks whether the other client was answered.
 const MOST_TURNS: u64 = 100_000_000;
@@ -63,14 +66,24 @@ impl Gate for StopsAt {
     fn after(&self, _client: u8, _turn: usize) {}
 }
 
-fn text_of(output: &Result<Vec<u8>, RunFault>) -> &str {
+fn text_of(output: &Result<String, RunFault>) -> &str {
     match output {
-        Ok(bytes) => match str::from_utf8(bytes.as_slice()) {
-            Ok(text) => text,
-            Err(_) => "no text",
-        },
+        Ok(text) => text.as_str(),
         Err(_) => "a fault",
     }
+}
+
+/// A run on threads of a text through a writer.
+fn run_into<T: Threads + Wait + Sync + AllocGlobal>(
+    rt: &T,
+    setup: Setup,
+    text: &[u8],
+    writer: Narrow,
+) -> Run {
+    let mut reader = Watched::new(in_steps(text, 8192));
+    let mut writer = Watched::new(writer);
+    let result = run_script_on_threads(rt, rt.alloc(), &mut reader, &mut writer, setup);
+    ended(result, reader, writer)
 }
 
 #[test]
@@ -187,6 +200,57 @@ fn a_refused_script_has_no_output(rt: HostRuntime) -> Result<(), Fail> {
         let output = run_threads(&rt, rt.alloc(), script, setup, &OpenGate);
         assert_eq!(rt; output, Err(wanted));
         assert_eq!(rt; wanted.status(), 2);
+    }
+    Ok(())
+}
+
+#[test]
+fn a_run_on_threads_writes_the_replies_or_the_line_of_a_fault(rt: HostRuntime) -> Result<(), Fail> {
+    let setup = defaults().ok_or("no setup")?;
+    let cases: [(&[u8], Result<(), RunFault>, &str); 3] = [
+        (
+            b"table\nx\n3\nend\nas 2 get 1\nas 1 jump\nas 1 room",
+            Ok(()),
+            "line 6 refused: command\n1 room 1023\n2 row 1: 3\n",
+        ),
+        (
+            b"table\nx\n3\n",
+            Err(RunFault::NoEnd),
+            "script refused: no end\n",
+        ),
+        (
+            b"table\nx\n1.5\nend\n",
+            Err(RunFault::Table(TableFault::NotWhole { row: 1, col: 1 })),
+            "table refused 6: not whole row 1 col 1\n",
+        ),
+    ];
+    for (script, result, told) in cases {
+        let run = run_into(&rt, setup, script, roomy(rt.alloc(), 5));
+        assert_eq!(rt; run.result, result);
+        assert_eq!(rt; run.text(), told);
+        assert!(rt; !run.read_failed && !run.write_failed);
+    }
+    Ok(())
+}
+
+#[test]
+fn a_writer_that_fails_on_threads_holds_a_beginning(rt: HostRuntime) -> Result<(), Fail> {
+    let setup = defaults().ok_or("no setup")?;
+    let cases: [(&[u8], &str); 2] = [
+        (b"tables", "script"),
+        (b"table\nx\n3\nend\nas 2 get 1\n", "2 row "),
+    ];
+    for (script, beginning) in cases {
+        let writer = Narrow {
+            taken: Vec::new(rt.alloc()),
+            step: 8192,
+            room: 6,
+            full: Full::Fails,
+        };
+        let run = run_into(&rt, setup, script, writer);
+        assert_eq!(rt; run.result, Err(RunFault::Write));
+        assert_eq!(rt; run.text(), beginning);
+        assert!(rt; run.write_failed && !run.read_failed);
     }
     Ok(())
 }
