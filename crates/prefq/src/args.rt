@@ -6,10 +6,19 @@ use clap::{Arg, ArgAction, ArgMatches, Command, Error, value_parser};
 use pref_core::Setup;
 use std::alloc::{AllocError, Global};
 
-/// What the arguments ask for: whether each client's lines run on a thread of its own, and the setup.
+/// How a script is run.
+#[derive(Clone, Copy, Debug, PartialEq, Eq)]
+pub enum Mode {
+    /// Line by line.
+    Play,
+    /// Each client's lines on a thread of its own.
+    Threads,
+}
+
+/// What the arguments ask for: how the script is run, and its setup.
 #[derive(Clone, Copy)]
 pub struct Args {
-    pub threads: bool,
+    pub mode: Mode,
     pub setup: Setup,
 }
 
@@ -154,15 +163,16 @@ pub fn read_args(alloc: Global, words: &[&str]) -> Result<Args, ArgsFault> {
     };
     let Some((name, options)) = matches.subcommand() else {
         return Ok(Args {
-            threads: false,
+            mode: Mode::Play,
             setup: default_setup(),
         });
     };
+    let mode = match name {
+        "threads" => Mode::Threads,
+        _ => Mode::Play,
+    };
     match setup_of(options) {
-        Some(setup) => Ok(Args {
-            threads: name == "threads",
-            setup,
-        }),
+        Some(setup) => Ok(Args { mode, setup }),
         None => Err(ArgsFault::Refused),
     }
 }

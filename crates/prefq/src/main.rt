@@ -18,7 +18,7 @@ mod threads;
 mod watched;
 mod words;
 
-use args::{Args, ArgsFault, read_args};
+use args::{Args, ArgsFault, Mode, read_args};
 use fault::RunFault;
 use run::run_script;
 use std::alloc::{AllocError, Global};
@@ -102,13 +102,12 @@ fn run_as_asked<T: Threads + Wait + Sync + AllocGlobal + Print, R: Read + Drop, 
     writer: W,
     args: Args,
 ) -> u8 {
-    let Args { threads, setup } = args;
+    let Args { mode, setup } = args;
     let mut reader = Watched::new(reader);
     let mut writer = Watched::new(writer);
-    let result = if threads {
-        run_script_on_threads(rt, rt.alloc(), &mut reader, &mut writer, setup)
-    } else {
-        run_script(rt.alloc(), &mut reader, &mut writer, setup)
+    let result = match mode {
+        Mode::Play => run_script(rt.alloc(), &mut reader, &mut writer, setup),
+        Mode::Threads => run_script_on_threads(rt, rt.alloc(), &mut reader, &mut writer, setup),
     };
     match result {
         Ok(()) => 0,

@@ -1,31 +1,29 @@
 //! Arguments that are accepted, refused, or ask for help.
-use crate::args::{ArgsFault, read_args};
+use crate::args::{ArgsFault, Mode, read_args};
 use std::alloc::Global;
 use std::test::Fail;
 
-/// Whether the threads are asked for, then clients, slots and slots of a block.
-type Read = (bool, u8, u32, u32);
+/// The mode, then clients, slots and slots of a block.
+type Read = (Mode, u8, u32, u32);
 
 fn read(alloc: Global, words: &[&str]) -> Option<Read> {
     let Ok(args) = read_args(alloc, words) else {
         return None;
     };
     let setup = args.setup;
-    Some((
-        args.threads,
-        setup.clients(),
-        setup.capacity(),
-        setup.block(),
-    ))
+    Some((args.mode, setup.clients(), setup.capacity(), setup.block()))
 }
 
 #[test]
 fn arguments_accepted(rt: HostRuntime) -> Result<(), Fail> {
     let cases: [(&[&str], Read); 6] = [
-        (&[], (false, 4, 1024, 1024)),
-        (&["play"], (false, 4, 1024, 1024)),
-        (&["threads"], (true, 4, 1024, 1024)),
-        (&["play", "--cap", "4", "--block", "2"], (false, 4, 4, 2)),
+        (&[], (Mode::Play, 4, 1024, 1024)),
+        (&["play"], (Mode::Play, 4, 1024, 1024)),
+        (&["threads"], (Mode::Threads, 4, 1024, 1024)),
+        (
+            &["play", "--cap", "4", "--block", "2"],
+            (Mode::Play, 4, 4, 2),
+        ),
         (
             &[
                 "play",
@@ -37,11 +35,11 @@ fn arguments_accepted(rt: HostRuntime) -> Result<(), Fail> {
                 "--window",
                 "65536",
             ],
-            (false, 8, 65536, 65536),
+            (Mode::Play, 8, 65536, 65536),
         ),
         (
             &["threads", "--clients", "+1", "--cap", "007"],
-            (true, 1, 7, 1024),
+            (Mode::Threads, 1, 7, 1024),
         ),
     ];
     for (words, wanted) in cases {
