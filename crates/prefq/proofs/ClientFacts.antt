@@ -1,9 +1,11 @@
 -- The acts and the lines of each client.
-use Rattle.std.proofs.Common.{◌≡◌, ◌≢◌, ◌∙◌, ℕ, suc, ◌+◌, ◌<◌, ◌≤◌, true, false, List, [], ◌∷◌, ◌++◌, length, drop, take, get_or, slice_set, sym, ap, refl, arith, append_assoc, map, Bool, inl, inr}
-use Rattle.std.specs.Prelude.{◌==◌, if◌then◌else◌, slice_index_or}
+use Rattle.std.proofs.Common.{◌≡◌, ◌≢◌, ◌∙◌, ℕ, suc, ◌+◌, ◌<◌, ◌≤◌, cond, List, [], ◌∷◌, ◌++◌, length, drop, take, get_or, slice_set, sym, ap, refl, arith, append_assoc, map, inl, inr}
+use Rattle.std.specs.Prelude.{◌==◌, slice_index_or}
+use Rattle.std.specs.List.{filter}
 use Rattle.std.specs.Global.{Vec}
 use Rattle.std.proofs.lemmas.Bool.{cases_eq, eq-eqb, ne_eqb}
-use Rattle.std.proofs.lemmas.List.{append-nil, drop_more, drop_all, get_or_default, get_or-set_same, get_or-set_other, length-set, take_all}
+use Rattle.std.proofs.lemmas.List.{append-nil, drop_more, drop_all, get_or_default, get_or-set_same, get_or-set_other, length-set, map-append, take_all}
+use Rattle.std.proofs.lemmas.List.Elements.{filter-append}
 use Rattle.std.proofs.lemmas.Option.{get_or_from_slice_get, slice_get-get_or, slice_get_within}
 use Rattle.pref_core.specs.declared.event.Act.{Act}
 use Rattle.pref_core.specs.declared.event.Event.{Event}
@@ -11,28 +13,21 @@ use Rattle.pref_core.specs.declared.event.Reply.{Reply}
 use Rattle.prefq.specs.Commands.{Command, refused, runs}
 use Rattle.prefq.specs.Reading.{AddsAct, line_for, unowned_text}
 use Rattle.prefq.specs.Text.{reply_lines, texts}
-use Rattle.prefq.specs.Threads.{AreActs, acts_of, clients_lines, unowned_line}
+use Rattle.pref_share.specs.Interleavings.{acts_of}
+use Rattle.prefq.specs.Threads.{AreActs, clients_lines, unowned_line}
 
 -- one event is an act of its client alone
 acts-own : (event : Event) (client : ℕ) → event.client ≡ client → acts_of client (event ∷ []) ≡ event.act ∷ []
-unfolding acts_of
-acts-own event client e = rw (eq-eqb event.client client e) refl
+acts-own event client e = ap (λ own. map (λ (x : Event). x.act) (cond own (event ∷ []) [])) (eq-eqb event.client client e)
 
 acts-other : (event : Event) (client : ℕ) → event.client ≢ client → acts_of client (event ∷ []) ≡ []
-unfolding acts_of
-acts-other event client other = rw (ne_eqb event.client client other) refl
+acts-other event client other = ap (λ own. map (λ (x : Event). x.act) (cond own (event ∷ []) [])) (ne_eqb event.client client other)
 
 -- the acts of one event more
 acts-append : (client : ℕ) (events : List Event) (event : Event) → acts_of client (events ++ event ∷ []) ≡ acts_of client events ++ acts_of client (event ∷ [])
-unfolding acts_of
-acts-append client [] event = refl
-acts-append client (first ∷ more) event = by (first.client == client) (acts-append client more event)
-  where
-    by : (own : Bool) → acts_of client (more ++ event ∷ []) ≡ acts_of client more ++ acts_of client (event ∷ [])
-        → (if own then first.act ∷ acts_of client (more ++ event ∷ []) else acts_of client (more ++ event ∷ []))
-        ≡ (if own then first.act ∷ acts_of client more else acts_of client more) ++ acts_of client (event ∷ [])
-    by true e = ap (λ (t : List Act). first.act ∷ t) e
-    by false e = e
+acts-append client events event =
+    ap (map (λ (x : Event). x.act)) (filter-append (λ (x : Event). x.client == client) events (event ∷ []))
+    ∙ map-append (λ (x : Event). x.act) (filter (λ (x : Event). x.client == client) events) (filter (λ (x : Event). x.client == client) (event ∷ []))
 
 -- what stands at a place of lists after one of them has grown
 grown : (event : Event) (old : List (Vec Act)) (place : ℕ) (list d : Vec Act) (k : ℕ) → event.client ≡ suc place → place < length old
@@ -60,7 +55,6 @@ adds-none event old none = record {
 
 -- no act of anybody yet
 pub no-acts : (clients : ℕ) (lists : List (Vec Act)) → length lists ≡ clients → ((k : ℕ) (d : Vec Act) → k < length lists → (slice_index_or lists k d).items ≡ []) → AreActs clients [] lists
-unfolding acts_of
 no-acts clients lists many none = record {
   lists = many;
   each = λ k list here. rw (get_or_from_slice_get lists k list list here) at (none k list (slice_get_within lists k list here));

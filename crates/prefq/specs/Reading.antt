@@ -13,7 +13,8 @@ use Rattle.pref_core.specs.declared.event.Reply.TheVariants.{Refused as NotThere
 use Rattle.pref_core.specs.declared.fault.CoreFault.TheVariants.{NoSuchClient}
 use Rattle.pref_share.specs.declared.fault.ShareFault.{ShareFault}
 use Rattle.pref_share.specs.declared.fault.ShareFault.TheVariants as share
-use Rattle.prefq.specs.Threads.{acts_of, is_client}
+use Rattle.pref_share.specs.Interleavings.{acts_of}
+use Rattle.prefq.specs.Threads.{is_client}
 use Rattle.prefq.specs.Commands.{Command, refused, runs, commands_of, events_of}
 use Rattle.prefq.specs.Script.{Parts, parts_of, raw_lines}
 use Rattle.prefq.specs.Text.{refused_line, reply_lines}

@@ -1,5 +1,5 @@
 -- The output of a script whose clients run on threads. (this project)
-use Rattle.std.specs.Prelude.{ℕ, suc, ◌≡◌, ◌+◌, ◌==◌, ◌&&◌, List, [], ◌∷◌, length, Bool, nat_le, nat_lt, if◌then◌else◌, Some, Result, Ok, Err, slice_get}
+use Rattle.std.specs.Prelude.{ℕ, suc, ◌≡◌, ◌+◌, ◌&&◌, List, [], ◌∷◌, length, Bool, nat_le, nat_lt, if◌then◌else◌, Some, Result, Ok, Err, slice_get}
 use Rattle.std.specs.Global.{Vec}
 use Rattle.pref_core.specs.Limits.{Limits}
 use Rattle.pref_core.specs.declared.event.Act.{Act}
@@ -8,7 +8,7 @@ use Rattle.pref_core.specs.declared.event.Reply.{Reply}
 use Rattle.pref_core.specs.declared.event.Reply.TheVariants.{Refused}
 use Rattle.pref_core.specs.declared.fault.CoreFault.TheVariants.{NoSuchClient}
 use Rattle.pref_share.specs.Openings.{Opening}
-use Rattle.pref_share.specs.Interleavings.{IsSequential}
+use Rattle.pref_share.specs.Interleavings.{IsSequential, acts_of}
 use Rattle.pref_share.specs.Runs.{IsJointRun, Stops}
 use Rattle.pref_share.specs.Standing.{newcomers}
 use Rattle.pref_share.specs.declared.fault.ShareFault.{ShareFault}
@@ -22,11 +22,6 @@ use Rattle.prefq.specs.declared.fault.RunFault.TheVariants as fault
 -- whether one of so many clients has this number
 abbrev pub is_client : ℕ → ℕ → Bool
 is_client clients number = nat_lt 0 number && nat_le number clients
-
--- the acts of a client, in order
-unfoldable pub acts_of : ℕ → List Event → List Act
-acts_of client [] = []
-acts_of client (event ∷ more) = if event.client == client then event.act ∷ acts_of client more else acts_of client more
 
 -- the acts of so many clients, a list for each
 pub record AreActs (clients : ℕ) (events : List Event) (acts : List (Vec Act)) : Type 0 where
