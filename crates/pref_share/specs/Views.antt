@@ -1,3 +1,4 @@
+-- No public contract cites this.
 -- The rule of the published store, and what each step of the writer and of a reader tells. (this project)
 use Rattle.std.specs.Prelude.{◌≡◌, ℕ, List, [], ◌∷◌, length, Some, None, true, is_some}
 use mathlib.Core.Option.{some}
