@@ -1,4 +1,4 @@
--- What a run reads and writes, part by part.
+-- What is written of what was told.
 use Rattle.std.proofs.Common.{◌≡◌, ◌∙◌, ◌≤◌, ℕ, List, [], length, refl, true, Ok, Err, Result, Option, None, Some, take}
 use Rattle.std.proofs.lemmas.List.{append-nil}
 use Rattle.std.specs.Prelude.{IfErr, OnOk}

@@ -6,7 +6,7 @@ use Rattle.pref_core.specs.declared.event.Act.{Act}
 use Rattle.pref_core.specs.declared.event.Reply.{Reply}
 use Rattle.pref_core.specs.declared.fault.CoreFault.TheVariants as core
 use Rattle.pref_share.specs.Interleavings.{IsSequential}
-use Rattle.pref_share.specs.Runs.{IsJointRun, Stops}
+use Rattle.pref_share.specs.Runs.{IsJointRun}
 use Rattle.pref_share.specs.Standing.{newcomers}
 use Rattle.pref_share.specs.declared.fault.ShareFault.{ShareFault}
 use Rattle.pref_share.specs.declared.fault.ShareFault.TheVariants as share
@@ -33,12 +33,6 @@ tells-fault limits may_hold bytes fault.Read h = h
 tells-fault limits may_hold bytes fault.Write h = h
 tells-fault limits may_hold bytes fault.TooLarge h = h
 tells-fault limits may_hold bytes (fault.Threads why) h = absurd h
-
-pub closes-or-stops : (limits : Limits) (may_hold : ℕ → ℕ → Type 0) (rows : List (List ℤ)) (acts : List (Vec Act)) (why : ShareFault) → Stops (record { limits = limits; rows = rows }) may_hold acts why → ClosesOrStops (record { limits = limits; rows = rows }) may_hold acts why
-closes-or-stops limits may_hold rows acts (share.Core core) h = h
-closes-or-stops limits may_hold rows acts (share.ClientInUse number) h = h
-closes-or-stops limits may_hold rows acts (share.Held client) h = h
-closes-or-stops limits may_hold rows acts share.Closed h = tt
 
 -- what stops clients with these acts, on a board that opens with these rows
 abbrev StopsActs : Limits → (ℕ → ℕ → Type 0) → List (List ℤ) → List (Vec Act) → ShareFault → Type 0
