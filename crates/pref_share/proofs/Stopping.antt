@@ -33,7 +33,7 @@ in_use o old history number next ahead = (
   record {
     sees = record { further = ahead.further; legal = ahead.legal; counted = refl; same = refl; query = refl };
     holds = subst (HasCall history old.number) next ahead.holds;
-    above = omega (arith, next);
+    next = sym next;
   },
 )
 

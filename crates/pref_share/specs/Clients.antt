@@ -52,11 +52,11 @@ pub record Sees (o : Opening) (old new : Standing) : Type 0 where
   pub same : new.number ≡ old.number
   pub query : new.query ≡ old.query
 
--- what was seen holds a call of this client above its own counter
+-- what was seen holds a call of this client that it has not made: the next one by its own counter
 pub record IsInUse (o : Opening) (old : Standing) (number : ℕ) (new : Standing) : Type 0 where
   pub sees : Sees o old new
   pub holds : HasCall new.seen old.number number
-  pub above : old.counter < number
+  pub next : number ≡ suc old.counter
 
 -- whether a call asks for memory: for a new row's place in the index (what a finish asks for is told below)
 abbrev pub asks_for_memory : Call → Bool
