@@ -123,6 +123,7 @@ RefusedFinish o old (NotDone left) new = (own_refusal old Finish ≡ None) × Ha
 RefusedFinish o old OutOfMemory new = (own_refusal old Finish ≡ None) × HasNoneLeft old × (new ≡ old)
 RefusedFinish o old fault new = (own_refusal old Finish ≡ Some fault) × (new ≡ old)
 
+-- the same, by what the client meets
 abbrev pub RefusesFinish : Opening → Standing → ShareFault → Standing → Type 0
 RefusesFinish o old (Core fault) new = RefusedFinish o old fault new
 RefusesFinish o old (ClientInUse number) new = (own_refusal old Finish ≡ None) × HasNoneLeft old × IsInUse o old number new

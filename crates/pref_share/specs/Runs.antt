@@ -111,7 +111,7 @@ ReadsNext [] = ⊥
 ReadsNext (next ∷ more) = call_of next ≡ None
 
 -- Why a client stops that stands so, with these acts left: for want of memory; in use, where a legal history that goes on from what it had seen
--- holds a call of it, of this number, above its own counter; held before one of its acts, of which this is so by its number; or closed, where
+-- holds its next call, which has this number, though it has not made it; held before one of its acts, of which this is so by its number; or closed, where
 -- the next of its acts is no numbered call.
 abbrev pub StopsAt : Opening → (ℕ → Type 0) → Standing → List Act → ShareFault → Type 0
 StopsAt o held s rest (Core fault) = fault ≡ OutOfMemory
