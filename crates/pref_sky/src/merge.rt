@@ -29,28 +29,33 @@ fn push_lost(down: &mut Vec<Entry>, entries: &[Entry], best: &[Entry]) -> Result
     Ok(())
 }
 
-/// Puts the held entries that something displaces behind others.
-fn push_displaced<D: Dominance>(
-    down: &mut Vec<Entry>,
+/// The held entries of a level: those that stay, and those that something displaces.
+#[derive(Drop)]
+struct Split {
+    staying: Vec<Entry>,
+    displaced: Vec<Entry>,
+}
+
+/// Splits the held entries, by at most one comparison of each with each entry that displaces some.
+fn split_held<D: Dominance>(
+    alloc: Global,
     dominance: &D,
     displacing: &[Entry],
     held: &[Entry],
-) -> Result<(), AllocError>
-    ensures { OnOk result (down.new.items ≡ down.old.items ++ filter (is_beaten (entry_order (D.order dominance.now)) displacing.now) held.now) }
+) -> Result<Split, AllocError>
+    ensures staying { IfOk result (λ s. s.staying.items ≡ filter (λ e. not (is_beaten (entry_order (D.order dominance.now)) displacing.now e)) held.now) }
+    ensures displaced { IfOk result (λ s. s.displaced.items ≡ filter (is_beaten (entry_order (D.order dominance.now)) displacing.now) held.now) }
 {
+    let mut staying = Vec::with_capacity(alloc, held.len())?;
+    let mut displaced = Vec::new(alloc);
     for entry in held {
         if is_beaten(dominance, displacing, entry) {
-            down.push(*entry)?;
+            displaced.push(*entry)?;
+        } else {
+            staying.push(*entry)?;
         }
     }
-    Ok(())
-}
-
-/// Keeps the held entries that nothing displaces.
-fn keep_unbeaten<D: Dominance>(dominance: &D, displacing: &[Entry], held: &mut Vec<Entry>)
-    ensures { held.new.items ≡ filter (λ e. not (is_beaten (entry_order (D.order dominance.now)) displacing.now e)) held.old.items }
-{
-    held.retain(|entry| !is_beaten(dominance, displacing, entry));
+    Ok(Split { staying, displaced })
 }
 
 /// A level, and what goes down from it.
@@ -70,30 +75,30 @@ pub(crate) fn merge_level<D: Dominance>(
     alloc: Global,
     dominance: &D,
     window: usize,
-    held: Vec<Entry>,
+    held: &[Entry],
     coming: &[Entry],
     losers: Losers,
 ) -> Result<Merged, AllocError>
     requires window { 0 < window }
-    requires ids { HaveDifferentIds (held.items ++ coming.now) }
-    ensures level { IfOk result (λ m. IsApart (entry_order (D.order dominance.now)) held.items
-        → m.level.items ≡ in_order_of_id (best (entry_order (D.order dominance.now)) (held.items ++ coming.now))) }
-    ensures down { IfOk result (λ m. IsApart (entry_order (D.order dominance.now)) held.items → is_kept losers ≡ true
-        → SameMembers m.down.items (without_best (entry_order (D.order dominance.now)) (held.items ++ coming.now))) }
-    ensures counts { IfOk result (λ m. (p : Entry → Bool) → count_by p m.down.items ≤ count_by p held.items + count_by p coming.now) }
+    requires ids { HaveDifferentIds (held.now ++ coming.now) }
+    ensures level { IfOk result (λ m. IsApart (entry_order (D.order dominance.now)) held.now
+        → m.level.items ≡ in_order_of_id (best (entry_order (D.order dominance.now)) (held.now ++ coming.now))) }
+    ensures down { IfOk result (λ m. IsApart (entry_order (D.order dominance.now)) held.now → is_kept losers ≡ true
+        → SameMembers m.down.items (without_best (entry_order (D.order dominance.now)) (held.now ++ coming.now))) }
+    ensures counts { IfOk result (λ m. (p : Entry → Bool) → count_by p m.down.items ≤ count_by p held.now + count_by p coming.now) }
 {
-    let mut held = held;
-    let sifted = sift(alloc, dominance, &held, coming, losers)?;
+    let sifted = sift(alloc, dominance, held, coming, losers)?;
     let mut best = best_rows(alloc, dominance, window, &sifted.let_in)?;
+    let mut parts = split_held(alloc, dominance, &sifted.displacing, held)?;
     let mut down = sifted.turned_away;
     if let Losers::Kept = losers {
         push_lost(&mut down, &sifted.let_in, &best)?;
-        push_displaced(&mut down, dominance, &sifted.displacing, &held)?;
+        down.append(&mut parts.displaced)?;
     }
-    keep_unbeaten(dominance, &sifted.displacing, &mut held);
-    held.append(&mut best)?;
-    held.sort_unstable_by_key(|entry| entry.id);
-    Ok(Merged { level: held, down })
+    let mut level = parts.staying;
+    level.append(&mut best)?;
+    level.sort_unstable_by_key(|entry| entry.id);
+    Ok(Merged { level, down })
 }
 
 /// The entries that are held at a level.

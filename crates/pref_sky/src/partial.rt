@@ -106,7 +106,7 @@ impl Partial {
             let (level, behind) = tail.split_at(length_of_level(tail, above));
             let held = entries_of(alloc, level)?;
             let losers = Losers::of_level(above, cut);
-            let merged = merge_level(alloc, dominance, window, held, &coming, losers)?;
+            let merged = merge_level(alloc, dominance, window, &held, &coming, losers)?;
             push_level(&mut ranked, above, &merged.level)?;
             coming = merged.down;
             tail = behind;

@@ -14,8 +14,9 @@ use Rattle.pref_sky.proofs.Orders.{sorted_is}
 use Rattle.pref_sky.proofs.Merges.{entry_order_is_strict, different_filter, count_filter}
 use Rattle.pref_sky.proofs.Searches.{lost_by_id}
 use Rattle.pref_sky.proofs.HeldLevels.{staying, displaced, level_is, level_differ, down_members, down_count}
+use Rattle.pref_sky.proofs.merge.merge_level.Given as given
 use Rattle.pref_sky.proofs.merge.merge_level.Goals as goal
-use Rattle.pref_sky.proofs.merge.merge_level.Goals.{in-Kept+in_ok-push_lost+in_ok-push_displaced, in_default}
+use Rattle.pref_sky.proofs.merge.merge_level.Goals.{in-Kept+in_ok-push_lost+in_ok-append, in_default}
 
 kept_is : (l : Losers) → is_kept l ≡ true → l ≡ losers.Kept
 kept_is losers.Kept h = refl
@@ -27,30 +28,36 @@ different_right xs ys different = record { once = λ id. omega (arith, different
 different_let_in : (over : Entry → Entry → Bool) (held coming : List Entry) → HaveDifferentIds (held ++ coming) → HaveDifferentIds (let_in over held coming)
 different_let_in over held coming different = different_filter (λ e. not (is_beaten over held e)) coming (different_right held coming different)
 
+abbrev order_of : (g : given.Over) → goal.After-drop-sifted-3 g → Entry → Entry → Bool
+order_of g c = entry_order (g.D.Dominance.order c.args.dominance.now)
+
+staying_is : (g : given.Over) (c : goal.After-drop-sifted-3 g) → c.match-losers.parts.staying.items ≡ c.in_ok-parts.parts.staying.items
+staying_is g c =
+    elim c.match-losers.branch [
+      | in-Kept+in_ok-push_lost+in_ok-append w ↦ ap (λ s. s.staying.items) w.parts-is
+      | in_default w ↦ ap (λ s. s.staying.items) w.parts-is
+    ]
+
 pub best_rows-requires-clause-ids : goal.best_rows-requires-clause-ids
 best_rows-requires-clause-ids g c =
     let over = entry_order (g.D.Dominance.order c.args.dominance.now) in
-    let left : c.deref-2.result.now ≡ let_in over c.args.held.items c.args.coming.now =
-    c.deref-2.ensures.value ∙ (c.in_ok-sifted.ensures.let_in ∙ ap (λ h. let_in over h c.args.coming.now) c.deref.ensures.value) in
-    subst HaveDifferentIds (sym left) (different_let_in over c.args.held.items c.args.coming.now c.requires.ids)
+    subst HaveDifferentIds (sym (c.deref.ensures.value ∙ c.in_ok-sifted.ensures.let_in)) (different_let_in over c.args.held.now c.args.coming.now c.requires.ids)
 
 pub returns-clause-level : goal.returns-clause-level
 returns-clause-level g c apart =
     let row_order = g.D.Dominance.order c.args.dominance.now in
     let over = entry_order row_order in
     let strict = entry_order_is_strict row_order (g.met.D.Dominance.strict c.args.dominance.now) in
-    let held = c.args.held.items in
+    let held = c.args.held.now in
     let coming = c.args.coming.now in
-    let left : c.deref-2.result.now ≡ let_in over held coming =
-    c.deref-2.ensures.value ∙ (c.in_ok-sifted.ensures.let_in ∙ ap (λ h. let_in over h coming) c.deref.ensures.value) in
+    let left : c.deref.result.now ≡ let_in over held coming = c.deref.ensures.value ∙ c.in_ok-sifted.ensures.let_in in
     let found : c.in_ok-best.best.items ≡ in_order_of_id (best over (let_in over held coming)) = c.in_ok-best.ensures ∙ ap (λ l. in_order_of_id (best over l)) left in
-    let above : c.deref-3.result.now ≡ displacing over held coming =
-    c.deref-3.ensures.value ∙ (c.in_ok-sifted.ensures.displacing ∙ ap (λ h. displacing over h coming) c.deref.ensures.value) in
-    let kept : c.keep_unbeaten.new.held.items ≡ staying over held coming = c.keep_unbeaten.ensures ∙ ap (λ d. filter (λ e. not (is_beaten over d e)) held) above in
-    let joined : c.append.new.self.items ≡ staying over held coming ++ in_order_of_id (best over (let_in over held coming)) =
-    (c.in_ok-append.ensures {u = tt}).items ∙ (ap (λ l. l ++ c.in_ok-best.best.items) kept ∙ ap (λ l. staying over held coming ++ l) found) in
+    let above : c.deref-2.result.now ≡ displacing over held coming = c.deref-2.ensures.value ∙ c.in_ok-sifted.ensures.displacing in
+    let kept : c.in_ok-parts.parts.staying.items ≡ staying over held coming = c.in_ok-parts.ensures.staying ∙ ap (λ d. filter (λ e. not (is_beaten over d e)) held) above in
+    let joined : c.append-2.new.self.items ≡ staying over held coming ++ in_order_of_id (best over (let_in over held coming)) =
+    (c.in_ok-append-2.ensures {u = tt}).items ∙ (ap (λ l. l ++ c.in_ok-best.best.items) (staying_is g c ∙ kept) ∙ ap (λ l. staying over held coming ++ l) found) in
     let sorted = IsNonDecreasingBy-from_sort_by_key (λ (e : Entry). e.id) _ c.sort_unstable_by_key.ensures.sorted (λ a r q k. search rules) in
-    sorted_is c.append.new.self.items _ c.sort_unstable_by_key.ensures.permutation sorted (subst HaveDifferentIds (sym joined) (level_differ over held coming c.requires.ids))
+    sorted_is c.append-2.new.self.items _ c.sort_unstable_by_key.ensures.permutation sorted (subst HaveDifferentIds (sym joined) (level_differ over held coming c.requires.ids))
     ∙ (ap in_order_of_id joined ∙ level_is over strict held coming apart c.requires.ids)
 
 down_is : (over : Entry → Entry → Bool) (held coming away pushed down left top above : List Entry) (kept : Bool) → kept ≡ true → HaveDifferentIds (held ++ coming)
@@ -64,64 +71,46 @@ down_is over held coming away pushed down left top above kept further different 
     q ∙ (ap (λ x. x ++ filter (is_beaten over above) held) (p ∙ (ap (λ x. x ++ filter (λ e. not (list_any (λ (b : Entry). eqb b.id e.id) top)) left) turned ∙ ap (λ x. turned_away over held coming ++ x) lost))
     ∙ ap (λ x. (turned_away over held coming ++ without_best over (let_in over held coming)) ++ filter (is_beaten over x) held) d)
 
-pub returns-clause-down : goal.returns-clause-down
-returns-clause-down g c apart further =
-    let row_order = g.D.Dominance.order c.args.dominance.now in
-    let over = entry_order row_order in
-    let strict = entry_order_is_strict row_order (g.met.D.Dominance.strict c.args.dominance.now) in
-    let held = c.args.held.items in
+-- what goes down, where losers are kept
+goes_down : (g : given.Over) (c : goal.After-drop-sifted-3 g) → is_kept c.args.losers ≡ true
+    → c.match-losers.down.items ≡ (turned_away (order_of g c) c.args.held.now c.args.coming.now ++ without_best (order_of g c) (let_in (order_of g c) c.args.held.now c.args.coming.now)) ++ displaced (order_of g c) c.args.held.now c.args.coming.now
+goes_down g c further =
+    let over = order_of g c in
+    let held = c.args.held.now in
     let coming = c.args.coming.now in
-    let away : c.in_ok-sifted.sifted.turned_away.items ≡ filter (λ e. is_kept c.args.losers && is_beaten over held e) coming =
-    c.in_ok-sifted.ensures.turned_away ∙ ap (λ h. filter (λ e. is_kept c.args.losers && is_beaten over h e) coming) c.deref.ensures.value in
-    let left : c.in_ok-sifted.sifted.let_in.items ≡ let_in over held coming = c.in_ok-sifted.ensures.let_in ∙ ap (λ h. let_in over h coming) c.deref.ensures.value in
-    let above : c.in_ok-sifted.sifted.displacing.items ≡ displacing over held coming = c.in_ok-sifted.ensures.displacing ∙ ap (λ h. displacing over h coming) c.deref.ensures.value in
-    let top : c.in_ok-best.best.items ≡ in_order_of_id (best over c.in_ok-sifted.sifted.let_in.items) = c.in_ok-best.ensures ∙ ap (λ l. in_order_of_id (best over l)) c.deref-2.ensures.value in
+    let left : c.in_ok-sifted.sifted.let_in.items ≡ let_in over held coming = c.in_ok-sifted.ensures.let_in in
+    let above : c.deref-2.result.now ≡ displacing over held coming = c.deref-2.ensures.value ∙ c.in_ok-sifted.ensures.displacing in
+    let top : c.in_ok-best.best.items ≡ in_order_of_id (best over c.in_ok-sifted.sifted.let_in.items) = c.in_ok-best.ensures ∙ ap (λ l. in_order_of_id (best over l)) c.deref.ensures.value in
     elim c.match-losers.branch [
-      | in-Kept+in_ok-push_lost+in_ok-push_displaced w ↦
+      | in-Kept+in_ok-push_lost+in_ok-append w ↦
           let lost_from : w.deref-in-Kept.result.now ≡ c.in_ok-sifted.sifted.let_in.items = w.deref-in-Kept.ensures.value in
           let lost_top : w.deref-in-Kept-2.result.now ≡ c.in_ok-best.best.items = w.deref-in-Kept-2.ensures.value in
           let left_differ = subst HaveDifferentIds (sym left) (different_let_in over held coming c.requires.ids) in
           let pushed : w.push_lost.new.down.items ≡ c.in_ok-sifted.sifted.turned_away.items ++ filter (λ e. not (list_any (λ (b : Entry). eqb b.id e.id) w.deref-in-Kept-2.result.now)) w.deref-in-Kept.result.now =
           (w.in_ok-push_lost.ensures {u = tt}) (best over c.in_ok-sifted.sifted.let_in.items) (different_filter (λ e. not (is_beaten over c.in_ok-sifted.sifted.let_in.items e)) c.in_ok-sifted.sifted.let_in.items left_differ) (lost_top ∙ top) in
-          let displaced_too : w.push_displaced.new.down.items ≡ w.push_lost.new.down.items ++ filter (is_beaten over w.deref-in-Kept-3.result.now) w.deref-in-Kept-4.result.now = w.in_ok-push_displaced.ensures {u = tt} in
-          let displacing_is : w.deref-in-Kept-3.result.now ≡ c.in_ok-sifted.sifted.displacing.items = w.deref-in-Kept-3.ensures.value in
-          let held_is : w.deref-in-Kept-4.result.now ≡ held = w.deref-in-Kept-4.ensures.value in
-          let all : c.match-losers.down.items ≡ (turned_away over held coming ++ without_best over (let_in over held coming)) ++ displaced over held coming =
-          ap (λ v. v.items) w.down-is ∙ down_is over held coming c.in_ok-sifted.sifted.turned_away.items w.push_lost.new.down.items w.push_displaced.new.down.items w.deref-in-Kept.result.now w.deref-in-Kept-2.result.now w.deref-in-Kept-3.result.now (is_kept c.args.losers) further c.requires.ids
-          away (lost_from ∙ left) (lost_top ∙ (top ∙ ap (λ l. in_order_of_id (best over l)) (sym lost_from))) (displacing_is ∙ above) pushed (displaced_too ∙ ap (λ h. w.push_lost.new.down.items ++ filter (is_beaten over w.deref-in-Kept-3.result.now) h) held_is) in
-          subst (λ l. SameMembers l (without_best over (held ++ coming))) (sym all) (down_members over strict held coming apart)
+          let last : w.append.new.self.items ≡ w.push_lost.new.down.items ++ filter (is_beaten over c.deref-2.result.now) held =
+          (w.in_ok-append.ensures {u = tt}).items ∙ ap (λ d. w.push_lost.new.down.items ++ d) c.in_ok-parts.ensures.displaced in
+          ap (λ v. v.items) w.down-is ∙ down_is over held coming c.in_ok-sifted.sifted.turned_away.items w.push_lost.new.down.items w.append.new.self.items w.deref-in-Kept.result.now w.deref-in-Kept-2.result.now c.deref-2.result.now (is_kept c.args.losers) further c.requires.ids
+          c.in_ok-sifted.ensures.turned_away (lost_from ∙ left) (lost_top ∙ (top ∙ ap (λ l. in_order_of_id (best over l)) (sym lost_from))) above pushed last
       | in_default w ↦ absurd (w.in_default.not-Kept (kept_is c.args.losers further))
     ]
 
+pub returns-clause-down : goal.returns-clause-down
+returns-clause-down g c apart further =
+    let over = order_of g c in
+    let strict = entry_order_is_strict (g.D.Dominance.order c.args.dominance.now) (g.met.D.Dominance.strict c.args.dominance.now) in
+    subst (λ l. SameMembers l (without_best over (c.args.held.now ++ c.args.coming.now))) (sym (goes_down g c further)) (down_members over strict c.args.held.now c.args.coming.now apart)
+
 pub returns-clause-counts : goal.returns-clause-counts
 returns-clause-counts g c p =
-    let row_order = g.D.Dominance.order c.args.dominance.now in
-    let over = entry_order row_order in
-    let held = c.args.held.items in
+    let over = order_of g c in
+    let held = c.args.held.now in
     let coming = c.args.coming.now in
-    let away : c.in_ok-sifted.sifted.turned_away.items ≡ filter (λ e. is_kept c.args.losers && is_beaten over held e) coming =
-    c.in_ok-sifted.ensures.turned_away ∙ ap (λ h. filter (λ e. is_kept c.args.losers && is_beaten over h e) coming) c.deref.ensures.value in
-    let left : c.in_ok-sifted.sifted.let_in.items ≡ let_in over held coming = c.in_ok-sifted.ensures.let_in ∙ ap (λ h. let_in over h coming) c.deref.ensures.value in
-    let above : c.in_ok-sifted.sifted.displacing.items ≡ displacing over held coming = c.in_ok-sifted.ensures.displacing ∙ ap (λ h. displacing over h coming) c.deref.ensures.value in
-    let top : c.in_ok-best.best.items ≡ in_order_of_id (best over c.in_ok-sifted.sifted.let_in.items) = c.in_ok-best.ensures ∙ ap (λ l. in_order_of_id (best over l)) c.deref-2.ensures.value in
     elim c.match-losers.branch [
-      | in-Kept+in_ok-push_lost+in_ok-push_displaced w ↦
-          let lost_from : w.deref-in-Kept.result.now ≡ c.in_ok-sifted.sifted.let_in.items = w.deref-in-Kept.ensures.value in
-          let lost_top : w.deref-in-Kept-2.result.now ≡ c.in_ok-best.best.items = w.deref-in-Kept-2.ensures.value in
-          let left_differ = subst HaveDifferentIds (sym left) (different_let_in over held coming c.requires.ids) in
-          let pushed : w.push_lost.new.down.items ≡ c.in_ok-sifted.sifted.turned_away.items ++ filter (λ e. not (list_any (λ (b : Entry). eqb b.id e.id) w.deref-in-Kept-2.result.now)) w.deref-in-Kept.result.now =
-          (w.in_ok-push_lost.ensures {u = tt}) (best over c.in_ok-sifted.sifted.let_in.items) (different_filter (λ e. not (is_beaten over c.in_ok-sifted.sifted.let_in.items e)) c.in_ok-sifted.sifted.let_in.items left_differ) (lost_top ∙ top) in
-          let displaced_too : w.push_displaced.new.down.items ≡ w.push_lost.new.down.items ++ filter (is_beaten over w.deref-in-Kept-3.result.now) w.deref-in-Kept-4.result.now = w.in_ok-push_displaced.ensures {u = tt} in
-          let displacing_is : w.deref-in-Kept-3.result.now ≡ c.in_ok-sifted.sifted.displacing.items = w.deref-in-Kept-3.ensures.value in
-          let held_is : w.deref-in-Kept-4.result.now ≡ held = w.deref-in-Kept-4.ensures.value in
-          let further : is_kept c.args.losers ≡ true = ap is_kept w.in-Kept.is in
-          let all : c.match-losers.down.items ≡ (turned_away over held coming ++ without_best over (let_in over held coming)) ++ displaced over held coming =
-          ap (λ v. v.items) w.down-is ∙ down_is over held coming c.in_ok-sifted.sifted.turned_away.items w.push_lost.new.down.items w.push_displaced.new.down.items w.deref-in-Kept.result.now w.deref-in-Kept-2.result.now w.deref-in-Kept-3.result.now (is_kept c.args.losers) further c.requires.ids
-          away (lost_from ∙ left) (lost_top ∙ (top ∙ ap (λ l. in_order_of_id (best over l)) (sym lost_from))) (displacing_is ∙ above) pushed (displaced_too ∙ ap (λ h. w.push_lost.new.down.items ++ filter (is_beaten over w.deref-in-Kept-3.result.now) h) held_is) in
-          subst (λ l. count_by p l ≤ count_by p held + count_by p coming) (sym all) (down_count over held coming p)
+      | in-Kept+in_ok-push_lost+in_ok-append w ↦
+          subst (λ l. count_by p l ≤ count_by p held + count_by p coming) (sym (goes_down g c (ap is_kept w.in-Kept.is))) (down_count over held coming p)
       | in_default w ↦
-          let all : c.match-losers.down.items ≡ filter (λ e. is_kept c.args.losers && is_beaten over held e) coming = ap (λ v. v.items) w.down-is ∙ away in
           let fewer = count_filter p (λ e. is_kept c.args.losers && is_beaten over held e) coming in
-          let same = ap (count_by p) all in
+          let same = ap (count_by p) (ap (λ v. v.items) w.down-is ∙ c.in_ok-sifted.ensures.turned_away) in
           omega (arith, fewer, same)
     ]

@@ -46,9 +46,9 @@ differ_here self tail level behind entries coming held len different counts leve
 
 pub merge_level-requires-clause-ids : goal.merge_level-requires-clause-ids
 merge_level-requires-clause-ids g c =
-    subst (λ l. HaveDifferentIds (c.in_ok-held.held.items ++ l)) (sym c.deref.ensures.value)
-    (differ_here c.args.self.now c.each_level.tail.now c.split_at.result.0.now c.split_at.result.1.now c.args.entries.now c.each_level.coming.items c.in_ok-held.held.items c.length_of_level.result
-    c.requires.ids c.each_level.invariant.counts c.split_at.ensures.front c.in_ok-held.ensures)
+    subst (λ l. HaveDifferentIds (c.deref.result.now ++ l)) (sym c.deref-in-each_level.ensures.value)
+    (differ_here c.args.self.now c.each_level.tail.now c.split_at.result.0.now c.split_at.result.1.now c.args.entries.now c.each_level.coming.items c.deref.result.now c.length_of_level.result
+    c.requires.ids c.each_level.invariant.counts c.split_at.ensures.front (c.deref.ensures.value ∙ c.in_ok-held.ensures))
 
 pub each_level-preserved : goal.each_level-preserved
 each_level-preserved g c =
@@ -60,20 +60,20 @@ each_level-preserved g c =
     let tail = c.each_level.tail.now in
     let behind = c.split_at.result.1.now in
     let coming = c.each_level.coming.items in
-    let front = c.in_ok-held.held.items in
+    let front = c.deref.result.now in
     let within : n < cut = c.each_level-test.true in
-    let came : c.deref.result.now ≡ coming = c.deref.ensures.value in
-    let front_is : front ≡ map entry_of c.split_at.result.0.now = c.in_ok-held.ensures in
+    let came : c.deref-in-each_level.result.now ≡ coming = c.deref-in-each_level.ensures.value in
+    let front_is : front ≡ map entry_of c.split_at.result.0.now = c.deref.ensures.value ∙ c.in_ok-held.ensures in
     let level_is : c.split_at.result.0.now ≡ take c.length_of_level.result tail = c.split_at.ensures.front in
     let behind_is : behind ≡ drop c.length_of_level.result tail = c.split_at.ensures.back in
     let differ = differ_here c.args.self.now tail c.split_at.result.0.now behind c.args.entries.now coming front c.length_of_level.result c.requires.ids c.each_level.invariant.counts level_is front_is in
     let long : c.length_of_level.result ≡ length_of_level (suc n) tail = let counted : c.length_of_level.result ≡ length_of_level (n + 1) tail = c.length_of_level.ensures.counted in counted ∙ ap (λ k. length_of_level k tail) (add-one n) in
-    let pushed : c.push_level.new.ranked.items ≡ c.each_level.ranked.items ++ map (at_level (n + 1)) c.deref-in-each_level.result.now = c.in_ok-push_level.ensures {u = tt} in
-    let pushed_level : c.deref-in-each_level.result.now ≡ c.in_ok-merged.merged.level.items = c.deref-in-each_level.ensures.value in
+    let pushed : c.push_level.new.ranked.items ≡ c.each_level.ranked.items ++ map (at_level (n + 1)) c.deref-in-each_level-2.result.now = c.in_ok-push_level.ensures {u = tt} in
+    let pushed_level : c.deref-in-each_level-2.result.now ≡ c.in_ok-merged.merged.level.items = c.deref-in-each_level-2.ensures.value in
     record {
       within = omega (arith, within);
       counts = λ p.
-          let fewer : count_by p c.in_ok-merged.merged.down.items ≤ count_by p front + count_by p c.deref.result.now = c.in_ok-merged.ensures.counts p in
+          let fewer : count_by p c.in_ok-merged.merged.down.items ≤ count_by p front + count_by p c.deref-in-each_level.result.now = c.in_ok-merged.ensures.counts p in
           let here : count_by p front ≡ count_by p (map entry_of (take c.length_of_level.result tail)) = ap (count_by p) (front_is ∙ ap (map entry_of) level_is) in
           let there : count_by p (map entry_of behind) ≡ count_by p (map entry_of (drop c.length_of_level.result tail)) = ap (λ l. count_by p (map entry_of l)) behind_is in
           let same = ap (count_by p) came in
@@ -88,7 +88,7 @@ each_level-preserved g c =
           subst (λ l. SameMembers c.in_ok-merged.merged.down.items (without_best over (front ++ l))) came (c.in_ok-merged.ensures.down f.apart wanted) in
           subst (λ k. MergingSome over before c.args.entries.now cut k c.push_level.new.ranked.items c.in_ok-merged.merged.down.items behind) (sym (add-one n))
           (some_more over strict before c.args.entries.now cut n c.each_level.ranked.items c.push_level.new.ranked.items coming tail behind front c.in_ok-merged.merged.level.items c.in_ok-merged.merged.down.items
-          within differ f level down (pushed ∙ (ap (λ k. c.each_level.ranked.items ++ map (at_level k) c.deref-in-each_level.result.now) (add-one n) ∙ ap (λ l. c.each_level.ranked.items ++ map (at_level (suc n)) l) pushed_level)) m);
+          within differ f level down (pushed ∙ (ap (λ k. c.each_level.ranked.items ++ map (at_level k) c.deref-in-each_level-2.result.now) (add-one n) ∙ ap (λ l. c.each_level.ranked.items ++ map (at_level (suc n)) l) pushed_level)) m);
     }
 
 -- nothing comes: what is held stays
