@@ -2,7 +2,8 @@
 use Rattle.std.proofs.Common.{◌≡◌, ◌≤◌, ◌<◌, ◌+◌, ℕ, zero, suc, List, [], ◌∷◌, Bool, true, false, cond, length, nat_lt, Option, Some, None, Result, Ok, Err, refl, sym, ap, subst, ◌∙◌, ◌⊎◌, inl, inr, arith}
 use Rattle.std.specs.Prelude.{MatchResult, IfOk, IfErr}
 use Rattle.std.proofs.lemmas.Bool.Decides.{nat_tests}
-use Rattle.pref_term.specs.Token.{Placed, is_blank, more_bytes, token_from, tokens_from, tokens_of}
+use Rattle.pref_table.specs.Number.{is_blank}
+use Rattle.pref_term.specs.Token.{Placed, more_bytes, token_from, tokens_from, tokens_of}
 use Rattle.pref_term.specs.Grammar.{AskText}
 use Rattle.pref_term.specs.Spells.{Names, Spells, Faults, LacksOrder, FirstFault, UnlessMemory, question}
 use Rattle.pref_term.specs.Question.{Question, FitsWidth}

@@ -5,7 +5,10 @@ use Rattle.std.specs.List.{prefix_len, AllByRecursion}
 use Rattle.std.proofs.Math.Seq.{take-append_seam, drop-append_seam}
 use Rattle.std.proofs.lemmas.List.{length-append, map-append}
 use Rattle.std.proofs.lemmas.Bool.Decides.{nat_tests}
-use Rattle.pref_term.specs.Token.{Sign, left, right, comma, star, ampersand, minus, Token, word, digits, sign, is_blank, is_letter, is_digit, is_word_byte, sign_or_other, more_bytes, token_from, tokens_from}
+use Rattle.std.specs.Char.{is_ascii_alphabetic, is_ascii_digit}
+use Rattle.pref_table.specs.Names.{is_name_byte}
+use Rattle.pref_table.specs.Number.{is_blank}
+use Rattle.pref_term.specs.Token.{Sign, left, right, comma, star, ampersand, minus, Token, word, digits, sign, sign_or_other, more_bytes, token_from, tokens_from}
 use Rattle.pref_term.specs.Grammar.{Keyword, best_word, low_word, high_word, around_word, pos_word, reverse_word, top_level_word, at_least_word, by_word, letters_of, NumberText, BaseText, low_text, high_text, around_text, pos_text, PriorText, one_product, then_product, ProductText, one_factor, then_factor, UnaryText, negated, grouped, reversed, based, HeadText, best_head, top_level_head, at_least_head, rated, Leaf, name, mark, opens, column_name, number_digits, count_digits, cased, last, IsWritten, IsText, signed_leaves, number_leaves, others_leaves, base_leaves, prior_leaves, product_leaves, unary_leaves, head_leaves, more_columns, group_leaves, ask_leaves, token_of}
 use Rattle.pref_term.specs.Spells.{tokens_in, tokens_on}
 use Rattle.pref_term.proofs.ShownNames.{IsWordText}
@@ -48,18 +51,18 @@ run_length test (b ∷ bs) rest h e =
     let one : 1 + length bs ≡ suc (length bs) = omega arith in
     ap (λ t. cond t (1 + prefix_len test (bs ++ rest)) 0) h.0 ∙ (ap (λ n. 1 + n) (run_length test bs rest h.1 e) ∙ one)
 
-letter_plain : (b : ℕ) → is_letter b ≡ true → is_blank b ≡ false
+letter_plain : (b : ℕ) → is_ascii_alphabetic b ≡ true → is_blank b ≡ false
 letter_plain b h = grind (arith, nat_tests)
 
-digit_plain : (b : ℕ) → is_digit b ≡ true → is_blank b ≡ false
+digit_plain : (b : ℕ) → is_ascii_digit b ≡ true → is_blank b ≡ false
 digit_plain b h = grind (arith, nat_tests)
 
-digit_no_letter : (b : ℕ) → is_digit b ≡ true → is_letter b ≡ false
+digit_no_letter : (b : ℕ) → is_ascii_digit b ≡ true → is_ascii_alphabetic b ≡ false
 digit_no_letter b h = grind (arith, nat_tests)
 
 abbrev pub IsDigitsText : List ℕ → Type 0
 IsDigitsText [] = ⊥
-IsDigitsText (b ∷ bs) = AllByRecursion (λ c. is_digit c ≡ true) (b ∷ bs)
+IsDigitsText (b ∷ bs) = AllByRecursion (λ c. is_ascii_digit c ≡ true) (b ∷ bs)
 
 -- the rest behind a run of n bytes
 run_lexed : (b : ℕ) (bs rest : List ℕ) (t : Token) → is_blank b ≡ false → more_bytes b (bs ++ rest) ≡ length bs → token_from b (bs ++ rest) ≡ t → lexed ((b ∷ bs) ++ rest) ≡ t ∷ lexed rest
@@ -69,21 +72,21 @@ run_lexed b bs rest t plain run e =
     ∙ (ap (λ u. u ∷ lexed (drop (more_bytes b (bs ++ rest)) (bs ++ rest))) e
     ∙ ap (λ xs. t ∷ lexed xs) (ap (λ n. drop n (bs ++ rest)) run ∙ drop-append_seam bs rest))
 
-word_lexed : (b : ℕ) (bs rest : List ℕ) → IsWordText (b ∷ bs) → Ends is_word_byte rest → lexed ((b ∷ bs) ++ rest) ≡ word (b ∷ bs) ∷ lexed rest
+word_lexed : (b : ℕ) (bs rest : List ℕ) → IsWordText (b ∷ bs) → Ends is_name_byte rest → lexed ((b ∷ bs) ++ rest) ≡ word (b ∷ bs) ∷ lexed rest
 word_lexed b bs rest h e =
-    let run = ap (λ t. cond t (prefix_len is_word_byte (bs ++ rest)) (cond (is_digit b) (prefix_len is_digit (bs ++ rest)) 0)) h.0 ∙ run_length is_word_byte bs rest h.1 e in
+    let run = ap (λ t. cond t (prefix_len is_name_byte (bs ++ rest)) (cond (is_ascii_digit b) (prefix_len is_ascii_digit (bs ++ rest)) 0)) h.0 ∙ run_length is_name_byte bs rest h.1 e in
     let xs = bs ++ rest in
-    let e = ap (λ t. cond t (word (b ∷ take (more_bytes b xs) xs)) (cond (is_digit b) (digits (b ∷ take (more_bytes b xs) xs)) (sign_or_other b))) h.0
+    let e = ap (λ t. cond t (word (b ∷ take (more_bytes b xs) xs)) (cond (is_ascii_digit b) (digits (b ∷ take (more_bytes b xs) xs)) (sign_or_other b))) h.0
     ∙ (ap (λ n. word (b ∷ take n xs)) run ∙ ap (λ ys. word (b ∷ ys)) (take-append_seam bs rest)) in
     run_lexed b bs rest (word (b ∷ bs)) (letter_plain b h.0) run e
 
-digits_lexed : (b : ℕ) (bs rest : List ℕ) → IsDigitsText (b ∷ bs) → Ends is_digit rest → lexed ((b ∷ bs) ++ rest) ≡ digits (b ∷ bs) ∷ lexed rest
+digits_lexed : (b : ℕ) (bs rest : List ℕ) → IsDigitsText (b ∷ bs) → Ends is_ascii_digit rest → lexed ((b ∷ bs) ++ rest) ≡ digits (b ∷ bs) ∷ lexed rest
 digits_lexed b bs rest h f =
     let xs = bs ++ rest in
     let no = digit_no_letter b h.0 in
-    let run = ap (λ t. cond t (prefix_len is_word_byte xs) (cond (is_digit b) (prefix_len is_digit xs) 0)) no
-    ∙ (ap (λ t. cond t (prefix_len is_digit xs) 0) h.0 ∙ run_length is_digit bs rest h.1 f) in
-    let e = ap (λ t. cond t (word (b ∷ take (more_bytes b xs) xs)) (cond (is_digit b) (digits (b ∷ take (more_bytes b xs) xs)) (sign_or_other b))) no
+    let run = ap (λ t. cond t (prefix_len is_name_byte xs) (cond (is_ascii_digit b) (prefix_len is_ascii_digit xs) 0)) no
+    ∙ (ap (λ t. cond t (prefix_len is_ascii_digit xs) 0) h.0 ∙ run_length is_ascii_digit bs rest h.1 f) in
+    let e = ap (λ t. cond t (word (b ∷ take (more_bytes b xs) xs)) (cond (is_ascii_digit b) (digits (b ∷ take (more_bytes b xs) xs)) (sign_or_other b))) no
     ∙ (ap (λ t. cond t (digits (b ∷ take (more_bytes b xs) xs)) (sign_or_other b)) h.0
     ∙ (ap (λ n. digits (b ∷ take n xs)) run ∙ ap (λ ys. digits (b ∷ ys)) (take-append_seam bs rest))) in
     run_lexed b bs rest (digits (b ∷ bs)) (digit_plain b h.0) run e
@@ -112,9 +115,9 @@ Follows (name best_word) rest = Unit {0}
 Follows (name top_level_word) rest = Unit {0}
 Follows (name at_least_word) rest = Unit {0}
 Follows (name by_word) rest = Unit {0}
-Follows (name k) rest = Ends is_word_byte rest
-Follows (column_name letters) rest = Ends is_word_byte rest
-Follows (number_digits negative ds) rest = Ends is_digit rest
+Follows (name k) rest = Ends is_name_byte rest
+Follows (column_name letters) rest = Ends is_name_byte rest
+Follows (number_digits negative ds) rest = Ends is_ascii_digit rest
 Follows _ rest = Unit {0}
 
 abbrev pub Apart : List Leaf → List ℕ → Type 0
@@ -188,15 +191,15 @@ abbrev mutual
   FineUnary (reversed r) = FinePrior r
   FineUnary (based b) = FineBase b
 
-apart_number : (negative : Bool) (ds rest : List ℕ) → IsDigitsText ds → Ends is_digit rest → Apart (signed_leaves negative ds) rest
+apart_number : (negative : Bool) (ds rest : List ℕ) → IsDigitsText ds → Ends is_ascii_digit rest → Apart (signed_leaves negative ds) rest
 apart_number true ds rest h e = (tt, tt, (h, e, tt))
 apart_number false ds rest h e = (h, e, tt)
 
-others_end : (ns : List NumberText) (rest : List ℕ) → Ends is_digit rest → Ends is_digit (leaves_text (others_leaves ns) ++ rest)
+others_end : (ns : List NumberText) (rest : List ℕ) → Ends is_ascii_digit rest → Ends is_ascii_digit (leaves_text (others_leaves ns) ++ rest)
 others_end [] rest e = e
 others_end (n ∷ ns) rest e = refl
 
-apart_others : (ns : List NumberText) (rest : List ℕ) → FineNumbers ns → Ends is_digit rest → Apart (others_leaves ns) rest
+apart_others : (ns : List NumberText) (rest : List ℕ) → FineNumbers ns → Ends is_ascii_digit rest → Apart (others_leaves ns) rest
 apart_others [] rest h e = tt
 apart_others (n ∷ ns) rest h e =
     (tt, tt, apart_both (number_leaves n) (others_leaves ns) rest (apart_number n.negative n.digits (leaves_text (others_leaves ns) ++ rest) h.0 (others_end ns rest e)) (apart_others ns rest h.1 e))
@@ -226,7 +229,7 @@ apart_base (pos_text column first others) rest h = (
   ),
 )
   where
-    numbers_end : (ns : List NumberText) (rest : List ℕ) → Ends is_digit (leaves_text (others_leaves ns ++ mark right ∷ []) ++ rest)
+    numbers_end : (ns : List NumberText) (rest : List ℕ) → Ends is_ascii_digit (leaves_text (others_leaves ns ++ mark right ∷ []) ++ rest)
     numbers_end [] rest = refl
     numbers_end (n ∷ ns) rest = refl
 
@@ -257,7 +260,7 @@ apart_head best_head rest h = (tt, tt, tt)
 apart_head (top_level_head count) rest h = (tt, tt, (h, tt, tt))
 apart_head (at_least_head count) rest h = (tt, tt, (h, tt, tt))
 
-columns_end : (cs : List (List ℕ)) → Ends is_word_byte (leaves_text (more_columns cs) ++ [])
+columns_end : (cs : List (List ℕ)) → Ends is_name_byte (leaves_text (more_columns cs) ++ [])
 columns_end [] = tt
 columns_end (c ∷ cs) = refl
 

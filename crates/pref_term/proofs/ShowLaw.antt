@@ -3,12 +3,12 @@ use Rattle.std.proofs.Common.{◌≡◌, ◌<◌, ◌≤◌, ◌^◌, ◌+◌, �
 use Rattle.std.specs.Prelude.{FitsSigned, decimal, is_none}
 use Rattle.std.specs.List.{AllByRecursion}
 use Rattle.std.specs.Int.{w64}
-use Rattle.std.specs.Char.{digit_value}
+use Rattle.std.specs.Char.{digit_value, is_ascii_digit}
 use Rattle.std.specs.Str.Parse.{AllDigits}
 use Rattle.std.proofs.lemmas.Fmt.{digits_value-decimal, digits_decimal, decimal_nonempty}
 use Rattle.std.proofs.lemmas.List.Elements.{recursion_from_All}
 use Rattle.std.proofs.lemmas.Bool.Decides.{nat_tests}
-use Rattle.pref_term.specs.Token.{left, right, star, ampersand, minus, is_digit}
+use Rattle.pref_term.specs.Token.{left, right, star, ampersand, minus}
 use Rattle.pref_term.specs.Grammar.{PriorText, one_product, then_product, then_factor, grouped, AskText, rated, mark, column_name, count_digits, last, head_leaves, more_columns, group_leaves, number_leaves, others_leaves, base_leaves, prior_leaves, product_leaves, unary_leaves}
 use Rattle.pref_table.specs.Names.{schema_of}
 use Rattle.pref_term.specs.Columns.{column, ReadsBelow}
@@ -27,10 +27,10 @@ use Rattle.pref_term.proofs.Exact.{good_both}
 use Rattle.pref_term.proofs.CycleLemmas.{depth_good}
 use Rattle.pref_term.proofs.Lexed.{lexed, IsDigitsText, FineHead, FineNumbers, FineBase, FinePrior, FineProduct, FineUnary, said, rated_lexed, rated_written}
 
-digit_test : (c : ℕ) → digit_value c < 10 → is_digit c ≡ true
+digit_test : (c : ℕ) → digit_value c < 10 → is_ascii_digit c ≡ true
 digit_test c h = grind (arith, nat_tests)
 
-all_tests : (ds : List ℕ) → AllDigits 10 ds → AllByRecursion (λ c. is_digit c ≡ true) ds
+all_tests : (ds : List ℕ) → AllDigits 10 ds → AllByRecursion (λ c. is_ascii_digit c ≡ true) ds
 all_tests [] h = tt
 all_tests (d ∷ ds) h = (digit_test d h.0, all_tests ds h.1)
 

@@ -11,7 +11,7 @@ use Rattle.pref_table.specs.Numbered.{all_from}
 use Rattle.pref_table.specs.declared.fault.TableFault.TheVariants.{SameName, BadName}
 use Rattle.pref_table.proofs.NumberedFacts.{all_from-parts}
 use Rattle.pref_table.proofs.NamesFacts.{schema-size, schema_of-some}
-use Rattle.pref_term.specs.Token.{is_letter, is_word_byte}
+use Rattle.std.specs.Char.{is_ascii_alphabetic}
 use Rattle.pref_term.specs.OrderLaws.{and_parts}
 use Rattle.pref_term.specs.Spells.{Names}
 use Rattle.pref_term.specs.Shown.{name_at}
@@ -19,13 +19,13 @@ use Rattle.pref_term.specs.Shown.{name_at}
 -- a letter, and then bytes of words
 abbrev pub IsWordText : List ℕ → Type 0
 IsWordText [] = ⊥
-IsWordText (b ∷ bs) = (is_letter b ≡ true) × AllByRecursion (λ c. is_word_byte c ≡ true) bs
+IsWordText (b ∷ bs) = (is_ascii_alphabetic b ≡ true) × AllByRecursion (λ c. is_name_byte c ≡ true) bs
 
 -- a column that has a name of its own
 abbrev pub IsNamed : Names → ℕ → Type 0
 IsNamed names col = IsWordText (name_at names col) × (column_of names (name_at names col) ≡ Some col)
 
-all_word : (bs : List ℕ) → list_all is_name_byte bs ≡ true → AllByRecursion (λ c. is_word_byte c ≡ true) bs
+all_word : (bs : List ℕ) → list_all is_name_byte bs ≡ true → AllByRecursion (λ c. is_name_byte c ≡ true) bs
 all_word [] h = tt
 all_word (b ∷ bs) h = let k = and_parts (is_name_byte b) (list_all is_name_byte bs) h in (k.0, all_word bs k.1)
 
@@ -38,7 +38,7 @@ last_parts false b c d h = cc
 name_is_word : (name : List ℕ) → is_name name ≡ true → IsWordText name
 name_is_word [] h = cc
 name_is_word (b ∷ bs) h =
-    let says = last_parts (nat_lt 0 (length (b ∷ bs))) (nat_le (length (b ∷ bs)) 32) (is_letter b) (list_all is_name_byte (b ∷ bs)) h in
+    let says = last_parts (nat_lt 0 (length (b ∷ bs))) (nat_le (length (b ∷ bs)) 32) (is_ascii_alphabetic b) (list_all is_name_byte (b ∷ bs)) h in
     (says.0, (all_word (b ∷ bs) says.1).1)
 
 -- what the check of a name says

@@ -1,6 +1,9 @@
 -- The tokens of a question text. (this project)
-use Rattle.std.specs.Prelude.{ℕ, zero, suc, ◌+◌, List, [], ◌∷◌, take, Bool, ◌&&◌, ◌||◌, ◌==◌, nat_le, if◌then◌else◌}
+use Rattle.std.specs.Prelude.{ℕ, zero, suc, ◌+◌, List, [], ◌∷◌, take, ◌==◌, if◌then◌else◌}
+use Rattle.std.specs.Char.{is_ascii_alphabetic, is_ascii_digit}
 use Rattle.std.specs.List.{prefix_len}
+use Rattle.pref_table.specs.Names.{is_name_byte}
+use Rattle.pref_table.specs.Number.{is_blank}
 pub use Rattle.pref_term.specs.declared.token.Sign.{Sign}
 pub use Rattle.pref_term.specs.declared.token.Sign.TheVariants.{Left as left, Right as right, Comma as comma, Star as star, Ampersand as ampersand, Minus as minus}
 
@@ -18,22 +21,6 @@ pub record Placed : Type 0 where
   pub token : Token
   pub place : ℕ
 
--- a space or a tab
-abbrev pub is_blank : ℕ → Bool
-is_blank b = b == 32 || b == 9
-
--- `0` to `9`
-abbrev pub is_digit : ℕ → Bool
-is_digit b = nat_le 48 b && nat_le b 57
-
--- `A` to `Z` and `a` to `z`
-abbrev pub is_letter : ℕ → Bool
-is_letter b = (nat_le 65 b && nat_le b 90) || (nat_le 97 b && nat_le b 122)
-
--- what goes on with a word
-abbrev pub is_word_byte : ℕ → Bool
-is_word_byte b = is_letter b || is_digit b || b == 95 || b == 46
-
 -- the token that is this byte alone
 abbrev pub sign_or_other : ℕ → Token
 sign_or_other b =
@@ -45,15 +32,15 @@ sign_or_other b =
     else if b == 45 then sign minus
     else other
 
--- how many of the bytes after b belong to the token that b begins
+-- how many of the bytes after b belong to the token that b begins; a word goes on with the bytes of a name
 abbrev pub more_bytes : ℕ → List ℕ → ℕ
-more_bytes b bs = if is_letter b then prefix_len is_word_byte bs else if is_digit b then prefix_len is_digit bs else 0
+more_bytes b bs = if is_ascii_alphabetic b then prefix_len is_name_byte bs else if is_ascii_digit b then prefix_len is_ascii_digit bs else 0
 
 -- the token that b begins
 abbrev pub token_from : ℕ → List ℕ → Token
 token_from b bs =
-    if is_letter b then word (b ∷ take (more_bytes b bs) bs)
-    else if is_digit b then digits (b ∷ take (more_bytes b bs) bs)
+    if is_ascii_alphabetic b then word (b ∷ take (more_bytes b bs) bs)
+    else if is_ascii_digit b then digits (b ∷ take (more_bytes b bs) bs)
     else sign_or_other b
 
 -- the tokens of the bytes, of which the first few belong to a token that was told before

@@ -2,7 +2,9 @@
 
 ghost use Rattle.std.specs.Prelude.{◌≡◌, ◌<◌, ◌≤◌, length};
 ghost use Rattle.std.specs.List.{prefix_len};
-ghost use Rattle.pref_term.specs.Token as tokens;
+ghost use Rattle.std.specs.Char.{is_ascii_digit};
+ghost use Rattle.pref_table.specs.Names.{is_name_byte};
+ghost use Rattle.pref_table.specs.Number.{is_blank};
 ghost use Rattle.pref_term.specs.Seen.{seen, IsFront};
 
 use crate::token::Sign;
@@ -17,33 +19,21 @@ pub(crate) enum Token<'a> {
     End,
 }
 
-pub(crate) fn is_blank(byte: u8) -> bool
-    ensures { result ≡ tokens.is_blank byte }
+fn is_blank_byte(byte: u8) -> bool
+    ensures { result ≡ is_blank byte }
 {
     byte == b' ' || byte == b'\t'
 }
 
-pub(crate) fn is_digit(byte: u8) -> bool
-    ensures { result ≡ tokens.is_digit byte }
+fn is_word_byte(byte: u8) -> bool
+    ensures { result ≡ is_name_byte byte }
 {
-    byte >= b'0' && byte <= b'9'
-}
-
-pub(crate) fn is_letter(byte: u8) -> bool
-    ensures { result ≡ tokens.is_letter byte }
-{
-    (byte >= b'A' && byte <= b'Z') || (byte >= b'a' && byte <= b'z')
-}
-
-pub(crate) fn is_word_byte(byte: u8) -> bool
-    ensures { result ≡ tokens.is_word_byte byte }
-{
-    is_letter(byte) || is_digit(byte) || byte == b'_' || byte == b'.'
+    byte.is_ascii_alphabetic() || byte.is_ascii_digit() || byte == b'_' || byte == b'.'
 }
 
 /// How many bytes at the front go on with a word.
 fn word_length(bytes: &[u8]) -> usize
-    ensures length { result ≡ prefix_len tokens.is_word_byte bytes.now }
+    ensures length { result ≡ prefix_len is_name_byte bytes.now }
     ensures within { result ≤ length bytes.now }
 {
     bytes.iter().take_while(|byte| is_word_byte(**byte)).count()
@@ -51,18 +41,24 @@ fn word_length(bytes: &[u8]) -> usize
 
 /// How many bytes at the front are digits.
 fn digits_length(bytes: &[u8]) -> usize
-    ensures length { result ≡ prefix_len tokens.is_digit bytes.now }
+    ensures length { result ≡ prefix_len is_ascii_digit bytes.now }
     ensures within { result ≤ length bytes.now }
 {
-    bytes.iter().take_while(|byte| is_digit(**byte)).count()
+    bytes
+        .iter()
+        .take_while(|byte| byte.is_ascii_digit())
+        .count()
 }
 
 /// How many bytes at the front are blank.
 pub(crate) fn blanks_length(bytes: &[u8]) -> usize
-    ensures length { result ≡ prefix_len tokens.is_blank bytes.now }
+    ensures length { result ≡ prefix_len is_blank bytes.now }
     ensures within { result ≤ length bytes.now }
 {
-    bytes.iter().take_while(|byte| is_blank(**byte)).count()
+    bytes
+        .iter()
+        .take_while(|byte| is_blank_byte(**byte))
+        .count()
 }
 
 /// The token at the front, and its length.
@@ -72,11 +68,11 @@ pub(crate) fn front(bytes: &[u8]) -> (Token<'_>, usize)
     ensures within { result.1 ≤ length bytes.now }
 {
     let first = bytes[0];
-    if is_letter(first) {
+    if first.is_ascii_alphabetic() {
         let length = 1 + word_length(&bytes[1..]);
         return (Token::Word(&bytes[..length]), length);
     }
-    if is_digit(first) {
+    if first.is_ascii_digit() {
         let length = 1 + digits_length(&bytes[1..]);
         return (Token::Digits(&bytes[..length]), length);
     }
