@@ -1,12 +1,8 @@
 -- No public contract cites this.
 -- A magnitude that is read in one pass, exact where a cell can hold it. (this project)
-use Rattle.std.specs.Prelude.{◌≡◌, ◌^◌, ◌<◌, ◌≤◌, ℕ, ℤ, pos, neg_ℤ, Bool, if◌then◌else◌}
+use Rattle.std.specs.Prelude.{◌≡◌, ◌^◌, ◌<◌, ◌≤◌, ℕ}
 
 -- the value itself up to 2^63, and past it some value past it
 pub record IsCapped (told value : ℕ) : Type 0 where
   pub same : told ≤ 2 ^ 63 → told ≡ value
   pub more : 2 ^ 63 < told → 2 ^ 63 < value
-
--- the number with this sign and magnitude
-abbrev pub signed_by : Bool → ℕ → ℤ
-signed_by negative magnitude = if negative then neg_ℤ (pos magnitude) else pos magnitude

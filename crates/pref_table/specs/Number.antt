@@ -1,5 +1,5 @@
 -- What a number field reads as. (this project)
-use Rattle.std.specs.Prelude.{ℕ, ℤ, pos, negsuc, Bool, ◌==◌, ◌||◌, ◌&&◌, ◌-◌, ◌^◌, List, length, take, drop, Result, Ok, Err, nat_lt, if◌then◌else◌}
+use Rattle.std.specs.Prelude.{ℕ, ℤ, pos, negsuc, neg_ℤ, Bool, ◌==◌, ◌||◌, ◌&&◌, ◌-◌, ◌^◌, List, length, take, drop, Result, Ok, Err, nat_lt, if◌then◌else◌}
 use Rattle.std.specs.Str.{all_ascii_digits}
 use Rattle.std.specs.List.{prefix_len, suffix_len}
 use Rattle.std.specs.Str.Parse.{without_leading_sign, signed_digits_value}
@@ -23,6 +23,10 @@ without_blanks text = before_blanks (after_blanks text)
 -- one decimal digit or more, and nothing else
 abbrev pub is_numeral : List ℕ → Bool
 is_numeral text = nat_lt 0 (length text) && all_ascii_digits text
+
+-- the number with this sign and magnitude
+abbrev pub signed_by : Bool → ℕ → ℤ
+signed_by negative magnitude = if negative then neg_ℤ (pos magnitude) else pos magnitude
 
 -- a number from -2^63 to 2^63 - 1; negsuc n is -(n + 1)
 abbrev pub fits_cell : ℤ → Bool

@@ -10,8 +10,9 @@ mod table;
 
 pub use fault::TableFault;
 pub use line::read_row;
+pub use number::{blanks_length, signed_number};
 pub use row::Row;
-pub use schema::Schema;
+pub use schema::{Schema, is_name_byte};
 pub use table::read_table;
 
 #[cfg(test)]

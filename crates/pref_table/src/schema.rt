@@ -3,7 +3,8 @@ ghost use Rattle.std.specs.Prelude.{◌≡◌, ◌<◌, ◌≤◌, List, ℕ, ma
 ghost use Rattle.std.specs.List.{list_all, list_any};
 ghost use Rattle.std.specs.Str.{bytes_eq};
 ghost use Rattle.pref_table.specs.Columns.{column_of};
-ghost use Rattle.pref_table.specs.Names.{is_name, is_name_byte, name_after, name_in, schema_of};
+ghost use Rattle.pref_table.specs.Names as name_specs;
+ghost use Rattle.pref_table.specs.Names.{is_name, name_after, name_in, schema_of};
 ghost use Rattle.pref_table.specs.Numbered.{all_from};
 ghost use Rattle.pref_table.specs.Tables.{Gives};
 
@@ -36,16 +37,17 @@ impl Model for Schema {
     ghost invariant = { λ schema. let names = map (λ name. name.items) schema.names.items in schema_of names ≡ Ok names };
 }
 
-fn is_name_rest(byte: u8) -> bool
-    ensures { result ≡ is_name_byte byte }
+/// Whether a name goes on with this byte: a letter, a digit, `_` or `.`.
+pub fn is_name_byte(byte: u8) -> bool
+    ensures { result ≡ name_specs.is_name_byte byte }
 {
     byte.is_ascii_alphabetic() || byte.is_ascii_digit() || byte == b'_' || byte == b'.'
 }
 
 fn all_name_bytes(bytes: &[u8]) -> bool
-    ensures { result ≡ list_all is_name_byte bytes.now }
+    ensures { result ≡ list_all name_specs.is_name_byte bytes.now }
 {
-    bytes.iter().all(|byte| is_name_rest(*byte))
+    bytes.iter().all(|byte| is_name_byte(*byte))
 }
 
 fn is_name_text(name: &[u8]) -> bool

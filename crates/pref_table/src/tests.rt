@@ -1,7 +1,9 @@
 //! Table texts with the results that the format names.
 mod refusals;
 
-use crate::{Row, Schema, TableFault, read_row, read_table};
+use crate::{
+    Row, Schema, TableFault, blanks_length, is_name_byte, read_row, read_table, signed_number,
+};
 use std::alloc::Global;
 use std::test::Fail;
 
@@ -145,6 +147,19 @@ fn rows_of_a_line(rt: HostRuntime) -> Result<(), Fail> {
         Err(TableFault::Width { row: 0 })
     );
     Ok(())
+}
+
+#[test]
+fn parts_that_questions_share(rt: HostRuntime) {
+    assert_eq!(rt; blanks_length(b" \t x "), 3);
+    for byte in b"aZ0_." {
+        assert!(rt; is_name_byte(*byte), "at {byte}");
+    }
+    assert!(rt; !is_name_byte(b'-'));
+    assert_eq!(rt; signed_number(true, b"007"), Some(-7));
+    assert_eq!(rt; signed_number(true, b"9223372036854775808"), Some(i64::MIN));
+    assert_eq!(rt; signed_number(false, b"9223372036854775808"), None);
+    assert_eq!(rt; signed_number(false, b"7."), None);
 }
 
 #[test]
