@@ -2,8 +2,9 @@
 
 ghost use Rattle.std.specs.Prelude.{◌≡◌, ◌≤◌, length};
 
-use crate::front::{Token, blanks_length, front};
+use crate::front::{Token, front};
 use crate::token::Sign;
+use pref_table::blanks_length;
 
 /// A place in a text.
 #[derive(Clone, Copy)]

@@ -3,11 +3,11 @@
 ghost use Rattle.std.specs.Prelude.{◌≡◌, ◌<◌, ◌≤◌, length};
 ghost use Rattle.std.specs.List.{prefix_len};
 ghost use Rattle.std.specs.Char.{is_ascii_digit};
-ghost use Rattle.pref_table.specs.Names.{is_name_byte};
-ghost use Rattle.pref_table.specs.Number.{is_blank};
+ghost use Rattle.pref_table.specs.Names as names;
 ghost use Rattle.pref_term.specs.Seen.{seen, IsFront};
 
 use crate::token::Sign;
+use pref_table::is_name_byte;
 
 /// A token, with its bytes where it has a choice of them.
 #[derive(Clone, Copy)]
@@ -19,24 +19,12 @@ pub(crate) enum Token<'a> {
     End,
 }
 
-fn is_blank_byte(byte: u8) -> bool
-    ensures { result ≡ is_blank byte }
-{
-    byte == b' ' || byte == b'\t'
-}
-
-fn is_word_byte(byte: u8) -> bool
-    ensures { result ≡ is_name_byte byte }
-{
-    byte.is_ascii_alphabetic() || byte.is_ascii_digit() || byte == b'_' || byte == b'.'
-}
-
 /// How many bytes at the front go on with a word.
 fn word_length(bytes: &[u8]) -> usize
-    ensures length { result ≡ prefix_len is_name_byte bytes.now }
+    ensures length { result ≡ prefix_len names.is_name_byte bytes.now }
     ensures within { result ≤ length bytes.now }
 {
-    bytes.iter().take_while(|byte| is_word_byte(**byte)).count()
+    bytes.iter().take_while(|byte| is_name_byte(**byte)).count()
 }
 
 /// How many bytes at the front are digits.
@@ -47,17 +35,6 @@ fn digits_length(bytes: &[u8]) -> usize
     bytes
         .iter()
         .take_while(|byte| byte.is_ascii_digit())
-        .count()
-}
-
-/// How many bytes at the front are blank.
-pub(crate) fn blanks_length(bytes: &[u8]) -> usize
-    ensures length { result ≡ prefix_len is_blank bytes.now }
-    ensures within { result ≤ length bytes.now }
-{
-    bytes
-        .iter()
-        .take_while(|byte| is_blank_byte(**byte))
         .count()
 }
 
