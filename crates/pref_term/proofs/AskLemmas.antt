@@ -1,20 +1,21 @@
 -- What the parts of the reader promise that read what stands around a term, and skyline clauses.
 use Rattle.std.proofs.Common.{◌≡◌, ℕ, List, [], ◌∷◌, ◌++◌, length, map, Bool, true, false, Option, Some, None, Ok, refl, sym, ap, subst, ◌∙◌, append-nil}
 use Rattle.std.specs.Prelude.{All, IfSome, cond, unwrap_or}
+use Rattle.std.specs.Str.Parse.{digits_value}
 use Rattle.std.proofs.lemmas.List.{map-append}
 use Rattle.std.proofs.lemmas.List.Elements.{All-append, All-nil}
 use Rattle.std.proofs.lemmas.List.Sums.{fold-append}
 use Rattle.std.proofs.lemmas.Grind.{flat_map-append}
 use Rattle.pref_term.specs.Token.{comma, Token, word, digits, sign, finish, Placed}
 use Rattle.pref_term.specs.Grammar.{Keyword, best_word, top_level_word, at_least_word, by_word, keyword_of, skyline_word, of_word, cased_of, Direction, minimal, maximal, different, direction_word, DimText, HeadText, best_head, top_level_head, at_least_head, PriorText, one_product, then_product, rated, name, mark, column_name, count_digits, cased, last}
-use Rattle.pref_term.specs.Spells.{Names, own_fault, column_at, decimal_value, is_count, mode_of, order_by, group_by, orders_of, groups_of, product_of, bad_count}
+use Rattle.pref_term.specs.Spells.{Names, own_fault, column_at, mode_of, order_by, group_by, orders_of, groups_of, product_of, bad_count}
 use Rattle.pref_term.specs.Reading.{State, start, operand, whole, in_whole, ranked, top_level_named, at_least_named, group_due, skyline_named, dim_due, dim_named, done, listed_column, listed_dim, directed, begun, of_named, grouped_by, next}
 use Rattle.pref_term.specs.Asked.{meant}
 use Rattle.pref_term.specs.Led.{Goes, Fails, Passes, IsNoWord, IsKnown, IsTermOf, IsColumn, WantsColumn, TakesColumn, FailsColumn, ReadsPrior, FailsPrior, Asks, AsksNothing, IsNoDigits, WantsCount, TakesCount, FailsCount, left_over, ReadsGroupColumn, FailsGroupColumn, ReadsColumns, FailsColumns, ReadsGrouping, FailsGrouping, TakesDirection, FailsDirection, behind_dim, ReadsDim, FailsDim, with_order, ReadsDims, ReadsClause, FailsClause, PassesOf, FailsOf}
 use Rattle.pref_term.specs.Preference.{Preference, scored, low, high, pareto, prior, reverse}
 use Rattle.pref_term.specs.Columns.{ReadsBelow}
 use Rattle.pref_term.specs.Writable.{IsWritable}
-use Rattle.pref_term.specs.Question.{Question, FitsWidth, IsAsk, IsCount, cut_of}
+use Rattle.pref_term.specs.Question.{Question, FitsWidth, IsAsk, IsCount, is_count, cut_of}
 use Rattle.pref_term.specs.declared.ask.Mode.{Mode}
 use Rattle.pref_term.specs.declared.ask.Mode.TheVariants.{Best, TopLevel, AtLeast}
 use Rattle.pref_term.specs.declared.fault.TermFault.{TermFault}
@@ -308,7 +309,7 @@ unfolding count_named
 count_word_goes names levels letters ts us c e = passes_goes names (word letters) ts us start top_level_named (name top_level_word) c (ap (λ k. begun letters k (cased_of letters)) e) refl
 count_word_goes names rows letters ts us c e = passes_goes names (word letters) ts us start at_least_named (name at_least_word) c (ap (λ k. begun letters k (cased_of letters)) e) refl
 
-count_good : (names : Names) (ds : List ℕ) → is_count (decimal_value ds) ≡ true → own_fault names (count_digits ds) ≡ None
+count_good : (names : Names) (ds : List ℕ) → is_count (digits_value 10 ds) ≡ true → own_fault names (count_digits ds) ≡ None
 count_good names ds h = ap (λ b. cond b None (Some bad_count)) h
 
 count_goes : (names : Names) (k : CountKind) (letters : List ℕ) (ts us vs : List Placed) (n : ℕ) → Passes (word letters) ts us → keyword_of letters ≡ Some (count_word k) → (t : TakesCount us n vs) → Goes names start ts (operand (in_whole (count_head k t.digits_are))) vs
@@ -316,7 +317,7 @@ count_goes names k letters ts us vs n c e t =
     goes_then names start (count_named k) _ ts us vs (count_word_goes names k letters ts us c e)
     (passes_goes names (digits t.digits_are) us vs (count_named k) _ (count_digits t.digits_are) t.passes ((wants_count k).takes t.digits_are) (count_good names t.digits_are t.good))
 
-mode_said : (k : CountKind) (ds : List ℕ) (n : ℕ) → decimal_value ds ≡ n → mode_of (count_head k ds) ≡ count_mode k n
+mode_said : (k : CountKind) (ds : List ℕ) (n : ℕ) → digits_value 10 ds ≡ n → mode_of (count_head k ds) ≡ count_mode k n
 mode_said levels ds n e = ap TopLevel e
 mode_said rows ds n e = ap AtLeast e
 

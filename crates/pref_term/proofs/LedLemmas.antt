@@ -1,9 +1,10 @@
 -- What the parts of the reader promise, from the tokens that they take.
 use Rattle.std.proofs.Common.{◌≡◌, ℕ, ℤ, List, [], ◌∷◌, ◌++◌, map, Bool, true, false, cond, Some, None, Result, Ok, Err, refl, sym, ap, subst, ◌∙◌}
 use Rattle.pref_table.specs.Columns.{column_of}
+use Rattle.pref_table.specs.Number.{fits_cell}
 use Rattle.pref_term.specs.Token.{Sign, left, right, comma, minus, Token, word, digits, sign, Placed}
 use Rattle.pref_term.specs.Grammar.{based, NumberText, low_text, high_text, around_text, pos_text, Leaf, mark, column_name, number_digits}
-use Rattle.pref_term.specs.Spells.{Names, UnlessMemory, own_fault, in_range, signed_value, number_value, column_at, number_range}
+use Rattle.pref_term.specs.Spells.{Names, UnlessMemory, own_fault, signed_value, number_value, column_at, number_range}
 use Rattle.pref_term.specs.Reading.{BaseKind, low_kind, high_kind, around_kind, pos_kind, centre_of, first_of, named, opened, columned, number_due, number_signed, centred, listed, filled, UnaryHole, State, reading, completed, run, led, judged, next}
 use Rattle.pref_term.specs.Seen.{seen}
 use Rattle.pref_term.specs.Ahead.{ahead, taken, behind_token}
@@ -30,7 +31,7 @@ run_step names t at ts p s leaf m e own =
 pub column_good : (names : Names) (letters : List ℕ) (col : ℕ) → column_of names letters ≡ Some col → own_fault names (column_name letters) ≡ None
 column_good names letters col h = rw h
 
-pub number_good : (names : Names) (negative : Bool) (ds : List ℕ) → in_range negative ds ≡ true → own_fault names (number_digits negative ds) ≡ None
+pub number_good : (names : Names) (negative : Bool) (ds : List ℕ) → fits_cell (signed_value negative ds) ≡ true → own_fault names (number_digits negative ds) ≡ None
 number_good names negative ds h = ap (λ b. cond b None (Some number_range)) h
 
 -- ---- one part behind another
@@ -85,7 +86,7 @@ opened_fails names ts us f c r h k =
     goes_fails names _ (reading h (opened k)) ts us f (passes_goes names (sign left) ts us (reading h (named k)) (reading h (opened k)) (mark left) c refl refl)
     (r (reading h (opened k)) (λ letters. reading h (columned k letters)) (wants_opened h k))
 
-pub plain_number_read : (names : Names) (ts us : List Placed) (a : ℕ) (ds : List ℕ) (value : ℤ) → ts ≡ at_place (digits ds) a ∷ us → in_range false ds ≡ true → value ≡ signed_value false ds → FitsSigned w64 value → ReadsNumber names ts value us
+pub plain_number_read : (names : Names) (ts us : List Placed) (a : ℕ) (ds : List ℕ) (value : ℤ) → ts ≡ at_place (digits ds) a ∷ us → fits_cell (signed_value false ds) ≡ true → value ≡ signed_value false ds → FitsSigned w64 value → ReadsNumber names ts value us
 plain_number_read names ts us a ds value e fits v held =
     let n : NumberText = record { negative = false; digits = ds } in
     record {
@@ -99,7 +100,7 @@ plain_number_read names ts us a ds value e fits v held =
       );
     }
 
-pub signed_number_read : (names : Names) (ts us vs : List Placed) (a b : ℕ) (ds : List ℕ) (value : ℤ) → ts ≡ at_place (sign minus) a ∷ us → us ≡ at_place (digits ds) b ∷ vs → in_range true ds ≡ true → value ≡ signed_value true ds → FitsSigned w64 value → ReadsNumber names ts value vs
+pub signed_number_read : (names : Names) (ts us vs : List Placed) (a b : ℕ) (ds : List ℕ) (value : ℤ) → ts ≡ at_place (sign minus) a ∷ us → us ≡ at_place (digits ds) b ∷ vs → fits_cell (signed_value true ds) ≡ true → value ≡ signed_value true ds → FitsSigned w64 value → ReadsNumber names ts value vs
 signed_number_read names ts us vs a b ds value e f fits v held =
     let n : NumberText = record { negative = true; digits = ds } in
     record {

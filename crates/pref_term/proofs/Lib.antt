@@ -4,7 +4,6 @@ pub mod FactorLaws
 pub mod WorkedTerms
 pub mod Sound
 pub mod TokenLemmas
-pub mod Values
 pub mod Complete
 pub mod Exact
 pub mod LedLemmas

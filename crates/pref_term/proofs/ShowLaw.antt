@@ -1,42 +1,41 @@
 -- What is shown spells what was shown.
-use Rattle.std.proofs.Common.{◌≡◌, ◌<◌, ◌≤◌, ◌^◌, ◌+◌, ℕ, ℤ, pos, negsuc, suc, List, [], ◌∷◌, ◌++◌, map, true, cond, Some, None, Ok, length, nat_lt, nat_le, refl, sym, ap, ◌∙◌, append_assoc, arith}
+use Rattle.std.proofs.Common.{◌≡◌, ◌<◌, ◌≤◌, ◌^◌, ◌+◌, ℕ, ℤ, pos, negsuc, suc, List, [], ◌∷◌, ◌++◌, map, true, cond, Some, None, Ok, length, refl, sym, ap, ◌∙◌, append_assoc, arith}
 use Rattle.std.specs.Prelude.{FitsSigned, decimal, is_none}
 use Rattle.std.specs.List.{AllByRecursion}
 use Rattle.std.specs.Int.{w64}
-use Rattle.std.specs.Char.{digit_value, is_ascii_digit}
-use Rattle.std.specs.Str.Parse.{AllDigits}
+use Rattle.std.specs.Char.{is_ascii_digit}
+use Rattle.std.specs.Str.{all_ascii_digits}
 use Rattle.std.proofs.lemmas.Fmt.{digits_value-decimal, digits_decimal, decimal_nonempty}
 use Rattle.std.proofs.lemmas.List.Elements.{recursion_from_All}
 use Rattle.std.proofs.lemmas.Bool.Decides.{nat_tests}
 use Rattle.pref_term.specs.Token.{left, right, star, ampersand, minus}
 use Rattle.pref_term.specs.Grammar.{PriorText, one_product, then_product, then_factor, grouped, AskText, rated, mark, column_name, count_digits, last, head_leaves, more_columns, group_leaves, number_leaves, others_leaves, base_leaves, prior_leaves, product_leaves, unary_leaves}
 use Rattle.pref_table.specs.Names.{schema_of}
+use Rattle.pref_table.specs.Number.{fits_cell}
+use Rattle.pref_term.specs.OrderLaws.{and_parts}
 use Rattle.pref_term.specs.Columns.{column, ReadsBelow}
 use Rattle.pref_term.specs.Writable.{IsWritableBase, IsWritable}
-use Rattle.pref_term.specs.Question.{Question, FitsWidth, IsCount, cut_of, IsAsk}
+use Rattle.pref_term.specs.Question.{Question, FitsWidth, IsCount, is_count, cut_of, IsAsk}
 use Rattle.pref_term.specs.Asked.{asked}
-use Rattle.pref_term.specs.Spells.{Names, Spells, IsGood, own_fault, in_range, is_count, mode_of, column_at, unknown_column, number_range, bad_count}
+use Rattle.pref_term.specs.Spells.{Names, Spells, IsGood, own_fault, number_value, mode_of, column_at, unknown_column, number_range, bad_count}
 use Rattle.pref_term.specs.Preference.{Base, low, high, around, one_of, Preference, scored, pareto, prior, reverse}
 use Rattle.pref_term.specs.Shown.{is_prior, is_composed, held_nests, nests, name_at, shown_term, shown_mode, shown_group, shown}
 use Rattle.pref_term.specs.declared.ask.Mode.{Mode}
 use Rattle.pref_term.specs.declared.ask.Mode.TheVariants.{Best, TopLevel, AtLeast}
 use Rattle.pref_term.proofs.ShownNames.{IsWordText, IsNamed, is_named}
 use Rattle.pref_term.proofs.AskedLemmas.{spelled_asked}
-use Rattle.pref_term.proofs.ShownLemmas.{AreInRange, CanShowBase, CanShow, leaves_text, leaves_text-append, head_text, head_shown, group_shown, columns_same, number_text, base_text, Shape, factor, product, ranked, as_prior, as_product, as_factor, shape_of, shape_leaves, prior_same, meaning_same, prior_text, text_shown, own_numerals}
+use Rattle.pref_term.proofs.ShownLemmas.{AreInRange, CanShowBase, CanShow, leaves_text, leaves_text-append, head_text, head_shown, group_shown, columns_same, number_text, base_text, Shape, factor, product, ranked, as_prior, as_product, as_factor, shape_of, shape_leaves, prior_same, number_same, meaning_same, prior_text, text_shown, own_numerals}
 use Rattle.pref_term.proofs.Exact.{good_both}
 use Rattle.pref_term.proofs.CycleLemmas.{depth_good}
 use Rattle.pref_term.proofs.Lexed.{lexed, IsDigitsText, FineHead, FineNumbers, FineBase, FinePrior, FineProduct, FineUnary, said, rated_lexed, rated_written}
 
-digit_test : (c : ℕ) → digit_value c < 10 → is_ascii_digit c ≡ true
-digit_test c h = grind (arith, nat_tests)
-
-all_tests : (ds : List ℕ) → AllDigits 10 ds → AllByRecursion (λ c. is_ascii_digit c ≡ true) ds
-all_tests [] h = tt
-all_tests (d ∷ ds) h = (digit_test d h.0, all_tests ds h.1)
-
-digits_text : (ds : List ℕ) → AllDigits 10 ds → 0 < length ds → IsDigitsText ds
+digits_text : (ds : List ℕ) → all_ascii_digits ds ≡ true → 0 < length ds → IsDigitsText ds
 digits_text [] h n = absurd (omega arith)
-digits_text (d ∷ ds) h n = all_tests (d ∷ ds) h
+digits_text (d ∷ ds) h n = all_digits (d ∷ ds) h
+  where
+    all_digits : (ds : List ℕ) → all_ascii_digits ds ≡ true → AllByRecursion (λ c. is_ascii_digit c ≡ true) ds
+    all_digits [] h = tt
+    all_digits (d ∷ ds) h = let k = and_parts (is_ascii_digit d) (all_ascii_digits ds) h in (k.0, all_digits ds k.1)
 
 decimal_text : (n : ℕ) → n < 2 ^ 64 → IsDigitsText (decimal n)
 decimal_text n h = digits_text (decimal n) (digits_decimal own_numerals n h) (decimal_nonempty n h)
@@ -87,15 +86,12 @@ shape_fine names (reverse p) h = fine_factor (shape_of names p) (shape_fine name
 column_fine : (names : Names) (col : ℕ) → IsNamed names col → own_fault names (column_name (name_at names col)) ≡ None
 column_fine names col h = ap (λ o. cond (is_none o) (Some unknown_column) None) h.1
 
-range_fine : (v : ℤ) → FitsSigned w64 v → in_range (number_text v).negative (number_text v).digits ≡ true
-range_fine (pos n) h =
-    let small : n < 2 ^ 64 = omega (arith, h.sfits) in
-    let e : nat_lt n (2 ^ 63) ≡ true = grind (arith, nat_tests, h.sfits) in
-    ap (λ m. nat_lt m (2 ^ 63)) (digits_value-decimal own_numerals n small) ∙ e
-range_fine (negsuc n) h =
-    let small : suc n < 2 ^ 64 = omega (arith, h.sfits) in
-    let e : nat_le (suc n) (2 ^ 63) ≡ true = grind (arith, nat_tests, h.sfits) in
-    ap (λ m. nat_le m (2 ^ 63)) (digits_value-decimal own_numerals (suc n) small) ∙ e
+range_fine : (v : ℤ) → FitsSigned w64 v → fits_cell (number_value (number_text v)) ≡ true
+range_fine v h = ap fits_cell (number_same v h) ∙ fits v h
+  where
+    fits : (v : ℤ) → FitsSigned w64 v → fits_cell v ≡ true
+    fits (pos n) h = grind (arith, nat_tests, h.sfits)
+    fits (negsuc n) h = grind (arith, nat_tests, h.sfits)
 
 number_good : (names : Names) (v : ℤ) → FitsSigned w64 v → AllByRecursion (IsGood names) (number_leaves (number_text v))
 number_good names (pos n) h = (ap (λ b. cond b None (Some number_range)) (range_fine (pos n) h), tt)

@@ -1,17 +1,16 @@
 -- What is shown is a text of the grammar with the meaning of what was shown.
-use Rattle.std.proofs.Common.{◌≡◌, ◌<◌, ◌^◌, ◌+◌, ◌-◌, ◌*◌, ℕ, ℤ, pos, negsuc, suc, List, [], ◌∷◌, ◌++◌, map, true, false, refl, sym, ap, ◌∙◌, append_assoc, append-nil, arith}
+use Rattle.std.proofs.Common.{◌≡◌, ◌<◌, ◌^◌, ◌+◌, ℕ, ℤ, pos, negsuc, suc, List, [], ◌∷◌, ◌++◌, map, true, false, refl, sym, ap, ◌∙◌, append_assoc, append-nil, arith}
 use Rattle.std.specs.Prelude.{codes, unwrap_or, FitsSigned, neg_ℤ, decimal}
 use Rattle.std.specs.Fmt.{signed_decimal}
 use Rattle.std.specs.Int.{w64}
 use Rattle.std.specs.List.{AllByRecursion}
-use Rattle.std.specs.Str.Parse.{AllDigits, digits_value_after}
-use Rattle.std.specs.Char.{digit_value}
-use Rattle.std.proofs.lemmas.Bool.Decides.{nat_tests}
-use Rattle.std.proofs.lemmas.Str.Parse.{IsNumeralModel}
+use Rattle.std.specs.Str.{all_ascii_digits}
+use Rattle.std.specs.Str.Parse.{digits_value}
+use Rattle.std.proofs.lemmas.Str.Parse.{IsNumeralModel, numerals_by_value, tells_all_ascii_digits}
 use Rattle.std.proofs.lemmas.Fmt.{digits_value-decimal}
 use Rattle.pref_term.specs.Token.{Sign, left, right, comma, star, ampersand, minus}
 use Rattle.pref_term.specs.Grammar.{Keyword, best_word, low_word, high_word, around_word, pos_word, reverse_word, top_level_word, at_least_word, by_word, NumberText, BaseText, low_text, high_text, around_text, pos_text, PriorText, one_product, then_product, ProductText, one_factor, then_factor, UnaryText, negated, grouped, based, HeadText, best_head, top_level_head, at_least_head, Leaf, name, mark, opens, column_name, number_digits, count_digits, cased, last, number_leaves, others_leaves, base_leaves, prior_leaves, product_leaves, unary_leaves, head_leaves, more_columns, group_leaves}
-use Rattle.pref_term.specs.Spells.{Names, decimal_value, decimal_value_from, number_value, column_at, base_meaning, prior_meaning, product_meaning, unary_meaning}
+use Rattle.pref_term.specs.Spells.{Names, number_value, column_at, base_meaning, prior_meaning, product_meaning, unary_meaning}
 use Rattle.pref_term.specs.Preference.{Base, low, high, around, one_of, Preference, scored, pareto, prior, reverse}
 use Rattle.pref_term.specs.Shown.{name_at, shown_values, shown_base, is_prior, is_composed, held, shown_term, shown_mode, more_names, shown_group}
 use Rattle.pref_term.specs.declared.ask.Mode.{Mode}
@@ -139,19 +138,10 @@ factor_same (factor u) names = refl
 factor_same (product p) names = refl
 factor_same (ranked r) names = refl
 
-value_same : (n : ℕ) (ds : List ℕ) → AllDigits 10 ds → decimal_value_from n ds ≡ digits_value_after 10 n ds
-value_same n [] h = refl
-value_same n (d ∷ ds) h =
-    let e : 10 * n + (d - 48) ≡ n * 10 + digit_value d = digit_step n d h.0 in
-    ap (λ m. decimal_value_from m ds) e ∙ value_same (n * 10 + digit_value d) ds h.1
-  where
-    digit_step : (n d : ℕ) → digit_value d < 10 → 10 * n + (d - 48) ≡ n * 10 + digit_value d
-    digit_step n d h = grind (arith, nat_tests)
+pub own_numerals : IsNumeralModel (λ ds. all_ascii_digits ds ≡ true) (digits_value 10)
+own_numerals = numerals_by_value (λ ds. all_ascii_digits ds ≡ true) tells_all_ascii_digits
 
-pub own_numerals : IsNumeralModel (λ ds. AllDigits 10 ds) decimal_value
-own_numerals = record { to = λ ds h. h; from = λ ds h. h; same = λ ds h. value_same 0 ds h }
-
-number_same : (v : ℤ) → FitsSigned w64 v → number_value (number_text v) ≡ v
+pub number_same : (v : ℤ) → FitsSigned w64 v → number_value (number_text v) ≡ v
 number_same (pos n) h = let small : n < 2 ^ 64 = omega (arith, h.sfits) in ap pos (digits_value-decimal own_numerals n small)
 number_same (negsuc n) h = let small : suc n < 2 ^ 64 = omega (arith, h.sfits) in ap (λ m. neg_ℤ (pos m)) (digits_value-decimal own_numerals (suc n) small)
 

@@ -2,16 +2,17 @@
 -- What each part of the reader promises: where reading comes to, or the fault that it tells. (this project)
 use Rattle.std.specs.Prelude.{◌≡◌, ◌≢◌, ◌<◌, ◌+◌, ℕ, ℤ, List, [], ◌∷◌, ◌++◌, length, All, FitsSigned, IfSome, Bool, true, false, map, Ok, Err, Option, Some, None}
 use Rattle.std.specs.Int.{w64}
+use Rattle.std.specs.Str.Parse.{digits_value}
 use Rattle.pref_table.specs.Columns.{column_of}
 use Rattle.pref_term.specs.Token.{star, ampersand, Token, word, digits, sign, Placed}
 use Rattle.pref_term.specs.Grammar.{based, grouped, reversed, low_text, pos_text, NumberText, BaseText, UnaryText, ProductText, PriorText, HeadText, DimText, Direction, minimal, maximal, different, direction_word, cased_of, of_word, rated, skyline, column_name, count_digits}
-use Rattle.pref_term.specs.Spells.{Names, UnlessMemory, number_value, decimal_value, is_count, column_at, base_meaning, unary_meaning, product_meaning, prior_meaning, product_of, orders_of, groups_of}
+use Rattle.pref_term.specs.Spells.{Names, UnlessMemory, number_value, column_at, base_meaning, unary_meaning, product_meaning, prior_meaning, product_of, orders_of, groups_of}
 use Rattle.pref_term.specs.Reading.{BaseKind, named, columned, NumberHole, first_of, next_of, number_due, filled, UnaryHole, ProductHole, PriorHole, whole, in_group, in_reverse, in_whole, first_factor, first_product, unary_depth, product_depth, prior_depth, State, operand, reverse_named, reading, after, group_due, skyline_named, dim_due, dim_named, done, completed, ranked, next, run}
 use Rattle.pref_term.specs.Asked.{meant}
 use Rattle.pref_term.specs.Preference.{Base, low, high, Preference, scored, pareto, prior, reverse}
 use Rattle.pref_term.specs.Columns.{column}
 use Rattle.pref_term.specs.Writable.{IsWritableBase}
-use Rattle.pref_term.specs.Question.{Question}
+use Rattle.pref_term.specs.Question.{Question, is_count}
 use Rattle.pref_term.specs.declared.fault.TermFault.{TermFault}
 use Rattle.pref_term.specs.declared.fault.TermFault.TheVariants.{Unexpected}
 
@@ -238,8 +239,8 @@ pub record WantsCount (s : State) (head : List ℕ → HeadText) : Type 0 where
 -- a count in front
 pub record TakesCount (ts : List Placed) (k : ℕ) (us : List Placed) : Type 0 where
   pub digits_are : List ℕ
-  pub value : decimal_value digits_are ≡ k
-  pub good : is_count (decimal_value digits_are) ≡ true
+  pub value : digits_value 10 digits_are ≡ k
+  pub good : is_count (digits_value 10 digits_are) ≡ true
   pub passes : Passes (digits digits_are) ts us
 
 abbrev pub FailsCount : List Placed → TermFault → Type 0

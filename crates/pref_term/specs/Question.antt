@@ -1,5 +1,5 @@
 -- What contracts see of an ask. (this project; the groups are the skyline's DIFF and psel on a grouped table)
-use Rattle.std.specs.Prelude.{ℕ, ℤ, List, Bool, ◌&&◌, ◌<◌, ◌≤◌, All}
+use Rattle.std.specs.Prelude.{ℕ, ℤ, List, Bool, ◌&&◌, ◌<◌, ◌≤◌, nat_le, All}
 use Rattle.pref_term.specs.Better.{better, same, in_same_group}
 use Rattle.pref_term.specs.Columns.{ReadsBelow}
 use Rattle.pref_term.specs.Preference.{Preference}
@@ -27,6 +27,10 @@ pub record FitsWidth (width : ℕ) (q : Question) : Type 0 where
 -- 1 to 1000 are wanted
 abbrev pub IsCount : ℕ → Type 0
 IsCount k = (1 ≤ k) × (k ≤ 1000)
+
+-- the same, as a test
+abbrev pub is_count : ℕ → Bool
+is_count k = nat_le 1 k && nat_le k 1000
 
 -- what is so of each ask: at most 16 columns, numbers of 64 bits, no empty set, and 1 to 1000 are wanted
 pub record IsAsk (q : Question) : Type 0 where

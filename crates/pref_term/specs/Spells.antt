@@ -1,12 +1,14 @@
 -- Which ask a text spells, and what is wrong with a text that spells none. (this project)
-use Rattle.std.specs.Prelude.{◌≡◌, ◌≤◌, ◌<◌, ◌^◌, ◌-◌, ◌+◌, ◌*◌, ℕ, ℤ, pos, neg_ℤ, List, [], ◌∷◌, ◌++◌, map, length, Bool, true, Option, Some, None, unwrap_or, nat_lt, nat_le, is_none, ◌&&◌, fold, if◌then◌else◌, ◌⊎◌}
+use Rattle.std.specs.Prelude.{◌≡◌, ◌≤◌, ◌<◌, ℕ, ℤ, List, [], ◌∷◌, ◌++◌, map, length, Bool, true, Option, Some, None, unwrap_or, nat_lt, is_none, fold, if◌then◌else◌, ◌⊎◌}
 use Rattle.std.specs.List.{AllByRecursion, flat_map}
 use Rattle.std.specs.Option.{option_map}
+use Rattle.std.specs.Str.Parse.{digits_value}
 use Rattle.pref_table.specs.Columns.{column_of}
+use Rattle.pref_table.specs.Number.{fits_cell, signed_by}
 use Rattle.pref_term.specs.Token.{Token, Placed, tokens_of}
 use Rattle.pref_term.specs.Grammar.{NumberText, BaseText, low_text, high_text, around_text, pos_text, HeadText, best_head, top_level_head, at_least_head, Direction, minimal, maximal, different, DimText, AskText, rated, skyline, IsText, PriorText, one_product, then_product, ProductText, one_factor, then_factor, UnaryText, negated, grouped, reversed, based, Leaf, name, mark, opens, column_name, number_digits, count_digits, cased, last, token_of, ask_leaves}
 use Rattle.pref_term.specs.Preference.{Base, low, high, around, one_of, Preference, scored, pareto, prior, reverse}
-use Rattle.pref_term.specs.Question.{Question}
+use Rattle.pref_term.specs.Question.{Question, is_count}
 use Rattle.pref_term.specs.declared.ask.Mode.{Mode}
 use Rattle.pref_term.specs.declared.ask.Mode.TheVariants.{Best, TopLevel, AtLeast}
 use Rattle.pref_term.specs.declared.fault.TermFault.{TermFault}
@@ -18,18 +20,9 @@ Names = List (List ℕ)
 
 -- ---- what a tree means, where its leaves have no fault
 
--- the value of digits behind those with the value n
-abbrev pub decimal_value_from : ℕ → List ℕ → ℕ
-decimal_value_from n [] = n
-decimal_value_from n (d ∷ ds) = decimal_value_from (10 * n + (d - 48)) ds
-
--- the value of digits
-abbrev pub decimal_value : List ℕ → ℕ
-decimal_value ds = decimal_value_from 0 ds
-
--- the value of digits with a sign
+-- the number of digits with a sign
 abbrev pub signed_value : Bool → List ℕ → ℤ
-signed_value negative ds = if negative then neg_ℤ (pos (decimal_value ds)) else pos (decimal_value ds)
+signed_value negative ds = signed_by negative (digits_value 10 ds)
 
 -- the value of a number
 abbrev pub number_value : NumberText → ℤ
@@ -64,8 +57,8 @@ abbrev mutual
 -- how many a head wants
 abbrev pub mode_of : HeadText → Mode
 mode_of best_head = Best
-mode_of (top_level_head count) = TopLevel (decimal_value count)
-mode_of (at_least_head count) = AtLeast (decimal_value count)
+mode_of (top_level_head count) = TopLevel (digits_value 10 count)
+mode_of (at_least_head count) = AtLeast (digits_value 10 count)
 
 -- the order by a column of a skyline clause: low where it says min, high where it says max
 abbrev pub order_by : Direction → ℕ → List Preference
@@ -107,22 +100,14 @@ pub data OwnFault : Type 0 where
   too_deep : OwnFault
   bad_count : OwnFault
 
--- from -2^63 to 2^63 - 1
-abbrev pub in_range : Bool → List ℕ → Bool
-in_range negative ds = if negative then nat_le (decimal_value ds) (2 ^ 63) else nat_lt (decimal_value ds) (2 ^ 63)
-
--- from 1 to 1000
-abbrev pub is_count : ℕ → Bool
-is_count k = nat_le 1 k && nat_le k 1000
-
 -- a leaf's own fault
 abbrev pub own_fault : Names → Leaf → Option OwnFault
 own_fault names (name k) = None
 own_fault names (mark s) = None
 own_fault names (opens depth s) = if nat_lt depth 64 then None else Some too_deep
 own_fault names (column_name letters) = if is_none (column_of names letters) then Some unknown_column else None
-own_fault names (number_digits negative ds) = if in_range negative ds then None else Some number_range
-own_fault names (count_digits ds) = if is_count (decimal_value ds) then None else Some bad_count
+own_fault names (number_digits negative ds) = if fits_cell (signed_value negative ds) then None else Some number_range
+own_fault names (count_digits ds) = if is_count (digits_value 10 ds) then None else Some bad_count
 own_fault names (cased k letters) = None
 own_fault names last = None
 

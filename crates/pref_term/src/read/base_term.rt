@@ -1,5 +1,7 @@
 //! Reading base terms.
 ghost use Rattle.std.specs.Prelude.{◌≡◌, ◌≤◌, ◌<◌, ◌+◌, ℕ, List, [], ◌∷◌, ◌++◌, length, IfOk, IfErr, OnOk, OnErr, true, false};
+ghost use Rattle.std.specs.Str.{all_ascii_digits};
+ghost use Rattle.pref_table.specs.Number.{fits_cell};
 ghost use Rattle.pref_term.specs.Ahead.{ahead};
 ghost use Rattle.pref_term.specs.Token as tokens;
 ghost use Rattle.pref_term.specs.Led as led;
@@ -10,10 +12,9 @@ ghost use Rattle.pref_term.specs.Preference.{preference_of};
 use crate::cursor::Cursor;
 use crate::fault::TermFault;
 use crate::front::Token;
-use crate::number::signed;
 use crate::term::{Numbers, Term};
 use crate::token::Sign;
-use pref_table::Schema;
+use pref_table::{Schema, signed_number};
 use std::alloc::Global;
 
 /// Takes a sign.
@@ -86,12 +87,13 @@ fn opened_column<'a>(schema: &Schema, cursor: Cursor<'a>) -> Result<(usize, Curs
 
 /// The value of a number that begins there.
 fn in_range(negative: bool, digits: &[u8], at: usize) -> Result<i64, TermFault>
+    requires { all_ascii_digits digits.now ≡ true }
     ensures value { IfOk result (λ value. value ≡ spells.signed_value negative digits.now) }
-    ensures ok { OnOk result (spells.in_range negative digits.now ≡ true) }
-    ensures out { OnErr result (spells.in_range negative digits.now ≡ false) }
+    ensures ok { OnOk result (fits_cell (spells.signed_value negative digits.now) ≡ true) }
+    ensures out { OnErr result (fits_cell (spells.signed_value negative digits.now) ≡ false) }
     ensures err { IfErr result (λ f. f ≡ TermFault.NumberRange at) }
 {
-    match signed(negative, digits) {
+    match signed_number(negative, digits) {
         Some(value) => Ok(value),
         None => Err(TermFault::NumberRange { at: at as u64 }),
     }

@@ -3,7 +3,14 @@ use Rattle.std.specs.Prelude.{FitsSigned}
 use Rattle.std.proofs.lemmas.Int.{to_z-of_z}
 use Rattle.pref_term.specs.Ahead.{ahead}
 use Rattle.pref_term.proofs.LedLemmas.{plain_number_read, signed_number_read, taken_is}
+use Rattle.pref_term.proofs.TokenLemmas.{digits_taken}
 use Rattle.pref_term.proofs.read.base_term.number.Goals as goal
+
+pub in_range-requires : goal.in_range-requires
+in_range-requires c = digits_taken c.take-first.result.next c.take-second.result c.in-Digits.bytes c.take-second.ensures c.in-Digits.is
+
+pub in_range-requires-in-Digits-token : goal.in_range-requires-in-Digits-token
+in_range-requires-in-Digits-token c = digits_taken c.args.cursor c.take-first.result c.in-Digits-token.bytes c.take-first.ensures c.in-Digits-token.is
 
 pub returns-in_ok-in_range-in-Digits-clause-ok : goal.returns-in_ok-in_range-in-Digits-clause-ok
 returns-in_ok-in_range-in-Digits-clause-ok c names =
