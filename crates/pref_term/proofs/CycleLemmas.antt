@@ -1,16 +1,22 @@
 -- What the parts of the reader that call each other promise.
-use Rattle.std.proofs.Common.{◌≡◌, ◌<◌, ◌+◌, ℕ, List, [], ◌∷◌, true, cond, Some, None, nat_lt, refl, sym, ap, subst, ◌∙◌, arith}
-use Rattle.std.specs.Prelude.{◌≢◌}
+use Rattle.std.proofs.Common.{◌≡◌, ◌<◌, ◌+◌, ℕ, List, [], ◌∷◌, Bor, Result, true, cond, Some, None, nat_lt, refl, sym, ap, subst, ◌∙◌, arith}
+use Rattle.std.specs.Prelude.{◌≢◌, IfOk, IfErr}
+use Rattle.std.proofs.lemmas.Result.{IfOk-weaker}
 use Rattle.std.proofs.lemmas.Bool.Decides.{nat_tests}
 use Rattle.pref_term.specs.Token.{Sign, left, right, star, ampersand, minus, Token, word, sign, Placed}
 use Rattle.pref_term.specs.Grammar.{reverse_word, keyword_of, based, grouped, reversed, negated, one_factor, then_factor, PriorText, one_product, then_product, name, mark, opens}
 use Rattle.pref_term.specs.Spells.{Names, own_fault, too_deep, unary_meaning, product_meaning}
 use Rattle.pref_term.specs.Reading.{BaseKind, low_kind, high_kind, around_kind, pos_kind, kind_word, named, UnaryHole, in_minus, first_factor, next_factor, first_product, next_product, in_group, in_reverse, unary_depth, State, operand, reverse_named, reading, after, ranked, next, operand_word}
 use Rattle.pref_term.specs.Led.{Goes, Fails, IsOther, Passes, ReadsBase, ReadsUnary, ReadsFactors, ReadsProducts, ReadsProduct, ReadsPrior, ReadsGroup, ReadsReverse, FailsBase, FailsUnary, FailsGroup, FailsProduct, FailsPrior}
-use Rattle.pref_term.specs.Preference.{Preference, pareto, prior, reverse}
+use Rattle.pref_term.specs.Ahead.{ahead, taken}
+use Rattle.pref_term.specs.Preference.{Preference, pareto, prior, reverse, preference_of}
+use Rattle.pref_term.specs.declared.cursor.Cursor.{Cursor}
+use Rattle.pref_term.specs.declared.cursor.Taken.{Taken}
+use Rattle.pref_term.specs.declared.front.Token.TheVariants.{Word}
+use Rattle.pref_term.specs.declared.term.Term.{Term}
 use Rattle.pref_term.specs.declared.fault.TermFault.{TermFault}
 use Rattle.pref_term.proofs.Complete.{ranked_goes_on, ranked_group, ranked_reverse}
-use Rattle.pref_term.proofs.LedLemmas.{goes_then, goes_fails, passes_goes, stuck_fails}
+use Rattle.pref_term.proofs.LedLemmas.{goes_then, goes_fails, passes_goes, stuck_fails, taken_is, if_err_map}
 
 -- ---- nestings
 
@@ -97,12 +103,24 @@ by_kind h pos_kind = refl
 word_goes : (names : Names) (letters : List ℕ) (k : BaseKind) (ts us : List Placed) (h : UnaryHole) → Passes (word letters) ts us → keyword_of letters ≡ Some (kind_word k) → Goes names (operand h) ts (reading h (named k)) us
 word_goes names letters k ts us h c e = passes_goes names (word letters) ts us (operand h) (reading h (named k)) (name (kind_word k)) c (ap (operand_word h) e ∙ by_kind h k) refl
 
-pub base_read : (names : Names) (depth : ℕ) (letters : List ℕ) (k : BaseKind) (ts us vs : List Placed) (p : Preference) → Passes (word letters) ts us → keyword_of letters ≡ Some (kind_word k) → ReadsBase names k us p vs → ReadsUnary names depth ts p vs
+base_read : (names : Names) (depth : ℕ) (letters : List ℕ) (k : BaseKind) (ts us vs : List Placed) (p : Preference) → Passes (word letters) ts us → keyword_of letters ≡ Some (kind_word k) → ReadsBase names k us p vs → ReadsUnary names depth ts p vs
 base_read names depth letters k ts us vs p c e r =
     record { tree = based r.tree; meaning = r.meaning; known = r.known; goes = λ h _. goes_then names _ _ _ ts us vs (word_goes names letters k ts us h c e) (r.goes h) }
 
-pub base_fails : (names : Names) (depth : ℕ) (letters : List ℕ) (k : BaseKind) (ts us : List Placed) (f : TermFault) → Passes (word letters) ts us → keyword_of letters ≡ Some (kind_word k) → FailsBase names k us f → FailsUnary names depth ts f
+base_fails : (names : Names) (depth : ℕ) (letters : List ℕ) (k : BaseKind) (ts us : List Placed) (f : TermFault) → Passes (word letters) ts us → keyword_of letters ≡ Some (kind_word k) → FailsBase names k us f → FailsUnary names depth ts f
 base_fails names depth letters k ts us f c e r h _ = goes_fails names _ _ ts us f (word_goes names letters k ts us h c e) (r h)
+
+-- a base term behind the word that was taken
+module _ (names : Names) (depth : ℕ) (k : BaseKind) (ts : List Placed) (t : Taken) (letters : Bor (List ℕ)) (e : ts ≡ taken t) (f : t.token ≡ Word letters) (word_is : keyword_of letters.now ≡ Some (kind_word k))
+    (r : Result (Term × Cursor) TermFault) where
+  pub taken_base_read : IfOk r (λ x. ReadsBase names k (ahead t.next) (preference_of x.0) (ahead x.1)) → IfOk r (λ x. ReadsUnary names depth ts (preference_of x.0) (ahead x.1))
+  taken_base_read read =
+      IfOk-weaker r _ _ (λ x h. base_read names depth letters.now k ts (ahead t.next) (ahead x.1) (preference_of x.0) (t.at, taken_is ts t _ e f) word_is h) read
+
+  pub taken_base_fails : IfErr r (FailsBase names k (ahead t.next)) → IfErr r (FailsUnary names depth ts)
+  taken_base_fails fails =
+      if_err_map r (FailsBase names k (ahead t.next)) (FailsUnary names depth ts)
+      (λ fault h. base_fails names depth letters.now k ts (ahead t.next) fault (t.at, taken_is ts t _ e f) word_is h) fails
 
 pub word_reverse_read : (names : Names) (depth : ℕ) (letters : List ℕ) (ts us vs : List Placed) (p : Preference) → Passes (word letters) ts us → keyword_of letters ≡ Some reverse_word → ReadsReverse names depth us p vs → ReadsUnary names depth ts p vs
 word_reverse_read names depth letters ts us vs p c e r =

@@ -4,9 +4,10 @@ use Rattle.std.specs.Prelude.{IfSome, MatchResult}
 use Rattle.std.specs.List.{AllByRecursion}
 use Rattle.pref_term.specs.Token.{Token, finish, Placed}
 use Rattle.pref_term.specs.Grammar.{PriorText, AskText, rated, skyline, IsText, IsWritten, Leaf, token_of, ask_leaves}
-use Rattle.pref_term.specs.Spells.{Names, tokens_in, tokens_on, IsGood, own_fault, OwnFault, Starts, last_place, IsUnexpected, HasOwnFault, FirstFault}
+use Rattle.pref_term.specs.Spells.{Names, tokens_in, tokens_on, IsGood, own_fault, OwnFault, Starts, told, told_at, last_place, IsUnexpected, HasOwnFault, FirstFault}
 use Rattle.pref_term.specs.Reading.{State, start, reading, after, group_listed, dims_listed, done, read_of, next, run, led, judged, ended, PriorHole, whole, finished, BasePart, named, opened, columned, number_due, number_signed, centred, listed, base_next, outer, closed}
 use Rattle.pref_term.specs.declared.fault.TermFault.{TermFault}
+use Rattle.pref_term.specs.declared.fault.TermFault.TheVariants.{Unexpected}
 use Rattle.pref_term.proofs.Sound.{next_grows, Grows}
 use Rattle.pref_term.proofs.Complete.{Reads, reads_on, reads_ask, can_end}
 
@@ -208,45 +209,27 @@ run_answers names (t ∷ ts) before s r due = go (next s t.token) refl (run_answ
     p : ℕ
     p = last_place 0 before
 
+    here : (fault : TermFault) → IsUnexpected before t fault ⊎ HasOwnFault names before r.leaves t fault → FirstFault names (before ++ t ∷ ts) fault
+    here fault there = record { before = before; at = t; after = ts; cut = refl; leaves = r.leaves; start = starts r.leaves s r.reads; played = r.played; good = r.good; there = there }
+
     judge : (leaf : Leaf) (m : State) → next s t.token ≡ Some (leaf, m) → (o : Option OwnFault) → own_fault names leaf ≡ o → ((b : List Placed) (m : State) → Reached names b m → Due ts m → Answers names (b ++ ts) (run names ts (last_place 0 b) m)) → Answers names (before ++ t ∷ ts) (judged leaf p t.place (run names ts t.place m) o)
     judge leaf m e (Some kind) w more =
         let g = next_gives s t.token leaf m e in
-        record {
-          before = before;
-          at = t;
-          after = ts;
-          cut = refl;
-          leaves = r.leaves;
-          start = starts r.leaves s r.reads;
-          played = r.played;
-          good = r.good;
-          there = inr (record {
-            leaf = leaf;
-            start = starts (r.leaves ++ leaf ∷ []) m (reads_on start r.leaves (leaf ∷ []) s m r.reads (m, ap (next s) g.0 ∙ e, refl));
-            played = g.0;
-            kind = kind;
-            own = w;
-            fault_is = refl;
-          });
-        }
+        here (told kind (told_at leaf p t.place)) (inr (record {
+          leaf = leaf;
+          start = starts (r.leaves ++ leaf ∷ []) m (reads_on start r.leaves (leaf ∷ []) s m r.reads (m, ap (next s) g.0 ∙ e, refl));
+          played = g.0;
+          kind = kind;
+          own = w;
+          fault_is = refl;
+        }))
     judge leaf m e None w more =
         let h = more (before ++ t ∷ []) m (reached_more names before s t leaf m r e w) (due_more t ts s leaf m due e) in
         let k = subst (λ (q : ℕ). Answers names ((before ++ t ∷ []) ++ ts) (run names ts q m)) (last_more 0 before t) h in
         subst (λ (b : List Placed). Answers names b (run names ts t.place m)) (append_assoc before (t ∷ []) ts) k
 
     go : (o : Option (Leaf × State)) → next s t.token ≡ o → ((b : List Placed) (m : State) → Reached names b m → Due ts m → Answers names (b ++ ts) (run names ts (last_place 0 b) m)) → Answers names (before ++ t ∷ ts) (led names p t.place (run names ts t.place) o)
-    go None e more =
-        record {
-          before = before;
-          at = t;
-          after = ts;
-          cut = refl;
-          leaves = r.leaves;
-          start = starts r.leaves s r.reads;
-          played = r.played;
-          good = r.good;
-          there = inl (record { fault_is = refl; stuck = reached_stuck names before s t.token r e });
-        }
+    go None e more = here (Unexpected t.place) (inl (record { fault_is = refl; stuck = reached_stuck names before s t.token r e }))
     go (Some (leaf, m)) e more = judge leaf m e (own_fault names leaf) refl more
 
 -- ---- and the other way round

@@ -86,34 +86,22 @@ opened_fails names ts us f c r h k =
     goes_fails names _ (reading h (opened k)) ts us f (passes_goes names (sign left) ts us (reading h (named k)) (reading h (opened k)) (mark left) c refl refl)
     (r (reading h (opened k)) (λ letters. reading h (columned k letters)) (wants_opened h k))
 
-pub plain_number_read : (names : Names) (ts us : List Placed) (a : ℕ) (ds : List ℕ) (value : ℤ) → ts ≡ at_place (digits ds) a ∷ us → fits_cell (signed_value false ds) ≡ true → value ≡ signed_value false ds → FitsSigned w64 value → ReadsNumber names ts value us
-plain_number_read names ts us a ds value e fits v held =
-    let n : NumberText = record { negative = false; digits = ds } in
-    record {
-      number = n;
-      fits = held;
-      value_is = sym v;
-      goes = λ h hole p. (
-        a,
-        ap (λ xs. run names xs p (reading h (number_due hole))) e
-            ∙ run_step names (digits ds) a us p (reading h (number_due hole)) (number_digits false ds) (reading h (filled hole n)) refl (number_good names false ds fits),
-      );
-    }
+digits_goes : (names : Names) (negative : Bool) (ts us : List Placed) (ds : List ℕ) (s m : State) → Passes (digits ds) ts us → fits_cell (signed_value negative ds) ≡ true → next s (digits ds) ≡ Some (number_digits negative ds, m) → Goes names s ts m us
+digits_goes names negative ts us ds s m c fits e = passes_goes names (digits ds) ts us s m (number_digits negative ds) c e (number_good names negative ds fits)
 
-pub signed_number_read : (names : Names) (ts us vs : List Placed) (a b : ℕ) (ds : List ℕ) (value : ℤ) → ts ≡ at_place (sign minus) a ∷ us → us ≡ at_place (digits ds) b ∷ vs → fits_cell (signed_value true ds) ≡ true → value ≡ signed_value true ds → FitsSigned w64 value → ReadsNumber names ts value vs
-signed_number_read names ts us vs a b ds value e f fits v held =
-    let n : NumberText = record { negative = true; digits = ds } in
+pub plain_number_read : (names : Names) (ts us : List Placed) (ds : List ℕ) (value : ℤ) → Passes (digits ds) ts us → fits_cell (signed_value false ds) ≡ true → value ≡ signed_value false ds → FitsSigned w64 value → ReadsNumber names ts value us
+plain_number_read names ts us ds value c fits v held =
+    record { number = record { negative = false; digits = ds }; fits = held; value_is = sym v; goes = λ h hole. digits_goes names false ts us ds (reading h (number_due hole)) _ c fits refl }
+
+pub signed_number_read : (names : Names) (ts us vs : List Placed) (ds : List ℕ) (value : ℤ) → Passes (sign minus) ts us → Passes (digits ds) us vs → fits_cell (signed_value true ds) ≡ true → value ≡ signed_value true ds → FitsSigned w64 value → ReadsNumber names ts value vs
+signed_number_read names ts us vs ds value c d fits v held =
     record {
-      number = n;
+      number = record { negative = true; digits = ds };
       fits = held;
       value_is = sym v;
-      goes = λ h hole p. (
-        b,
-        ap (λ xs. run names xs p (reading h (number_due hole))) e
-            ∙ (run_step names (sign minus) a us p (reading h (number_due hole)) (mark minus) (reading h (number_signed hole)) refl refl
-            ∙ (ap (λ xs. run names xs a (reading h (number_signed hole))) f
-            ∙ run_step names (digits ds) b vs a (reading h (number_signed hole)) (number_digits true ds) (reading h (filled hole n)) refl (number_good names true ds fits))),
-      );
+      goes = λ h hole. goes_then names (reading h (number_due hole)) (reading h (number_signed hole)) _ ts us vs
+          (passes_goes names (sign minus) ts us (reading h (number_due hole)) (reading h (number_signed hole)) (mark minus) c refl refl)
+          (digits_goes names true us vs ds (reading h (number_signed hole)) _ d fits refl);
     }
 
 -- what was taken, where the token is known

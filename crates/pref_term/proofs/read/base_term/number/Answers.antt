@@ -17,12 +17,12 @@ returns-in_ok-in_range-in-Digits-clause-ok c names =
     let t = c.take-first.result in
     let u = c.take-second.result in
     let v = c.in_ok-in_range-in-Digits in
-    signed_number_read names (ahead c.args.cursor) (ahead t.next) (ahead u.next) t.at u.at c.in-Digits.bytes.now (to_z w64 (of_z w64 v.field-0))
-    (c.take-first.ensures ∙ c.if-is.ensures.yes) (taken_is _ u _ c.take-second.ensures c.in-Digits.is) v.ensures.ok (to_z-of_z w64 v.field-0 (search rules) ∙ v.ensures.value) (subst (FitsSigned w64) (sym (to_z-of_z w64 v.field-0 (search rules))) (search rules))
+    signed_number_read names (ahead c.args.cursor) (ahead t.next) (ahead u.next) c.in-Digits.bytes.now (to_z w64 (of_z w64 v.field-0))
+    (t.at, c.take-first.ensures ∙ c.if-is.ensures.yes) (u.at, taken_is _ u _ c.take-second.ensures c.in-Digits.is) v.ensures.ok (to_z-of_z w64 v.field-0 (search rules) ∙ v.ensures.value) (subst (FitsSigned w64) (sym (to_z-of_z w64 v.field-0 (search rules))) (search rules))
 
 pub returns-in_ok-in_range-in-Digits-token-clause-ok : goal.returns-in_ok-in_range-in-Digits-token-clause-ok
 returns-in_ok-in_range-in-Digits-token-clause-ok c names =
     let t = c.take-first.result in
     let v = c.in_ok-in_range-in-Digits-token in
-    plain_number_read names (ahead c.args.cursor) (ahead t.next) t.at c.in-Digits-token.bytes.now (to_z w64 (of_z w64 v.field-0))
-    (taken_is _ t _ c.take-first.ensures c.in-Digits-token.is) v.ensures.ok (to_z-of_z w64 v.field-0 (search rules) ∙ v.ensures.value) (subst (FitsSigned w64) (sym (to_z-of_z w64 v.field-0 (search rules))) (search rules))
+    plain_number_read names (ahead c.args.cursor) (ahead t.next) c.in-Digits-token.bytes.now (to_z w64 (of_z w64 v.field-0))
+    (t.at, taken_is _ t _ c.take-first.ensures c.in-Digits-token.is) v.ensures.ok (to_z-of_z w64 v.field-0 (search rules) ∙ v.ensures.value) (subst (FitsSigned w64) (sym (to_z-of_z w64 v.field-0 (search rules))) (search rules))

@@ -3,10 +3,10 @@ use Rattle.std.proofs.lemmas.Result.{IfOk-weaker}
 use Rattle.pref_term.specs.Token.{Placed}
 use Rattle.pref_term.specs.Reading.{low_kind, high_kind, around_kind, pos_kind}
 use Rattle.pref_term.specs.Ahead.{ahead}
-use Rattle.pref_term.specs.Led.{FailsUnary, FailsGroup, FailsProduct, FailsPrior, FailsBase, ReadsReverse, ReadsUnary, ReadsGroup, ReadsFactors, ReadsProducts}
+use Rattle.pref_term.specs.Led.{FailsUnary, FailsGroup, FailsProduct, FailsPrior, ReadsReverse, ReadsUnary, ReadsGroup, ReadsFactors, ReadsProducts}
 use Rattle.pref_term.specs.Preference.{Preference, preference_of}
-use Rattle.pref_term.proofs.LedLemmas.{err_exit, if_err_map, taken_is}
-use Rattle.pref_term.proofs.CycleLemmas.{group_read, group_end_fails, one_factor_read, more_factors, more_factors_fail, one_product_read, more_products, more_products_fail, minus_read, minus_fails, left_read, reverse_read, base_read, base_fails, word_reverse_read}
+use Rattle.pref_term.proofs.LedLemmas.{err_exit, taken_is}
+use Rattle.pref_term.proofs.CycleLemmas.{group_read, group_end_fails, one_factor_read, more_factors, more_factors_fail, one_product_read, more_products, more_products_fail, minus_read, minus_fails, left_read, reverse_read, taken_base_read, taken_base_fails, word_reverse_read}
 use Rattle.pref_term.proofs.read.term.+term.Goals as goal
 
 pub group-returns-in_err-rest-clause-err : goal.group-returns-in_err-rest-clause-err
@@ -108,59 +108,43 @@ unary-returns-then-is-2-clause-ok t c =
 
 pub unary-returns-in-Low-clause-ok : goal.unary-returns-in-Low-clause-ok
 unary-returns-in-Low-clause-ok t c =
-    let u = c.take-taken.result in
-    IfOk-weaker c.low.result _ _
-    (λ x h. base_read c.args.schema.now c.args.depth c.in-Word.letters.now low_kind (ahead c.args.cursor) (ahead u.next) (ahead x.1) (preference_of x.0) (u.at, taken_is _ u _ c.take-taken.ensures c.in-Word.is) (sym c.in-Some.ensures ∙ ap Some c.in-Low.is) h)
-    c.low.ensures.ok
+    taken_base_read c.args.schema.now c.args.depth low_kind (ahead c.args.cursor) c.take-taken.result c.in-Word.letters c.take-taken.ensures c.in-Word.is (sym c.in-Some.ensures ∙ ap Some c.in-Low.is)
+    c.low.result c.low.ensures.ok
 
 pub unary-returns-in-Low-clause-err : goal.unary-returns-in-Low-clause-err
 unary-returns-in-Low-clause-err t c =
-    let u = c.take-taken.result in
-    if_err_map c.low.result (FailsBase c.args.schema.now low_kind (ahead u.next)) (FailsUnary c.args.schema.now c.args.depth (ahead c.args.cursor))
-    (λ f h. base_fails c.args.schema.now c.args.depth c.in-Word.letters.now low_kind (ahead c.args.cursor) (ahead u.next) f (u.at, taken_is _ u _ c.take-taken.ensures c.in-Word.is) (sym c.in-Some.ensures ∙ ap Some c.in-Low.is) h)
-    c.low.ensures.err
+    taken_base_fails c.args.schema.now c.args.depth low_kind (ahead c.args.cursor) c.take-taken.result c.in-Word.letters c.take-taken.ensures c.in-Word.is (sym c.in-Some.ensures ∙ ap Some c.in-Low.is)
+    c.low.result c.low.ensures.err
 
 pub unary-returns-in-High-clause-ok : goal.unary-returns-in-High-clause-ok
 unary-returns-in-High-clause-ok t c =
-    let u = c.take-taken.result in
-    IfOk-weaker c.high.result _ _
-    (λ x h. base_read c.args.schema.now c.args.depth c.in-Word.letters.now high_kind (ahead c.args.cursor) (ahead u.next) (ahead x.1) (preference_of x.0) (u.at, taken_is _ u _ c.take-taken.ensures c.in-Word.is) (sym c.in-Some.ensures ∙ ap Some c.in-High.is) h)
-    c.high.ensures.ok
+    taken_base_read c.args.schema.now c.args.depth high_kind (ahead c.args.cursor) c.take-taken.result c.in-Word.letters c.take-taken.ensures c.in-Word.is (sym c.in-Some.ensures ∙ ap Some c.in-High.is)
+    c.high.result c.high.ensures.ok
 
 pub unary-returns-in-High-clause-err : goal.unary-returns-in-High-clause-err
 unary-returns-in-High-clause-err t c =
-    let u = c.take-taken.result in
-    if_err_map c.high.result (FailsBase c.args.schema.now high_kind (ahead u.next)) (FailsUnary c.args.schema.now c.args.depth (ahead c.args.cursor))
-    (λ f h. base_fails c.args.schema.now c.args.depth c.in-Word.letters.now high_kind (ahead c.args.cursor) (ahead u.next) f (u.at, taken_is _ u _ c.take-taken.ensures c.in-Word.is) (sym c.in-Some.ensures ∙ ap Some c.in-High.is) h)
-    c.high.ensures.err
+    taken_base_fails c.args.schema.now c.args.depth high_kind (ahead c.args.cursor) c.take-taken.result c.in-Word.letters c.take-taken.ensures c.in-Word.is (sym c.in-Some.ensures ∙ ap Some c.in-High.is)
+    c.high.result c.high.ensures.err
 
 pub unary-returns-in-Around-clause-ok : goal.unary-returns-in-Around-clause-ok
 unary-returns-in-Around-clause-ok t c =
-    let u = c.take-taken.result in
-    IfOk-weaker c.around.result _ _
-    (λ x h. base_read c.args.schema.now c.args.depth c.in-Word.letters.now around_kind (ahead c.args.cursor) (ahead u.next) (ahead x.1) (preference_of x.0) (u.at, taken_is _ u _ c.take-taken.ensures c.in-Word.is) (sym c.in-Some.ensures ∙ ap Some c.in-Around.is) h)
-    c.around.ensures.ok
+    taken_base_read c.args.schema.now c.args.depth around_kind (ahead c.args.cursor) c.take-taken.result c.in-Word.letters c.take-taken.ensures c.in-Word.is (sym c.in-Some.ensures ∙ ap Some c.in-Around.is)
+    c.around.result c.around.ensures.ok
 
 pub unary-returns-in-Around-clause-err : goal.unary-returns-in-Around-clause-err
 unary-returns-in-Around-clause-err t c =
-    let u = c.take-taken.result in
-    if_err_map c.around.result (FailsBase c.args.schema.now around_kind (ahead u.next)) (FailsUnary c.args.schema.now c.args.depth (ahead c.args.cursor))
-    (λ f h. base_fails c.args.schema.now c.args.depth c.in-Word.letters.now around_kind (ahead c.args.cursor) (ahead u.next) f (u.at, taken_is _ u _ c.take-taken.ensures c.in-Word.is) (sym c.in-Some.ensures ∙ ap Some c.in-Around.is) h)
-    c.around.ensures.err
+    taken_base_fails c.args.schema.now c.args.depth around_kind (ahead c.args.cursor) c.take-taken.result c.in-Word.letters c.take-taken.ensures c.in-Word.is (sym c.in-Some.ensures ∙ ap Some c.in-Around.is)
+    c.around.result c.around.ensures.err
 
 pub unary-returns-in-Pos-clause-ok : goal.unary-returns-in-Pos-clause-ok
 unary-returns-in-Pos-clause-ok t c =
-    let u = c.take-taken.result in
-    IfOk-weaker c.pos.result _ _
-    (λ x h. base_read c.args.schema.now c.args.depth c.in-Word.letters.now pos_kind (ahead c.args.cursor) (ahead u.next) (ahead x.1) (preference_of x.0) (u.at, taken_is _ u _ c.take-taken.ensures c.in-Word.is) (sym c.in-Some.ensures ∙ ap Some c.in-Pos.is) h)
-    c.pos.ensures.ok
+    taken_base_read c.args.schema.now c.args.depth pos_kind (ahead c.args.cursor) c.take-taken.result c.in-Word.letters c.take-taken.ensures c.in-Word.is (sym c.in-Some.ensures ∙ ap Some c.in-Pos.is)
+    c.pos.result c.pos.ensures.ok
 
 pub unary-returns-in-Pos-clause-err : goal.unary-returns-in-Pos-clause-err
 unary-returns-in-Pos-clause-err t c =
-    let u = c.take-taken.result in
-    if_err_map c.pos.result (FailsBase c.args.schema.now pos_kind (ahead u.next)) (FailsUnary c.args.schema.now c.args.depth (ahead c.args.cursor))
-    (λ f h. base_fails c.args.schema.now c.args.depth c.in-Word.letters.now pos_kind (ahead c.args.cursor) (ahead u.next) f (u.at, taken_is _ u _ c.take-taken.ensures c.in-Word.is) (sym c.in-Some.ensures ∙ ap Some c.in-Pos.is) h)
-    c.pos.ensures.err
+    taken_base_fails c.args.schema.now c.args.depth pos_kind (ahead c.args.cursor) c.take-taken.result c.in-Word.letters c.take-taken.ensures c.in-Word.is (sym c.in-Some.ensures ∙ ap Some c.in-Pos.is)
+    c.pos.result c.pos.ensures.err
 
 pub unary-returns-in-Reverse-clause-ok : goal.unary-returns-in-Reverse-clause-ok
 unary-returns-in-Reverse-clause-ok t c =
