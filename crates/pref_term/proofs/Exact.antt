@@ -2,6 +2,7 @@
 use Rattle.std.proofs.Common.{◌≡◌, ℕ, List, [], ◌∷◌, ◌++◌, Option, Some, None, Result, Ok, Err, refl, sym, ap, subst, ◌∙◌, append_assoc, append-nil, ◌⊎◌, inl, inr}
 use Rattle.std.specs.Prelude.{IfSome, MatchResult}
 use Rattle.std.specs.List.{AllByRecursion}
+use Rattle.std.proofs.lemmas.List.{map-append}
 use Rattle.pref_term.specs.Token.{Token, finish, Placed}
 use Rattle.pref_term.specs.Grammar.{PriorText, AskText, rated, skyline, IsText, IsWritten, Leaf, token_of, ask_leaves}
 use Rattle.pref_term.specs.Spells.{Names, tokens_in, tokens_on, IsGood, own_fault, OwnFault, Starts, told, told_at, last_place, IsUnexpected, HasOwnFault, FirstFault}
@@ -12,14 +13,6 @@ use Rattle.pref_term.proofs.Sound.{next_grows, Grows}
 use Rattle.pref_term.proofs.Complete.{Reads, reads_on, reads_ask, can_end}
 
 -- ---- lists in two parts
-
-tokens_on-append : (a b : List Leaf) → tokens_on (a ++ b) ≡ tokens_on a ++ tokens_on b
-tokens_on-append [] b = refl
-tokens_on-append (x ∷ a) b = rw (tokens_on-append a b)
-
-tokens_in-append : (a b : List Placed) → tokens_in (a ++ b) ≡ tokens_in a ++ tokens_in b
-tokens_in-append [] b = refl
-tokens_in-append (x ∷ a) b = rw (tokens_in-append a b)
 
 pub good_both : (names : Names) (a b : List Leaf) → AllByRecursion (IsGood names) a → AllByRecursion (IsGood names) b → AllByRecursion (IsGood names) (a ++ b)
 good_both names [] b h k = k
@@ -109,7 +102,7 @@ reached_more names before s t leaf m r e own =
     record {
       leaves = r.leaves ++ leaf ∷ [];
       reads = reads_on start r.leaves (leaf ∷ []) s m r.reads (m, ap (next s) g.0 ∙ e, refl);
-      played = tokens_on-append r.leaves (leaf ∷ []) ∙ (ap (λ ts. ts ++ token_of leaf ∷ []) r.played ∙ (ap (λ t. tokens_in before ++ t ∷ []) g.0 ∙ sym (tokens_in-append before (t ∷ []))));
+      played = map-append token_of r.leaves (leaf ∷ []) ∙ (ap (λ ts. ts ++ token_of leaf ∷ []) r.played ∙ (ap (λ t. tokens_in before ++ t ∷ []) g.0 ∙ sym (map-append (λ (t : Placed). t.token) before (t ∷ []))));
       good = good_both names r.leaves (leaf ∷ []) r.good (own, tt);
     }
 
@@ -269,7 +262,7 @@ fault_run names ts f h =
         stuck_next w m r (Some (leaf, n)) e =
             let g = next_gives m h.at.token leaf n e in
             let longer = reads_on start h.leaves (leaf ∷ []) m n r (n, ap (next m) g.0 ∙ e, refl) in
-            let plays = tokens_on-append h.leaves (leaf ∷ []) ∙ (ap (λ us. us ++ token_of leaf ∷ []) h.played ∙ ap (λ u. tokens_in h.before ++ u ∷ []) g.0) in
+            let plays = map-append token_of h.leaves (leaf ∷ []) ∙ (ap (λ us. us ++ token_of leaf ∷ []) h.played ∙ ap (λ u. tokens_in h.before ++ u ∷ []) g.0) in
             absurd (w.stuck (h.leaves ++ leaf ∷ []) (starts (h.leaves ++ leaf ∷ []) n longer) plays)
     there (inr w) =
         let whole = w.start.whole ∙ append_assoc h.leaves (w.leaf ∷ []) w.start.rest in
