@@ -3,6 +3,8 @@ ghost use Rattle.std.specs.Prelude.{◌≡◌, ◌≤◌, ℕ, IfSome, option_ma
 ghost use Rattle.pref_table.specs.Number.{after_blanks, is_blank};
 ghost use Rattle.prefq.specs.Words.{alone as alone_of, after_word, said, said_by, said_in, verb_of, word_number, word_of};
 
+use pref_table::blanks_length;
+
 /// What a command asks for.
 #[derive(Clone, Copy, Debug, PartialEq, Eq)]
 enum Verb {
@@ -40,12 +42,7 @@ fn is_blank_byte(byte: u8) -> bool
 fn skip_blanks(text: &[u8]) -> &[u8]
     ensures { result.now ≡ after_blanks text.now }
 {
-    for (start, byte) in text.iter().enumerate() {
-        if !is_blank_byte(*byte) {
-            return &text[start..];
-        }
-    }
-    &text[text.len()..]
+    &text[blanks_length(text)..]
 }
 
 /// The word that a text begins with, and what follows the blanks after it.
