@@ -192,10 +192,3 @@ zones_opening ns before (row ∷ rows) empty = ap (λ l. Live ∷ l) (zones_open
 
 pub zones_opened : (ns : List ℕ) (capacity : ℕ) (rows : List Row) (slots : List (Option Version)) (zones : List Zone) → slots ≡ opening_slots 0 rows ++ replicate (capacity - length rows) None → zones ≡ replicate (length rows) Live ++ replicate (capacity - length rows) Free → zones ≡ map (zone_of ns) slots
 zones_opened ns capacity rows slots zones is told = told ∙ sym (zones_opening ns 0 rows (capacity - length rows)) ∙ ap (map (zone_of ns)) (sym is)
-
--- What is known of a store, by the parts of its contents.
-pub kept_same : (slots slots_too : List (Option Version)) (stamp next_id : ℕ) (callers callers_too : List Caller) (zones : List Zone) → slots_too ≡ slots → callers_too ≡ callers
-    → IsKept (record { slots = slots; stamp = stamp; next_id = next_id; callers = callers }) zones → IsKept (record { slots = slots_too; stamp = stamp; next_id = next_id; callers = callers_too }) zones
-kept_same slots slots_too stamp next_id callers callers_too zones p q h =
-    subst (λ l. IsKept (record { slots = l; stamp = stamp; next_id = next_id; callers = callers_too }) zones) (sym p)
-    (subst (λ k. IsKept (record { slots = slots; stamp = stamp; next_id = next_id; callers = k }) zones) (sym q) h)

@@ -6,15 +6,14 @@ use Rattle.std.proofs.lemmas.List.Sums.{sum_by-cons}
 use Rattle.std.proofs.lemmas.Bool.{ltb-false, eq-eqb}
 use Rattle.std.proofs.lemmas.List.{length-map}
 use Rattle.pref_core.specs.declared.store.version.Version.{Version}
-use Rattle.pref_core.specs.declared.call.Op.{Op}
 use Rattle.pref_sky.specs.declared.entry.Entry.{Entry}
 use Rattle.pref_core.specs.declared.call.Call.{Call}
 use Rattle.pref_core.specs.declared.call.Call.TheVariants.{Insert, Update, Delete, Begin, Finish, Abandon}
 use Rattle.pref_core.specs.declared.call.Outcome.{Outcome}
 use Rattle.pref_core.specs.declared.call.Outcome.TheVariants.{Added, Done, NoSuchRow, Full}
-use Rattle.pref_core.specs.State.{ended, begun, granted, missing, outcome_of, succeeds, is_change}
+use Rattle.pref_core.specs.State.{ended, begun, granted, missing, outcome_of, succeeds}
 use Rattle.pref_core.specs.Slots.{Contents, is_needed, begins, seen, visible, born}
-use Rattle.pref_core.specs.Operations.{close, is_free, filled, outcome_at, placed, close_at, same_outcome, slots_after}
+use Rattle.pref_core.specs.Operations.{close, is_free, filled, outcome_at, placed, close_at, same_outcome}
 use Rattle.pref_core.proofs.Visible.{seen_born}
 
 count_by-cons_yes : {X : Type 0} (p : X → Bool) (x : X) (xs : List X) → p x ≡ true → count_by p (x ∷ xs) ≡ suc (count_by p xs)
@@ -96,18 +95,3 @@ same_outcome_refl (Added n) = eq-eqb n n refl
 same_outcome_refl Done = refl
 same_outcome_refl (NoSuchRow n) = eq-eqb n n refl
 same_outcome_refl (Full n) = eq-eqb n n refl
-
--- what `commit` says, of the slots after an op
-pub slots_after-committed : (contents : Contents) (op : Op) (begun_by : Option Entry) (ended_by : Option ℕ) (after : List (Option Version)) → is_change op.call ≡ true → succeeds op.outcome ≡ true
-    → option_to_list begun_by ≡ begun contents.next_id op.call → option_to_list ended_by ≡ ended op.call → is_some (slots_after contents op) ≡ true
-    → ((ns : List ℕ) → is_some (filled ns (contents.stamp + 1) (option_to_list op.slot) (option_to_list begun_by) (map (close (option_to_list ended_by) (contents.stamp + 1)) contents.slots)) ≡ true
-    → filled ns (contents.stamp + 1) (option_to_list op.slot) (option_to_list begun_by) (map (close (option_to_list ended_by) (contents.stamp + 1)) contents.slots) ≡ Some after)
-    → slots_after contents op ≡ Some after
-slots_after-committed contents op begun_by ended_by after c s b e fits made =
-    let next : contents.stamp + 1 ≡ suc contents.stamp = omega arith in
-    let ns : List ℕ = suc contents.stamp ∷ begins contents.callers in
-    let same : filled ns (contents.stamp + 1) (option_to_list op.slot) (option_to_list begun_by) (map (close (option_to_list ended_by) (contents.stamp + 1)) contents.slots)
-    ≡ filled ns (suc contents.stamp) (option_to_list op.slot) (begun contents.next_id op.call) (map (close (ended op.call) (suc contents.stamp)) contents.slots)
-    = λ i. filled ns (next i) (option_to_list op.slot) (b i) (map (close (e i) (next i)) contents.slots) in
-    let fits_here = rw (c, s) at fits in
-    rw (c, s) (sym same ∙ made ns (ap is_some same ∙ fits_here))

@@ -18,7 +18,7 @@ use Rattle.pref_core.specs.State.{State, ended, begun, begins_row, is_change, mi
 use Rattle.pref_core.specs.Slots.{Contents, StandsFor, visible, is_needed, begins, born}
 use Rattle.pref_core.specs.Operations.{close, is_free, used, grown, filled, slots_after, outcome_at}
 use Rattle.pref_core.specs.Places.{is_free_zone, free_at, zone_of}
-use Rattle.pref_core.specs.Kept.{IsOldPlace, Closes, frees, HasPlace}
+use Rattle.pref_core.specs.Kept.{IsOldPlace, Closes, frees}
 use Rattle.pref_core.proofs.Keys.{within-close}
 use Rattle.pref_core.proofs.Plans.{close_none, count_by-born, Finds}
 use Rattle.pref_core.proofs.Applied.{succeeds-missing}
@@ -129,38 +129,32 @@ none_free contents state ids old h at keeps none =
     omega arith
 
 -- An op whose slot fits has a free place for its row.
-pub fits_place : (contents : Contents) (state : State) (op : Op) (ended_by : Option ℕ) (begun_by : Option Entry) → StandsFor contents state → is_change op.call ≡ true → succeeds op.outcome ≡ true → option_to_list ended_by ≡ ended op.call → option_to_list begun_by ≡ begun contents.next_id op.call
-    → is_some (slots_after contents op) ≡ true
-    → HasPlace (map (zone_of (begins contents.callers)) (map (close (option_to_list ended_by) (suc contents.stamp)) contents.slots)) begun_by op.slot
-fits_place contents state op ended_by None h c s e b fits = tt
-fits_place contents state op ended_by (Some fresh) h c s e b fits = go op.slot filled_some
+pub fits_place : (contents : Contents) (state : State) (op : Op) (ended_by : Option ℕ) (begun_by : Option Entry) (fresh : Entry) (place made : ℕ) (zones : List Zone) → StandsFor contents state → is_change op.call ≡ true → succeeds op.outcome ≡ true → option_to_list ended_by ≡ ended op.call → option_to_list begun_by ≡ begun contents.next_id op.call
+    → is_some (slots_after contents op) ≡ true → begun_by ≡ Some fresh → op.slot ≡ Some place → made ≡ suc contents.stamp → zones ≡ map (zone_of (begins contents.callers)) (map (close (option_to_list ended_by) made) contents.slots)
+    → slice_get zones place ≡ Some Free
+fits_place contents state op ended_by begun_by fresh place made zones h c s e b fits is there next listed =
+    ap (λ z. slice_get z place) (listed ∙ ap (λ n. map (zone_of (begins contents.callers)) (map (close (option_to_list ended_by) n) contents.slots)) next)
+    ∙ by_free (is_free (suc contents.stamp ∷ begins contents.callers) (map (close (option_to_list ended_by) (suc contents.stamp)) contents.slots) place) refl filled_some
   where
-    closed : List (Option Version)
-    closed = map (close (option_to_list ended_by) (suc contents.stamp)) contents.slots
-
-    filled_some : is_some (filled (suc contents.stamp ∷ begins contents.callers) (suc contents.stamp) (option_to_list op.slot) (fresh ∷ []) (map (close (option_to_list ended_by) (suc contents.stamp)) contents.slots)) ≡ true
+    filled_some : is_some (filled (suc contents.stamp ∷ begins contents.callers) (suc contents.stamp) (place ∷ []) (fresh ∷ []) (map (close (option_to_list ended_by) (suc contents.stamp)) contents.slots)) ≡ true
     filled_some =
-        ap₂ (λ ids rows. is_some (filled (suc contents.stamp ∷ begins contents.callers) (suc contents.stamp) (option_to_list op.slot) rows (map (close ids (suc contents.stamp)) contents.slots))) e b
+        ap₂ (λ slot row. is_some (filled (suc contents.stamp ∷ begins contents.callers) (suc contents.stamp) (option_to_list slot) (option_to_list row) (map (close (option_to_list ended_by) (suc contents.stamp)) contents.slots))) (sym there) (sym is)
+        ∙ ap₂ (λ ids rows. is_some (filled (suc contents.stamp ∷ begins contents.callers) (suc contents.stamp) (option_to_list op.slot) rows (map (close ids (suc contents.stamp)) contents.slots))) e b
         ∙ (rw (c, s) at fits)
 
-    go : (slot : Option ℕ) → is_some (filled (suc contents.stamp ∷ begins contents.callers) (suc contents.stamp) (option_to_list slot) (fresh ∷ []) (map (close (option_to_list ended_by) (suc contents.stamp)) contents.slots)) ≡ true
-        → HasPlace (map (zone_of (begins contents.callers)) (map (close (option_to_list ended_by) (suc contents.stamp)) contents.slots)) (Some fresh) slot
-    go None f = tt
-    go (Some place) f = by_free (is_free (suc contents.stamp ∷ begins contents.callers) (map (close (option_to_list ended_by) (suc contents.stamp)) contents.slots) place) refl f
-      where
-        free_there : (o : Option Zone) → slice_get (map (zone_of (begins contents.callers)) (map (close (option_to_list ended_by) (suc contents.stamp)) contents.slots)) place ≡ o
-            → elim o as (λ x. Bool) [ None ↦ false | Some zone ↦ is_free_zone zone ] ≡ true → slice_get (map (zone_of (begins contents.callers)) (map (close (option_to_list ended_by) (suc contents.stamp)) contents.slots)) place ≡ Some Free
-        free_there None e is = absurd (cc)
-        free_there (Some Free) e is = e
-        free_there (Some Ended) e is = absurd (cc)
-        free_there (Some Live) e is = absurd (cc)
+    free_there : (o : Option Zone) → slice_get (map (zone_of (begins contents.callers)) (map (close (option_to_list ended_by) (suc contents.stamp)) contents.slots)) place ≡ o
+        → elim o as (λ x. Bool) [ None ↦ false | Some zone ↦ is_free_zone zone ] ≡ true → slice_get (map (zone_of (begins contents.callers)) (map (close (option_to_list ended_by) (suc contents.stamp)) contents.slots)) place ≡ Some Free
+    free_there None e is = absurd (cc)
+    free_there (Some Free) e is = e
+    free_there (Some Ended) e is = absurd (cc)
+    free_there (Some Live) e is = absurd (cc)
 
-        by_free : (b : Bool) → is_free (suc contents.stamp ∷ begins contents.callers) (map (close (option_to_list ended_by) (suc contents.stamp)) contents.slots) place ≡ b
-            → is_some (cond b (Some (set (map (close (option_to_list ended_by) (suc contents.stamp)) contents.slots) place (born (suc contents.stamp) fresh))) None) ≡ true
-            → slice_get (map (zone_of (begins contents.callers)) (map (close (option_to_list ended_by) (suc contents.stamp)) contents.slots)) place ≡ Some Free
-        by_free false e is = absurd (cc)
-        by_free true e is = free_there _ refl
-            (sym (free_zone contents.next_id (suc contents.stamp) (begins contents.callers) (map (close (option_to_list ended_by) (suc contents.stamp)) contents.slots) place (within-close (option_to_list ended_by) contents.next_id contents.stamp contents.slots h.within)) ∙ e)
+    by_free : (b : Bool) → is_free (suc contents.stamp ∷ begins contents.callers) (map (close (option_to_list ended_by) (suc contents.stamp)) contents.slots) place ≡ b
+        → is_some (cond b (Some (set (map (close (option_to_list ended_by) (suc contents.stamp)) contents.slots) place (born (suc contents.stamp) fresh))) None) ≡ true
+        → slice_get (map (zone_of (begins contents.callers)) (map (close (option_to_list ended_by) (suc contents.stamp)) contents.slots)) place ≡ Some Free
+    by_free false e is = absurd (cc)
+    by_free true e is = free_there _ refl
+        (sym (free_zone contents.next_id (suc contents.stamp) (begins contents.callers) (map (close (option_to_list ended_by) (suc contents.stamp)) contents.slots) place (within-close (option_to_list ended_by) contents.next_id contents.stamp contents.slots h.within)) ∙ e)
 
 -- The row that a change ends, by its call.
 pub closes_call : (contents : Contents) (state : State) (zones : List Zone) (call : Call) (old : Option ℕ) (made : ℕ) → StandsFor contents state → zones ≡ map (zone_of (begins contents.callers)) contents.slots

@@ -3,8 +3,7 @@
 use Rattle.std.specs.Prelude.{◌≡◌, ◌==◌, ℕ, List, [], ◌∷◌, map, Bool, false, Option, Some, None, option_map, slice_get, slice_set}
 use Rattle.pref_core.specs.declared.store.version.Version.{Version}
 use Rattle.pref_core.specs.declared.store.places.Zone.{Zone}
-use Rattle.pref_core.specs.declared.store.places.Zone.TheVariants.{Free, Live}
-use Rattle.pref_sky.specs.declared.entry.Entry.{Entry}
+use Rattle.pref_core.specs.declared.store.places.Zone.TheVariants.{Live}
 use Rattle.pref_core.specs.Rows.{Row}
 use Rattle.pref_core.specs.State.{State}
 use Rattle.pref_core.specs.Slots.{Contents, StandsFor, begins}
@@ -19,6 +18,10 @@ pub record IsKept (contents : Contents) (zones : List Zone) : Type 0 where
   pub state : State
   pub stands : StandsFor contents state
   pub listed : zones ≡ map (zone_of (begins contents.callers)) contents.slots
+
+-- the contents with these slots
+abbrev pub with_slots : List (Option Version) → Contents → Contents
+with_slots slots contents = record { slots = slots; stamp = contents.stamp; next_id = contents.next_id; callers = contents.callers }
 
 -- the row at a place, where one stands there
 abbrev pub row_in : List (Option Version) → Option ℕ → Option Row
@@ -55,9 +58,3 @@ pub record ClosesAt (ids : List ℕ) (stamp : ℕ) (slots : List (Option Version
 abbrev pub Closes : List ℕ → ℕ → List (Option Version) → List Zone → Option ℕ → Type 0
 Closes ids stamp slots zones None = map (close ids stamp) slots ≡ slots
 Closes ids stamp slots zones (Some place) = ClosesAt ids stamp slots zones place
-
--- where a new row goes there is a free place
-abbrev pub HasPlace : List Zone → Option Entry → Option ℕ → Type 0
-HasPlace zones None place = Unit {0}
-HasPlace zones (Some fresh) None = Unit {0}
-HasPlace zones (Some fresh) (Some place) = slice_get zones place ≡ Some Free

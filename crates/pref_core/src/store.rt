@@ -7,6 +7,7 @@
 
 pub(crate) mod applying;
 pub(crate) mod caller;
+pub(crate) mod contents;
 pub(crate) mod hints;
 pub(crate) mod indexing;
 pub(crate) mod needs;
@@ -20,7 +21,7 @@ ghost use Rattle.std.specs.Prelude.{◌≡◌, ℕ, ◌-◌, ◌<◌, length, So
 ghost use Rattle.std.specs.Option.{unwrap_or};
 ghost use Rattle.pref_core.specs.Table.{line_of, entries};
 ghost use Rattle.pref_core.specs.State.{State, opening, calls_of, needed};
-ghost use Rattle.pref_core.specs.Slots.{Contents, StandsFor, caller_calls, visible, block_of, opening_contents};
+ghost use Rattle.pref_core.specs.Slots.{StandsFor, caller_calls, visible, block_of, opening_contents};
 ghost use Rattle.pref_core.specs.Indexes.{IsIndexOf, IsReady};
 ghost use Rattle.pref_core.specs.Operations.{applied, IsPlan, Plans, PlansIn, AppliesIn};
 
@@ -28,7 +29,7 @@ use crate::call::{Call, Op};
 use crate::fault::CoreFault;
 use crate::index::Index;
 use crate::setup::Setup;
-use caller::Caller;
+use contents::Contents;
 use hints::Hints;
 use places::Places;
 use pref_sky::Entry;
@@ -38,31 +39,28 @@ use std::marker::Model;
 use version::Version;
 
 /// A table's slots, its counters, and what is kept of each client: how many calls it has made, and the stamp
-/// at its open query's begin. Contracts see them as they are.
+/// at its open query's begin. Contracts see them as they are, and not the lists beside them that spare a look at each slot.
 ///
 /// What a store stands for is said by `StandsFor`: a state of the sequential table. [`Store::plan`] tells what
 /// becomes of a call and [`Store::apply`] does it; [`ops_are_history`](crate::laws::ops_are_history) says that what was
 /// applied so is a legal history.
 #[derive(Drop)]
 pub struct Store {
-    slots: Vec<Option<Version>>,
-    stamp: u64,
-    next_id: u64,
-    callers: Vec<Caller>,
+    contents: Contents,
     places: Places,
     hints: Hints,
 }
 
 impl Model for Store {
-    ghost use Rattle.pref_core.specs.Slots.{Contents};
+    ghost use Rattle.pref_core.specs.Slots as specs;
     ghost use Rattle.pref_core.specs.Hints.{AreHints};
     ghost use Rattle.pref_core.specs.Kept.{IsKept};
 
-    ghost Value = { Contents };
+    ghost Value = { specs.Contents };
 
-    ghost view = { λ s. record { slots = s.slots.items; stamp = s.stamp; next_id = s.next_id; callers = s.callers.items } };
+    ghost view = { λ s. s.contents };
 
-    ghost invariant = { λ s. IsKept (record { slots = s.slots.items; stamp = s.stamp; next_id = s.next_id; callers = s.callers.items }) s.places × AreHints s.stamp s.slots.items s.hints };
+    ghost invariant = { λ s. IsKept s.contents s.places × AreHints s.contents.stamp s.contents.slots s.hints };
 }
 
 impl Store {
@@ -86,11 +84,14 @@ impl Store {
         let callers = caller::idle(alloc, setup.clients())?;
         let places = Places::new(alloc, capacity, rows.len() as u32)?;
         let hints = Hints::new(alloc, capacity)?;
-        Ok(Store {
+        let contents = Contents {
             slots,
             stamp: rows.len() as u64,
             next_id: rows.len() as u64 + 1,
             callers,
+        };
+        Ok(Store {
+            contents,
             places,
             hints,
         })
@@ -100,15 +101,11 @@ impl Store {
     pub fn copy(&self, alloc: Global) -> Result<Store, AllocError>
         ensures { IfOk result (λ copy. copy ≡ self.now) }
     {
-        let slots = Vec::from_slice(alloc, &self.slots)?;
-        let callers = Vec::from_slice(alloc, &self.callers)?;
+        let contents = self.contents.copy(alloc)?;
         let places = self.places.copy(alloc)?;
         let hints = self.hints.copy(alloc)?;
         Ok(Store {
-            slots,
-            stamp: self.stamp,
-            next_id: self.next_id,
-            callers,
+            contents,
             places,
             hints,
         })
@@ -118,14 +115,14 @@ impl Store {
     pub fn stamp(&self) -> u64
         ensures { result ≡ self.now.stamp }
     {
-        self.stamp
+        self.contents.stamp
     }
 
     /// The id of the next row.
     pub(crate) fn next_id(&self) -> u64
         ensures { result ≡ self.now.next_id }
     {
-        self.next_id
+        self.contents.next_id
     }
 
     /// How many numbered calls the client has made; of a number that is no client's, none.
@@ -133,7 +130,7 @@ impl Store {
         ensures exact { result ≡ unwrap_or (caller_calls self.now client) 0 }
         ensures state { (state : State) → StandsFor self.now state → result ≡ unwrap_or (calls_of state client) 0 }
     {
-        caller::calls_of(&self.callers, client)
+        caller::calls_of(&self.contents.callers, client)
     }
 
     /// The row of this id in the table now. Looks at the home of its id, the slot `id - 1` modulo the capacity, and where the
@@ -141,10 +138,8 @@ impl Store {
     pub fn get(&self, id: u64) -> Option<Row>
         ensures { (state : State) → StandsFor self.now state → result ≡ option_map (λ line. line.row) (line_of state.table id) }
     {
-        match reads::place_of(&self.slots, &self.hints, self.stamp, id) {
-            Some(place) => reads::row_in(&self.slots, place as usize),
-            None => None,
-        }
+        let place = reads::place_of(&self.contents, &self.hints, id);
+        reads::row_in(&self.contents, place)
     }
 
     /// The same by an index of this store, which is asked where another row stands at the id's home.
@@ -152,17 +147,15 @@ impl Store {
         requires { IsIndexOf self.now index.now }
         ensures { (state : State) → StandsFor self.now state → result ≡ option_map (λ line. line.row) (line_of state.table id) }
     {
-        match indexing::indexed_place(&self.slots, self.stamp, index, id) {
-            Some(place) => reads::row_in(&self.slots, place as usize),
-            None => None,
-        }
+        let place = indexing::indexed_place(&self.contents, index, id);
+        reads::row_in(&self.contents, place)
     }
 
     /// The index of this store.
     pub(crate) fn index(&self, alloc: Global) -> Result<Index, AllocError>
         ensures { IfOk result (λ index. IsIndexOf self.now index) }
     {
-        indexing::index_rows(alloc, &self.slots, self.stamp)
+        indexing::index_rows(alloc, &self.contents.slots, self.contents.stamp)
     }
 
     /// What the slots of a block show at a stamp: those from `block` times `size` up to before the next block's
@@ -176,7 +169,11 @@ impl Store {
     ) -> Result<Vec<Entry>, AllocError>
         ensures { IfOk result (λ v. v.items ≡ entries (visible stamp (block_of block size self.now.slots))) }
     {
-        reads::entries_at(alloc, reads::block(&self.slots, block, size), stamp)
+        reads::entries_at(
+            alloc,
+            reads::block(&self.contents.slots, block, size),
+            stamp,
+        )
     }
 
     /// How many more versions there is room for: the slots without those that the table or an open query needs.
@@ -196,17 +193,8 @@ impl Store {
         ensures exact { Plans self.now client call result }
         ensures state { (state : State) → StandsFor self.now state → PlansIn state self.now client call result }
     {
-        let old = reads::old_place(&self.slots, &self.hints, self.stamp, call.ended());
-        planning::plan(
-            &self.slots,
-            self.stamp,
-            self.next_id,
-            &self.callers,
-            &self.places,
-            old,
-            client,
-            call,
-        )
+        let old = reads::old_place(&self.contents, &self.hints, call.ended());
+        planning::plan(&self.contents, &self.places, old, client, call)
     }
 
     /// The same by an index of this store: constant in the slots.
@@ -215,17 +203,8 @@ impl Store {
         ensures exact { Plans self.now client call result }
         ensures state { (state : State) → StandsFor self.now state → PlansIn state self.now client call result }
     {
-        let old = indexing::indexed_old_place(&self.slots, self.stamp, index, call.ended());
-        planning::plan(
-            &self.slots,
-            self.stamp,
-            self.next_id,
-            &self.callers,
-            &self.places,
-            old,
-            client,
-            call,
-        )
+        let old = indexing::indexed_old_place(&self.contents, index, call.ended());
+        planning::plan(&self.contents, &self.places, old, client, call)
     }
 
     /// Does a planned call. One that is not legal here changes nothing: so an operation is done once, and in its
@@ -235,12 +214,9 @@ impl Store {
         ensures exact { self.new ≡ applied self.old op.now }
         ensures state { (state : State) → StandsFor self.old state → AppliesIn state self.old op.now self.new }
     {
-        let old = reads::old_place(&self.slots, &self.hints, self.stamp, op.call.ended());
+        let old = reads::old_place(&self.contents, &self.hints, op.call.ended());
         applying::apply(
-            &mut self.slots,
-            &mut self.stamp,
-            &mut self.next_id,
-            &mut self.callers,
+            &mut self.contents,
             &mut self.places,
             &mut self.hints,
             old,
@@ -258,12 +234,9 @@ impl Store {
         ensures index { IsIndexOf self.new index.new }
         ensures state { (state : State) → StandsFor self.old state → AppliesIn state self.old op.now self.new }
     {
-        let old = indexing::indexed_old_place(&self.slots, self.stamp, index, op.call.ended());
+        let old = indexing::indexed_old_place(&self.contents, index, op.call.ended());
         applying::apply(
-            &mut self.slots,
-            &mut self.stamp,
-            &mut self.next_id,
-            &mut self.callers,
+            &mut self.contents,
             &mut self.places,
             &mut self.hints,
             old,

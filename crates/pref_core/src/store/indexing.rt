@@ -6,6 +6,7 @@ ghost use Rattle.pref_core.specs.Indexes.{slot_of, IsPlaceOf};
 ghost use Rattle.pref_core.specs.Kept.{IsOldPlace};
 
 use crate::index::Index;
+use crate::store::contents::Contents;
 use crate::store::hints::home_of;
 use crate::store::reads::stands_at;
 use crate::store::version::Version;
@@ -34,19 +35,15 @@ pub(crate) fn index_rows(
 }
 
 /// The place of the row of this id in the table. Looks at the id's home, and asks the index where another row stands there.
-pub(crate) fn indexed_place(
-    slots: &[Option<Version>],
-    stamp: u64,
-    index: &Index,
-    id: u64,
-) -> Option<u32>
-    requires few { length slots.now ≤ 65536 }
-    requires index { IsPlaceOf stamp id slots.now (slot_of index.now id) }
-    ensures { IsPlaceOf stamp id slots.now result }
+pub(crate) fn indexed_place(contents: &Contents, index: &Index, id: u64) -> Option<u32>
+    requires few { length contents.now.slots ≤ 65536 }
+    requires index { IsPlaceOf contents.now.stamp id contents.now.slots (slot_of index.now id) }
+    ensures { IsPlaceOf contents.now.stamp id contents.now.slots result }
 {
+    let slots = contents.slots.as_slice();
     if !slots.is_empty() {
         let home = home_of(slots, id);
-        if stands_at(slots, home, stamp, id) {
+        if stands_at(slots, home, contents.stamp, id) {
             return Some(home);
         }
     }
@@ -58,17 +55,16 @@ pub(crate) fn indexed_place(
 
 /// The place of the row that a call ends, where it ends one.
 pub(crate) fn indexed_old_place(
-    slots: &[Option<Version>],
-    stamp: u64,
+    contents: &Contents,
     index: &Index,
     ended: Option<u64>,
 ) -> Option<u32>
-    requires few { length slots.now ≤ 65536 }
-    requires index { (id : ℕ) → ended ≡ Some id → IsPlaceOf stamp id slots.now (slot_of index.now id) }
-    ensures { IsOldPlace stamp (option_to_list ended) slots.now result }
+    requires few { length contents.now.slots ≤ 65536 }
+    requires index { (id : ℕ) → ended ≡ Some id → IsPlaceOf contents.now.stamp id contents.now.slots (slot_of index.now id) }
+    ensures { IsOldPlace contents.now.stamp (option_to_list ended) contents.now.slots result }
 {
     match ended {
-        Some(id) => indexed_place(slots, stamp, index, id),
+        Some(id) => indexed_place(contents, index, id),
         None => None,
     }
 }

@@ -1,13 +1,14 @@
 //! Which versions are needed, and which slots are free.
 
 ghost use Rattle.std.specs.Option.{option_to_list};
-ghost use Rattle.std.specs.Prelude.{map, Some, ◌≡◌, ◌∷◌};
+ghost use Rattle.std.specs.Prelude.{map, Some, ◌≡◌, ◌+◌, ◌^◌, ◌<◌, ◌∷◌};
 ghost use Rattle.pref_core.specs.Kept.{frees};
 ghost use Rattle.pref_core.specs.Operations.{close, is_free};
 ghost use Rattle.pref_core.specs.Places.{is_free_zone, zone_of};
 ghost use Rattle.pref_core.specs.Slots.{begins, is_needed};
 
 use crate::store::caller::{Caller, sees};
+use crate::store::contents::Contents;
 use crate::store::places::Zone;
 use crate::store::version::{Version, closed};
 
@@ -34,17 +35,15 @@ fn is_kept(slot: Option<Version>, now: u64, callers: &[Caller]) -> bool
 }
 
 /// Whether the slot of this place can be used again after a commit that ends the row of this id.
-pub(crate) fn is_free_place(
-    slots: &[Option<Version>],
-    place: u32,
-    ended: Option<u64>,
-    stamp: u64,
-    callers: &[Caller],
-) -> bool
-    ensures { result ≡ is_free (stamp ∷ begins callers.now) (map (close (option_to_list ended) stamp) slots.now) place }
+pub(crate) fn is_free_place(contents: &Contents, place: u32, ended: Option<u64>) -> bool
+    requires { contents.now.stamp < 2 ^ 63 }
+    ensures { result ≡ is_free ((contents.now.stamp + 1) ∷ begins contents.now.callers) (map (close (option_to_list ended) (contents.now.stamp + 1)) contents.now.slots) place }
 {
-    let place = place as usize;
-    place < slots.len() && !is_kept(closed(slots[place], ended, stamp), stamp, callers)
+    let stamp = contents.stamp + 1;
+    match contents.slots.get(place as usize) {
+        Some(slot) => !is_kept(closed(*slot, ended, stamp), stamp, &contents.callers),
+        None => false,
+    }
 }
 
 /// What a slot is used for.
@@ -59,20 +58,18 @@ pub(crate) fn zone_of(slot: Option<Version>, callers: &[Caller]) -> Zone
 }
 
 /// Whether the slot of this place is free after a commit that ends the row of this id.
-pub(crate) fn frees(
-    slots: &[Option<Version>],
-    callers: &[Caller],
-    ended: Option<u64>,
-    old: Option<u32>,
-    stamp: u64,
-) -> bool
-    ensures { result ≡ frees (begins callers.now) (option_to_list ended) stamp slots.now old }
+pub(crate) fn frees(contents: &Contents, ended: Option<u64>, old: Option<u32>) -> bool
+    requires { contents.now.stamp < 2 ^ 63 }
+    ensures { result ≡ frees (begins contents.now.callers) (option_to_list ended) (contents.now.stamp + 1) contents.now.slots old }
 {
     let Some(place) = old else {
         return false;
     };
-    match slots.get(place as usize).copied() {
-        Some(slot) => zone_of(closed(slot, ended, stamp), callers).is_free(),
+    match contents.slots.get(place as usize) {
+        Some(slot) => {
+            let slot = closed(*slot, ended, contents.stamp + 1);
+            zone_of(slot, &contents.callers).is_free()
+        }
         None => false,
     }
 }

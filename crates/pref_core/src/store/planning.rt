@@ -12,6 +12,7 @@ ghost use Rattle.pref_core.specs.State.{refusal_of, ended, granted};
 use crate::call::{Call, Op, Outcome};
 use crate::fault::CoreFault;
 use crate::store::caller::{Caller, caller_of};
+use crate::store::contents::Contents;
 use crate::store::hints::home_of;
 use crate::store::needs::frees;
 use crate::store::places::{Places, Zone};
@@ -45,42 +46,28 @@ fn missing(ended: Option<u64>, old: Option<u32>) -> Option<u64>
 }
 
 /// How many versions are needed after a call that begins a row.
-fn size_after(
-    slots: &[Option<Version>],
-    stamp: u64,
-    callers: &[Caller],
-    places: &Places,
-    ended: Option<u64>,
-    old: Option<u32>,
-) -> usize
-    requires few { length slots.now ≤ 65536 }
-    requires early { stamp < 2 ^ 63 }
-    requires free { count_by is_free_zone places.now + (if frees (begins callers.now) (option_to_list ended) (stamp + 1) slots.now old then 1 else 0) ≤ length slots.now + 1 }
-    ensures { result + (count_by is_free_zone places.now + (if frees (begins callers.now) (option_to_list ended) (stamp + 1) slots.now old then 1 else 0)) ≡ length slots.now + 1 }
+fn size_after(contents: &Contents, places: &Places, ended: Option<u64>, old: Option<u32>) -> usize
+    requires few { length contents.now.slots ≤ 65536 }
+    requires early { contents.now.stamp < 2 ^ 63 }
+    requires free { count_by is_free_zone places.now + (if frees (begins contents.now.callers) (option_to_list ended) (contents.now.stamp + 1) contents.now.slots old then 1 else 0) ≤ length contents.now.slots + 1 }
+    ensures { result + (count_by is_free_zone places.now + (if frees (begins contents.now.callers) (option_to_list ended) (contents.now.stamp + 1) contents.now.slots old then 1 else 0)) ≡ length contents.now.slots + 1 }
 {
-    let freed = if frees(slots, callers, ended, old, stamp + 1) {
-        1
-    } else {
-        0
-    };
-    slots.len() + 1 - (places.free() as usize + freed)
+    let freed = if frees(contents, ended, old) { 1 } else { 0 };
+    contents.slots.len() + 1 - (places.free() as usize + freed)
 }
 
 /// The outcome of a call that gets a number, by the place of the row that it ends.
 pub(crate) fn outcome(
-    slots: &[Option<Version>],
-    stamp: u64,
-    next_id: u64,
-    callers: &[Caller],
+    contents: &Contents,
     places: &Places,
     old: Option<u32>,
     call: &Call,
 ) -> Outcome
-    requires few { length slots.now ≤ 65536 }
-    requires early { stamp < 2 ^ 63 }
-    requires kept { IsKept (record { slots = slots.now; stamp = stamp; next_id = next_id; callers = callers.now }) places.now }
-    requires old { IsOldPlace stamp (ended call.now) slots.now old }
-    ensures { result ≡ outcome_at (record { slots = slots.now; stamp = stamp; next_id = next_id; callers = callers.now }) call.now }
+    requires few { length contents.now.slots ≤ 65536 }
+    requires early { contents.now.stamp < 2 ^ 63 }
+    requires kept { IsKept contents.now places.now }
+    requires old { IsOldPlace contents.now.stamp (ended call.now) contents.now.slots old }
+    ensures { result ≡ outcome_at contents.now call.now }
 {
     if !call.is_change() {
         return Outcome::Done;
@@ -89,12 +76,12 @@ pub(crate) fn outcome(
         return Outcome::NoSuchRow(id);
     }
     if call.begins_row() {
-        let needed = size_after(slots, stamp, callers, places, call.ended(), old);
-        if needed > slots.len() {
+        let needed = size_after(contents, places, call.ended(), old);
+        if needed > contents.slots.len() {
             return Outcome::Full(needed as u64);
         }
     }
-    granted(next_id, call)
+    granted(contents.next_id, call)
 }
 
 fn granted(next_id: u64, call: &Call) -> Outcome
@@ -108,27 +95,19 @@ fn granted(next_id: u64, call: &Call) -> Outcome
 
 /// A slot that can be used again after a commit that ends the row of this id: the home of the new row where it is free,
 /// so that a row that had to move comes home, else the ended row's own where nobody needs it then, else any.
-fn free_place(
-    slots: &[Option<Version>],
-    stamp: u64,
-    next_id: u64,
-    callers: &[Caller],
-    places: &Places,
-    old: Option<u32>,
-    call: &Call,
-) -> Option<u32>
-    requires few { length slots.now ≤ 65536 }
-    requires early { stamp < 2 ^ 63 }
-    requires kept { IsKept (record { slots = slots.now; stamp = stamp; next_id = next_id; callers = callers.now }) places.now }
-    requires closes { Closes (ended call.now) (stamp + 1) slots.now places.now old }
-    ensures found { IfSome result (λ place. is_free ((stamp + 1) ∷ begins callers.now) (map (close (ended call.now) (stamp + 1)) slots.now) place ≡ true) }
-    ensures none { IfNone result (count_by (is_needed ((stamp + 1) ∷ begins callers.now)) (map (close (ended call.now) (stamp + 1)) slots.now) ≡ length slots.now) }
+fn free_place(contents: &Contents, places: &Places, old: Option<u32>, call: &Call) -> Option<u32>
+    requires few { length contents.now.slots ≤ 65536 }
+    requires early { contents.now.stamp < 2 ^ 63 }
+    requires kept { IsKept contents.now places.now }
+    requires closes { Closes (ended call.now) (contents.now.stamp + 1) contents.now.slots places.now old }
+    ensures found { IfSome result (λ place. is_free ((contents.now.stamp + 1) ∷ begins contents.now.callers) (map (close (ended call.now) (contents.now.stamp + 1)) contents.now.slots) place ≡ true) }
+    ensures none { IfNone result (count_by (is_needed ((contents.now.stamp + 1) ∷ begins contents.now.callers)) (map (close (ended call.now) (contents.now.stamp + 1)) contents.now.slots) ≡ length contents.now.slots) }
 {
     let ended = call.ended();
-    if let Some(home) = free_home(slots, places, ended.unwrap_or(next_id)) {
+    if let Some(home) = free_home(&contents.slots, places, ended.unwrap_or(contents.next_id)) {
         return Some(home);
     }
-    if frees(slots, callers, ended, old, stamp + 1) {
+    if frees(contents, ended, old) {
         old
     } else {
         places.any_free()
@@ -153,24 +132,21 @@ fn free_home(slots: &[Option<Version>], places: &Places, id: u64) -> Option<u32>
 
 /// A slot for the new row of a call, where it has one.
 pub(crate) fn place(
-    slots: &[Option<Version>],
-    stamp: u64,
-    next_id: u64,
-    callers: &[Caller],
+    contents: &Contents,
     places: &Places,
     old: Option<u32>,
     call: &Call,
     outcome: Outcome,
 ) -> Option<u32>
-    requires few { length slots.now ≤ 65536 }
-    requires early { stamp < 2 ^ 63 }
-    requires kept { IsKept (record { slots = slots.now; stamp = stamp; next_id = next_id; callers = callers.now }) places.now }
-    requires old { IsOldPlace stamp (ended call.now) slots.now old }
-    requires told { outcome ≡ outcome_at (record { slots = slots.now; stamp = stamp; next_id = next_id; callers = callers.now }) call.now }
-    ensures { is_some (placed (record { slots = slots.now; stamp = stamp; next_id = next_id; callers = callers.now }) call.now result outcome) ≡ true }
+    requires few { length contents.now.slots ≤ 65536 }
+    requires early { contents.now.stamp < 2 ^ 63 }
+    requires kept { IsKept contents.now places.now }
+    requires old { IsOldPlace contents.now.stamp (ended call.now) contents.now.slots old }
+    requires told { outcome ≡ outcome_at contents.now call.now }
+    ensures { is_some (placed contents.now call.now result outcome) ≡ true }
 {
-    if outcome.succeeds() && call.begun(next_id).is_some() {
-        free_place(slots, stamp, next_id, callers, places, old, call)
+    if outcome.succeeds() && call.begun(contents.next_id).is_some() {
+        free_place(contents, places, old, call)
     } else {
         None
     }
@@ -178,30 +154,27 @@ pub(crate) fn place(
 
 /// What becomes of a call that ends the row at this place, and where its new row goes; or why it gets no number.
 pub(crate) fn plan(
-    slots: &[Option<Version>],
-    stamp: u64,
-    next_id: u64,
-    callers: &[Caller],
+    contents: &Contents,
     places: &Places,
     old: Option<u32>,
     client: u8,
     call: Call,
 ) -> Result<Op, CoreFault>
-    requires few { length slots.now ≤ 65536 }
-    requires early { stamp < 2 ^ 63 }
-    requires kept { IsKept (record { slots = slots.now; stamp = stamp; next_id = next_id; callers = callers.now }) places.now }
-    requires old { IsOldPlace stamp (ended call) slots.now old }
-    ensures { Plans (record { slots = slots.now; stamp = stamp; next_id = next_id; callers = callers.now }) client call result }
+    requires few { length contents.now.slots ≤ 65536 }
+    requires early { contents.now.stamp < 2 ^ 63 }
+    requires kept { IsKept contents.now places.now }
+    requires old { IsOldPlace contents.now.stamp (ended call) contents.now.slots old }
+    ensures { Plans contents.now client call result }
 {
-    let caller = caller_of(callers, client);
+    let caller = caller_of(&contents.callers, client);
     if let Some(fault) = refusal(caller, &call) {
         return Err(fault);
     }
     let Some(caller) = caller else {
         return Err(CoreFault::NoSuchClient);
     };
-    let outcome = outcome(slots, stamp, next_id, callers, places, old, &call);
-    let slot = place(slots, stamp, next_id, callers, places, old, &call, outcome);
+    let outcome = outcome(contents, places, old, &call);
+    let slot = place(contents, places, old, &call, outcome);
     Ok(Op {
         client,
         number: caller.calls + 1,

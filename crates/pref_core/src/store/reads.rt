@@ -8,6 +8,7 @@ ghost use Rattle.pref_core.specs.Kept.{row_in, IsOldPlace};
 ghost use Rattle.pref_core.specs.Slots.{visible, block_of};
 ghost use Rattle.pref_core.specs.Table.{entries};
 
+use crate::store::contents::Contents;
 use crate::store::hints::{Hint, Hints, home_of};
 use crate::store::version::Version;
 use pref_sky::Entry;
@@ -34,13 +35,15 @@ pub(crate) fn stands_at(slots: &[Option<Version>], place: u32, stamp: u64, id: u
     }
 }
 
-/// The place of the row of this id in the table at this stamp. Looks at the id's home and where the home's hint says, and at
+/// The place of the row of this id in the table. Looks at the id's home and where the home's hint says, and at
 /// all slots only where two rows of this home have been away from it at once.
-pub(crate) fn place_of(slots: &[Option<Version>], hints: &Hints, stamp: u64, id: u64) -> Option<u32>
-    requires few { length slots.now ≤ 65536 }
-    requires hints { AreHints stamp slots.now hints.now }
-    ensures { IsPlaceOf stamp id slots.now result }
+pub(crate) fn place_of(contents: &Contents, hints: &Hints, id: u64) -> Option<u32>
+    requires few { length contents.now.slots ≤ 65536 }
+    requires hints { AreHints contents.now.stamp contents.now.slots hints.now }
+    ensures { IsPlaceOf contents.now.stamp id contents.now.slots result }
 {
+    let slots = contents.slots.as_slice();
+    let stamp = contents.stamp;
     if slots.is_empty() {
         return None;
     }
@@ -71,27 +74,22 @@ fn search(slots: &[Option<Version>], stamp: u64, id: u64) -> Option<u32>
 }
 
 /// The place of the row that a call ends, where it ends one.
-pub(crate) fn old_place(
-    slots: &[Option<Version>],
-    hints: &Hints,
-    stamp: u64,
-    ended: Option<u64>,
-) -> Option<u32>
-    requires few { length slots.now ≤ 65536 }
-    requires hints { AreHints stamp slots.now hints.now }
-    ensures { IsOldPlace stamp (option_to_list ended) slots.now result }
+pub(crate) fn old_place(contents: &Contents, hints: &Hints, ended: Option<u64>) -> Option<u32>
+    requires few { length contents.now.slots ≤ 65536 }
+    requires hints { AreHints contents.now.stamp contents.now.slots hints.now }
+    ensures { IsOldPlace contents.now.stamp (option_to_list ended) contents.now.slots result }
 {
     match ended {
-        Some(id) => place_of(slots, hints, stamp, id),
+        Some(id) => place_of(contents, hints, id),
         None => None,
     }
 }
 
 /// The row at this place, where one stands there.
-pub(crate) fn row_in(slots: &[Option<Version>], place: usize) -> Option<Row>
-    ensures { result ≡ row_in slots.now (Some place) }
+pub(crate) fn row_in(contents: &Contents, place: Option<u32>) -> Option<Row>
+    ensures { result ≡ row_in contents.now.slots place }
 {
-    match slots.get(place) {
+    match contents.slots.get(place? as usize) {
         Some(Some(version)) => Some(version.row),
         _ => None,
     }

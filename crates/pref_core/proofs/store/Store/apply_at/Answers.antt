@@ -1,39 +1,25 @@
-use Rattle.std.proofs.Common.{◌≡◌, length, arith, ◌∙◌, ap, sym, subst}
-use Rattle.std.proofs.lemmas.List.{with_items_is}
+use Rattle.std.proofs.Common.{ap, sym, subst, ◌∙◌}
 use Rattle.std.specs.List.{AllByRecursion}
-use Rattle.std.specs.Option.{option_to_list}
 use Rattle.pref_core.specs.Slots.{Contents, IsWithin, Shows}
 use Rattle.pref_core.specs.Kept.{IsOldPlace}
-use Rattle.pref_core.proofs.Lookups.{stays_indexed}
-use Rattle.pref_core.specs.Indexes.{IsPlaceOf, IsIndexOf, slot_of}
+use Rattle.pref_core.specs.Indexes.{IsPlaceOf, IsIndexOf}
 use Rattle.pref_core.specs.Operations.{AppliesIn, applied}
 use Rattle.pref_core.proofs.Legal.{applies_in}
+use Rattle.pref_core.proofs.Lookups.{stays_indexed}
 use Rattle.pref_core.proofs.Reindexing.{ready_ended, indexed}
 use Rattle.pref_core.proofs.store.Store.apply_at.Goals as goal
-
-pub indexed_old_place-old-requires-clause-index : goal.indexed_old_place-old-requires-clause-index
-indexed_old_place-old-requires-clause-index c id ends =
-    let there = ready_ended c.args.self.now c.args.op.now c.args.index.now c.requires.plan.next c.requires.ready id (sym c.ended.ensures ∙ ap option_to_list ends) in
-    subst (λ slots. IsPlaceOf c.self.inside.stamp id slots (slot_of c.args.index.now id)) (sym c.deref.ensures.value)
-    (subst (λ (s : Contents). IsPlaceOf s.stamp id s.slots (slot_of c.args.index.now id)) (sym c.self.view_is) there)
 
 pub follow-requires-clause-kept : goal.follow-requires-clause-kept
 follow-requires-clause-kept c id ends same =
     let there = ready_ended c.args.self.now c.args.op.now c.args.index.now c.requires.plan.next c.requires.ready id ends in
     let old = c.indexed_old_place-old.result in
-    let found = subst (λ ids. IsOldPlace c.self.inside.stamp ids c.deref.result.now old) (c.ended.ensures ∙ ends) c.indexed_old_place-old.ensures in
-    let at = subst (λ (s : Contents). IsPlaceOf s.stamp id s.slots old) c.self.view_is (subst (λ slots. IsPlaceOf c.self.inside.stamp id slots old) c.deref.ensures.value found) in
+    let found = subst (λ ids. IsOldPlace c.self.inside.contents.stamp ids c.self.inside.contents.slots old) (c.ended.ensures ∙ ends) c.indexed_old_place-old.ensures in
+    let at = subst (λ (s : Contents). IsPlaceOf s.stamp id s.slots old) c.self.view_is found in
     let shows = subst (λ (s : Contents). Shows s.slots s.stamp c.self.invariant.0.state.table) c.self.view_is c.self.invariant.0.stands.table in
-    stays_indexed c.args.self.now.slots c.args.self.now.stamp c.self.invariant.0.state.table id c.args.op.now.slot old (slot_of c.args.index.now id) shows at there same
+    stays_indexed c.args.self.now.slots c.args.self.now.stamp c.self.invariant.0.state.table id c.args.op.now.slot old _ shows at there same
 
 pub returns-clause-exact : goal.returns-clause-exact
-returns-clause-exact c =
-    let slots : length c.apply.new.slots ≡ c.self.inside.slots.len = omega arith in
-    let callers : length c.apply.new.callers ≡ c.self.inside.callers.len = omega arith in
-    (λ i. record { slots = with_items_is c.self.inside.slots c.apply.new.slots slots i; stamp = c.apply.new.stamp; next_id = c.apply.new.next_id; callers = with_items_is c.self.inside.callers c.apply.new.callers callers i })
-    ∙ c.apply.ensures.done
-    ∙ (λ i. applied (record { slots = c.deref_mut.ensures.value i; stamp = c.self.inside.stamp; next_id = c.self.inside.next_id; callers = c.deref_mut-2.ensures.value i }) c.args.op.now)
-    ∙ ap (λ s. applied s c.args.op.now) c.self.view_is
+returns-clause-exact c = c.apply.ensures.done ∙ ap (λ s. applied s c.args.op.now) c.self.view_is
 
 pub returns-clause-index : goal.returns-clause-index
 returns-clause-index c =

@@ -1,23 +1,13 @@
-use Rattle.std.proofs.Common.{Some, None, ◌∙◌, ap, subst}
+use Rattle.std.proofs.Common.{◌∙◌, ap, subst}
 use Rattle.pref_core.specs.Slots.{Contents}
 use Rattle.pref_core.specs.Indexes.{IsPlaceOf}
 use Rattle.pref_core.specs.Kept.{row_in}
 use Rattle.pref_core.proofs.Lookups.{row_of_place}
 use Rattle.pref_core.proofs.store.Store.get.Goals as goal
 
-pub returns-in-Some : goal.returns-in-Some
-returns-in-Some c state h =
-    let there = subst (λ (s : Contents). IsPlaceOf s.stamp c.args.id s.slots (Some c.in-Some.place)) c.self.view_is
-    (subst (λ slots. IsPlaceOf c.self.inside.stamp c.args.id slots (Some c.in-Some.place)) c.deref.ensures.value
-    (subst (IsPlaceOf c.self.inside.stamp c.args.id c.deref.result.now) c.in-Some.is c.place_of.ensures)) in
-    c.row_in.ensures
-    ∙ ap (λ slots. row_in slots (Some c.in-Some.place)) c.deref-in-Some.ensures.value
-    ∙ ap (λ (s : Contents). row_in s.slots (Some c.in-Some.place)) c.self.view_is
-    ∙ row_of_place c.args.self.now.slots c.args.self.now.stamp state.table c.args.id (Some c.in-Some.place) h.table there
-
-pub returns-in-None : goal.returns-in-None
-returns-in-None c state h =
-    let nowhere = subst (λ (s : Contents). IsPlaceOf s.stamp c.args.id s.slots None) c.self.view_is
-    (subst (λ slots. IsPlaceOf c.self.inside.stamp c.args.id slots None) c.deref.ensures.value
-    (subst (IsPlaceOf c.self.inside.stamp c.args.id c.deref.result.now) c.in-None.is c.place_of.ensures)) in
-    row_of_place c.args.self.now.slots c.args.self.now.stamp state.table c.args.id None h.table nowhere
+pub returns : goal.returns
+returns c state h =
+    let now = c.args.self.now in
+    let place = c.place_of-place.result in
+    c.row_in.ensures ∙ ap (λ (s : Contents). row_in s.slots place) c.self.view_is
+    ∙ row_of_place now.slots now.stamp state.table c.args.id place h.table (subst (λ (s : Contents). IsPlaceOf s.stamp c.args.id s.slots place) c.self.view_is c.place_of-place.ensures)

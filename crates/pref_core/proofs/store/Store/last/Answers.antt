@@ -1,6 +1,7 @@
 use Rattle.std.proofs.Common.{◌≡◌, ℕ, Option, Some, None, refl, ap, ◌∙◌}
 use Rattle.std.specs.Option.{option_map, unwrap_or}
 use Rattle.pref_core.specs.declared.store.caller.Caller.{Caller}
+use Rattle.pref_core.specs.declared.store.Store.TheInside.{Inside}
 use Rattle.pref_core.specs.State.{seat}
 use Rattle.pref_core.specs.Slots.{Contents}
 use Rattle.pref_core.proofs.Outcomes.{same_calls}
@@ -14,5 +15,5 @@ pub returns-clause-state : goal.returns-clause-state
 returns-clause-state c state h =
     c.calls_of.ensures
     ∙ (λ i. unwrap_or (option_map (λ (k : Caller). k.calls) (seat c.args.client (c.deref.ensures.value i))) 0)
-    ∙ ap (λ (s : Contents). unwrap_or (option_map (λ (k : Caller). k.calls) (seat c.args.client s.callers)) 0) c.self.view_is
+    ∙ ap (λ (s : Contents). unwrap_or (option_map (λ (k : Caller). k.calls) (seat c.args.client s.callers)) 0) (ap (λ (s : Inside). s.contents) c.self-inside.view_is ∙ c.self.view_is)
     ∙ ap (λ o. unwrap_or o 0) (calls_of_one (seat c.args.client c.args.self.now.callers) ∙ same_calls c.args.self.now state c.args.client h)

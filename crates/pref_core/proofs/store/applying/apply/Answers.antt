@@ -10,4 +10,4 @@ pub fits-requires : goal.fits-requires
 fits-requires c = record { early = let small = stamp-small _ c.requires.kept.bounded in omega arith }
 
 pub returns-then-fits-clause-kept : goal.returns-then-fits-clause-kept
-returns-then-fits-clause-kept c = kept_stepped _ c.args.op.now c.step.new.slots c.args.places.now _ c.step.new.places c.requires.kept (sym c.if-is_next.ensures) c.step.ensures.slots c.step.ensures.rest c.step.ensures.zones
+returns-then-fits-clause-kept c = kept_stepped c.args.contents.now c.args.op.now c.step.new.contents.slots c.args.places.now c.step.new.contents c.step.new.places c.requires.kept (sym c.if-is_next.ensures) c.step.ensures.slots c.step.ensures.rest c.step.ensures.zones
