@@ -22,8 +22,6 @@ use pref_sky::Entry;
 
 /// Whether the call, its number and its outcome are legal next.
 fn is_next(contents: &Contents, places: &Places, old: Option<u32>, op: &Op) -> bool
-    requires few { length contents.now.slots ≤ 65536 }
-    requires early { contents.now.stamp < 2 ^ 63 }
     requires kept { IsKept contents.now places.now }
     requires old { IsOldPlace contents.now.stamp (ended op.now.call) contents.now.slots old }
     ensures { result ≡ is_next contents.now op.now }

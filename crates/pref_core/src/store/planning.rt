@@ -63,8 +63,6 @@ pub(crate) fn outcome(
     old: Option<u32>,
     call: &Call,
 ) -> Outcome
-    requires few { length contents.now.slots ≤ 65536 }
-    requires early { contents.now.stamp < 2 ^ 63 }
     requires kept { IsKept contents.now places.now }
     requires old { IsOldPlace contents.now.stamp (ended call.now) contents.now.slots old }
     ensures { result ≡ outcome_at contents.now call.now }
@@ -96,8 +94,6 @@ fn granted(next_id: u64, call: &Call) -> Outcome
 /// A slot that can be used again after a commit that ends the row of this id: the home of the new row where it is free,
 /// so that a row that had to move comes home, else the ended row's own where nobody needs it then, else any.
 fn free_place(contents: &Contents, places: &Places, old: Option<u32>, call: &Call) -> Option<u32>
-    requires few { length contents.now.slots ≤ 65536 }
-    requires early { contents.now.stamp < 2 ^ 63 }
     requires kept { IsKept contents.now places.now }
     requires closes { Closes (ended call.now) (contents.now.stamp + 1) contents.now.slots places.now old }
     ensures found { IfSome result (λ place. is_free ((contents.now.stamp + 1) ∷ begins contents.now.callers) (map (close (ended call.now) (contents.now.stamp + 1)) contents.now.slots) place ≡ true) }
@@ -138,8 +134,6 @@ pub(crate) fn place(
     call: &Call,
     outcome: Outcome,
 ) -> Option<u32>
-    requires few { length contents.now.slots ≤ 65536 }
-    requires early { contents.now.stamp < 2 ^ 63 }
     requires kept { IsKept contents.now places.now }
     requires old { IsOldPlace contents.now.stamp (ended call.now) contents.now.slots old }
     requires told { outcome ≡ outcome_at contents.now call.now }
@@ -160,8 +154,6 @@ pub(crate) fn plan(
     client: u8,
     call: Call,
 ) -> Result<Op, CoreFault>
-    requires few { length contents.now.slots ≤ 65536 }
-    requires early { contents.now.stamp < 2 ^ 63 }
     requires kept { IsKept contents.now places.now }
     requires old { IsOldPlace contents.now.stamp (ended call) contents.now.slots old }
     ensures { Plans contents.now client call result }

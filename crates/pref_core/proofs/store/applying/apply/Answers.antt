@@ -3,9 +3,6 @@ use Rattle.pref_core.proofs.Bounds.{stamp-small}
 use Rattle.pref_core.proofs.Ends.{kept_stepped}
 use Rattle.pref_core.proofs.store.applying.apply.Goals as goal
 
-pub is_next-requires-clause-early : goal.is_next-requires-clause-early
-is_next-requires-clause-early c = let small = stamp-small _ c.requires.kept.bounded in omega arith
-
 pub fits-requires : goal.fits-requires
 fits-requires c = record { early = let small = stamp-small _ c.requires.kept.bounded in omega arith }
 

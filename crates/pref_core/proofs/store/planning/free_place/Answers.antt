@@ -2,8 +2,12 @@ use Rattle.std.proofs.Common.{◌+◌, Some, ap, sym, ◌∙◌, arith}
 use Rattle.pref_core.specs.Kept.{frees}
 use Rattle.pref_core.specs.Slots.{begins}
 use Rattle.pref_core.specs.State.{ended}
+use Rattle.pref_core.proofs.Bounds.{stamp-small}
 use Rattle.pref_core.proofs.Room.{finds_old, finds_any}
 use Rattle.pref_core.proofs.store.planning.free_place.Goals as goal
+
+pub frees-requires : goal.frees-requires
+frees-requires c = let small = stamp-small _ c.requires.kept.bounded in omega arith
 
 pub returns-then-frees : goal.returns-then-frees
 returns-then-frees c =

@@ -3,10 +3,14 @@ use Rattle.std.specs.Option.{option_to_list}
 use Rattle.pref_core.specs.Kept.{missed, IsOldPlace}
 use Rattle.pref_core.specs.Slots.{Contents, visible}
 use Rattle.pref_core.specs.State.{ended, missing, is_change, begins_row, granted}
+use Rattle.pref_core.proofs.Bounds.{stamp-small}
 use Rattle.pref_core.proofs.Zones.{missing_old}
 use Rattle.pref_core.proofs.Room.{outcome_full, outcome_fits, outcome_other, size_is}
 use Rattle.pref_core.proofs.store.planning.outcome.Goals as goal
 use Rattle.pref_core.proofs.store.planning.outcome.Goals.{then-begins_row+else-needed-len, else-begins_row}
+
+pub size_after-needed-requires-clause-early : goal.size_after-needed-requires-clause-early
+size_after-needed-requires-clause-early c = let small = stamp-small _ c.requires.kept.bounded in omega arith
 
 pub returns-then-needed-len : goal.returns-then-needed-len
 returns-then-needed-len c =
