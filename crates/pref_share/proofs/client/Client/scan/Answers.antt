@@ -1,109 +1,92 @@
-use Rattle.std.proofs.Common.{◌≡◌, ◌++◌, List, map, Option, Some, refl, sym, subst, ap, ◌∙◌}
+use Rattle.std.proofs.Common.{◌≡◌, ℕ, ◌++◌, List, map, Option, Result, Some, refl, sym, subst, ap, ◌∙◌}
 use Rattle.std.specs.Option.{unwrap_or}
 use Rattle.std.specs.Global.{Vec}
 use mathlib.Core.List.{IsPrefix}
 use Rattle.pref_sky.specs.declared.entry.Entry.{Entry}
 use Rattle.pref_sky.specs.Levels.{HaveDifferentIds, entry_of}
+use Rattle.pref_core.specs.declared.call.Op.{Op}
+use Rattle.pref_core.specs.declared.fault.CoreFault.{CoreFault}
 use Rattle.pref_core.specs.Scans.{Scan, next_block}
-use Rattle.pref_share.specs.Openings.{IsLegal, calls_at, contents_at}
+use Rattle.pref_share.specs.Openings.{Opening, IsLegal, calls_at, contents_at}
 use Rattle.pref_share.specs.Standing.{Asking, Standing}
 use Rattle.pref_share.specs.Scanning.{HasMore}
 use Rattle.pref_share.specs.Following.{IsAhead, ReadsBlock, Stands}
 use Rattle.pref_share.proofs.Standings.{ahead, even, next_new, stands_seen, stands_scanned, block_is, sees, scanned}
+use Rattle.pref_share.proofs.client.Client.scan.Given.{Over}
+use Rattle.pref_share.proofs.client.Client.scan.Goals.{After-deref}
 use Rattle.pref_share.proofs.client.Client.scan.Goals as goal
+
+-- what was found at a history, for the client that stands so
+abbrev Found : Opening → List Op → ℕ → Result (Vec Entry) CoreFault → Standing → Type 0
+Found o now calls shown s = IsPrefix s.seen now × IsLegal o now × (calls ≡ unwrap_or (calls_at o now s.number) 0) × ReadsBlock s.query (contents_at o now).slots shown
+
+-- what is known of the block that was read for the open query
+record IsReadFor (o : Opening) (s : Standing) (asking : Asking) (now : List Op) (block : List Entry) : Type 0 where
+  query : s.query ≡ Some asking
+  stands : Stands o s.number s.counter s.seen (Some asking)
+  further : IsPrefix s.seen now
+  legal : IsLegal o now
+  alone : calls_at o now s.number ≡ Some s.counter
+  is : block ≡ next_block asking.scan (contents_at o now).slots
+
+is_read : (g : Over) (c : After-deref g) → IsReadFor g.J.Naming.opening (record { number = c.self.inside.number; counter = c.self.inside.counter; seen = c.self.inside.seen; query = c.self.inside.asking }) (record { scan = c.asking.inside.query; begun = c.asking.inside.begun }) c.in-Some.now c.deref.result.now
+is_read g c =
+    let o = g.J.Naming.opening in
+    let s = c.self.inside in
+    let now = c.in-Some.now in
+    let asking : Asking = record { scan = c.asking.inside.query; begun = c.asking.inside.begun } in
+    let found = subst (Found o now c.in-Some.block.calls c.in-Some.block.shown) (sym (c.self.view_is ∙ c.found_block.ensures.kept)) c.in-Some.ensures.found in
+    let query : s.asking ≡ Some asking = c.in-Some-asking.is ∙ ap Some (sym c.asking.view_is) in
+    record {
+      query = query;
+      stands = subst (λ (q : Option Asking). Stands o s.number s.counter s.seen q) query c.self.invariant.2;
+      further = found.0;
+      legal = found.1;
+      alone = even o s.number s.counter c.in-Some.block.calls s.seen now s.asking c.self.invariant.2 found.0 found.1 found.2 c.if-block-self.false;
+      is = c.deref.ensures.value ∙ ap (λ (v : Vec Entry). v.items) c.in-Ok.shown-is ∙ block_is (contents_at o now).slots s.asking asking c.in-Some.block.shown c.in-Ok.shown query c.in-Ok.is found.3;
+    }
 
 pub in_use-requires : goal.in_use-requires
 in_use-requires g c =
     let o = g.J.Naming.opening in
     let s = c.self.inside in
     let now = c.in-Some.now in
-    let found = subst (λ (x : Standing). IsPrefix x.seen now × IsLegal o now × (c.in-Some.block.calls ≡ unwrap_or (calls_at o now x.number) 0) × ReadsBlock x.query (contents_at o now).slots c.in-Some.block.shown)
-    (sym (c.self.view_is ∙ c.found_block.ensures.kept)) c.in-Some.ensures.found in
+    let found = subst (Found o now c.in-Some.block.calls c.in-Some.block.shown) (sym (c.self.view_is ∙ c.found_block.ensures.kept)) c.in-Some.ensures.found in
     subst (λ (x : Standing). IsAhead o x now) c.self.view_is
     (record { further = found.0; legal = found.1; holds = ahead o s.number s.counter c.in-Some.block.calls s.seen now s.asking c.self.invariant.2 found.0 found.1 found.2 c.if-block-self.true })
 
 pub add-requires-clause-new : goal.add-requires-clause-new
 add-requires-clause-new g c =
-    let o = g.J.Naming.opening in
-    let s = c.self.inside in
-    let now = c.in-Some.now in
-    let slots = (contents_at o now).slots in
-    let same = c.self.view_is ∙ c.found_block.ensures.kept in
-    let found = subst (λ (x : Standing). IsPrefix x.seen now × IsLegal o now × (c.in-Some.block.calls ≡ unwrap_or (calls_at o now x.number) 0) × ReadsBlock x.query slots c.in-Some.block.shown)
-    (sym same) c.in-Some.ensures.found in
-    let asking : Asking = record { scan = c.asking.inside.query; begun = c.asking.inside.begun } in
-    let query : s.asking ≡ Some asking = c.in-Some-asking.is ∙ ap Some (sym c.asking.view_is) in
-    let stands : Stands o s.number s.counter s.seen (Some asking) = subst (λ (q : Option Asking). Stands o s.number s.counter s.seen q) query c.self.invariant.2 in
-    let alone = even o s.number s.counter c.in-Some.block.calls s.seen now s.asking c.self.invariant.2 found.0 found.1 found.2 c.if-block-self.false in
-    let block : c.deref.result.now ≡ next_block asking.scan slots = c.deref.ensures.value ∙ ap (λ (v : Vec Entry). v.items) c.in-Ok.shown-is ∙ block_is slots s.asking asking c.in-Some.block.shown c.in-Ok.shown query c.in-Ok.is found.3 in
-    subst (λ (l : List Entry). HaveDifferentIds (map entry_of asking.scan.partial ++ l)) (sym block) (next_new o s.number s.counter s.seen now asking stands found.0 found.1 alone)
+    let r = is_read g c in
+    subst (λ (l : List Entry). HaveDifferentIds (map entry_of c.asking.inside.query.partial ++ l)) (sym r.is) (next_new g.J.Naming.opening _ _ _ _ _ r.stands r.further r.legal r.alone)
 
 pub invariant_of-self-in-Ok-add : goal.invariant_of-self-in-Ok-add
 invariant_of-self-in-Ok-add g c =
-    let o = g.J.Naming.opening in
-    let s = c.self.inside in
-    let now = c.in-Some.now in
-    let slots = (contents_at o now).slots in
-    let same = c.self.view_is ∙ c.found_block.ensures.kept in
-    let found = subst (λ (x : Standing). IsPrefix x.seen now × IsLegal o now × (c.in-Some.block.calls ≡ unwrap_or (calls_at o now x.number) 0) × ReadsBlock x.query slots c.in-Some.block.shown)
-    (sym same) c.in-Some.ensures.found in
-    let asking : Asking = record { scan = c.asking.inside.query; begun = c.asking.inside.begun } in
-    let query : s.asking ≡ Some asking = c.in-Some-asking.is ∙ ap Some (sym c.asking.view_is) in
-    let stands : Stands o s.number s.counter s.seen (Some asking) = subst (λ (q : Option Asking). Stands o s.number s.counter s.seen q) query c.self.invariant.2 in
-    let alone = even o s.number s.counter c.in-Some.block.calls s.seen now s.asking c.self.invariant.2 found.0 found.1 found.2 c.if-block-self.false in
-    let block : c.deref.result.now ≡ next_block asking.scan slots = c.deref.ensures.value ∙ ap (λ (v : Vec Entry). v.items) c.in-Ok.shown-is ∙ block_is slots s.asking asking c.in-Some.block.shown c.in-Ok.shown query c.in-Ok.is found.3 in
-    (c.self.invariant.0, c.self.invariant.1, stands_scanned o s.number s.counter s.seen now asking c.add.new.self stands found.0 found.1 alone (c.in-Ok-add.ensures slots (sym block)).1)
+    let r = is_read g (goal.at.invariant_of-self-in-Ok-add g c).After-deref in
+    (c.self.invariant.0, c.self.invariant.1, stands_scanned g.J.Naming.opening _ _ _ _ _ c.add.new.self r.stands r.further r.legal r.alone (c.in-Ok-add.ensures _ (sym r.is)).1)
 
 pub returns-in-Ok-add-clause-scanned : goal.returns-in-Ok-add-clause-scanned
 returns-in-Ok-add-clause-scanned g c =
-    let o = g.J.Naming.opening in
-    let s = c.self.inside in
-    let now = c.in-Some.now in
-    let slots = (contents_at o now).slots in
-    let same = c.self.view_is ∙ c.found_block.ensures.kept in
-    let found = subst (λ (x : Standing). IsPrefix x.seen now × IsLegal o now × (c.in-Some.block.calls ≡ unwrap_or (calls_at o now x.number) 0) × ReadsBlock x.query slots c.in-Some.block.shown)
-    (sym same) c.in-Some.ensures.found in
-    let asking : Asking = record { scan = c.asking.inside.query; begun = c.asking.inside.begun } in
-    let query : s.asking ≡ Some asking = c.in-Some-asking.is ∙ ap Some (sym c.asking.view_is) in
-    let stands : Stands o s.number s.counter s.seen (Some asking) = subst (λ (q : Option Asking). Stands o s.number s.counter s.seen q) query c.self.invariant.2 in
-    let alone = even o s.number s.counter c.in-Some.block.calls s.seen now s.asking c.self.invariant.2 found.0 found.1 found.2 c.if-block-self.false in
-    let block : c.deref.result.now ≡ next_block asking.scan slots = c.deref.ensures.value ∙ ap (λ (v : Vec Entry). v.items) c.in-Ok.shown-is ∙ block_is slots s.asking asking c.in-Some.block.shown c.in-Ok.shown query c.in-Ok.is found.3 in
-    let told = c.in-Ok-add.ensures slots (sym block) in
-    rw (← same)
-    (scanned o (record { number = s.number; counter = s.counter; seen = s.seen; query = s.asking }) _ asking c.add.new.self c.in-Ok-add.left query refl told.0 told.1 found.0 found.1 alone refl refl)
+    let r = is_read g (goal.at.returns-in-Ok-add-clause-scanned g c).After-deref in
+    let told = c.in-Ok-add.ensures _ (sym r.is) in
+    rw (← (c.self.view_is ∙ c.found_block.ensures.kept))
+    (scanned g.J.Naming.opening _ _ _ c.add.new.self c.in-Ok-add.left r.query refl told.0 told.1 r.further r.legal r.alone refl refl)
 
 pub invariant_of-self-2 : goal.invariant_of-self-2
 invariant_of-self-2 g c =
     let o = g.J.Naming.opening in
     let s = c.self.inside in
-    let now = c.in-Some.now in
-    let slots = (contents_at o now).slots in
-    let same = c.self.view_is ∙ c.found_block.ensures.kept in
-    let found = subst (λ (x : Standing). IsPrefix x.seen now × IsLegal o now × (c.in-Some.block.calls ≡ unwrap_or (calls_at o now x.number) 0) × ReadsBlock x.query slots c.in-Some.block.shown)
-    (sym same) c.in-Some.ensures.found in
-    let asking : Asking = record { scan = c.asking.inside.query; begun = c.asking.inside.begun } in
-    let query : s.asking ≡ Some asking = c.in-Some-asking.is ∙ ap Some (sym c.asking.view_is) in
-    let stands : Stands o s.number s.counter s.seen (Some asking) = subst (λ (q : Option Asking). Stands o s.number s.counter s.seen q) query c.self.invariant.2 in
-    let block : c.deref.result.now ≡ next_block asking.scan slots = c.deref.ensures.value ∙ ap (λ (v : Vec Entry). v.items) c.in-Ok.shown-is ∙ block_is slots s.asking asking c.in-Some.block.shown c.in-Ok.shown query c.in-Ok.is found.3 in
-    let kept : c.add.new.self ≡ asking.scan = (c.in-Err.ensures slots (sym block)).0 in (
+    let r = is_read g (goal.at.invariant_of-self-2 g c).After-deref in
+    let kept : c.add.new.self ≡ c.asking.inside.query = (c.in-Err.ensures _ (sym r.is)).0 in (
       c.self.invariant.0,
       c.self.invariant.1,
-      subst (λ (x : Scan). Stands o s.number s.counter now (Some (record { scan = x; begun = asking.begun }))) (sym kept) (stands_seen o s.number s.counter s.seen now (Some asking) stands found.0 found.1),
+      subst (λ (x : Scan). Stands o s.number s.counter c.in-Some.now (Some (record { scan = x; begun = c.asking.inside.begun }))) (sym kept) (stands_seen o _ _ _ _ _ r.stands r.further r.legal),
     )
 
 pub returns-clause-refused : goal.returns-clause-refused
 returns-clause-refused g c =
-    let o = g.J.Naming.opening in
-    let s = c.self.inside in
-    let now = c.in-Some.now in
-    let slots = (contents_at o now).slots in
+    let r = is_read g (goal.at.returns-clause-refused g c).After-deref in
     let same = c.self.view_is ∙ c.found_block.ensures.kept in
-    let found = subst (λ (x : Standing). IsPrefix x.seen now × IsLegal o now × (c.in-Some.block.calls ≡ unwrap_or (calls_at o now x.number) 0) × ReadsBlock x.query slots c.in-Some.block.shown)
-    (sym same) c.in-Some.ensures.found in
-    let asking : Asking = record { scan = c.asking.inside.query; begun = c.asking.inside.begun } in
-    let query : s.asking ≡ Some asking = c.in-Some-asking.is ∙ ap Some (sym c.asking.view_is) in
-    let stands : Stands o s.number s.counter s.seen (Some asking) = subst (λ (q : Option Asking). Stands o s.number s.counter s.seen q) query c.self.invariant.2 in
-    let block : c.deref.result.now ≡ next_block asking.scan slots = c.deref.ensures.value ∙ ap (λ (v : Vec Entry). v.items) c.in-Ok.shown-is ∙ block_is slots s.asking asking c.in-Some.block.shown c.in-Ok.shown query c.in-Ok.is found.3 in
-    let kept : c.add.new.self ≡ asking.scan = (c.in-Err.ensures slots (sym block)).0 in
+    let kept : c.add.new.self ≡ c.asking.inside.query = (c.in-Err.ensures _ (sym r.is)).0 in
     rw (← same)
-    (subst HasMore (sym same) c.in_ok-may_scan.ensures, sees o (record { number = s.number; counter = s.counter; seen = s.seen; query = s.asking }) _ found.0 found.1 refl refl ((λ i. Some (record { scan = kept i; begun = asking.begun })) ∙ sym query))
+    (subst HasMore (sym same) c.in_ok-may_scan.ensures, sees g.J.Naming.opening _ _ r.further r.legal refl refl ((λ i. Some (record { scan = kept i; begun = c.asking.inside.begun })) ∙ sym r.query))
