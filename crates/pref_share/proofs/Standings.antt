@@ -341,25 +341,16 @@ joined o old call history seen op stamp p legal is plan ends commits =
       commits = commits;
     }
 
--- what a change tells by its outcome, where it succeeds, ..
-pub changes_told : (o : Opening) (old new : Standing) (call : Call) (told : Outcome) (result : Result Outcome ShareFault) → result ≡ done_or_refused told → Joins o old call told new → new.query ≡ old.query → IfOk result (λ done. Changes o old call done new)
-changes_told o old new call told result e j q = subst (λ (r : Result Outcome ShareFault). IfOk r (λ done. Changes o old call done new)) (sym e) (go told j)
+-- what a change tells by its outcome
+pub change_told : (o : Opening) (old new : Standing) (call : Call) (told : Outcome) (result : Result Outcome ShareFault) → result ≡ done_or_refused told → Joins o old call told new → new.query ≡ old.query
+    → IfOk result (λ done. Changes o old call done new) × IfErr result (λ fault. RefusesChange o old call fault new)
+change_told o old new call told result e j q = subst (λ (r : Result Outcome ShareFault). IfOk r (λ done. Changes o old call done new) × IfErr r (λ fault. RefusesChange o old call fault new)) (sym e) (go told j)
   where
-    go : (t : Outcome) → Joins o old call t new → IfOk (done_or_refused t) (λ done. Changes o old call done new)
-    go (Added id) j = (j, q)
-    go Done j = (j, q)
-    go (NoSuchRow id) j = tt
-    go (Full needed) j = tt
-
--- .. and where it does not
-pub refuses_told : (o : Opening) (old new : Standing) (call : Call) (told : Outcome) (result : Result Outcome ShareFault) → result ≡ done_or_refused told → Joins o old call told new → new.query ≡ old.query → IfErr result (λ fault. RefusesChange o old call fault new)
-refuses_told o old new call told result e j q = subst (λ (r : Result Outcome ShareFault). IfErr r (λ fault. RefusesChange o old call fault new)) (sym e) (go told j)
-  where
-    go : (t : Outcome) → Joins o old call t new → IfErr (done_or_refused t) (λ fault. RefusesChange o old call fault new)
-    go (Added id) j = tt
-    go Done j = tt
-    go (NoSuchRow id) j = (j, q)
-    go (Full needed) j = (j, q)
+    go : (t : Outcome) → Joins o old call t new → IfOk (done_or_refused t) (λ done. Changes o old call done new) × IfErr (done_or_refused t) (λ fault. RefusesChange o old call fault new)
+    go (Added id) j = ((j, q), tt)
+    go Done j = ((j, q), tt)
+    go (NoSuchRow id) j = (tt, (j, q))
+    go (Full needed) j = (tt, (j, q))
 
 -- what the next block of the open query showed
 pub block_is : (slots : List (Option Version)) (query : Option Asking) (asking : Asking) (shown : Result (Vec Entry) CoreFault) (block : Vec Entry) → query ≡ Some asking → shown ≡ Ok block → ReadsBlock query slots shown → block.items ≡ next_block asking.scan slots

@@ -1,9 +1,9 @@
-use Rattle.std.proofs.Common.{◌≡◌, suc, ◌+◌, None, refl, sym, subst, ◌∙◌, arith}
+use Rattle.std.proofs.Common.{◌≡◌, suc, ◌+◌, None, refl, sym, subst, ◌∙◌, arith, rules}
 use Rattle.std.proofs.lemmas.Result.{IfOk-at_ok}
 use Rattle.pref_share.specs.Standing.{Standing}
 use Rattle.pref_share.specs.Clients.{own_refusal}
 use Rattle.pref_share.specs.Following.{IsJoined}
-use Rattle.pref_share.proofs.Standings.{stands_changed, joins, changes_told, refuses_told}
+use Rattle.pref_share.proofs.Standings.{stands_changed, joins, change_told}
 use Rattle.pref_share.proofs.client.Client.change.Goals as goal
 
 pub invariant_of-self : goal.invariant_of-self
@@ -16,8 +16,8 @@ invariant_of-self g c =
     let up : s.counter + 1 ≡ suc s.counter = omega arith in
     (c.self.invariant.0, c.self.invariant.1, stands_changed o mine c.args.call.now j.outcome j.seen j.stamp (s.counter + 1) c.self.invariant.2 joined c.requires.change up)
 
-pub returns-in-Ok-clause-changed : goal.returns-in-Ok-clause-changed
-returns-in-Ok-clause-changed g c =
+pub returns-in-Ok : goal.returns-in-Ok
+returns-in-Ok g c =
     let o = g.J.Naming.opening in
     let s = c.self.inside in
     let mine : Standing = record { number = s.number; counter = s.counter; seen = s.seen; query = s.asking } in
@@ -25,17 +25,5 @@ returns-in-Ok-clause-changed g c =
     let joined : IsJoined o mine c.args.call.now j.outcome j.seen j.stamp = subst (λ (x : Standing). IsJoined o x c.args.call.now j.outcome j.seen j.stamp) (sym c.self.view_is) (IfOk-at_ok _ c.in-Ok.is c.in_ok-joined.ensures.joined) in
     let accepted : own_refusal mine c.args.call.now ≡ None = subst (λ (x : Standing). own_refusal x c.args.call.now ≡ None) (sym c.self.view_is) (sym c.refusal.ensures ∙ c.in_default.is) in
     let up : s.counter + 1 ≡ suc s.counter = omega arith in
-    rw (← c.self.view_is)
-    (changes_told o mine _ c.args.call.now j.outcome c.done_or_refused.result c.done_or_refused.ensures (joins o mine _ c.args.call.now j.outcome j.seen j.stamp accepted joined refl up refl) refl)
-
-pub returns-in-Ok-clause-refused : goal.returns-in-Ok-clause-refused
-returns-in-Ok-clause-refused g c =
-    let o = g.J.Naming.opening in
-    let s = c.self.inside in
-    let mine : Standing = record { number = s.number; counter = s.counter; seen = s.seen; query = s.asking } in
-    let j = c.in-Ok.joined in
-    let joined : IsJoined o mine c.args.call.now j.outcome j.seen j.stamp = subst (λ (x : Standing). IsJoined o x c.args.call.now j.outcome j.seen j.stamp) (sym c.self.view_is) (IfOk-at_ok _ c.in-Ok.is c.in_ok-joined.ensures.joined) in
-    let accepted : own_refusal mine c.args.call.now ≡ None = subst (λ (x : Standing). own_refusal x c.args.call.now ≡ None) (sym c.self.view_is) (sym c.refusal.ensures ∙ c.in_default.is) in
-    let up : s.counter + 1 ≡ suc s.counter = omega arith in
-    rw (← c.self.view_is)
-    (refuses_told o mine _ c.args.call.now j.outcome c.done_or_refused.result c.done_or_refused.ensures (joins o mine _ c.args.call.now j.outcome j.seen j.stamp accepted joined refl up refl) refl)
+    let told = change_told o mine _ c.args.call.now j.outcome c.done_or_refused.result c.done_or_refused.ensures (joins o mine _ c.args.call.now j.outcome j.seen j.stamp accepted joined refl up refl) refl in
+    record { changed = rw (← c.self.view_is) told.0; granted = search rules; refused = rw (← c.self.view_is) told.1 }
