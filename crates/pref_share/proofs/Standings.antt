@@ -182,12 +182,9 @@ is_added o old call told seen stamp j =
     }
 
 change_ends_none : (call : Call) → is_change call ≡ true → is_end call ≡ false
-change_ends_none (Insert row) h = refl
-change_ends_none (Update id row) h = refl
-change_ends_none (Delete id) h = refl
-change_ends_none Begin h = refl
 change_ends_none Finish h = absurd (cc)
 change_ends_none Abandon h = absurd (cc)
+change_ends_none call h = refl
 
 and_false : (b : Bool) → b && false ≡ false
 and_false true = refl
@@ -228,12 +225,9 @@ stands_begun o old told seen stamp counter ask h j up =
     })
 
 none_after : (state : State) (call : Call) (found : Option Snapshot) → is_end call ≡ true → begun_after state call found ≡ None
-none_after state (Insert row) found h = absurd (cc)
-none_after state (Update id row) found h = absurd (cc)
-none_after state (Delete id) found h = absurd (cc)
-none_after state Begin found h = absurd (cc)
 none_after state Finish found h = refl
 none_after state Abandon found h = refl
+none_after state call found h = absurd (cc)
 
 -- .. and after its query ended
 pub stands_ended : (o : Opening) (old : Standing) (call : Call) (told : Outcome) (seen : List Op) (stamp counter : ℕ) → Stands o old.number old.counter old.seen old.query → IsJoined o old call told seen stamp → is_end call ≡ true → counter ≡ suc old.counter → Stands o old.number counter seen None

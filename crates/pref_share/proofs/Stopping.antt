@@ -47,9 +47,7 @@ without_a_gate o held s Closed h = absurd h
 -- a client that stopped is why the run stops
 run_stops : (o : Opening) (may_hold : ℕ → ℕ → Type 0) (lists : List (Vec Act)) (fault : ShareFault) → IsFirstStopped o may_hold lists fault → Stops o may_hold lists fault
 run_stops o may_hold lists (Core why) h = h.stopped.why
-run_stops o may_hold lists (ClientInUse number) h = h
-run_stops o may_hold lists (Held client) h = h
-run_stops o may_hold lists Closed h = h
+run_stops o may_hold lists fault h = h
 
 -- what the worker at a place did, where it reported so
 did_all : {A B : Type 0} (o : Opening) (client : A → Standing) (acts : A → Vec Act) (last : B → Standing) (replies : B → Vec Reply) (jobs : List A) (reports : List (Result B ShareFault)) (clients : ℕ) (lists : List (Vec Act))
