@@ -46,10 +46,11 @@ fn row(schema: &Schema, value: i64) -> Result<Row, Fail> {
     Ok(Row::of(schema, cells.as_slice())?)
 }
 
-fn rows(alloc: Global, schema: &Schema, values: &[i64]) -> Result<Vec<Row>, Fail> {
+fn rows(alloc: Global, values: &[i64]) -> Result<Vec<Row>, Fail> {
+    let schema = columns(alloc)?;
     let mut made = Vec::new(alloc);
     for value in values {
-        made.push(row(schema, *value)?)?;
+        made.push(row(&schema, *value)?)?;
     }
     Ok(made)
 }

@@ -36,8 +36,7 @@ fn played<J: Naming, R: Wait + Abort>(
 #[test]
 fn the_stored_run(rt: HostRuntime) -> Result<(), Fail> {
     let alloc = rt.alloc();
-    let schema = columns(alloc)?;
-    let opening = rows(alloc, &schema, &[])?;
+    let opening = rows(alloc, &[])?;
     let setup = setup(4, 1024, 1024)?;
     let run = [
         (0, Does::Inserts(30)),
@@ -61,8 +60,7 @@ fn the_stored_run(rt: HostRuntime) -> Result<(), Fail> {
 #[test]
 fn an_answer_is_of_the_begin(rt: HostRuntime) -> Result<(), Fail> {
     let alloc = rt.alloc();
-    let schema = columns(alloc)?;
-    let opening = rows(alloc, &schema, &[5, 7, 9])?;
+    let opening = rows(alloc, &[5, 7, 9])?;
     let setup = setup(4, 4, 2)?;
     let run = [
         (0, Does::Begins),
@@ -88,8 +86,7 @@ fn an_answer_is_of_the_begin(rt: HostRuntime) -> Result<(), Fail> {
 #[test]
 fn room_is_exact(rt: HostRuntime) -> Result<(), Fail> {
     let alloc = rt.alloc();
-    let schema = columns(alloc)?;
-    let opening = rows(alloc, &schema, &[1, 2])?;
+    let opening = rows(alloc, &[1, 2])?;
     let setup = setup(4, 2, 2)?;
     let first = [
         (0, Does::Begins),
@@ -123,8 +120,7 @@ fn room_is_exact(rt: HostRuntime) -> Result<(), Fail> {
 #[test]
 fn two_updates_under_an_open_query(rt: HostRuntime) -> Result<(), Fail> {
     let alloc = rt.alloc();
-    let schema = columns(alloc)?;
-    let opening = rows(alloc, &schema, &[5])?;
+    let opening = rows(alloc, &[5])?;
     let setup = setup(4, 3, 3)?;
     let run = [
         (0, Does::Begins),
@@ -194,8 +190,7 @@ fn replayed(alloc: Global, setup: Setup, rows: &[Row], run: &[(u8, Does)]) -> Re
 #[test]
 fn dropped_open(rt: HostRuntime) -> Result<(), Fail> {
     let alloc = rt.alloc();
-    let schema = columns(alloc)?;
-    let opening = rows(alloc, &schema, &[5])?;
+    let opening = rows(alloc, &[5])?;
     let setup = setup(2, 2, 2)?;
     let run = [
         (0, Does::Updates(1, 6)),
@@ -215,8 +210,7 @@ fn dropped_open(rt: HostRuntime) -> Result<(), Fail> {
 #[test]
 fn the_sequential_table_tells_the_same_of_an_open_query(rt: HostRuntime) -> Result<(), Fail> {
     let alloc = rt.alloc();
-    let schema = columns(alloc)?;
-    let opening = rows(alloc, &schema, &[5])?;
+    let opening = rows(alloc, &[5])?;
     let run = [
         (1, Does::Begins),
         (2, Does::Updates(1, 6)),

@@ -47,7 +47,7 @@ fn read_under_the_lock<J: Naming, R: Wait + Abort>(
 fn reads_while_the_lock_is_taken(rt: HostRuntime) -> Result<(), Fail> {
     let alloc = rt.alloc();
     let schema = columns(alloc)?;
-    let opening = rows(alloc, &schema, &[5, 4, 6])?;
+    let opening = rows(alloc, &[5, 4, 6])?;
     let setup = setup(2, 4, 2)?;
     let ask = read_ask(alloc, &schema, b"best low(x)")?;
     let told = read_under_the_lock::<Brand, _>(&rt, alloc, Name::new(), setup, &opening, ask)?;
@@ -84,7 +84,7 @@ fn read_of_a_closed_board<J: Naming, R: Wait + Abort>(
 fn a_closed_board_lets_nobody_in(rt: HostRuntime) -> Result<(), Fail> {
     let alloc = rt.alloc();
     let schema = columns(alloc)?;
-    let opening = rows(alloc, &schema, &[5, 4, 6])?;
+    let opening = rows(alloc, &[5, 4, 6])?;
     let setup = setup(2, 4, 2)?;
     let ask = read_ask(alloc, &schema, b"best low(x)")?;
     read_of_a_closed_board::<Brand, _>(&rt, alloc, Name::new(), setup, &opening, ask)

@@ -37,8 +37,7 @@ fn clients_of_an_opening<J: Naming, R: Wait>(
 #[test]
 fn an_opening_refused_then_again(rt: HostRuntime) -> Result<(), Fail> {
     let alloc = rt.alloc();
-    let schema = columns(alloc)?;
-    let rows = rows(alloc, &schema, &[5, 4, 6])?;
+    let rows = rows(alloc, &[5, 4, 6])?;
     let setup = setup(2, 4, 2)?;
     let clients = match clients_of_an_opening::<Brand, _>(&rt, alloc, Name::new(), setup, &rows) {
         Ok(clients) => clients,
@@ -156,7 +155,7 @@ fn changed_and_heard<J: Naming, R: Wait + Abort>(
 fn changes_refused_then_again(rt: HostRuntime) -> Result<(), Fail> {
     let alloc = rt.alloc();
     let schema = columns(alloc)?;
-    let opening = rows(alloc, &schema, &[5])?;
+    let opening = rows(alloc, &[5])?;
     let changed = row(&schema, 6)?;
     let setup = setup(2, 18, 6)?;
     changed_and_heard::<Brand, _>(&rt, alloc, Name::new(), setup, &opening, &changed)
@@ -199,7 +198,7 @@ fn answered<J: Naming, R: Wait + Abort>(
 fn a_query_refused_then_again(rt: HostRuntime) -> Result<(), Fail> {
     let alloc = rt.alloc();
     let schema = columns(alloc)?;
-    let opening = rows(alloc, &schema, &[5, 4, 6])?;
+    let opening = rows(alloc, &[5, 4, 6])?;
     let asks = (
         read_ask(alloc, &schema, b"best low(x)")?,
         read_ask(alloc, &schema, b"best low(x)")?,
@@ -245,7 +244,7 @@ fn acts_of_one(alloc: Global, schema: &Schema) -> Result<Vec<Vec<Act>>, Fail> {
 fn a_run_refused_then_again(rt: HostRuntime) -> Result<(), Fail> {
     let alloc = rt.alloc();
     let schema = columns(alloc)?;
-    let opening = rows(alloc, &schema, &[5])?;
+    let opening = rows(alloc, &[5])?;
     let setup = setup(1, 4, 2)?;
     let first = acts_of_one(alloc, &schema)?;
     let second = acts_of_one(alloc, &schema)?;

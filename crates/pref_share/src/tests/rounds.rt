@@ -66,7 +66,7 @@ fn on_a_new_board<J: Naming, R: Wait + Print + Abort>(
 fn rounds_of_begin_and_abandon(rt: HostRuntime) -> Result<(), Fail> {
     let alloc = rt.alloc();
     let schema = columns(alloc)?;
-    let opening = rows(alloc, &schema, &[5, 4, 6, 3, 7, 2, 8, 1])?;
+    let opening = rows(alloc, &[5, 4, 6, 3, 7, 2, 8, 1])?;
     let asks = asks(alloc, &schema)?;
     let setup = setup(2, 16, 4)?;
     on_a_new_board::<Brand, _>(&rt, alloc, Name::new(), setup, &opening, asks)

@@ -190,8 +190,7 @@ fn answer_and_updates(alloc: Global) -> Result<String, Fail> {
 #[test]
 fn two_clients_at_once(rt: HostRuntime) -> Result<(), Fail> {
     let alloc = rt.alloc();
-    let schema = columns(alloc)?;
-    let opening = rows(alloc, &schema, &[3])?;
+    let opening = rows(alloc, &[3])?;
     let setup = setup(2, 4, 4)?;
     for (held, until) in [(1, 2), (2, 1)] {
         let acts = same_acts(alloc, 2, &[Does::Gets(1)])?;
@@ -205,8 +204,7 @@ fn two_clients_at_once(rt: HostRuntime) -> Result<(), Fail> {
 #[test]
 fn held_least(rt: HostRuntime) -> Result<(), Fail> {
     let alloc = rt.alloc();
-    let schema = columns(alloc)?;
-    let opening = rows(alloc, &schema, &[])?;
+    let opening = rows(alloc, &[])?;
     let setup = setup(8, 4, 4)?;
     let acts = same_acts(alloc, 8, &[Does::AsksRoom, Does::AsksRoom, Does::AsksRoom])?;
     let text = run::<Brand, _, _>(&rt, alloc, Name::new(), setup, &opening, acts, &HoldsTwo)?;
@@ -217,8 +215,7 @@ fn held_least(rt: HostRuntime) -> Result<(), Fail> {
 #[test]
 fn held_open(rt: HostRuntime) -> Result<(), Fail> {
     let alloc = rt.alloc();
-    let schema = columns(alloc)?;
-    let opening = rows(alloc, &schema, &[1, 2, 3, 4, 5, 6, 7])?;
+    let opening = rows(alloc, &[1, 2, 3, 4, 5, 6, 7])?;
     let setup = setup(8, 16, 4)?;
     let acts = a_query_among_updates(alloc)?;
     let gate = HoldsScans {
