@@ -1,5 +1,6 @@
 //! Why a run ends with no reply to its script.
 ghost use Rattle.std.specs.Prelude.{◌≡◌};
+ghost use Rattle.prefq.specs.Reading.{core_fault, share_fault, table_fault};
 ghost use Rattle.prefq.specs.declared.fault.RunFault.TheVariants.{Memory};
 
 use pref_core::CoreFault;
@@ -54,6 +55,42 @@ impl<T: Drop> From<AllocFailed<T>> for RunFault {
 
     fn from(_error: AllocFailed<T>) -> RunFault {
         RunFault::Memory
+    }
+}
+
+/// A table's fault as one of the run.
+impl From<TableFault> for RunFault {
+    ghost from_gives = { λ why fault. fault ≡ table_fault why };
+
+    fn from(why: TableFault) -> RunFault {
+        match why {
+            TableFault::OutOfMemory => RunFault::Memory,
+            _ => RunFault::Table(why),
+        }
+    }
+}
+
+/// The engine's refusal of a script as a fault of the run.
+impl From<CoreFault> for RunFault {
+    ghost from_gives = { λ why fault. fault ≡ core_fault why };
+
+    fn from(why: CoreFault) -> RunFault {
+        match why {
+            CoreFault::OutOfMemory => RunFault::Memory,
+            _ => RunFault::Opening(why),
+        }
+    }
+}
+
+/// What stopped the clients as a fault of the run.
+impl From<ShareFault> for RunFault {
+    ghost from_gives = { λ why fault. fault ≡ share_fault why };
+
+    fn from(why: ShareFault) -> RunFault {
+        match why {
+            ShareFault::Core(why) => RunFault::from(why),
+            _ => RunFault::Threads(why),
+        }
     }
 }
 

@@ -1,13 +1,13 @@
 //! A script as it is read: its table and its commands.
-ghost use Rattle.std.specs.Prelude.{◌≡◌, ◌≤◌, ◌+◌, ◌<◌, ◌^◌, length, IfOk, IfErr};
+ghost use Rattle.std.specs.Prelude.{◌≤◌, ◌+◌, ◌<◌, ◌^◌, length, IfOk, IfErr};
 ghost use Rattle.pref_core.specs.Limits.{Limits};
 ghost use Rattle.prefq.specs.Output.{ScriptFault, script_of};
-ghost use Rattle.prefq.specs.Reading.{IsOpeningOf, IsReadOf, table_fault};
+ghost use Rattle.prefq.specs.Reading.{IsOpeningOf, IsReadOf};
 
 use crate::commands::{Commands, read_commands};
 use crate::fault::RunFault;
 use crate::script::{ScriptText, parts};
-use pref_table::{Row, Schema, TableFault, read_table};
+use pref_table::{Row, Schema, read_table};
 use std::alloc::Global;
 
 /// A script whose table is read: its columns, its opening rows and its parts.
@@ -26,15 +26,6 @@ pub struct Script {
     pub commands: Commands,
 }
 
-fn of_table(why: TableFault) -> RunFault
-    ensures { result ≡ table_fault why }
-{
-    match why {
-        TableFault::OutOfMemory => RunFault::Memory,
-        _ => RunFault::Table(why),
-    }
-}
-
 /// Reads a script up to its commands. Whether there is room for its opening rows is not tested.
 ///
 /// Refused `NoTable`, `NoEnd` or `Table`, in this order, and `Memory` wherever it is met.
@@ -45,10 +36,8 @@ pub fn read_opening(alloc: Global, bytes: &[u8]) -> Result<Opening<'_>, RunFault
     ensures fault { IfErr result (λ fault. (limits : Limits) → ScriptFault fault (script_of limits bytes.now)) }
 {
     let text = parts(bytes)?;
-    match read_table(alloc, text.table) {
-        Ok((schema, rows)) => Ok(Opening { schema, rows, text }),
-        Err(why) => Err(of_table(why)),
-    }
+    let (schema, rows) = read_table(alloc, text.table)?;
+    Ok(Opening { schema, rows, text })
 }
 
 /// Reads a script whole. Refused as [`read_opening`] is.

@@ -4,7 +4,6 @@ ghost use Rattle.std.specs.Io.KnownBytes.{Consumes};
 ghost use Rattle.pref_core.specs.Step.{opened};
 ghost use Rattle.pref_core.specs.Systems.{StandsForSystem};
 ghost use Rattle.prefq.specs.Output.{TellsOutput, in_bytes};
-ghost use Rattle.prefq.specs.Reading.{core_fault};
 ghost use Rattle.prefq.specs.Run.{Ran, sink_of, source_of};
 ghost use Rattle.prefq.specs.Watched.{has_failed, inside};
 
@@ -18,16 +17,6 @@ use pref_core::{CoreFault, Machine, Setup};
 use pref_table::Row;
 use std::alloc::Global;
 use std::io::{Read, Write};
-
-/// The engine's refusal of a script as a fault of the run.
-pub fn of_core(why: CoreFault) -> RunFault
-    ensures { result ≡ core_fault why }
-{
-    match why {
-        CoreFault::OutOfMemory => RunFault::Memory,
-        _ => RunFault::Opening(why),
-    }
-}
 
 /// A table with these opening rows, which are let go.
 fn opened(alloc: Global, setup: Setup, rows: Vec<Row>) -> Result<Machine, CoreFault>
@@ -43,10 +32,8 @@ fn reply_text(alloc: Global, setup: Setup, bytes: &[u8]) -> Result<String, RunFa
     ensures { TellsOutput setup bytes.now (in_bytes result) }
 {
     let Opening { schema, rows, text } = read_opening(alloc, bytes)?;
-    match opened(alloc, setup, rows) {
-        Ok(mut machine) => play_lines(alloc, &schema, &mut machine, text),
-        Err(why) => Err(of_core(why)),
-    }
+    let mut machine = opened(alloc, setup, rows)?;
+    play_lines(alloc, &schema, &mut machine, text)
 }
 
 /// Reads a script, runs it under a setup and writes its output. The whole output is made before its first byte is written.

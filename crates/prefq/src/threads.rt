@@ -6,7 +6,6 @@ ghost use Rattle.pref_share.specs.Interleavings.{IsSequential};
 ghost use Rattle.pref_share.specs.Runs.{IsJointRun};
 ghost use Rattle.pref_share.specs.Standing.{newcomers};
 ghost use Rattle.prefq.specs.Output.{in_bytes};
-ghost use Rattle.prefq.specs.Reading.{share_fault};
 ghost use Rattle.prefq.specs.Run.{Ran, sink_of, source_of};
 ghost use Rattle.prefq.specs.Threads.{ClosesOrStops, HoldsNobody, TellsOnThreads, always_open};
 ghost use Rattle.prefq.specs.Watched.{has_failed, inside};
@@ -17,7 +16,6 @@ use crate::input::read_input;
 use crate::output::write_told;
 use crate::reading::{Script, read_script};
 use crate::replies::{push_clients, push_unowned};
-use crate::run::of_core;
 use crate::watched::Watched;
 use pref_core::{Act, Reply, Setup};
 use pref_share::{Gate, Name, Naming, ShareFault, open_board, run_all};
@@ -39,15 +37,6 @@ impl Gate for OpenGate {
     }
 
     fn after(&self, _client: u8, _turn: usize) {}
-}
-
-fn of_share(why: ShareFault) -> RunFault
-    ensures { result ≡ share_fault why }
-{
-    match why {
-        ShareFault::Core(why) => of_core(why),
-        _ => RunFault::Threads(why),
-    }
 }
 
 /// The replies to the acts of each client, which run on threads of their own over one new board.
@@ -104,7 +93,7 @@ pub fn run_threads<R: Threads + Wait + Sync, G: Gate + Sync>(
     let mut text = String::new(alloc);
     push_unowned(&mut text, width, setup.clients(), commands.lines.as_slice())?;
     let acts = acts_by_client(alloc, setup.clients(), commands.events)?;
-    let replies = match joint_replies::<Brand, R, G>(
+    let replies = joint_replies::<Brand, R, G>(
         rt,
         alloc,
         Name::new(),
@@ -112,10 +101,7 @@ pub fn run_threads<R: Threads + Wait + Sync, G: Gate + Sync>(
         rows.as_slice(),
         acts,
         gate,
-    ) {
-        Ok(replies) => replies,
-        Err(why) => return Err(of_share(why)),
-    };
+    )?;
     push_clients(&mut text, width, replies.as_slice())?;
     Ok(text)
 }

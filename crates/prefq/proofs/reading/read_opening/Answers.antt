@@ -7,5 +7,7 @@ returns-in_err-text-clause-fault c =
     let p = err_from_is_err_and c.from_residual.result c.from_residual.ensures.1 in
     rw (p.1, p.2) (λ limits. script-parts-fault limits c.args.bytes.now c.in_err-text.field-0.0 c.in_err-text.ensures.parts)
 
-pub returns-in-Err-clause-fault : goal.returns-in-Err-clause-fault
-returns-in-Err-clause-fault c = rw c.of_table.ensures (λ limits. script-table-fault limits c.args.bytes.now _ c.in-Err.why c.in_ok-text.ensures.parts c.in-Err.ensures)
+pub returns-in_err-schema-clause-fault : goal.returns-in_err-schema-clause-fault
+returns-in_err-schema-clause-fault c =
+    let p = err_from_is_err_and c.from_residual-in_err-schema.result c.from_residual-in_err-schema.ensures.1 in
+    rw (p.1, p.2) (λ limits. script-table-fault limits c.args.bytes.now _ c.in_err-schema.field-0.0 c.in_ok-text.ensures.parts c.in_err-schema.ensures)
