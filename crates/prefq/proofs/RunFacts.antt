@@ -23,10 +23,4 @@ nothing-written (Some xs) (Some ys) h = h ∙ append-nil xs
 pub wrote-line : (sink : Sink) (told : Result (List ℕ) RunFault) (why : RunFault) → told ≡ Err why → (why ≡ fault.Write → ⊥) → WroteAll sink (fault_text why) → Wrote sink told (Err why)
 wrote-line sink told fault.Write is other line = absurd (other refl)
 wrote-line sink told fault.Memory is other line = nothing-written sink.held sink.holds line
-wrote-line sink told fault.Read is other line = (is, rw is line)
-wrote-line sink told fault.TooLarge is other line = (is, rw is line)
-wrote-line sink told fault.NoTable is other line = (is, rw is line)
-wrote-line sink told fault.NoEnd is other line = (is, rw is line)
-wrote-line sink told (fault.Table why) is other line = (is, rw is line)
-wrote-line sink told (fault.Opening why) is other line = (is, rw is line)
-wrote-line sink told (fault.Threads why) is other line = (is, rw is line)
+wrote-line sink told why is other line = (is, rw is line)

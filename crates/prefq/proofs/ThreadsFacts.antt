@@ -24,15 +24,8 @@ use Rattle.prefq.proofs.OutputFacts.{script-core-fault, script-ok}
 
 -- a fault of the script
 pub tells-fault : (limits : Limits) (may_hold : ℕ → ℕ → Type 0) (bytes : List ℕ) (why : RunFault) → ScriptFault why (script_of limits bytes) → TellsOnThreads limits may_hold bytes (Err why)
-tells-fault limits may_hold bytes fault.Memory h = h
-tells-fault limits may_hold bytes fault.NoTable h = h
-tells-fault limits may_hold bytes fault.NoEnd h = h
-tells-fault limits may_hold bytes (fault.Table why) h = h
-tells-fault limits may_hold bytes (fault.Opening why) h = h
-tells-fault limits may_hold bytes fault.Read h = h
-tells-fault limits may_hold bytes fault.Write h = h
-tells-fault limits may_hold bytes fault.TooLarge h = h
 tells-fault limits may_hold bytes (fault.Threads why) h = absurd h
+tells-fault limits may_hold bytes why h = h
 
 -- what stops clients with these acts, on a board that opens with these rows
 abbrev StopsActs : Limits → (ℕ → ℕ → Type 0) → List (List ℤ) → List (Vec Act) → ShareFault → Type 0
@@ -54,9 +47,7 @@ tells-stopped limits may_hold bytes r read room acts owned why stops = by why st
 
     by : (why : ShareFault) → StopsActs limits may_hold r.rows.items acts why → TellsOnThreads limits may_hold bytes (Err (share_fault why))
     by (share.Core core) stops = rw stops tt
-    by (share.ClientInUse number) stops = (script, is_script, stopped (share.ClientInUse number) stops)
-    by (share.Held client) stops = (script, is_script, stopped (share.Held client) stops)
-    by share.Closed stops = (script, is_script, stopped share.Closed stops)
+    by why stops = (script, is_script, stopped why stops)
 
 -- the board was not opened, or the clients were stopped
 pub tells-refused : (limits : Limits) (may_hold : ℕ → ℕ → Type 0) (bytes : List ℕ) (r : Read) → IsReadOf bytes r → (rows : List (List ℤ)) → rows ≡ r.rows.items → (acts : List (Vec Act)) → AreActs limits.clients r.commands.events.items acts → (why : ShareFault)
