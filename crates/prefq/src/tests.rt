@@ -94,6 +94,14 @@ impl Run {
             Err(_) => "no text",
         }
     }
+
+    /// What was written by a run that ended well, or the fault of any other.
+    fn told(&self) -> Result<&str, RunFault> {
+        match self.result {
+            Ok(()) => Ok(self.text()),
+            Err(fault) => Err(fault),
+        }
+    }
 }
 
 /// A run with this end, and what its reader and its writer have seen.

@@ -35,8 +35,7 @@ fn few_bytes_at_a_time_give_the_same_output(rt: HostRuntime) -> Result<(), Fail>
             roomy(rt.alloc(), step),
             setup,
         );
-        assert_eq!(rt; run.result, Ok(()), "{step} at a time");
-        assert_eq!(rt; run.text(), TOLD, "{step} at a time");
+        assert_eq!(rt; run.told(), Ok(TOLD), "{step} at a time");
         assert!(rt; !run.read_failed && !run.write_failed);
     }
     Ok(())

@@ -23,8 +23,7 @@ fn each_example_has_its_replies(rt: HostRuntime) -> Result<(), Fail> {
             return Err("arguments refused".into());
         };
         let run = run_whole(rt.alloc(), args.setup, script.as_bytes());
-        assert_eq!(rt; run.result, Ok(()));
-        assert_eq!(rt; run.text(), replies);
+        assert_eq!(rt; run.told(), Ok(replies));
     }
     Ok(())
 }

@@ -36,8 +36,7 @@ fn the_stored_run(rt: HostRuntime) -> Result<(), Fail> {
             roomy(rt.alloc(), step),
             setup,
         );
-        assert_eq!(rt; run.result, Ok(()));
-        assert_eq!(rt; run.text(), STORED_OUTPUT);
+        assert_eq!(rt; run.told(), Ok(STORED_OUTPUT));
     }
     Ok(())
 }
@@ -83,8 +82,7 @@ fn an_empty_table_answers_no_row(rt: HostRuntime) -> Result<(), Fail> {
     let script = b"table\nx\nend\nas 1 begin best low(x)\nas 1 scan\nas 1 scan\nas 1 finish\n";
     let wanted = "1 begun 2\n1 left 1\n1 left 0\n1 answer 0\n";
     let run = run_whole(rt.alloc(), setup, script);
-    assert_eq!(rt; run.result, Ok(()));
-    assert_eq!(rt; run.text(), wanted);
+    assert_eq!(rt; run.told(), Ok(wanted));
     Ok(())
 }
 
@@ -155,8 +153,7 @@ fn questions_over_a_table_have_their_answers(rt: HostRuntime) -> Result<(), Fail
     ];
     for (table, question, wanted) in cases {
         let run = answered(rt.alloc(), setup, table, question)?;
-        assert_eq!(rt; run.result, Ok(()));
-        assert_eq!(rt; run.text(), wanted);
+        assert_eq!(rt; run.told(), Ok(wanted));
     }
     Ok(())
 }
@@ -181,8 +178,7 @@ as 1 begin at_least 5 low(x) * low(y)\nas 1 scan\nas 1 scan\nas 1 finish\n";
         "1 begun 2\n1 left 1\n1 left 0\n1 answer 5\nlevel 1 id 1: 20,1\nlevel 1 id 7: 1,10\n\
 level 2 id 6: 21,2\nlevel 2 id 8: 2,11\nlevel 3 id 9: 3,12\n";
     let run = run_whole(rt.alloc(), setup, script);
-    assert_eq!(rt; run.result, Ok(()));
-    assert_eq!(rt; run.text(), wanted);
+    assert_eq!(rt; run.told(), Ok(wanted));
     Ok(())
 }
 
@@ -196,8 +192,7 @@ as 2 begin best low(price) by city\nas 2 scan\nas 2 finish\n";
         "1 begun 1\n1 left 0\n1 answer 3\nlevel 1 id 1: 10,1\nlevel 1 id 3: 30,2\nlevel 1 id 4: 30,2\n\
 2 begun 1\n2 left 0\n2 answer 3\nlevel 1 id 1: 10,1\nlevel 1 id 3: 30,2\nlevel 1 id 4: 30,2\n";
     let run = run_whole(rt.alloc(), setup, script);
-    assert_eq!(rt; run.result, Ok(()));
-    assert_eq!(rt; run.text(), wanted);
+    assert_eq!(rt; run.told(), Ok(wanted));
     Ok(())
 }
 
@@ -209,8 +204,7 @@ as 2 insert 1\nas 2 room\nas 1 scan\nas 1 finish\nas 2 begin best low(x)\nas 2 s
     let wanted = "1 begun 2\n1 left 1\n2 deleted 1\n2 inserted 4\n2 room 0\n1 left 0\n1 answer 1\n\
 level 1 id 1: 5\n2 begun 2\n2 left 1\n2 left 0\n2 answer 1\nlevel 1 id 4: 1\n";
     let run = run_whole(rt.alloc(), setup, script);
-    assert_eq!(rt; run.result, Ok(()));
-    assert_eq!(rt; run.text(), wanted);
+    assert_eq!(rt; run.told(), Ok(wanted));
     Ok(())
 }
 
@@ -222,8 +216,7 @@ as 2 update 1 9\nas 2 get 1\nas 2 room\n";
     let wanted =
         "1 begun 1\n2 refused 8: full needed 3\n1 abandoned\n2 updated 1\n2 row 1: 9\n2 room 0\n";
     let run = run_whole(rt.alloc(), setup, script);
-    assert_eq!(rt; run.result, Ok(()));
-    assert_eq!(rt; run.text(), wanted);
+    assert_eq!(rt; run.told(), Ok(wanted));
     Ok(())
 }
 
@@ -238,8 +231,7 @@ as 1 scan\nas 1 scan\nas 1 scan\nas 1 finish\nas 1 abandon\nas 9 room\nas 1 get 
 1 left 1\n1 left 0\n1 refused 5: all scanned\n1 answer 1\nlevel 1 id 1: 4\n1 refused 4: no query\n\
 9 refused 1: no such client\n1 refused 7: no such row 7\n";
     let run = run_whole(rt.alloc(), setup, script);
-    assert_eq!(rt; run.result, Ok(()));
-    assert_eq!(rt; run.text(), wanted);
+    assert_eq!(rt; run.told(), Ok(wanted));
     Ok(())
 }
 
@@ -253,8 +245,7 @@ as 1 finish\nas 2 insert 3\nas 2 insert 9\nas 1 scan\nas 1 scan\nas 1 scan\nas 1
 1 refused 6: not done left 2\n2 inserted 2\n2 refused 8: full needed 3\n1 left 1\n1 left 0\n\
 1 refused 5: all scanned\n1 answer 1\nlevel 1 id 1: 4\n9 refused 1: no such client\n1 room 0\n";
     let run = run_whole(rt.alloc(), setup, script);
-    assert_eq!(rt; run.result, Ok(()));
-    assert_eq!(rt; run.text(), wanted);
+    assert_eq!(rt; run.told(), Ok(wanted));
     Ok(())
 }
 
@@ -268,8 +259,7 @@ as 1 scan\nas 1 finish\nas 2 room\nas 2 get 1\n";
         "1 begun 1\n2 updated 1\n2 updated 1\n2 room 1\n1 left 0\n1 answer 1\nlevel 1 id 1: 5\n\
 2 room 2\n2 row 1: 2\n";
     let run = run_whole(rt.alloc(), setup, script);
-    assert_eq!(rt; run.result, Ok(()));
-    assert_eq!(rt; run.text(), wanted);
+    assert_eq!(rt; run.told(), Ok(wanted));
     Ok(())
 }
 
@@ -284,8 +274,7 @@ as 1 begin skyline of x diff\nas 1 insert 1,2\nas 1 jump\nas 1 begin best low(x)
 line 6 refused term 6: bad count at 9\nline 7 refused term 7: no min or max\n\
 line 8 refused table 5: width row 0\nline 9 refused: command\nline 10 refused term 1: unexpected at 12\n";
     let run = run_whole(rt.alloc(), setup, script);
-    assert_eq!(rt; run.result, Ok(()));
-    assert_eq!(rt; run.text(), wanted);
+    assert_eq!(rt; run.told(), Ok(wanted));
     Ok(())
 }
 
@@ -305,8 +294,7 @@ line 12 refused term 6: bad count at 10\nline 13 refused term 1: unexpected at 1
 line 14 refused: command\nline 15 refused: command\nline 16 refused table 6: not whole row 0 col 1\n\
 line 17 refused table 7: out of range row 0 col 1\n1 room 1023\n";
     let run = run_whole(rt.alloc(), setup, script);
-    assert_eq!(rt; run.result, Ok(()));
-    assert_eq!(rt; run.text(), wanted);
+    assert_eq!(rt; run.told(), Ok(wanted));
     Ok(())
 }
 
@@ -323,7 +311,6 @@ fn a_question_too_deep_or_too_long(rt: HostRuntime) -> Result<(), Fail> {
     }
     let wanted = "line 4 refused term 4: too deep at 69\nline 5 refused term 5: too long\n";
     let run = run_whole(rt.alloc(), setup, script.as_slice());
-    assert_eq!(rt; run.result, Ok(()));
-    assert_eq!(rt; run.text(), wanted);
+    assert_eq!(rt; run.told(), Ok(wanted));
     Ok(())
 }

@@ -40,8 +40,7 @@ fn a_refused_run_has_written_nothing_and_is_made_again(rt: HostRuntime) -> Resul
             run_into(alloc, setup, first.output)
         }
     };
-    assert_eq!(rt; run.result, Ok(()));
-    assert_eq!(rt; run.text(), TOLD);
+    assert_eq!(rt; run.told(), Ok(TOLD));
     Ok(())
 }
 

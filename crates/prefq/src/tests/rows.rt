@@ -10,8 +10,7 @@ fn changes_are_refused_full_exactly_where_no_slot_is_left(rt: HostRuntime) -> Re
     let told =
         "1 updated 2\n1 room 0\n1 refused 8: full needed 3\n1 deleted 2\n1 room 1\n1 inserted 3\n";
     let run = run_whole(rt.alloc(), setup, script);
-    assert_eq!(rt; run.result, Ok(()));
-    assert_eq!(rt; run.text(), told);
+    assert_eq!(rt; run.told(), Ok(told));
     Ok(())
 }
 
@@ -24,8 +23,7 @@ fn refusals_without_a_query_have_their_lines(rt: HostRuntime) -> Result<(), Fail
         "1 refused 4: no query\n1 refused 4: no query\n1 refused 4: no query\n9 refused 1: no such client\n\
 1 refused 7: no such row 7\n1 refused 7: no such row 7\n1 refused 7: no such row 7\n";
     let run = run_whole(rt.alloc(), setup, script);
-    assert_eq!(rt; run.result, Ok(()));
-    assert_eq!(rt; run.text(), told);
+    assert_eq!(rt; run.told(), Ok(told));
     Ok(())
 }
 
@@ -83,8 +81,7 @@ fn hostile_lines_are_refused_where_they_stand(rt: HostRuntime) -> Result<(), Fai
         let mut script = b"table\nx\n5\nend\n".to_vec(rt.alloc())?;
         script.extend_from_slice(line)?;
         let run = run_whole(rt.alloc(), setup, script.as_slice());
-        assert_eq!(rt; run.result, Ok(()));
-        assert_eq!(rt; run.text(), told, "at {line:?}");
+        assert_eq!(rt; run.told(), Ok(told), "at {line:?}");
     }
     Ok(())
 }
