@@ -17,7 +17,7 @@ pub(crate) mod planning;
 pub(crate) mod reads;
 pub mod version;
 
-ghost use Rattle.std.specs.Prelude.{◌≡◌, ℕ, ◌-◌, ◌<◌, length, Some, None, Err, IfOk, IfErr, MatchResult, option_map, ◌↔◌, ◌⊎◌};
+ghost use Rattle.std.specs.Prelude.{◌≡◌, ◌-◌, ◌<◌, length, Err, IfOk, IfErr, option_map, ◌↔◌, ◌⊎◌};
 ghost use Rattle.std.specs.Option.{unwrap_or};
 ghost use Rattle.pref_core.specs.Table.{line_of, entries};
 ghost use Rattle.pref_core.specs.State.{State, opening, calls_of, needed};
@@ -36,7 +36,6 @@ use pref_sky::Entry;
 use pref_table::Row;
 use std::alloc::{AllocError, Global};
 use std::marker::Model;
-use version::Version;
 
 /// A table's slots, its counters, and what is kept of each client: how many calls it has made, and the stamp
 /// at its open query's begin. Contracts see them as they are, and not the lists beside them that spare a look at each slot.

@@ -4,7 +4,7 @@ ghost use Rattle.std.specs.Option.{option_to_list};
 ghost use Rattle.std.specs.Prelude.{map, Some, ◌≡◌, ◌+◌, ◌^◌, ◌<◌, ◌∷◌};
 ghost use Rattle.pref_core.specs.Kept.{frees};
 ghost use Rattle.pref_core.specs.Operations.{close, is_free};
-ghost use Rattle.pref_core.specs.Places.{is_free_zone, zone_of};
+ghost use Rattle.pref_core.specs.Places.{zone_of};
 ghost use Rattle.pref_core.specs.Slots.{begins, is_needed};
 
 use crate::store::caller::{Caller, sees};
