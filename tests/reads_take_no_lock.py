@@ -1,7 +1,7 @@
 #!/usr/bin/env python3
 """Shows that reads cannot take the board's lock. In a copy of the crates `get`, `room` and `scan` of a client lock the board while they
 read, and are given the handle and the board that this wants, as are their callers in pref_share. The compiler must then refuse the
-test that reads without a handle, and nothing else.
+tests that read without a handle, and nothing else.
 
     python3 tests/reads_take_no_lock.py
 
@@ -22,12 +22,6 @@ LOCKED = {
         ("let Some((now, block)) = self.found_block(alloc) else {", "let Some((now, block)) = found else {"),
     ],
     "run/acts.rt": [
-        ("=> scan(alloc, client),", "=> scan(rt, alloc, board, client),"),
-        ("=> get(client, *id),", "=> get(rt, board, client, *id),"),
-        ("=> room(client),", "=> room(rt, board, client),"),
-        ("fn scan<J: Naming>(alloc: Global, client", "fn scan<J: Naming, R: Wait>(rt: &R, alloc: Global, board: &Board<J>, client"),
-        ("fn get<J: Naming>(client", "fn get<J: Naming, R: Wait>(rt: &R, board: &Board<J>, client"),
-        ("fn room<J: Naming>(client", "fn room<J: Naming, R: Wait>(rt: &R, board: &Board<J>, client"),
         ("client.scan(alloc)", "client.scan(rt, alloc, board)"),
         ("client.get(id)", "client.get(rt, board, id)"),
         ("client.room()", "client.room(rt, board)"),
@@ -71,9 +65,9 @@ def main():
         ran = subprocess.run(["rt", "try", "--test"], cwd=crate, stdout=subprocess.PIPE, stderr=subprocess.STDOUT, text=True)
     print(ran.stdout, end="")
     told = re.findall(r"^(\S+?):\d+:\d+: error\[(.*?)\]: `(\w+)`", ran.stdout, re.M)
-    wanted = [("src/tests/reads.rt", "mismatched-argument-count", name) for name in ("get", "room", "scan")]
-    if told != wanted or not ran.returncode:
-        sys.exit("not just the test that reads without a handle was refused")
+    wanted = {("src/tests/reads.rt", "mismatched-argument-count", name) for name in ("get", "room", "scan")}
+    if set(told) != wanted or not ran.returncode:
+        sys.exit("not just the tests that read without a handle were refused")
     print("reads that take the lock are refused where there is no handle")
 
 
