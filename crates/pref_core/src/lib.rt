@@ -18,8 +18,6 @@ mod query;
 mod run;
 mod setup;
 mod store;
-#[cfg(test)]
-mod tests;
 
 pub use call::{Call, Op, Outcome};
 pub use event::{Act, Event, RankedList, Reply, StepFault};

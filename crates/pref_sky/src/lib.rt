@@ -21,11 +21,7 @@ pub mod laws;
 mod meeting;
 mod merge;
 mod partial;
-#[cfg(test)]
-mod plain;
 mod ranking;
-#[cfg(test)]
-mod tests;
 mod window;
 
 pub use answers::answer;

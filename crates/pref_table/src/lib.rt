@@ -14,6 +14,3 @@ pub use number::{blanks_length, signed_number};
 pub use row::Row;
 pub use schema::{Schema, is_name_byte};
 pub use table::read_table;
-
-#[cfg(test)]
-mod tests;

@@ -13,8 +13,6 @@ mod read;
 mod relation;
 mod shown;
 mod term;
-#[cfg(test)]
-mod tests;
 mod token;
 mod walk;
 

@@ -1,0 +1,444 @@
+//! Runs whose replies are known from outside, through `replay`, `Machine` and `Store`.
+
+mod copies;
+mod index;
+mod moves;
+mod plans;
+mod refusals;
+mod replies;
+
+use pref_core::{
+    Act, CoreFault, Event, Machine, RankedList, Reply, Setup, Store, replay, replay_part,
+};
+use pref_table::{Row, Schema};
+use pref_term::read_ask;
+use std::alloc::Global;
+use std::test::Fail;
+
+/// What a client does, over a table with the column x alone. A query asks for the rows with the smallest x.
+#[derive(Clone, Copy)]
+enum Does {
+    Inserts(i64),
+    Updates(u64, i64),
+    Deletes(u64),
+    Begins,
+    Scans,
+    Finishes,
+    Abandons,
+    Gets(u64),
+    AsksRoom,
+}
+
+/// The column x alone.
+fn columns(alloc: Global) -> Result<Schema, Fail> {
+    let names = [b"x".as_slice()];
+    Ok(Schema::new(alloc, names.as_slice())?)
+}
+
+fn row(schema: &Schema, value: i64) -> Result<Row, Fail> {
+    let cells = [value];
+    Ok(Row::of(schema, cells.as_slice())?)
+}
+
+fn rows(alloc: Global, schema: &Schema, values: &[i64]) -> Result<Vec<Row>, Fail> {
+    let mut made = Vec::new(alloc);
+    for value in values {
+        made.push(row(schema, *value)?)?;
+    }
+    Ok(made)
+}
+
+fn act(alloc: Global, schema: &Schema, does: Does) -> Result<Act, Fail> {
+    Ok(match does {
+        Does::Inserts(value) => Act::Insert(row(schema, value)?),
+        Does::Updates(id, value) => Act::Update(id, row(schema, value)?),
+        Does::Deletes(id) => Act::Delete(id),
+        Does::Begins => Act::Begin(read_ask(alloc, schema, b"best low(x)")?),
+        Does::Scans => Act::Scan,
+        Does::Finishes => Act::Finish,
+        Does::Abandons => Act::Abandon,
+        Does::Gets(id) => Act::Get(id),
+        Does::AsksRoom => Act::Room,
+    })
+}
+
+/// The rows of an answer: of each its level, its id and its x.
+fn answer_text(alloc: Global, list: &RankedList) -> Result<String, Fail> {
+    let mut text = format!(in alloc; "answer")?;
+    for ranked in list.as_slice() {
+        let level = ranked.level;
+        let id = ranked.id;
+        let value = ranked.row.cell(0);
+        text.push_str(format!(in alloc; " level {level} id {id}: {value}")?.as_str())?;
+    }
+    Ok(text)
+}
+
+fn reply_text(alloc: Global, reply: &Reply) -> Result<String, Fail> {
+    Ok(match reply {
+        Reply::Inserted(id) => format!(in alloc; "inserted {id}")?,
+        Reply::Updated(id) => format!(in alloc; "updated {id}")?,
+        Reply::Deleted(id) => format!(in alloc; "deleted {id}")?,
+        Reply::Begun(blocks) => format!(in alloc; "begun {blocks}")?,
+        Reply::Left(blocks) => format!(in alloc; "left {blocks}")?,
+        Reply::Answer(list) => answer_text(alloc, list)?,
+        Reply::Abandoned => format!(in alloc; "abandoned")?,
+        Reply::Found(id, row) => found_text(alloc, *id, row)?,
+        Reply::Room(room) => format!(in alloc; "room {room}")?,
+        Reply::Refused(fault) => format!(in alloc; "refused: {fault}")?,
+    })
+}
+
+fn found_text(alloc: Global, id: u64, row: &Row) -> Result<String, Fail> {
+    let value = row.cell(0);
+    Ok(format!(in alloc; "row {id}: {value}")?)
+}
+
+fn events_of(alloc: Global, schema: &Schema, run: &[(u8, Does)]) -> Result<Vec<Event>, Fail> {
+    let mut events = Vec::new(alloc);
+    for (client, does) in run {
+        events.push(Event {
+            client: *client,
+            act: act(alloc, schema, *does)?,
+        })?;
+    }
+    Ok(events)
+}
+
+fn push_reply_text(alloc: Global, text: &mut String, reply: &Reply) -> Result<(), Fail> {
+    let told = reply_text(alloc, reply)?;
+    text.push_str(told.as_str())?;
+    text.push_str(" / ")?;
+    Ok(())
+}
+
+/// The replies, one after the other.
+fn replies_text(alloc: Global, replies: &[Reply]) -> Result<String, Fail> {
+    let mut text = String::new(alloc);
+    for reply in replies {
+        push_reply_text(alloc, &mut text, reply)?;
+    }
+    Ok(text)
+}
+
+/// The replies to a run of eight clients.
+fn played(
+    alloc: Global,
+    capacity: u32,
+    block: u32,
+    values: &[i64],
+    run: &[(u8, Does)],
+) -> Result<String, Fail> {
+    let schema = columns(alloc)?;
+    let setup = Setup::new(8, capacity, block, 64).ok_or("setup")?;
+    let opening = rows(alloc, &schema, values)?;
+    let events = events_of(alloc, &schema, run)?;
+    let replies = replay(alloc, setup, &opening, events)?;
+    replies_text(alloc, &replies)
+}
+
+/// Lends a store of three slots with these rows, for two clients, and its schema. A proof pays for each way out of a function that owns
+/// a store, so one function does.
+fn with_store<L: FnOnce(&Schema, &mut Store) -> Result<(), Fail>>(
+    alloc: Global,
+    values: &[i64],
+    look: L,
+) -> Result<(), Fail>
+    requires { L.IsAlwaysCallable look }
+{
+    let schema = columns(alloc)?;
+    let setup = Setup::new(2, 3, 2, 1).ok_or("setup")?;
+    let mut store = Store::new(alloc, &setup, &rows(alloc, &schema, values)?)?;
+    look(&schema, &mut store)
+}
+
+/// Lends a machine of four slots with two rows, for two clients, and its schema.
+fn with_machine<L: FnOnce(&Schema, &mut Machine) -> Result<(), Fail>>(
+    alloc: Global,
+    look: L,
+) -> Result<(), Fail>
+    requires { L.IsAlwaysCallable look }
+{
+    let schema = columns(alloc)?;
+    let setup = Setup::new(2, 4, 2, 64).ok_or("setup")?;
+    let mut machine = Machine::new(alloc, setup, &rows(alloc, &schema, &[5, 7])?)?;
+    look(&schema, &mut machine)
+}
+
+#[test]
+fn a_query_answers_the_table_at_its_begin(rt: HostRuntime) -> Result<(), Fail> {
+    let run = [
+        (1, Does::Inserts(30)),
+        (1, Does::Inserts(10)),
+        (2, Does::Inserts(20)),
+        (1, Does::Begins),
+        (2, Does::Inserts(5)),
+        (1, Does::Scans),
+        (1, Does::Finishes),
+    ];
+    let told = played(rt.alloc(), 1024, 1024, &[], run.as_slice())?;
+    assert_eq!(rt;
+        told.as_str(),
+        "inserted 1 / inserted 2 / inserted 3 / begun 1 / inserted 4 / left 0 / answer level 1 id 2: 10 / "
+    );
+    Ok(())
+}
+
+#[test]
+fn an_empty_table_is_scanned_in_two_blocks(rt: HostRuntime) -> Result<(), Fail> {
+    let run = [
+        (1, Does::Begins),
+        (1, Does::Scans),
+        (1, Does::Scans),
+        (1, Does::Finishes),
+    ];
+    let told = played(rt.alloc(), 4, 2, &[], run.as_slice())?;
+    assert_eq!(rt; told.as_str(), "begun 2 / left 1 / left 0 / answer / ");
+    Ok(())
+}
+
+#[test]
+fn a_deleted_row_is_still_answered(rt: HostRuntime) -> Result<(), Fail> {
+    let run = [
+        (1, Does::Begins),
+        (1, Does::Scans),
+        (2, Does::Deletes(1)),
+        (2, Does::Inserts(1)),
+        (2, Does::AsksRoom),
+        (1, Does::Scans),
+        (1, Does::Finishes),
+        (2, Does::Begins),
+        (2, Does::Scans),
+        (2, Does::Scans),
+        (2, Does::Finishes),
+    ];
+    let told = played(rt.alloc(), 4, 2, &[5, 7, 9], run.as_slice())?;
+    assert_eq!(rt;
+        told.as_str(),
+        "begun 2 / left 1 / deleted 1 / inserted 4 / room 0 / left 0 / answer level 1 id 1: 5 / begun 2 / left 1 / left 0 / answer level 1 id 4: 1 / "
+    );
+    Ok(())
+}
+
+#[test]
+fn room_is_exact(rt: HostRuntime) -> Result<(), Fail> {
+    let run = [
+        (1, Does::Begins),
+        (2, Does::Updates(1, 9)),
+        (1, Does::Abandons),
+        (2, Does::Updates(1, 9)),
+        (2, Does::Gets(1)),
+        (2, Does::AsksRoom),
+    ];
+    let told = played(rt.alloc(), 2, 2, &[1, 2], run.as_slice())?;
+    assert_eq!(rt;
+        told.as_str(),
+        "begun 1 / refused: full needed 3 / abandoned / updated 1 / row 1: 9 / room 0 / "
+    );
+    Ok(())
+}
+
+#[test]
+fn a_full_table_takes_an_update(rt: HostRuntime) -> Result<(), Fail> {
+    let run = [
+        (1, Does::Updates(2, 6)),
+        (1, Does::AsksRoom),
+        (1, Does::Inserts(8)),
+        (1, Does::Deletes(2)),
+        (1, Does::AsksRoom),
+        (1, Does::Inserts(8)),
+    ];
+    let told = played(rt.alloc(), 2, 2, &[1, 2], run.as_slice())?;
+    assert_eq!(rt;
+        told.as_str(),
+        "updated 2 / room 0 / refused: full needed 3 / deleted 2 / room 1 / inserted 3 / "
+    );
+    Ok(())
+}
+
+#[test]
+fn refusals_come_in_their_order(rt: HostRuntime) -> Result<(), Fail> {
+    let run = [
+        (1, Does::Finishes),
+        (1, Does::Begins),
+        (1, Does::Begins),
+        (1, Does::Finishes),
+        (1, Does::Scans),
+        (1, Does::Scans),
+        (1, Does::Scans),
+        (1, Does::Finishes),
+        (1, Does::Abandons),
+        (9, Does::AsksRoom),
+        (0, Does::Scans),
+        (1, Does::Gets(7)),
+    ];
+    let told = played(rt.alloc(), 2, 1, &[4], run.as_slice())?;
+    assert_eq!(rt;
+        told.as_str(),
+        "refused: no query / begun 2 / refused: query open / refused: not done left 2 / left 1 / left 0 / refused: all scanned / answer level 1 id 1: 4 / refused: no query / refused: no such client / refused: no such client / refused: no such row 7 / "
+    );
+    Ok(())
+}
+
+#[test]
+fn a_refused_insert_uses_no_id(rt: HostRuntime) -> Result<(), Fail> {
+    let run = [
+        (1, Does::Inserts(4)),
+        (1, Does::Begins),
+        (2, Does::Inserts(3)),
+        (2, Does::Inserts(9)),
+        (1, Does::Scans),
+        (1, Does::Scans),
+        (1, Does::Finishes),
+        (1, Does::AsksRoom),
+        (2, Does::Deletes(1)),
+        (2, Does::Inserts(6)),
+    ];
+    let told = played(rt.alloc(), 2, 1, &[], run.as_slice())?;
+    assert_eq!(rt;
+        told.as_str(),
+        "inserted 1 / begun 2 / inserted 2 / refused: full needed 3 / left 1 / left 0 / answer level 1 id 1: 4 / room 0 / deleted 1 / inserted 3 / "
+    );
+    Ok(())
+}
+
+#[test]
+fn two_updates_under_a_query_leave_one_slot(rt: HostRuntime) -> Result<(), Fail> {
+    let run = [
+        (1, Does::Begins),
+        (2, Does::Updates(1, 1)),
+        (2, Does::Updates(1, 2)),
+        (2, Does::AsksRoom),
+        (1, Does::Scans),
+        (1, Does::Finishes),
+        (2, Does::AsksRoom),
+        (2, Does::Gets(1)),
+    ];
+    let told = played(rt.alloc(), 3, 3, &[5], run.as_slice())?;
+    assert_eq!(rt;
+        told.as_str(),
+        "begun 1 / updated 1 / updated 1 / room 1 / left 0 / answer level 1 id 1: 5 / room 2 / row 1: 2 / "
+    );
+    Ok(())
+}
+
+/// Each client begins, and updates the one row.
+fn begin_and_update(run: &mut Vec<(u8, Does)>) -> Result<(), Fail> {
+    for client in 1..=8u8 {
+        run.push((client, Does::Begins))?;
+        run.push((client, Does::Updates(1, i64::from(client))))?;
+    }
+    Ok(())
+}
+
+fn scan_and_finish(run: &mut Vec<(u8, Does)>) -> Result<(), Fail> {
+    for client in 1..=8u8 {
+        run.push((client, Does::Scans))?;
+        run.push((client, Does::Finishes))?;
+    }
+    Ok(())
+}
+
+/// What eight clients are told, each of whom begins before it updates the one row, and then how much room there is.
+fn told_at_eight_stamps(alloc: Global) -> Result<String, Fail> {
+    let mut run = Vec::new(alloc);
+    begin_and_update(&mut run)?;
+    scan_and_finish(&mut run)?;
+    run.push((1, Does::AsksRoom))?;
+    played(alloc, 9, 9, &[0], run.as_slice())
+}
+
+/// Client K begins after K - 1 updates of the one row, and is told the row as it was then, while the slots of
+/// the others are needed and used.
+#[test]
+fn eight_clients_ask_at_eight_stamps(rt: HostRuntime) -> Result<(), Fail> {
+    let alloc = rt.alloc();
+    let told = told_at_eight_stamps(alloc)?;
+    let begun = "begun 1 / updated 1 / ".repeat(alloc, 8)?;
+    assert!(rt; told.as_str().starts_with(begun.as_str()));
+    let finished =
+        "left 0 / answer level 1 id 1: 0 / left 0 / answer level 1 id 1: 1 / left 0 / answer level 1 id 1: 2 / left 0 / answer level 1 id 1: 3 / left 0 / answer level 1 id 1: 4 / left 0 / answer level 1 id 1: 5 / left 0 / answer level 1 id 1: 6 / left 0 / answer level 1 id 1: 7 / room 8 / ";
+    assert!(rt; told.as_str().ends_with(finished));
+    assert_eq!(rt; told.len(), begun.len() + finished.len());
+    Ok(())
+}
+
+/// So many events in which client 1 asks for room.
+fn asks_for_room(alloc: Global, count: u32) -> Result<Vec<Event>, Fail> {
+    let mut events = Vec::new(alloc);
+    for _event in 0..count {
+        events.push(Event {
+            client: 1,
+            act: Act::Room,
+        })?;
+    }
+    Ok(events)
+}
+
+fn are_all_room(replies: &[Reply]) -> bool {
+    replies.iter().all(|reply| matches!(reply, Reply::Room(1)))
+}
+
+#[test]
+fn a_million_events_are_answered_in_turn(rt: HostRuntime) -> Result<(), Fail> {
+    let alloc = rt.alloc();
+    let setup = Setup::new(1, 1, 1, 1).ok_or("setup")?;
+    let events = asks_for_room(alloc, 1_000_000)?;
+    let replies = replay(alloc, setup, &[], events)?;
+    assert_eq!(rt; replies.len(), 1_000_000);
+    assert!(rt; are_all_room(&replies));
+    Ok(())
+}
+
+#[test]
+fn a_part_is_the_whole_where_memory_is_there(rt: HostRuntime) -> Result<(), Fail> {
+    let alloc = rt.alloc();
+    let setup = Setup::new(1, 1, 1, 1).ok_or("setup")?;
+    let part = replay_part(alloc, setup, &[], asks_for_room(alloc, 3)?)?;
+    assert!(rt; !part.stopped);
+    assert_eq!(rt; part.replies.len(), 3);
+    assert!(rt; are_all_room(&part.replies));
+    Ok(())
+}
+
+#[test]
+fn too_many_opening_rows_are_refused(rt: HostRuntime) -> Result<(), Fail> {
+    let alloc = rt.alloc();
+    let schema = columns(alloc)?;
+    let setup = Setup::new(1, 2, 1, 1).ok_or("setup")?;
+    let opening = rows(alloc, &schema, &[1, 2, 3])?;
+    let told = replay(alloc, setup, &opening, Vec::new(alloc)).err();
+    assert_eq!(rt; told, Some(CoreFault::Full { needed: 3 }));
+    let part = replay_part(alloc, setup, &opening, Vec::new(alloc));
+    assert_eq!(rt; part.err(), Some(CoreFault::Full { needed: 3 }));
+    Ok(())
+}
+
+#[test]
+fn a_setup_has_its_limits(rt: HostRuntime) -> Result<(), Fail> {
+    let setup = Setup::new(8, 10, 4, 1).ok_or("setup")?;
+    assert_eq!(rt; setup.clients(), 8);
+    assert_eq!(rt; setup.capacity(), 10);
+    assert_eq!(rt; setup.block(), 4);
+    assert_eq!(rt; setup.window(), 1);
+    assert_eq!(rt; setup.blocks(), 3);
+    for (clients, capacity, block, window) in [
+        (0, 1, 1, 1),
+        (9, 1, 1, 1),
+        (1, 0, 1, 1),
+        (1, 65_537, 1, 1),
+        (1, 1, 0, 1),
+        (1, 1, 1, 0),
+    ] {
+        assert!(rt; Setup::new(clients, capacity, block, window).is_none());
+    }
+    Ok(())
+}
+
+#[test]
+fn an_answer_is_given_back(rt: HostRuntime) -> Result<(), Fail> {
+    let list = RankedList::of(Vec::new(rt.alloc()));
+    assert_eq!(rt; list.as_slice().len(), 0);
+    assert_eq!(rt; list.into_vec().len(), 0);
+    Ok(())
+}

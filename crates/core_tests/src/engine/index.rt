@@ -1,0 +1,165 @@
+//! An index beside a store: planned and applied by it, and kept as the store changes.
+ghost use Rattle.std.specs.Prelude.{IfOk, OnOk};
+ghost use Rattle.pref_core.specs.Indexes.{IsIndexOf};
+
+use super::{columns, row, rows};
+use pref_core::{Call, Index, Outcome, Setup, Store};
+use pref_table::Schema;
+use std::alloc::Global;
+use std::process::Abort;
+use std::test::Fail;
+
+/// A call, planned and done by the index.
+fn done(
+    alloc: Global,
+    store: &mut Store,
+    index: &mut Index,
+    client: u8,
+    call: &Call,
+) -> Result<Outcome, Fail>
+    requires { IsIndexOf store.old index.old }
+    ensures { OnOk result (IsIndexOf store.new index.new) }
+{
+    let op = store.plan_at(index, client, *call)?;
+    index.prepare(alloc, &op)?;
+    store.apply_at(index, &op);
+    Ok(op.outcome)
+}
+
+/// A store of these rows with its index.
+fn opened(alloc: Global, schema: &Schema, values: &[i64]) -> Result<(Store, Index), Fail>
+    ensures { IfOk result (λ both. IsIndexOf both.0 both.1) }
+{
+    let setup = Setup::new(2, 4, 2, 1).ok_or("setup")?;
+    let store = Store::new(alloc, &setup, &rows(alloc, schema, values)?)?;
+    let index = Index::new(alloc, &store)?;
+    Ok((store, index))
+}
+
+/// Lends a store of these rows, its index and its schema. A proof pays for each way out of a function that owns them, so one
+/// function does.
+fn with_index<L: FnOnce(&Schema, &mut Store, &mut Index) -> Result<(), Fail>>(
+    alloc: Global,
+    values: &[i64],
+    look: L,
+) -> Result<(), Fail>
+    requires { (schema : _) (store : _) (index : _) → IsIndexOf store.now index.now → L.pre look schema store index }
+{
+    let schema = columns(alloc)?;
+    let (mut store, mut index) = opened(alloc, &schema, values)?;
+    look(&schema, &mut store, &mut index)
+}
+
+fn has_an_added_row(
+    rt: &impl Abort,
+    alloc: Global,
+    schema: &Schema,
+    store: &mut Store,
+    index: &mut Index,
+) -> Result<(), Fail>
+    requires { IsIndexOf store.old index.old }
+{
+    let insert = Call::Insert(row(schema, 6)?);
+    let outcome = done(alloc, store, index, 1, &insert)?;
+    assert_eq!(rt; outcome, Outcome::Added(3));
+    assert_eq!(rt; index.slot(3), Some(2));
+    assert_eq!(rt; store.get_at(index, 3), Some(row(schema, 6)?));
+    Ok(())
+}
+
+#[test]
+fn an_index_has_an_added_row(rt: HostRuntime) -> Result<(), Fail> {
+    let alloc = rt.alloc();
+    with_index(alloc, &[4, 5], |schema, store, index| {
+        has_an_added_row(&rt, alloc, schema, store, index)
+    })
+}
+
+fn goes_where_an_update_goes(
+    rt: &impl Abort,
+    alloc: Global,
+    schema: &Schema,
+    store: &mut Store,
+    index: &mut Index,
+) -> Result<(), Fail>
+    requires { IsIndexOf store.old index.old }
+{
+    let update = Call::Update(2, row(schema, 7)?);
+    done(alloc, store, index, 2, &Call::Begin)?;
+    done(alloc, store, index, 1, &update)?;
+    assert!(rt; index.slot(2) != Some(1));
+    Ok(())
+}
+
+#[test]
+fn an_index_goes_where_an_update_goes(rt: HostRuntime) -> Result<(), Fail> {
+    let alloc = rt.alloc();
+    with_index(alloc, &[4, 5], |schema, store, index| {
+        goes_where_an_update_goes(&rt, alloc, schema, store, index)
+    })
+}
+
+fn has_no_deleted_row(
+    rt: &impl Abort,
+    alloc: Global,
+    store: &mut Store,
+    index: &mut Index,
+) -> Result<(), Fail>
+    requires { IsIndexOf store.old index.old }
+{
+    done(alloc, store, index, 1, &Call::Delete(2))?;
+    assert_eq!(rt; index.slot(2), None);
+    Ok(())
+}
+
+#[test]
+fn an_index_has_no_deleted_row(rt: HostRuntime) -> Result<(), Fail> {
+    let alloc = rt.alloc();
+    with_index(alloc, &[4, 5], |_schema, store, index| {
+        has_no_deleted_row(&rt, alloc, store, index)
+    })
+}
+
+fn withdraws_a_row(
+    rt: &impl Abort,
+    alloc: Global,
+    schema: &Schema,
+    store: &Store,
+    index: &mut Index,
+) -> Result<(), Fail>
+    requires { IsIndexOf store.now index.old }
+{
+    let insert = Call::Insert(row(schema, 6)?);
+    let op = store.plan_at(index, 1, insert)?;
+    index.prepare(alloc, &op)?;
+    assert_eq!(rt; index.slot(3), Some(2));
+    index.withdraw(&op);
+    assert_eq!(rt; index.slot(3), None);
+    Ok(())
+}
+
+#[test]
+fn a_row_that_is_not_added_is_withdrawn(rt: HostRuntime) -> Result<(), Fail> {
+    let alloc = rt.alloc();
+    with_index(alloc, &[4, 5], |schema, store, index| {
+        withdraws_a_row(&rt, alloc, schema, store, index)
+    })
+}
+
+fn is_a_map(rt: &impl Abort, alloc: Global, index: &mut Index) -> Result<(), Fail> {
+    index.put(alloc, 7, 1)?;
+    assert_eq!(rt; index.slot(7), Some(1));
+    index.set(7, 0);
+    assert_eq!(rt; index.slot(7), Some(0));
+    index.take(7);
+    assert_eq!(rt; index.slot(7), None);
+    Ok(())
+}
+
+#[test]
+fn an_index_is_a_map(rt: HostRuntime) -> Result<(), Fail> {
+    let alloc = rt.alloc();
+    with_index(alloc, &[], |_schema, _store, index| {
+        is_a_map(&rt, alloc, index)
+    })
+}

@@ -1,0 +1,89 @@
+//! Calls that a store plans and does.
+
+use super::{row, with_store};
+use pref_core::{Call, CoreFault, Op, Outcome, Store};
+use pref_table::Schema;
+use std::alloc::Global;
+use std::process::Abort;
+use std::test::Fail;
+
+/// Does an op, and once more, which changes nothing: its number is one above the client's last.
+fn apply_twice(store: &mut Store, op: &Op) {
+    store.apply(op);
+    store.apply(op);
+}
+
+/// Adds a third row by an insert of client 2, which is done twice.
+fn add_a_third(schema: &Schema, store: &mut Store) -> Result<(), Fail> {
+    let op = store.plan(2, Call::Insert(row(schema, 5)?))?;
+    apply_twice(store, &op);
+    Ok(())
+}
+
+fn is_done_once(rt: &impl Abort, schema: &Schema, store: &mut Store) -> Result<(), Fail> {
+    add_a_third(schema, store)?;
+    assert_eq!(rt; store.stamp(), 3);
+    assert_eq!(rt; store.last(2), 1);
+    assert_eq!(rt; store.last(1), 0);
+    assert_eq!(rt; store.room(), 0);
+    Ok(())
+}
+
+#[test]
+fn a_planned_call_is_done_once(rt: HostRuntime) -> Result<(), Fail> {
+    with_store(rt.alloc(), &[4, 6], |schema, store| {
+        is_done_once(&rt, schema, store)
+    })
+}
+
+/// The ids that a block of two slots shows.
+fn shown_ids(alloc: Global, store: &Store, block: u32, stamp: u64) -> Result<Vec<u64>, Fail> {
+    let mut ids = Vec::new(alloc);
+    for entry in store.block(alloc, block, 2, stamp)? {
+        ids.push(entry.id)?;
+    }
+    Ok(ids)
+}
+
+fn is_shown_in_its_block(
+    rt: &impl Abort,
+    alloc: Global,
+    schema: &Schema,
+    store: &mut Store,
+) -> Result<(), Fail> {
+    add_a_third(schema, store)?;
+    assert_eq!(rt; store.get(3), Some(row(schema, 5)?));
+    assert_eq!(rt; shown_ids(alloc, store, 1, 3)?.as_slice(), [3].as_slice());
+    assert_eq!(rt; shown_ids(alloc, store, 1, 2)?.len(), 0);
+    Ok(())
+}
+
+#[test]
+fn an_added_row_is_shown_in_its_block(rt: HostRuntime) -> Result<(), Fail> {
+    let alloc = rt.alloc();
+    with_store(alloc, &[4, 6], |schema, store| {
+        is_shown_in_its_block(&rt, alloc, schema, store)
+    })
+}
+
+fn tells_what_becomes_of_a_call(
+    rt: &impl Abort,
+    schema: &Schema,
+    store: &Store,
+) -> Result<(), Fail> {
+    let op = store.plan(2, Call::Insert(row(schema, 5)?))?;
+    assert_eq!(rt; op.outcome, Outcome::Added(3));
+    assert_eq!(rt; op.slot, Some(2));
+    assert_eq!(rt;
+        store.plan(9, Call::Abandon).err(),
+        Some(CoreFault::NoSuchClient)
+    );
+    Ok(())
+}
+
+#[test]
+fn a_plan_tells_what_becomes_of_a_call(rt: HostRuntime) -> Result<(), Fail> {
+    with_store(rt.alloc(), &[4, 6], |schema, store| {
+        tells_what_becomes_of_a_call(&rt, schema, store)
+    })
+}

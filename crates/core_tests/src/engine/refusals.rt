@@ -1,0 +1,315 @@
+//! Requests for memory that are refused. `tests/refuse_each_allocation.sh` runs these tests once for each of their requests,
+//! and refuses it; where none is refused they show that the calls succeed.
+ghost use Rattle.pref_core.specs.Scans.{NextIsNew};
+
+use super::{Does, act, answer_text, columns, events_of, reply_text, rows, with_machine};
+use pref_core::{
+    Act, CoreFault, Event, Machine, Part, Query, RankedList, Reply, Setup, StepFault, Store,
+    replay_part,
+};
+use pref_sky::Ranked;
+use pref_table::{Row, Schema};
+use pref_term::read_ask;
+use std::alloc::Global;
+use std::process::Abort;
+use std::test::Fail;
+
+/// What a step tells in the end: a step that memory is refused to hands its event back, and is made again.
+fn told_in_the_end(rt: &impl Abort, alloc: Global, machine: &mut Machine, event: Event) -> Reply {
+    let event = match machine.step(alloc, event) {
+        Ok(reply) => return reply,
+        Err(StepFault { fault, event }) => {
+            if fault != CoreFault::OutOfMemory {
+                return Reply::Refused(fault);
+            }
+            event
+        }
+    };
+    match machine.step(alloc, event) {
+        Ok(reply) => reply,
+        Err(StepFault { fault, .. }) => {
+            assert!(rt; fault != CoreFault::OutOfMemory);
+            Reply::Refused(fault)
+        }
+    }
+}
+
+/// Each act of a run, once more where memory was refused: what it tells in the end.
+fn go_through_a_run(
+    rt: &impl Abort,
+    alloc: Global,
+    schema: &Schema,
+    machine: &mut Machine,
+) -> Result<(), Fail> {
+    let run = [
+        (1, Does::Begins, "begun 2"),
+        (1, Does::Scans, "left 1"),
+        (2, Does::Inserts(1), "inserted 3"),
+        (2, Does::Updates(2, 3), "updated 2"),
+        (2, Does::Deletes(1), "deleted 1"),
+        (2, Does::Gets(2), "row 2: 3"),
+        (2, Does::AsksRoom, "room 0"),
+        (1, Does::Scans, "left 0"),
+        (1, Does::Finishes, "answer level 1 id 1: 5"),
+        (1, Does::Begins, "begun 2"),
+        (1, Does::Abandons, "abandoned"),
+        (1, Does::Finishes, "refused: no query"),
+    ];
+    for (client, does, wanted) in run {
+        let event = Event {
+            client,
+            act: act(alloc, schema, does)?,
+        };
+        let reply = told_in_the_end(rt, alloc, machine, event);
+        assert_eq!(rt; reply_text(alloc, &reply)?.as_str(), wanted);
+    }
+    Ok(())
+}
+
+#[test]
+fn each_act_changes_nothing_where_refused_and_is_made_again(rt: HostRuntime) -> Result<(), Fail> {
+    let alloc = rt.alloc();
+    with_machine(alloc, |schema, machine| {
+        go_through_a_run(&rt, alloc, schema, machine)
+    })
+}
+
+/// Scans a block, once more where memory was refused: until then as many blocks are left as before.
+fn scan_in_the_end(rt: &impl Abort, alloc: Global, query: &mut Query, store: &Store) -> u32
+    requires { NextIsNew query.old store.now.slots }
+{
+    let before = query.left();
+    match query.scan(alloc, store) {
+        Ok(left) => left,
+        Err(fault) => {
+            assert_eq!(rt; fault, CoreFault::OutOfMemory);
+            assert_eq!(rt; query.left(), before);
+            query.scan(alloc, store).expect(rt, "memory")
+        }
+    }
+}
+
+/// The answer, asked for once more where memory was refused.
+fn answer_in_the_end(rt: &impl Abort, alloc: Global, query: &Query) -> Vec<Ranked> {
+    match query.answer(alloc) {
+        Ok(ranked) => ranked,
+        Err(fault) => {
+            assert_eq!(rt; fault, CoreFault::OutOfMemory);
+            query.answer(alloc).expect(rt, "memory")
+        }
+    }
+}
+
+/// Scans the one block of a query, and asks for its answer before and after.
+fn scan_and_answer(
+    rt: &impl Abort,
+    alloc: Global,
+    query: &mut Query,
+    store: &Store,
+) -> Result<(), Fail>
+    requires { NextIsNew query.old store.now.slots }
+{
+    assert_eq!(rt; query.left(), 1);
+    assert_eq!(rt;
+        query.answer(alloc).err(),
+        Some(CoreFault::NotDone { left: 1 })
+    );
+    assert_eq!(rt; scan_in_the_end(rt, alloc, query, store), 0);
+    let ranked = RankedList::of(answer_in_the_end(rt, alloc, query));
+    assert_eq!(rt;
+        answer_text(alloc, &ranked)?.as_str(),
+        "answer level 1 id 1: 4 level 1 id 3: 4 level 2 id 2: 6"
+    );
+    Ok(())
+}
+
+#[test]
+fn a_query_is_scanned_and_answered_again_after_a_refusal(rt: HostRuntime) -> Result<(), Fail> {
+    let alloc = rt.alloc();
+    let schema = columns(alloc)?;
+    let setup = Setup::new(1, 3, 3, 1).ok_or("setup")?;
+    assert_eq!(rt; setup.blocks(), 1);
+    let ask = read_ask(alloc, &schema, b"top_level 2 low(x)")?;
+    let store = Store::new(alloc, &setup, &rows(alloc, &schema, &[4, 6, 4])?)?;
+    let mut query = Query::begin(ask, store.stamp(), &setup);
+    scan_and_answer(&rt, alloc, &mut query, &store)
+}
+
+/// The replies of a part are the first of these, and where it stopped some are left.
+fn are_first(rt: &impl Abort, alloc: Global, part: &Part, replies: &[&str]) -> Result<(), Fail> {
+    assert_eq!(rt; part.stopped, part.replies.len() < replies.len());
+    for (reply, wanted) in part.replies.iter().zip(replies) {
+        assert_eq!(rt; reply_text(alloc, reply)?.as_str(), *wanted);
+    }
+    Ok(())
+}
+
+/// Whether a run came to its end. The replies that it has are the first of these.
+fn is_whole(
+    rt: &impl Abort,
+    alloc: Global,
+    setup: Setup,
+    opening: &[Row],
+    events: Vec<Event>,
+    replies: &[&str],
+) -> Result<bool, Fail> {
+    let part = match replay_part(alloc, setup, opening, events) {
+        Ok(part) => part,
+        Err(fault) => {
+            assert_eq!(rt; fault, CoreFault::OutOfMemory);
+            return Ok(false);
+        }
+    };
+    are_first(rt, alloc, &part, replies)?;
+    Ok(!part.stopped)
+}
+
+/// Plays a run, once more where it was stopped.
+fn check_run<E: Fn() -> Result<Vec<Event>, Fail>>(
+    rt: &impl Abort,
+    alloc: Global,
+    setup: Setup,
+    opening: &[Row],
+    events: E,
+    replies: &[&str],
+) -> Result<(), Fail>
+    requires { E.IsAlwaysCallable events }
+{
+    if !is_whole(rt, alloc, setup, opening, events()?, replies)? {
+        assert!(rt; is_whole(rt, alloc, setup, opening, events()?, replies)?);
+    }
+    Ok(())
+}
+
+/// Plays a run of two clients over the column x.
+fn check_run_of_two(
+    rt: &impl Abort,
+    alloc: Global,
+    capacity: u32,
+    values: &[i64],
+    run: &[(u8, Does)],
+    replies: &[&str],
+) -> Result<(), Fail> {
+    let schema = columns(alloc)?;
+    let setup = Setup::new(2, capacity, 2, 64).ok_or("setup")?;
+    let opening = rows(alloc, &schema, values)?;
+    check_run(
+        rt,
+        alloc,
+        setup,
+        &opening,
+        || events_of(alloc, &schema, run),
+        replies,
+    )
+}
+
+#[test]
+fn a_stopped_run_keeps_its_first_replies_while_slots_are_used_again(
+    rt: HostRuntime,
+) -> Result<(), Fail> {
+    let run = [
+        (1, Does::Begins),
+        (1, Does::Scans),
+        (2, Does::Deletes(1)),
+        (2, Does::Inserts(1)),
+        (2, Does::AsksRoom),
+        (1, Does::Scans),
+        (1, Does::Finishes),
+        (2, Does::Begins),
+        (2, Does::Scans),
+        (2, Does::Scans),
+        (2, Does::Finishes),
+    ];
+    let replies = [
+        "begun 2",
+        "left 1",
+        "deleted 1",
+        "inserted 4",
+        "room 0",
+        "left 0",
+        "answer level 1 id 1: 5",
+        "begun 2",
+        "left 1",
+        "left 0",
+        "answer level 1 id 4: 1",
+    ];
+    check_run_of_two(&rt, rt.alloc(), 4, &[5, 7, 9], &run, &replies)
+}
+
+#[test]
+fn a_stopped_run_keeps_its_first_replies_while_a_row_is_updated(
+    rt: HostRuntime,
+) -> Result<(), Fail> {
+    let run = [
+        (1, Does::Begins),
+        (2, Does::Updates(1, 1)),
+        (2, Does::Updates(1, 2)),
+        (2, Does::AsksRoom),
+        (1, Does::Scans),
+        (1, Does::Scans),
+        (1, Does::Finishes),
+        (2, Does::AsksRoom),
+        (2, Does::Gets(1)),
+    ];
+    let replies = [
+        "begun 2",
+        "updated 1",
+        "updated 1",
+        "room 1",
+        "left 1",
+        "left 0",
+        "answer level 1 id 1: 5",
+        "room 2",
+        "row 1: 2",
+    ];
+    check_run_of_two(&rt, rt.alloc(), 3, &[5], &run, &replies)
+}
+
+/// A begin, its two scans and its finish.
+fn asked(alloc: Global, schema: &Schema, text: &[u8]) -> Result<Vec<Event>, Fail> {
+    let begin = Act::Begin(read_ask(alloc, schema, text)?);
+    let mut events = Vec::new(alloc);
+    for act in [begin, Act::Scan, Act::Scan, Act::Finish] {
+        events.push(Event { client: 1, act })?;
+    }
+    Ok(events)
+}
+
+#[test]
+fn a_stopped_run_keeps_its_first_replies_before_an_answer_of_three_levels(
+    rt: HostRuntime,
+) -> Result<(), Fail> {
+    let alloc = rt.alloc();
+    let names = [b"x".as_slice(), b"y".as_slice()];
+    let schema = Schema::new(alloc, names.as_slice())?;
+    let setup = Setup::new(1, 12, 6, 64).ok_or("setup")?;
+    let mut opening = Vec::new(alloc);
+    for cells in [
+        [20, 1],
+        [4, 16],
+        [5, 15],
+        [6, 14],
+        [7, 13],
+        [21, 2],
+        [1, 10],
+        [2, 11],
+        [3, 12],
+    ] {
+        opening.push(Row::of(&schema, &cells)?)?;
+    }
+    let replies = [
+        "begun 2",
+        "left 1",
+        "left 0",
+        "answer level 1 id 1: 20 level 1 id 7: 1 level 2 id 6: 21 level 2 id 8: 2 level 3 id 9: 3",
+    ];
+    let question = b"at_least 5 low(x) * low(y)";
+    check_run(
+        &rt,
+        alloc,
+        setup,
+        &opening,
+        || asked(alloc, &schema, question),
+        &replies,
+    )
+}

@@ -1,0 +1,13 @@
+//! The tests of pref_table, pref_term, pref_sky and pref_core, through their public items.
+//!
+//! They stand in a crate of their own because a crate that holds tests is proved twice.
+#![tactic(auto)]
+
+#[cfg(test)]
+mod engine;
+#[cfg(test)]
+mod questions;
+#[cfg(test)]
+mod skylines;
+#[cfg(test)]
+mod tables;

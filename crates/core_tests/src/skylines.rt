@@ -1,0 +1,7 @@
+//! Worked examples, lists cut into pieces, windows of every size, and refused growths.
+mod answers;
+mod cuttings;
+mod fixtures;
+mod passes;
+mod plain;
+mod refusals;

@@ -1,0 +1,84 @@
+//! Levels, however the rows are cut into two pieces.
+ghost use Rattle.std.specs.Prelude.{◌≡◌, ◌++◌, IfOk};
+ghost use Rattle.pref_sky.specs.Levels.{HaveDifferentIds, entry_order, levels};
+
+use super::fixtures::{LowBoth, LowInGroup, PAIRS, numbered, places_of};
+use super::plain::add_plainly;
+use pref_sky::{Entry, Partial, Ranked, levels};
+use pref_term::Dominance;
+use std::alloc::{AllocError, Global};
+use std::process::Abort;
+use std::test::Fail;
+
+/// A partial result of two pieces, and beside it what the plain merge makes of the second one.
+pub(super) fn added_in_two<D: Dominance>(
+    alloc: Global,
+    dominance: &D,
+    cut: u32,
+    front: &[Entry],
+    back: &[Entry],
+) -> Result<(Partial, Vec<Ranked>), AllocError>
+    requires { HaveDifferentIds (front.now ++ back.now) }
+    ensures { IfOk result (λ both. both.0 ≡ levels (entry_order (D.order dominance.now)) (front.now ++ back.now) cut) }
+{
+    let mut partial = Partial::empty();
+    partial.add(alloc, dominance, 2, cut, front)?;
+    let plain = add_plainly(alloc, dominance, 2, cut, &partial, back)?;
+    partial.add(alloc, dominance, 2, cut, back)?;
+    Ok((partial, plain))
+}
+
+fn check_every_cutting<D: Dominance>(
+    rt: &impl Abort,
+    alloc: Global,
+    dominance: &D,
+    cut: u32,
+    entries: &[Entry],
+    places: &[(u32, u64)],
+) -> Result<(), Fail>
+    requires { HaveDifferentIds entries.now }
+{
+    let whole = levels(alloc, dominance, 1, cut, entries)?;
+    assert_eq!(rt; places_of(alloc, &whole)?.as_slice(), places);
+    for at in 0..=entries.len() {
+        let (front, back) = entries.split_at(at);
+        let (partial, plain) = added_in_two(alloc, dominance, cut, front, back)?;
+        assert_eq!(rt; partial.as_slice(), plain.as_slice(), "cut at {at}");
+        assert_eq!(rt; partial.as_slice(), whole.as_slice(), "cut at {at}");
+    }
+    Ok(())
+}
+
+#[test]
+fn five_levels_of_nine_rows(rt: HostRuntime) -> Result<(), Fail> {
+    let alloc = rt.alloc();
+    let entries = numbered(alloc, &PAIRS)?;
+    let places = [
+        (1, 1),
+        (1, 7),
+        (2, 6),
+        (2, 8),
+        (3, 9),
+        (4, 2),
+        (4, 3),
+        (4, 4),
+        (4, 5),
+    ];
+    check_every_cutting(&rt, alloc, &LowBoth, 5, &entries, &places)
+}
+
+#[test]
+fn two_levels_within_groups(rt: HostRuntime) -> Result<(), Fail> {
+    let alloc = rt.alloc();
+    let entries = numbered(alloc, &[(1, 1), (2, 1), (2, 1), (9, 2)])?;
+    let places = [(1, 1), (1, 4), (2, 2), (2, 3)];
+    check_every_cutting(&rt, alloc, &LowInGroup, 2, &entries, &places)
+}
+
+#[test]
+fn a_thousand_levels_of_few_rows(rt: HostRuntime) -> Result<(), Fail> {
+    let alloc = rt.alloc();
+    let entries = numbered(alloc, &[(3, 3), (1, 1), (2, 2)])?;
+    let places = [(1, 2), (2, 3), (3, 1)];
+    check_every_cutting(&rt, alloc, &LowBoth, 1000, &entries, &places)
+}

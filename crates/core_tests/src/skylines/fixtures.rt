@@ -1,0 +1,88 @@
+//! Two small orders, and rows with the ids 1, 2, ..
+ghost use Rattle.std.specs.Prelude.{IfOk};
+ghost use Rattle.pref_sky.specs.Levels.{HaveDifferentIds};
+
+use pref_sky::{Entry, Ranked};
+use pref_table::{Row, Schema, TableFault};
+use pref_term::Dominance;
+use std::alloc::{AllocError, Global};
+
+/// Nine rows, of which two are best.
+pub(crate) const PAIRS: [(i64, i64); 9] = [
+    (20, 1),
+    (4, 16),
+    (5, 15),
+    (6, 14),
+    (7, 13),
+    (21, 2),
+    (1, 10),
+    (2, 11),
+    (3, 12),
+];
+
+/// Smaller is better in both columns.
+pub(crate) struct LowBoth;
+
+impl Dominance for LowBoth {
+    ghost use Rattle.std.specs.Prelude.{[]};
+    ghost use Rattle.pref_term.specs.AskOrder.{order_of, order_of_is_strict};
+    ghost use Rattle.pref_term.specs.Preference.{low, pareto, scored};
+    ghost use Rattle.pref_term.specs.declared.ask.Mode.TheVariants.{Best};
+
+    ghost order = { λ _. order_of (record { preference = pareto (scored (low 0)) (scored (low 1)); group = []; mode = Best }) };
+
+    ghost strict = { λ _. order_of_is_strict (record { preference = pareto (scored (low 0)) (scored (low 1)); group = []; mode = Best }) };
+
+    fn over(&self, a: &Row, b: &Row) -> bool {
+        let first = a.cell(0) <= b.cell(0);
+        let second = a.cell(1) <= b.cell(1);
+        (a.cell(0) < b.cell(0) && second) || (a.cell(1) < b.cell(1) && first)
+    }
+}
+
+/// Smaller is better in the first column, among rows that are equal in the second.
+pub(crate) struct LowInGroup;
+
+impl Dominance for LowInGroup {
+    ghost use Rattle.std.specs.Prelude.{[], ◌∷◌};
+    ghost use Rattle.pref_term.specs.AskOrder.{order_of, order_of_is_strict};
+    ghost use Rattle.pref_term.specs.Preference.{low, scored};
+    ghost use Rattle.pref_term.specs.declared.ask.Mode.TheVariants.{Best};
+
+    ghost order = { λ _. order_of (record { preference = scored (low 0); group = 1 ∷ []; mode = Best }) };
+
+    ghost strict = { λ _. order_of_is_strict (record { preference = scored (low 0); group = 1 ∷ []; mode = Best }) };
+
+    fn over(&self, a: &Row, b: &Row) -> bool {
+        a.cell(1) == b.cell(1) && a.cell(0) < b.cell(0)
+    }
+}
+
+/// The rows of two columns, with the ids 1, 2, ..
+pub(crate) fn numbered(alloc: Global, rows: &[(i64, i64)]) -> Result<Vec<Entry>, TableFault>
+    ensures { IfOk result (λ entries. HaveDifferentIds entries.items) }
+{
+    let names: [&[u8]; 2] = [b"x", b"y"];
+    let schema = Schema::new(alloc, &names)?;
+    let mut entries = Vec::with_capacity(alloc, rows.len())?;
+    let mut id = 0;
+    for cells in rows {
+        id += 1;
+        let row = Row::of(&schema, &[cells.0, cells.1])?;
+        entries.push(Entry { id, row })?;
+    }
+    Ok(entries)
+}
+
+/// The ids of entries.
+pub(crate) fn ids_of(alloc: Global, entries: &[Entry]) -> Result<Vec<u64>, AllocError> {
+    entries.iter().map(|entry| entry.id).collect(alloc)
+}
+
+/// The levels and ids of ranked entries.
+pub(crate) fn places_of(alloc: Global, ranked: &[Ranked]) -> Result<Vec<(u32, u64)>, AllocError> {
+    ranked
+        .iter()
+        .map(|entry| (entry.level, entry.id))
+        .collect(alloc)
+}

@@ -1,0 +1,86 @@
+//! Requests for memory that are refused. `tests/refuse_each_allocation.sh` runs these tests once for each of their requests,
+//! and refuses it; where none is refused they show that the calls succeed.
+ghost use Rattle.std.specs.Prelude.{◌≡◌, ◌++◌, List, map, OnOk};
+ghost use Rattle.pref_sky.specs.Levels.{HaveDifferentIds, entry_of, entry_order, levels};
+ghost use Rattle.pref_sky.specs.declared.entry.Entry.{Entry};
+
+use super::answers::ask_of;
+use super::cuttings::added_in_two;
+use super::fixtures::{LowBoth, PAIRS, numbered, places_of};
+use pref_sky::{Entry, Partial, Ranked, answer, levels};
+use pref_term::Dominance;
+use std::alloc::Global;
+use std::process::Abort;
+use std::test::Fail;
+
+/// Adds entries, once more where it was refused: until then what is held must be as before.
+fn add_in_the_end<D: Dominance>(
+    rt: &impl Abort,
+    alloc: Global,
+    dominance: &D,
+    partial: &mut Partial,
+    held: &[Ranked],
+    entries: &[Entry],
+) -> Result<(), Fail>
+    requires { HaveDifferentIds (map entry_of partial.old ++ entries.now) }
+    ensures { OnOk result ((before : List Entry) → HaveDifferentIds (before ++ entries.now)
+        → partial.old ≡ levels (entry_order (D.order dominance.now)) before 2
+        → partial.new ≡ levels (entry_order (D.order dominance.now)) (before ++ entries.now) 2) }
+{
+    assert_eq!(rt; partial.as_slice(), held);
+    if partial.add(alloc, dominance, 1, 2, entries).is_err() {
+        assert_eq!(rt; partial.as_slice(), held);
+        let again = partial.add(alloc, dominance, 1, 2, entries);
+        assert!(rt; again.is_ok());
+        again?;
+    }
+    Ok(())
+}
+
+fn check_refused<D: Dominance>(
+    rt: &impl Abort,
+    alloc: Global,
+    dominance: &D,
+    front: &[Entry],
+    back: &[Entry],
+) -> Result<(), Fail>
+    requires { HaveDifferentIds (front.now ++ back.now) }
+{
+    let first = levels(alloc, dominance, 1, 2, front)?;
+    let mut partial = Partial::empty();
+    add_in_the_end(rt, alloc, dominance, &mut partial, &[], front)?;
+    add_in_the_end(rt, alloc, dominance, &mut partial, &first, back)?;
+    assert_eq!(rt; partial.as_slice().len(), 4);
+    Ok(())
+}
+
+#[test]
+fn a_refused_add_changes_nothing_and_is_made_again(rt: HostRuntime) -> Result<(), Fail> {
+    let alloc = rt.alloc();
+    let rows = [(5, 5), (9, 1), (7, 7), (8, 8), (1, 9), (4, 5), (9, 9)];
+    let entries = numbered(alloc, &rows)?;
+    let (front, back) = entries.as_slice().split_at(entries.len().min(4));
+    check_refused(&rt, alloc, &LowBoth, front, back)
+}
+
+#[test]
+fn a_refused_answer_changes_nothing_and_is_made_again(rt: HostRuntime) -> Result<(), Fail> {
+    let alloc = rt.alloc();
+    let ask = ask_of(alloc, b"at_least 5 low(x) * low(y)")?;
+    let entries = numbered(alloc, &PAIRS)?;
+    let (front, back) = entries.as_slice().split_at(entries.len().min(4));
+    let (partial, _) = added_in_two(alloc, &ask, ask.cut(), front, back)?;
+    let held = Vec::from_slice(alloc, partial.as_slice())?;
+    let ranked = match answer(alloc, &ask, &partial) {
+        Ok(ranked) => ranked,
+        Err(_) => {
+            assert_eq!(rt; partial.as_slice(), held.as_slice());
+            answer(alloc, &ask, &partial).expect(&rt, "memory")
+        }
+    };
+    assert_eq!(rt;
+        places_of(alloc, &ranked)?.as_slice(),
+        [(1, 1), (1, 7), (2, 6), (2, 8), (3, 9)].as_slice()
+    );
+    Ok(())
+}

@@ -1,6 +1,0 @@
-//! Worked examples, lists cut into pieces, windows of every size, and refused growths.
-mod answers;
-mod cuttings;
-mod fixtures;
-mod passes;
-mod refusals;
