@@ -7,12 +7,14 @@ mod plans;
 mod refusals;
 mod replies;
 
+use crate::same::{assert_same, assert_same_text};
 use pref_core::{
     Act, CoreFault, Event, Machine, RankedList, Reply, Setup, Store, replay, replay_part,
 };
 use pref_table::{Row, Schema};
 use pref_term::read_ask;
 use std::alloc::Global;
+use std::process::Abort;
 use std::test::Fail;
 
 /// What a client does, over a table with the column x alone. A query asks for the rows with the smallest x.
@@ -121,20 +123,24 @@ fn replies_text(alloc: Global, replies: &[Reply]) -> Result<String, Fail> {
     Ok(text)
 }
 
-/// The replies to a run of eight clients.
-fn played(
+/// The replies to a run of eight clients are these.
+fn check_told(
+    rt: &impl Abort,
     alloc: Global,
     capacity: u32,
     block: u32,
     values: &[i64],
     run: &[(u8, Does)],
-) -> Result<String, Fail> {
+    wanted: &str,
+) -> Result<(), Fail> {
     let schema = columns(alloc)?;
     let setup = Setup::new(8, capacity, block, 64).ok_or("setup")?;
     let opening = rows(alloc, &schema, values)?;
     let events = events_of(alloc, &schema, run)?;
     let replies = replay(alloc, setup, &opening, events)?;
-    replies_text(alloc, &replies)
+    let told = replies_text(alloc, &replies)?;
+    assert_same_text(rt, (capacity, values), told.as_str(), wanted);
+    Ok(())
 }
 
 /// Lends a store of three slots with these rows, for two clients, and its schema. A proof pays for each way out of a function that owns
@@ -176,12 +182,9 @@ fn a_query_answers_the_table_at_its_begin(rt: HostRuntime) -> Result<(), Fail> {
         (1, Does::Scans),
         (1, Does::Finishes),
     ];
-    let told = played(rt.alloc(), 1024, 1024, &[], run.as_slice())?;
-    assert_eq!(rt;
-        told.as_str(),
-        "inserted 1 / inserted 2 / inserted 3 / begun 1 / inserted 4 / left 0 / answer level 1 id 2: 10 / "
-    );
-    Ok(())
+    let wanted =
+        "inserted 1 / inserted 2 / inserted 3 / begun 1 / inserted 4 / left 0 / answer level 1 id 2: 10 / ";
+    check_told(&rt, rt.alloc(), 1024, 1024, &[], &run, wanted)
 }
 
 #[test]
@@ -192,9 +195,8 @@ fn an_empty_table_is_scanned_in_two_blocks(rt: HostRuntime) -> Result<(), Fail> 
         (1, Does::Scans),
         (1, Does::Finishes),
     ];
-    let told = played(rt.alloc(), 4, 2, &[], run.as_slice())?;
-    assert_eq!(rt; told.as_str(), "begun 2 / left 1 / left 0 / answer / ");
-    Ok(())
+    let wanted = "begun 2 / left 1 / left 0 / answer / ";
+    check_told(&rt, rt.alloc(), 4, 2, &[], &run, wanted)
 }
 
 #[test]
@@ -212,12 +214,9 @@ fn a_deleted_row_is_still_answered(rt: HostRuntime) -> Result<(), Fail> {
         (2, Does::Scans),
         (2, Does::Finishes),
     ];
-    let told = played(rt.alloc(), 4, 2, &[5, 7, 9], run.as_slice())?;
-    assert_eq!(rt;
-        told.as_str(),
-        "begun 2 / left 1 / deleted 1 / inserted 4 / room 0 / left 0 / answer level 1 id 1: 5 / begun 2 / left 1 / left 0 / answer level 1 id 4: 1 / "
-    );
-    Ok(())
+    let wanted =
+        "begun 2 / left 1 / deleted 1 / inserted 4 / room 0 / left 0 / answer level 1 id 1: 5 / begun 2 / left 1 / left 0 / answer level 1 id 4: 1 / ";
+    check_told(&rt, rt.alloc(), 4, 2, &[5, 7, 9], &run, wanted)
 }
 
 #[test]
@@ -230,12 +229,8 @@ fn room_is_exact(rt: HostRuntime) -> Result<(), Fail> {
         (2, Does::Gets(1)),
         (2, Does::AsksRoom),
     ];
-    let told = played(rt.alloc(), 2, 2, &[1, 2], run.as_slice())?;
-    assert_eq!(rt;
-        told.as_str(),
-        "begun 1 / refused: full needed 3 / abandoned / updated 1 / row 1: 9 / room 0 / "
-    );
-    Ok(())
+    let wanted = "begun 1 / refused: full needed 3 / abandoned / updated 1 / row 1: 9 / room 0 / ";
+    check_told(&rt, rt.alloc(), 2, 2, &[1, 2], &run, wanted)
 }
 
 #[test]
@@ -248,12 +243,8 @@ fn a_full_table_takes_an_update(rt: HostRuntime) -> Result<(), Fail> {
         (1, Does::AsksRoom),
         (1, Does::Inserts(8)),
     ];
-    let told = played(rt.alloc(), 2, 2, &[1, 2], run.as_slice())?;
-    assert_eq!(rt;
-        told.as_str(),
-        "updated 2 / room 0 / refused: full needed 3 / deleted 2 / room 1 / inserted 3 / "
-    );
-    Ok(())
+    let wanted = "updated 2 / room 0 / refused: full needed 3 / deleted 2 / room 1 / inserted 3 / ";
+    check_told(&rt, rt.alloc(), 2, 2, &[1, 2], &run, wanted)
 }
 
 #[test]
@@ -272,12 +263,9 @@ fn refusals_come_in_their_order(rt: HostRuntime) -> Result<(), Fail> {
         (0, Does::Scans),
         (1, Does::Gets(7)),
     ];
-    let told = played(rt.alloc(), 2, 1, &[4], run.as_slice())?;
-    assert_eq!(rt;
-        told.as_str(),
-        "refused: no query / begun 2 / refused: query open / refused: not done left 2 / left 1 / left 0 / refused: all scanned / answer level 1 id 1: 4 / refused: no query / refused: no such client / refused: no such client / refused: no such row 7 / "
-    );
-    Ok(())
+    let wanted =
+        "refused: no query / begun 2 / refused: query open / refused: not done left 2 / left 1 / left 0 / refused: all scanned / answer level 1 id 1: 4 / refused: no query / refused: no such client / refused: no such client / refused: no such row 7 / ";
+    check_told(&rt, rt.alloc(), 2, 1, &[4], &run, wanted)
 }
 
 #[test]
@@ -294,12 +282,9 @@ fn a_refused_insert_uses_no_id(rt: HostRuntime) -> Result<(), Fail> {
         (2, Does::Deletes(1)),
         (2, Does::Inserts(6)),
     ];
-    let told = played(rt.alloc(), 2, 1, &[], run.as_slice())?;
-    assert_eq!(rt;
-        told.as_str(),
-        "inserted 1 / begun 2 / inserted 2 / refused: full needed 3 / left 1 / left 0 / answer level 1 id 1: 4 / room 0 / deleted 1 / inserted 3 / "
-    );
-    Ok(())
+    let wanted =
+        "inserted 1 / begun 2 / inserted 2 / refused: full needed 3 / left 1 / left 0 / answer level 1 id 1: 4 / room 0 / deleted 1 / inserted 3 / ";
+    check_told(&rt, rt.alloc(), 2, 1, &[], &run, wanted)
 }
 
 #[test]
@@ -314,12 +299,9 @@ fn two_updates_under_a_query_leave_one_slot(rt: HostRuntime) -> Result<(), Fail>
         (2, Does::AsksRoom),
         (2, Does::Gets(1)),
     ];
-    let told = played(rt.alloc(), 3, 3, &[5], run.as_slice())?;
-    assert_eq!(rt;
-        told.as_str(),
-        "begun 1 / updated 1 / updated 1 / room 1 / left 0 / answer level 1 id 1: 5 / room 2 / row 1: 2 / "
-    );
-    Ok(())
+    let wanted =
+        "begun 1 / updated 1 / updated 1 / room 1 / left 0 / answer level 1 id 1: 5 / room 2 / row 1: 2 / ";
+    check_told(&rt, rt.alloc(), 3, 3, &[5], &run, wanted)
 }
 
 /// Each client begins, and updates the one row.
@@ -339,13 +321,13 @@ fn scan_and_finish(run: &mut Vec<(u8, Does)>) -> Result<(), Fail> {
     Ok(())
 }
 
-/// What eight clients are told, each of whom begins before it updates the one row, and then how much room there is.
-fn told_at_eight_stamps(alloc: Global) -> Result<String, Fail> {
+/// Eight clients begin, each before it updates the one row, and ask then; in the end one asks how much room there is.
+fn run_at_eight_stamps(alloc: Global) -> Result<Vec<(u8, Does)>, Fail> {
     let mut run = Vec::new(alloc);
     begin_and_update(&mut run)?;
     scan_and_finish(&mut run)?;
     run.push((1, Does::AsksRoom))?;
-    played(alloc, 9, 9, &[0], run.as_slice())
+    Ok(run)
 }
 
 /// Client K begins after K - 1 updates of the one row, and is told the row as it was then, while the slots of
@@ -353,14 +335,12 @@ fn told_at_eight_stamps(alloc: Global) -> Result<String, Fail> {
 #[test]
 fn eight_clients_ask_at_eight_stamps(rt: HostRuntime) -> Result<(), Fail> {
     let alloc = rt.alloc();
-    let told = told_at_eight_stamps(alloc)?;
-    let begun = "begun 1 / updated 1 / ".repeat(alloc, 8)?;
-    assert!(rt; told.as_str().starts_with(begun.as_str()));
+    let run = run_at_eight_stamps(alloc)?;
+    let mut told = "begun 1 / updated 1 / ".repeat(alloc, 8)?;
     let finished =
         "left 0 / answer level 1 id 1: 0 / left 0 / answer level 1 id 1: 1 / left 0 / answer level 1 id 1: 2 / left 0 / answer level 1 id 1: 3 / left 0 / answer level 1 id 1: 4 / left 0 / answer level 1 id 1: 5 / left 0 / answer level 1 id 1: 6 / left 0 / answer level 1 id 1: 7 / room 8 / ";
-    assert!(rt; told.as_str().ends_with(finished));
-    assert_eq!(rt; told.len(), begun.len() + finished.len());
-    Ok(())
+    told.push_str(finished)?;
+    check_told(&rt, alloc, 9, 9, &[0], run.as_slice(), told.as_str())
 }
 
 /// So many events in which client 1 asks for room.
@@ -375,8 +355,11 @@ fn asks_for_room(alloc: Global, count: u32) -> Result<Vec<Event>, Fail> {
     Ok(events)
 }
 
-fn are_all_room(replies: &[Reply]) -> bool {
-    replies.iter().all(|reply| matches!(reply, Reply::Room(1)))
+/// So many replies, each of which tells room for one row.
+fn check_all_room(rt: &impl Abort, replies: &[Reply], count: usize) {
+    assert_same(rt, "replies", &replies.len(), &count);
+    let all = replies.iter().all(|reply| matches!(reply, Reply::Room(1)));
+    assert_same(rt, "room for one", &all, &true);
 }
 
 #[test]
@@ -385,8 +368,7 @@ fn a_million_events_are_answered_in_turn(rt: HostRuntime) -> Result<(), Fail> {
     let setup = Setup::new(1, 1, 1, 1).ok_or("setup")?;
     let events = asks_for_room(alloc, 1_000_000)?;
     let replies = replay(alloc, setup, &[], events)?;
-    assert_eq!(rt; replies.len(), 1_000_000);
-    assert!(rt; are_all_room(&replies));
+    check_all_room(&rt, &replies, 1_000_000);
     Ok(())
 }
 
@@ -395,9 +377,8 @@ fn a_part_is_the_whole_where_memory_is_there(rt: HostRuntime) -> Result<(), Fail
     let alloc = rt.alloc();
     let setup = Setup::new(1, 1, 1, 1).ok_or("setup")?;
     let part = replay_part(alloc, setup, &[], asks_for_room(alloc, 3)?)?;
-    assert!(rt; !part.stopped);
-    assert_eq!(rt; part.replies.len(), 3);
-    assert!(rt; are_all_room(&part.replies));
+    assert_same(&rt, "stopped", &part.stopped, &false);
+    check_all_room(&rt, &part.replies, 3);
     Ok(())
 }
 
@@ -408,20 +389,20 @@ fn too_many_opening_rows_are_refused(rt: HostRuntime) -> Result<(), Fail> {
     let setup = Setup::new(1, 2, 1, 1).ok_or("setup")?;
     let opening = rows(alloc, &schema, &[1, 2, 3])?;
     let told = replay(alloc, setup, &opening, Vec::new(alloc)).err();
-    assert_eq!(rt; told, Some(CoreFault::Full { needed: 3 }));
-    let part = replay_part(alloc, setup, &opening, Vec::new(alloc));
-    assert_eq!(rt; part.err(), Some(CoreFault::Full { needed: 3 }));
+    assert_same(&rt, "whole", &told, &Some(CoreFault::Full { needed: 3 }));
+    let told = replay_part(alloc, setup, &opening, Vec::new(alloc)).err();
+    assert_same(&rt, "part", &told, &Some(CoreFault::Full { needed: 3 }));
     Ok(())
 }
 
 #[test]
 fn a_setup_has_its_limits(rt: HostRuntime) -> Result<(), Fail> {
     let setup = Setup::new(8, 10, 4, 1).ok_or("setup")?;
-    assert_eq!(rt; setup.clients(), 8);
-    assert_eq!(rt; setup.capacity(), 10);
-    assert_eq!(rt; setup.block(), 4);
-    assert_eq!(rt; setup.window(), 1);
-    assert_eq!(rt; setup.blocks(), 3);
+    assert_same(&rt, "clients", &setup.clients(), &8);
+    assert_same(&rt, "capacity", &setup.capacity(), &10);
+    assert_same(&rt, "block", &setup.block(), &4);
+    assert_same(&rt, "window", &setup.window(), &1);
+    assert_same(&rt, "blocks", &setup.blocks(), &3);
     for (clients, capacity, block, window) in [
         (0, 1, 1, 1),
         (9, 1, 1, 1),
@@ -430,7 +411,9 @@ fn a_setup_has_its_limits(rt: HostRuntime) -> Result<(), Fail> {
         (1, 1, 0, 1),
         (1, 1, 1, 0),
     ] {
-        assert!(rt; Setup::new(clients, capacity, block, window).is_none());
+        let case = (clients, capacity, block, window);
+        let refused = Setup::new(clients, capacity, block, window).is_none();
+        assert_same(&rt, case, &refused, &true);
     }
     Ok(())
 }
@@ -438,7 +421,7 @@ fn a_setup_has_its_limits(rt: HostRuntime) -> Result<(), Fail> {
 #[test]
 fn an_answer_is_given_back(rt: HostRuntime) -> Result<(), Fail> {
     let list = RankedList::of(Vec::new(rt.alloc()));
-    assert_eq!(rt; list.as_slice().len(), 0);
-    assert_eq!(rt; list.into_vec().len(), 0);
+    assert_same(&rt, "rows", &list.as_slice().len(), &0);
+    assert_same(&rt, "rows given back", &list.into_vec().len(), &0);
     Ok(())
 }

@@ -8,6 +8,8 @@ mod engine;
 #[cfg(test)]
 mod questions;
 #[cfg(test)]
+mod same;
+#[cfg(test)]
 mod skylines;
 #[cfg(test)]
 mod tables;

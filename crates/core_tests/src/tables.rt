@@ -1,6 +1,7 @@
 //! Table texts with the results that the format names.
 mod refusals;
 
+use crate::same::{assert_same, assert_same_list, assert_same_text};
 use pref_table::{
     Row, Schema, TableFault, blanks_length, is_name_byte, read_row, read_table, signed_number,
 };
@@ -8,10 +9,7 @@ use std::alloc::Global;
 use std::test::Fail;
 
 fn fault_of(alloc: Global, text: &[u8]) -> Option<TableFault> {
-    match read_table(alloc, text) {
-        Ok(_) => None,
-        Err(fault) => Some(fault),
-    }
+    read_table(alloc, text).err()
 }
 
 /// The cells of the first two columns of a row.
@@ -23,69 +21,67 @@ fn pair(row: &Row) -> (i64, i64) {
 fn marks_quotes_and_line_ends(rt: HostRuntime) -> Result<(), Fail> {
     let text = b"\xEF\xBB\xBF\xEF\xBB\xBF\"a\",\"b\"\r\n +007 ,-0\r\n";
     let (schema, rows) = read_table(rt.alloc(), text)?;
-    assert_eq!(rt; schema.width(), 2);
-    assert_eq!(rt; schema.index_of(b"b"), Some(1));
-    assert_eq!(rt; schema.index_of(b"B"), None);
-    assert_eq!(rt; rows.len(), 1);
-    assert_eq!(rt; pair(&rows[0]), (7, 0));
-    assert_eq!(rt; rows[0].cell(15), 0);
+    let [row] = rows.as_slice() else {
+        return Err("one row".into());
+    };
+    assert_same(&rt, "width", &schema.width(), &2);
+    assert_same(&rt, "b", &schema.index_of(b"b"), &Some(1));
+    assert_same(&rt, "B", &schema.index_of(b"B"), &None);
+    assert_same(&rt, "its columns", &pair(row), &(7, 0));
+    assert_same(&rt, "no column", &row.cell(15), &0);
     Ok(())
 }
 
 #[test]
 fn records_as_csv_reads_them(rt: HostRuntime) -> Result<(), Fail> {
-    let cases: [(&[u8], usize, (i64, i64)); 6] = [
-        (b"x\n\n1\n", 1, (1, 0)),
-        (b"a,b\n1,\"2\"\r3,4", 2, (1, 2)),
-        (b"a\n\"5", 1, (5, 0)),
-        (b"\"price\",\"rating\"\n-10,3\n20,5\n", 2, (-10, 3)),
-        (b" a\t, b \n1,2\r\n", 1, (1, 2)),
-        (b"a", 0, (0, 0)),
+    let cases = [
+        ("x\n\n1\n", 1, Some((1, 0))),
+        ("a,b\n1,\"2\"\r3,4", 2, Some((1, 2))),
+        ("a\n\"5", 1, Some((5, 0))),
+        ("\"price\",\"rating\"\n-10,3\n20,5\n", 2, Some((-10, 3))),
+        (" a\t, b \n1,2\r\n", 1, Some((1, 2))),
+        ("a", 0, None),
     ];
     for (text, count, first) in cases {
-        let (_, rows) = read_table(rt.alloc(), text)?;
-        assert_eq!(rt; rows.len(), count, "at {text:?}");
-        if let Some(row) = rows.first() {
-            assert_eq!(rt; pair(row), first, "at {text:?}");
-        }
+        let (_, rows) = read_table(rt.alloc(), text.as_bytes())?;
+        let found = (rows.len(), rows.first().map(pair));
+        assert_same(&rt, text, &found, &(count, first));
     }
     Ok(())
 }
 
 #[test]
 fn refused_texts(rt: HostRuntime) {
-    let cases: [(&[u8], TableFault); 16] = [
-        (b"", TableFault::NoColumns),
-        (b"\n\n", TableFault::NoColumns),
-        (b"a,a", TableFault::SameName { col: 2 }),
-        (b"a,", TableFault::BadName { col: 2 }),
-        (b"a,b,a,1", TableFault::SameName { col: 3 }),
-        (b"1,1", TableFault::BadName { col: 1 }),
-        (b"_a", TableFault::BadName { col: 1 }),
+    let cases = [
+        ("", TableFault::NoColumns),
+        ("\n\n", TableFault::NoColumns),
+        ("a,a", TableFault::SameName { col: 2 }),
+        ("a,", TableFault::BadName { col: 2 }),
+        ("a,b,a,1", TableFault::SameName { col: 3 }),
+        ("1,1", TableFault::BadName { col: 1 }),
+        ("_a", TableFault::BadName { col: 1 }),
         (
-            b"a,b,c,d,e,f,g,h,i,j,k,l,m,n,o,p,q",
+            "a,b,c,d,e,f,g,h,i,j,k,l,m,n,o,p,q",
             TableFault::TooManyColumns,
         ),
-        (b"a\n1,2", TableFault::Width { row: 1 }),
-        (b"a,b\n1,2\nNA", TableFault::Width { row: 2 }),
-        (b"a\nNA", TableFault::NotWhole { row: 1, col: 1 }),
-        (b"a\n\"1\"\"2\"", TableFault::NotWhole { row: 1, col: 1 }),
-        (b"a\n+-5", TableFault::NotWhole { row: 1, col: 1 }),
+        ("a\n1,2", TableFault::Width { row: 1 }),
+        ("a,b\n1,2\nNA", TableFault::Width { row: 2 }),
+        ("a\nNA", TableFault::NotWhole { row: 1, col: 1 }),
+        ("a\n\"1\"\"2\"", TableFault::NotWhole { row: 1, col: 1 }),
+        ("a\n+-5", TableFault::NotWhole { row: 1, col: 1 }),
+        ("x,y\n1,2\n3,1.5\n", TableFault::NotWhole { row: 2, col: 2 }),
         (
-            b"x,y\n1,2\n3,1.5\n",
-            TableFault::NotWhole { row: 2, col: 2 },
-        ),
-        (
-            b"x\n9223372036854775808\n",
+            "x\n9223372036854775808\n",
             TableFault::OutOfRange { row: 1, col: 1 },
         ),
         (
-            b"x\n99999999999999999999x\n",
+            "x\n99999999999999999999x\n",
             TableFault::NotWhole { row: 1, col: 1 },
         ),
     ];
     for (text, fault) in cases {
-        assert_eq!(rt; fault_of(rt.alloc(), text), Some(fault), "at {text:?}");
+        let found = fault_of(rt.alloc(), text.as_bytes());
+        assert_same(&rt, text, &found, &Some(fault));
     }
 }
 
@@ -96,12 +92,10 @@ fn the_row_after_the_last_is_too_many(rt: HostRuntime) -> Result<(), Fail> {
         text.extend_from_slice(b"-12\n")?;
     }
     let (_, rows) = read_table(rt.alloc(), text.as_slice())?;
-    assert_eq!(rt; rows.len(), 65_536);
+    assert_same(&rt, "the last row", &rows.len(), &65_536);
     text.extend_from_slice(b"1,2\n")?;
-    assert_eq!(rt;
-        fault_of(rt.alloc(), text.as_slice()),
-        Some(TableFault::TooManyRows)
-    );
+    let found = fault_of(rt.alloc(), text.as_slice());
+    assert_same(&rt, "one more", &found, &Some(TableFault::TooManyRows));
     Ok(())
 }
 
@@ -110,15 +104,16 @@ fn names_of_a_schema(rt: HostRuntime) -> Result<(), Fail> {
     let longest = b"abcdefghijklmnopqrstuvwxyz_.0123";
     let names = [longest.as_slice(), b"y_1".as_slice()];
     let schema = Schema::new(rt.alloc(), names.as_slice())?;
-    assert_eq!(rt; schema.width(), 2);
-    assert_eq!(rt; schema.index_of(longest), Some(0));
-    assert_eq!(rt; schema.name(0), longest.as_slice());
+    assert_same(&rt, "width", &schema.width(), &2);
+    assert_same(&rt, "longest", &schema.index_of(longest), &Some(0));
+    assert_same_list(&rt, "its name", schema.name(0), longest.as_slice());
     let too_long = [b"abcdefghijklmnopqrstuvwxyz_.01234".as_slice()];
-    assert!(rt;
-        matches!(
-            Schema::new(rt.alloc(), too_long.as_slice()),
-            Err(TableFault::BadName { col: 1 })
-        )
+    let told = Schema::new(rt.alloc(), too_long.as_slice()).err();
+    assert_same(
+        &rt,
+        "too long",
+        &told,
+        &Some(TableFault::BadName { col: 1 }),
     );
     Ok(())
 }
@@ -127,39 +122,48 @@ fn names_of_a_schema(rt: HostRuntime) -> Result<(), Fail> {
 fn rows_of_a_line(rt: HostRuntime) -> Result<(), Fail> {
     let names = [b"x".as_slice(), b"y_1".as_slice()];
     let schema = Schema::new(rt.alloc(), names.as_slice())?;
-    let row = read_row(&schema, b" 3\t,-9223372036854775808")?;
-    assert_eq!(rt; row, Row::of(&schema, [3, i64::MIN].as_slice())?);
-    assert_eq!(rt; pair(&row), (3, i64::MIN));
-    let refused: [(&[u8], TableFault); 4] = [
-        (b"1", TableFault::Width { row: 0 }),
-        (b"", TableFault::Width { row: 0 }),
-        (b"1,", TableFault::NotWhole { row: 0, col: 2 }),
+    let row = Row::of(&schema, [3, i64::MIN].as_slice())?;
+    assert_same(&rt, "its cells", &pair(&row), &(3, i64::MIN));
+    let short = Row::of(&schema, [1].as_slice());
+    assert_same(&rt, "one cell", &short, &Err(TableFault::Width { row: 0 }));
+    let lines = [
+        (" 3\t,-9223372036854775808", Ok(row)),
+        ("1", Err(TableFault::Width { row: 0 })),
+        ("", Err(TableFault::Width { row: 0 })),
+        ("1,", Err(TableFault::NotWhole { row: 0, col: 2 })),
         (
-            b"9223372036854775808,1",
-            TableFault::OutOfRange { row: 0, col: 1 },
+            "9223372036854775808,1",
+            Err(TableFault::OutOfRange { row: 0, col: 1 }),
         ),
     ];
-    for (line, fault) in refused {
-        assert_eq!(rt; read_row(&schema, line), Err(fault), "at {line:?}");
+    for (line, wanted) in lines {
+        assert_same(&rt, line, &read_row(&schema, line.as_bytes()), &wanted);
     }
-    assert_eq!(rt;
-        Row::of(&schema, [1].as_slice()),
-        Err(TableFault::Width { row: 0 })
-    );
     Ok(())
 }
 
 #[test]
 fn parts_that_questions_share(rt: HostRuntime) {
-    assert_eq!(rt; blanks_length(b" \t x "), 3);
-    for byte in b"aZ0_." {
-        assert!(rt; is_name_byte(*byte), "at {byte}");
+    assert_same(&rt, "blanks", &blanks_length(b" \t x "), &3);
+    for (byte, wanted) in [
+        (b'a', true),
+        (b'Z', true),
+        (b'0', true),
+        (b'_', true),
+        (b'.', true),
+        (b'-', false),
+    ] {
+        assert_same(&rt, byte, &is_name_byte(byte), &wanted);
     }
-    assert!(rt; !is_name_byte(b'-'));
-    assert_eq!(rt; signed_number(true, b"007"), Some(-7));
-    assert_eq!(rt; signed_number(true, b"9223372036854775808"), Some(i64::MIN));
-    assert_eq!(rt; signed_number(false, b"9223372036854775808"), None);
-    assert_eq!(rt; signed_number(false, b"7."), None);
+    for (is_minus, digits, wanted) in [
+        (true, "007", Some(-7)),
+        (true, "9223372036854775808", Some(i64::MIN)),
+        (false, "9223372036854775808", None),
+        (false, "7.", None),
+    ] {
+        let found = signed_number(is_minus, digits.as_bytes());
+        assert_same(&rt, digits, &found, &wanted);
+    }
 }
 
 #[test]
@@ -182,7 +186,8 @@ fn messages(rt: HostRuntime) -> Result<(), Fail> {
         (TableFault::OutOfMemory, "out of memory"),
     ];
     for (fault, text) in cases {
-        assert_eq!(rt; fault.to_string(rt.alloc())?.as_str(), text);
+        let message = fault.to_string(rt.alloc())?;
+        assert_same_text(&rt, text, message.as_str(), text);
     }
     Ok(())
 }

@@ -1,6 +1,7 @@
 //! A store and its copy.
 
 use super::{row, with_store};
+use crate::same::assert_same;
 use pref_core::{Call, Store};
 use pref_table::Schema;
 use std::process::Abort;
@@ -12,11 +13,11 @@ fn goes_its_own_way(
     store: &Store,
     copy: &mut Store,
 ) -> Result<(), Fail> {
-    assert_eq!(rt; copy.get(1), store.get(1));
+    assert_same(rt, "copied", &copy.get(1), &store.get(1));
     let op = copy.plan(1, Call::Update(1, row(schema, 5)?))?;
     copy.apply(&op);
-    assert_eq!(rt; copy.get(1), Some(row(schema, 5)?));
-    assert_eq!(rt; store.get(1), Some(row(schema, 4)?));
+    assert_same(rt, "copy", &copy.get(1), &Some(row(schema, 5)?));
+    assert_same(rt, "store", &store.get(1), &Some(row(schema, 4)?));
     Ok(())
 }
 

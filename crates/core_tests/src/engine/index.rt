@@ -3,6 +3,7 @@ ghost use Rattle.std.specs.Prelude.{IfOk, OnOk};
 ghost use Rattle.pref_core.specs.Indexes.{IsIndexOf};
 
 use super::{columns, row, rows};
+use crate::same::assert_same;
 use pref_core::{Call, Index, Outcome, Setup, Store};
 use pref_table::Schema;
 use std::alloc::Global;
@@ -61,9 +62,10 @@ fn has_an_added_row(
 {
     let insert = Call::Insert(row(schema, 6)?);
     let outcome = done(alloc, store, index, 1, &insert)?;
-    assert_eq!(rt; outcome, Outcome::Added(3));
-    assert_eq!(rt; index.slot(3), Some(2));
-    assert_eq!(rt; store.get_at(index, 3), Some(row(schema, 6)?));
+    assert_same(rt, "outcome", &outcome, &Outcome::Added(3));
+    assert_same(rt, "slot", &index.slot(3), &Some(2));
+    let found = store.get_at(index, 3);
+    assert_same(rt, "row", &found, &Some(row(schema, 6)?));
     Ok(())
 }
 
@@ -87,7 +89,7 @@ fn goes_where_an_update_goes(
     let update = Call::Update(2, row(schema, 7)?);
     done(alloc, store, index, 2, &Call::Begin)?;
     done(alloc, store, index, 1, &update)?;
-    assert!(rt; index.slot(2) != Some(1));
+    assert_same(rt, "moved", &(index.slot(2) != Some(1)), &true);
     Ok(())
 }
 
@@ -108,7 +110,7 @@ fn has_no_deleted_row(
     requires { IsIndexOf store.old index.old }
 {
     done(alloc, store, index, 1, &Call::Delete(2))?;
-    assert_eq!(rt; index.slot(2), None);
+    assert_same(rt, "deleted", &index.slot(2), &None);
     Ok(())
 }
 
@@ -132,9 +134,9 @@ fn withdraws_a_row(
     let insert = Call::Insert(row(schema, 6)?);
     let op = store.plan_at(index, 1, insert)?;
     index.prepare(alloc, &op)?;
-    assert_eq!(rt; index.slot(3), Some(2));
+    assert_same(rt, "prepared", &index.slot(3), &Some(2));
     index.withdraw(&op);
-    assert_eq!(rt; index.slot(3), None);
+    assert_same(rt, "withdrawn", &index.slot(3), &None);
     Ok(())
 }
 
@@ -148,11 +150,11 @@ fn a_row_that_is_not_added_is_withdrawn(rt: HostRuntime) -> Result<(), Fail> {
 
 fn is_a_map(rt: &impl Abort, alloc: Global, index: &mut Index) -> Result<(), Fail> {
     index.put(alloc, 7, 1)?;
-    assert_eq!(rt; index.slot(7), Some(1));
+    assert_same(rt, "put", &index.slot(7), &Some(1));
     index.set(7, 0);
-    assert_eq!(rt; index.slot(7), Some(0));
+    assert_same(rt, "set", &index.slot(7), &Some(0));
     index.take(7);
-    assert_eq!(rt; index.slot(7), None);
+    assert_same(rt, "taken", &index.slot(7), &None);
     Ok(())
 }
 

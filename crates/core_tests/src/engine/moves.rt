@@ -1,6 +1,7 @@
 //! Rows that had to move to another slot because an open query needs their old version.
 
 use super::{row, with_store};
+use crate::same::assert_same;
 use pref_core::{Call, Store};
 use pref_table::Schema;
 use std::process::Abort;
@@ -22,7 +23,7 @@ fn move_a_row(schema: &Schema, store: &mut Store) -> Result<(), Fail> {
 
 fn finds_a_moved_row(rt: &impl Abort, schema: &Schema, store: &mut Store) -> Result<(), Fail> {
     move_a_row(schema, store)?;
-    assert_eq!(rt; store.get(1), Some(row(schema, 5)?));
+    assert_same(rt, "moved", &store.get(1), &Some(row(schema, 5)?));
     Ok(())
 }
 
@@ -36,7 +37,7 @@ fn a_moved_row_is_found(rt: HostRuntime) -> Result<(), Fail> {
 fn deletes_a_moved_row(rt: &impl Abort, schema: &Schema, store: &mut Store) -> Result<(), Fail> {
     move_a_row(schema, store)?;
     done(store, 2, Call::Delete(1))?;
-    assert_eq!(rt; store.get(1), None);
+    assert_same(rt, "deleted", &store.get(1), &None);
     Ok(())
 }
 
@@ -56,8 +57,8 @@ fn brings_a_moved_row_home(
     move_a_row(schema, store)?;
     done(store, 1, Call::Abandon)?;
     let place = done(store, 2, Call::Update(1, row(schema, 7)?))?;
-    assert_eq!(rt; place, Some(0));
-    assert_eq!(rt; store.get(1), Some(row(schema, 7)?));
+    assert_same(rt, "home", &place, &Some(0));
+    assert_same(rt, "row", &store.get(1), &Some(row(schema, 7)?));
     Ok(())
 }
 
@@ -82,9 +83,9 @@ fn move_two_rows(schema: &Schema, store: &mut Store) -> Result<(), Fail> {
 
 fn finds_two_moved_rows(rt: &impl Abort, schema: &Schema, store: &mut Store) -> Result<(), Fail> {
     move_two_rows(schema, store)?;
-    assert_eq!(rt; store.get(1), Some(row(schema, 7)?));
-    assert_eq!(rt; store.get(4), Some(row(schema, 6)?));
-    assert_eq!(rt; store.get(3), None);
+    assert_same(rt, "row 1", &store.get(1), &Some(row(schema, 7)?));
+    assert_same(rt, "row 4", &store.get(4), &Some(row(schema, 6)?));
+    assert_same(rt, "row 3", &store.get(3), &None);
     Ok(())
 }
 

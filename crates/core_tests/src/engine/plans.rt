@@ -1,6 +1,7 @@
 //! Calls that a store plans and does.
 
 use super::{row, with_store};
+use crate::same::{assert_same, assert_same_list};
 use pref_core::{Call, CoreFault, Op, Outcome, Store};
 use pref_table::Schema;
 use std::alloc::Global;
@@ -22,10 +23,10 @@ fn add_a_third(schema: &Schema, store: &mut Store) -> Result<(), Fail> {
 
 fn is_done_once(rt: &impl Abort, schema: &Schema, store: &mut Store) -> Result<(), Fail> {
     add_a_third(schema, store)?;
-    assert_eq!(rt; store.stamp(), 3);
-    assert_eq!(rt; store.last(2), 1);
-    assert_eq!(rt; store.last(1), 0);
-    assert_eq!(rt; store.room(), 0);
+    assert_same(rt, "stamp", &store.stamp(), &3);
+    assert_same(rt, "last of client 2", &store.last(2), &1);
+    assert_same(rt, "last of client 1", &store.last(1), &0);
+    assert_same(rt, "room", &store.room(), &0);
     Ok(())
 }
 
@@ -52,9 +53,11 @@ fn is_shown_in_its_block(
     store: &mut Store,
 ) -> Result<(), Fail> {
     add_a_third(schema, store)?;
-    assert_eq!(rt; store.get(3), Some(row(schema, 5)?));
-    assert_eq!(rt; shown_ids(alloc, store, 1, 3)?.as_slice(), [3].as_slice());
-    assert_eq!(rt; shown_ids(alloc, store, 1, 2)?.len(), 0);
+    assert_same(rt, "row", &store.get(3), &Some(row(schema, 5)?));
+    let ids = shown_ids(alloc, store, 1, 3)?;
+    assert_same_list(rt, "at stamp 3", ids.as_slice(), [3].as_slice());
+    let ids = shown_ids(alloc, store, 1, 2)?;
+    assert_same(rt, "at stamp 2", &ids.len(), &0);
     Ok(())
 }
 
@@ -72,12 +75,10 @@ fn tells_what_becomes_of_a_call(
     store: &Store,
 ) -> Result<(), Fail> {
     let op = store.plan(2, Call::Insert(row(schema, 5)?))?;
-    assert_eq!(rt; op.outcome, Outcome::Added(3));
-    assert_eq!(rt; op.slot, Some(2));
-    assert_eq!(rt;
-        store.plan(9, Call::Abandon).err(),
-        Some(CoreFault::NoSuchClient)
-    );
+    assert_same(rt, "outcome", &op.outcome, &Outcome::Added(3));
+    assert_same(rt, "slot", &op.slot, &Some(2));
+    let told = store.plan(9, Call::Abandon).err();
+    assert_same(rt, "client 9", &told, &Some(CoreFault::NoSuchClient));
     Ok(())
 }
 

@@ -3,6 +3,7 @@
 ghost use Rattle.pref_core.specs.Scans.{NextIsNew};
 
 use super::{Does, act, answer_text, columns, events_of, reply_text, rows, with_machine};
+use crate::same::{assert_same, assert_same_text};
 use pref_core::{
     Act, CoreFault, Event, Machine, Part, Query, RankedList, Reply, Setup, StepFault, Store,
     replay_part,
@@ -28,7 +29,7 @@ fn told_in_the_end(rt: &impl Abort, alloc: Global, machine: &mut Machine, event:
     match machine.step(alloc, event) {
         Ok(reply) => reply,
         Err(StepFault { fault, .. }) => {
-            assert!(rt; fault != CoreFault::OutOfMemory);
+            assert_same(rt, fault, &(fault != CoreFault::OutOfMemory), &true);
             Reply::Refused(fault)
         }
     }
@@ -61,7 +62,8 @@ fn go_through_a_run(
             act: act(alloc, schema, does)?,
         };
         let reply = told_in_the_end(rt, alloc, machine, event);
-        assert_eq!(rt; reply_text(alloc, &reply)?.as_str(), wanted);
+        let told = reply_text(alloc, &reply)?;
+        assert_same_text(rt, client, told.as_str(), wanted);
     }
     Ok(())
 }
@@ -82,8 +84,8 @@ fn scan_in_the_end(rt: &impl Abort, alloc: Global, query: &mut Query, store: &St
     match query.scan(alloc, store) {
         Ok(left) => left,
         Err(fault) => {
-            assert_eq!(rt; fault, CoreFault::OutOfMemory);
-            assert_eq!(rt; query.left(), before);
+            assert_same(rt, "refused", &fault, &CoreFault::OutOfMemory);
+            assert_same(rt, "left", &query.left(), &before);
             query.scan(alloc, store).expect(rt, "memory")
         }
     }
@@ -94,7 +96,7 @@ fn answer_in_the_end(rt: &impl Abort, alloc: Global, query: &Query) -> Vec<Ranke
     match query.answer(alloc) {
         Ok(ranked) => ranked,
         Err(fault) => {
-            assert_eq!(rt; fault, CoreFault::OutOfMemory);
+            assert_same(rt, "refused", &fault, &CoreFault::OutOfMemory);
             query.answer(alloc).expect(rt, "memory")
         }
     }
@@ -109,17 +111,15 @@ fn scan_and_answer(
 ) -> Result<(), Fail>
     requires { NextIsNew query.old store.now.slots }
 {
-    assert_eq!(rt; query.left(), 1);
-    assert_eq!(rt;
-        query.answer(alloc).err(),
-        Some(CoreFault::NotDone { left: 1 })
-    );
-    assert_eq!(rt; scan_in_the_end(rt, alloc, query, store), 0);
+    assert_same(rt, "begun", &query.left(), &1);
+    let early = query.answer(alloc).err();
+    assert_same(rt, "early", &early, &Some(CoreFault::NotDone { left: 1 }));
+    let left = scan_in_the_end(rt, alloc, query, store);
+    assert_same(rt, "scanned", &left, &0);
     let ranked = RankedList::of(answer_in_the_end(rt, alloc, query));
-    assert_eq!(rt;
-        answer_text(alloc, &ranked)?.as_str(),
-        "answer level 1 id 1: 4 level 1 id 3: 4 level 2 id 2: 6"
-    );
+    let told = answer_text(alloc, &ranked)?;
+    let wanted = "answer level 1 id 1: 4 level 1 id 3: 4 level 2 id 2: 6";
+    assert_same_text(rt, "answer", told.as_str(), wanted);
     Ok(())
 }
 
@@ -128,7 +128,7 @@ fn a_query_is_scanned_and_answered_again_after_a_refusal(rt: HostRuntime) -> Res
     let alloc = rt.alloc();
     let schema = columns(alloc)?;
     let setup = Setup::new(1, 3, 3, 1).ok_or("setup")?;
-    assert_eq!(rt; setup.blocks(), 1);
+    assert_same(&rt, "blocks", &setup.blocks(), &1);
     let ask = read_ask(alloc, &schema, b"top_level 2 low(x)")?;
     let store = Store::new(alloc, &setup, &rows(alloc, &schema, &[4, 6, 4])?)?;
     let mut query = Query::begin(ask, store.stamp(), &setup);
@@ -137,9 +137,11 @@ fn a_query_is_scanned_and_answered_again_after_a_refusal(rt: HostRuntime) -> Res
 
 /// The replies of a part are the first of these, and where it stopped some are left.
 fn are_first(rt: &impl Abort, alloc: Global, part: &Part, replies: &[&str]) -> Result<(), Fail> {
-    assert_eq!(rt; part.stopped, part.replies.len() < replies.len());
+    let is_short = part.replies.len() < replies.len();
+    assert_same(rt, "stopped", &part.stopped, &is_short);
     for (reply, wanted) in part.replies.iter().zip(replies) {
-        assert_eq!(rt; reply_text(alloc, reply)?.as_str(), *wanted);
+        let told = reply_text(alloc, reply)?;
+        assert_same_text(rt, *wanted, told.as_str(), *wanted);
     }
     Ok(())
 }
@@ -156,7 +158,7 @@ fn is_whole(
     let part = match replay_part(alloc, setup, opening, events) {
         Ok(part) => part,
         Err(fault) => {
-            assert_eq!(rt; fault, CoreFault::OutOfMemory);
+            assert_same(rt, "refused", &fault, &CoreFault::OutOfMemory);
             return Ok(false);
         }
     };
@@ -176,7 +178,8 @@ fn check_run<E: Fn() -> Result<Vec<Event>, Fail>>(
     requires { E.IsAlwaysCallable events }
 {
     if !is_whole(rt, alloc, setup, opening, events()?, replies)? {
-        assert!(rt; is_whole(rt, alloc, setup, opening, events()?, replies)?);
+        let is_whole_then = is_whole(rt, alloc, setup, opening, events()?, replies)?;
+        assert_same(rt, "made again", &is_whole_then, &true);
     }
     Ok(())
 }

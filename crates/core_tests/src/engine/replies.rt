@@ -1,6 +1,7 @@
 //! Replies of a machine to one event after another, refusals among them.
 
 use super::{Does, act, reply_text, with_machine};
+use crate::same::{assert_same, assert_same_text};
 use pref_core::{Act, CoreFault, Event, Machine};
 use pref_table::Schema;
 use pref_term::read_ask;
@@ -22,7 +23,8 @@ fn tells_what_is_refused(
     ];
     for (client, act, wanted) in run {
         let reply = machine.reply(alloc, Event { client, act })?;
-        assert_eq!(rt; reply_text(alloc, &reply)?.as_str(), wanted);
+        let told = reply_text(alloc, &reply)?;
+        assert_same_text(rt, client, told.as_str(), wanted);
     }
     Ok(())
 }
@@ -53,7 +55,8 @@ fn hands_its_ask_back(
         client: 1,
         act: act(alloc, schema, Does::Begins)?,
     };
-    assert!(rt; machine.step(alloc, first).is_ok());
+    let begun = machine.step(alloc, first).is_ok();
+    assert_same(rt, "begun", &begun, &true);
     let second = Event {
         client: 1,
         act: Act::Begin(read_ask(alloc, schema, b"top_level 3 low(x)")?),
@@ -61,9 +64,10 @@ fn hands_its_ask_back(
     match machine.step(alloc, second) {
         Ok(_reply) => return Err("let in".into()),
         Err(refused) => {
-            assert_eq!(rt; refused.fault, CoreFault::QueryOpen);
-            assert_eq!(rt; refused.event.client, 1);
-            assert_eq!(rt; cut_handed_back(&refused.event), Some(3));
+            assert_same(rt, "fault", &refused.fault, &CoreFault::QueryOpen);
+            assert_same(rt, "client", &refused.event.client, &1);
+            let cut = cut_handed_back(&refused.event);
+            assert_same(rt, "cut", &cut, &Some(3));
         }
     }
     Ok(())

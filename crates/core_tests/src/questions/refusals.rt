@@ -1,13 +1,26 @@
 //! Requests for memory that are refused. `tests/refuse_each_allocation.sh` runs these tests once for each of their requests,
 //! and refuses it; where none is refused they show that the calls succeed.
+use crate::same::{assert_same, assert_same_list};
 use pref_table::{Row, Schema};
-use pref_term::{Dominance, Mode, Relation, TermFault, read_ask, show};
+use pref_term::{Ask, Dominance, Mode, Relation, TermFault, read_ask, show};
 use std::alloc::Global;
+use std::process::Abort;
 use std::test::Fail;
 
 fn columns(alloc: Global) -> Result<Schema, Fail> {
     let names = [b"x".as_slice(), b"y".as_slice(), b"g".as_slice()];
     Ok(Schema::new(alloc, names.as_slice())?)
+}
+
+/// A question that is read, once more where memory was refused.
+fn read_in_the_end(rt: &impl Abort, alloc: Global, schema: &Schema, question: &[u8]) -> Ask {
+    match read_ask(alloc, schema, question) {
+        Ok(ask) => ask,
+        Err(fault) => {
+            assert_same(rt, "refused", &fault, &TermFault::OutOfMemory);
+            read_ask(alloc, schema, question).expect(rt, "memory")
+        }
+    }
 }
 
 const QUESTION: &[u8] = b"at_least 20 -(low(x) * around(y, -3)) & pos(g, 1, 2) by g, x";
@@ -16,15 +29,9 @@ const QUESTION: &[u8] = b"at_least 20 -(low(x) * around(y, -3)) & pos(g, 1, 2) b
 fn a_refused_reading_of_a_question_is_told_and_made_again(rt: HostRuntime) -> Result<(), Fail> {
     let alloc = rt.alloc();
     let schema = columns(alloc)?;
-    let ask = match read_ask(alloc, &schema, QUESTION) {
-        Ok(ask) => ask,
-        Err(fault) => {
-            assert_eq!(rt; fault, TermFault::OutOfMemory);
-            read_ask(alloc, &schema, QUESTION).expect(&rt, "memory")
-        }
-    };
-    assert_eq!(rt; ask.mode(), Mode::AtLeast(20));
-    assert_eq!(rt; ask.group(), [2, 0].as_slice());
+    let ask = read_in_the_end(&rt, alloc, &schema, QUESTION);
+    assert_same(&rt, "mode", &ask.mode(), &Mode::AtLeast(20));
+    assert_same_list(&rt, "group", ask.group(), [2, 0].as_slice());
     Ok(())
 }
 
@@ -33,16 +40,11 @@ fn a_refused_reading_of_a_product_is_told_and_made_again(rt: HostRuntime) -> Res
     let alloc = rt.alloc();
     let schema = columns(alloc)?;
     let question = b"best low(x) * -around(y, -3) * high(g)";
-    let ask = match read_ask(alloc, &schema, question) {
-        Ok(ask) => ask,
-        Err(fault) => {
-            assert_eq!(rt; fault, TermFault::OutOfMemory);
-            read_ask(alloc, &schema, question).expect(&rt, "memory")
-        }
-    };
+    let ask = read_in_the_end(&rt, alloc, &schema, question);
     let first = Row::of(&schema, [1, 0, 2].as_slice())?;
     let second = Row::of(&schema, [1, -2, 2].as_slice())?;
-    assert_eq!(rt; ask.compare(&first, &second), Relation::Better);
+    let relation = ask.compare(&first, &second);
+    assert_same(&rt, "rows", &relation, &Relation::Better);
     Ok(())
 }
 
@@ -55,6 +57,6 @@ fn a_refused_showing_is_told_and_made_again(rt: HostRuntime) -> Result<(), Fail>
         Ok(text) => text,
         Err(_) => show(alloc, &schema, &ask).expect(&rt, "memory"),
     };
-    assert_eq!(rt; text.as_slice(), QUESTION);
+    assert_same_list(&rt, "text", text.as_slice(), QUESTION);
     Ok(())
 }

@@ -1,4 +1,5 @@
 //! What is shown of questions.
+use crate::same::assert_same_list;
 use pref_table::Schema;
 use pref_term::{read_ask, show};
 use std::alloc::Global;
@@ -20,61 +21,62 @@ fn shown(alloc: Global, text: &[u8]) -> Result<Vec<u8>, Fail> {
 
 #[test]
 fn shown_in_one_spelling(rt: HostRuntime) -> Result<(), Fail> {
-    let cases: [(&[u8], &[u8]); 11] = [
+    let cases = [
         (
-            b"best low(x)*low(y)&high(z)",
-            b"best low(x) * low(y) & high(z)",
+            "best low(x)*low(y)&high(z)",
+            "best low(x) * low(y) & high(z)",
         ),
         (
-            b"best low(x)*(low(y)*high(z))",
-            b"best low(x) * (low(y) * high(z))",
+            "best low(x)*(low(y)*high(z))",
+            "best low(x) * (low(y) * high(z))",
         ),
-        (b"best ((low(x)))", b"best low(x)"),
+        ("best ((low(x)))", "best low(x)"),
         (
-            b"best reverse(low(x) & pos(y,-1,2))",
-            b"best -(low(x) & pos(y, -1, 2))",
+            "best reverse(low(x) & pos(y,-1,2))",
+            "best -(low(x) & pos(y, -1, 2))",
         ),
-        (b"best low(x)*-high(y)", b"best low(x) * -high(y)"),
+        ("best low(x)*-high(y)", "best low(x) * -high(y)"),
         (
-            b"SKYLINE OF x Min, g DIFF, y max",
-            b"best low(x) * high(y) by g",
-        ),
-        (
-            b"at_least 007 around( x , - 3 ) by g,h",
-            b"at_least 7 around(x, -3) by g, h",
+            "SKYLINE OF x Min, g DIFF, y max",
+            "best low(x) * high(y) by g",
         ),
         (
-            b"top_level 1000 (low(x) & low(y)) * low(z)",
-            b"top_level 1000 (low(x) & low(y)) * low(z)",
+            "at_least 007 around( x , - 3 ) by g,h",
+            "at_least 7 around(x, -3) by g, h",
         ),
         (
-            b"best low(x)&(low(y)&low(z))",
-            b"best low(x) & (low(y) & low(z))",
+            "top_level 1000 (low(x) & low(y)) * low(z)",
+            "top_level 1000 (low(x) & low(y)) * low(z)",
         ),
-        (b"best - -(low(x)*low(y))", b"best --(low(x) * low(y))"),
         (
-            b"best around(x, -9223372036854775808)",
-            b"best around(x, -9223372036854775808)",
+            "best low(x)&(low(y)&low(z))",
+            "best low(x) & (low(y) & low(z))",
+        ),
+        ("best - -(low(x)*low(y))", "best --(low(x) * low(y))"),
+        (
+            "best around(x, -9223372036854775808)",
+            "best around(x, -9223372036854775808)",
         ),
     ];
     for (text, wanted) in cases {
-        assert_eq!(rt; shown(rt.alloc(), text)?.as_slice(), wanted, "at {text:?}");
+        let found = shown(rt.alloc(), text.as_bytes())?;
+        assert_same_list(&rt, text, found.as_slice(), wanted.as_bytes());
     }
     Ok(())
 }
 
 #[test]
 fn what_was_shown_is_shown_again(rt: HostRuntime) -> Result<(), Fail> {
-    let cases: [&[u8]; 4] = [
-        b"best reverse((low(x)&-(low(y)*low(z)))*pos(g,3,-4,3)) by h,x",
-        b"at_least 1000 reverse(reverse(around(h,9223372036854775807)))",
-        b"skyline of h DIFF, z max, y min, x max, g diff",
-        b"top_level 01 (((low(x)*high(x))&low(x))&low(y))&(low(x)&low(y))*(low(x)*low(y))",
+    let cases = [
+        "best reverse((low(x)&-(low(y)*low(z)))*pos(g,3,-4,3)) by h,x",
+        "at_least 1000 reverse(reverse(around(h,9223372036854775807)))",
+        "skyline of h DIFF, z max, y min, x max, g diff",
+        "top_level 01 (((low(x)*high(x))&low(x))&low(y))&(low(x)&low(y))*(low(x)*low(y))",
     ];
     for text in cases {
-        let first = shown(rt.alloc(), text)?;
+        let first = shown(rt.alloc(), text.as_bytes())?;
         let second = shown(rt.alloc(), first.as_slice())?;
-        assert_eq!(rt; first.as_slice(), second.as_slice(), "at {text:?}");
+        assert_same_list(&rt, text, first.as_slice(), second.as_slice());
     }
     Ok(())
 }

@@ -1,6 +1,7 @@
 //! Answers of asks that are read from their texts, however the rows are cut into two pieces.
 use super::cuttings::added_in_two;
 use super::fixtures::{PAIRS, numbered, places_of};
+use crate::same::assert_same_list;
 use pref_sky::answer;
 use pref_table::Schema;
 use pref_term::{Ask, read_ask};
@@ -28,11 +29,8 @@ fn check_answer(
         let (front, back) = entries.as_slice().split_at(at);
         let (partial, _) = added_in_two(alloc, &ask, ask.cut(), front, back)?;
         let ranked = answer(alloc, &ask, &partial)?;
-        assert_eq!(rt;
-            places_of(alloc, &ranked)?.as_slice(),
-            places,
-            "cut at {at}"
-        );
+        let found = places_of(alloc, &ranked)?;
+        assert_same_list(rt, ("cut at", at), found.as_slice(), places);
     }
     Ok(())
 }

@@ -4,6 +4,7 @@ ghost use Rattle.pref_sky.specs.Levels.{HaveDifferentIds, entry_order, levels};
 
 use super::fixtures::{LowBoth, LowInGroup, PAIRS, numbered, places_of};
 use super::plain::add_plainly;
+use crate::same::assert_same_list;
 use pref_sky::{Entry, Partial, Ranked, levels};
 use pref_term::Dominance;
 use std::alloc::{AllocError, Global};
@@ -39,12 +40,14 @@ fn check_every_cutting<D: Dominance>(
     requires { HaveDifferentIds entries.now }
 {
     let whole = levels(alloc, dominance, 1, cut, entries)?;
-    assert_eq!(rt; places_of(alloc, &whole)?.as_slice(), places);
+    let found = places_of(alloc, &whole)?;
+    assert_same_list(rt, "uncut", found.as_slice(), places);
     for at in 0..=entries.len() {
         let (front, back) = entries.split_at(at);
         let (partial, plain) = added_in_two(alloc, dominance, cut, front, back)?;
-        assert_eq!(rt; partial.as_slice(), plain.as_slice(), "cut at {at}");
-        assert_eq!(rt; partial.as_slice(), whole.as_slice(), "cut at {at}");
+        let held = partial.as_slice();
+        assert_same_list(rt, ("plain, cut at", at), held, plain.as_slice());
+        assert_same_list(rt, ("whole, cut at", at), held, whole.as_slice());
     }
     Ok(())
 }

@@ -3,6 +3,7 @@ ghost use Rattle.std.specs.Prelude.{◌<◌};
 
 use super::fixtures::{LowBoth, ids_of, numbered};
 use super::plain::best_rows_by_pairs;
+use crate::same::{assert_same, assert_same_list};
 use pref_sky::{Offer, Window, best_rows, best_rows_passes};
 use std::alloc::Global;
 use std::process::Abort;
@@ -22,8 +23,9 @@ fn check_passes(
 {
     let entries = numbered(alloc, rows)?;
     let (found, count) = best_rows_passes(alloc, &LowBoth, window, &entries)?;
-    assert_eq!(rt; ids_of(alloc, &found)?.as_slice(), ids);
-    assert_eq!(rt; count, passes);
+    let found = ids_of(alloc, &found)?;
+    assert_same_list(rt, (rows, window), found.as_slice(), ids);
+    assert_same(rt, (rows, window), &count, &passes);
     Ok(())
 }
 
@@ -49,7 +51,8 @@ fn offers_to_a_full_window(rt: HostRuntime) -> Result<(), Fail> {
         Offer::Dropped,
     ];
     for (entry, outcome) in entries.iter().zip(outcomes) {
-        assert_eq!(rt; window.offer(&LowBoth, *entry), outcome, "id {}", entry.id);
+        let told = window.offer(&LowBoth, *entry);
+        assert_same(&rt, ("id", entry.id), &told, &outcome);
     }
     Ok(())
 }
@@ -68,10 +71,10 @@ fn windows_of_every_size(rt: HostRuntime) -> Result<(), Fail> {
     }
     let entries = numbered(alloc, &rows)?;
     let plain = ids_of(alloc, &best_rows_by_pairs(alloc, &LowBoth, &entries)?)?;
-    assert!(rt; plain.len() > 100);
+    assert_same(&rt, "many rows", &(plain.len() > 100), &true);
     for window in [1, 2, 64, 1000] {
         let found = ids_of(alloc, &best_rows(alloc, &LowBoth, window, &entries)?)?;
-        assert_eq!(rt; found.as_slice(), plain.as_slice(), "window {window}");
+        assert_same_list(&rt, ("window", window), found.as_slice(), plain.as_slice());
     }
     Ok(())
 }

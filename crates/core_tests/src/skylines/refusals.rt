@@ -7,6 +7,7 @@ ghost use Rattle.pref_sky.specs.declared.entry.Entry.{Entry};
 use super::answers::ask_of;
 use super::cuttings::added_in_two;
 use super::fixtures::{LowBoth, PAIRS, numbered, places_of};
+use crate::same::{assert_same, assert_same_list};
 use pref_sky::{Entry, Partial, Ranked, answer, levels};
 use pref_term::Dominance;
 use std::alloc::Global;
@@ -27,11 +28,11 @@ fn add_in_the_end<D: Dominance>(
         → partial.old ≡ levels (entry_order (D.order dominance.now)) before 2
         → partial.new ≡ levels (entry_order (D.order dominance.now)) (before ++ entries.now) 2) }
 {
-    assert_eq!(rt; partial.as_slice(), held);
+    assert_same_list(rt, "before", partial.as_slice(), held);
     if partial.add(alloc, dominance, 1, 2, entries).is_err() {
-        assert_eq!(rt; partial.as_slice(), held);
+        assert_same_list(rt, "refused", partial.as_slice(), held);
         let again = partial.add(alloc, dominance, 1, 2, entries);
-        assert!(rt; again.is_ok());
+        assert_same(rt, "again", &again.is_ok(), &true);
         again?;
     }
     Ok(())
@@ -50,7 +51,7 @@ fn check_refused<D: Dominance>(
     let mut partial = Partial::empty();
     add_in_the_end(rt, alloc, dominance, &mut partial, &[], front)?;
     add_in_the_end(rt, alloc, dominance, &mut partial, &first, back)?;
-    assert_eq!(rt; partial.as_slice().len(), 4);
+    assert_same(rt, "both", &partial.as_slice().len(), &4);
     Ok(())
 }
 
@@ -74,13 +75,12 @@ fn a_refused_answer_changes_nothing_and_is_made_again(rt: HostRuntime) -> Result
     let ranked = match answer(alloc, &ask, &partial) {
         Ok(ranked) => ranked,
         Err(_) => {
-            assert_eq!(rt; partial.as_slice(), held.as_slice());
+            assert_same_list(&rt, "refused", partial.as_slice(), held.as_slice());
             answer(alloc, &ask, &partial).expect(&rt, "memory")
         }
     };
-    assert_eq!(rt;
-        places_of(alloc, &ranked)?.as_slice(),
-        [(1, 1), (1, 7), (2, 6), (2, 8), (3, 9)].as_slice()
-    );
+    let places = [(1, 1), (1, 7), (2, 6), (2, 8), (3, 9)];
+    let found = places_of(alloc, &ranked)?;
+    assert_same_list(&rt, "answer", found.as_slice(), places.as_slice());
     Ok(())
 }

@@ -1,5 +1,6 @@
 //! Requests for memory that are refused. `tests/refuse_each_allocation.sh` runs these tests once for each of their requests,
 //! and refuses it; where none is refused they show that the calls succeed.
+use crate::same::assert_same;
 use pref_table::{Schema, TableFault, read_table};
 
 #[test]
@@ -9,15 +10,18 @@ fn a_refused_reading_of_a_table_is_told_and_made_again(rt: HostRuntime) {
     let (schema, rows) = match read_table(alloc, text) {
         Ok(table) => table,
         Err(fault) => {
-            assert_eq!(rt; fault, TableFault::OutOfMemory);
+            assert_same(&rt, "refused", &fault, &TableFault::OutOfMemory);
             read_table(alloc, text).expect(&rt, "memory")
         }
     };
-    assert_eq!(rt; schema.width(), 2);
-    assert_eq!(rt; schema.index_of(b"city"), Some(1));
-    assert_eq!(rt; rows.len(), 5);
-    assert_eq!(rt; rows[1].cell(0), -3);
-    assert_eq!(rt; rows[4].cell(1), 10);
+    assert_same(&rt, "width", &schema.width(), &2);
+    assert_same(&rt, "city", &schema.index_of(b"city"), &Some(1));
+    assert_same(&rt, "rows", &rows.len(), &5);
+    let cells = (
+        rows.get(1).map(|row| row.cell(0)),
+        rows.get(4).map(|row| row.cell(1)),
+    );
+    assert_same(&rt, "cells", &cells, &(Some(-3), Some(10)));
 }
 
 #[test]
@@ -27,9 +31,9 @@ fn a_refused_schema_is_told_and_made_again(rt: HostRuntime) {
     let schema = match Schema::new(alloc, names.as_slice()) {
         Ok(schema) => schema,
         Err(fault) => {
-            assert_eq!(rt; fault, TableFault::OutOfMemory);
+            assert_same(&rt, "refused", &fault, &TableFault::OutOfMemory);
             Schema::new(alloc, names.as_slice()).expect(&rt, "memory")
         }
     };
-    assert_eq!(rt; schema.index_of(b"z"), Some(2));
+    assert_same(&rt, "z", &schema.index_of(b"z"), &Some(2));
 }
