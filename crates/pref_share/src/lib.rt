@@ -16,8 +16,6 @@ pub mod laws;
 mod master;
 mod published;
 mod run;
-#[cfg(test)]
-mod tests;
 
 pub use board::{Board, open_board};
 pub use book::{Name, Naming};

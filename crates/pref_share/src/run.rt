@@ -1,6 +1,6 @@
 //! Act lists of clients, each on a thread of its own.
 
-pub(crate) mod acts;
+mod acts;
 
 ghost use Rattle.std.specs.Prelude.{◌≡◌, false, ◌⊎◌, ◌<◌, ◌≤◌, ℕ, Ok, map, length, vec_len, slice_get, slice_index_or, Some, IfOk, IfErr, OnOk};
 ghost use Rattle.pref_core.specs.declared.fault.CoreFault.TheVariants.{OutOfMemory};

@@ -1,5 +1,0 @@
-use Rattle.pref_share.proofs.tests.calls.dropped_open.Given as goal
-
--- the board that is opened
-abbrev pub ghosts-told_after_a_drop : goal.ghosts-told_after_a_drop
-ghosts-told_after_a_drop g a = record { book = a.name.seen.book; opening = record { limits = a.setup; rows = a.rows.now } }

@@ -1,5 +1,0 @@
-use Rattle.pref_share.proofs.tests.reads.a_closed_board_lets_nobody_in.Given as goal
-
--- the board that is opened
-abbrev pub ghosts-read_of_a_closed_board : goal.ghosts-read_of_a_closed_board
-ghosts-read_of_a_closed_board g a = record { book = a.name.seen.book; opening = record { limits = a.setup; rows = a.rows.now } }

@@ -1,5 +1,0 @@
-use Rattle.pref_share.proofs.tests.refusals.an_opening_refused_then_again.Given as goal
-
--- the board that is opened
-abbrev pub ghosts-clients_of_an_opening : goal.ghosts-clients_of_an_opening
-ghosts-clients_of_an_opening g a = record { book = a.name.seen.book; opening = record { limits = a.setup; rows = a.rows.now } }

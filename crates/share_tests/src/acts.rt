@@ -1,0 +1,119 @@
+//! What clients do, over a table with the column x alone, and what they are told, as texts.
+
+use pref_core::{Act, Reply, Setup};
+use pref_sky::Ranked;
+use pref_table::{Row, Schema};
+use pref_term::read_ask;
+use std::alloc::Global;
+use std::test::Fail;
+
+/// What a client does. A query asks for the rows with the smallest x.
+#[derive(Clone, Copy)]
+pub enum Does {
+    Inserts(i64),
+    Updates(u64, i64),
+    Deletes(u64),
+    Begins,
+    Scans,
+    Finishes,
+    Abandons,
+    Gets(u64),
+    AsksRoom,
+}
+
+/// The column x alone.
+pub fn columns(alloc: Global) -> Result<Schema, Fail> {
+    let names = [b"x".as_slice()];
+    Ok(Schema::new(alloc, names.as_slice())?)
+}
+
+pub fn row(schema: &Schema, value: i64) -> Result<Row, Fail> {
+    let cells = [value];
+    Ok(Row::of(schema, cells.as_slice())?)
+}
+
+pub fn rows(alloc: Global, values: &[i64]) -> Result<Vec<Row>, Fail> {
+    let schema = columns(alloc)?;
+    let mut made = Vec::new(alloc);
+    for value in values {
+        made.push(row(&schema, *value)?)?;
+    }
+    Ok(made)
+}
+
+pub fn setup(clients: u8, capacity: u32, block: u32) -> Result<Setup, Fail> {
+    Ok(Setup::new(clients, capacity, block, 64).ok_or("setup")?)
+}
+
+/// The rows of an answer: of each its level, its id and its x.
+pub fn answer_text(alloc: Global, rows: &[Ranked]) -> Result<String, Fail> {
+    let mut text = format!(in alloc; "answer")?;
+    for ranked in rows {
+        let level = ranked.level;
+        let id = ranked.id;
+        let value = ranked.row.cell(0);
+        text.push_str(format!(in alloc; " level {level} id {id}: {value}")?.as_str())?;
+    }
+    Ok(text)
+}
+
+pub fn act(alloc: Global, schema: &Schema, does: Does) -> Result<Act, Fail> {
+    Ok(match does {
+        Does::Inserts(value) => Act::Insert(row(schema, value)?),
+        Does::Updates(id, value) => Act::Update(id, row(schema, value)?),
+        Does::Deletes(id) => Act::Delete(id),
+        Does::Begins => Act::Begin(read_ask(alloc, schema, b"best low(x)")?),
+        Does::Scans => Act::Scan,
+        Does::Finishes => Act::Finish,
+        Does::Abandons => Act::Abandon,
+        Does::Gets(id) => Act::Get(id),
+        Does::AsksRoom => Act::Room,
+    })
+}
+
+pub fn acts_of(alloc: Global, schema: &Schema, run: &[Does]) -> Result<Vec<Act>, Fail> {
+    let mut acts = Vec::new(alloc);
+    for does in run {
+        acts.push(act(alloc, schema, *does)?)?;
+    }
+    Ok(acts)
+}
+
+pub fn reply_text(alloc: Global, reply: &Reply) -> Result<String, Fail> {
+    Ok(match reply {
+        Reply::Inserted(id) => format!(in alloc; "inserted {id}")?,
+        Reply::Updated(id) => format!(in alloc; "updated {id}")?,
+        Reply::Deleted(id) => format!(in alloc; "deleted {id}")?,
+        Reply::Begun(blocks) => format!(in alloc; "begun {blocks}")?,
+        Reply::Left(blocks) => format!(in alloc; "left {blocks}")?,
+        Reply::Answer(list) => answer_text(alloc, list.as_slice())?,
+        Reply::Abandoned => format!(in alloc; "abandoned")?,
+        Reply::Found(id, row) => found_text(alloc, *id, row)?,
+        Reply::Room(room) => format!(in alloc; "room {room}")?,
+        Reply::Refused(fault) => format!(in alloc; "refused: {fault}")?,
+    })
+}
+
+fn found_text(alloc: Global, id: u64, row: &Row) -> Result<String, Fail> {
+    let value = row.cell(0);
+    Ok(format!(in alloc; "row {id}: {value}")?)
+}
+
+/// What a client was told, reply after reply.
+pub fn replies_text(alloc: Global, replies: &[Reply]) -> Result<String, Fail> {
+    let mut text = String::new(alloc);
+    for reply in replies {
+        text.push_str(reply_text(alloc, reply)?.as_str())?;
+        text.push_str(" / ")?;
+    }
+    Ok(text)
+}
+
+/// What all clients were told, client after client.
+pub fn lists_text(alloc: Global, lists: &[Vec<Reply>]) -> Result<String, Fail> {
+    let mut text = String::new(alloc);
+    for replies in lists {
+        text.push_str(replies_text(alloc, replies)?.as_str())?;
+    }
+    Ok(text)
+}

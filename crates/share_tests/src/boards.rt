@@ -1,0 +1,53 @@
+//! New boards with their clients.
+
+ghost use Rattle.std.specs.Prelude.{◌≡◌};
+
+use pref_core::{Act, Reply, Setup};
+use pref_share::{Board, Client, Gate, Name, Naming, ShareFault, open_board, run_all};
+use pref_table::Row;
+use std::alloc::Global;
+use std::process::Abort;
+use std::sync::Wait;
+use std::test::Fail;
+use std::thread::Threads;
+
+/// A new board with its first two clients.
+pub fn opened_for_two<J: Naming, R: Wait + Abort>(
+    rt: &R,
+    alloc: Global,
+    name: Name,
+    setup: Setup,
+    rows: &[Row],
+) -> Result<(Board<J>, Client<J>, Client<J>), Fail>
+    requires book { name.seen.book ≡ J.book }
+    requires opening { J.opening ≡ record { limits = setup; rows = rows.now } }
+{
+    let (board, clients) = open_board::<J, R>(rt, alloc, name, setup, rows)?;
+    let mut clients = clients.into_iter();
+    match (clients.next(), clients.next()) {
+        (Some(first), Some(second)) => Ok((board, first, second)),
+        _ => panic!(rt; "there are two clients"),
+    }
+}
+
+/// What all clients of a new board are told, each on a thread of its own.
+pub fn replies_of_a_run<J: Naming + Send + Sync, R: Threads + Wait + Abort + Sync, G: Gate + Sync>(
+    rt: &R,
+    alloc: Global,
+    name: Name,
+    setup: Setup,
+    rows: &[Row],
+    acts: Vec<Vec<Act>>,
+    gate: &G,
+) -> Result<Vec<Vec<Reply>>, ShareFault>
+    requires book { name.seen.book ≡ J.book }
+    requires opening { J.opening ≡ record { limits = setup; rows = rows.now } }
+{
+    let (board, clients) = open_board::<J, R>(rt, alloc, name, setup, rows)?;
+    if acts.len() != clients.len() {
+        panic!(rt; "there is a list for each");
+    }
+    let told = run_all(rt, alloc, &board, clients, acts, gate);
+    board.close(rt);
+    told
+}

@@ -1,0 +1,285 @@
+//! Clients of one board, one call after the other.
+
+ghost use Rattle.std.specs.Prelude.{◌≡◌};
+
+use crate::acts::{Does, act, columns, replies_text, reply_text, rows, setup};
+use crate::boards::opened_for_two;
+use pref_core::{Act, Event, RankedList, Reply, Setup, replay};
+use pref_share::{Board, Client, Name, Naming, ShareFault, open_board};
+use pref_table::Row;
+use pref_term::{Ask, read_ask};
+use std::alloc::Global;
+use std::marker::Brand;
+use std::process::Abort;
+use std::sync::Wait;
+use std::test::Fail;
+
+/// One call of a client, and its reply.
+fn reply_to<J: Naming, R: Wait>(
+    rt: &R,
+    alloc: Global,
+    board: &Board<J>,
+    client: &mut Client<J>,
+    act: Act,
+) -> Result<Reply, ShareFault> {
+    Ok(match act {
+        Act::Insert(row) => Reply::Inserted(client.insert(rt, alloc, board, row)?),
+        Act::Update(id, row) => {
+            client.update(rt, alloc, board, id, row)?;
+            Reply::Updated(id)
+        }
+        Act::Delete(id) => {
+            client.delete(rt, alloc, board, id)?;
+            Reply::Deleted(id)
+        }
+        Act::Begin(ask) => match client.begin(rt, alloc, board, ask) {
+            Ok(blocks) => Reply::Begun(blocks),
+            Err(refusal) => return Err(refusal.fault),
+        },
+        Act::Scan => Reply::Left(client.scan(alloc)?),
+        Act::Finish => Reply::Answer(RankedList::of(client.finish(rt, alloc, board)?)),
+        Act::Abandon => {
+            client.abandon(rt, alloc, board)?;
+            Reply::Abandoned
+        }
+        Act::Get(id) => Reply::Found(id, client.get(id)?),
+        Act::Room => Reply::Room(client.room()?),
+    })
+}
+
+/// What the clients of a board are told, one call after the other.
+fn told<J: Naming, R: Wait>(
+    rt: &R,
+    alloc: Global,
+    board: &Board<J>,
+    clients: &mut [Client<J>],
+    run: &[(u8, Does)],
+) -> Result<String, Fail> {
+    let schema = columns(alloc)?;
+    let mut text = String::new(alloc);
+    for (number, does) in run {
+        let act = act(alloc, &schema, *does)?;
+        let client = clients.get_mut(*number as usize).ok_or("client")?;
+        let reply = match reply_to(rt, alloc, board, client, act) {
+            Ok(reply) => reply_text(alloc, &reply)?,
+            Err(fault) => format!(in alloc; "refused: {fault}")?,
+        };
+        text.push_str(reply.as_str())?;
+        text.push_str(" / ")?;
+    }
+    Ok(text)
+}
+
+/// What the clients of a new board are told. The clients count from 0 here.
+fn played<J: Naming, R: Wait + Abort>(
+    rt: &R,
+    alloc: Global,
+    name: Name,
+    setup: Setup,
+    rows: &[Row],
+    run: &[(u8, Does)],
+) -> Result<String, Fail>
+    requires book { name.seen.book ≡ J.book }
+    requires opening { J.opening ≡ record { limits = setup; rows = rows.now } }
+{
+    let Ok((board, mut clients)) = open_board::<J, R>(rt, alloc, name, setup, rows) else {
+        panic!(rt; "it opens");
+    };
+    let text = told(rt, alloc, &board, &mut clients, run);
+    board.close(rt);
+    text
+}
+
+#[test]
+fn the_stored_run(rt: HostRuntime) -> Result<(), Fail> {
+    let alloc = rt.alloc();
+    let opening = rows(alloc, &[])?;
+    let setup = setup(4, 1024, 1024)?;
+    let run = [
+        (0, Does::Inserts(30)),
+        (0, Does::Inserts(10)),
+        (1, Does::Inserts(20)),
+        (0, Does::Begins),
+        (1, Does::Inserts(5)),
+        (0, Does::Scans),
+        (0, Does::Finishes),
+        (2, Does::Gets(4)),
+        (2, Does::AsksRoom),
+    ];
+    let text = played::<Brand, _>(&rt, alloc, Name::new(), setup, &opening, &run)?;
+    assert_eq!(rt;
+        text.as_str(),
+        "inserted 1 / inserted 2 / inserted 3 / begun 1 / inserted 4 / left 0 / answer level 1 id 2: 10 / row 4: 5 / room 1020 / "
+    );
+    Ok(())
+}
+
+#[test]
+fn an_answer_is_of_the_begin(rt: HostRuntime) -> Result<(), Fail> {
+    let alloc = rt.alloc();
+    let opening = rows(alloc, &[5, 7, 9])?;
+    let setup = setup(4, 4, 2)?;
+    let run = [
+        (0, Does::Begins),
+        (0, Does::Scans),
+        (1, Does::Deletes(1)),
+        (1, Does::Inserts(1)),
+        (1, Does::AsksRoom),
+        (0, Does::Scans),
+        (0, Does::Finishes),
+        (1, Does::Begins),
+        (1, Does::Scans),
+        (1, Does::Scans),
+        (1, Does::Finishes),
+    ];
+    let text = played::<Brand, _>(&rt, alloc, Name::new(), setup, &opening, &run)?;
+    assert_eq!(rt;
+        text.as_str(),
+        "begun 2 / left 1 / deleted 1 / inserted 4 / room 0 / left 0 / answer level 1 id 1: 5 / begun 2 / left 1 / left 0 / answer level 1 id 4: 1 / "
+    );
+    Ok(())
+}
+
+#[test]
+fn room_is_exact(rt: HostRuntime) -> Result<(), Fail> {
+    let alloc = rt.alloc();
+    let opening = rows(alloc, &[1, 2])?;
+    let setup = setup(4, 2, 2)?;
+    let first = [
+        (0, Does::Begins),
+        (1, Does::Updates(1, 9)),
+        (0, Does::Abandons),
+        (1, Does::Updates(1, 9)),
+        (1, Does::Gets(1)),
+        (1, Does::AsksRoom),
+    ];
+    let text = played::<Brand, _>(&rt, alloc, Name::new(), setup, &opening, &first)?;
+    assert_eq!(rt;
+        text.as_str(),
+        "begun 1 / refused: full needed 3 / abandoned / updated 1 / row 1: 9 / room 0 / "
+    );
+    let second = [
+        (0, Does::Updates(2, 6)),
+        (0, Does::AsksRoom),
+        (0, Does::Inserts(8)),
+        (0, Does::Deletes(2)),
+        (0, Does::AsksRoom),
+        (0, Does::Inserts(8)),
+    ];
+    let text = played::<Brand, _>(&rt, alloc, Name::new(), setup, &opening, &second)?;
+    assert_eq!(rt;
+        text.as_str(),
+        "updated 2 / room 0 / refused: full needed 3 / deleted 2 / room 1 / inserted 3 / "
+    );
+    Ok(())
+}
+
+#[test]
+fn two_updates_under_an_open_query(rt: HostRuntime) -> Result<(), Fail> {
+    let alloc = rt.alloc();
+    let opening = rows(alloc, &[5])?;
+    let setup = setup(4, 3, 3)?;
+    let run = [
+        (0, Does::Begins),
+        (1, Does::Updates(1, 1)),
+        (1, Does::Updates(1, 2)),
+        (1, Does::AsksRoom),
+        (0, Does::Scans),
+        (0, Does::Finishes),
+        (1, Does::AsksRoom),
+        (1, Does::Gets(1)),
+    ];
+    let text = played::<Brand, _>(&rt, alloc, Name::new(), setup, &opening, &run)?;
+    assert_eq!(rt;
+        text.as_str(),
+        "begun 1 / updated 1 / updated 1 / room 1 / left 0 / answer level 1 id 1: 5 / room 2 / row 1: 2 / "
+    );
+    Ok(())
+}
+
+/// A client that begins and is dropped.
+fn begin_and_go<J: Naming, R: Wait + Abort>(
+    rt: &R,
+    alloc: Global,
+    board: &Board<J>,
+    mut client: Client<J>,
+    ask: Ask,
+) {
+    match client.begin(rt, alloc, board, ask) {
+        Ok(blocks) => assert_eq!(rt; blocks, 1),
+        Err(_) => panic!(rt; "it begins"),
+    }
+}
+
+/// What the second client of a new board is told, once the first has begun and was dropped.
+fn told_after_a_drop<J: Naming, R: Wait + Abort>(
+    rt: &R,
+    alloc: Global,
+    name: Name,
+    setup: Setup,
+    rows: &[Row],
+    run: &[(u8, Does)],
+) -> Result<String, Fail>
+    requires book { name.seen.book ≡ J.book }
+    requires opening { J.opening ≡ record { limits = setup; rows = rows.now } }
+{
+    let ask = read_ask(alloc, &columns(alloc)?, b"best low(x)")?;
+    let (board, first, second) = opened_for_two::<J, R>(rt, alloc, name, setup, rows)?;
+    begin_and_go(rt, alloc, &board, first, ask);
+    let text = told(rt, alloc, &board, &mut [second], run);
+    board.close(rt);
+    text
+}
+
+/// What the sequential table tells its clients, who count from 1.
+fn replayed(alloc: Global, setup: Setup, rows: &[Row], run: &[(u8, Does)]) -> Result<String, Fail> {
+    let schema = columns(alloc)?;
+    let mut events = Vec::new(alloc);
+    for (client, does) in run {
+        events.push(Event {
+            client: *client,
+            act: act(alloc, &schema, *does)?,
+        })?;
+    }
+    replies_text(alloc, &replay(alloc, setup, rows, events)?)
+}
+
+#[test]
+fn dropped_open(rt: HostRuntime) -> Result<(), Fail> {
+    let alloc = rt.alloc();
+    let opening = rows(alloc, &[5])?;
+    let setup = setup(2, 2, 2)?;
+    let run = [
+        (0, Does::Updates(1, 6)),
+        (0, Does::Updates(1, 7)),
+        (0, Does::AsksRoom),
+        (0, Does::Inserts(8)),
+        (0, Does::Gets(1)),
+    ];
+    let text = told_after_a_drop::<Brand, _>(&rt, alloc, Name::new(), setup, &opening, &run)?;
+    assert_eq!(rt;
+        text.as_str(),
+        "updated 1 / updated 1 / room 0 / refused: full needed 3 / row 1: 7 / "
+    );
+    Ok(())
+}
+
+#[test]
+fn the_sequential_table_tells_the_same_of_an_open_query(rt: HostRuntime) -> Result<(), Fail> {
+    let alloc = rt.alloc();
+    let opening = rows(alloc, &[5])?;
+    let run = [
+        (1, Does::Begins),
+        (2, Does::Updates(1, 6)),
+        (2, Does::Updates(1, 7)),
+        (2, Does::AsksRoom),
+        (2, Does::Inserts(8)),
+        (2, Does::Gets(1)),
+    ];
+    let text = replayed(alloc, setup(2, 2, 2)?, &opening, &run)?;
+    assert_eq!(rt;
+        text.as_str(),
+        "begun 1 / updated 1 / updated 1 / room 0 / refused: full needed 3 / row 1: 7 / "
+    );
+    Ok(())
+}

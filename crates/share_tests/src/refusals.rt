@@ -1,0 +1,280 @@
+//! Requests for memory that are refused. `tests/refuse_each_allocation.sh` runs these tests once for each of their requests,
+//! and refuses it; where none is refused they show that each call of a client succeeds.
+
+ghost use Rattle.std.specs.Prelude.{◌≡◌};
+
+use crate::acts::{Does, acts_of, answer_text, columns, lists_text, row, rows, setup};
+use crate::boards::{opened_for_two, replies_of_a_run};
+use pref_core::{Act, CoreFault, Setup};
+use pref_share::{BeginFault, Board, Client, Gate, Name, Naming, ShareFault, open_board};
+use pref_sky::Ranked;
+use pref_table::{Row, Schema};
+use pref_term::{Ask, read_ask};
+use std::alloc::Global;
+use std::marker::Brand;
+use std::process::Abort;
+use std::sync::Wait;
+use std::test::Fail;
+
+/// How many clients a board has that is opened and closed.
+fn clients_of_an_opening<J: Naming, R: Wait>(
+    rt: &R,
+    alloc: Global,
+    name: Name,
+    setup: Setup,
+    rows: &[Row],
+) -> Result<usize, ShareFault>
+    requires book { name.seen.book ≡ J.book }
+    requires opening { J.opening ≡ record { limits = setup; rows = rows.now } }
+{
+    let (board, clients) = open_board::<J, R>(rt, alloc, name, setup, rows)?;
+    board.close(rt);
+    Ok(clients.len())
+}
+
+#[test]
+fn an_opening_refused_then_again(rt: HostRuntime) -> Result<(), Fail> {
+    let alloc = rt.alloc();
+    let rows = rows(alloc, &[5, 4, 6])?;
+    let setup = setup(2, 4, 2)?;
+    let clients = match clients_of_an_opening::<Brand, _>(&rt, alloc, Name::new(), setup, &rows) {
+        Ok(clients) => clients,
+        Err(fault) => {
+            assert_eq!(rt; fault, ShareFault::Core(CoreFault::OutOfMemory));
+            clients_of_an_opening::<Brand, _>(&rt, alloc, Name::new(), setup, &rows).expect(
+                &rt, "memory",
+            )
+        }
+    };
+    assert_eq!(rt; clients, 2);
+    Ok(())
+}
+
+/// Memory was refused, and nothing has joined the history that the client sees.
+fn check_refusal<J: Naming>(
+    rt: &impl Abort,
+    fault: ShareFault,
+    client: &Client<J>,
+    seen_before: u64,
+) {
+    assert_eq!(rt; fault, ShareFault::Core(CoreFault::OutOfMemory));
+    assert_eq!(rt; client.seen(), seen_before);
+}
+
+/// Makes a call of a client, once more where memory was refused.
+macro_rules! in_the_end {
+    ($rt:expr, $client:expr, $call:expr) => {{
+        let before = $client.seen();
+        match $call {
+            Ok(told) => told,
+            Err(fault) => {
+                check_refusal($rt, fault, $client, before);
+                $call.expect($rt, "memory")
+            }
+        }
+    }};
+}
+
+/// Begins a query, once more where memory was refused, with the ask that was handed back.
+fn begin_in_the_end<J: Naming, R: Wait + Abort>(
+    rt: &R,
+    alloc: Global,
+    board: &Board<J>,
+    client: &mut Client<J>,
+    ask: Ask,
+) -> u32 {
+    let before = client.seen();
+    let ask = match client.begin(rt, alloc, board, ask) {
+        Ok(blocks) => return blocks,
+        Err(BeginFault { fault, ask }) => {
+            check_refusal(rt, fault, client, before);
+            ask
+        }
+    };
+    match client.begin(rt, alloc, board, ask) {
+        Ok(blocks) => blocks,
+        Err(_) => panic!(rt; "memory"),
+    }
+}
+
+/// Fills a table of 18 slots that has the one row of id 1.
+fn fill<J: Naming, R: Wait + Abort>(
+    rt: &R,
+    alloc: Global,
+    board: &Board<J>,
+    client: &mut Client<J>,
+    row: &Row,
+) {
+    for id in 2..19 {
+        let inserted = in_the_end!(rt, client, client.insert(rt, alloc, board, *row));
+        assert_eq!(rt; inserted, id);
+    }
+}
+
+/// Changes a full table of 18 slots, and reads it. A row that takes the place of another may make the index grow.
+fn change_and_read<J: Naming, R: Wait + Abort>(
+    rt: &R,
+    alloc: Global,
+    board: &Board<J>,
+    client: &mut Client<J>,
+    row: &Row,
+) {
+    for id in 2..200 {
+        in_the_end!(rt, client, client.delete(rt, alloc, board, id));
+        let inserted = in_the_end!(rt, client, client.insert(rt, alloc, board, *row));
+        assert_eq!(rt; inserted, id + 17);
+    }
+    in_the_end!(rt, client, client.update(rt, alloc, board, 1, *row));
+    assert_eq!(rt; client.get(1), Ok(*row));
+    assert_eq!(rt; client.room(), Ok(0));
+}
+
+fn changed_and_heard<J: Naming, R: Wait + Abort>(
+    rt: &R,
+    alloc: Global,
+    name: Name,
+    setup: Setup,
+    rows: &[Row],
+    row: &Row,
+) -> Result<(), Fail>
+    requires book { name.seen.book ≡ J.book }
+    requires opening { J.opening ≡ record { limits = setup; rows = rows.now } }
+{
+    let (board, mut client, mut other) = opened_for_two::<J, R>(rt, alloc, name, setup, rows)?;
+    fill(rt, alloc, &board, &mut client, row);
+    change_and_read(rt, alloc, &board, &mut client, row);
+    other.hear(client.word());
+    assert_eq!(rt; other.get(1), Ok(*row));
+    board.close(rt);
+    Ok(())
+}
+
+#[test]
+fn changes_refused_then_again(rt: HostRuntime) -> Result<(), Fail> {
+    let alloc = rt.alloc();
+    let schema = columns(alloc)?;
+    let opening = rows(alloc, &[5])?;
+    let changed = row(&schema, 6)?;
+    let setup = setup(2, 18, 6)?;
+    changed_and_heard::<Brand, _>(&rt, alloc, Name::new(), setup, &opening, &changed)
+}
+
+/// Abandons a query of two blocks, and asks it again to its end.
+fn abandon_and_ask<J: Naming, R: Wait + Abort>(
+    rt: &R,
+    alloc: Global,
+    board: &Board<J>,
+    client: &mut Client<J>,
+    asks: (Ask, Ask),
+) -> Vec<Ranked> {
+    assert_eq!(rt; begin_in_the_end(rt, alloc, board, client, asks.0), 2);
+    in_the_end!(rt, client, client.abandon(rt, alloc, board));
+    assert_eq!(rt; begin_in_the_end(rt, alloc, board, client, asks.1), 2);
+    assert_eq!(rt; in_the_end!(rt, client, client.scan(alloc)), 1);
+    assert_eq!(rt; in_the_end!(rt, client, client.scan(alloc)), 0);
+    in_the_end!(rt, client, client.finish(rt, alloc, board))
+}
+
+fn answered<J: Naming, R: Wait + Abort>(
+    rt: &R,
+    alloc: Global,
+    name: Name,
+    setup: Setup,
+    rows: &[Row],
+    asks: (Ask, Ask),
+) -> Result<Vec<Ranked>, Fail>
+    requires book { name.seen.book ≡ J.book }
+    requires opening { J.opening ≡ record { limits = setup; rows = rows.now } }
+{
+    let (board, mut client, _other) = opened_for_two::<J, R>(rt, alloc, name, setup, rows)?;
+    let ranked = abandon_and_ask(rt, alloc, &board, &mut client, asks);
+    board.close(rt);
+    Ok(ranked)
+}
+
+#[test]
+fn a_query_refused_then_again(rt: HostRuntime) -> Result<(), Fail> {
+    let alloc = rt.alloc();
+    let schema = columns(alloc)?;
+    let opening = rows(alloc, &[5, 4, 6])?;
+    let asks = (
+        read_ask(alloc, &schema, b"best low(x)")?,
+        read_ask(alloc, &schema, b"best low(x)")?,
+    );
+    let setup = setup(2, 4, 2)?;
+    let ranked = answered::<Brand, _>(&rt, alloc, Name::new(), setup, &opening, asks)?;
+    assert_eq!(rt;
+        answer_text(alloc, &ranked)?.as_str(),
+        "answer level 1 id 2: 4"
+    );
+    Ok(())
+}
+
+/// A gate that holds nobody up.
+struct Open;
+
+impl Gate for Open {
+    ghost may_hold = { λ gate client turn. ⊥ };
+
+    fn before(&self, _client: u8, _turn: usize) -> bool {
+        true
+    }
+
+    fn after(&self, _client: u8, _turn: usize) {}
+}
+
+/// The acts of one client.
+fn acts_of_one(alloc: Global, schema: &Schema) -> Result<Vec<Vec<Act>>, Fail> {
+    let run = [
+        Does::Inserts(3),
+        Does::Begins,
+        Does::Scans,
+        Does::Scans,
+        Does::Finishes,
+        Does::Gets(2),
+    ];
+    let mut lists = Vec::new(alloc);
+    lists.push(acts_of(alloc, schema, &run)?)?;
+    Ok(lists)
+}
+
+#[test]
+fn a_run_refused_then_again(rt: HostRuntime) -> Result<(), Fail> {
+    let alloc = rt.alloc();
+    let schema = columns(alloc)?;
+    let opening = rows(alloc, &[5])?;
+    let setup = setup(1, 4, 2)?;
+    let first = acts_of_one(alloc, &schema)?;
+    let second = acts_of_one(alloc, &schema)?;
+    let replies = match replies_of_a_run::<Brand, _, _>(
+        &rt,
+        alloc,
+        Name::new(),
+        setup,
+        &opening,
+        first,
+        &Open,
+    ) {
+        Ok(replies) => replies,
+        Err(fault) => {
+            assert_eq!(rt; fault, ShareFault::Core(CoreFault::OutOfMemory));
+            match replies_of_a_run::<Brand, _, _>(
+                &rt,
+                alloc,
+                Name::new(),
+                setup,
+                &opening,
+                second,
+                &Open,
+            ) {
+                Ok(replies) => replies,
+                Err(_) => panic!(rt; "memory"),
+            }
+        }
+    };
+    assert_eq!(rt;
+        lists_text(alloc, &replies)?.as_str(),
+        "inserted 2 / begun 2 / left 1 / left 0 / answer level 1 id 2: 3 / row 2: 3 / "
+    );
+    Ok(())
+}

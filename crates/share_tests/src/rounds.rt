@@ -1,0 +1,74 @@
+//! Rounds of begin and abandon, each call told by a line once it is answered. `tests/count_begin_and_abandon.sh` counts the requests
+//! for memory from line to line, so what is told beforehand is no part of a call's.
+
+ghost use Rattle.std.specs.Prelude.{◌≡◌};
+
+use crate::acts::{columns, rows, setup};
+use crate::boards::opened_for_two;
+use pref_core::Setup;
+use pref_share::{Board, Client, Name, Naming};
+use pref_table::{Row, Schema};
+use pref_term::{Ask, read_ask};
+use std::alloc::Global;
+use std::io::Print;
+use std::marker::Brand;
+use std::process::Abort;
+use std::sync::Wait;
+use std::test::Fail;
+
+const ROUNDS: usize = 20;
+
+fn asks(alloc: Global, schema: &Schema) -> Result<Vec<Ask>, Fail> {
+    let mut asks = Vec::new(alloc);
+    for _round in 0..ROUNDS {
+        asks.push(read_ask(alloc, schema, b"best low(x)")?)?;
+    }
+    Ok(asks)
+}
+
+/// Begins each of these queries, and abandons it.
+fn begin_and_abandon<J: Naming, R: Wait + Print>(
+    rt: &R,
+    alloc: Global,
+    board: &Board<J>,
+    client: &mut Client<J>,
+    asks: Vec<Ask>,
+) -> Result<(), Fail> {
+    println!(rt; "opened")?;
+    for ask in asks {
+        client
+            .begin(rt, alloc, board, ask)
+            .map_err(|refusal| refusal.fault)?;
+        println!(rt; "begun")?;
+        client.abandon(rt, alloc, board)?;
+        println!(rt; "abandoned")?;
+    }
+    Ok(())
+}
+
+fn on_a_new_board<J: Naming, R: Wait + Print + Abort>(
+    rt: &R,
+    alloc: Global,
+    name: Name,
+    setup: Setup,
+    rows: &[Row],
+    asks: Vec<Ask>,
+) -> Result<(), Fail>
+    requires book { name.seen.book ≡ J.book }
+    requires opening { J.opening ≡ record { limits = setup; rows = rows.now } }
+{
+    let (board, mut client, _other) = opened_for_two::<J, R>(rt, alloc, name, setup, rows)?;
+    let told = begin_and_abandon(rt, alloc, &board, &mut client, asks);
+    board.close(rt);
+    told
+}
+
+#[test]
+fn rounds_of_begin_and_abandon(rt: HostRuntime) -> Result<(), Fail> {
+    let alloc = rt.alloc();
+    let schema = columns(alloc)?;
+    let opening = rows(alloc, &[5, 4, 6, 3, 7, 2, 8, 1])?;
+    let asks = asks(alloc, &schema)?;
+    let setup = setup(2, 16, 4)?;
+    on_a_new_board::<Brand, _>(&rt, alloc, Name::new(), setup, &opening, asks)
+}

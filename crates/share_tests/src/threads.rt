@@ -1,0 +1,229 @@
+//! Clients of one board at once, each on a thread of its own.
+
+ghost use Rattle.std.specs.Prelude.{◌≡◌};
+
+use crate::acts::{Does, act, acts_of, columns, lists_text, rows, setup};
+use crate::boards::replies_of_a_run;
+use pref_core::{Act, Setup};
+use pref_share::{Gate, Name, Naming};
+use pref_table::{Row, Schema};
+use std::alloc::Global;
+use std::marker::Brand;
+use std::process::Abort;
+use std::sync::Wait;
+use std::sync::atomic::{AtomicU64, Ordering};
+use std::test::Fail;
+use std::thread;
+use std::thread::Threads;
+
+/// Whether so many acts are answered, after some waiting.
+fn is_reached(answered: &AtomicU64, wanted: u64) -> bool {
+    for _ in 0..100_000_000 {
+        if answered.load(Ordering::SeqCst) >= wanted {
+            return true;
+        }
+        thread::yield_now();
+    }
+    false
+}
+
+/// Holds one client's act until another's is answered.
+#[derive(Drop)]
+struct Holds {
+    held: u8,
+    until: u8,
+    answered: AtomicU64,
+}
+
+impl Gate for Holds {
+    ghost use Rattle.std.specs.Prelude.{◌≡◌};
+
+    ghost may_hold = { λ gate client turn. client ≡ gate.held };
+
+    fn before(&self, client: u8, _turn: usize) -> bool {
+        client != self.held || is_reached(&self.answered, 1)
+    }
+
+    fn after(&self, client: u8, _turn: usize) {
+        if client == self.until {
+            self.answered.store(1, Ordering::SeqCst);
+        }
+    }
+}
+
+fn held_until(held: u8, until: u8) -> Holds {
+    Holds {
+        held,
+        until,
+        answered: AtomicU64::new(0),
+    }
+}
+
+/// Holds up client 3 at its turn 2, and client 5 at its turn 0.
+struct HoldsTwo;
+
+impl Gate for HoldsTwo {
+    ghost use Rattle.std.specs.Prelude.{◌≡◌, ◌⊎◌};
+
+    ghost may_hold = { λ gate client turn. (client ≡ 3) × (turn ≡ 2) ⊎ (client ≡ 5) × (turn ≡ 0) };
+
+    fn before(&self, client: u8, turn: usize) -> bool {
+        !(client == 3 && turn == 2 || client == 5 && turn == 0)
+    }
+
+    fn after(&self, _client: u8, _turn: usize) {}
+}
+
+/// Holds the first acts of the others until client 1's is answered, and each of its four scans until another quarter of their
+/// updates is.
+#[derive(Drop)]
+struct HoldsScans {
+    begun: AtomicU64,
+    updated: AtomicU64,
+}
+
+impl Gate for HoldsScans {
+    ghost use Rattle.std.specs.Prelude.{◌≡◌, ◌⊎◌};
+
+    ghost may_hold = { λ gate client turn. (client ≡ 1) ⊎ (turn ≡ 0) };
+
+    fn before(&self, client: u8, turn: usize) -> bool {
+        if client != 1 {
+            return turn > 0 || is_reached(&self.begun, 1);
+        }
+        match turn {
+            1 => is_reached(&self.updated, 280),
+            2 => is_reached(&self.updated, 560),
+            3 => is_reached(&self.updated, 840),
+            4 => is_reached(&self.updated, 1120),
+            _ => true,
+        }
+    }
+
+    fn after(&self, client: u8, _turn: usize) {
+        let answered = if client == 1 {
+            &self.begun
+        } else {
+            &self.updated
+        };
+        answered.fetch_add(1, Ordering::SeqCst);
+    }
+}
+
+/// What all clients of a new board are told, or what stopped them.
+fn run<J: Naming + Send + Sync, R: Threads + Wait + Abort + Sync, G: Gate + Sync>(
+    rt: &R,
+    alloc: Global,
+    name: Name,
+    setup: Setup,
+    rows: &[Row],
+    acts: Vec<Vec<Act>>,
+    gate: &G,
+) -> Result<String, Fail>
+    requires book { name.seen.book ≡ J.book }
+    requires opening { J.opening ≡ record { limits = setup; rows = rows.now } }
+{
+    match replies_of_a_run::<J, R, G>(rt, alloc, name, setup, rows, acts, gate) {
+        Ok(lists) => lists_text(alloc, &lists),
+        Err(fault) => Ok(format!(in alloc; "{fault}")?),
+    }
+}
+
+fn same_acts(alloc: Global, clients: u8, run: &[Does]) -> Result<Vec<Vec<Act>>, Fail> {
+    let schema = columns(alloc)?;
+    let mut lists = Vec::new(alloc);
+    for _client in 0..clients {
+        lists.push(acts_of(alloc, &schema, run)?)?;
+    }
+    Ok(lists)
+}
+
+/// Updates of one row to -1, -2, .., -160.
+fn updates_of(alloc: Global, schema: &Schema, id: u64) -> Result<Vec<Act>, Fail> {
+    let mut acts = Vec::new(alloc);
+    for value in 1..161u8 {
+        acts.push(act(alloc, schema, Does::Updates(id, -i64::from(value)))?)?;
+    }
+    Ok(acts)
+}
+
+/// A query by client 1, while each of the other seven updates a row.
+fn a_query_among_updates(alloc: Global) -> Result<Vec<Vec<Act>>, Fail> {
+    let schema = columns(alloc)?;
+    let query = [
+        Does::Begins,
+        Does::Scans,
+        Does::Scans,
+        Does::Scans,
+        Does::Scans,
+        Does::Finishes,
+        Does::AsksRoom,
+        Does::Gets(7),
+    ];
+    let mut lists = Vec::new(alloc);
+    lists.push(acts_of(alloc, &schema, &query)?)?;
+    for id in 1..8 {
+        lists.push(updates_of(alloc, &schema, id)?)?;
+    }
+    Ok(lists)
+}
+
+/// The text, then 160 times that this row is updated.
+fn with_updates(alloc: Global, text: String, id: u64) -> Result<String, Fail> {
+    let mut text = text;
+    for _ in 0..160 {
+        text.push_str(format!(in alloc; "updated {id} / ")?.as_str())?;
+    }
+    Ok(text)
+}
+
+/// What the clients are told of a query among updates.
+fn answer_and_updates(alloc: Global) -> Result<String, Fail> {
+    let mut text = format!(in alloc;
+        "begun 4 / left 3 / left 2 / left 1 / left 0 / answer level 1 id 1: 1 / room 9 / row 7: -160 / "
+    )?;
+    for id in 1..8 {
+        text = with_updates(alloc, text, id)?;
+    }
+    Ok(text)
+}
+
+#[test]
+fn two_clients_at_once(rt: HostRuntime) -> Result<(), Fail> {
+    let alloc = rt.alloc();
+    let opening = rows(alloc, &[3])?;
+    let setup = setup(2, 4, 4)?;
+    for (held, until) in [(1, 2), (2, 1)] {
+        let acts = same_acts(alloc, 2, &[Does::Gets(1)])?;
+        let gate = held_until(held, until);
+        let text = run::<Brand, _, _>(&rt, alloc, Name::new(), setup, &opening, acts, &gate)?;
+        assert_eq!(rt; text.as_str(), "row 1: 3 / row 1: 3 / ");
+    }
+    Ok(())
+}
+
+#[test]
+fn held_least(rt: HostRuntime) -> Result<(), Fail> {
+    let alloc = rt.alloc();
+    let opening = rows(alloc, &[])?;
+    let setup = setup(8, 4, 4)?;
+    let acts = same_acts(alloc, 8, &[Does::AsksRoom, Does::AsksRoom, Does::AsksRoom])?;
+    let text = run::<Brand, _, _>(&rt, alloc, Name::new(), setup, &opening, acts, &HoldsTwo)?;
+    assert_eq!(rt; text.as_str(), "held client 3");
+    Ok(())
+}
+
+#[test]
+fn held_open(rt: HostRuntime) -> Result<(), Fail> {
+    let alloc = rt.alloc();
+    let opening = rows(alloc, &[1, 2, 3, 4, 5, 6, 7])?;
+    let setup = setup(8, 16, 4)?;
+    let acts = a_query_among_updates(alloc)?;
+    let gate = HoldsScans {
+        begun: AtomicU64::new(0),
+        updated: AtomicU64::new(0),
+    };
+    let text = run::<Brand, _, _>(&rt, alloc, Name::new(), setup, &opening, acts, &gate)?;
+    assert_eq!(rt; text.as_str(), answer_and_updates(alloc)?.as_str());
+    Ok(())
+}
