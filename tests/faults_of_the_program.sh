@@ -1,5 +1,6 @@
 #!/usr/bin/env bash
-# Shows what the program says and how it ends where its input or output fails, or is too large, and that `threads` gives each client's lines.
+# Shows what the program says and how it ends where its input or output fails, or has too many bytes or rows, and that `threads` gives each
+# client's lines.
 #
 #     (cd crates/prefq && rt run prefq < stdin) && tests/faults_of_the_program.sh
 #
@@ -20,10 +21,16 @@ expect() { # status output input words..
 printf 'table\nx\n3\nend\nas 2 get 1\nas 1 get 1\nas 2 room\n' >"$room/script"
 head -c 16777217 /dev/zero | tr '\0' '\n' >"$room/large"
 printf 'as 1 room\n' >"$room/headless"
+{ printf 'table\nx\n'; seq 65537; printf 'end\n'; } >"$room/rows"
+{ printf 'table\nx\nend\n'; head -c 16777204 /dev/zero | tr '\0' ' '; } >"$room/largest"
+{ cat "$room/largest"; printf ' '; } >"$room/one_more"
 
 for mode in play threads; do
     expect 1 'fault: read' "$room" $mode
     expect 1 'fault: too large' "$room/large" $mode
+    expect 0 '' "$room/largest" $mode
+    expect 1 'fault: too large' "$room/one_more" $mode
+    expect 2 'table refused 8: too many rows' "$room/rows" $mode
     expect 2 'script refused: no table' "$room/headless" $mode
     status=0
     "$prefq" $mode <"$room/script" >/dev/full || status=$?
