@@ -1,5 +1,5 @@
 #!/usr/bin/env bash
-# Shows that a begin makes no more requests for memory than an abandon: counts those of each call over the rounds of pref_share's
+# Shows that a begin makes no more requests for memory than an abandon: counts those of each call over the rounds of share_tests'
 # test `rounds_of_begin_and_abandon`, whose table has rows, and compares the least of a begin with the least of an abandon.
 #
 #     tests/count_begin_and_abandon.sh
@@ -10,9 +10,9 @@ cd "$(dirname "$0")/.."
 room=$(mktemp -d)
 trap 'rm -rf "$room"' EXIT
 cc -O2 -Wall -shared -fPIC -o "$room/watch.so" tests/watch_allocations.c
-(cd crates/pref_share && rt test -- rounds)
-COUNT=1 LD_PRELOAD="$room/watch.so" crates/pref_share/out/pref_share_tests \
-    tests::rounds::rounds_of_begin_and_abandon >"$room/counts"
+. tests/built_tests.sh
+build_tests share_tests rounds
+COUNT=1 LD_PRELOAD="$room/watch.so" crates/share_tests/out/share_tests_tests rounds::rounds_of_begin_and_abandon >"$room/counts"
 
 # The numbers of requests that stand before this word, the least first.
 counts() { # word

@@ -40,9 +40,10 @@ refuse_in_turn() { # crate, test
 }
 
 crates=("$@")
-[ $# -gt 0 ] || crates=(pref_table pref_term pref_sky pref_core pref_share prefq)
+[ $# -gt 0 ] || crates=(core_tests share_tests prefq)
+. tests/built_tests.sh
 for crate in "${crates[@]}"; do
-    (cd "crates/$crate" && rt test -- refusals)
+    build_tests "$crate" refusals
     for name in $("crates/$crate/out/${crate}_tests" --list | sed -n 's/\(.*refusals::.*\): test$/\1/p'); do
         refuse_in_turn "$crate" "$name"
     done

@@ -1,4 +1,6 @@
-//! Tests of pref_share, over its public items.
+//! The tests of pref_share, through its public items.
+//!
+//! They stand in a crate of their own because a crate that holds tests is proved twice.
 #![tactic(auto)]
 
 #[cfg(test)]
