@@ -4,9 +4,9 @@
     (cd crates/prefq && rt run prefq < stdin)     # builds crates/prefq/out/prefq
     python3 examples/check.py [PROGRAM]
 
-A folder of an example has `args` (a word a line), `script.txt` and `replies.txt`; its tests hold the same texts. In its README a
-block `script` or `replies` is a part of these. In docs/GUIDE.md a block `script ARGS` is a whole script, `question` one question
-over the last block `table`, and the block `replies [STATUS]` or `answer` after it is what the program prints.
+A folder of an example has `args` (a word a line), `script.txt` and `replies.txt`. In its README a block `script` or `replies` is a part of
+these. In docs/GUIDE.md a block `script ARGS` is a whole script, `question` one question over the last block `table`, and the block
+`replies [STATUS]` or `answer` after it is what the program prints.
 """
 import re
 import subprocess
@@ -14,7 +14,6 @@ import sys
 from pathlib import Path
 
 TOP = Path(__file__).resolve().parent.parent
-TESTS = TOP / "crates/prefq/src/tests/examples"
 BLOCK = re.compile(r"^```(\w+)([^\n]*)\n(.*?)^```$", re.MULTILINE | re.DOTALL)
 
 
@@ -33,12 +32,6 @@ def example_faults(program, folder):
     words = (folder / "args").read_text().split()
     if run(program, words, script) != (replies, 0):
         yield "prints something else than replies.txt"
-    test = (TESTS / f"{folder.name}.rt").read_text()
-    if re.findall(r'"(.*?)"', test[: test.index(";")]) != words:
-        yield "the test holds other arguments than args"
-    for text in (script, replies):
-        if f'"\\\n{text}";' not in test:
-            yield f"the test holds another text than {'script' if text is script else 'replies'}.txt"
     for kind, _, text in blocks(folder / "README.md"):
         if kind in ("script", "replies") and text not in {"script": script, "replies": replies}[kind]:
             yield f"the README shows what {kind}.txt does not have: {text.splitlines()[0]}"

@@ -1,11 +1,9 @@
-//! Runs of scripts, and of the arguments.
+//! Runs of scripts, and of the arguments. Whole scripts with what the program prints are files of tests/scripts, at the top of the
+//! repository.
 mod arguments;
 mod ends;
-mod examples;
 mod faults;
-mod questions;
 mod refusals;
-mod rows;
 mod threads;
 
 use crate::fault::RunFault;
@@ -13,8 +11,21 @@ use crate::run::run_script;
 use crate::watched::Watched;
 use pref_core::Setup;
 use std::alloc::Global;
+use std::fmt::Debug;
 use std::io;
 use std::io::{ErrorKind, Read, Write};
+use std::process::Abort;
+use std::test::Fail;
+
+/// Asserts that what was found in a case is what is wanted there.
+fn assert_same<C: Debug + Copy, T: Debug + PartialEq>(
+    rt: &impl Abort,
+    case: C,
+    found: &T,
+    wanted: &T,
+) {
+    assert_eq!(rt; *found, *wanted, "at {case:?}");
+}
 
 /// A reader of a text that gives a few bytes at a time and fails after some.
 #[derive(Drop)]
@@ -86,21 +97,17 @@ struct Run {
     write_failed: bool,
 }
 
-impl Run {
-    /// What was written, where it is a text.
-    fn text(&self) -> &str {
-        match str::from_utf8(self.output.as_slice()) {
-            Ok(text) => text,
-            Err(_) => "no text",
-        }
-    }
+/// The same of a run, with what was written lent.
+type Seen<'a> = (Result<(), RunFault>, &'a [u8], bool, bool);
 
-    /// What was written by a run that ended well, or the fault of any other.
-    fn told(&self) -> Result<&str, RunFault> {
-        match self.result {
-            Ok(()) => Ok(self.text()),
-            Err(fault) => Err(fault),
-        }
+impl Run {
+    fn seen(&self) -> Seen<'_> {
+        (
+            self.result,
+            self.output.as_slice(),
+            self.read_failed,
+            self.write_failed,
+        )
     }
 }
 
@@ -150,11 +157,11 @@ fn run_whole(alloc: Global, setup: Setup, text: &[u8]) -> Run {
 }
 
 /// The setup of these numbers, with 4 clients and a window of 64.
-fn setup_of(capacity: u32, block: u32) -> Option<Setup> {
-    Setup::new(4, capacity, block, 64)
+fn setup_of(capacity: u32, block: u32) -> Result<Setup, Fail> {
+    Ok(Setup::new(4, capacity, block, 64).ok_or("no setup")?)
 }
 
 /// The setup where no options are given.
-fn defaults() -> Option<Setup> {
+fn defaults() -> Result<Setup, Fail> {
     setup_of(1024, 1024)
 }

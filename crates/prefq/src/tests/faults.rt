@@ -1,150 +1,129 @@
 //! Faults of scripts, with their lines and statuses.
-use super::{defaults, run_whole, setup_of};
+use super::{assert_same, run_whole, setup_of};
 use crate::fault::RunFault;
 use crate::output::fault_line;
 use pref_core::CoreFault;
+use pref_share::ShareFault;
 use pref_table::TableFault;
 use std::test::Fail;
 
 #[test]
-fn faults_of_a_script_are_its_whole_output(rt: HostRuntime) -> Result<(), Fail> {
-    let setup = setup_of(2, 1024).ok_or("no setup")?;
-    let cases: [(&[u8], RunFault, &str); 9] = [
-        (b"", RunFault::NoTable, "script refused: no table\n"),
-        (b"tabl", RunFault::NoTable, "script refused: no table\n"),
+fn each_fault_has_its_line_and_status(rt: HostRuntime) -> Result<(), Fail> {
+    let cases: [(RunFault, &str, u8); 26] = [
+        (RunFault::Read, "", 1),
+        (RunFault::Write, "", 1),
+        (RunFault::TooLarge, "", 1),
+        (RunFault::Memory, "", 1),
+        (RunFault::Threads(ShareFault::Held { client: 2 }), "", 1),
+        (RunFault::NoTable, "script refused: no table\n", 2),
+        (RunFault::NoEnd, "script refused: no end\n", 2),
         (
-            b"\xEF\xBB\xBFtable\nx\nend\n",
-            RunFault::NoTable,
-            "script refused: no table\n",
-        ),
-        (b"table", RunFault::NoEnd, "script refused: no end\n"),
-        (b"table\nx\n1", RunFault::NoEnd, "script refused: no end\n"),
-        (
-            b"table\nx\rend\r5\n",
-            RunFault::NoEnd,
-            "script refused: no end\n",
+            RunFault::Table(TableFault::NoColumns),
+            "table refused 1: no columns\n",
+            2,
         ),
         (
-            b"table\nx,y\n1,2\n3,1.5\nend\n",
-            RunFault::Table(TableFault::NotWhole { row: 2, col: 2 }),
-            "table refused 6: not whole row 2 col 2\n",
+            RunFault::Table(TableFault::TooManyColumns),
+            "table refused 2: too many columns\n",
+            2,
         ),
         (
-            b"table\nx\n9223372036854775808\nend\n",
-            RunFault::Table(TableFault::OutOfRange { row: 1, col: 1 }),
-            "table refused 7: out of range row 1 col 1\n",
+            RunFault::Table(TableFault::BadName { col: 3 }),
+            "table refused 3: bad name col 3\n",
+            2,
         ),
         (
-            b"table\nx\n1\n2\n3\nend\nas 1 room\n",
+            RunFault::Table(TableFault::SameName { col: 4 }),
+            "table refused 4: same name col 4\n",
+            2,
+        ),
+        (
+            RunFault::Table(TableFault::Width { row: 5 }),
+            "table refused 5: width row 5\n",
+            2,
+        ),
+        (
+            RunFault::Table(TableFault::NotWhole { row: 6, col: 1 }),
+            "table refused 6: not whole row 6 col 1\n",
+            2,
+        ),
+        (
+            RunFault::Table(TableFault::OutOfRange { row: 7, col: 2 }),
+            "table refused 7: out of range row 7 col 2\n",
+            2,
+        ),
+        (
+            RunFault::Table(TableFault::TooManyRows),
+            "table refused 8: too many rows\n",
+            2,
+        ),
+        (
+            RunFault::Table(TableFault::OutOfMemory),
+            "table refused 9: out of memory\n",
+            2,
+        ),
+        (
+            RunFault::Opening(CoreFault::NoSuchClient),
+            "opening refused 1: no such client\n",
+            2,
+        ),
+        (
+            RunFault::Opening(CoreFault::Spent),
+            "opening refused 2: spent\n",
+            2,
+        ),
+        (
+            RunFault::Opening(CoreFault::QueryOpen),
+            "opening refused 3: query open\n",
+            2,
+        ),
+        (
+            RunFault::Opening(CoreFault::NoQuery),
+            "opening refused 4: no query\n",
+            2,
+        ),
+        (
+            RunFault::Opening(CoreFault::AllScanned),
+            "opening refused 5: all scanned\n",
+            2,
+        ),
+        (
+            RunFault::Opening(CoreFault::NotDone { left: 6 }),
+            "opening refused 6: not done left 6\n",
+            2,
+        ),
+        (
+            RunFault::Opening(CoreFault::NoSuchRow { id: 7 }),
+            "opening refused 7: no such row 7\n",
+            2,
+        ),
+        (
+            RunFault::Opening(CoreFault::Full { needed: 8 }),
+            "opening refused 8: full needed 8\n",
+            2,
+        ),
+        (
+            RunFault::Opening(CoreFault::OutOfMemory),
+            "opening refused 9: out of memory\n",
+            2,
+        ),
+        (
             RunFault::Opening(CoreFault::Full { needed: 3 }),
             "opening refused 8: full needed 3\n",
+            2,
         ),
     ];
-    for (script, fault, line) in cases {
-        let run = run_whole(rt.alloc(), setup, script);
-        assert_eq!(rt; run.result, Err(fault));
-        assert_eq!(rt; run.text(), line);
-    }
-    Ok(())
-}
-
-#[test]
-fn each_table_fault_has_its_number_and_text(rt: HostRuntime) -> Result<(), Fail> {
-    let cases: [(TableFault, &str); 9] = [
-        (TableFault::NoColumns, "table refused 1: no columns\n"),
-        (
-            TableFault::TooManyColumns,
-            "table refused 2: too many columns\n",
-        ),
-        (
-            TableFault::BadName { col: 3 },
-            "table refused 3: bad name col 3\n",
-        ),
-        (
-            TableFault::SameName { col: 4 },
-            "table refused 4: same name col 4\n",
-        ),
-        (
-            TableFault::Width { row: 5 },
-            "table refused 5: width row 5\n",
-        ),
-        (
-            TableFault::NotWhole { row: 6, col: 1 },
-            "table refused 6: not whole row 6 col 1\n",
-        ),
-        (
-            TableFault::OutOfRange { row: 7, col: 2 },
-            "table refused 7: out of range row 7 col 2\n",
-        ),
-        (TableFault::TooManyRows, "table refused 8: too many rows\n"),
-        (TableFault::OutOfMemory, "table refused 9: out of memory\n"),
-    ];
-    for (fault, line) in cases {
-        assert_eq!(rt;
-            fault_line(rt.alloc(), &RunFault::Table(fault))?.as_str(),
-            line
-        );
-    }
-    Ok(())
-}
-
-#[test]
-fn each_engine_fault_has_its_number_and_text(rt: HostRuntime) -> Result<(), Fail> {
-    let cases: [(CoreFault, &str); 9] = [
-        (
-            CoreFault::NoSuchClient,
-            "opening refused 1: no such client\n",
-        ),
-        (CoreFault::Spent, "opening refused 2: spent\n"),
-        (CoreFault::QueryOpen, "opening refused 3: query open\n"),
-        (CoreFault::NoQuery, "opening refused 4: no query\n"),
-        (CoreFault::AllScanned, "opening refused 5: all scanned\n"),
-        (
-            CoreFault::NotDone { left: 6 },
-            "opening refused 6: not done left 6\n",
-        ),
-        (
-            CoreFault::NoSuchRow { id: 7 },
-            "opening refused 7: no such row 7\n",
-        ),
-        (
-            CoreFault::Full { needed: 8 },
-            "opening refused 8: full needed 8\n",
-        ),
-        (CoreFault::OutOfMemory, "opening refused 9: out of memory\n"),
-    ];
-    for (fault, line) in cases {
-        assert_eq!(rt;
-            fault_line(rt.alloc(), &RunFault::Opening(fault))?.as_str(),
-            line
-        );
-    }
-    Ok(())
-}
-
-#[test]
-fn each_fault_has_its_status(rt: HostRuntime) -> Result<(), Fail> {
-    let cases = [
-        (RunFault::Read, 1),
-        (RunFault::Write, 1),
-        (RunFault::TooLarge, 1),
-        (RunFault::Memory, 1),
-        (RunFault::NoTable, 2),
-        (RunFault::NoEnd, 2),
-        (RunFault::Table(TableFault::TooManyRows), 2),
-        (RunFault::Opening(CoreFault::Full { needed: 3 }), 2),
-    ];
-    for (fault, status) in cases {
-        assert_eq!(rt; fault.status(), status);
+    for (fault, text, status) in cases {
         let line = fault_line(rt.alloc(), &fault)?;
-        assert_eq!(rt; line.is_empty(), status == 1);
+        let found = (line.as_str(), fault.status());
+        assert_same(&rt, fault, &found, &(text, status));
     }
     Ok(())
 }
 
 #[test]
 fn a_beginning_of_a_script_has_the_fault_of_what_is_missing(rt: HostRuntime) -> Result<(), Fail> {
-    let setup = setup_of(4, 2).ok_or("no setup")?;
+    let setup = setup_of(4, 2)?;
     let script = b"table\nx\n5\n7\n9\nend\nas 1 begin best low(x)\nas 1 scan\nas 2 delete 1\n\
 as 2 insert 1\nas 2 room\nas 1 scan\nas 1 finish\nas 2 begin best low(x)\nas 2 scan\nas 2 scan\nas 2 finish\n"
         .as_slice();
@@ -155,21 +134,7 @@ as 2 insert 1\nas 2 room\nas 1 scan\nas 1 finish\nas 2 begin best low(x)\nas 2 s
             5..=16 => Err(RunFault::NoEnd),
             _ => Ok(()),
         };
-        assert_eq!(rt; result, wanted, "the first {length} bytes");
+        assert_same(&rt, length, &result, &wanted);
     }
-    Ok(())
-}
-
-#[test]
-fn too_many_rows_come_before_want_of_room(rt: HostRuntime) -> Result<(), Fail> {
-    let setup = defaults().ok_or("no setup")?;
-    let mut text = b"table\nx\n".to_vec(rt.alloc())?;
-    for _ in 0..65_537 {
-        text.extend_from_slice(b"1\n")?;
-    }
-    text.extend_from_slice(b"end\n")?;
-    let run = run_whole(rt.alloc(), setup, text.as_slice());
-    assert_eq!(rt; run.result, Err(RunFault::Table(TableFault::TooManyRows)));
-    assert_eq!(rt; run.text(), "table refused 8: too many rows\n");
     Ok(())
 }

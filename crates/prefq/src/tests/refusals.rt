@@ -1,6 +1,6 @@
 //! Requests for memory that are refused. `tests/refuse_each_allocation.sh` runs these tests once for each of their requests,
 //! and refuses it; where none is refused they show that the run succeeds.
-use super::{Full, Narrow, Run, in_steps, run_through, setup_of};
+use super::{Full, Narrow, Run, assert_same, in_steps, run_through, setup_of};
 use crate::fault::RunFault;
 use crate::threads::{OpenGate, run_threads};
 use pref_core::Setup;
@@ -11,8 +11,8 @@ use std::test::Fail;
 const SCRIPT: &[u8] =
     b"table\nx\n5\n7\n9\nend\nas 1 begin best low(x)\nas 1 scan\nas 2 delete 1\nas 2 insert 1\nas 2 room\nas 1 scan\nas 1 finish\n";
 
-const TOLD: &str =
-    "1 begun 2\n1 left 1\n2 deleted 1\n2 inserted 4\n2 room 0\n1 left 0\n1 answer 1\nlevel 1 id 1: 5\n";
+const TOLD: &[u8] =
+    b"1 begun 2\n1 left 1\n2 deleted 1\n2 inserted 4\n2 room 0\n1 left 0\n1 answer 1\nlevel 1 id 1: 5\n";
 
 /// A run whose writer asks for no memory.
 fn run_into(alloc: Global, setup: Setup, taken: Vec<u8>) -> Run {
@@ -28,19 +28,23 @@ fn run_into(alloc: Global, setup: Setup, taken: Vec<u8>) -> Run {
 #[test]
 fn a_refused_run_has_written_nothing_and_is_made_again(rt: HostRuntime) -> Result<(), Fail> {
     let alloc = rt.alloc();
-    let setup = setup_of(4, 2).ok_or("no setup")?;
+    let setup = setup_of(4, 2)?;
     let room = Vec::with_capacity(alloc, 1024)?;
     let first = run_into(alloc, setup, room);
     let run = match first.result {
         Ok(()) => first,
-        Err(fault) => {
-            assert_eq!(rt; fault, RunFault::Memory);
-            assert!(rt; first.output.is_empty());
-            assert!(rt; !first.read_failed && !first.write_failed);
+        Err(_) => {
+            let wanted = (Err(RunFault::Memory), b"".as_slice(), false, false);
+            assert_same(&rt, "refused", &first.seen(), &wanted);
             run_into(alloc, setup, first.output)
         }
     };
-    assert_eq!(rt; run.told(), Ok(TOLD));
+    assert_same(
+        &rt,
+        &"made again",
+        &run.seen(),
+        &(Ok(()), TOLD, false, false),
+    );
     Ok(())
 }
 
@@ -57,10 +61,10 @@ fn a_refused_run_on_threads_is_made_again(rt: HostRuntime) -> Result<(), Fail> {
     let output = match run_threads(&rt, rt.alloc(), SCRIPT_OF_ONE, setup, &OpenGate) {
         Ok(output) => output,
         Err(fault) => {
-            assert_eq!(rt; fault, RunFault::Memory);
+            assert_same(&rt, "refused", &fault, &RunFault::Memory);
             run_threads(&rt, rt.alloc(), SCRIPT_OF_ONE, setup, &OpenGate).expect(&rt, "memory")
         }
     };
-    assert_eq!(rt; output.as_str(), TOLD_TO_ONE);
+    assert_same(&rt, "made again", &output.as_str(), &TOLD_TO_ONE);
     Ok(())
 }
