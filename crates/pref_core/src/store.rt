@@ -234,7 +234,7 @@ impl Store {
         ensures state { (state : State) → StandsFor self.old state → AppliesIn state self.old op.now self.new }
     {
         let old = indexing::indexed_old_place(&self.contents, index, op.call.ended());
-        applying::apply(
+        applying::carry_out(
             &mut self.contents,
             &mut self.places,
             &mut self.hints,

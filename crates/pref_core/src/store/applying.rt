@@ -4,7 +4,7 @@ ghost use Rattle.std.specs.Option.{option_to_list};
 ghost use Rattle.std.specs.Prelude.{map, length, true, Some, is_some, slice_get, slice_set, ◌≡◌, ◌+◌, ◌^◌, ◌<◌, ◌≤◌};
 ghost use Rattle.pref_core.specs.Hints.{AreHints};
 ghost use Rattle.pref_core.specs.Kept.{IsKept, IsOldPlace, Closes, with_slots};
-ghost use Rattle.pref_core.specs.Operations.{close, same_outcome, is_next, slots_after, stepped, applied};
+ghost use Rattle.pref_core.specs.Operations.{close, is_next, slots_after, stepped, applied};
 ghost use Rattle.pref_core.specs.Places.{zone_of};
 ghost use Rattle.pref_core.specs.Slots.{begins, born};
 ghost use Rattle.pref_core.specs.Stability.{is_end};
@@ -32,19 +32,7 @@ fn is_next(contents: &Contents, places: &Places, old: Option<u32>, op: &Op) -> b
     if refusal(Some(caller), &op.call).is_some() || op.number != caller.calls + 1 {
         return false;
     }
-    is_same(op.outcome, outcome(contents, places, old, &op.call))
-}
-
-fn is_same(a: Outcome, b: Outcome) -> bool
-    ensures { result ≡ same_outcome a b }
-{
-    match (a, b) {
-        (Outcome::Added(a), Outcome::Added(b)) => a == b,
-        (Outcome::Done, Outcome::Done) => true,
-        (Outcome::NoSuchRow(a), Outcome::NoSuchRow(b)) => a == b,
-        (Outcome::Full(a), Outcome::Full(b)) => a == b,
-        _ => false,
-    }
+    op.outcome == outcome(contents, places, old, &op.call)
 }
 
 /// Whether the op's slot fits its call.
@@ -167,6 +155,26 @@ fn ends_query(call: &Call) -> bool
     }
 }
 
+/// A legal op that ends the row at this place, done.
+pub(crate) fn carry_out(
+    contents: &mut Contents,
+    places: &mut Places,
+    hints: &mut Hints,
+    old: Option<u32>,
+    op: &Op,
+)
+    requires kept { IsKept contents.old places.old }
+    requires old { IsOldPlace contents.old.stamp (ended op.now.call) contents.old.slots old }
+    requires next { is_next contents.old op.now ≡ true }
+    requires fits { is_some (slots_after contents.old op.now) ≡ true }
+    requires hints { AreHints contents.old.stamp contents.old.slots hints.old }
+    ensures done { contents.new ≡ applied contents.old op.now }
+    ensures kept { IsKept contents.new places.new }
+    ensures hints { AreHints contents.new.stamp contents.new.slots hints.new }
+{
+    step(contents, places, hints, old, op);
+}
+
 /// An op that ends the row at this place, done where it is legal.
 pub(crate) fn apply(
     contents: &mut Contents,
@@ -183,6 +191,6 @@ pub(crate) fn apply(
     ensures hints { AreHints contents.new.stamp contents.new.slots hints.new }
 {
     if is_next(contents, places, old, op) && fits(contents, op) {
-        step(contents, places, hints, old, op);
+        carry_out(contents, places, hints, old, op);
     }
 }

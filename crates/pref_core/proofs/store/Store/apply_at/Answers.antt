@@ -3,11 +3,18 @@ use Rattle.std.specs.List.{AllByRecursion}
 use Rattle.pref_core.specs.Slots.{Contents, IsWithin, Shows}
 use Rattle.pref_core.specs.Kept.{IsOldPlace}
 use Rattle.pref_core.specs.Indexes.{IsPlaceOf, IsIndexOf}
-use Rattle.pref_core.specs.Operations.{AppliesIn, applied}
+use Rattle.std.specs.Prelude.{is_some}
+use Rattle.pref_core.specs.Operations.{AppliesIn, applied, is_next, slots_after}
 use Rattle.pref_core.proofs.Legal.{applies_in}
 use Rattle.pref_core.proofs.Lookups.{stays_indexed}
 use Rattle.pref_core.proofs.Reindexing.{ready_ended, indexed}
 use Rattle.pref_core.proofs.store.Store.apply_at.Goals as goal
+
+pub carry_out-requires-clause-next : goal.carry_out-requires-clause-next
+carry_out-requires-clause-next c = ap (λ s. is_next s c.args.op.now) c.self.view_is ∙ c.requires.plan.next
+
+pub carry_out-requires-clause-fits : goal.carry_out-requires-clause-fits
+carry_out-requires-clause-fits c = ap (λ s. is_some (slots_after s c.args.op.now)) c.self.view_is ∙ c.requires.plan.fits
 
 pub follow-requires-clause-kept : goal.follow-requires-clause-kept
 follow-requires-clause-kept c id ends same =
@@ -19,7 +26,7 @@ follow-requires-clause-kept c id ends same =
     stays_indexed c.args.self.now.slots c.args.self.now.stamp c.self.invariant.0.state.table id c.args.op.now.slot old _ shows at there same
 
 pub returns-clause-exact : goal.returns-clause-exact
-returns-clause-exact c = c.apply.ensures.done ∙ ap (λ s. applied s c.args.op.now) c.self.view_is
+returns-clause-exact c = c.carry_out.ensures.done ∙ ap (λ s. applied s c.args.op.now) c.self.view_is
 
 pub returns-clause-index : goal.returns-clause-index
 returns-clause-index c =
