@@ -39,4 +39,7 @@ pub mod Fewer
 pub mod Fits
 pub mod Indexing
 pub mod Reindexing
-pub mod Hinting
+pub mod Linking
+pub mod Chains
+pub mod OpeningLinks
+pub mod Linked

@@ -16,4 +16,4 @@ pub mod Bounds
 pub mod Parts
 pub mod Places
 pub mod Kept
-pub mod Hints
+pub mod Links

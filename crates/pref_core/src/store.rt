@@ -8,8 +8,8 @@
 pub(crate) mod applying;
 pub(crate) mod caller;
 pub(crate) mod contents;
-pub(crate) mod hints;
 pub(crate) mod indexing;
+pub(crate) mod links;
 pub(crate) mod needs;
 pub(crate) mod opening;
 pub(crate) mod places;
@@ -30,7 +30,7 @@ use crate::fault::CoreFault;
 use crate::index::Index;
 use crate::setup::Setup;
 use contents::Contents;
-use hints::Hints;
+use links::Links;
 use places::Places;
 use pref_sky::Entry;
 use pref_table::Row;
@@ -47,19 +47,19 @@ use std::marker::Model;
 pub struct Store {
     contents: Contents,
     places: Places,
-    hints: Hints,
+    links: Links,
 }
 
 impl Model for Store {
     ghost use Rattle.pref_core.specs.Slots as specs;
-    ghost use Rattle.pref_core.specs.Hints.{AreHints};
     ghost use Rattle.pref_core.specs.Kept.{IsKept};
+    ghost use Rattle.pref_core.specs.Links.{ids_of, AreLinks};
 
     ghost Value = { specs.Contents };
 
     ghost view = { λ s. s.contents };
 
-    ghost invariant = { λ s. IsKept s.contents s.places × AreHints s.contents.stamp s.contents.slots s.hints };
+    ghost invariant = { λ s. IsKept s.contents s.places × AreLinks (ids_of s.contents.stamp s.contents.slots) s.links };
 }
 
 impl Store {
@@ -82,7 +82,7 @@ impl Store {
         let slots = opening::opening(alloc, capacity, rows)?;
         let callers = caller::idle(alloc, setup.clients())?;
         let places = Places::new(alloc, capacity, rows.len() as u32)?;
-        let hints = Hints::new(alloc, capacity)?;
+        let links = Links::new(alloc, capacity, rows.len() as u32)?;
         let contents = Contents {
             slots,
             stamp: rows.len() as u64,
@@ -92,7 +92,7 @@ impl Store {
         Ok(Store {
             contents,
             places,
-            hints,
+            links,
         })
     }
 
@@ -102,11 +102,11 @@ impl Store {
     {
         let contents = self.contents.copy(alloc)?;
         let places = self.places.copy(alloc)?;
-        let hints = self.hints.copy(alloc)?;
+        let links = self.links.copy(alloc)?;
         Ok(Store {
             contents,
             places,
-            hints,
+            links,
         })
     }
 
@@ -132,12 +132,12 @@ impl Store {
         caller::calls_of(&self.contents.callers, client)
     }
 
-    /// The row of this id in the table now. Looks at the home of its id, the slot `id - 1` modulo the capacity, and where the
-    /// home's hint says; searches the slots only where two rows of one home have been away from it at once.
+    /// The row of this id in the table now. Goes along the chain of the rows whose home is that of the id, the slot `id - 1` modulo
+    /// the capacity, as far as the id: one or two slots, since ids are consecutive.
     pub fn get(&self, id: u64) -> Option<Row>
         ensures { (state : State) → StandsFor self.now state → result ≡ option_map (λ line. line.row) (line_of state.table id) }
     {
-        let place = reads::place_of(&self.contents, &self.hints, id);
+        let place = reads::place_of(&self.contents, &self.links, id);
         reads::row_in(&self.contents, place)
     }
 
@@ -186,13 +186,13 @@ impl Store {
     /// What becomes of a call, and where its new row goes. Changes nothing.
     ///
     /// Refused `NoSuchClient`, `Spent`, `QueryOpen` or `NoQuery`, and then the call has no number. Else an operation
-    /// that is legal here, whose outcome may be that the row is missing or the table full. Looks for the row as
-    /// [`Store::get`] does; all else is constant in the slots.
+    /// that is legal here, whose outcome may be that the row is missing or the table full. Finds the row as
+    /// [`Store::get`] does, by one chain; all else is constant in the slots.
     pub fn plan(&self, client: u8, call: Call) -> Result<Op, CoreFault>
         ensures exact { Plans self.now client call result }
         ensures state { (state : State) → StandsFor self.now state → PlansIn state self.now client call result }
     {
-        let old = reads::old_place(&self.contents, &self.hints, call.ended());
+        let old = reads::old_place(&self.contents, &self.links, call.ended());
         planning::plan(&self.contents, &self.places, old, client, call)
     }
 
@@ -213,11 +213,11 @@ impl Store {
         ensures exact { self.new ≡ applied self.old op.now }
         ensures state { (state : State) → StandsFor self.old state → AppliesIn state self.old op.now self.new }
     {
-        let old = reads::old_place(&self.contents, &self.hints, op.call.ended());
+        let old = reads::old_place(&self.contents, &self.links, op.call.ended());
         applying::apply(
             &mut self.contents,
             &mut self.places,
-            &mut self.hints,
+            &mut self.links,
             old,
             op,
         );
@@ -237,7 +237,7 @@ impl Store {
         applying::carry_out(
             &mut self.contents,
             &mut self.places,
-            &mut self.hints,
+            &mut self.links,
             old,
             op,
         );

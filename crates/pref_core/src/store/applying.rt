@@ -1,9 +1,10 @@
 //! A planned call, done.
 
 ghost use Rattle.std.specs.Option.{option_to_list};
-ghost use Rattle.std.specs.Prelude.{map, length, true, Some, is_some, slice_get, slice_set, ◌≡◌, ◌+◌, ◌^◌, ◌<◌, ◌≤◌};
-ghost use Rattle.pref_core.specs.Hints.{AreHints};
+ghost use Rattle.std.specs.Prelude.{map, length, true, None, Some, is_some, slice_get, slice_set, ◌≡◌, ◌+◌, ◌^◌, ◌<◌, ◌≤◌};
+ghost use Rattle.pref_core.specs.Indexes.{IsPlaceOf};
 ghost use Rattle.pref_core.specs.Kept.{IsKept, IsOldPlace, Closes, with_slots};
+ghost use Rattle.pref_core.specs.Links.{ids_of, id_at, AreIds, AreLinks};
 ghost use Rattle.pref_core.specs.Operations.{close, is_next, slots_after, stepped, applied};
 ghost use Rattle.pref_core.specs.Places.{zone_of};
 ghost use Rattle.pref_core.specs.Slots.{begins, born};
@@ -13,7 +14,7 @@ ghost use Rattle.pref_core.specs.State.{ended, is_change, succeeds};
 use crate::call::{Call, Op, Outcome};
 use crate::store::caller::caller_of;
 use crate::store::contents::Contents;
-use crate::store::hints::Hints;
+use crate::store::links::Links;
 use crate::store::needs::{is_free_place, zone_of};
 use crate::store::places::{Places, Zone};
 use crate::store::planning::{outcome, refusal};
@@ -53,17 +54,28 @@ fn fits(contents: &Contents, op: &Op) -> bool
 }
 
 /// Ends the row at this place by the next commit.
-fn close_old(contents: &mut Contents, places: &mut Places, old: Option<u32>, ended: Option<u64>)
-    requires few { length contents.old.slots ≤ 65536 }
-    requires early { contents.old.stamp < 2 ^ 63 }
+fn close_old(
+    contents: &mut Contents,
+    places: &mut Places,
+    links: &mut Links,
+    old: Option<u32>,
+    ended: Option<u64>,
+)
+    requires kept { IsKept contents.old places.old }
+    requires old { IsOldPlace contents.old.stamp (option_to_list ended) contents.old.slots old }
     requires closes { Closes (option_to_list ended) (contents.old.stamp + 1) contents.old.slots places.old old }
-    requires zones { places.old ≡ map (zone_of (begins contents.old.callers)) contents.old.slots }
+    requires links { AreLinks (ids_of contents.old.stamp contents.old.slots) links.old }
     ensures contents { contents.new ≡ with_slots (map (close (option_to_list ended) (contents.old.stamp + 1)) contents.old.slots) contents.old }
     ensures zones { places.new ≡ map (zone_of (begins contents.new.callers)) contents.new.slots }
+    ensures links { AreLinks (ids_of (contents.old.stamp + 1) contents.new.slots) links.new }
 {
     let Some(place) = old else {
         return;
     };
+    let Some(id) = ended else {
+        return;
+    };
+    links.remove(&contents.slots, contents.stamp, id, place);
     let stamp = contents.stamp + 1;
     contents.slots[place as usize] = closed(contents.slots[place as usize], ended, stamp);
     let zone = zone_of(contents.slots[place as usize], &contents.callers);
@@ -74,7 +86,7 @@ fn close_old(contents: &mut Contents, places: &mut Places, old: Option<u32>, end
 fn begin_new(
     contents: &mut Contents,
     places: &mut Places,
-    hints: &mut Hints,
+    links: &mut Links,
     entry: Entry,
     place: u32,
 )
@@ -82,13 +94,16 @@ fn begin_new(
     requires early { contents.old.stamp < 2 ^ 63 }
     requires free { slice_get places.old place ≡ Some Zone.Free }
     requires zones { places.old ≡ map (zone_of (begins contents.old.callers)) contents.old.slots }
-    requires hints { AreHints (contents.old.stamp + 1) contents.old.slots hints.old }
+    requires links { AreLinks (ids_of (contents.old.stamp + 1) contents.old.slots) links.old }
+    requires ids { AreIds (2 ^ 64) (id_at (ids_of (contents.old.stamp + 1) contents.old.slots)) }
+    requires empty { id_at (ids_of (contents.old.stamp + 1) contents.old.slots) place ≡ None }
+    requires absent { IsPlaceOf (contents.old.stamp + 1) entry.id contents.old.slots None }
     ensures contents { contents.new ≡ with_slots (slice_set contents.old.slots place (born (contents.old.stamp + 1) entry)) contents.old }
     ensures zones { places.new ≡ map (zone_of (begins contents.new.callers)) contents.new.slots }
-    ensures hints { AreHints (contents.old.stamp + 1) contents.new.slots hints.new }
+    ensures links { AreLinks (ids_of (contents.old.stamp + 1) contents.new.slots) links.new }
 {
     let stamp = contents.stamp + 1;
-    hints.allow(&contents.slots, stamp, entry.id, place);
+    links.add(&contents.slots, stamp, entry.id, place);
     contents.slots[place as usize] = born(entry, stamp);
     places.take(place);
 }
@@ -97,7 +112,7 @@ fn begin_new(
 fn commit(
     contents: &mut Contents,
     places: &mut Places,
-    hints: &mut Hints,
+    links: &mut Links,
     old: Option<u32>,
     op: &Op,
 )
@@ -107,33 +122,33 @@ fn commit(
     requires fits { is_some (slots_after contents.old op.now) ≡ true }
     requires change { is_change op.now.call ≡ true }
     requires succeeds { succeeds op.now.outcome ≡ true }
-    requires hints { AreHints contents.old.stamp contents.old.slots hints.old }
+    requires links { AreLinks (ids_of contents.old.stamp contents.old.slots) links.old }
     ensures slots { slots_after contents.old op.now ≡ Some contents.new.slots }
     ensures rest { contents.new ≡ with_slots contents.new.slots contents.old }
     ensures zones { places.new ≡ map (zone_of (begins contents.new.callers)) contents.new.slots }
-    ensures hints { AreHints (contents.old.stamp + 1) contents.new.slots hints.new }
+    ensures links { AreLinks (ids_of (contents.old.stamp + 1) contents.new.slots) links.new }
 {
     let begun = op.call.begun(contents.next_id);
-    close_old(contents, places, old, op.call.ended());
+    close_old(contents, places, links, old, op.call.ended());
     if let (Some(entry), Some(place)) = (begun, op.slot) {
-        begin_new(contents, places, hints, entry, place);
+        begin_new(contents, places, links, entry, place);
     }
 }
 
 /// A legal op, done.
-fn step(contents: &mut Contents, places: &mut Places, hints: &mut Hints, old: Option<u32>, op: &Op)
+fn step(contents: &mut Contents, places: &mut Places, links: &mut Links, old: Option<u32>, op: &Op)
     requires kept { IsKept contents.old places.old }
     requires old { IsOldPlace contents.old.stamp (ended op.now.call) contents.old.slots old }
     requires next { is_next contents.old op.now ≡ true }
     requires fits { is_some (slots_after contents.old op.now) ≡ true }
-    requires hints { AreHints contents.old.stamp contents.old.slots hints.old }
+    requires links { AreLinks (ids_of contents.old.stamp contents.old.slots) links.old }
     ensures slots { slots_after contents.old op.now ≡ Some contents.new.slots }
     ensures rest { contents.new ≡ stepped contents.old op.now contents.new.slots }
     ensures zones { places.new ≡ map (zone_of (begins contents.new.callers)) contents.new.slots }
-    ensures hints { AreHints contents.new.stamp contents.new.slots hints.new }
+    ensures links { AreLinks (ids_of contents.new.stamp contents.new.slots) links.new }
 {
     if op.call.is_change() && op.outcome.succeeds() {
-        commit(contents, places, hints, old, op);
+        commit(contents, places, links, old, op);
         contents.count(op.client, &op.call);
         contents.next_id += op.call.added();
         contents.stamp += 1;
@@ -159,7 +174,7 @@ fn ends_query(call: &Call) -> bool
 pub(crate) fn carry_out(
     contents: &mut Contents,
     places: &mut Places,
-    hints: &mut Hints,
+    links: &mut Links,
     old: Option<u32>,
     op: &Op,
 )
@@ -167,30 +182,30 @@ pub(crate) fn carry_out(
     requires old { IsOldPlace contents.old.stamp (ended op.now.call) contents.old.slots old }
     requires next { is_next contents.old op.now ≡ true }
     requires fits { is_some (slots_after contents.old op.now) ≡ true }
-    requires hints { AreHints contents.old.stamp contents.old.slots hints.old }
+    requires links { AreLinks (ids_of contents.old.stamp contents.old.slots) links.old }
     ensures done { contents.new ≡ applied contents.old op.now }
     ensures kept { IsKept contents.new places.new }
-    ensures hints { AreHints contents.new.stamp contents.new.slots hints.new }
+    ensures links { AreLinks (ids_of contents.new.stamp contents.new.slots) links.new }
 {
-    step(contents, places, hints, old, op);
+    step(contents, places, links, old, op);
 }
 
 /// An op that ends the row at this place, done where it is legal.
 pub(crate) fn apply(
     contents: &mut Contents,
     places: &mut Places,
-    hints: &mut Hints,
+    links: &mut Links,
     old: Option<u32>,
     op: &Op,
 )
     requires kept { IsKept contents.old places.old }
     requires old { IsOldPlace contents.old.stamp (ended op.now.call) contents.old.slots old }
-    requires hints { AreHints contents.old.stamp contents.old.slots hints.old }
+    requires links { AreLinks (ids_of contents.old.stamp contents.old.slots) links.old }
     ensures done { contents.new ≡ applied contents.old op.now }
     ensures kept { IsKept contents.new places.new }
-    ensures hints { AreHints contents.new.stamp contents.new.slots hints.new }
+    ensures links { AreLinks (ids_of contents.new.stamp contents.new.slots) links.new }
 {
     if is_next(contents, places, old, op) && fits(contents, op) {
-        carry_out(contents, places, hints, old, op);
+        carry_out(contents, places, links, old, op);
     }
 }

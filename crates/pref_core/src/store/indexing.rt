@@ -7,7 +7,7 @@ ghost use Rattle.pref_core.specs.Kept.{IsOldPlace};
 
 use crate::index::Index;
 use crate::store::contents::Contents;
-use crate::store::hints::home_of;
+use crate::store::links::home_of;
 use crate::store::reads::stands_at;
 use crate::store::version::Version;
 use std::alloc::{AllocError, Global};

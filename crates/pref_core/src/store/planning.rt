@@ -13,7 +13,7 @@ use crate::call::{Call, Op, Outcome};
 use crate::fault::CoreFault;
 use crate::store::caller::{Caller, caller_of};
 use crate::store::contents::Contents;
-use crate::store::hints::home_of;
+use crate::store::links::home_of;
 use crate::store::needs::frees;
 use crate::store::places::{Places, Zone};
 use crate::store::version::Version;

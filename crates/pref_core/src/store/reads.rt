@@ -1,15 +1,15 @@
 //! What slots show at a stamp.
 
 ghost use Rattle.std.specs.Option.{option_to_list};
-ghost use Rattle.std.specs.Prelude.{IfOk, Some, length, ◌≡◌, ◌<◌, ◌≤◌};
-ghost use Rattle.pref_core.specs.Hints.{AreHints};
+ghost use Rattle.std.specs.Prelude.{IfOk, length, ◌≡◌, ◌≤◌};
 ghost use Rattle.pref_core.specs.Indexes.{is_row, row_at, IsPlaceOf};
 ghost use Rattle.pref_core.specs.Kept.{row_in, IsOldPlace};
+ghost use Rattle.pref_core.specs.Links.{ids_of, AreLinks};
 ghost use Rattle.pref_core.specs.Slots.{visible, block_of};
 ghost use Rattle.pref_core.specs.Table.{entries};
 
 use crate::store::contents::Contents;
-use crate::store::hints::{Hint, Hints, home_of};
+use crate::store::links::Links;
 use crate::store::version::Version;
 use pref_sky::Entry;
 use pref_table::Row;
@@ -35,52 +35,23 @@ pub(crate) fn stands_at(slots: &[Option<Version>], place: u32, stamp: u64, id: u
     }
 }
 
-/// The place of the row of this id in the table. Looks at the id's home and where the home's hint says, and at
-/// all slots only where two rows of this home have been away from it at once.
-pub(crate) fn place_of(contents: &Contents, hints: &Hints, id: u64) -> Option<u32>
+/// The place of the row of this id in the table, by the chain of its home.
+pub(crate) fn place_of(contents: &Contents, links: &Links, id: u64) -> Option<u32>
     requires few { length contents.now.slots ≤ 65536 }
-    requires hints { AreHints contents.now.stamp contents.now.slots hints.now }
+    requires links { AreLinks (ids_of contents.now.stamp contents.now.slots) links.now }
     ensures { IsPlaceOf contents.now.stamp id contents.now.slots result }
 {
-    let slots = contents.slots.as_slice();
-    let stamp = contents.stamp;
-    if slots.is_empty() {
-        return None;
-    }
-    let home = home_of(slots, id);
-    if stands_at(slots, home, stamp, id) {
-        return Some(home);
-    }
-    match hints.of(home) {
-        Hint::Home => None,
-        Hint::One(place) if stands_at(slots, place, stamp, id) => Some(place),
-        Hint::One(_) => None,
-        Hint::Many(place) if stands_at(slots, place, stamp, id) => Some(place),
-        Hint::Many(_) => search(slots, stamp, id),
-    }
-}
-
-/// The place of the row of this id, by a look at each slot.
-fn search(slots: &[Option<Version>], stamp: u64, id: u64) -> Option<u32>
-    requires { length slots.now ≤ 65536 }
-    ensures { IsPlaceOf stamp id slots.now result }
-{
-    for place in 0..slots.len() {
-        if shows(slots[place], stamp, id) {
-            return Some(place as u32);
-        }
-    }
-    None
+    links.find(&contents.slots, contents.stamp, id)
 }
 
 /// The place of the row that a call ends, where it ends one.
-pub(crate) fn old_place(contents: &Contents, hints: &Hints, ended: Option<u64>) -> Option<u32>
+pub(crate) fn old_place(contents: &Contents, links: &Links, ended: Option<u64>) -> Option<u32>
     requires few { length contents.now.slots ≤ 65536 }
-    requires hints { AreHints contents.now.stamp contents.now.slots hints.now }
+    requires links { AreLinks (ids_of contents.now.stamp contents.now.slots) links.now }
     ensures { IsOldPlace contents.now.stamp (option_to_list ended) contents.now.slots result }
 {
     match ended {
-        Some(id) => place_of(contents, hints, id),
+        Some(id) => place_of(contents, links, id),
         None => None,
     }
 }

@@ -1,9 +1,10 @@
-use Rattle.std.proofs.Common.{◌+◌, ◌-◌, ◌++◌, length, replicate, Option, None, arith, refl, ap, ◌∙◌}
+use Rattle.std.proofs.Common.{◌+◌, ◌-◌, ◌++◌, length, replicate, Option, None, arith, refl, ap, ◌∙◌, subst}
 use Rattle.pref_core.specs.declared.store.version.Version.{Version}
+use Rattle.pref_core.specs.Links.{AreLinks}
 use Rattle.pref_core.specs.Slots.{begins, opening_slots}
 use Rattle.pref_core.specs.State.{opening}
 use Rattle.pref_core.proofs.Ends.{zones_opened}
-use Rattle.pref_core.proofs.Hinting.{hints_opened}
+use Rattle.pref_core.proofs.OpeningLinks.{opening_is}
 use Rattle.pref_core.proofs.Openings.{opened_stands, opened_bounded}
 use Rattle.pref_core.proofs.store.Store.new.Goals as goal
 
@@ -15,7 +16,7 @@ invariant_of-result c = (
     stands = (opened_stands c.clients.result c.capacity-capacity.result c.args.rows.now _ (omega arith) c.in_ok-slots.ensures refl refl c.in_ok-callers.ensures).0;
     listed = zones_opened (begins c.in_ok-callers.callers.items) c.capacity-capacity.result c.args.rows.now c.in_ok-slots.slots.items c.in_ok-places.places c.in_ok-slots.ensures c.in_ok-places.ensures;
   },
-  hints_opened (length c.args.rows.now) _ c.args.rows.now c.in_ok-slots.slots.items c.in_ok-hints.hints c.in_ok-slots.ensures,
+  subst (λ ids. AreLinks ids c.in_ok-links.links) (opening_is c.capacity-capacity.result c.args.rows.now c.in_ok-slots.slots.items (omega arith) c.in_ok-slots.ensures) c.in_ok-links.ensures,
 )
 
 pub returns-clause-opening : goal.returns-clause-opening

@@ -1,18 +1,16 @@
-use Rattle.std.proofs.Common.{◌+◌, map, sym, ap, subst, ◌∙◌, arith}
+use Rattle.std.proofs.Common.{◌≡◌, ◌+◌, ◌^◌, map, None, sym, ap, subst, ◌∙◌, arith}
 use Rattle.std.specs.Option.{option_to_list}
-use Rattle.pref_core.specs.Hints.{AreHints}
+use Rattle.pref_core.specs.Indexes.{IsPlaceOf}
 use Rattle.pref_core.specs.Kept.{Closes}
+use Rattle.pref_core.specs.Links.{ids_of, id_at, AreIds, AreLinks}
 use Rattle.pref_core.specs.Places.{zone_of}
 use Rattle.pref_core.specs.Slots.{Contents, begins}
 use Rattle.pref_core.specs.State.{begun}
 use Rattle.pref_core.proofs.Applied.{IsAllowed-from}
 use Rattle.pref_core.proofs.Bounds.{stamp-small}
-use Rattle.pref_core.proofs.Hinting.{hints_closed}
+use Rattle.pref_core.proofs.Linked.{known_ids, ids_left, empty_place, absent_begun}
 use Rattle.pref_core.proofs.Room.{closes_call, fits_place, none_missing}
 use Rattle.pref_core.proofs.store.applying.commit.Goals as goal
-
-pub close_old-requires-clause-early : goal.close_old-requires-clause-early
-close_old-requires-clause-early c = let small = stamp-small _ c.requires.kept.bounded in omega arith
 
 pub close_old-requires-clause-closes : goal.close_old-requires-clause-closes
 close_old-requires-clause-closes c =
@@ -34,14 +32,30 @@ begin_new-requires-clause-free c =
     c.requires.change c.requires.succeeds c.ended.ensures (c.begun-begun.ensures ∙ ap (λ (s : Contents). begun s.next_id c.args.op.now.call) c.contents.view_is) c.requires.fits
     c.in-Some-Some.is-0 c.in-Some-Some.is-1 (omega arith) (c.close_old.ensures.zones ∙ ap (λ (s : Contents). map (zone_of (begins s.callers)) s.slots) c.close_old.ensures.contents)
 
-pub begin_new-requires-clause-hints : goal.begin_new-requires-clause-hints
-begin_new-requires-clause-hints c =
-    let now = c.args.contents.now in
-    subst (λ (s : Contents). AreHints (s.stamp + 1) s.slots c.args.hints.now) (sym c.close_old.ensures.contents)
-    (hints_closed now.next_id now.stamp (now.stamp + 1) (option_to_list c.ended.result) now.slots c.args.hints.now c.requires.kept.stands.within (omega arith) c.requires.hints)
+pub begin_new-requires-clause-links : goal.begin_new-requires-clause-links
+begin_new-requires-clause-links c =
+    subst (λ stamp. AreLinks (ids_of (stamp + 1) c.close_old.new.contents.slots) c.close_old.new.links) (sym (ap (λ (s : Contents). s.stamp) c.close_old.ensures.contents)) c.close_old.ensures.links
 
-pub returns-2-clause-hints : goal.returns-2-clause-hints
-returns-2-clause-hints c =
+pub begin_new-requires-clause-ids : goal.begin_new-requires-clause-ids
+begin_new-requires-clause-ids c =
     let now = c.args.contents.now in
-    subst (λ (s : Contents). AreHints (now.stamp + 1) s.slots c.args.hints.now) (sym c.close_old.ensures.contents)
-    (hints_closed now.next_id now.stamp (now.stamp + 1) (option_to_list c.ended.result) now.slots c.args.hints.now c.requires.kept.stands.within (omega arith) c.requires.hints)
+    subst (λ (s : Contents). AreIds (2 ^ 64) (id_at (ids_of (s.stamp + 1) s.slots))) (sym c.close_old.ensures.contents)
+    (ids_left (2 ^ 64) now.next_id now.stamp (now.stamp + 1) (option_to_list c.ended.result) now.slots c.requires.kept.stands.within (omega arith) (known_ids now c.requires.kept.state c.requires.kept.bounded c.requires.kept.stands))
+
+pub begin_new-requires-clause-empty : goal.begin_new-requires-clause-empty
+begin_new-requires-clause-empty c =
+    let now = c.args.contents.now in
+    subst (λ (s : Contents). id_at (ids_of (s.stamp + 1) s.slots) c.in-Some-Some.place ≡ None) (sym c.close_old.ensures.contents)
+    (empty_place now c.requires.kept.state (option_to_list c.ended.result) c.in-Some-Some.place (now.stamp + 1) c.close_old.new.places c.requires.kept.stands (omega arith)
+    (c.close_old.ensures.zones ∙ ap (λ (s : Contents). map (zone_of (begins s.callers)) s.slots) c.close_old.ensures.contents) (begin_new-requires-clause-free c))
+
+pub begin_new-requires-clause-absent : goal.begin_new-requires-clause-absent
+begin_new-requires-clause-absent c =
+    let now = c.args.contents.now in
+    subst (λ (s : Contents). IsPlaceOf (s.stamp + 1) c.in-Some-Some.entry.id s.slots None) (sym c.close_old.ensures.contents)
+    (absent_begun now c.args.op.now.call (option_to_list c.ended.result) c.begun-begun.result c.in-Some-Some.entry (now.stamp + 1) c.requires.kept.stands.within (omega arith) c.ended.ensures
+    (c.begun-begun.ensures ∙ ap (λ (s : Contents). begun s.next_id c.args.op.now.call) c.contents.view_is) c.in-Some-Some.is-0)
+
+pub returns-in-Some-Some-clause-links : goal.returns-in-Some-Some-clause-links
+returns-in-Some-Some-clause-links c =
+    subst (λ stamp. AreLinks (ids_of (stamp + 1) c.begin_new.new.contents.slots) c.begin_new.new.links) (ap (λ (s : Contents). s.stamp) c.close_old.ensures.contents) c.begin_new.ensures.links

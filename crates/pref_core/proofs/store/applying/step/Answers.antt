@@ -1,5 +1,6 @@
-use Rattle.std.proofs.Common.{◌≡◌, ℕ, map, List, sym, subst, ap, ◌∙◌, arith}
+use Rattle.std.proofs.Common.{◌≡◌, ℕ, ◌+◌, map, List, sym, subst, ap, ◌∙◌, arith}
 use Rattle.std.specs.List.{AllZip}
+use Rattle.pref_core.specs.Links.{ids_of, AreLinks}
 use Rattle.pref_core.specs.Operations.{callers_after}
 use Rattle.pref_core.specs.Places.{MayBecome, zone_of}
 use Rattle.pref_core.specs.Slots.{Contents, begins}
@@ -43,3 +44,18 @@ returns-else-ends_query-clause-zones c =
     let stays = sym c.ends_query.ensures ∙ c.if-ends_query.false in
     c.requires.kept.listed ∙ sym (zones_kept now c.args.op.now now.slots c.requires.next stays (λ quiet. c.requires.kept.stands.within))
     ∙ ap (λ (s : Contents). map (zone_of (begins s.callers)) s.slots) (sym c.count-else-is_change.ensures)
+
+pub returns-then-succeeds-clause-links : goal.returns-then-succeeds-clause-links
+returns-then-succeeds-clause-links c =
+    let now = c.contents.inside in
+    let counted = c.contents.view_is ∙ c.count.ensures in
+    let stamp = ap (λ (s : Contents). s.stamp) counted ∙ ap (λ (s : Contents). s.stamp) c.commit.ensures.rest in
+    subst (λ n. AreLinks (ids_of (n + 1) now.slots.items) c.commit.new.links) (sym stamp)
+    (subst (λ slots. AreLinks (ids_of (c.args.contents.now.stamp + 1) slots) c.commit.new.links) (sym (ap (λ (s : Contents). s.slots) counted)) c.commit.ensures.links)
+
+pub returns-then-ends_query-clause-links : goal.returns-then-ends_query-clause-links
+returns-then-ends_query-clause-links c =
+    subst (λ (s : Contents). AreLinks (ids_of s.stamp s.slots) c.args.links.now) (sym c.count-else-is_change.ensures) c.requires.links
+
+pub returns-else-ends_query-clause-links : goal.returns-else-ends_query-clause-links
+returns-else-ends_query-clause-links c = subst (λ (s : Contents). AreLinks (ids_of s.stamp s.slots) c.args.links.now) (sym c.count-else-is_change.ensures) c.requires.links

@@ -1,0 +1,142 @@
+//! Where rows are found: those of one home are chained, from the greatest id to the smallest.
+
+ghost use Rattle.std.specs.Prelude.{◌≡◌, ◌<◌, ◌≤◌, ◌^◌, length, true, IfOk, Some, None, slice_set};
+ghost use Rattle.pref_core.specs.Indexes.{row_at, IsPlaceOf};
+ghost use Rattle.pref_core.specs.Links.{home_of, ids_of, id_at, is_above, AreIds, AreLinks, IsBefore, opening_ids};
+
+use crate::store::reads::stands_at;
+use crate::store::version::Version;
+use std::alloc::{AllocError, Global};
+use std::marker::Model;
+
+/// The home of an id: the slot where opening rows stand, and new versions where it is free.
+pub(crate) fn home_of(slots: &[Option<Version>], id: u64) -> u32
+    requires some { 0 < length slots.now }
+    requires few { length slots.now ≤ 65536 }
+    ensures home { result ≡ home_of (length slots.now) id }
+    ensures inside { result < length slots.now }
+{
+    (id.saturating_sub(1) % slots.len() as u64) as u32
+}
+
+/// The id of the row that stands at a place in the table at this stamp.
+fn id_at(slots: &[Option<Version>], stamp: u64, place: u32) -> Option<u64>
+    ensures { result ≡ id_at (ids_of stamp slots.now) place }
+{
+    match slots.get(place as usize) {
+        Some(Some(version)) if version.is_visible_at(stamp) => Some(version.id),
+        _ => None,
+    }
+}
+
+/// Whether a row of a greater id stands there.
+fn is_above(slots: &[Option<Version>], stamp: u64, place: u32, id: u64) -> bool
+    ensures { result ≡ is_above id (id_at (ids_of stamp slots.now) place) }
+{
+    match id_at(slots, stamp, place) {
+        Some(other) => id < other,
+        None => false,
+    }
+}
+
+/// A link of each slot, and behind them one of each home: to the place of that row of the home which has the next smaller
+/// id. Where there is none it is the capacity, which is no place. (this project)
+#[derive(Drop)]
+pub(crate) struct Links {
+    next: Vec<u32>,
+}
+
+impl Model for Links {
+    ghost use Rattle.std.specs.Prelude.{List, ℕ};
+
+    ghost Value = { List ℕ };
+
+    ghost view = { λ links. links.next.items };
+}
+
+impl Links {
+    /// The first slots have the rows of their homes, and the others are empty. No memory is taken after this.
+    pub(crate) fn new(alloc: Global, capacity: u32, rows: u32) -> Result<Links, AllocError>
+        requires few { capacity ≤ 65536 }
+        requires rows { rows ≤ capacity }
+        ensures { IfOk result (λ links. AreLinks (opening_ids capacity rows) links) }
+    {
+        let mut next = Vec::with_capacity(alloc, 2 * capacity as usize)?;
+        for _place in 0..capacity {
+            next.push(capacity)?;
+        }
+        for home in 0..capacity {
+            let link = if home < rows { home } else { capacity };
+            next.push(link)?;
+        }
+        Ok(Links { next })
+    }
+
+    /// The same links once more.
+    pub(crate) fn copy(&self, alloc: Global) -> Result<Links, AllocError>
+        ensures { IfOk result (λ copy. copy ≡ self.now) }
+    {
+        let next = Vec::from_slice(alloc, &self.next)?;
+        Ok(Links { next })
+    }
+
+    /// The place of the row of this id in the table at this stamp.
+    pub(crate) fn find(&self, slots: &[Option<Version>], stamp: u64, id: u64) -> Option<u32>
+        requires few { length slots.now ≤ 65536 }
+        requires links { AreLinks (ids_of stamp slots.now) self.now }
+        ensures { IsPlaceOf stamp id slots.now result }
+    {
+        if slots.is_empty() {
+            return None;
+        }
+        let node = before(&self.next, slots, stamp, id);
+        let place = self.next[node as usize];
+        if stands_at(slots, place, stamp, id) {
+            Some(place)
+        } else {
+            None
+        }
+    }
+
+    /// A row of this id is about to begin at this place.
+    pub(crate) fn add(&mut self, slots: &[Option<Version>], stamp: u64, id: u64, place: u32)
+        requires few { length slots.now ≤ 65536 }
+        requires links { AreLinks (ids_of stamp slots.now) self.old }
+        requires ids { AreIds (2 ^ 64) (id_at (ids_of stamp slots.now)) }
+        requires place { place < length slots.now }
+        requires empty { id_at (ids_of stamp slots.now) place ≡ None }
+        requires absent { IsPlaceOf stamp id slots.now None }
+        ensures { AreLinks (slice_set (ids_of stamp slots.now) place (Some id)) self.new }
+    {
+        let node = before(&self.next, slots, stamp, id);
+        self.next[place as usize] = self.next[node as usize];
+        self.next[node as usize] = place;
+    }
+
+    /// The row of this id, which stands at this place, is about to end.
+    pub(crate) fn remove(&mut self, slots: &[Option<Version>], stamp: u64, id: u64, place: u32)
+        requires few { length slots.now ≤ 65536 }
+        requires links { AreLinks (ids_of stamp slots.now) self.old }
+        requires ids { AreIds (2 ^ 64) (id_at (ids_of stamp slots.now)) }
+        requires there { row_at stamp id slots.now place ≡ true }
+        ensures { AreLinks (slice_set (ids_of stamp slots.now) place None) self.new }
+    {
+        let node = before(&self.next, slots, stamp, id);
+        self.next[node as usize] = self.next[place as usize];
+    }
+}
+
+/// The last home or place before this id on the chain of its home.
+fn before(next: &[u32], slots: &[Option<Version>], stamp: u64, id: u64) -> u32
+    requires some { 0 < length slots.now }
+    requires few { length slots.now ≤ 65536 }
+    requires links { AreLinks (ids_of stamp slots.now) next.now }
+    ensures before { IsBefore (2 ^ 64) (length slots.now) (home_of (length slots.now)) (id_at (ids_of stamp slots.now)) id result }
+    ensures inside { result < length next.now }
+{
+    let mut node = slots.len() as u32 + home_of(slots, id);
+    'along: while is_above(slots, stamp, next[node as usize], id) {
+        node = next[node as usize];
+    }
+    node
+}
