@@ -1,0 +1,54 @@
+#!/usr/bin/env bash
+# All tests: every proof from nothing, the must-fail edits and the tests by `rt ci`; then each check over the built programs that
+# takes seconds. Names what failed, and ends with a count of what passed and what failed.
+#
+#     tests/all.sh
+#
+# Needs the Rattle kit, a C compiler and Python 3.9, on Linux. Leaves nothing behind but the folders out/, which git ignores.
+set -uo pipefail
+cd "$(dirname "$0")/.."
+export PYTHONDONTWRITEBYTECODE=1
+room=$(mktemp -d)
+trap 'rm -rf "$room"' EXIT
+failed=()
+
+# One check for each processor, as far as each has 3 GB, which is more than any takes. (`rt ci` by itself reckons with twice as much or more.)
+lanes() {
+    local processors memory
+    processors=$(nproc)
+    memory=$(($(sed -n 's/^MemAvailable: *\([0-9]*\) kB$/\1/p' /proc/meminfo) / 3000000))
+    [ "$memory" -gt 0 ] || memory=1
+    echo $((processors < memory ? processors : memory))
+}
+
+# Runs a check and counts it.
+check() { # command..
+    local begun=$SECONDS
+    echo "== $*"
+    if "$@"; then
+        passed=$((passed + 1))
+    else
+        failed+=("$*")
+        echo "FAILED: $*"
+    fi
+    echo "== $((SECONDS - begun)) seconds"
+}
+
+command -v rt >/dev/null || { echo "the Rattle kit's command rt is not on the PATH" >&2; exit 1; }
+RT_JOBS=${RT_JOBS:-$(lanes)} rt ci | tee "$room/gate"
+[ "${PIPESTATUS[0]}" = 0 ] || failed+=('rt ci')
+passed=$(tail -n 1 "$room/gate" | sed -n 's/^\([0-9]*\) passed, [0-9]* failed$/\1/p')
+passed=${passed:-0}
+echo "== rt ci took $((SECONDS / 60)) minutes"
+
+check python3 examples/check.py
+check python3 tests/scripts.py
+check tests/faults_of_the_program.sh
+check tests/count_begin_and_abandon.sh
+check tests/refuse_each_allocation.sh
+check python3 tests/reads_take_no_lock.py
+
+[ ${#failed[@]} = 0 ] || printf 'failed: %s\n' "${failed[@]}"
+echo "all tests took $((SECONDS / 60)) minutes"
+echo "$passed passed, ${#failed[@]} failed"
+[ ${#failed[@]} = 0 ]

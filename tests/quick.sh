@@ -1,0 +1,60 @@
+#!/usr/bin/env bash
+# The quick checks, for every change before the long ones: the layout of the files, each test without its proof, the stored run, the
+# scripts, the examples and the guide. Nothing is proved.
+#
+#     tests/quick.sh
+#
+# Needs the Rattle kit and Python 3.9. Leaves nothing behind.
+set -uo pipefail
+cd "$(dirname "$0")/.."
+export PYTHONDONTWRITEBYTECODE=1
+top=$PWD
+room=$(mktemp -d)
+trap 'rm -rf "$room"' EXIT
+passed=0
+failed=()
+
+# Runs a check, shows what it said where it fails, and counts it.
+check() { # name, command..
+    if ("${@:2}") >"$room/said" 2>&1; then
+        passed=$((passed + 1))
+        echo "passed: $1"
+    else
+        cat "$room/said"
+        failed+=("$1")
+        echo "FAILED: $1"
+    fi
+}
+
+# In a copy, `rt fmt` must change nothing.
+layout() {
+    tar -c --exclude=out crates crates.txt HANDLES | tar -x -C "$room"
+    local crate
+    for crate in crates/*; do
+        (cd "$room/$crate" && rt fmt)
+    done
+    diff -r --exclude=out crates "$room/crates"
+}
+
+# The tests of a crate, without their proofs.
+tests_of() { # crate
+    cd "crates/$1" && rt try --test
+}
+
+# The program on its stored run, and on every script, example and block of the guide.
+scripts() {
+    mkdir "$room/cases"
+    python3 tests/scripts.py --cases "$room/cases" && python3 examples/check.py --cases "$room/cases" || return 1
+    cp crates/prefq/stdin "$room/cases/stored_run"
+    cp crates/prefq/stdout "$room/cases/stored_run.stdout"
+    cd crates/prefq && rt try --cases "$room/cases"
+}
+
+check 'layout of the files' layout
+for crate in core_tests share_tests prefq; do
+    check "tests of $crate, not proved" tests_of "$crate"
+done
+check 'stored run, scripts, examples, guide' scripts
+[ ${#failed[@]} = 0 ] || printf 'failed: %s\n' "${failed[@]}"
+echo "$passed passed, ${#failed[@]} failed, in $SECONDS seconds"
+[ ${#failed[@]} = 0 ]
