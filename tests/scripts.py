@@ -3,6 +3,7 @@
 
     (cd crates/prefq && rt run prefq < stdin)     # builds crates/prefq/out/prefq
     python3 tests/scripts.py [PROGRAM]
+    python3 tests/scripts.py --cases FOLDER       # writes them as cases of `rt try --cases`, which runs them on a program without a proof
 
 NAME.script is the standard input, and NAME.out what the program prints. NAME.args has its words, one a line, where there are any, and
 NAME.status its status, where that is not 0. Needs Python 3.8.
@@ -42,6 +43,13 @@ def differences(program, script):
         yield f"prints at line {at + 1} {b''.join(lines[at:at + 1])}, not {b''.join(others[at:at + 1])}"
 
 
+def write_cases(scripts, folder):
+    for script in scripts:
+        (folder / script.stem).write_bytes(script.read_bytes())
+        (folder / f"{script.stem}.args").write_text(text(script, ".args", ""))
+        (folder / f"{script.stem}.stdout").write_bytes(script.with_suffix(".out").read_bytes())
+
+
 def strays(scripts):
     """Files that belong to no script."""
     names = {script.stem for script in scripts}
@@ -49,10 +57,13 @@ def strays(scripts):
 
 
 def main():
+    scripts = sorted(SCRIPTS.glob("*.script"))
+    if sys.argv[1:2] == ["--cases"]:
+        write_cases(scripts, Path(sys.argv[2]))
+        return
     program = Path(sys.argv[1] if len(sys.argv) > 1 else TOP / "crates/prefq/out/prefq").resolve()
     if not program.is_file():
         sys.exit(f"{program} is not there: build it first")
-    scripts = sorted(SCRIPTS.glob("*.script"))
     wrong = {script.stem: list(differences(program, script)) for script in scripts}
     wrong.update({name: ["belongs to no script"] for name in strays(scripts)})
     failed = {name: why for name, why in wrong.items() if why}
