@@ -1,11 +1,12 @@
 #!/usr/bin/env python3
-"""Shows that each must-fail edit makes the mistake in its name: applies it to a copy, runs the tests there without a proof, and sees
-the test fail that docs/EDITS.md names beside it.
+"""Shows that each must-fail edit makes the mistake in its name: applies it to a copy, runs the test there without a proof that docs/EDITS.md
+names beside it, and sees it fail.
 
     python3 tests/edits_turn_answers.py [CRATE..]
 
-A line whose third column begins with `TESTS::NAME` names the test NAME of the crate TESTS; of other lines it tells what stands there. One edit
-takes half a minute, all of them most of an hour: for a release, and for the crates that a change touches. Needs the Rattle kit.
+A line whose third column begins with `TESTS::NAME` names the test NAME of the crate TESTS, one that begins with `tests/scripts/NAME` that script;
+of other lines it tells what stands there. One edit takes half a minute, all of them most of an hour: for a release, and for the crates that
+a change touches. Needs the Rattle kit and Python 3.9.
 """
 import re
 import shutil
@@ -17,6 +18,7 @@ from pathlib import Path
 TOP = Path(__file__).resolve().parent.parent
 LINE = re.compile(r"^\| `(\w+)` \| .*? \| (.*?) \| .*? \|$")
 TEST = re.compile(r"`(\w+?)::([\w:]+)`")
+SCRIPT = re.compile(r"`tests/scripts/(\w+)`")
 
 
 def lines():
@@ -45,15 +47,34 @@ def apply(edit, folder):
             path.write_text(whole.replace(old, text))
 
 
-def failed_tests(crate, edit, tests):
-    """The tests of a crate that fail under an edit."""
+def fails(crate, edit, shown):
+    """Whether the test or the script that a line begins with fails under its edit; None where it begins with neither."""
+    test, script = TEST.match(shown), SCRIPT.match(shown)
+    if not test and not script:
+        return None
     with tempfile.TemporaryDirectory() as room:
         shutil.copytree(TOP / "crates", f"{room}/crates", ignore=shutil.ignore_patterns("out", "must-fail"))
         for file in ("crates.txt", "HANDLES"):
             shutil.copy(TOP / file, room)
         apply(TOP / f"crates/{crate}/must-fail/{edit}.edit", Path(room, "crates", crate))
-        ran = subprocess.run(["rt", "try", "--test"], cwd=f"{room}/crates/{tests}", capture_output=True, text=True)
-    return re.findall(r"^test (\S+) \.\.\. FAILED$", ran.stdout, re.M)
+        if script:
+            return script_differs(room, script[1])
+        return f"test {test[2]} ... FAILED" in tried(f"{room}/crates/{test[1]}", "--test")
+
+
+def script_differs(room, name):
+    cases = Path(room, "cases")
+    cases.mkdir()
+    for kind, ending in ((".script", ""), (".args", ".args"), (".out", ".stdout")):
+        file = TOP / f"tests/scripts/{name}{kind}"
+        if file.is_file():
+            shutil.copy(file, cases / f"{name}{ending}")
+    return "output=differs" in tried(f"{room}/crates/prefq", "--cases", cases)
+
+
+def tried(folder, *words):
+    """What `rt try` says."""
+    return subprocess.run(["rt", "try", *words], cwd=folder, stdout=subprocess.PIPE, stderr=subprocess.STDOUT, text=True, errors="replace").stdout
 
 
 def main():
@@ -63,13 +84,9 @@ def main():
         told.add((crate, edit))
         if wanted and crate not in wanted:
             continue
-        test = TEST.match(shown)
-        if not test:
-            print(f"{crate} {edit}: {shown}")
-            continue
-        well = test[2] in failed_tests(crate, edit, test[1])
-        wrong += not well
-        print(f"{crate} {edit}: {test[0]} {'fails' if well else 'DOES NOT FAIL'}", flush=True)
+        failed = fails(crate, edit, shown)
+        wrong += failed is False
+        print(f"{crate} {edit}: {'' if failed is None else 'fails: ' if failed else 'DOES NOT FAIL: '}{shown}", flush=True)
     stand = {(edit.parent.parent.name, edit.stem) for edit in TOP.glob("crates/*/must-fail/*.edit")}
     for crate, edit in sorted(stand ^ told):
         wrong += 1
