@@ -69,13 +69,38 @@ fn a_moved_row_comes_home(rt: HostRuntime) -> Result<(), Fail> {
     })
 }
 
-/// Rows 1 and 4 share a home, and both have been away from it.
-fn move_two_rows(schema: &Schema, store: &mut Store) -> Result<(), Fail> {
+/// Row 4 is added, whose home is that of row 1.
+fn share_a_home(schema: &Schema, store: &mut Store) -> Result<(), Fail> {
     for id in 2..4 {
         done(store, 1, Call::Insert(row(schema, 5)?))?;
         done(store, 1, Call::Delete(id))?;
     }
     done(store, 1, Call::Insert(row(schema, 6)?))?;
+    Ok(())
+}
+
+fn finds_two_rows_of_one_home(
+    rt: &impl Abort,
+    schema: &Schema,
+    store: &mut Store,
+) -> Result<(), Fail> {
+    share_a_home(schema, store)?;
+    assert_eq!(rt; store.get(1), Some(row(schema, 4)?));
+    assert_eq!(rt; store.get(4), Some(row(schema, 6)?));
+    assert_eq!(rt; store.get(7), None);
+    Ok(())
+}
+
+#[test]
+fn two_rows_of_one_home_are_found(rt: HostRuntime) -> Result<(), Fail> {
+    with_store(rt.alloc(), &[4], |schema, store| {
+        finds_two_rows_of_one_home(&rt, schema, store)
+    })
+}
+
+/// Rows 1 and 4 share a home, and both have been away from it.
+fn move_two_rows(schema: &Schema, store: &mut Store) -> Result<(), Fail> {
+    share_a_home(schema, store)?;
     done(store, 1, Call::Begin)?;
     done(store, 2, Call::Update(1, row(schema, 7)?))?;
     Ok(())
