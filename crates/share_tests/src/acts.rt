@@ -8,7 +8,7 @@ use std::alloc::Global;
 use std::test::Fail;
 
 /// What a client does. A query asks for the rows with the smallest x.
-#[derive(Clone, Copy)]
+#[derive(Clone, Copy, Debug)]
 pub enum Does {
     Inserts(i64),
     Updates(u64, i64),

@@ -5,6 +5,7 @@ ghost use Rattle.std.specs.Prelude.{◌≡◌};
 use pref_core::{Act, Reply, Setup};
 use pref_share::{Board, Client, Gate, Name, Naming, ShareFault, open_board, run_all};
 use pref_table::Row;
+use pref_term::Ask;
 use std::alloc::Global;
 use std::process::Abort;
 use std::sync::Wait;
@@ -27,6 +28,20 @@ pub fn opened_for_two<J: Naming, R: Wait + Abort>(
     match (clients.next(), clients.next()) {
         (Some(first), Some(second)) => Ok((board, first, second)),
         _ => panic!(rt; "there are two clients"),
+    }
+}
+
+/// Begins a query, and tells how many blocks it has.
+pub fn begin<J: Naming, R: Wait + Abort>(
+    rt: &R,
+    alloc: Global,
+    board: &Board<J>,
+    client: &mut Client<J>,
+    ask: Ask,
+) -> u32 {
+    match client.begin(rt, alloc, board, ask) {
+        Ok(blocks) => blocks,
+        Err(_) => panic!(rt; "it begins"),
     }
 }
 

@@ -3,11 +3,12 @@
 ghost use Rattle.std.specs.Prelude.{◌≡◌};
 
 use crate::acts::{Does, act, columns, replies_text, reply_text, rows, setup};
-use crate::boards::opened_for_two;
+use crate::boards::{begin, opened_for_two};
+use crate::same::assert_same;
 use pref_core::{Act, Event, RankedList, Reply, Setup, replay};
 use pref_share::{Board, Client, Name, Naming, ShareFault, open_board};
 use pref_table::Row;
-use pref_term::{Ask, read_ask};
+use pref_term::read_ask;
 use std::alloc::Global;
 use std::marker::Brand;
 use std::process::Abort;
@@ -90,10 +91,23 @@ fn played<J: Naming, R: Wait + Abort>(
     text
 }
 
+/// Asserts what the clients of a new board are told, whose table has these opening rows.
+fn check_told(
+    rt: &(impl Wait + Abort + AllocGlobal),
+    opening: &[i64],
+    setup: Setup,
+    run: &[(u8, Does)],
+    wanted: &str,
+) -> Result<(), Fail> {
+    let alloc = rt.alloc();
+    let opening = rows(alloc, opening)?;
+    let text = played::<Brand, _>(rt, alloc, Name::new(), setup, &opening, run)?;
+    assert_same(rt, run, &text.as_str(), &wanted);
+    Ok(())
+}
+
 #[test]
 fn the_stored_run(rt: HostRuntime) -> Result<(), Fail> {
-    let alloc = rt.alloc();
-    let opening = rows(alloc, &[])?;
     let setup = setup(4, 1024, 1024)?;
     let run = [
         (0, Does::Inserts(30)),
@@ -106,18 +120,14 @@ fn the_stored_run(rt: HostRuntime) -> Result<(), Fail> {
         (2, Does::Gets(4)),
         (2, Does::AsksRoom),
     ];
-    let text = played::<Brand, _>(&rt, alloc, Name::new(), setup, &opening, &run)?;
-    assert_eq!(rt;
-        text.as_str(),
-        "inserted 1 / inserted 2 / inserted 3 / begun 1 / inserted 4 / left 0 / answer level 1 id 2: 10 / row 4: 5 / room 1020 / "
-    );
-    Ok(())
+    let wanted =
+        "inserted 1 / inserted 2 / inserted 3 / begun 1 / inserted 4 / left 0 / answer level 1 id 2: 10 / row 4: 5 / room 1020 / ";
+    check_told(&rt, &[], setup, &run, wanted)
 }
 
 #[test]
 fn an_answer_is_of_the_begin(rt: HostRuntime) -> Result<(), Fail> {
-    let alloc = rt.alloc();
-    let opening = rows(alloc, &[5, 7, 9])?;
+    let opening = [5, 7, 9];
     let setup = setup(4, 4, 2)?;
     let run = [
         (0, Does::Begins),
@@ -132,18 +142,14 @@ fn an_answer_is_of_the_begin(rt: HostRuntime) -> Result<(), Fail> {
         (1, Does::Scans),
         (1, Does::Finishes),
     ];
-    let text = played::<Brand, _>(&rt, alloc, Name::new(), setup, &opening, &run)?;
-    assert_eq!(rt;
-        text.as_str(),
-        "begun 2 / left 1 / deleted 1 / inserted 4 / room 0 / left 0 / answer level 1 id 1: 5 / begun 2 / left 1 / left 0 / answer level 1 id 4: 1 / "
-    );
-    Ok(())
+    let wanted =
+        "begun 2 / left 1 / deleted 1 / inserted 4 / room 0 / left 0 / answer level 1 id 1: 5 / begun 2 / left 1 / left 0 / answer level 1 id 4: 1 / ";
+    check_told(&rt, &opening, setup, &run, wanted)
 }
 
 #[test]
 fn room_is_exact(rt: HostRuntime) -> Result<(), Fail> {
-    let alloc = rt.alloc();
-    let opening = rows(alloc, &[1, 2])?;
+    let opening = [1, 2];
     let setup = setup(4, 2, 2)?;
     let first = [
         (0, Does::Begins),
@@ -153,11 +159,8 @@ fn room_is_exact(rt: HostRuntime) -> Result<(), Fail> {
         (1, Does::Gets(1)),
         (1, Does::AsksRoom),
     ];
-    let text = played::<Brand, _>(&rt, alloc, Name::new(), setup, &opening, &first)?;
-    assert_eq!(rt;
-        text.as_str(),
-        "begun 1 / refused: full needed 3 / abandoned / updated 1 / row 1: 9 / room 0 / "
-    );
+    let wanted = "begun 1 / refused: full needed 3 / abandoned / updated 1 / row 1: 9 / room 0 / ";
+    check_told(&rt, &opening, setup, &first, wanted)?;
     let second = [
         (0, Does::Updates(2, 6)),
         (0, Does::AsksRoom),
@@ -166,18 +169,13 @@ fn room_is_exact(rt: HostRuntime) -> Result<(), Fail> {
         (0, Does::AsksRoom),
         (0, Does::Inserts(8)),
     ];
-    let text = played::<Brand, _>(&rt, alloc, Name::new(), setup, &opening, &second)?;
-    assert_eq!(rt;
-        text.as_str(),
-        "updated 2 / room 0 / refused: full needed 3 / deleted 2 / room 1 / inserted 3 / "
-    );
-    Ok(())
+    let wanted = "updated 2 / room 0 / refused: full needed 3 / deleted 2 / room 1 / inserted 3 / ";
+    check_told(&rt, &opening, setup, &second, wanted)
 }
 
 #[test]
 fn two_updates_under_an_open_query(rt: HostRuntime) -> Result<(), Fail> {
-    let alloc = rt.alloc();
-    let opening = rows(alloc, &[5])?;
+    let opening = [5];
     let setup = setup(4, 3, 3)?;
     let run = [
         (0, Does::Begins),
@@ -189,29 +187,12 @@ fn two_updates_under_an_open_query(rt: HostRuntime) -> Result<(), Fail> {
         (1, Does::AsksRoom),
         (1, Does::Gets(1)),
     ];
-    let text = played::<Brand, _>(&rt, alloc, Name::new(), setup, &opening, &run)?;
-    assert_eq!(rt;
-        text.as_str(),
-        "begun 1 / updated 1 / updated 1 / room 1 / left 0 / answer level 1 id 1: 5 / room 2 / row 1: 2 / "
-    );
-    Ok(())
+    let wanted =
+        "begun 1 / updated 1 / updated 1 / room 1 / left 0 / answer level 1 id 1: 5 / room 2 / row 1: 2 / ";
+    check_told(&rt, &opening, setup, &run, wanted)
 }
 
-/// A client that begins and is dropped.
-fn begin_and_go<J: Naming, R: Wait + Abort>(
-    rt: &R,
-    alloc: Global,
-    board: &Board<J>,
-    mut client: Client<J>,
-    ask: Ask,
-) {
-    match client.begin(rt, alloc, board, ask) {
-        Ok(blocks) => assert_eq!(rt; blocks, 1),
-        Err(_) => panic!(rt; "it begins"),
-    }
-}
-
-/// What the second client of a new board is told, once the first has begun and was dropped.
+/// How many blocks the first client of a new board is told at its begin, and what the second is told once the first was dropped.
 fn told_after_a_drop<J: Naming, R: Wait + Abort>(
     rt: &R,
     alloc: Global,
@@ -219,16 +200,17 @@ fn told_after_a_drop<J: Naming, R: Wait + Abort>(
     setup: Setup,
     rows: &[Row],
     run: &[(u8, Does)],
-) -> Result<String, Fail>
+) -> Result<(u32, String), Fail>
     requires book { name.seen.book ≡ J.book }
     requires opening { J.opening ≡ record { limits = setup; rows = rows.now } }
 {
     let ask = read_ask(alloc, &columns(alloc)?, b"best low(x)")?;
-    let (board, first, second) = opened_for_two::<J, R>(rt, alloc, name, setup, rows)?;
-    begin_and_go(rt, alloc, &board, first, ask);
+    let (board, mut first, second) = opened_for_two::<J, R>(rt, alloc, name, setup, rows)?;
+    let blocks = begin(rt, alloc, &board, &mut first, ask);
+    drop(first);
     let text = told(rt, alloc, &board, &mut [second], run);
     board.close(rt);
-    text
+    Ok((blocks, text?))
 }
 
 /// What the sequential table tells its clients, who count from 1.
@@ -256,11 +238,20 @@ fn dropped_open(rt: HostRuntime) -> Result<(), Fail> {
         (0, Does::Inserts(8)),
         (0, Does::Gets(1)),
     ];
-    let text = told_after_a_drop::<Brand, _>(&rt, alloc, Name::new(), setup, &opening, &run)?;
-    assert_eq!(rt;
-        text.as_str(),
-        "updated 1 / updated 1 / room 0 / refused: full needed 3 / row 1: 7 / "
+    let (blocks, text) = told_after_a_drop::<Brand, _>(
+        &rt,
+        alloc,
+        Name::new(),
+        setup,
+        &opening,
+        &run,
+    )?;
+    let wanted = (
+        1,
+        "updated 1 / updated 1 / room 0 / refused: full needed 3 / row 1: 7 / ",
     );
+    let told = (blocks, text.as_str());
+    assert_same(&rt, "a client that is dropped", &told, &wanted);
     Ok(())
 }
 
@@ -277,9 +268,7 @@ fn the_sequential_table_tells_the_same_of_an_open_query(rt: HostRuntime) -> Resu
         (2, Does::Gets(1)),
     ];
     let text = replayed(alloc, setup(2, 2, 2)?, &opening, &run)?;
-    assert_eq!(rt;
-        text.as_str(),
-        "begun 1 / updated 1 / updated 1 / room 0 / refused: full needed 3 / row 1: 7 / "
-    );
+    let wanted = "begun 1 / updated 1 / updated 1 / room 0 / refused: full needed 3 / row 1: 7 / ";
+    assert_same(&rt, "one table", &text.as_str(), &wanted);
     Ok(())
 }

@@ -16,6 +16,8 @@ mod refusals;
 #[cfg(test)]
 mod rounds;
 #[cfg(test)]
+mod same;
+#[cfg(test)]
 mod threads;
 #[cfg(test)]
 mod words;

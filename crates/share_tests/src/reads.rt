@@ -3,7 +3,8 @@
 ghost use Rattle.std.specs.Prelude.{◌≡◌};
 
 use crate::acts::{columns, row, rows, setup};
-use crate::boards::opened_for_two;
+use crate::boards::{begin, opened_for_two};
+use crate::same::assert_same;
 use pref_core::Setup;
 use pref_share::{Client, Name, Naming, ShareFault};
 use pref_table::Row;
@@ -14,10 +15,17 @@ use std::process::Abort;
 use std::sync::Wait;
 use std::test::Fail;
 
+/// What three reads are told.
+type Reads = (
+    Result<Row, ShareFault>,
+    Result<u32, ShareFault>,
+    Result<u32, ShareFault>,
+);
+
 /// The row of id 1, the room, and the blocks that are left after a scan. There is no handle here that may wait, as taking a lock
 /// wants one, so reads that took a lock would not compile.
-fn read<J: Naming>(alloc: Global, client: &mut Client<J>) -> Result<(Row, u32, u32), ShareFault> {
-    Ok((client.get(1)?, client.room()?, client.scan(alloc)?))
+fn read<J: Naming>(alloc: Global, client: &mut Client<J>) -> Reads {
+    (client.get(1), client.room(), client.scan(alloc))
 }
 
 /// What a client with an open query reads.
@@ -28,18 +36,15 @@ fn read_of_an_open_board<J: Naming, R: Wait + Abort>(
     setup: Setup,
     rows: &[Row],
     ask: Ask,
-) -> Result<(Row, u32, u32), Fail>
+) -> Result<Reads, Fail>
     requires book { name.seen.book ≡ J.book }
     requires opening { J.opening ≡ record { limits = setup; rows = rows.now } }
 {
     let (board, mut client, _other) = opened_for_two::<J, R>(rt, alloc, name, setup, rows)?;
-    let begun = client
-        .begin(rt, alloc, &board, ask)
-        .map_err(|refusal| refusal.fault);
+    begin(rt, alloc, &board, &mut client, ask);
     let told = read(alloc, &mut client);
     board.close(rt);
-    begun?;
-    Ok(told?)
+    Ok(told)
 }
 
 #[test]
@@ -50,11 +55,12 @@ fn reads_of_an_open_board(rt: HostRuntime) -> Result<(), Fail> {
     let setup = setup(2, 4, 2)?;
     let ask = read_ask(alloc, &schema, b"best low(x)")?;
     let told = read_of_an_open_board::<Brand, _>(&rt, alloc, Name::new(), setup, &opening, ask)?;
-    assert_eq!(rt; told, (row(&schema, 5)?, 1, 1));
+    let wanted = (Ok(row(&schema, 5)?), Ok(1), Ok(1));
+    assert_same(&rt, "an open board", &told, &wanted);
     Ok(())
 }
 
-/// A client with an open query reads after its board was closed: it is refused each time.
+/// What a client with an open query reads after its board was closed, and how much it has seen then.
 fn read_of_a_closed_board<J: Naming, R: Wait + Abort>(
     rt: &R,
     alloc: Global,
@@ -62,21 +68,14 @@ fn read_of_a_closed_board<J: Naming, R: Wait + Abort>(
     setup: Setup,
     rows: &[Row],
     ask: Ask,
-) -> Result<(), Fail>
+) -> Result<(Reads, u64), Fail>
     requires book { name.seen.book ≡ J.book }
     requires opening { J.opening ≡ record { limits = setup; rows = rows.now } }
 {
     let (board, mut client, _other) = opened_for_two::<J, R>(rt, alloc, name, setup, rows)?;
-    let begun = client
-        .begin(rt, alloc, &board, ask)
-        .map_err(|refusal| refusal.fault);
+    begin(rt, alloc, &board, &mut client, ask);
     board.close(rt);
-    begun?;
-    assert_eq!(rt; client.get(1), Err(ShareFault::Closed));
-    assert_eq!(rt; client.room(), Err(ShareFault::Closed));
-    assert_eq!(rt; client.scan(alloc), Err(ShareFault::Closed));
-    assert_eq!(rt; client.seen(), 1);
-    Ok(())
+    Ok((read(alloc, &mut client), client.seen()))
 }
 
 #[test]
@@ -86,5 +85,9 @@ fn a_closed_board_lets_nobody_in(rt: HostRuntime) -> Result<(), Fail> {
     let opening = rows(alloc, &[5, 4, 6])?;
     let setup = setup(2, 4, 2)?;
     let ask = read_ask(alloc, &schema, b"best low(x)")?;
-    read_of_a_closed_board::<Brand, _>(&rt, alloc, Name::new(), setup, &opening, ask)
+    let told = read_of_a_closed_board::<Brand, _>(&rt, alloc, Name::new(), setup, &opening, ask)?;
+    let closed = ShareFault::Closed;
+    let wanted = ((Err(closed), Err(closed), Err(closed)), 1);
+    assert_same(&rt, "a closed board", &told, &wanted);
+    Ok(())
 }

@@ -5,6 +5,7 @@ ghost use Rattle.std.specs.Prelude.{◌≡◌};
 
 use crate::acts::{Does, acts_of, answer_text, columns, lists_text, row, rows, setup};
 use crate::boards::{opened_for_two, replies_of_a_run};
+use crate::same::assert_same;
 use pref_core::{Act, CoreFault, Setup};
 use pref_share::{BeginFault, Board, Client, Gate, Name, Naming, ShareFault, open_board};
 use pref_sky::Ranked;
@@ -15,6 +16,8 @@ use std::marker::Brand;
 use std::process::Abort;
 use std::sync::Wait;
 use std::test::Fail;
+
+const OUT_OF_MEMORY: ShareFault = ShareFault::Core(CoreFault::OutOfMemory);
 
 /// How many clients a board has that is opened and closed.
 fn clients_of_an_opening<J: Naming, R: Wait>(
@@ -40,13 +43,13 @@ fn an_opening_refused_then_again(rt: HostRuntime) -> Result<(), Fail> {
     let clients = match clients_of_an_opening::<Brand, _>(&rt, alloc, Name::new(), setup, &rows) {
         Ok(clients) => clients,
         Err(fault) => {
-            assert_eq!(rt; fault, ShareFault::Core(CoreFault::OutOfMemory));
+            assert_same(&rt, "an opening", &fault, &OUT_OF_MEMORY);
             clients_of_an_opening::<Brand, _>(&rt, alloc, Name::new(), setup, &rows).expect(
                 &rt, "memory",
             )
         }
     };
-    assert_eq!(rt; clients, 2);
+    assert_same(&rt, "clients", &clients, &2);
     Ok(())
 }
 
@@ -57,8 +60,8 @@ fn check_refusal<J: Naming>(
     client: &Client<J>,
     seen_before: u64,
 ) {
-    assert_eq!(rt; fault, ShareFault::Core(CoreFault::OutOfMemory));
-    assert_eq!(rt; client.seen(), seen_before);
+    let wanted = (OUT_OF_MEMORY, seen_before);
+    assert_same(rt, "a call", &(fault, client.seen()), &wanted);
 }
 
 /// Makes a call of a client, once more where memory was refused.
@@ -107,7 +110,7 @@ fn fill<J: Naming, R: Wait + Abort>(
 ) {
     for id in 2..19 {
         let inserted = in_the_end!(rt, client, client.insert(rt, alloc, board, *row));
-        assert_eq!(rt; inserted, id);
+        assert_same(rt, "an insert", &inserted, &id);
     }
 }
 
@@ -122,11 +125,11 @@ fn change_and_read<J: Naming, R: Wait + Abort>(
     for id in 2..200 {
         in_the_end!(rt, client, client.delete(rt, alloc, board, id));
         let inserted = in_the_end!(rt, client, client.insert(rt, alloc, board, *row));
-        assert_eq!(rt; inserted, id + 17);
+        assert_same(rt, "an insert", &inserted, &(id + 17));
     }
     in_the_end!(rt, client, client.update(rt, alloc, board, 1, *row));
-    assert_eq!(rt; client.get(1), Ok(*row));
-    assert_eq!(rt; client.room(), Ok(0));
+    let wanted = (Ok(*row), Ok(0));
+    assert_same(rt, "reads", &(client.get(1), client.room()), &wanted);
 }
 
 fn changed_and_heard<J: Naming, R: Wait + Abort>(
@@ -144,7 +147,7 @@ fn changed_and_heard<J: Naming, R: Wait + Abort>(
     fill(rt, alloc, &board, &mut client, row);
     change_and_read(rt, alloc, &board, &mut client, row);
     other.hear(client.word());
-    assert_eq!(rt; other.get(1), Ok(*row));
+    assert_same(rt, "what is heard", &other.get(1), &Ok(*row));
     board.close(rt);
     Ok(())
 }
@@ -167,11 +170,13 @@ fn abandon_and_ask<J: Naming, R: Wait + Abort>(
     client: &mut Client<J>,
     asks: (Ask, Ask),
 ) -> Vec<Ranked> {
-    assert_eq!(rt; begin_in_the_end(rt, alloc, board, client, asks.0), 2);
+    let abandoned = begin_in_the_end(rt, alloc, board, client, asks.0);
     in_the_end!(rt, client, client.abandon(rt, alloc, board));
-    assert_eq!(rt; begin_in_the_end(rt, alloc, board, client, asks.1), 2);
-    assert_eq!(rt; in_the_end!(rt, client, client.scan(alloc)), 1);
-    assert_eq!(rt; in_the_end!(rt, client, client.scan(alloc)), 0);
+    let asked = begin_in_the_end(rt, alloc, board, client, asks.1);
+    let first = in_the_end!(rt, client, client.scan(alloc));
+    let second = in_the_end!(rt, client, client.scan(alloc));
+    let blocks = (abandoned, asked, first, second);
+    assert_same(rt, "blocks", &blocks, &(2, 2, 1, 0));
     in_the_end!(rt, client, client.finish(rt, alloc, board))
 }
 
@@ -203,10 +208,8 @@ fn a_query_refused_then_again(rt: HostRuntime) -> Result<(), Fail> {
     );
     let setup = setup(2, 4, 2)?;
     let ranked = answered::<Brand, _>(&rt, alloc, Name::new(), setup, &opening, asks)?;
-    assert_eq!(rt;
-        answer_text(alloc, &ranked)?.as_str(),
-        "answer level 1 id 2: 4"
-    );
+    let text = answer_text(alloc, &ranked)?;
+    assert_same(&rt, "an answer", &text.as_str(), &"answer level 1 id 2: 4");
     Ok(())
 }
 
@@ -257,7 +260,7 @@ fn a_run_refused_then_again(rt: HostRuntime) -> Result<(), Fail> {
     ) {
         Ok(replies) => replies,
         Err(fault) => {
-            assert_eq!(rt; fault, ShareFault::Core(CoreFault::OutOfMemory));
+            assert_same(&rt, "a run", &fault, &OUT_OF_MEMORY);
             match replies_of_a_run::<Brand, _, _>(
                 &rt,
                 alloc,
@@ -272,9 +275,8 @@ fn a_run_refused_then_again(rt: HostRuntime) -> Result<(), Fail> {
             }
         }
     };
-    assert_eq!(rt;
-        lists_text(alloc, &replies)?.as_str(),
-        "inserted 2 / begun 2 / left 1 / left 0 / answer level 1 id 2: 3 / row 2: 3 / "
-    );
+    let text = lists_text(alloc, &replies)?;
+    let wanted = "inserted 2 / begun 2 / left 1 / left 0 / answer level 1 id 2: 3 / row 2: 3 / ";
+    assert_same(&rt, "replies", &text.as_str(), &wanted);
     Ok(())
 }

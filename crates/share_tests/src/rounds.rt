@@ -4,7 +4,7 @@
 ghost use Rattle.std.specs.Prelude.{◌≡◌};
 
 use crate::acts::{columns, rows, setup};
-use crate::boards::opened_for_two;
+use crate::boards::{begin, opened_for_two};
 use pref_core::Setup;
 use pref_share::{Board, Client, Name, Naming};
 use pref_table::{Row, Schema};
@@ -27,7 +27,7 @@ fn asks(alloc: Global, schema: &Schema) -> Result<Vec<Ask>, Fail> {
 }
 
 /// Begins each of these queries, and abandons it.
-fn begin_and_abandon<J: Naming, R: Wait + Print>(
+fn begin_and_abandon<J: Naming, R: Wait + Print + Abort>(
     rt: &R,
     alloc: Global,
     board: &Board<J>,
@@ -36,9 +36,7 @@ fn begin_and_abandon<J: Naming, R: Wait + Print>(
 ) -> Result<(), Fail> {
     println!(rt; "opened")?;
     for ask in asks {
-        client
-            .begin(rt, alloc, board, ask)
-            .map_err(|refusal| refusal.fault)?;
+        begin(rt, alloc, board, client, ask);
         println!(rt; "begun")?;
         client.abandon(rt, alloc, board)?;
         println!(rt; "abandoned")?;

@@ -4,6 +4,7 @@ ghost use Rattle.std.specs.Prelude.{◌≡◌};
 
 use crate::acts::{Does, act, acts_of, columns, lists_text, rows, setup};
 use crate::boards::replies_of_a_run;
+use crate::same::assert_same;
 use pref_core::{Act, Setup};
 use pref_share::{Gate, Name, Naming};
 use pref_table::{Row, Schema};
@@ -197,7 +198,7 @@ fn two_clients_at_once(rt: HostRuntime) -> Result<(), Fail> {
         let acts = same_acts(alloc, 2, &[Does::Gets(1)])?;
         let gate = held_until(held, until);
         let text = run::<Brand, _, _>(&rt, alloc, Name::new(), setup, &opening, acts, &gate)?;
-        assert_eq!(rt; text.as_str(), "row 1: 3 / row 1: 3 / ");
+        assert_same(&rt, held, &text.as_str(), &"row 1: 3 / row 1: 3 / ");
     }
     Ok(())
 }
@@ -209,7 +210,7 @@ fn held_least(rt: HostRuntime) -> Result<(), Fail> {
     let setup = setup(8, 4, 4)?;
     let acts = same_acts(alloc, 8, &[Does::AsksRoom, Does::AsksRoom, Does::AsksRoom])?;
     let text = run::<Brand, _, _>(&rt, alloc, Name::new(), setup, &opening, acts, &HoldsTwo)?;
-    assert_eq!(rt; text.as_str(), "held client 3");
+    assert_same(&rt, "two are held", &text.as_str(), &"held client 3");
     Ok(())
 }
 
@@ -224,6 +225,7 @@ fn held_open(rt: HostRuntime) -> Result<(), Fail> {
         updated: AtomicU64::new(0),
     };
     let text = run::<Brand, _, _>(&rt, alloc, Name::new(), setup, &opening, acts, &gate)?;
-    assert_eq!(rt; text.as_str(), answer_and_updates(alloc)?.as_str());
+    let wanted = answer_and_updates(alloc)?;
+    assert_same(&rt, "scans are held", &text, &wanted);
     Ok(())
 }

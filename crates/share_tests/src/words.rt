@@ -4,6 +4,7 @@ ghost use Rattle.std.specs.Prelude.{◌≡◌};
 
 use crate::acts::{columns, row, setup};
 use crate::boards::opened_for_two;
+use crate::same::assert_same;
 use pref_core::Setup;
 use pref_share::{Board, Client, Name, Naming, ShareFault, Word};
 use pref_table::Row;
@@ -59,7 +60,7 @@ fn word_crosses(rt: HostRuntime) -> Result<(), Fail> {
     let inserted = row(&schema, 4)?;
     let setup = setup(2, 4, 4)?;
     let got = got_after_a_word::<Brand, _>(&rt, alloc, Name::new(), setup, &[], inserted)?;
-    assert_eq!(rt; got.cell(0), 4);
+    assert_same(&rt, "a thread", &got, &inserted);
     Ok(())
 }
 
@@ -90,6 +91,6 @@ fn a_word_is_heard(rt: HostRuntime) -> Result<(), Fail> {
     let opening = [row(&schema, 5)?];
     let setup = setup(2, 4, 4)?;
     let seen = seen_before_and_after::<Brand, _>(&rt, alloc, Name::new(), setup, &opening)?;
-    assert_eq!(rt; seen, (0, 1));
+    assert_same(&rt, "one call", &seen, &(0, 1));
     Ok(())
 }
