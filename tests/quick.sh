@@ -8,22 +8,37 @@
 set -uo pipefail
 cd "$(dirname "$0")/.."
 export PYTHONDONTWRITEBYTECODE=1
-top=$PWD
 room=$(mktemp -d)
 trap 'rm -rf "$room"' EXIT
-passed=0
-failed=()
+names=()
 
-# Runs a check, shows what it said where it fails, and counts it.
-check() { # name, command..
-    if ("${@:2}") >"$room/said" 2>&1; then
-        passed=$((passed + 1))
-        echo "passed: $1"
-    else
-        cat "$room/said"
-        failed+=("$1")
-        echo "FAILED: $1"
-    fi
+# Runs a check beside the others, two at a time, and keeps what it said and how it ended.
+start() { # name, command..
+    local number=${#names[@]}
+    names+=("$1")
+    while [ "$(jobs -rp | wc -l)" -ge 2 ]; do wait -n; done
+    {
+        ("${@:2}") >"$room/said.$number" 2>&1
+        echo $? >"$room/status.$number"
+    } &
+}
+
+# Shows what each check that failed said, and counts.
+report() {
+    local number passed=0 failed=()
+    for number in "${!names[@]}"; do
+        if [ "$(cat "$room/status.$number")" = 0 ]; then
+            passed=$((passed + 1))
+            echo "passed: ${names[$number]}"
+        else
+            cat "$room/said.$number"
+            failed+=("${names[$number]}")
+            echo "FAILED: ${names[$number]}"
+        fi
+    done
+    [ ${#failed[@]} = 0 ] || printf 'failed: %s\n' "${failed[@]}"
+    echo "$passed passed, ${#failed[@]} failed, in $SECONDS seconds"
+    [ ${#failed[@]} = 0 ]
 }
 
 # In a copy, `rt fmt` must change nothing.
@@ -50,11 +65,10 @@ scripts() {
     cd crates/prefq && rt try --cases "$room/cases"
 }
 
-check 'layout of the files' layout
 for crate in core_tests share_tests prefq; do
-    check "tests of $crate, not proved" tests_of "$crate"
+    start "tests of $crate, not proved" tests_of "$crate"
 done
-check 'stored run, scripts, examples, guide' scripts
-[ ${#failed[@]} = 0 ] || printf 'failed: %s\n' "${failed[@]}"
-echo "$passed passed, ${#failed[@]} failed, in $SECONDS seconds"
-[ ${#failed[@]} = 0 ]
+start 'stored run, scripts, examples, guide' scripts
+start 'layout of the files' layout
+wait
+report
