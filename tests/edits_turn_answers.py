@@ -5,8 +5,7 @@ names beside it, and sees it fail.
     python3 tests/edits_turn_answers.py [CRATE..]
 
 A line whose third column begins with `TESTS::NAME` names the test NAME of the crate TESTS, one that begins with `tests/scripts/NAME` that script;
-of other lines it tells what stands there. One edit takes half a minute, all of them most of an hour: for a release, and for the crates that
-a change touches. Needs the Rattle kit and Python 3.9.
+of other lines it tells what stands there. One edit takes about half a minute: for a release, and for the crates that a change touches. Needs the Rattle kit and Python 3.9.
 """
 import re
 import shutil
