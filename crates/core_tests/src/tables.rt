@@ -40,6 +40,7 @@ fn records_as_csv_reads_them(rt: HostRuntime) -> Result<(), Fail> {
         ("a\n\"5", 1, Some((5, 0))),
         ("\"price\",\"rating\"\n-10,3\n20,5\n", 2, Some((-10, 3))),
         (" a\t, b \n1,2\r\n", 1, Some((1, 2))),
+        ("\u{FEFF}\u{FEFF}\u{FEFF}a\n1\n", 1, Some((1, 0))),
         ("a", 0, None),
     ];
     for (text, count, first) in cases {
@@ -64,6 +65,7 @@ fn refused_texts(rt: HostRuntime) {
             "a,b,c,d,e,f,g,h,i,j,k,l,m,n,o,p,q",
             TableFault::TooManyColumns,
         ),
+        (",,,,,,,,,,,,,,,,", TableFault::TooManyColumns),
         ("a\n1,2", TableFault::Width { row: 1 }),
         ("a,b\n1,2\nNA", TableFault::Width { row: 2 }),
         ("a\nNA", TableFault::NotWhole { row: 1, col: 1 }),
@@ -123,11 +125,15 @@ fn rows_of_a_line(rt: HostRuntime) -> Result<(), Fail> {
     let names = [b"x".as_slice(), b"y_1".as_slice()];
     let schema = Schema::new(rt.alloc(), names.as_slice())?;
     let row = Row::of(&schema, [3, i64::MIN].as_slice())?;
+    let nines = Row::of(&schema, [7, 999_999_999_999_999_999].as_slice())?;
+    let largest = Row::of(&schema, [1_000_000_000_000_000_000, i64::MAX].as_slice())?;
     assert_same(&rt, "its cells", &pair(&row), &(3, i64::MIN));
     let short = Row::of(&schema, [1].as_slice());
     assert_same(&rt, "one cell", &short, &Err(TableFault::Width { row: 0 }));
     let lines = [
         (" 3\t,-9223372036854775808", Ok(row)),
+        ("000000000000000007,999999999999999999", Ok(nines)),
+        ("1000000000000000000,9223372036854775807", Ok(largest)),
         ("1", Err(TableFault::Width { row: 0 })),
         ("", Err(TableFault::Width { row: 0 })),
         ("1,", Err(TableFault::NotWhole { row: 0, col: 2 })),

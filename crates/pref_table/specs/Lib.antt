@@ -6,3 +6,4 @@ pub mod Rows
 pub mod Records
 pub mod Tables
 pub mod Capped
+pub mod Fields

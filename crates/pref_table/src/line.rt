@@ -1,9 +1,10 @@
 //! A row from a line of text.
-ghost use Rattle.std.specs.Prelude.{◌≡◌, ◌==◌, ◌⊎◌, ◌∷◌, [], ℕ, length, count_by};
-ghost use Rattle.std.specs.List.{slice_split};
-ghost use Rattle.pref_table.specs.Rows.{line_row, is_comma};
+ghost use Rattle.std.specs.Prelude.{◌≡◌, ◌==◌, ◌+◌, ◌≤◌, ℕ, length, drop, count_by, List, MatchResult, Ok, Err};
+ghost use Rattle.pref_table.specs.Fields.{FirstCell, IsCutInto};
+ghost use Rattle.pref_table.specs.Rows.{line_row};
 
 use crate::fault::TableFault;
+use crate::number::plain_field;
 use crate::row::{Row, cell_at};
 use crate::schema::{MAX_COLUMNS, Schema};
 
@@ -15,8 +16,7 @@ fn count_commas(line: &[u8]) -> usize
 
 /// The first field of a line, and what follows the comma after it.
 fn cut_field(line: &[u8]) -> (&[u8], &[u8])
-    ensures { (slice_split is_comma line.now ≡ result.0.now ∷ slice_split is_comma result.1.now)
-        ⊎ (slice_split is_comma line.now ≡ result.0.now ∷ []) }
+    ensures { IsCutInto line.now result.0.now result.1.now }
 {
     for (place, byte) in line.iter().enumerate() {
         if *byte == b',' {
@@ -26,9 +26,32 @@ fn cut_field(line: &[u8]) -> (&[u8], &[u8])
     (line, &line[line.len()..])
 }
 
+/// What follows a first field of this size and the comma after it.
+fn after_comma(line: &[u8], size: usize) -> &[u8]
+    requires { size ≤ length line.now }
+    ensures { result.now ≡ drop (size + 1) line.now }
+{
+    if size < line.len() {
+        &line[size + 1..]
+    } else {
+        &line[line.len()..]
+    }
+}
+
+/// The cell of the first field of a line, which stands in this column of row 0, and what follows the comma after it.
+fn first_cell(line: &[u8], col: u64) -> Result<(i64, &[u8]), TableFault>
+    ensures { MatchResult result (λ cell. FirstCell line.now col (Ok cell.0) cell.1.now) (λ fault. (after : List ℕ) × FirstCell line.now col (Err fault) after) }
+{
+    if let Some((number, size)) = plain_field(line) {
+        return Ok((number, after_comma(line, size)));
+    }
+    let (field, tail) = cut_field(line);
+    Ok((cell_at(0, col, field)?, tail))
+}
+
 /// The row of a line of text, whose fields are cut at each comma; there are no quotes. Takes no memory.
 ///
-/// A field is a whole number with spaces and tabs round it. The first of these faults is told, with row 0: `Width`,
+/// A field is a whole number with spaces and tabs around it. Refused with the first of these faults, with row 0: `Width`,
 /// then field by field `NotWhole` or `OutOfRange`. An empty line is one empty field.
 pub fn read_row(schema: &Schema, line: &[u8]) -> Result<Row, TableFault>
     ensures { result ≡ line_row (length schema.now) line.now }
@@ -40,8 +63,8 @@ pub fn read_row(schema: &Schema, line: &[u8]) -> Result<Row, TableFault>
     let mut cells = [0; MAX_COLUMNS];
     let mut rest = line;
     for col in 0..width {
-        let (field, tail) = cut_field(rest);
-        cells[col] = cell_at(0, col as u64 + 1, field)?;
+        let (number, tail) = first_cell(rest, col as u64 + 1)?;
+        cells[col] = number;
         rest = tail;
     }
     Row::of(schema, &cells[..width])

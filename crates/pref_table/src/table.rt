@@ -119,7 +119,7 @@ fn read_rows(
 /// The schema and the rows of a table text: its first record is the header, and each further one a row.
 ///
 /// Records and fields are those that the crate `csv` reads with its defaults, after byte order marks at the very
-/// beginning. The faults come in the order of the text: those of the header as `Schema::new` tells them, then record by
+/// beginning. The faults come in the order of the text: those of the header as `Schema::new` orders them, then record by
 /// record `TooManyRows`, `Width`, and from the left `NotWhole` or `OutOfRange`; `OutOfMemory` wherever it is met.
 /// Reads the text once, keeps one record at a time, and stops at the first fault and after 65,537 rows.
 pub fn read_table(alloc: Global, bytes: &[u8]) -> Result<(Schema, Vec<Row>), TableFault>

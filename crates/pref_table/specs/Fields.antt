@@ -1,0 +1,23 @@
+-- No public contract cites this.
+-- The fields of a line, one after the other. (this project)
+use Rattle.std.specs.Prelude.{◌≡◌, ◌⊎◌, ◌≤◌, ◌+◌, ℕ, ℤ, List, [], ◌∷◌, length, take, drop, Result, Ok}
+use Rattle.std.specs.List.{slice_split}
+use Rattle.pref_table.specs.Number.{number_of}
+use Rattle.pref_table.specs.Rows.{cell_in, is_comma}
+use Rattle.pref_table.specs.declared.fault.TableFault.{TableFault}
+
+-- the first field of a line, and what follows the comma after it, where there is one
+abbrev pub IsCutInto : (line field after : List ℕ) → Type 0
+IsCutInto line field after = (slice_split is_comma line ≡ field ∷ slice_split is_comma after) ⊎ (slice_split is_comma line ≡ field ∷ [])
+
+-- the first size bytes of a line are its first field, and read as this number
+pub record IsPlainField (line : List ℕ) (number : ℤ) (size : ℕ) : Type 0 where
+  pub inside : size ≤ length line
+  pub reads : number_of (take size line) ≡ Ok number
+  pub cut : IsCutInto line (take size line) (drop (size + 1) line)
+
+-- the cell of a line's first field, which stands in this column of row 0, or its fault; and what follows the comma after it
+pub record FirstCell (line : List ℕ) (col : ℕ) (cell : Result ℤ TableFault) (after : List ℕ) : Type 0 where
+  pub field : List ℕ
+  pub is : cell ≡ cell_in 0 col field
+  pub cut : IsCutInto line field after
