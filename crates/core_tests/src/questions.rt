@@ -1,5 +1,6 @@
 //! Questions that are read, refused and asked, by their texts.
 mod products;
+mod ranges;
 mod refusals;
 mod showing;
 
@@ -78,7 +79,6 @@ fn refused_at_their_token(rt: HostRuntime) {
         ("best low(z) +", TermFault::UnknownColumn { at: 9 }),
         ("Best low(x)", TermFault::Unexpected { at: 0 }),
         ("best pos(x)", TermFault::Unexpected { at: 10 }),
-        ("best between(x, 1, 2)", TermFault::Unexpected { at: 5 }),
         (
             "skyline of distinct x min",
             TermFault::UnknownColumn { at: 11 },
@@ -96,6 +96,8 @@ fn accepted(rt: HostRuntime) {
         "best low(x) ",
         "\tbest\tlow ( x )",
         "best around(x, -9223372036854775808)",
+        "best between(x, -9223372036854775808, 9223372036854775807)",
+        "best between(x, 5, 5)",
         "top_level 2low(x)",
         "at_least 0007 pos(x, 2, 2) by x, x",
         "SKYLINE OF x Min",
@@ -289,6 +291,11 @@ fn equal_where_the_same_is_seen(rt: HostRuntime) -> Result<(), Fail> {
         ("best low(x) & low(y)", "best low(x) * low(y)", false),
         ("best pos(x, 1, 2)", "best pos(x, 2, 1)", false),
         ("best around(x, 1)", "best around(x, 2)", false),
+        ("best between(x, 1, 2)", "best between( x , 1 , 02 )", true),
+        ("best between(x, 1, 2)", "best between(y, 1, 2)", false),
+        ("best between(x, 1, 2)", "best between(x, 0, 2)", false),
+        ("best between(x, 1, 2)", "best between(x, 1, 3)", false),
+        ("best between(x, 1, 1)", "best around(x, 1)", false),
         ("best low(x) by g", "best low(x)", false),
         ("top_level 1 low(x)", "at_least 1 low(x)", false),
     ];
@@ -332,6 +339,7 @@ fn messages(rt: HostRuntime) -> Result<(), Fail> {
         (TermFault::Unexpected { at: 3 }, "unexpected at 3"),
         (TermFault::UnknownColumn { at: 9 }, "unknown column at 9"),
         (TermFault::NumberRange { at: 15 }, "number range at 15"),
+        (TermFault::EmptyRange { at: 19 }, "empty range at 19"),
         (TermFault::TooDeep { at: 69 }, "too deep at 69"),
         (TermFault::TooLong, "too long"),
         (TermFault::BadCount { at: 9 }, "bad count at 9"),

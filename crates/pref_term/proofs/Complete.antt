@@ -6,8 +6,8 @@ use Rattle.std.specs.Str.{bytes_eq, str_to_ascii_lowercase}
 use Rattle.std.proofs.lemmas.Slice.Eq.{bytes_eq-Decides}
 use Rattle.pref_term.proofs.Sound.{keyword_letters}
 use Rattle.pref_term.specs.Token.{left, right, comma, star, ampersand, word, sign, finish}
-use Rattle.pref_term.specs.Grammar.{Keyword, best_word, low_word, high_word, around_word, pos_word, reverse_word, top_level_word, at_least_word, by_word, CasedWord, skyline_word, of_word, min_word, max_word, diff_word, letters_of, keyword_of, cased_letters, cased_in, cased_of, HeadText, best_head, top_level_head, at_least_head, head_leaves, Direction, minimal, maximal, different, direction_word, DimText, dim_leaves, more_dims, group_leaves, more_columns, AskText, rated, skyline, IsWritten, IsText, NumberText, BaseText, low_text, high_text, around_text, pos_text, PriorText, one_product, then_product, ProductText, one_factor, then_factor, UnaryText, negated, grouped, reversed, based, Leaf, name, mark, opens, column_name, number_digits, count_digits, cased, last, signed_leaves, number_leaves, others_leaves, base_leaves, prior_leaves, product_leaves, unary_leaves, ask_leaves, token_of}
-use Rattle.pref_term.specs.Reading.{BaseKind, low_kind, high_kind, around_kind, pos_kind, NumberHole, centre_of, first_of, next_of, BasePart, named, opened, columned, number_due, number_signed, centred, listed, filled, PriorHole, whole, in_group, in_reverse, ProductHole, first_product, next_product, UnaryHole, first_factor, next_factor, in_minus, prior_depth, product_depth, unary_depth, State, start, operand, reverse_named, reading, after, top_level_named, at_least_named, group_due, group_listed, skyline_named, dim_due, dim_named, dims_listed, done, completed, outer, closed, ranked, in_whole, begun, of_named, listed_dim, directed, next}
+use Rattle.pref_term.specs.Grammar.{Keyword, best_word, low_word, high_word, around_word, pos_word, reverse_word, top_level_word, at_least_word, by_word, CasedWord, skyline_word, of_word, min_word, max_word, diff_word, letters_of, keyword_of, cased_letters, cased_in, cased_of, HeadText, best_head, top_level_head, at_least_head, head_leaves, Direction, minimal, maximal, different, direction_word, DimText, dim_leaves, more_dims, group_leaves, more_columns, AskText, rated, skyline, IsWritten, IsText, NumberText, BaseText, low_text, high_text, around_text, pos_text, PriorText, one_product, then_product, ProductText, one_factor, then_factor, UnaryText, negated, grouped, reversed, based, Leaf, name, mark, opens, column_name, number_digits, count_digits, cased, last, signed_leaves, number_leaves, others_leaves, base_leaves, prior_leaves, product_leaves, unary_leaves, ask_leaves, token_of, between_word, between_text, end_leaves}
+use Rattle.pref_term.specs.Reading.{BaseKind, low_kind, high_kind, around_kind, pos_kind, NumberHole, centre_of, first_of, next_of, BasePart, named, opened, columned, number_due, number_signed, centred, listed, filled, PriorHole, whole, in_group, in_reverse, ProductHole, first_product, next_product, UnaryHole, first_factor, next_factor, in_minus, prior_depth, product_depth, unary_depth, State, start, operand, reverse_named, reading, after, top_level_named, at_least_named, group_due, group_listed, skyline_named, dim_due, dim_named, dims_listed, done, completed, outer, closed, ranked, in_whole, begun, of_named, listed_dim, directed, next, between_kind, start_of, end_of, least_of, ranged, range_ended}
 
 -- reading these leaves leads from one state to the other
 abbrev pub Reads : State → List Leaf → State → Type 0
@@ -18,10 +18,10 @@ pub reads_on : (s : State) (a b : List Leaf) (m n : State) → Reads s a m → R
 reads_on s [] b m n h k = subst (λ (x : State). Reads x b n) (sym h) k
 reads_on s (leaf ∷ a) b m n h k = (h.0, h.1, reads_on h.0 a b m n h.2 k)
 
-reads_number : (h : UnaryHole) (hole : NumberHole) (n : NumberText) → Reads (reading h (number_due hole)) (number_leaves n) (reading h (filled hole n))
+reads_number : (h : UnaryHole) (hole : NumberHole) (n : NumberText) → Reads (reading h (number_due hole)) (signed_leaves (least_of hole) n.negative n.digits) (reading h (filled hole n))
 reads_number h hole n = go n.negative n.digits
   where
-    go : (negative : Bool) (ds : List ℕ) → Reads (reading h (number_due hole)) (signed_leaves negative ds) (reading h (filled hole (record { negative = negative; digits = ds })))
+    go : (negative : Bool) (ds : List ℕ) → Reads (reading h (number_due hole)) (signed_leaves (least_of hole) negative ds) (reading h (filled hole (record { negative = negative; digits = ds })))
     go true ds = (_, refl, (_, refl, refl))
     go false ds = (_, refl, refl)
 
@@ -53,6 +53,29 @@ reads_base (around_text column centre) h = (
         refl,
         reads_on (reading h (number_due (centre_of column))) (number_leaves centre) (mark right ∷ []) (reading h (centred column centre)) (completed h (based (around_text column centre)))
             (reads_number h (centre_of column) centre) (_, refl, refl),
+      ),
+    ),
+  ),
+)
+reads_base (between_text column l r) h = (
+  _,
+  refl,
+  (
+    _,
+    refl,
+    (
+      _,
+      refl,
+      (
+        _,
+        refl,
+        reads_on (reading h (number_due (start_of column))) (number_leaves l) (mark comma ∷ end_leaves l r ++ mark right ∷ []) (reading h (ranged column l)) (completed h (based (between_text column l r)))
+            (reads_number h (start_of column) l) (
+              reading h (number_due (end_of column l)),
+              refl,
+              reads_on (reading h (number_due (end_of column l))) (end_leaves l r) (mark right ∷ []) (reading h (range_ended column l r)) (completed h (based (between_text column l r)))
+                  (reads_number h (end_of column l) r) (_, refl, refl),
+            ),
       ),
     ),
   ),
@@ -175,6 +198,7 @@ keyword_no_skyline best_word e = differ _ _ refl e
 keyword_no_skyline low_word e = differ _ _ refl e
 keyword_no_skyline high_word e = differ _ _ refl e
 keyword_no_skyline around_word e = differ _ _ refl e
+keyword_no_skyline between_word e = differ _ _ refl e
 keyword_no_skyline pos_word e = differ _ _ refl e
 keyword_no_skyline reverse_word e = differ _ _ refl e
 keyword_no_skyline top_level_word e = differ _ _ refl e
@@ -274,19 +298,28 @@ ends_operand h = more_reads (operand h) (base_leaves (low_text x_name)) (complet
 ends_listed : (h : UnaryHole) (column : List ℕ) (first : NumberText) (others : List NumberText) → CanEnd (reading h (listed column first others))
 ends_listed h column first others = first_reads _ (mark right) (completed h (based (pos_text column first others))) refl (ends_unary h (based (pos_text column first others)))
 
+ends_range : (h : UnaryHole) (column : List ℕ) (l r : NumberText) → CanEnd (reading h (range_ended column l r))
+ends_range h column l r = first_reads _ (mark right) (completed h (based (between_text column l r))) refl (ends_unary h (based (between_text column l r)))
+
+ends_range_due : (h : UnaryHole) (column : List ℕ) (l : NumberText) → CanEnd (reading h (number_due (end_of column l)))
+ends_range_due h column l = first_reads _ (number_digits (Some l) false zero_digits) (reading h (range_ended column l (record { negative = false; digits = zero_digits }))) refl (ends_range h column l (record { negative = false; digits = zero_digits }))
+
 ends_filled : (h : UnaryHole) (hole : NumberHole) (n : NumberText) → CanEnd (reading h (filled hole n))
 ends_filled h (centre_of column) n = first_reads _ (mark right) (completed h (based (around_text column n))) refl (ends_unary h (based (around_text column n)))
 ends_filled h (first_of column) n = ends_listed h column n []
+ends_filled h (start_of column) n = first_reads _ (mark comma) (reading h (number_due (end_of column n))) refl (ends_range_due h column n)
+ends_filled h (end_of column l) n = ends_range h column l n
 ends_filled h (next_of column first others) n = ends_listed h column first (others ++ n ∷ [])
 
 ends_due : (h : UnaryHole) (hole : NumberHole) → CanEnd (reading h (number_due hole))
-ends_due h hole = first_reads _ (number_digits false zero_digits) (reading h (filled hole (record { negative = false; digits = zero_digits }))) refl (ends_filled h hole (record { negative = false; digits = zero_digits }))
+ends_due h hole = first_reads _ (number_digits (least_of hole) false zero_digits) (reading h (filled hole (record { negative = false; digits = zero_digits }))) refl (ends_filled h hole (record { negative = false; digits = zero_digits }))
 
 -- behind a column of each kind of base term
 ends_columned : (h : UnaryHole) (k : BaseKind) (column : List ℕ) → CanEnd (reading h (columned k column))
 ends_columned h low_kind column = first_reads _ (mark right) (completed h (based (low_text column))) refl (ends_unary h (based (low_text column)))
 ends_columned h high_kind column = first_reads _ (mark right) (completed h (based (high_text column))) refl (ends_unary h (based (high_text column)))
 ends_columned h around_kind column = first_reads _ (mark comma) (reading h (number_due (centre_of column))) refl (ends_due h (centre_of column))
+ends_columned h between_kind column = first_reads _ (mark comma) (reading h (number_due (start_of column))) refl (ends_due h (start_of column))
 ends_columned h pos_kind column = first_reads _ (mark comma) (reading h (number_due (first_of column))) refl (ends_due h (first_of column))
 
 pub ends_part : (h : UnaryHole) (b : BasePart) → CanEnd (reading h b)
@@ -294,8 +327,10 @@ ends_part h (named k) = first_reads _ (mark left) (reading h (opened k)) refl (f
 ends_part h (opened k) = first_reads _ (column_name x_name) (reading h (columned k x_name)) refl (ends_columned h k x_name)
 ends_part h (columned k column) = ends_columned h k column
 ends_part h (number_due n) = ends_due h n
-ends_part h (number_signed n) = first_reads _ (number_digits true zero_digits) (reading h (filled n (record { negative = true; digits = zero_digits }))) refl (ends_filled h n (record { negative = true; digits = zero_digits }))
+ends_part h (number_signed n) = first_reads _ (number_digits (least_of n) true zero_digits) (reading h (filled n (record { negative = true; digits = zero_digits }))) refl (ends_filled h n (record { negative = true; digits = zero_digits }))
 ends_part h (centred column centre) = ends_filled h (centre_of column) centre
+ends_part h (ranged column l) = ends_filled h (start_of column) l
+ends_part h (range_ended column l r) = ends_range h column l r
 ends_part h (listed column first others) = ends_listed h column first others
 
 ends_listed_group : (head : HeadText) (r : PriorText) (first : List ℕ) (others : List (List ℕ)) → CanEnd (group_listed head r first others)

@@ -3,18 +3,18 @@ use Rattle.std.proofs.Common.{◌≡◌, ℕ, ℤ, List, [], ◌∷◌, ◌++◌
 use Rattle.pref_table.specs.Columns.{column_of}
 use Rattle.pref_table.specs.Number.{fits_cell}
 use Rattle.pref_term.specs.Token.{Sign, left, right, comma, minus, Token, word, digits, sign, Placed}
-use Rattle.pref_term.specs.Grammar.{based, NumberText, low_text, high_text, around_text, pos_text, Leaf, mark, column_name, number_digits}
-use Rattle.pref_term.specs.Spells.{Names, UnlessMemory, own_fault, signed_value, number_value, column_at, number_range}
-use Rattle.pref_term.specs.Reading.{BaseKind, low_kind, high_kind, around_kind, pos_kind, centre_of, first_of, named, opened, columned, number_due, number_signed, centred, listed, filled, UnaryHole, State, reading, completed, run, led, judged, next}
+use Rattle.pref_term.specs.Grammar.{based, NumberText, low_text, high_text, around_text, pos_text, Leaf, mark, column_name, number_digits, between_text}
+use Rattle.pref_term.specs.Spells.{Names, UnlessMemory, own_fault, signed_value, number_value, column_at, number_range, below, empty_range, told_at}
+use Rattle.pref_term.specs.Reading.{BaseKind, low_kind, high_kind, around_kind, pos_kind, centre_of, first_of, named, opened, columned, number_due, number_signed, centred, listed, filled, UnaryHole, State, reading, completed, run, led, judged, next, between_kind, start_of, end_of, least_of, ranged, range_ended}
 use Rattle.pref_term.specs.Seen.{seen}
 use Rattle.pref_term.specs.Ahead.{ahead, taken, behind_token}
 use Rattle.pref_term.specs.declared.cursor.Taken.{Taken}
 use Rattle.pref_term.specs.declared.front.Token as code
-use Rattle.pref_term.specs.Led.{Goes, Fails, IsOther, Passes, WantsColumn, TakesColumn, ReadsOpened, IsNoWord, FailsColumn, FailsOpened, ReadsNumber, ReadsListed, ReadsSome, ReadsNumbers, ReadsBase, FailsListed, FailsNumber, FailsNumbers, FailsBase, set_hole, set_text, behind_number}
+use Rattle.pref_term.specs.Led.{Goes, Fails, IsOther, Passes, WantsColumn, TakesColumn, ReadsOpened, IsNoWord, FailsColumn, FailsOpened, ReadsNumber, ReadsListed, ReadsSome, ReadsNumbers, ReadsBase, FailsListed, FailsNumber, FailsNumbers, FailsBase, set_hole, set_text, behind_number, ReadsEnd, FailsEnd, first_place}
 use Rattle.pref_term.specs.declared.fault.TermFault.{TermFault}
-use Rattle.pref_term.specs.declared.fault.TermFault.TheVariants.{Unexpected, OutOfMemory}
-use Rattle.std.specs.Prelude.{All, FitsSigned, ◌≢◌, IsErrAnd, IfErr, unwrap_or}
-use Rattle.pref_term.specs.Preference.{scored, low, high, around, one_of}
+use Rattle.pref_term.specs.declared.fault.TermFault.TheVariants.{Unexpected, OutOfMemory, EmptyRange}
+use Rattle.std.specs.Prelude.{All, FitsSigned, ◌≢◌, IsErrAnd, IfErr, unwrap_or, int_lt, Option}
+use Rattle.pref_term.specs.Preference.{scored, low, high, around, one_of, between}
 use Rattle.std.proofs.lemmas.List.{map-append}
 use Rattle.std.proofs.lemmas.List.Elements.{All-append, All-cons, All-nil}
 use Rattle.std.specs.Int.{w64}
@@ -31,8 +31,8 @@ run_step names t at ts p s leaf m e own =
 pub column_good : (names : Names) (letters : List ℕ) (col : ℕ) → column_of names letters ≡ Some col → own_fault names (column_name letters) ≡ None
 column_good names letters col h = rw h
 
-pub number_good : (names : Names) (negative : Bool) (ds : List ℕ) → fits_cell (signed_value negative ds) ≡ true → own_fault names (number_digits negative ds) ≡ None
-number_good names negative ds h = ap (λ b. cond b None (Some number_range)) h
+pub number_own : (names : Names) (least : Option NumberText) (negative : Bool) (ds : List ℕ) → fits_cell (signed_value negative ds) ≡ true → own_fault names (number_digits least negative ds) ≡ below least (signed_value negative ds)
+number_own names least negative ds h = ap (λ b. cond b (below least (signed_value negative ds)) (Some number_range)) h
 
 -- ---- one part behind another
 
@@ -86,12 +86,27 @@ opened_fails names ts us f c r h k =
     goes_fails names _ (reading h (opened k)) ts us f (passes_goes names (sign left) ts us (reading h (named k)) (reading h (opened k)) (mark left) c refl refl)
     (r (reading h (opened k)) (λ letters. reading h (columned k letters)) (wants_opened h k))
 
-digits_goes : (names : Names) (negative : Bool) (ts us : List Placed) (ds : List ℕ) (s m : State) → Passes (digits ds) ts us → fits_cell (signed_value negative ds) ≡ true → next s (digits ds) ≡ Some (number_digits negative ds, m) → Goes names s ts m us
-digits_goes names negative ts us ds s m c fits e = passes_goes names (digits ds) ts us s m (number_digits negative ds) c e (number_good names negative ds fits)
+digits_goes : (names : Names) (least : Option NumberText) (negative : Bool) (ts us : List Placed) (ds : List ℕ) (s m : State) → Passes (digits ds) ts us → fits_cell (signed_value negative ds) ≡ true → below least (signed_value negative ds) ≡ None → next s (digits ds) ≡ Some (number_digits least negative ds, m) → Goes names s ts m us
+digits_goes names least negative ts us ds s m c fits above e =
+    passes_goes names (digits ds) ts us s m (number_digits least negative ds) c e (number_own names least negative ds fits ∙ above)
+
+-- digits that are less than they may be
+digits_refused : (names : Names) (least : Option NumberText) (negative : Bool) (ts us : List Placed) (ds : List ℕ) (s m : State) (c : Passes (digits ds) ts us) → fits_cell (signed_value negative ds) ≡ true → below least (signed_value negative ds) ≡ Some empty_range → next s (digits ds) ≡ Some (number_digits least negative ds, m)
+    → (p : ℕ) → run names ts p s ≡ Err (EmptyRange (told_at (number_digits least negative ds) p c.0))
+digits_refused names least negative ts us ds s m c fits under e p =
+    ap (λ xs. run names xs p s) c.1
+    ∙ (ap (led names p c.0 (run names us c.0)) e
+    ∙ ap (judged (number_digits least negative ds) p c.0 (run names us c.0 m)) (number_own names least negative ds fits ∙ under))
 
 pub plain_number_read : (names : Names) (ts us : List Placed) (ds : List ℕ) (value : ℤ) → Passes (digits ds) ts us → fits_cell (signed_value false ds) ≡ true → value ≡ signed_value false ds → FitsSigned w64 value → ReadsNumber names ts value us
 plain_number_read names ts us ds value c fits v held =
-    record { number = record { negative = false; digits = ds }; fits = held; value_is = sym v; goes = λ h hole. digits_goes names false ts us ds (reading h (number_due hole)) _ c fits refl }
+    record {
+      number = record { negative = false; digits = ds };
+      fits = held;
+      value_is = sym v;
+      goes = λ h hole above. digits_goes names (least_of hole) false ts us ds (reading h (number_due hole)) _ c fits above refl;
+      refused = λ h hole under p. digits_refused names (least_of hole) false ts us ds (reading h (number_due hole)) _ c fits under refl p ∙ ap (λ at. Err (EmptyRange at)) (sym (ap first_place c.1));
+    }
 
 pub signed_number_read : (names : Names) (ts us vs : List Placed) (ds : List ℕ) (value : ℤ) → Passes (sign minus) ts us → Passes (digits ds) us vs → fits_cell (signed_value true ds) ≡ true → value ≡ signed_value true ds → FitsSigned w64 value → ReadsNumber names ts value vs
 signed_number_read names ts us vs ds value c d fits v held =
@@ -99,10 +114,33 @@ signed_number_read names ts us vs ds value c d fits v held =
       number = record { negative = true; digits = ds };
       fits = held;
       value_is = sym v;
-      goes = λ h hole. goes_then names (reading h (number_due hole)) (reading h (number_signed hole)) _ ts us vs
+      goes = λ h hole above. goes_then names (reading h (number_due hole)) (reading h (number_signed hole)) _ ts us vs
           (passes_goes names (sign minus) ts us (reading h (number_due hole)) (reading h (number_signed hole)) (mark minus) c refl refl)
-          (digits_goes names true us vs ds (reading h (number_signed hole)) _ d fits refl);
+          (digits_goes names (least_of hole) true us vs ds (reading h (number_signed hole)) _ d fits above refl);
+      refused = λ h hole under p.
+          ap (λ xs. run names xs p (reading h (number_due hole))) c.1
+          ∙ (digits_refused names (least_of hole) true us vs ds (reading h (number_signed hole)) _ d fits under refl c.0 ∙ ap (λ at. Err (EmptyRange at)) (sym (ap first_place c.1)));
     }
+
+-- the right end of a range
+below_of : (l : NumberText) (value least : ℤ) (test : Bool) → number_value l ≡ least → int_lt value least ≡ test → below (Some l) value ≡ cond test (Some empty_range) None
+below_of l value least test e f = ap (λ x. cond (int_lt value x) (Some empty_range) None) e ∙ ap (λ b. cond b (Some empty_range) None) f
+
+pub end_read : (names : Names) (ts us : List Placed) (least value : ℤ) → ReadsNumber names ts value us → int_lt value least ≡ false → ReadsEnd names least ts value us
+end_read names ts us least value n above =
+    record {
+      number = n.number;
+      fits = n.fits;
+      value_is = n.value_is;
+      ordered = above;
+      goes = λ h column l e. n.goes h (end_of column l) (ap (below (Some l)) n.value_is ∙ below_of l value least false e above);
+    }
+
+pub end_refused : (names : Names) (ts us : List Placed) (least value : ℤ) → ReadsNumber names ts value us → int_lt value least ≡ true → FailsEnd names least ts (EmptyRange (first_place ts))
+end_refused names ts us least value n under h column l e = n.refused h (end_of column l) (ap (below (Some l)) n.value_is ∙ below_of l value least true e under)
+
+pub end_fails : (names : Names) (ts : List Placed) (least : ℤ) (f : TermFault) → FailsNumber names ts f → FailsEnd names least ts f
+end_fails names ts least f n h column l e = n h (end_of column l)
 
 -- what was taken, where the token is known
 pub taken_is : (ts : List Placed) (t : Taken) (k : code.Token) → ts ≡ taken t → t.token ≡ k → ts ≡ at_place (seen k) t.at ∷ behind_token k (ahead t.next)
@@ -164,13 +202,18 @@ set_stuck : (h : UnaryHole) (column : List ℕ) (some : List NumberText) (n : Nu
 set_stuck h column [] n u nc nr = listed_stuck h column n [] u nc nr
 set_stuck h column (f ∷ os) n u nc nr = listed_stuck h column f (os ++ n ∷ []) u nc nr
 
+-- a number of a set may be any
+set_plain : (column : List ℕ) (some : List NumberText) (n : NumberText) → below (least_of (set_hole column some)) (number_value n) ≡ None
+set_plain column [] n = refl
+set_plain column (f ∷ os) n = refl
+
 pub listed_more : (names : Names) (ts us vs : List Placed) (value v : ℤ) → ReadsNumber names ts value us → v ≡ value → Passes (sign comma) us vs → ReadsListed names ts v true vs
 listed_more names ts us vs value v r e c =
     record {
       number = r.number;
       fits = subst (FitsSigned w64) (sym e) r.fits;
       value_is = r.value_is ∙ sym e;
-      goes = λ h column some. goes_then names _ (reading h (filled (set_hole column some) r.number)) _ ts us vs (r.goes h (set_hole column some))
+      goes = λ h column some. goes_then names _ (reading h (filled (set_hole column some) r.number)) _ ts us vs (r.goes h (set_hole column some) (set_plain column some r.number))
           (passes_goes names (sign comma) us vs _ _ (mark comma) c (set_comma h column some r.number) refl);
     }
 
@@ -180,13 +223,13 @@ listed_last names ts us vs value v r e c =
       number = r.number;
       fits = subst (FitsSigned w64) (sym e) r.fits;
       value_is = r.value_is ∙ sym e;
-      goes = λ h column some. goes_then names _ (reading h (filled (set_hole column some) r.number)) _ ts us vs (r.goes h (set_hole column some))
+      goes = λ h column some. goes_then names _ (reading h (filled (set_hole column some) r.number)) _ ts us vs (r.goes h (set_hole column some) (set_plain column some r.number))
           (passes_goes names (sign right) us vs _ _ (mark right) c (set_right h column some r.number) refl);
     }
 
 pub listed_fails : (names : Names) (ts us vs : List Placed) (value : ℤ) (t : Token) (at : ℕ) → ReadsNumber names ts value us → us ≡ at_place t at ∷ vs → t ≢ sign comma → t ≢ sign right → FailsListed names ts (Unexpected at)
 listed_fails names ts us vs value t at r e nc nr h column some =
-    goes_fails names _ (reading h (filled (set_hole column some) r.number)) ts us (Unexpected at) (r.goes h (set_hole column some))
+    goes_fails names _ (reading h (filled (set_hole column some) r.number)) ts us (Unexpected at) (r.goes h (set_hole column some) (set_plain column some r.number))
     (stuck_fails names t at vs us _ e (set_stuck h column some r.number t nc nr))
 
 -- the first number is due
@@ -250,7 +293,24 @@ around_read names ts us vs ws xs col centre r c n d =
       meaning = ap (λ i. scored (around i (number_value n.number))) (column_is names r.letters col r.found.place) ∙ ap (λ v. scored (around col v)) n.value_is;
       known = (r.found.known, n.fits);
       goes = λ h. sign_behind names ts ws xs _ _ (completed h (based (around_text r.letters n.number))) right
-          (goes_then names _ _ _ ts vs ws (sign_behind names ts us vs _ _ (reading h (number_due (centre_of r.letters))) comma (r.goes h around_kind) c refl) (n.goes h (centre_of r.letters))) d refl;
+          (goes_then names _ _ _ ts vs ws (sign_behind names ts us vs _ _ (reading h (number_due (centre_of r.letters))) comma (r.goes h around_kind) c refl) (n.goes h (centre_of r.letters) refl)) d refl;
+    }
+
+-- up to the left end of a range, and the comma behind it
+range_goes : (names : Names) (ts us vs ws xs : List Placed) (col : ℕ) (l : ℤ) (r : ReadsOpened names ts col us) → Passes (sign comma) us vs → (n : ReadsNumber names vs l ws) → Passes (sign comma) ws xs → (h : UnaryHole) → Goes names (reading h (named between_kind)) ts (reading h (number_due (end_of r.letters n.number))) xs
+range_goes names ts us vs ws xs col l r c n d h =
+    sign_behind names ts ws xs _ _ (reading h (number_due (end_of r.letters n.number))) comma
+    (goes_then names _ _ _ ts vs ws (sign_behind names ts us vs _ _ (reading h (number_due (start_of r.letters))) comma (r.goes h between_kind) c refl) (n.goes h (start_of r.letters) refl)) d refl
+
+pub between_read : (names : Names) (ts us vs ws xs ys zs : List Placed) (col : ℕ) (l r : ℤ) → ReadsOpened names ts col us → Passes (sign comma) us vs → ReadsNumber names vs l ws → Passes (sign comma) ws xs → ReadsEnd names l xs r ys → Passes (sign right) ys zs → ReadsBase names between_kind ts (scored (between col l r)) zs
+between_read names ts us vs ws xs ys zs col l r o c n d m e =
+    record {
+      tree = between_text o.letters n.number m.number;
+      meaning = ap (λ i. scored (between i (number_value n.number) (number_value m.number))) (column_is names o.letters col o.found.place)
+          ∙ (ap (λ v. scored (between col v (number_value m.number))) n.value_is ∙ ap (λ v. scored (between col l v)) m.value_is);
+      known = (o.found.known, (n.fits, m.fits, m.ordered));
+      goes = λ h. sign_behind names ts ys zs _ _ (completed h (based (between_text o.letters n.number m.number))) right
+          (goes_then names _ _ _ ts xs ys (range_goes names ts us vs ws xs col l o c n d h) (m.goes h o.letters n.number n.value_is)) e refl;
     }
 
 pub pos_read : (names : Names) (ts us vs ws : List Placed) (col : ℕ) (set : List ℤ) → ReadsOpened names ts col us → Passes (sign comma) us vs → ReadsNumbers names vs set ws → ReadsBase names pos_kind ts (scored (one_of col set)) ws
@@ -279,8 +339,42 @@ around_number_fails names ts us vs col f r c n h =
 pub around_end_fails : (names : Names) (ts us vs ws : List Placed) (col : ℕ) (centre : ℤ) (f : TermFault) → ReadsOpened names ts col us → Passes (sign comma) us vs → ReadsNumber names vs centre ws → IsOther (sign right) ws f → FailsBase names around_kind ts f
 around_end_fails names ts us vs ws col centre f r c n o h =
     goes_fails names _ _ ts ws f
-    (goes_then names _ _ _ ts vs ws (sign_behind names ts us vs _ _ (reading h (number_due (centre_of r.letters))) comma (r.goes h around_kind) c refl) (n.goes h (centre_of r.letters)))
+    (goes_then names _ _ _ ts vs ws (sign_behind names ts us vs _ _ (reading h (number_due (centre_of r.letters))) comma (r.goes h around_kind) c refl) (n.goes h (centre_of r.letters) refl))
     (other_fails names (sign right) ws f _ o (around_closes h r.letters n.number))
+
+pub between_goes_on : (h : UnaryHole) (column : List ℕ) (u : Token) → u ≢ sign comma → next (reading h (columned between_kind column)) u ≡ None
+between_goes_on h column (sign comma) ne = absurd (ne refl)
+between_goes_on h column _ ne = refl
+
+pub ranged_goes_on : (h : UnaryHole) (column : List ℕ) (l : NumberText) (u : Token) → u ≢ sign comma → next (reading h (ranged column l)) u ≡ None
+ranged_goes_on h column l (sign comma) ne = absurd (ne refl)
+ranged_goes_on h column l _ ne = refl
+
+pub range_closes : (h : UnaryHole) (column : List ℕ) (l r : NumberText) (u : Token) → u ≢ sign right → next (reading h (range_ended column l r)) u ≡ None
+range_closes h column l r (sign right) ne = absurd (ne refl)
+range_closes h column l r _ ne = refl
+
+pub between_fails : (names : Names) (ts us : List Placed) (col : ℕ) (f : TermFault) → ReadsOpened names ts col us → IsOther (sign comma) us f → FailsBase names between_kind ts f
+between_fails names ts us col f r o h = goes_fails names _ _ ts us f (r.goes h between_kind) (other_fails names (sign comma) us f _ o (between_goes_on h r.letters))
+
+pub between_left_fails : (names : Names) (ts us vs : List Placed) (col : ℕ) (f : TermFault) → ReadsOpened names ts col us → Passes (sign comma) us vs → FailsNumber names vs f → FailsBase names between_kind ts f
+between_left_fails names ts us vs col f r c n h =
+    goes_fails names _ _ ts vs f (sign_behind names ts us vs _ _ (reading h (number_due (start_of r.letters))) comma (r.goes h between_kind) c refl) (n h (start_of r.letters))
+
+pub between_comma_fails : (names : Names) (ts us vs ws : List Placed) (col : ℕ) (l : ℤ) (f : TermFault) → ReadsOpened names ts col us → Passes (sign comma) us vs → ReadsNumber names vs l ws → IsOther (sign comma) ws f → FailsBase names between_kind ts f
+between_comma_fails names ts us vs ws col l f r c n o h =
+    goes_fails names _ _ ts ws f
+    (goes_then names _ _ _ ts vs ws (sign_behind names ts us vs _ _ (reading h (number_due (start_of r.letters))) comma (r.goes h between_kind) c refl) (n.goes h (start_of r.letters) refl))
+    (other_fails names (sign comma) ws f _ o (ranged_goes_on h r.letters n.number))
+
+pub between_right_fails : (names : Names) (ts us vs ws xs : List Placed) (col : ℕ) (l : ℤ) (f : TermFault) → ReadsOpened names ts col us → Passes (sign comma) us vs → ReadsNumber names vs l ws → Passes (sign comma) ws xs → FailsEnd names l xs f → FailsBase names between_kind ts f
+between_right_fails names ts us vs ws xs col l f r c n d m h =
+    goes_fails names _ _ ts xs f (range_goes names ts us vs ws xs col l r c n d h) (m h r.letters n.number n.value_is)
+
+pub between_end_fails : (names : Names) (ts us vs ws xs ys : List Placed) (col : ℕ) (l r : ℤ) (f : TermFault) → ReadsOpened names ts col us → Passes (sign comma) us vs → ReadsNumber names vs l ws → Passes (sign comma) ws xs → ReadsEnd names l xs r ys → IsOther (sign right) ys f → FailsBase names between_kind ts f
+between_end_fails names ts us vs ws xs ys col l r f o c n d m e h =
+    goes_fails names _ _ ts ys f (goes_then names _ _ _ ts xs ys (range_goes names ts us vs ws xs col l o c n d h) (m.goes h o.letters n.number n.value_is))
+    (other_fails names (sign right) ys f _ e (range_closes h o.letters n.number m.number))
 
 pub pos_fails : (names : Names) (ts us : List Placed) (col : ℕ) (f : TermFault) → ReadsOpened names ts col us → IsOther (sign comma) us f → FailsBase names pos_kind ts f
 pos_fails names ts us col f r o h = goes_fails names _ _ ts us f (r.goes h pos_kind) (other_fails names (sign comma) us f _ o (pos_goes_on h r.letters))

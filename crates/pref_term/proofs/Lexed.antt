@@ -1,5 +1,5 @@
 -- The text of leaves has their tokens again.
-use Rattle.std.proofs.Common.{◌≡◌, ◌≤◌, ◌+◌, ℕ, zero, suc, List, [], ◌∷◌, ◌++◌, Bool, true, false, cond, length, take, drop, refl, sym, ap, subst, ◌∙◌, append_assoc, append-nil, arith}
+use Rattle.std.proofs.Common.{◌≡◌, ◌≤◌, ◌+◌, ℕ, zero, suc, List, [], ◌∷◌, ◌++◌, Bool, true, false, cond, length, take, drop, refl, sym, ap, subst, ◌∙◌, append_assoc, append-nil, arith, Option, Some, None}
 use Rattle.std.specs.Prelude.{codes}
 use Rattle.std.specs.Char.{is_ascii_alphabetic, is_ascii_digit}
 use Rattle.std.specs.List.{prefix_len, AllByRecursion}
@@ -9,7 +9,7 @@ use Rattle.std.proofs.lemmas.Bool.Decides.{nat_tests}
 use Rattle.pref_table.specs.Names.{is_name_byte}
 use Rattle.pref_table.specs.Number.{is_blank}
 use Rattle.pref_term.specs.Token.{Sign, left, right, comma, star, ampersand, minus, Token, word, digits, sign, sign_or_other, more_bytes, token_from, tokens_from}
-use Rattle.pref_term.specs.Grammar.{Keyword, best_word, low_word, high_word, around_word, pos_word, reverse_word, top_level_word, at_least_word, by_word, letters_of, NumberText, BaseText, low_text, high_text, around_text, pos_text, PriorText, one_product, then_product, ProductText, one_factor, then_factor, UnaryText, negated, grouped, reversed, based, HeadText, best_head, top_level_head, at_least_head, rated, Leaf, name, mark, opens, column_name, number_digits, count_digits, cased, last, IsWritten, IsText, signed_leaves, number_leaves, others_leaves, base_leaves, prior_leaves, product_leaves, unary_leaves, head_leaves, more_columns, group_leaves, ask_leaves, token_of}
+use Rattle.pref_term.specs.Grammar.{Keyword, best_word, low_word, high_word, around_word, pos_word, reverse_word, top_level_word, at_least_word, by_word, letters_of, NumberText, BaseText, low_text, high_text, around_text, pos_text, PriorText, one_product, then_product, ProductText, one_factor, then_factor, UnaryText, negated, grouped, reversed, based, HeadText, best_head, top_level_head, at_least_head, rated, Leaf, name, mark, opens, column_name, number_digits, count_digits, cased, last, IsWritten, IsText, signed_leaves, number_leaves, others_leaves, base_leaves, prior_leaves, product_leaves, unary_leaves, head_leaves, more_columns, group_leaves, ask_leaves, token_of, between_word, between_text, end_leaves}
 use Rattle.pref_term.specs.Spells.{tokens_in, tokens_on}
 use Rattle.pref_term.proofs.ShownNames.{IsWordText}
 use Rattle.pref_term.proofs.TokenLemmas.{told_passed}
@@ -103,7 +103,7 @@ sign_lexed ampersand rest = ap (λ ts. sign ampersand ∷ ts) (place_free 0 3 0 
 
 abbrev pub IsSpelled : Leaf → Type 0
 IsSpelled (column_name letters) = IsWordText letters
-IsSpelled (number_digits negative ds) = IsDigitsText ds
+IsSpelled (number_digits least negative ds) = IsDigitsText ds
 IsSpelled (count_digits ds) = IsDigitsText ds
 IsSpelled (cased k letters) = ⊥
 IsSpelled last = ⊥
@@ -117,7 +117,7 @@ Follows (name at_least_word) rest = Unit {0}
 Follows (name by_word) rest = Unit {0}
 Follows (name k) rest = Ends is_name_byte rest
 Follows (column_name letters) rest = Ends is_name_byte rest
-Follows (number_digits negative ds) rest = Ends is_ascii_digit rest
+Follows (number_digits least negative ds) rest = Ends is_ascii_digit rest
 Follows _ rest = Unit {0}
 
 abbrev pub Apart : List Leaf → List ℕ → Type 0
@@ -129,6 +129,7 @@ keyword_lexed best_word rest h = word_lexed 98 (101 ∷ 115 ∷ 116 ∷ []) (32 
 keyword_lexed low_word rest h = word_lexed 108 (111 ∷ 119 ∷ []) rest (refl, (refl, (refl, tt))) h
 keyword_lexed high_word rest h = word_lexed 104 (105 ∷ 103 ∷ 104 ∷ []) rest (refl, (refl, (refl, (refl, tt)))) h
 keyword_lexed around_word rest h = word_lexed 97 (114 ∷ 111 ∷ 117 ∷ 110 ∷ 100 ∷ []) rest (refl, (refl, (refl, (refl, (refl, (refl, tt)))))) h
+keyword_lexed between_word rest h = word_lexed 98 (101 ∷ 116 ∷ 119 ∷ 101 ∷ 101 ∷ 110 ∷ []) rest (refl, (refl, (refl, (refl, (refl, (refl, (refl, tt))))))) h
 keyword_lexed pos_word rest h = word_lexed 112 (111 ∷ 115 ∷ []) rest (refl, (refl, (refl, tt))) h
 keyword_lexed reverse_word rest h = word_lexed 114 (101 ∷ 118 ∷ 101 ∷ 114 ∷ 115 ∷ 101 ∷ []) rest (refl, (refl, (refl, (refl, (refl, (refl, (refl, tt))))))) h
 keyword_lexed top_level_word rest h = word_lexed 116 (111 ∷ 112 ∷ 95 ∷ 108 ∷ 101 ∷ 118 ∷ 101 ∷ 108 ∷ []) (32 ∷ rest) (refl, (refl, (refl, (refl, (refl, (refl, (refl, (refl, (refl, tt))))))))) refl ∙ ap (λ ts. word (codes "top_level") ∷ ts) (place_free 0 1 0 rest)
@@ -143,8 +144,8 @@ leaf_lexed (mark s) rest h f = sign_lexed s rest
 leaf_lexed (opens depth s) rest h f = sign_lexed s rest
 leaf_lexed (column_name []) rest h f = absurd h
 leaf_lexed (column_name (b ∷ bs)) rest h f = word_lexed b bs rest h f
-leaf_lexed (number_digits negative []) rest h f = absurd h
-leaf_lexed (number_digits negative (b ∷ bs)) rest h f = digits_lexed b bs rest h f
+leaf_lexed (number_digits least negative []) rest h f = absurd h
+leaf_lexed (number_digits least negative (b ∷ bs)) rest h f = digits_lexed b bs rest h f
 leaf_lexed (count_digits []) rest h f = absurd h
 leaf_lexed (count_digits (b ∷ bs)) rest h f =
     ap lexed (append_assoc (b ∷ bs) (codes " ") rest)
@@ -174,6 +175,7 @@ abbrev pub FineBase : BaseText → Type 0
 FineBase (low_text column) = IsWordText column
 FineBase (high_text column) = IsWordText column
 FineBase (around_text column centre) = IsWordText column × IsDigitsText centre.digits
+FineBase (between_text column l r) = IsWordText column × IsDigitsText l.digits × IsDigitsText r.digits
 FineBase (pos_text column first others) = IsWordText column × FineNumbers (first ∷ others)
 
 abbrev mutual
@@ -191,9 +193,9 @@ abbrev mutual
   FineUnary (reversed r) = FinePrior r
   FineUnary (based b) = FineBase b
 
-apart_number : (negative : Bool) (ds rest : List ℕ) → IsDigitsText ds → Ends is_ascii_digit rest → Apart (signed_leaves negative ds) rest
-apart_number true ds rest h e = (tt, tt, (h, e, tt))
-apart_number false ds rest h e = (h, e, tt)
+apart_number : (least : Option NumberText) (negative : Bool) (ds rest : List ℕ) → IsDigitsText ds → Ends is_ascii_digit rest → Apart (signed_leaves least negative ds) rest
+apart_number least true ds rest h e = (tt, tt, (h, e, tt))
+apart_number least false ds rest h e = (h, e, tt)
 
 others_end : (ns : List NumberText) (rest : List ℕ) → Ends is_ascii_digit rest → Ends is_ascii_digit (leaves_text (others_leaves ns) ++ rest)
 others_end [] rest e = e
@@ -202,13 +204,32 @@ others_end (n ∷ ns) rest e = refl
 apart_others : (ns : List NumberText) (rest : List ℕ) → FineNumbers ns → Ends is_ascii_digit rest → Apart (others_leaves ns) rest
 apart_others [] rest h e = tt
 apart_others (n ∷ ns) rest h e =
-    (tt, tt, apart_both (number_leaves n) (others_leaves ns) rest (apart_number n.negative n.digits (leaves_text (others_leaves ns) ++ rest) h.0 (others_end ns rest e)) (apart_others ns rest h.1 e))
+    (tt, tt, apart_both (number_leaves n) (others_leaves ns) rest (apart_number None n.negative n.digits (leaves_text (others_leaves ns) ++ rest) h.0 (others_end ns rest e)) (apart_others ns rest h.1 e))
 
 apart_base : (b : BaseText) (rest : List ℕ) → FineBase b → Apart (base_leaves b) rest
 apart_base (low_text column) rest h = (tt, refl, (tt, tt, (h, refl, (tt, tt, tt))))
 apart_base (high_text column) rest h = (tt, refl, (tt, tt, (h, refl, (tt, tt, tt))))
 apart_base (around_text column centre) rest h =
-    (tt, refl, (tt, tt, (h.0, refl, (tt, tt, apart_both (number_leaves centre) (mark right ∷ []) rest (apart_number centre.negative centre.digits (codes ")" ++ rest) h.1 refl) (tt, tt, tt)))))
+    (tt, refl, (tt, tt, (h.0, refl, (tt, tt, apart_both (number_leaves centre) (mark right ∷ []) rest (apart_number None centre.negative centre.digits (codes ")" ++ rest) h.1 refl) (tt, tt, tt)))))
+apart_base (between_text column l r) rest h = (
+  tt,
+  refl,
+  (
+    tt,
+    tt,
+    (
+      h.0,
+      refl,
+      (
+        tt,
+        tt,
+        apart_both (number_leaves l) (mark comma ∷ end_leaves l r ++ mark right ∷ []) rest
+            (apart_number None l.negative l.digits (leaves_text (mark comma ∷ end_leaves l r ++ mark right ∷ []) ++ rest) h.1 refl)
+            (tt, tt, apart_both (end_leaves l r) (mark right ∷ []) rest (apart_number (Some l) r.negative r.digits (codes ")" ++ rest) h.2 refl) (tt, tt, tt)),
+      ),
+    ),
+  ),
+)
 apart_base (pos_text column first others) rest h = (
   tt,
   refl,
@@ -222,7 +243,7 @@ apart_base (pos_text column first others) rest h = (
         tt,
         tt,
         apart_both (number_leaves first) (others_leaves others ++ mark right ∷ []) rest
-            (apart_number first.negative first.digits (leaves_text (others_leaves others ++ mark right ∷ []) ++ rest) h.1.0 (numbers_end others rest))
+            (apart_number None first.negative first.digits (leaves_text (others_leaves others ++ mark right ∷ []) ++ rest) h.1.0 (numbers_end others rest))
             (apart_both (others_leaves others) (mark right ∷ []) rest (apart_others others (codes ")" ++ rest) h.1.1 refl) (tt, tt, tt)),
       ),
     ),

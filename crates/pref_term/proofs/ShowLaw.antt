@@ -1,5 +1,5 @@
 -- What is shown spells what was shown.
-use Rattle.std.proofs.Common.{◌≡◌, ◌<◌, ◌≤◌, ◌^◌, ◌+◌, ℕ, ℤ, pos, negsuc, suc, List, [], ◌∷◌, ◌++◌, map, true, cond, Some, None, Ok, length, refl, sym, ap, ◌∙◌, append_assoc, arith}
+use Rattle.std.proofs.Common.{◌≡◌, ◌<◌, ◌≤◌, ◌^◌, ◌+◌, ℕ, ℤ, pos, negsuc, suc, List, [], ◌∷◌, ◌++◌, map, true, cond, Some, None, Ok, length, refl, sym, ap, ◌∙◌, append_assoc, arith, int_lt, false}
 use Rattle.std.specs.Prelude.{FitsSigned, decimal, is_none}
 use Rattle.std.specs.List.{AllByRecursion}
 use Rattle.std.specs.Int.{w64}
@@ -8,8 +8,8 @@ use Rattle.std.specs.Str.{all_ascii_digits}
 use Rattle.std.proofs.lemmas.Fmt.{digits_value-decimal, digits_decimal, decimal_nonempty}
 use Rattle.std.proofs.lemmas.List.Elements.{recursion_from_All}
 use Rattle.std.proofs.lemmas.Bool.Decides.{nat_tests}
-use Rattle.pref_term.specs.Token.{left, right, star, ampersand, minus}
-use Rattle.pref_term.specs.Grammar.{PriorText, one_product, then_product, then_factor, grouped, AskText, rated, mark, column_name, count_digits, last, head_leaves, more_columns, group_leaves, number_leaves, others_leaves, base_leaves, prior_leaves, product_leaves, unary_leaves}
+use Rattle.pref_term.specs.Token.{left, right, star, ampersand, minus, comma}
+use Rattle.pref_term.specs.Grammar.{PriorText, one_product, then_product, then_factor, grouped, AskText, rated, mark, column_name, count_digits, last, head_leaves, more_columns, group_leaves, number_leaves, others_leaves, base_leaves, prior_leaves, product_leaves, unary_leaves, end_leaves}
 use Rattle.pref_table.specs.Names.{schema_of}
 use Rattle.pref_table.specs.Number.{fits_cell}
 use Rattle.pref_term.specs.OrderLaws.{and_parts}
@@ -17,8 +17,8 @@ use Rattle.pref_term.specs.Columns.{column, ReadsBelow}
 use Rattle.pref_term.specs.Writable.{IsWritableBase, IsWritable}
 use Rattle.pref_term.specs.Question.{Question, FitsWidth, IsCount, is_count, cut_of, IsAsk}
 use Rattle.pref_term.specs.Asked.{asked}
-use Rattle.pref_term.specs.Spells.{Names, Spells, IsGood, own_fault, number_value, mode_of, column_at, unknown_column, number_range, bad_count}
-use Rattle.pref_term.specs.Preference.{Base, low, high, around, one_of, Preference, scored, pareto, prior, reverse}
+use Rattle.pref_term.specs.Spells.{Names, Spells, IsGood, own_fault, number_value, mode_of, column_at, unknown_column, number_range, bad_count, below, empty_range}
+use Rattle.pref_term.specs.Preference.{Base, low, high, around, one_of, Preference, scored, pareto, prior, reverse, between}
 use Rattle.pref_term.specs.Shown.{is_prior, is_composed, held_nests, nests, name_at, shown_term, shown_mode, shown_group, shown}
 use Rattle.pref_term.specs.declared.ask.Mode.{Mode}
 use Rattle.pref_term.specs.declared.ask.Mode.TheVariants.{Best, TopLevel, AtLeast}
@@ -52,6 +52,7 @@ base_fine : (names : Names) (b : Base) → CanShowBase names b → FineBase (bas
 base_fine names (low col) h = h.0
 base_fine names (high col) h = h.0
 base_fine names (around col centre) h = (h.0.0, number_fine centre h.1)
+base_fine names (between col l r) h = (h.0.0, number_fine l h.1, number_fine r h.2)
 base_fine names (one_of col []) h = absurd h
 base_fine names (one_of col (v ∷ vs)) h = (h.0.0, (number_fine v h.1.0, numbers_fine vs h.1.1))
 
@@ -93,6 +94,16 @@ range_fine v h = ap fits_cell (number_same v h) ∙ fits v h
     fits (pos n) h = grind (arith, nat_tests, h.sfits)
     fits (negsuc n) h = grind (arith, nat_tests, h.sfits)
 
+end_good : (names : Names) (l v : ℤ) → FitsSigned w64 l → FitsSigned w64 v → int_lt v l ≡ false → AllByRecursion (IsGood names) (end_leaves (number_text l) (number_text v))
+end_good names l v hl hv ordered = go v hv (below_none v hv ordered)
+  where
+    below_none : (v : ℤ) → FitsSigned w64 v → int_lt v l ≡ false → below (Some (number_text l)) (number_value (number_text v)) ≡ None
+    below_none v hv e = ap (λ b. cond b (Some empty_range) None) (ap (λ x. int_lt x (number_value (number_text l))) (number_same v hv) ∙ (ap (λ x. int_lt v x) (number_same l hl) ∙ e))
+
+    go : (v : ℤ) → FitsSigned w64 v → below (Some (number_text l)) (number_value (number_text v)) ≡ None → AllByRecursion (IsGood names) (end_leaves (number_text l) (number_text v))
+    go (pos n) h e = (ap (λ b. cond b (below (Some (number_text l)) (number_value (number_text (pos n)))) (Some number_range)) (range_fine (pos n) h) ∙ e, tt)
+    go (negsuc n) h e = (refl, (ap (λ b. cond b (below (Some (number_text l)) (number_value (number_text (negsuc n)))) (Some number_range)) (range_fine (negsuc n) h) ∙ e, tt))
+
 number_good : (names : Names) (v : ℤ) → FitsSigned w64 v → AllByRecursion (IsGood names) (number_leaves (number_text v))
 number_good names (pos n) h = (ap (λ b. cond b None (Some number_range)) (range_fine (pos n) h), tt)
 number_good names (negsuc n) h = (refl, (ap (λ b. cond b None (Some number_range)) (range_fine (negsuc n) h), tt))
@@ -106,6 +117,20 @@ base_good names (low col) h = (refl, (refl, (column_fine names col h, (refl, tt)
 base_good names (high col) h = (refl, (refl, (column_fine names col h, (refl, tt))))
 base_good names (around col centre) h =
     (refl, (refl, (column_fine names col h.0, (refl, good_both names (number_leaves (number_text centre)) (mark right ∷ []) (number_good names centre h.1) (refl, tt)))))
+base_good names (between col l r) h = (
+  refl,
+  (
+    refl,
+    (
+      column_fine names col h.0,
+      (
+        refl,
+        good_both names (number_leaves (number_text l)) (mark comma ∷ end_leaves (number_text l) (number_text r) ++ mark right ∷ []) (number_good names l h.1)
+            (refl, good_both names (end_leaves (number_text l) (number_text r)) (mark right ∷ []) (end_good names l r h.1 h.2 h.3) (refl, tt)),
+      ),
+    ),
+  ),
+)
 base_good names (one_of col []) h = absurd h
 base_good names (one_of col (v ∷ vs)) h = (
   refl,
@@ -205,6 +230,7 @@ module _ (names : Names) (each : (col : ℕ) → col < length names → IsNamed 
   can_show_base (low col) w k = each col k
   can_show_base (high col) w k = each col k
   can_show_base (around col centre) w k = (each col k, w)
+  can_show_base (between col l r) w k = (each col k, w.0, w.1, w.2)
   can_show_base (one_of col []) w k = absurd (w.0 refl)
   can_show_base (one_of col (v ∷ vs)) w k = (each col k, recursion_from_All (FitsSigned w64) (v ∷ vs) w.1)
 

@@ -1,5 +1,5 @@
 -- What is shown is a text of the grammar with the meaning of what was shown.
-use Rattle.std.proofs.Common.{◌≡◌, ◌<◌, ◌^◌, ◌+◌, ℕ, ℤ, pos, negsuc, suc, List, [], ◌∷◌, ◌++◌, map, true, false, refl, sym, ap, ◌∙◌, append_assoc, append-nil, arith}
+use Rattle.std.proofs.Common.{◌≡◌, ◌<◌, ◌^◌, ◌+◌, ℕ, ℤ, pos, negsuc, suc, List, [], ◌∷◌, ◌++◌, map, true, false, refl, sym, ap, ◌∙◌, append_assoc, append-nil, arith, int_lt}
 use Rattle.std.specs.Prelude.{codes, unwrap_or, FitsSigned, neg_ℤ, decimal}
 use Rattle.std.specs.Fmt.{signed_decimal}
 use Rattle.std.specs.Int.{w64}
@@ -9,9 +9,9 @@ use Rattle.std.specs.Str.Parse.{digits_value}
 use Rattle.std.proofs.lemmas.Str.Parse.{IsNumeralModel, numerals_by_value, tells_all_ascii_digits}
 use Rattle.std.proofs.lemmas.Fmt.{digits_value-decimal}
 use Rattle.pref_term.specs.Token.{Sign, left, right, comma, star, ampersand, minus}
-use Rattle.pref_term.specs.Grammar.{Keyword, best_word, low_word, high_word, around_word, pos_word, reverse_word, top_level_word, at_least_word, by_word, NumberText, BaseText, low_text, high_text, around_text, pos_text, PriorText, one_product, then_product, ProductText, one_factor, then_factor, UnaryText, negated, grouped, based, HeadText, best_head, top_level_head, at_least_head, Leaf, name, mark, opens, column_name, number_digits, count_digits, cased, last, number_leaves, others_leaves, base_leaves, prior_leaves, product_leaves, unary_leaves, head_leaves, more_columns, group_leaves}
+use Rattle.pref_term.specs.Grammar.{Keyword, best_word, low_word, high_word, around_word, pos_word, reverse_word, top_level_word, at_least_word, by_word, NumberText, BaseText, low_text, high_text, around_text, pos_text, PriorText, one_product, then_product, ProductText, one_factor, then_factor, UnaryText, negated, grouped, based, HeadText, best_head, top_level_head, at_least_head, Leaf, name, mark, opens, column_name, number_digits, count_digits, cased, last, number_leaves, others_leaves, base_leaves, prior_leaves, product_leaves, unary_leaves, head_leaves, more_columns, group_leaves, between_word, between_text, end_leaves}
 use Rattle.pref_term.specs.Spells.{Names, number_value, column_at, base_meaning, prior_meaning, product_meaning, unary_meaning}
-use Rattle.pref_term.specs.Preference.{Base, low, high, around, one_of, Preference, scored, pareto, prior, reverse}
+use Rattle.pref_term.specs.Preference.{Base, low, high, around, one_of, Preference, scored, pareto, prior, reverse, between}
 use Rattle.pref_term.specs.Shown.{name_at, shown_values, shown_base, is_prior, is_composed, held, shown_term, shown_mode, more_names, shown_group}
 use Rattle.pref_term.specs.declared.ask.Mode.{Mode}
 use Rattle.pref_term.specs.declared.ask.Mode.TheVariants.{Best, TopLevel, AtLeast}
@@ -27,6 +27,7 @@ abbrev pub CanShowBase : Names → Base → Type 0
 CanShowBase names (low col) = IsNamed names col
 CanShowBase names (high col) = IsNamed names col
 CanShowBase names (around col centre) = IsNamed names col × FitsSigned w64 centre
+CanShowBase names (between col l r) = IsNamed names col × FitsSigned w64 l × FitsSigned w64 r × (int_lt r l ≡ false)
 CanShowBase names (one_of col []) = ⊥
 CanShowBase names (one_of col (v ∷ vs)) = IsNamed names col × AreInRange (v ∷ vs)
 
@@ -52,6 +53,7 @@ word_text best_word = codes "best "
 word_text low_word = codes "low"
 word_text high_word = codes "high"
 word_text around_word = codes "around"
+word_text between_word = codes "between"
 word_text pos_word = codes "pos"
 word_text reverse_word = codes "reverse"
 word_text top_level_word = codes "top_level "
@@ -63,7 +65,7 @@ leaf_text (name k) = word_text k
 leaf_text (mark s) = sign_text s
 leaf_text (opens depth s) = sign_text s
 leaf_text (column_name letters) = letters
-leaf_text (number_digits negative ds) = ds
+leaf_text (number_digits least negative ds) = ds
 leaf_text (count_digits ds) = ds ++ codes " "
 leaf_text (cased k letters) = letters
 leaf_text last = []
@@ -86,6 +88,7 @@ abbrev pub base_text : Names → Base → BaseText
 base_text names (low col) = low_text (name_at names col)
 base_text names (high col) = high_text (name_at names col)
 base_text names (around col centre) = around_text (name_at names col) (number_text centre)
+base_text names (between col l r) = between_text (name_at names col) (number_text l) (number_text r)
 base_text names (one_of col []) = low_text (name_at names col)
 base_text names (one_of col (v ∷ vs)) = pos_text (name_at names col) (number_text v) (map number_text vs)
 
@@ -156,6 +159,9 @@ base_same : (names : Names) (b : Base) → CanShowBase names b → base_meaning 
 base_same names (low col) h = ap low (column_same names col h)
 base_same names (high col) h = ap high (column_same names col h)
 base_same names (around col centre) h = ap (λ c. around c (number_value (number_text centre))) (column_same names col h.0) ∙ ap (around col) (number_same centre h.1)
+base_same names (between col l r) h =
+    ap (λ c. between c (number_value (number_text l)) (number_value (number_text r))) (column_same names col h.0)
+    ∙ (ap (λ v. between col v (number_value (number_text r))) (number_same l h.1) ∙ ap (between col l) (number_same r h.2))
 base_same names (one_of col []) h = absurd h
 base_same names (one_of col (v ∷ vs)) h = ap (λ c. one_of c (map number_value (map number_text (v ∷ vs)))) (column_same names col h.0) ∙ ap (one_of col) (numbers_same (v ∷ vs) h.1)
 
@@ -181,6 +187,10 @@ number_shown : (v : ℤ) → leaves_text (number_leaves (number_text v)) ≡ sig
 number_shown (pos n) = append-nil (decimal n)
 number_shown (negsuc n) = simp append-nil
 
+end_shown : (l v : ℤ) → leaves_text (end_leaves (number_text l) (number_text v)) ≡ signed_decimal v
+end_shown l (pos n) = append-nil (decimal n)
+end_shown l (negsuc n) = simp append-nil
+
 values_shown : (vs : List ℤ) → leaves_text (others_leaves (map number_text vs)) ≡ shown_values vs
 values_shown [] = refl
 values_shown (v ∷ vs) =
@@ -194,6 +204,12 @@ base_shown names (high col) h = simp append_assoc
 base_shown names (around col centre) h =
     ap (λ xs. codes "around(" ++ (name_at names col ++ (codes ", " ++ xs)))
     (leaves_text-append (number_leaves (number_text centre)) (mark right ∷ []) ∙ ap (λ ys. ys ++ codes ")") (number_shown centre))
+    ∙ simp append_assoc
+base_shown names (between col l r) h =
+    ap (λ xs. codes "between(" ++ (name_at names col ++ (codes ", " ++ xs)))
+    (leaves_text-append (number_leaves (number_text l)) (mark comma ∷ end_leaves (number_text l) (number_text r) ++ mark right ∷ [])
+    ∙ (ap (λ ys. ys ++ leaves_text (mark comma ∷ end_leaves (number_text l) (number_text r) ++ mark right ∷ [])) (number_shown l)
+    ∙ ap (λ ys. signed_decimal l ++ (codes ", " ++ ys)) (leaves_text-append (end_leaves (number_text l) (number_text r)) (mark right ∷ []) ∙ ap (λ ys. ys ++ codes ")") (end_shown l r))))
     ∙ simp append_assoc
 base_shown names (one_of col []) h = absurd h
 base_shown names (one_of col (v ∷ vs)) h =

@@ -5,17 +5,19 @@ use Rattle.std.specs.List.{find}
 use Rattle.std.specs.Str.{bytes_eq, str_to_ascii_lowercase}
 use Rattle.std.proofs.lemmas.Slice.Eq.{bytes_eq-Decides}
 use Rattle.pref_term.specs.Token.{left, right, comma, star, ampersand, minus, Token, word, digits, sign, finish}
-use Rattle.pref_term.specs.Grammar.{Keyword, best_word, low_word, high_word, around_word, pos_word, reverse_word, top_level_word, at_least_word, by_word, CasedWord, skyline_word, of_word, min_word, max_word, diff_word, letters_of, keyword_of, cased_letters, cased_of, HeadText, minimal, maximal, different, DimText, dim_leaves, more_dims, more_columns, IsWritten, NumberText, PriorText, ProductText, UnaryText, negated, grouped, reversed, based, Leaf, mark, column_name, cased, number_leaves, others_leaves, base_leaves, prior_leaves, product_leaves, unary_leaves, token_of}
-use Rattle.pref_term.specs.Reading.{low_kind, high_kind, around_kind, pos_kind, NumberHole, centre_of, first_of, next_of, BasePart, named, opened, columned, number_due, number_signed, centred, listed, hole_leaves, part_leaves, BaseStep, part, whole_base, filled, base_next, PriorHole, whole, in_group, in_reverse, ProductHole, first_product, next_product, UnaryHole, first_factor, next_factor, in_minus, prior_depth, product_depth, unary_depth, before_prior, before_product, before_unary, State, start, operand, reverse_named, reading, after, top_level_named, at_least_named, group_due, group_listed, skyline_named, dim_due, dim_named, dims_listed, before_dim, read_of, completed, outer, closed, begun, of_named, listed_column, listed_dim, directed, grouped_by, operand_word, carried, parted, finished, next}
+use Rattle.pref_term.specs.Grammar.{Keyword, best_word, low_word, high_word, around_word, pos_word, reverse_word, top_level_word, at_least_word, by_word, CasedWord, skyline_word, of_word, min_word, max_word, diff_word, letters_of, keyword_of, cased_letters, cased_of, HeadText, minimal, maximal, different, DimText, dim_leaves, more_dims, more_columns, IsWritten, NumberText, PriorText, ProductText, UnaryText, negated, grouped, reversed, based, Leaf, mark, column_name, cased, number_leaves, others_leaves, base_leaves, prior_leaves, product_leaves, unary_leaves, token_of, between_word, signed_leaves}
+use Rattle.pref_term.specs.Reading.{low_kind, high_kind, around_kind, pos_kind, NumberHole, centre_of, first_of, next_of, BasePart, named, opened, columned, number_due, number_signed, centred, listed, hole_leaves, part_leaves, BaseStep, part, whole_base, filled, base_next, PriorHole, whole, in_group, in_reverse, ProductHole, first_product, next_product, UnaryHole, first_factor, next_factor, in_minus, prior_depth, product_depth, unary_depth, before_prior, before_product, before_unary, State, start, operand, reverse_named, reading, after, top_level_named, at_least_named, group_due, group_listed, skyline_named, dim_due, dim_named, dims_listed, before_dim, read_of, completed, outer, closed, begun, of_named, listed_column, listed_dim, directed, grouped_by, operand_word, carried, parted, finished, next, between_kind, start_of, end_of, least_of, ranged, range_ended}
 
 -- one more number at the end of a list of them
 pub others_more : (ns : List NumberText) (n : NumberText) → others_leaves (ns ++ n ∷ []) ≡ others_leaves ns ++ mark comma ∷ number_leaves n
 others_more [] n = simp append-nil
 others_more (m ∷ ns) n = rw (others_more ns n) (simp append_assoc)
 
-pub hole_filled : (h : NumberHole) (n : NumberText) → part_leaves (filled h n) ≡ hole_leaves h ++ number_leaves n
+pub hole_filled : (h : NumberHole) (n : NumberText) → part_leaves (filled h n) ≡ hole_leaves h ++ signed_leaves (least_of h) n.negative n.digits
 hole_filled (centre_of column) n = refl
 hole_filled (first_of column) n = simp append-nil
+hole_filled (start_of column) n = refl
+hole_filled (end_of column l) n = simp append_assoc
 hole_filled (next_of column first others) n = rw (others_more others n) (simp append_assoc)
 
 abbrev pub step_leaves : BaseStep → List Leaf
@@ -32,11 +34,14 @@ base_grows (opened k) (word letters) = (refl, refl, tt)
 base_grows (columned low_kind column) (sign right) = (refl, refl, tt)
 base_grows (columned high_kind column) (sign right) = (refl, refl, tt)
 base_grows (columned around_kind column) (sign comma) = (refl, refl, tt)
+base_grows (columned between_kind column) (sign comma) = (refl, refl, tt)
 base_grows (columned pos_kind column) (sign comma) = (refl, refl, tt)
 base_grows (number_due n) (sign minus) = (refl, refl, tt)
 base_grows (number_due n) (digits ds) = (refl, hole_filled n (record { negative = false; digits = ds }), tt)
 base_grows (number_signed n) (digits ds) = (refl, hole_filled n (record { negative = true; digits = ds }) ∙ simp append_assoc, tt)
 base_grows (centred column centre) (sign right) = (refl, refl, tt)
+base_grows (ranged column l) (sign comma) = (refl, refl, tt)
+base_grows (range_ended column l r) (sign right) = (refl, simp append_assoc, tt)
 base_grows (listed column first others) (sign right) = (refl, simp append_assoc, tt)
 base_grows (listed column first others) (sign comma) = (refl, simp append_assoc, tt)
 base_grows _ _ = tt
@@ -62,7 +67,7 @@ find_passes {A} test (x ∷ xs) = go (test x) refl (find_passes test xs)
     go false e h = h
 
 pub keyword_letters : (letters : List ℕ) → IfSome (keyword_of letters) (λ k. letters_of k ≡ letters)
-keyword_letters letters = go (keyword_of letters) (find_passes (λ k. bytes_eq (letters_of k) letters) (best_word ∷ low_word ∷ high_word ∷ around_word ∷ pos_word ∷ reverse_word ∷ top_level_word ∷ at_least_word ∷ by_word ∷ []))
+keyword_letters letters = go (keyword_of letters) (find_passes (λ k. bytes_eq (letters_of k) letters) (best_word ∷ low_word ∷ high_word ∷ around_word ∷ between_word ∷ pos_word ∷ reverse_word ∷ top_level_word ∷ at_least_word ∷ by_word ∷ []))
   where
     go : (o : Option Keyword) → IfSome o (λ k. bytes_eq (letters_of k) letters ≡ true) → IfSome o (λ k. letters_of k ≡ letters)
     go None h = tt
@@ -118,6 +123,7 @@ operand_word_grows : (h : UnaryHole) (o : Option Keyword) (letters : List ℕ) �
 operand_word_grows h (Some low_word) letters e = (ap word e, refl, tt)
 operand_word_grows h (Some high_word) letters e = (ap word e, refl, tt)
 operand_word_grows h (Some around_word) letters e = (ap word e, refl, tt)
+operand_word_grows h (Some between_word) letters e = (ap word e, refl, tt)
 operand_word_grows h (Some pos_word) letters e = (ap word e, refl, tt)
 operand_word_grows h (Some reverse_word) letters e = (ap word e, refl, tt)
 operand_word_grows h _ letters e = tt

@@ -1,8 +1,8 @@
 -- Worked examples, by computation: rows that a term ranks, as a reader would rank them by hand.
 use Rattle.std.proofs.Common.{◌≡◌, true, false, pos, [], ◌∷◌, refl}
 use Rattle.std.specs.Prelude.{negsuc, ◌^◌, ◌-◌}
-use Rattle.pref_term.specs.Better.{better, same}
-use Rattle.pref_term.specs.Preference.{Preference, low, high, around, one_of, scored, pareto, prior, reverse}
+use Rattle.pref_term.specs.Better.{better, same, score}
+use Rattle.pref_term.specs.Preference.{Base, Preference, low, high, around, between, one_of, scored, pareto, prior, reverse}
 
 abbrev x_low : Preference
 x_low = scored (low 0)
@@ -29,6 +29,23 @@ from_the_greatest = scored (around 0 (pos (2 ^ 63 - 1)))
 
 pub a_distance_does_not_wrap : better from_the_greatest (negsuc (2 ^ 63 - 2) ∷ []) (negsuc (2 ^ 63 - 1) ∷ []) ≡ true
 a_distance_does_not_wrap = refl
+
+-- from 5 to 9: below it, at either end, and above it
+abbrev from_five_to_nine : Base
+from_five_to_nine = between 0 (pos 5) (pos 9)
+
+pub below_a_range : score from_five_to_nine (pos 4 ∷ []) ≡ pos 1
+below_a_range = refl
+
+pub at_the_ends_of_a_range : same (scored from_five_to_nine) (pos 5 ∷ []) (pos 9 ∷ []) ≡ true
+at_the_ends_of_a_range = refl
+
+pub above_a_range : score from_five_to_nine (pos 12 ∷ []) ≡ pos 3
+above_a_range = refl
+
+-- the range of the greatest number alone, from the least: 2^64 - 1
+pub farthest_from_a_range : score (between 0 (pos (2 ^ 63 - 1)) (pos (2 ^ 63 - 1))) (negsuc (2 ^ 63 - 1) ∷ []) ≡ pos (2 ^ 64 - 1)
+farthest_from_a_range = refl
 
 -- the product binds tighter: x first, then y and z at once
 abbrev x_then_both : Preference

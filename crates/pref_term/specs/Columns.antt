@@ -1,12 +1,13 @@
 -- Which columns a preference reads. (this project)
 use Rattle.std.specs.Prelude.{ℕ, ◌<◌}
-use Rattle.pref_term.specs.Preference.{Base, low, high, around, one_of, Preference, scored, pareto, prior, reverse}
+use Rattle.pref_term.specs.Preference.{Base, low, high, around, one_of, Preference, scored, pareto, prior, reverse, between}
 
 -- the column of a base term
 abbrev pub column : Base → ℕ
 column (low col) = col
 column (high col) = col
 column (around col centre) = col
+column (between col left right) = col
 column (one_of col set) = col
 
 -- each column of the preference is below this number

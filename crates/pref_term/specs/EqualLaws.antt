@@ -12,7 +12,7 @@ use Rattle.std.specs.Cmp.Rules.{signed_items}
 use Rattle.std.specs.Ordering.{on}
 use Rattle.pref_term.specs.Equal.{base_eq, preference_eq, mode_eq, question_eq}
 use Rattle.pref_term.specs.OrderLaws.{and_parts}
-use Rattle.pref_term.specs.Preference.{Base, low, high, around, one_of, Preference, scored, pareto, prior, reverse, preference_of}
+use Rattle.pref_term.specs.Preference.{Base, low, high, around, one_of, Preference, scored, pareto, prior, reverse, preference_of, between}
 use Rattle.pref_term.specs.Question.{Question}
 use Rattle.pref_term.specs.declared.ask.Mode.{Mode}
 use Rattle.pref_term.specs.declared.ask.Mode.TheVariants.{Best, TopLevel, AtLeast}
@@ -23,6 +23,18 @@ base_sound (low a) (low b) h = ap low ((unsigned_Decides a b).0 h)
 base_sound (high a) (high b) h = ap high ((unsigned_Decides a b).0 h)
 base_sound (around a c) (around b d) h = let k = and_parts _ _ h in λ i. around ((unsigned_Decides a b).0 k.0 i) ((signed_Decides c d).0 k.1 i)
 base_sound (one_of a s) (one_of b t) h = let k = and_parts _ _ h in λ i. one_of ((unsigned_Decides a b).0 k.0 i) ((signed_items s t).0 k.1 i)
+base_sound (between a c d) (between b e f) h =
+    let k = and_parts _ _ h in
+    let l = and_parts _ _ k.0 in
+    λ i. between ((unsigned_Decides a b).0 l.0 i) ((signed_Decides c e).0 l.1 i) ((signed_Decides d f).0 k.1 i)
+base_sound (low a) (between b e f) h = cc
+base_sound (high a) (between b e f) h = cc
+base_sound (around a c) (between b e f) h = cc
+base_sound (one_of a s) (between b e f) h = cc
+base_sound (between a c d) (low b) h = cc
+base_sound (between a c d) (high b) h = cc
+base_sound (between a c d) (around b e) h = cc
+base_sound (between a c d) (one_of b t) h = cc
 base_sound (low a) (high b) h = cc
 base_sound (low a) (around b d) h = cc
 base_sound (low a) (one_of b t) h = cc
@@ -41,6 +53,7 @@ base_same : (b : Base) → base_eq b b ≡ true
 base_same (low a) = (unsigned_Decides a a).1 refl
 base_same (high a) = (unsigned_Decides a a).1 refl
 base_same (around a c) = both_true ((unsigned_Decides a a).1 refl) ((signed_Decides c c).1 refl)
+base_same (between a c d) = both_true (both_true ((unsigned_Decides a a).1 refl) ((signed_Decides c c).1 refl)) ((signed_Decides d d).1 refl)
 base_same (one_of a s) = both_true ((unsigned_Decides a a).1 refl) ((signed_items s s).1 refl)
 
 preference_sound : (p q : Preference) → preference_eq p q ≡ true → p ≡ q

@@ -2,10 +2,10 @@
 -- Pareto products of base terms alone, as lists of their factors. (this project)
 use Rattle.std.specs.Prelude.{◌≡◌, ℤ, Bool, List, [], ◌∷◌, ◌++◌, All}
 use Rattle.pref_term.specs.Columns.{ReadsBelow}
-use Rattle.pref_term.specs.Preference.{Preference, scored, low, high, around, reverse}
+use Rattle.pref_term.specs.Preference.{Preference, scored, low, high, around, reverse, between}
 use Rattle.pref_term.specs.Walk.{by_sides, in_product, walked}
 use Rattle.pref_term.specs.declared.factor.Factor.{Factor}
-use Rattle.pref_term.specs.declared.factor.Factor.TheVariants.{Low, High, Distance}
+use Rattle.pref_term.specs.declared.factor.Factor.TheVariants.{Low, High, Distance, Range}
 use Rattle.pref_term.specs.declared.factor.Sense.{Sense}
 use Rattle.pref_term.specs.declared.factor.Sense.TheVariants.{Direct, Reversed}
 use Rattle.pref_term.specs.declared.relation.Relation.{Relation}
@@ -21,6 +21,7 @@ abbrev pub preference_of_factor : Factor → Preference
 preference_of_factor (Low col) = scored (low col)
 preference_of_factor (High col) = scored (high col)
 preference_of_factor (Distance col centre sense) = in_sense sense (scored (around col centre))
+preference_of_factor (Range col left right sense) = in_sense sense (scored (between col left right))
 
 -- each factor's column is within a row
 abbrev pub AreInRow : List Factor → Type 0

@@ -5,7 +5,7 @@ use Rattle.std.specs.List.{find, AllByRecursion}
 use Rattle.std.specs.Str.{bytes_eq, str_to_ascii_lowercase}
 use Rattle.pref_term.specs.Token.{Sign, left, right, comma, star, ampersand, minus, Token, word, digits, sign, finish}
 pub use Rattle.pref_term.specs.declared.token.Keyword.{Keyword}
-pub use Rattle.pref_term.specs.declared.token.Keyword.TheVariants.{Best as best_word, Low as low_word, High as high_word, Around as around_word, Pos as pos_word, Reverse as reverse_word, TopLevel as top_level_word, AtLeast as at_least_word, By as by_word}
+pub use Rattle.pref_term.specs.declared.token.Keyword.TheVariants.{Best as best_word, Low as low_word, High as high_word, Around as around_word, Between as between_word, Pos as pos_word, Reverse as reverse_word, TopLevel as top_level_word, AtLeast as at_least_word, By as by_word}
 pub use Rattle.pref_term.specs.declared.token.CasedWord.{CasedWord}
 pub use Rattle.pref_term.specs.declared.token.CasedWord.TheVariants.{Skyline as skyline_word, Of as of_word, Min as min_word, Max as max_word, Diff as diff_word}
 pub use Rattle.pref_term.specs.declared.token.Direction.{Direction}
@@ -17,6 +17,7 @@ letters_of best_word = codes "best"
 letters_of low_word = codes "low"
 letters_of high_word = codes "high"
 letters_of around_word = codes "around"
+letters_of between_word = codes "between"
 letters_of pos_word = codes "pos"
 letters_of reverse_word = codes "reverse"
 letters_of top_level_word = codes "top_level"
@@ -43,7 +44,7 @@ cased_of letters = cased_in (str_to_ascii_lowercase letters)
 -- the word of the grammar with these letters
 abbrev pub keyword_of : List ℕ → Option Keyword
 keyword_of letters =
-    find (λ k. bytes_eq (letters_of k) letters) (best_word ∷ low_word ∷ high_word ∷ around_word ∷ pos_word ∷ reverse_word ∷ top_level_word ∷ at_least_word ∷ by_word ∷ [])
+    find (λ k. bytes_eq (letters_of k) letters) (best_word ∷ low_word ∷ high_word ∷ around_word ∷ between_word ∷ pos_word ∷ reverse_word ∷ top_level_word ∷ at_least_word ∷ by_word ∷ [])
 
 -- number = [ "-" ] digits
 pub record NumberText : Type 0 where
@@ -55,6 +56,7 @@ pub data BaseText : Type 0 where
   low_text : (column : List ℕ) → BaseText
   high_text : (column : List ℕ) → BaseText
   around_text : (column : List ℕ) (centre : NumberText) → BaseText
+  between_text : (column : List ℕ) (lower upper : NumberText) → BaseText
   pos_text : (column : List ℕ) (first : NumberText) (others : List NumberText) → BaseText
 
 mutual
@@ -99,7 +101,8 @@ pub data Leaf : Type 0 where
   -- it opens a nesting, where so many are open
   opens : (depth : ℕ) (s : Sign) → Leaf
   column_name : (letters : List ℕ) → Leaf
-  number_digits : (negative : Bool) (digits : List ℕ) → Leaf
+  -- the digits of a number, and the number that it may not be less than, where there is one
+  number_digits : (least : Option NumberText) (negative : Bool) (digits : List ℕ) → Leaf
   count_digits : (digits : List ℕ) → Leaf
   -- a word that may stand in any case, as it is written
   cased : (k : CasedWord) (letters : List ℕ) → Leaf
@@ -111,7 +114,7 @@ token_of (name k) = word (letters_of k)
 token_of (mark s) = sign s
 token_of (opens depth s) = sign s
 token_of (column_name letters) = word letters
-token_of (number_digits negative ds) = digits ds
+token_of (number_digits least negative ds) = digits ds
 token_of (count_digits ds) = digits ds
 token_of (cased k letters) = word letters
 token_of last = finish
@@ -122,13 +125,17 @@ IsWritten (cased k letters) = cased_letters k ≡ str_to_ascii_lowercase letters
 IsWritten _ = Unit {0}
 
 -- digits, after a minus where the number is negative
-abbrev pub signed_leaves : Bool → List ℕ → List Leaf
-signed_leaves true ds = mark minus ∷ number_digits true ds ∷ []
-signed_leaves false ds = number_digits false ds ∷ []
+abbrev pub signed_leaves : Option NumberText → Bool → List ℕ → List Leaf
+signed_leaves least true ds = mark minus ∷ number_digits least true ds ∷ []
+signed_leaves least false ds = number_digits least false ds ∷ []
 
 -- the leaves of a number
 abbrev pub number_leaves : NumberText → List Leaf
-number_leaves n = signed_leaves n.negative n.digits
+number_leaves n = signed_leaves None n.negative n.digits
+
+-- the leaves of a number that may not be less than another
+abbrev pub end_leaves : NumberText → NumberText → List Leaf
+end_leaves least n = signed_leaves (Some least) n.negative n.digits
 
 -- each after a comma
 abbrev pub others_leaves : List NumberText → List Leaf
@@ -141,6 +148,8 @@ base_leaves (low_text column) = name low_word ∷ mark left ∷ column_name colu
 base_leaves (high_text column) = name high_word ∷ mark left ∷ column_name column ∷ mark right ∷ []
 base_leaves (around_text column centre) =
     name around_word ∷ mark left ∷ column_name column ∷ mark comma ∷ number_leaves centre ++ mark right ∷ []
+base_leaves (between_text column lower upper) =
+    name between_word ∷ mark left ∷ column_name column ∷ mark comma ∷ number_leaves lower ++ (mark comma ∷ end_leaves lower upper ++ mark right ∷ [])
 base_leaves (pos_text column first others) =
     name pos_word ∷ mark left ∷ column_name column ∷ mark comma ∷ number_leaves first ++ (others_leaves others ++ mark right ∷ [])
 

@@ -1,20 +1,20 @@
 -- No public contract cites this.
 -- What each part of the reader promises: where reading comes to, or the fault that it tells. (this project)
-use Rattle.std.specs.Prelude.{◌≡◌, ◌≢◌, ◌<◌, ◌+◌, ℕ, ℤ, List, [], ◌∷◌, ◌++◌, length, All, FitsSigned, IfSome, Bool, true, false, map, Ok, Err, Option, Some, None}
+use Rattle.std.specs.Prelude.{◌≡◌, ◌≢◌, ◌<◌, ◌+◌, ℕ, ℤ, List, [], ◌∷◌, ◌++◌, length, All, FitsSigned, IfSome, Bool, true, false, map, Ok, Err, Option, Some, None, int_lt}
 use Rattle.std.specs.Int.{w64}
 use Rattle.std.specs.Str.Parse.{digits_value}
 use Rattle.pref_table.specs.Columns.{column_of}
 use Rattle.pref_term.specs.Token.{star, ampersand, Token, word, digits, sign, Placed}
 use Rattle.pref_term.specs.Grammar.{based, grouped, reversed, low_text, pos_text, NumberText, BaseText, UnaryText, ProductText, PriorText, HeadText, DimText, Direction, minimal, maximal, different, direction_word, cased_of, of_word, rated, skyline, column_name, count_digits}
-use Rattle.pref_term.specs.Spells.{Names, UnlessMemory, number_value, column_at, base_meaning, unary_meaning, product_meaning, prior_meaning, product_of, orders_of, groups_of}
-use Rattle.pref_term.specs.Reading.{BaseKind, named, columned, NumberHole, first_of, next_of, number_due, filled, UnaryHole, ProductHole, PriorHole, whole, in_group, in_reverse, in_whole, first_factor, first_product, unary_depth, product_depth, prior_depth, State, operand, reverse_named, reading, after, group_due, skyline_named, dim_due, dim_named, done, completed, ranked, next, run}
+use Rattle.pref_term.specs.Spells.{Names, UnlessMemory, number_value, column_at, base_meaning, unary_meaning, product_meaning, prior_meaning, product_of, orders_of, groups_of, below, empty_range}
+use Rattle.pref_term.specs.Reading.{BaseKind, named, columned, NumberHole, first_of, next_of, number_due, filled, UnaryHole, ProductHole, PriorHole, whole, in_group, in_reverse, in_whole, first_factor, first_product, unary_depth, product_depth, prior_depth, State, operand, reverse_named, reading, after, group_due, skyline_named, dim_due, dim_named, done, completed, ranked, next, run, least_of, end_of, range_ended}
 use Rattle.pref_term.specs.Asked.{meant}
 use Rattle.pref_term.specs.Preference.{Base, low, high, Preference, scored, pareto, prior, reverse}
 use Rattle.pref_term.specs.Columns.{column}
 use Rattle.pref_term.specs.Writable.{IsWritableBase}
 use Rattle.pref_term.specs.Question.{Question, is_count}
 use Rattle.pref_term.specs.declared.fault.TermFault.{TermFault}
-use Rattle.pref_term.specs.declared.fault.TermFault.TheVariants.{Unexpected}
+use Rattle.pref_term.specs.declared.fault.TermFault.TheVariants.{Unexpected, EmptyRange}
 
 -- with these tokens ahead, reading comes from the one state to the other, with those ahead
 abbrev pub Goes : Names → State → List Placed → State → List Placed → Type 0
@@ -91,11 +91,28 @@ pub record ReadsOpened (names : Names) (ts : List Placed) (col : ℕ) (us : List
   pub found : IsColumn names letters col
   pub goes : (h : UnaryHole) (k : BaseKind) → Goes names (reading h (named k)) ts (reading h (columned k letters)) us
 
+-- the place of the first token
+abbrev pub first_place : List Placed → ℕ
+first_place [] = 0
+first_place (t ∷ ts) = t.place
+
 pub record ReadsNumber (names : Names) (ts : List Placed) (value : ℤ) (us : List Placed) : Type 0 where
   pub number : NumberText
   pub fits : FitsSigned w64 value
   pub value_is : number_value number ≡ value
-  pub goes : (h : UnaryHole) (hole : NumberHole) → Goes names (reading h (number_due hole)) ts (reading h (filled hole number)) us
+  pub goes : (h : UnaryHole) (hole : NumberHole) → below (least_of hole) (number_value number) ≡ None → Goes names (reading h (number_due hole)) ts (reading h (filled hole number)) us
+  pub refused : (h : UnaryHole) (hole : NumberHole) → below (least_of hole) (number_value number) ≡ Some empty_range → Fails names (reading h (number_due hole)) ts (EmptyRange (first_place ts))
+
+-- the right end of a range, which is no less than its left end
+pub record ReadsEnd (names : Names) (least : ℤ) (ts : List Placed) (value : ℤ) (us : List Placed) : Type 0 where
+  pub number : NumberText
+  pub fits : FitsSigned w64 value
+  pub value_is : number_value number ≡ value
+  pub ordered : int_lt value least ≡ false
+  pub goes : (h : UnaryHole) (column : List ℕ) (lower : NumberText) → number_value lower ≡ least → Goes names (reading h (number_due (end_of column lower))) ts (reading h (range_ended column lower number)) us
+
+abbrev pub FailsEnd : Names → ℤ → List Placed → TermFault → Type 0
+FailsEnd names least ts f = (h : UnaryHole) (column : List ℕ) (lower : NumberText) → number_value lower ≡ least → Fails names (reading h (number_due (end_of column lower))) ts f
 
 -- where the next number of a set stands, behind some
 abbrev pub set_hole : List ℕ → List NumberText → NumberHole

@@ -8,6 +8,11 @@ pub record IsStrictOrder {E : Type 0} (over : E → E → Bool) : Type 0 where
   pub irreflexive : (a : E) → over a a ≡ false
   pub transitive : (a b c : E) → over a b ≡ true → over b c ≡ true → over a c ≡ true
 
+-- what is over one of the two is over the other, and they are over the same
+pub record StandAlike {E : Type 0} (over : E → E → Bool) (a b : E) : Type 0 where
+  pub above : (c : E) → over c a ≡ over c b
+  pub below : (c : E) → over a c ≡ over b c
+
 -- what a question says of two rows
 pub record RowOrder : Type 0 where
   pub over : List ℤ → List ℤ → Bool

@@ -7,7 +7,7 @@ use Rattle.std.proofs.lemmas.Int.{ints}
 use Rattle.std.proofs.lemmas.Bool.Decides.{Decides-int_eq}
 use Rattle.pref_term.specs.Preference.{Preference, scored, pareto, prior, reverse}
 use Rattle.pref_term.specs.Better.{cell, score, same, better, in_same_group}
-use Rattle.pref_term.specs.Question.{Question, over}
+use Rattle.pref_term.specs.Question.{Question, alike, over}
 
 -- both tests pass
 pub and_parts : (x y : Bool) → (x && y) ≡ true → (x ≡ true) × (y ≡ true)
@@ -223,3 +223,41 @@ over_on q a b c h k =
     let x = and_parts (in_same_group q.group a b) (better q.preference a b) h in
     let y = and_parts (in_same_group q.group b c) (better q.preference b c) k in
     and_made (in_same_group q.group a c) (better q.preference a c) (group_on q.group a b c x.0 y.0) ((better_order q.preference).on a b c x.1 y.1)
+
+group_back : (cols : List ℕ) (a b : List ℤ) → in_same_group cols a b ≡ true → in_same_group cols b a ≡ true
+group_back [] a b h = refl
+group_back (col ∷ cols) a b h =
+    let x = and_parts (int_eq (cell a col) (cell b col)) (in_same_group cols a b) h in
+    and_made (int_eq (cell b col) (cell a col)) (in_same_group cols b a)
+    ((Decides-int_eq (cell b col) (cell a col)).1 (sym ((Decides-int_eq (cell a col) (cell b col)).0 x.0))) (group_back cols a b x.1)
+
+alike_back : (q : Question) (a b : List ℤ) → alike q a b ≡ true → alike q b a ≡ true
+alike_back q a b h =
+    let x = and_parts (in_same_group q.group a b) (same q.preference a b) h in
+    and_made (in_same_group q.group b a) (same q.preference b a) (group_back q.group a b x.0) ((better_order q.preference).alike_back a b x.1)
+
+-- two tests, each of which passes where the other does
+same_test : (x y : Bool) → (x ≡ true → y ≡ true) → (y ≡ true → x ≡ true) → x ≡ y
+same_test true y f g = sym (f refl)
+same_test false true f g = g refl
+same_test false false f g = refl
+
+over_alike : (q : Question) (a b c : List ℤ) → alike q a b ≡ true → over q c a ≡ true → over q c b ≡ true
+over_alike q a b c h k =
+    let t = and_parts (in_same_group q.group a b) (same q.preference a b) h in
+    let x = and_parts (in_same_group q.group c a) (better q.preference c a) k in
+    and_made (in_same_group q.group c b) (better q.preference c b) (group_on q.group c a b x.0 t.0) ((better_order q.preference).before_alike c a b x.1 t.1)
+
+alike_over : (q : Question) (a b c : List ℤ) → alike q a b ≡ true → over q b c ≡ true → over q a c ≡ true
+alike_over q a b c h k =
+    let t = and_parts (in_same_group q.group a b) (same q.preference a b) h in
+    let x = and_parts (in_same_group q.group b c) (better q.preference b c) k in
+    and_made (in_same_group q.group a c) (better q.preference a c) (group_on q.group a b c t.0 x.0) ((better_order q.preference).alike_before a b c t.1 x.1)
+
+-- what is over one of two rows of a group that are the same is over the other
+pub alike_above : (q : Question) (a b c : List ℤ) → alike q a b ≡ true → over q c a ≡ over q c b
+alike_above q a b c h = same_test (over q c a) (over q c b) (over_alike q a b c h) (over_alike q b a c (alike_back q a b h))
+
+-- and they are over the same rows
+pub alike_below : (q : Question) (a b c : List ℤ) → alike q a b ≡ true → over q a c ≡ over q b c
+alike_below q a b c h = same_test (over q a c) (over q b c) (alike_over q b a c (alike_back q a b h)) (alike_over q a b c h)

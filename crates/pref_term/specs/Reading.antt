@@ -2,7 +2,7 @@
 -- Reading a question text from the left, one token after another: what is still pending, and where a token leads. (this project)
 use Rattle.std.specs.Prelude.{ℕ, ◌+◌, List, [], ◌∷◌, ◌++◌, true, false, Option, Some, None, Result, Ok, Err}
 use Rattle.pref_term.specs.Token.{Sign, left, right, comma, star, ampersand, minus, Token, word, digits, sign, finish, Placed}
-use Rattle.pref_term.specs.Grammar.{Keyword, best_word, low_word, high_word, around_word, pos_word, reverse_word, top_level_word, at_least_word, by_word, CasedWord, skyline_word, of_word, min_word, max_word, diff_word, keyword_of, cased_of, HeadText, best_head, top_level_head, at_least_head, head_leaves, minimal, maximal, different, DimText, dim_leaves, more_dims, group_leaves, AskText, rated, skyline, NumberText, BaseText, low_text, high_text, around_text, pos_text, PriorText, one_product, then_product, ProductText, one_factor, then_factor, UnaryText, negated, grouped, reversed, based, Leaf, name, mark, opens, column_name, number_digits, count_digits, cased, last, number_leaves, others_leaves, prior_leaves, product_leaves, ask_leaves}
+use Rattle.pref_term.specs.Grammar.{Keyword, best_word, low_word, high_word, around_word, pos_word, reverse_word, top_level_word, at_least_word, by_word, CasedWord, skyline_word, of_word, min_word, max_word, diff_word, keyword_of, cased_of, HeadText, best_head, top_level_head, at_least_head, head_leaves, minimal, maximal, different, DimText, dim_leaves, more_dims, group_leaves, AskText, rated, skyline, NumberText, BaseText, low_text, high_text, around_text, pos_text, PriorText, one_product, then_product, ProductText, one_factor, then_factor, UnaryText, negated, grouped, reversed, based, Leaf, name, mark, opens, column_name, number_digits, count_digits, cased, last, number_leaves, others_leaves, prior_leaves, product_leaves, ask_leaves, between_word, between_text, end_leaves}
 use Rattle.pref_term.specs.Spells.{Names, own_fault, OwnFault, told, told_at}
 use Rattle.pref_term.specs.declared.fault.TermFault.{TermFault}
 use Rattle.pref_term.specs.declared.fault.TermFault.TheVariants.{Unexpected}
@@ -13,18 +13,23 @@ pub data BaseKind : Type 0 where
   low_kind : BaseKind
   high_kind : BaseKind
   around_kind : BaseKind
+  between_kind : BaseKind
   pos_kind : BaseKind
 
 abbrev pub kind_word : BaseKind → Keyword
 kind_word low_kind = low_word
 kind_word high_kind = high_word
 kind_word around_kind = around_word
+kind_word between_kind = between_word
 kind_word pos_kind = pos_word
 
 -- where a number is missing
 pub data NumberHole : Type 0 where
   centre_of : (column : List ℕ) → NumberHole
   first_of : (column : List ℕ) → NumberHole
+  -- the left end of a range, and its right end
+  start_of : (column : List ℕ) → NumberHole
+  end_of : (column : List ℕ) (lower : NumberText) → NumberHole
   next_of : (column : List ℕ) (first : NumberText) (others : List NumberText) → NumberHole
 
 pub data BasePart : Type 0 where
@@ -35,12 +40,21 @@ pub data BasePart : Type 0 where
   number_signed : (n : NumberHole) → BasePart
   centred : (column : List ℕ) (centre : NumberText) → BasePart
   listed : (column : List ℕ) (first : NumberText) (others : List NumberText) → BasePart
+  ranged : (column : List ℕ) (lower : NumberText) → BasePart
+  range_ended : (column : List ℕ) (lower upper : NumberText) → BasePart
 
 abbrev pub hole_leaves : NumberHole → List Leaf
 hole_leaves (centre_of column) = name around_word ∷ mark left ∷ column_name column ∷ mark comma ∷ []
 hole_leaves (first_of column) = name pos_word ∷ mark left ∷ column_name column ∷ mark comma ∷ []
+hole_leaves (start_of column) = name between_word ∷ mark left ∷ column_name column ∷ mark comma ∷ []
+hole_leaves (end_of column lower) = name between_word ∷ mark left ∷ column_name column ∷ mark comma ∷ number_leaves lower ++ mark comma ∷ []
 hole_leaves (next_of column first others) =
     name pos_word ∷ mark left ∷ column_name column ∷ mark comma ∷ number_leaves first ++ (others_leaves others ++ mark comma ∷ [])
+
+-- the number that the missing one may not be less than
+abbrev pub least_of : NumberHole → Option NumberText
+least_of (end_of column lower) = Some lower
+least_of _ = None
 
 -- what was read of it
 abbrev pub part_leaves : BasePart → List Leaf
@@ -51,6 +65,9 @@ part_leaves (number_due n) = hole_leaves n
 part_leaves (number_signed n) = hole_leaves n ++ mark minus ∷ []
 part_leaves (centred column centre) =
     name around_word ∷ mark left ∷ column_name column ∷ mark comma ∷ number_leaves centre
+part_leaves (ranged column lower) = name between_word ∷ mark left ∷ column_name column ∷ mark comma ∷ number_leaves lower
+part_leaves (range_ended column lower upper) =
+    name between_word ∷ mark left ∷ column_name column ∷ mark comma ∷ number_leaves lower ++ mark comma ∷ end_leaves lower upper
 part_leaves (listed column first others) =
     name pos_word ∷ mark left ∷ column_name column ∷ mark comma ∷ number_leaves first ++ others_leaves others
 
@@ -61,12 +78,15 @@ pub data BaseStep : Type 0 where
 abbrev pub filled : NumberHole → NumberText → BasePart
 filled (centre_of column) n = centred column n
 filled (first_of column) n = listed column n []
+filled (start_of column) n = ranged column n
+filled (end_of column lower) n = range_ended column lower n
 filled (next_of column first others) n = listed column first (others ++ n ∷ [])
 
 abbrev pub after_column : BaseKind → List ℕ → Sign → Option (Leaf × BaseStep)
 after_column low_kind column right = Some (mark right, whole_base (low_text column))
 after_column high_kind column right = Some (mark right, whole_base (high_text column))
 after_column around_kind column comma = Some (mark comma, part (number_due (centre_of column)))
+after_column between_kind column comma = Some (mark comma, part (number_due (start_of column)))
 after_column pos_kind column comma = Some (mark comma, part (number_due (first_of column)))
 after_column _ _ _ = None
 
@@ -75,9 +95,11 @@ base_next (named k) (sign left) = Some (mark left, part (opened k))
 base_next (opened k) (word letters) = Some (column_name letters, part (columned k letters))
 base_next (columned k column) (sign s) = after_column k column s
 base_next (number_due n) (sign minus) = Some (mark minus, part (number_signed n))
-base_next (number_due n) (digits ds) = Some (number_digits false ds, part (filled n (record { negative = false; digits = ds })))
-base_next (number_signed n) (digits ds) = Some (number_digits true ds, part (filled n (record { negative = true; digits = ds })))
+base_next (number_due n) (digits ds) = Some (number_digits (least_of n) false ds, part (filled n (record { negative = false; digits = ds })))
+base_next (number_signed n) (digits ds) = Some (number_digits (least_of n) true ds, part (filled n (record { negative = true; digits = ds })))
 base_next (centred column centre) (sign right) = Some (mark right, whole_base (around_text column centre))
+base_next (ranged column lower) (sign comma) = Some (mark comma, part (number_due (end_of column lower)))
+base_next (range_ended column lower upper) (sign right) = Some (mark right, whole_base (between_text column lower upper))
 base_next (listed column first others) (sign right) = Some (mark right, whole_base (pos_text column first others))
 base_next (listed column first others) (sign comma) = Some (mark comma, part (number_due (next_of column first others)))
 base_next _ _ = None
@@ -236,6 +258,7 @@ abbrev pub operand_word : UnaryHole → Option Keyword → Option (Leaf × State
 operand_word h (Some low_word) = Some (name low_word, reading h (named low_kind))
 operand_word h (Some high_word) = Some (name high_word, reading h (named high_kind))
 operand_word h (Some around_word) = Some (name around_word, reading h (named around_kind))
+operand_word h (Some between_word) = Some (name between_word, reading h (named between_kind))
 operand_word h (Some pos_word) = Some (name pos_word, reading h (named pos_kind))
 operand_word h (Some reverse_word) = Some (name reverse_word, reverse_named h)
 operand_word _ _ = None

@@ -1,18 +1,18 @@
 -- Which ask a text spells, and what is wrong with a text that spells none. (this project)
-use Rattle.std.specs.Prelude.{◌≡◌, ◌≤◌, ◌<◌, ℕ, ℤ, List, [], ◌∷◌, ◌++◌, map, length, Bool, true, Option, Some, None, unwrap_or, nat_lt, is_none, fold, if◌then◌else◌, ◌⊎◌}
+use Rattle.std.specs.Prelude.{◌≡◌, ◌≤◌, ◌<◌, ℕ, ℤ, List, [], ◌∷◌, ◌++◌, map, length, Bool, true, Option, Some, None, unwrap_or, nat_lt, int_lt, is_none, fold, if◌then◌else◌, ◌⊎◌}
 use Rattle.std.specs.List.{AllByRecursion, flat_map}
 use Rattle.std.specs.Option.{option_map}
 use Rattle.std.specs.Str.Parse.{digits_value}
 use Rattle.pref_table.specs.Columns.{column_of}
 use Rattle.pref_table.specs.Number.{fits_cell, signed_by}
 use Rattle.pref_term.specs.Token.{Token, Placed, tokens_of}
-use Rattle.pref_term.specs.Grammar.{NumberText, BaseText, low_text, high_text, around_text, pos_text, HeadText, best_head, top_level_head, at_least_head, Direction, minimal, maximal, different, DimText, AskText, rated, skyline, IsText, PriorText, one_product, then_product, ProductText, one_factor, then_factor, UnaryText, negated, grouped, reversed, based, Leaf, name, mark, opens, column_name, number_digits, count_digits, cased, last, token_of, ask_leaves}
-use Rattle.pref_term.specs.Preference.{Base, low, high, around, one_of, Preference, scored, pareto, prior, reverse}
+use Rattle.pref_term.specs.Grammar.{NumberText, BaseText, low_text, high_text, around_text, pos_text, HeadText, best_head, top_level_head, at_least_head, Direction, minimal, maximal, different, DimText, AskText, rated, skyline, IsText, PriorText, one_product, then_product, ProductText, one_factor, then_factor, UnaryText, negated, grouped, reversed, based, Leaf, name, mark, opens, column_name, number_digits, count_digits, cased, last, token_of, ask_leaves, between_text}
+use Rattle.pref_term.specs.Preference.{Base, low, high, around, one_of, Preference, scored, pareto, prior, reverse, between}
 use Rattle.pref_term.specs.Question.{Question, is_count}
 use Rattle.pref_term.specs.declared.ask.Mode.{Mode}
 use Rattle.pref_term.specs.declared.ask.Mode.TheVariants.{Best, TopLevel, AtLeast}
 use Rattle.pref_term.specs.declared.fault.TermFault.{TermFault}
-use Rattle.pref_term.specs.declared.fault.TermFault.TheVariants.{Unexpected, UnknownColumn, NumberRange, TooDeep, TooLong, BadCount, NoMinOrMax, OutOfMemory}
+use Rattle.pref_term.specs.declared.fault.TermFault.TheVariants.{Unexpected, UnknownColumn, NumberRange, EmptyRange, TooDeep, TooLong, BadCount, NoMinOrMax, OutOfMemory}
 
 -- the column names of a schema
 abbrev pub Names : Type 0
@@ -37,6 +37,7 @@ abbrev pub base_meaning : Names → BaseText → Base
 base_meaning names (low_text column) = low (column_at names column)
 base_meaning names (high_text column) = high (column_at names column)
 base_meaning names (around_text column centre) = around (column_at names column) (number_value centre)
+base_meaning names (between_text column lower upper) = between (column_at names column) (number_value lower) (number_value upper)
 base_meaning names (pos_text column first others) = one_of (column_at names column) (number_value first ∷ map number_value others)
 
 abbrev mutual
@@ -97,8 +98,14 @@ question names (skyline s o first others) =
 pub data OwnFault : Type 0 where
   unknown_column : OwnFault
   number_range : OwnFault
+  empty_range : OwnFault
   too_deep : OwnFault
   bad_count : OwnFault
+
+-- what is wrong with a number beside its range: it is less than it may be
+abbrev pub below : Option NumberText → ℤ → Option OwnFault
+below None value = None
+below (Some least) value = if int_lt value (number_value least) then Some empty_range else None
 
 -- a leaf's own fault
 abbrev pub own_fault : Names → Leaf → Option OwnFault
@@ -106,7 +113,7 @@ own_fault names (name k) = None
 own_fault names (mark s) = None
 own_fault names (opens depth s) = if nat_lt depth 64 then None else Some too_deep
 own_fault names (column_name letters) = if is_none (column_of names letters) then Some unknown_column else None
-own_fault names (number_digits negative ds) = if fits_cell (signed_value negative ds) then None else Some number_range
+own_fault names (number_digits least negative ds) = if fits_cell (signed_value negative ds) then below least (signed_value negative ds) else Some number_range
 own_fault names (count_digits ds) = if is_count (digits_value 10 ds) then None else Some bad_count
 own_fault names (cased k letters) = None
 own_fault names last = None
@@ -117,13 +124,14 @@ IsGood names leaf = own_fault names leaf ≡ None
 
 -- where it is told: a number at its first token
 abbrev pub told_at : Leaf → (before place : ℕ) → ℕ
-told_at (number_digits true ds) before place = before
+told_at (number_digits least true ds) before place = before
 told_at _ before place = place
 
 -- the fault that is told of it
 abbrev pub told : OwnFault → ℕ → TermFault
 told unknown_column at = UnknownColumn at
 told number_range at = NumberRange at
+told empty_range at = EmptyRange at
 told too_deep at = TooDeep at
 told bad_count at = BadCount at
 

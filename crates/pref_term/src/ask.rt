@@ -1,5 +1,5 @@
 //! Asks: a term, the columns that group the rows, and how many of the best are wanted.
-ghost use Rattle.std.specs.Prelude.{◌≡◌, ◌<◌, All, IfOk};
+ghost use Rattle.std.specs.Prelude.{◌≡◌, ◌<◌, true, All, IfOk};
 ghost use Rattle.pref_term.specs.Better.{in_same_group};
 
 use crate::dominance::Dominance;
@@ -162,7 +162,7 @@ pub fn in_same_group(columns: &[usize], a: &Row, b: &Row) -> bool
 
 impl Dominance for Ask {
     ghost use Rattle.pref_term.specs.AskOrder.{order_of, order_of_is_strict};
-    ghost use Rattle.pref_term.specs.Order.{is_better, is_same, is_worse};
+    ghost use Rattle.pref_term.specs.Order.{StandAlike, is_better, is_same, is_worse};
     ghost use Rattle.pref_term.specs.Question.{over, alike};
 
     ghost order = { order_of };
@@ -183,6 +183,7 @@ impl Dominance for Ask {
         ensures better { is_better result ≡ over self.now a.now b.now }
         ensures worse { is_worse result ≡ over self.now b.now a.now }
         ensures same { is_same result ≡ alike self.now a.now b.now }
+        ensures stand_alike { is_same result ≡ true → StandAlike (over self.now) a.now b.now }
     {
         if in_same_group(&self.group, a, b) {
             self.compare_in_group(a, b)

@@ -1,6 +1,7 @@
 //! Pareto products of base terms alone, as flat lists: one loop compares two rows.
 ghost use Rattle.std.specs.Prelude.{◌≡◌, ◌-ℤ◌, ℤ, List, [], ◌∷◌, IfOk, pos, unsigned_abs};
 ghost use Rattle.std.specs.Option.{IfSome};
+ghost use Rattle.pref_term.specs.Better.{outside};
 ghost use Rattle.pref_term.specs.Columns.{ReadsBelow};
 ghost use Rattle.pref_term.specs.Factors.{AreFactorsOf, AreInRow, EndsInFactorsOf, by_factors, in_sense, preference_of_factor, sides_in_sense};
 ghost use Rattle.pref_term.specs.Preference.{Preference, preference_of};
@@ -26,6 +27,13 @@ pub(crate) enum Factor {
     Distance {
         col: usize,
         centre: i64,
+        sense: Sense,
+    },
+    /// Values nearer to the range are better, or in the other sense those farther from it.
+    Range {
+        col: usize,
+        left: i64,
+        right: i64,
         sense: Sense,
     },
 }
@@ -74,6 +82,17 @@ impl Factor {
                 centre,
                 sense: sense.opposite(),
             },
+            Factor::Range {
+                col,
+                left,
+                right,
+                sense,
+            } => Factor::Range {
+                col,
+                left,
+                right,
+                sense: sense.opposite(),
+            },
         }
     }
 
@@ -111,6 +130,15 @@ impl Factor {
                 let (nearer, farther) = sides_by_distance(a.cell(col), b.cell(col), centre);
                 sense.turned(nearer, farther)
             }
+            Factor::Range {
+                col,
+                left,
+                right,
+                sense,
+            } => {
+                let (nearer, farther) = sides_by_range(a.cell(col), b.cell(col), left, right);
+                sense.turned(nearer, farther)
+            }
         }
     }
 }
@@ -130,6 +158,30 @@ fn sides_by_distance(a: i64, b: i64, centre: i64) -> (bool, bool)
 {
     let first = a.abs_diff(centre);
     let second = b.abs_diff(centre);
+    (first < second, second < first)
+}
+
+/// How far the value lies outside the range: at most 2^64 - 1, and nothing within it.
+#[inline(always)]
+fn outside(value: i64, left: i64, right: i64) -> u64
+    ensures { pos result ≡ outside left right value }
+{
+    if value < left {
+        left.abs_diff(value)
+    } else if right < value {
+        value.abs_diff(right)
+    } else {
+        0
+    }
+}
+
+/// The value nearer to the range is better.
+#[inline(always)]
+fn sides_by_range(a: i64, b: i64, left: i64, right: i64) -> (bool, bool)
+    ensures { by_sides result.0 result.1 ≡ by_scores (outside left right a) (outside left right b) }
+{
+    let first = outside(a, left, right);
+    let second = outside(b, left, right);
     (first < second, second < first)
 }
 
@@ -160,6 +212,16 @@ fn with_factors(
             Factor::Distance {
                 col: *col,
                 centre: *centre,
+                sense: Sense::Direct,
+            },
+            sense,
+        ),
+        Term::Between { col, left, right } => with_factor(
+            factors,
+            Factor::Range {
+                col: *col,
+                left: *left,
+                right: *right,
                 sense: Sense::Direct,
             },
             sense,

@@ -14,6 +14,9 @@ pub enum TermFault {
     /// A number outside 64 bits; the place is that of its minus sign, where it has one.
     #[error("number range at {at}")]
     NumberRange { at: u64 },
+    /// A range that ends before it begins; the place is that of its right end, its minus sign where it has one.
+    #[error("empty range at {at}")]
+    EmptyRange { at: u64 },
     /// A 65th nesting that would be open; the place is that of its `(` or `-`.
     #[error("too deep at {at}")]
     TooDeep { at: u64 },

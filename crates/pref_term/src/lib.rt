@@ -1,4 +1,7 @@
-//! Preference terms: what they are, when a row is better than another, and the texts that spell them.
+//! Preference terms, as in the R package rPref: what they are, when a row is better than another, and the texts that spell them.
+//!
+//! A row dominates another where it is better and in the same group; the code's word for that is `over`. What an ask says of
+//! its rows is a strict partial order ([`Dominance`]).
 #![tactic(auto)]
 
 mod ask;

@@ -118,6 +118,16 @@ fn put_if(text: &mut Vec<u8>, wanted: bool, bytes: &[u8]) -> Result<(), AllocErr
     }
 }
 
+/// The two ends of a range, each behind a comma.
+fn show_ends(alloc: Global, text: &mut Vec<u8>, left: i64, right: i64) -> Result<(), AllocError>
+    ensures { OnOk result (text.new.items ≡ text.old.items ++ (codes ", " ++ (signed_decimal left ++ (codes ", " ++ signed_decimal right)))) }
+{
+    text.extend_from_slice(b", ")?;
+    show_number(alloc, text, left)?;
+    text.extend_from_slice(b", ")?;
+    show_number(alloc, text, right)
+}
+
 fn show_term(
     alloc: Global,
     text: &mut Vec<u8>,
@@ -140,6 +150,11 @@ fn show_term(
             show_named(text, schema, b"around(", *col)?;
             text.extend_from_slice(b", ")?;
             show_number(alloc, text, *centre)?;
+            text.extend_from_slice(b")")
+        }
+        Term::Between { col, left, right } => {
+            show_named(text, schema, b"between(", *col)?;
+            show_ends(alloc, text, *left, *right)?;
             text.extend_from_slice(b")")
         }
         Term::Pos { col, set } => {

@@ -62,6 +62,8 @@ pub enum Term {
     High { col: usize },
     /// Values nearer to the centre are better.
     Around { col: usize, centre: i64 },
+    /// Values nearer to the range are better, and all in it alike. Its left end is no more than its right end.
+    Between { col: usize, left: i64, right: i64 },
     /// Values in the set are better than all others.
     Pos { col: usize, set: Numbers },
     /// The Pareto product: better in one part, and better or the same in the other.
@@ -95,6 +97,14 @@ impl PartialEq for Term {
                     centre: point,
                 },
             ) => *col == *same && *centre == *point,
+            (
+                Term::Between { col, left, right },
+                Term::Between {
+                    col: same,
+                    left: first,
+                    right: last,
+                },
+            ) => *col == *same && *left == *first && *right == *last,
             (
                 Term::Pos { col, set },
                 Term::Pos {

@@ -58,6 +58,13 @@ fn walk(term: &Term, a: &Row, b: &Row) -> Relation
             sense: Sense::Direct,
         }
         .compare(a, b),
+        Term::Between { col, left, right } => Factor::Range {
+            col: *col,
+            left: *left,
+            right: *right,
+            sense: Sense::Direct,
+        }
+        .compare(a, b),
         Term::Pos { col, set } => by_member(a.cell(*col), b.cell(*col), set),
         Term::Pareto(p, q) => product(Relation::Same, p, q, a, b),
         Term::Prior(p, q) => priority(p, q, a, b),

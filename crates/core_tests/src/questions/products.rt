@@ -25,6 +25,18 @@ fn factors_of_each_kind(rt: HostRuntime) -> Result<(), Fail> {
             Relation::Better,
         ),
         (
+            "best -between(x, -9223372036854775808, 0)",
+            [most, 0, 0],
+            [least, 0, 0],
+            Relation::Better,
+        ),
+        (
+            "best low(x) * between(y, 4, 6)",
+            [1, 7, 0],
+            [1, 2, 0],
+            Relation::Better,
+        ),
+        (
             "best low(x) * high(y) * around(z, 10)",
             [1, 9, 12],
             [1, 9, 7],
@@ -118,6 +130,7 @@ fn factors_compare_as_a_walk_does(rt: HostRuntime) -> Result<(), Fail> {
         "best around(x, 1) * -around(y, 0)",
         "best -(low(x) * -(high(y) * around(x, 0)))",
         "best low(x) * low(x) * high(y)",
+        "best between(x, 0, 0) * -between(y, 0, 1)",
         "best low(x) * pos(y, 0)",
     ];
     for question in questions {

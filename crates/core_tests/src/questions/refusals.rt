@@ -39,7 +39,7 @@ fn a_refused_reading_of_a_question_is_told_and_made_again(rt: HostRuntime) -> Re
 fn a_refused_reading_of_a_product_is_told_and_made_again(rt: HostRuntime) -> Result<(), Fail> {
     let alloc = rt.alloc();
     let schema = columns(alloc)?;
-    let question = b"best low(x) * -around(y, -3) * high(g)";
+    let question = b"best low(x) * -around(y, -3) * high(g) * between(g, 1, 2)";
     let ask = read_in_the_end(&rt, alloc, &schema, question);
     let first = Row::of(&schema, [1, 0, 2].as_slice())?;
     let second = Row::of(&schema, [1, -2, 2].as_slice())?;

@@ -205,6 +205,40 @@ pub(super) fn around<'a>(
     Ok((Term::Around { col, centre }, rest))
 }
 
+/// Takes the right end of a range, which is no less than its left end.
+fn range_end<'a>(left: i64, cursor: Cursor<'a>) -> Result<(i64, Cursor<'a>), TermFault>
+    ensures ok { IfOk result (λ x. (names : List (List ℕ)) → led.ReadsEnd names left (ahead cursor.entry) x.0 (ahead x.1)) }
+    ensures shorter { IfOk result (λ x. length (ahead x.1) < length (ahead cursor.entry)) }
+    ensures err { IfErr result (λ f. (names : List (List ℕ)) → led.FailsEnd names left (ahead cursor.entry) f) }
+{
+    let taken = cursor.take();
+    let (right, next) = number(cursor)?;
+    if right < left {
+        return Err(TermFault::EmptyRange {
+            at: taken.at as u64,
+        });
+    }
+    Ok((right, next))
+}
+
+/// Takes what stands behind `between`.
+pub(super) fn between<'a>(
+    schema: &Schema,
+    cursor: Cursor<'a>,
+) -> Result<(Term, Cursor<'a>), TermFault>
+    ensures ok { IfOk result (λ x. led.ReadsBase schema.now reading.between_kind (ahead cursor.entry) (preference_of x.0) (ahead x.1)) }
+    ensures shorter { IfOk result (λ x. length (ahead x.1) < length (ahead cursor.entry)) }
+    ensures err { IfErr result (λ f. led.FailsBase schema.now reading.between_kind (ahead cursor.entry) f) }
+{
+    let (col, next) = opened_column(schema, cursor)?;
+    let inside = expect(next, Sign::Comma)?;
+    let (left, behind) = number(inside)?;
+    let beside = expect(behind, Sign::Comma)?;
+    let (right, end) = range_end(left, beside)?;
+    let rest = expect(end, Sign::Right)?;
+    Ok((Term::Between { col, left, right }, rest))
+}
+
 /// Takes what stands behind `pos`.
 pub(super) fn pos<'a>(
     alloc: Global,

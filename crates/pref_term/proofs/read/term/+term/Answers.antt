@@ -1,7 +1,7 @@
 use Rattle.std.proofs.Common.{ℕ, List, Some, arith, sym, ap, subst, ◌∙◌, length}
 use Rattle.std.proofs.lemmas.Result.{IfOk-weaker}
 use Rattle.pref_term.specs.Token.{Placed}
-use Rattle.pref_term.specs.Reading.{low_kind, high_kind, around_kind, pos_kind}
+use Rattle.pref_term.specs.Reading.{low_kind, high_kind, around_kind, between_kind, pos_kind}
 use Rattle.pref_term.specs.Ahead.{ahead}
 use Rattle.pref_term.specs.Led.{FailsUnary, FailsGroup, FailsProduct, FailsPrior, ReadsReverse, ReadsUnary, ReadsGroup, ReadsFactors, ReadsProducts}
 use Rattle.pref_term.specs.Preference.{Preference, preference_of}
@@ -135,6 +135,16 @@ pub unary-returns-in-Around-clause-err : goal.unary-returns-in-Around-clause-err
 unary-returns-in-Around-clause-err t c =
     taken_base_fails c.args.schema.now c.args.depth around_kind (ahead c.args.cursor) c.take-taken.result c.in-Word.letters c.take-taken.ensures c.in-Word.is (sym c.in-Some.ensures ∙ ap Some c.in-Around.is)
     c.around.result c.around.ensures.err
+
+pub unary-returns-in-Between-clause-ok : goal.unary-returns-in-Between-clause-ok
+unary-returns-in-Between-clause-ok t c =
+    taken_base_read c.args.schema.now c.args.depth between_kind (ahead c.args.cursor) c.take-taken.result c.in-Word.letters c.take-taken.ensures c.in-Word.is (sym c.in-Some.ensures ∙ ap Some c.in-Between.is)
+    c.between.result c.between.ensures.ok
+
+pub unary-returns-in-Between-clause-err : goal.unary-returns-in-Between-clause-err
+unary-returns-in-Between-clause-err t c =
+    taken_base_fails c.args.schema.now c.args.depth between_kind (ahead c.args.cursor) c.take-taken.result c.in-Word.letters c.take-taken.ensures c.in-Word.is (sym c.in-Some.ensures ∙ ap Some c.in-Between.is)
+    c.between.result c.between.ensures.err
 
 pub unary-returns-in-Pos-clause-ok : goal.unary-returns-in-Pos-clause-ok
 unary-returns-in-Pos-clause-ok t c =
