@@ -5,3 +5,4 @@ mod fixtures;
 mod passes;
 mod plain;
 mod refusals;
+mod ties;

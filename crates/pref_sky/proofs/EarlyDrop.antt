@@ -12,7 +12,7 @@ use Rattle.pref_sky.specs.Meetings.{let_in, length_of_level, held_on}
 use Rattle.pref_sky.specs.Passes.{IsApart}
 use Rattle.pref_sky.proofs.Members.{Among, any_from, any_gives, in_filter, from_filter, in_left, in_right, in_either}
 use Rattle.pref_sky.proofs.Removals.{comes_after, comes_after_among_more, best_of_rest_is}
-use Rattle.pref_sky.proofs.Orders.{SameMembers, from_in_order}
+use Rattle.pref_sky.proofs.Orders.{SameMembers, among_in_order, from_in_order}
 use Rattle.std.proofs.lemmas.List.{map-append, take-append-drop}
 use Rattle.pref_sky.proofs.Merges.{is_at, same_levels, count_filter, entries_at_level}
 use Rattle.pref_sky.proofs.Members.{from_map}
@@ -32,6 +32,18 @@ held_at over all (suc n) m r among is =
           subst (λ k. Among (entry_of r) (best over (rest over all k))) same
           (from_in_order (best over (rest over all n)) (entry_of r) (subst (λ e. Among e (in_order_of_id (best over (rest over all n)))) (sym (ap entry_of w.2)) w.1))
     ]
+
+-- of what is held at the level of the cut, none is over another
+pub held_apart : (over : Entry → Entry → Bool) (before : List Entry) (cut : ℕ) (held : List Ranked) → held ≡ levels over before cut → IsApart over (held_on cut held)
+held_apart over before zero held is x y mx my = absurd (subst (λ l. Among x (held_on zero l)) is mx)
+held_apart over before (suc n) held is x y mx my = best_apart over (rest over before n) x y (there x mx) (there y my)
+  where
+    there : (e : Entry) → Among e (held_on (suc n) held) → Among e (in_order_of_id (best over (rest over before n)))
+    there e m =
+        let v = from_map entry_of (filter (λ (r : Ranked). r.level == suc n) held) e m in
+        let u = from_filter (λ (r : Ranked). r.level == suc n) held v.0 v.1 in
+        among_in_order (best over (rest over before n)) e
+        (subst (λ x. Among x (best over (rest over before n))) (sym v.2) (held_at over before (suc n) n v.0 (subst (Among v.0) is u.0) (eqb-true v.0.level (suc n) u.1)))
 
 -- what an entry of a level is over, comes after so many removals
 below_level : (over : Entry → Entry → Bool) (all : List Entry) (n : ℕ) (y e : Entry) → Among y (best over (rest over all n)) → over y e ≡ true → comes_after over all (suc n) e ≡ true
@@ -88,13 +100,6 @@ some_begins over strict before entries cut held coming is different chosen =
         same = ap (λ l. levels over (before ++ l) cut) w.1 ∙ early_drop over strict before entries cut held w.0 is different;
         merging = merging_begins over before coming cut held is;
       }
-    ]
-
-pub chosen_count : (over : Entry → Entry → Bool) (entries coming : List Entry) (cut : ℕ) (held : List Ranked) (p : Entry → Bool) → (coming ≡ entries) ⊎ ((0 < cut) × (coming ≡ let_in over (held_on cut held) entries)) → count_by p coming ≤ count_by p entries
-chosen_count over entries coming cut held p chosen =
-    elim chosen [
-      | inl all ↦ let same = ap (count_by p) all in omega (arith, same)
-      | inr w ↦ omega (arith, count_filter p (λ e. not (is_beaten over (held_on cut held) e)) entries, ap (count_by p) w.1)
     ]
 
 -- a list of entries of one level, cut off

@@ -1,8 +1,8 @@
 -- A held level, of which no entry is over another, and entries that come to it: the new level, and what goes down.
-use Rattle.std.proofs.Common.{◌≡◌, ◌≤◌, ◌+◌, Bool, true, false, cond, not, ◌&&◌, inl, inr, List, [], ◌∷◌, ◌++◌, sym, ◌∙◌, ap, arith, filter, eqb}
+use Rattle.std.proofs.Common.{◌≡◌, ◌≤◌, ◌+◌, Bool, true, false, cond, not, ◌&&◌, inl, inr, List, ◌++◌, sym, ◌∙◌, ap, arith, filter, eqb}
 use Rattle.std.specs.List.{count_by, list_any}
 use Rattle.std.proofs.lemmas.Bool.{cases_Bool, both_ways, and_from, not-true, not_from_false, false_from_ne_true}
-use Rattle.std.proofs.lemmas.List.Sums.{sum_by-cons, sum_by-append}
+use Rattle.std.proofs.lemmas.List.Sums.{sum_by-append}
 use Rattle.pref_term.specs.Order.{IsStrictOrder}
 use Rattle.pref_sky.specs.declared.entry.Entry.{Entry}
 use Rattle.pref_sky.specs.Best.{best, is_beaten, without_best}
@@ -173,19 +173,6 @@ same_beside xs ys zs same =
       back = λ x m. elim (in_either ys zs x m) [ inl a ↦ in_left xs zs x (same.back x a) | inr b ↦ in_right xs zs x b ];
     }
 
--- what fails a test and what passes it are all
-count_parts : (p q : Entry → Bool) (xs : List Entry) → count_by p (filter q xs) + count_by p (filter (λ x. not (q x)) xs) ≡ count_by p xs
-count_parts p q [] = omega arith
-count_parts p q (x ∷ xs) =
-    let whole = sum_by-cons (λ y. cond (p y) 1 0) x xs in
-    let yes_more = sum_by-cons (λ y. cond (p y) 1 0) x (filter q xs) in
-    let no_more = sum_by-cons (λ y. cond (p y) 1 0) x (filter (λ y. not (q y)) xs) in
-    let deeper = count_parts p q xs in
-    elim (q x) as (λ b. count_by p (cond b (x ∷ filter q xs) (filter q xs)) + count_by p (cond (not b) (x ∷ filter (λ y. not (q y)) xs) (filter (λ y. not (q y)) xs)) ≡ count_by p (x ∷ xs)) [
-      | true ↦ omega (arith, whole, yes_more, deeper)
-      | false ↦ omega (arith, whole, no_more, deeper)
-    ]
-
 -- what a level keeps of held and coming entries: no more of any kind
 pub level_count : (over : Entry → Entry → Bool) (held coming : List Entry) (p : Entry → Bool) → count_by p (staying over held coming ++ in_order_of_id (best over (let_in over held coming))) ≤ count_by p held + count_by p coming
 level_count over held coming p =
@@ -196,18 +183,6 @@ level_count over held coming p =
       count_in_order p (best over (let_in over held coming)),
       count_filter p (λ e. not (is_beaten over (let_in over held coming) e)) (let_in over held coming),
       count_filter p (λ e. not (is_beaten over held e)) coming,
-    )
-
-pub down_count : (over : Entry → Entry → Bool) (held coming : List Entry) (p : Entry → Bool)
-    → count_by p ((turned_away over held coming ++ without_best over (let_in over held coming)) ++ displaced over held coming) ≤ count_by p held + count_by p coming
-down_count over held coming p =
-    omega (
-      arith,
-      sum_by-append (λ y. cond (p y) 1 0) (turned_away over held coming ++ without_best over (let_in over held coming)) (displaced over held coming),
-      sum_by-append (λ y. cond (p y) 1 0) (turned_away over held coming) (without_best over (let_in over held coming)),
-      count_filter p (is_beaten over (displacing over held coming)) held,
-      count_filter p (is_beaten over (let_in over held coming)) (let_in over held coming),
-      count_parts p (is_beaten over held) coming,
     )
 
 pub different_by_count : (xs ys zs : List Entry) → HaveDifferentIds (xs ++ ys) → ((p : Entry → Bool) → count_by p zs ≤ count_by p xs + count_by p ys) → HaveDifferentIds zs

@@ -10,7 +10,7 @@ use Rattle.pref_sky.proofs.Members.{Among, any_from, any_gives, in_filter, from_
 use Rattle.pref_sky.proofs.Removals.{same_answer}
 use Rattle.pref_sky.proofs.Orders.{Rises, different_later, different_tail, among_in_order, from_in_order}
 
-among_place : (xs : List Entry) (j : ℕ) (d : Entry) → j < length xs → Among (get_or xs j d) xs
+pub among_place : (xs : List Entry) (j : ℕ) (d : Entry) → j < length xs → Among (get_or xs j d) xs
 among_place [] j d l = absurd (omega arith)
 among_place (x ∷ xs) zero d l = inl refl
 among_place (x ∷ xs) (suc j) d l = inr (among_place xs j d (omega arith))

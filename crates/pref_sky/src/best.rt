@@ -8,6 +8,7 @@ ghost use Rattle.pref_sky.specs.Windows.{begun};
 ghost use Rattle.pref_sky.specs.declared.entry.Entry.{Entry};
 
 use crate::entry::Entry;
+use crate::meeting::Known;
 use crate::window::{Offer, Window};
 use pref_term::Dominance;
 use std::alloc::{AllocError, Global};
@@ -28,7 +29,7 @@ fn offered<D: Dominance>(
 {
     let mut overflow = Vec::new(alloc);
     for entry in input {
-        if let Offer::Overflow = window.offer(dominance, *entry) {
+        if let Offer::Overflow = window.offer_known(dominance, *entry, Known::Apart) {
             overflow.push(*entry)?;
         }
     }

@@ -1,8 +1,8 @@
 //! Entries, alone and with a level, and how two of them compare.
 
-ghost use Rattle.std.specs.Prelude.{◌≡◌};
+ghost use Rattle.std.specs.Prelude.{◌≡◌, true};
 ghost use Rattle.pref_sky.specs.Levels.{entry_order};
-ghost use Rattle.pref_term.specs.Order.{is_better, is_worse};
+ghost use Rattle.pref_term.specs.Order.{StandAlike, is_better, is_same, is_worse};
 
 use pref_table::Row;
 use pref_term::{Dominance, Relation};
@@ -40,6 +40,7 @@ pub(crate) fn is_over<D: Dominance>(dominance: &D, a: &Entry, b: &Entry) -> bool
 pub(crate) fn compare<D: Dominance>(dominance: &D, a: &Entry, b: &Entry) -> Relation
     ensures better { is_better result ≡ entry_order (D.order dominance.now) a.now b.now }
     ensures worse { is_worse result ≡ entry_order (D.order dominance.now) b.now a.now }
+    ensures stand_alike { is_same result ≡ true → StandAlike (entry_order (D.order dominance.now)) a.now b.now }
 {
     dominance.compare(&a.row, &b.row)
 }

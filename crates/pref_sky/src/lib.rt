@@ -1,9 +1,10 @@
-//! The best rows of a list under a strict order, their levels, partial results that grow block by
-//! block, and the answers of asks.
+//! The best rows of a list under a strict partial order (the skyline, or Pareto front), their levels, partial results that grow
+//! block by block, and the answers of asks.
 //!
-//! An entry is best where no entry is over it (Börzsönyi, Kossmann, Stocker 2001). Level 1 is the best
-//! of all entries, level n + 1 the best of what is left without the levels 1 to n (the rPref manual).
-//! Everything is generic over [`Dominance`](pref_term::Dominance), so any strict order of rows serves.
+//! An entry is best where no entry dominates it, or is `over` it, as the code says (Börzsönyi, Kossmann, Stocker 2001). Level 1
+//! is the best of all entries, level n + 1 the best of what is left without the levels 1 to n (the rPref manual). The algorithm is
+//! block-nested-loops, with a window of bounded size. Everything is generic over [`Dominance`](pref_term::Dominance), so any strict
+//! partial order of rows serves.
 //!
 //! ```text
 //! let mut partial = Partial::empty();

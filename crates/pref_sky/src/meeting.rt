@@ -1,10 +1,12 @@
 //! An entry before a list, and coming entries before a held level: one comparison a pair.
 
 ghost use Rattle.std.specs.List.Sorted.{IsPermutation};
-ghost use Rattle.std.specs.Prelude.{◌≡◌, ◌&&◌, filter, IfOk};
+ghost use Rattle.std.specs.Prelude.{◌≤◌, ◌≡◌, ◌+◌, ◌&&◌, Bool, filter, count_by, IfOk};
 ghost use Rattle.pref_sky.specs.Best.{is_beaten};
 ghost use Rattle.pref_sky.specs.Levels.{entry_order};
-ghost use Rattle.pref_sky.specs.Meetings.{Meets, let_in, displacing, is_kept};
+ghost use Rattle.pref_sky.specs.Meetings.{IsKnown, IsPlaced, Meets, let_in, displacing, is_kept};
+ghost use Rattle.pref_sky.specs.Passes.{IsApart};
+ghost use Rattle.pref_sky.specs.declared.entry.Entry.{Entry};
 
 use crate::entry::{Entry, compare, is_over};
 use pref_term::{Dominance, Relation};
@@ -28,16 +30,38 @@ pub(crate) enum Meeting {
     Apart,
 }
 
-/// How an entry stands to a list, by one comparison for each of the list until one is over it.
-pub(crate) fn meet<D: Dominance>(dominance: &D, entries: &[Entry], entry: &Entry) -> Meeting
-    ensures { Meets (entry_order (D.order dominance.now)) entries.now entry.now result }
+/// What is known of how the entries of a list stand to one another.
+#[derive(Clone, Copy, Debug, PartialEq, Eq)]
+pub(crate) enum Known {
+    /// None of them is over another.
+    Apart,
+    /// Nothing: some may be over others.
+    Nothing,
+}
+
+/// How an entry stands to a list, by one comparison for each of the list until one is over it, or is
+/// the same as it where the list is known to be apart: then none is over the entry, and it is over none.
+pub(crate) fn meet<D: Dominance>(
+    dominance: &D,
+    entries: &[Entry],
+    entry: &Entry,
+    known: Known,
+) -> Meeting
+    ensures placed { IsPlaced entries.now result }
+    ensures meets { let over = entry_order (D.order dominance.now) in
+        IsKnown over entries.now known → Meets over entries.now entry.now result }
 {
     let mut above = false;
     for (place, other) in entries.iter().enumerate() {
         match compare(dominance, other, entry) {
+            Relation::Neither => {}
             Relation::Better => return Meeting::Beaten { place },
             Relation::Worse => above = true,
-            Relation::Same | Relation::Neither => {}
+            Relation::Same => {
+                if let Known::Apart = known {
+                    return Meeting::Apart;
+                }
+            }
         }
     }
     if above {
@@ -72,12 +96,14 @@ impl Losers {
     }
 }
 
-/// The same, and the entry that beat it goes half way to the front, since it may beat the next one too.
+/// The same for a list of which none is over another, and the entry that beat it goes half way to the
+/// front, since it may beat the next one too.
 fn meet_and_move<D: Dominance>(dominance: &D, entries: &mut Vec<Entry>, entry: &Entry) -> Meeting
-    ensures meets { Meets (entry_order (D.order dominance.now)) entries.old.items entry.now result }
+    ensures meets { let over = entry_order (D.order dominance.now) in
+        IsApart over entries.old.items → Meets over entries.old.items entry.now result }
     ensures permutation { IsPermutation entries.old.items entries.new.items }
 {
-    let meeting = meet(dominance, entries, entry);
+    let meeting = meet(dominance, entries, entry, Known::Apart);
     if let Meeting::Beaten { place } = meeting {
         entries.swap(place / 2, place);
     }
@@ -116,8 +142,9 @@ impl Sifted {
     }
 }
 
-/// Sifts coming entries by a held level: at most one comparison for each pair of them. Those that beat often come to be compared
-/// early, in a copy of the level.
+/// Sifts coming entries by a held level, of which none is over another: at most one comparison for each
+/// pair of them, and for each coming entry none behind a held one that is the same. Those that beat
+/// often come to be compared early, in a copy of the level.
 pub(crate) fn sift<D: Dominance>(
     alloc: Global,
     dominance: &D,
@@ -125,9 +152,17 @@ pub(crate) fn sift<D: Dominance>(
     coming: &[Entry],
     losers: Losers,
 ) -> Result<Sifted, AllocError>
-    ensures let_in { IfOk result (λ s. s.let_in.items ≡ let_in (entry_order (D.order dominance.now)) held.now coming.now) }
-    ensures displacing { IfOk result (λ s. s.displacing.items ≡ displacing (entry_order (D.order dominance.now)) held.now coming.now) }
-    ensures turned_away { IfOk result (λ s. s.turned_away.items ≡ filter (λ e. is_kept losers && is_beaten (entry_order (D.order dominance.now)) held.now e) coming.now) }
+    ensures let_in { let over = entry_order (D.order dominance.now) in
+        IfOk result (λ s. IsApart over held.now → s.let_in.items ≡ let_in over held.now coming.now) }
+    ensures displacing { let over = entry_order (D.order dominance.now) in
+        IfOk result (λ s. IsApart over held.now → s.displacing.items ≡ displacing over held.now coming.now) }
+    ensures turned_away { let over = entry_order (D.order dominance.now) in
+        IfOk result (λ s. IsApart over held.now
+        → s.turned_away.items ≡ filter (λ e. is_kept losers && is_beaten over held.now e) coming.now) }
+
+    // Each entry is put into one of the two at most, whatever the held ones are.
+    ensures counts { IfOk result (λ s. (p : Entry → Bool)
+        → count_by p s.let_in.items + count_by p s.turned_away.items ≤ count_by p coming.now) }
 {
     let mut order = Vec::from_slice(alloc, held)?;
     let mut sifted = Sifted {

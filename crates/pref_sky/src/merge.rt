@@ -126,8 +126,10 @@ pub(crate) fn first_coming<D: Dominance>(
     ranked: &[Ranked],
     entries: &[Entry],
 ) -> Result<Vec<Entry>, AllocError>
-    ensures { IfOk result (λ coming. (coming.items ≡ entries.now)
-        ⊎ ((0 < cut) × (coming.items ≡ let_in (entry_order (D.order dominance.now)) (held_on cut ranked.now) entries.now))) }
+    ensures coming { let over = entry_order (D.order dominance.now) in
+        IfOk result (λ coming. IsApart over (held_on cut ranked.now) → (coming.items ≡ entries.now)
+        ⊎ ((0 < cut) × (coming.items ≡ let_in over (held_on cut ranked.now) entries.now))) }
+    ensures counts { IfOk result (λ coming. (p : Entry → Bool) → count_by p coming.items ≤ count_by p entries.now) }
 {
     if cut < 2 {
         return Vec::from_slice(alloc, entries);

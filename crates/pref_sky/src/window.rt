@@ -5,7 +5,7 @@ ghost use Rattle.std.specs.List.{list_any};
 ghost use Rattle.pref_sky.specs.Levels.{entry_order};
 
 use crate::entry::{Entry, is_over};
-use crate::meeting::{Meeting, meet};
+use crate::meeting::{Known, Meeting, meet};
 use pref_term::Dominance;
 use std::alloc::{AllocError, Global};
 use std::marker::Model;
@@ -101,6 +101,7 @@ fn make_room<D: Dominance>(
 impl Window {
     ghost use Rattle.std.specs.Prelude.{◌≡◌, ◌<◌, ◌≤◌, ◌⊎◌, ◌++◌, [], length, IfOk, OnOk};
     ghost use Rattle.pref_sky.specs.Levels.{entry_order};
+    ghost use Rattle.pref_sky.specs.Meetings.{IsKnown};
     ghost use Rattle.pref_sky.specs.Passes.{settled};
     ghost use Rattle.pref_sky.specs.Windows.{Held, Offers, begun, held};
 
@@ -130,7 +131,24 @@ impl Window {
         ensures within { length (held self.new) ≤ self.new.size }
         ensures size { self.new.size ≡ self.old.size }
     {
-        let above = match meet(dominance, &self.entries, &entry) {
+        self.offer_known(dominance, entry, Known::Nothing)
+    }
+
+    /// The same, with what is known of the window: where it is apart, an entry that is the same as a held
+    /// one is compared with no further one.
+    pub(crate) fn offer_known<D: Dominance>(
+        &mut self,
+        dominance: &D,
+        entry: Entry,
+        known: Known,
+    ) -> Offer
+        requires { IsKnown (entry_order (D.order dominance.now)) (held self.old) known }
+        ensures outcome { Offers (entry_order (D.order dominance.now)) self.old entry result self.new }
+        ensures as_before { (result ≡ Offer.Joined) ⊎ (held self.new ≡ held self.old) }
+        ensures within { length (held self.new) ≤ self.new.size }
+        ensures size { self.new.size ≡ self.old.size }
+    {
+        let above = match meet(dominance, &self.entries, &entry, known) {
             Meeting::Beaten { .. } => return Offer::Dropped,
             Meeting::Above => true,
             Meeting::Apart => false,

@@ -16,7 +16,7 @@ pub(super) fn ask_of(alloc: Global, text: &[u8]) -> Result<Ask, Fail> {
     Ok(read_ask(alloc, &schema, text)?)
 }
 
-fn check_answer(
+pub(super) fn check_answer(
     rt: &impl Abort,
     alloc: Global,
     text: &[u8],

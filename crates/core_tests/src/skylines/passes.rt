@@ -5,15 +5,18 @@ use super::fixtures::{LowBoth, ids_of, numbered};
 use super::plain::best_rows_by_pairs;
 use crate::same::{assert_same, assert_same_list};
 use pref_sky::{Offer, Window, best_rows, best_rows_passes};
+use pref_term::Dominance;
 use std::alloc::Global;
 use std::process::Abort;
 use std::test::Fail;
 
 const HOTELS: [(i64, i64); 5] = [(50, 8), (60, 5), (80, 2), (70, 6), (90, 2)];
 
-fn check_passes(
+/// Compares the best rows and the number of passes.
+pub(super) fn check_passes<D: Dominance>(
     rt: &impl Abort,
     alloc: Global,
+    dominance: &D,
     rows: &[(i64, i64)],
     window: usize,
     ids: &[u64],
@@ -22,7 +25,7 @@ fn check_passes(
     requires { 0 < window }
 {
     let entries = numbered(alloc, rows)?;
-    let (found, count) = best_rows_passes(alloc, &LowBoth, window, &entries)?;
+    let (found, count) = best_rows_passes(alloc, dominance, window, &entries)?;
     let found = ids_of(alloc, &found)?;
     assert_same_list(rt, (rows, window), found.as_slice(), ids);
     assert_same(rt, (rows, window), &count, &passes);
@@ -32,10 +35,10 @@ fn check_passes(
 #[test]
 fn passes_of_small_tables(rt: HostRuntime) -> Result<(), Fail> {
     let alloc = rt.alloc();
-    check_passes(&rt, alloc, &[], 1, &[], 0)?;
-    check_passes(&rt, alloc, &HOTELS, 1, &[1, 2, 3], 3)?;
-    check_passes(&rt, alloc, &HOTELS, 64, &[1, 2, 3], 1)?;
-    check_passes(&rt, alloc, &[(5, 5), (9, 1), (1, 1)], 1, &[3], 2)
+    check_passes(&rt, alloc, &LowBoth, &[], 1, &[], 0)?;
+    check_passes(&rt, alloc, &LowBoth, &HOTELS, 1, &[1, 2, 3], 3)?;
+    check_passes(&rt, alloc, &LowBoth, &HOTELS, 64, &[1, 2, 3], 1)?;
+    check_passes(&rt, alloc, &LowBoth, &[(5, 5), (9, 1), (1, 1)], 1, &[3], 2)
 }
 
 #[test]
@@ -59,7 +62,7 @@ fn offers_to_a_full_window(rt: HostRuntime) -> Result<(), Fail> {
 
 #[test]
 fn equal_rows_are_all_best(rt: HostRuntime) -> Result<(), Fail> {
-    check_passes(&rt, rt.alloc(), &[(1, 2), (1, 2)], 1, &[1, 2], 2)
+    check_passes(&rt, rt.alloc(), &LowBoth, &[(1, 2), (1, 2)], 1, &[1, 2], 2)
 }
 
 #[test]

@@ -10,10 +10,11 @@ use Rattle.pref_sky.specs.Meetings.{let_in, displacing, turned_away, is_kept}
 use Rattle.pref_sky.specs.declared.meeting.Losers.{Losers}
 use Rattle.pref_sky.specs.declared.meeting.Losers.TheVariants as losers
 use Rattle.pref_sky.specs.Members.{SameMembers}
+use Rattle.pref_sky.specs.Passes.{IsApart}
 use Rattle.pref_sky.proofs.Orders.{sorted_is}
 use Rattle.pref_sky.proofs.Merges.{entry_order_is_strict, different_filter, count_filter}
 use Rattle.pref_sky.proofs.Searches.{lost_by_id}
-use Rattle.pref_sky.proofs.HeldLevels.{staying, displaced, level_is, level_differ, down_members, down_count}
+use Rattle.pref_sky.proofs.HeldLevels.{staying, displaced, level_is, level_differ, down_members, different_by_count}
 use Rattle.pref_sky.proofs.merge.merge_level.Given as given
 use Rattle.pref_sky.proofs.merge.merge_level.Goals as goal
 use Rattle.pref_sky.proofs.merge.merge_level.Goals.{in-Kept+in_ok-push_lost+in_ok-append, in_default}
@@ -40,8 +41,7 @@ staying_is g c =
 
 pub best_rows-requires-clause-ids : goal.best_rows-requires-clause-ids
 best_rows-requires-clause-ids g c =
-    let over = entry_order (g.D.Dominance.order c.args.dominance.now) in
-    subst HaveDifferentIds (sym (c.deref.ensures.value ∙ c.in_ok-sifted.ensures.let_in)) (different_let_in over c.args.held.now c.args.coming.now c.requires.ids)
+    subst HaveDifferentIds (sym c.deref.ensures.value) (different_by_count c.args.held.now c.args.coming.now c.in_ok-sifted.sifted.let_in.items c.requires.ids (λ p. let fewer = c.in_ok-sifted.ensures.counts p in omega (arith, fewer)))
 
 pub returns-clause-level : goal.returns-clause-level
 returns-clause-level g c apart =
@@ -50,9 +50,9 @@ returns-clause-level g c apart =
     let strict = entry_order_is_strict row_order (g.met.D.Dominance.strict c.args.dominance.now) in
     let held = c.args.held.now in
     let coming = c.args.coming.now in
-    let left : c.deref.result.now ≡ let_in over held coming = c.deref.ensures.value ∙ c.in_ok-sifted.ensures.let_in in
+    let left : c.deref.result.now ≡ let_in over held coming = c.deref.ensures.value ∙ c.in_ok-sifted.ensures.let_in apart in
     let found : c.in_ok-best.best.items ≡ in_order_of_id (best over (let_in over held coming)) = c.in_ok-best.ensures ∙ ap (λ l. in_order_of_id (best over l)) left in
-    let above : c.deref-2.result.now ≡ displacing over held coming = c.deref-2.ensures.value ∙ c.in_ok-sifted.ensures.displacing in
+    let above : c.deref-2.result.now ≡ displacing over held coming = c.deref-2.ensures.value ∙ c.in_ok-sifted.ensures.displacing apart in
     let kept : c.in_ok-parts.parts.staying.items ≡ staying over held coming = c.in_ok-parts.ensures.staying ∙ ap (λ d. filter (λ e. not (is_beaten over d e)) held) above in
     let joined : c.append-2.new.self.items ≡ staying over held coming ++ in_order_of_id (best over (let_in over held coming)) =
     (c.in_ok-append-2.ensures {u = tt}).items ∙ (ap (λ l. l ++ c.in_ok-best.best.items) (staying_is g c ∙ kept) ∙ ap (λ l. staying over held coming ++ l) found) in
@@ -72,14 +72,14 @@ down_is over held coming away pushed down left top above kept further different 
     ∙ ap (λ x. (turned_away over held coming ++ without_best over (let_in over held coming)) ++ filter (is_beaten over x) held) d)
 
 -- what goes down, where losers are kept
-goes_down : (g : given.Over) (c : goal.After-drop-sifted-3 g) → is_kept c.args.losers ≡ true
+goes_down : (g : given.Over) (c : goal.After-drop-sifted-3 g) → IsApart (order_of g c) c.args.held.now → is_kept c.args.losers ≡ true
     → c.match-losers.down.items ≡ (turned_away (order_of g c) c.args.held.now c.args.coming.now ++ without_best (order_of g c) (let_in (order_of g c) c.args.held.now c.args.coming.now)) ++ displaced (order_of g c) c.args.held.now c.args.coming.now
-goes_down g c further =
+goes_down g c apart further =
     let over = order_of g c in
     let held = c.args.held.now in
     let coming = c.args.coming.now in
-    let left : c.in_ok-sifted.sifted.let_in.items ≡ let_in over held coming = c.in_ok-sifted.ensures.let_in in
-    let above : c.deref-2.result.now ≡ displacing over held coming = c.deref-2.ensures.value ∙ c.in_ok-sifted.ensures.displacing in
+    let left : c.in_ok-sifted.sifted.let_in.items ≡ let_in over held coming = c.in_ok-sifted.ensures.let_in apart in
+    let above : c.deref-2.result.now ≡ displacing over held coming = c.deref-2.ensures.value ∙ c.in_ok-sifted.ensures.displacing apart in
     let top : c.in_ok-best.best.items ≡ in_order_of_id (best over c.in_ok-sifted.sifted.let_in.items) = c.in_ok-best.ensures ∙ ap (λ l. in_order_of_id (best over l)) c.deref.ensures.value in
     elim c.match-losers.branch [
       | in-Kept+in_ok-push_lost+in_ok-append w ↦
@@ -91,7 +91,7 @@ goes_down g c further =
           let last : w.append.new.self.items ≡ w.push_lost.new.down.items ++ filter (is_beaten over c.deref-2.result.now) held =
           (w.in_ok-append.ensures {u = tt}).items ∙ ap (λ d. w.push_lost.new.down.items ++ d) c.in_ok-parts.ensures.displaced in
           ap (λ v. v.items) w.down-is ∙ down_is over held coming c.in_ok-sifted.sifted.turned_away.items w.push_lost.new.down.items w.append.new.self.items w.deref-in-Kept.result.now w.deref-in-Kept-2.result.now c.deref-2.result.now (is_kept c.args.losers) further c.requires.ids
-          c.in_ok-sifted.ensures.turned_away (lost_from ∙ left) (lost_top ∙ (top ∙ ap (λ l. in_order_of_id (best over l)) (sym lost_from))) above pushed last
+          (c.in_ok-sifted.ensures.turned_away apart) (lost_from ∙ left) (lost_top ∙ (top ∙ ap (λ l. in_order_of_id (best over l)) (sym lost_from))) above pushed last
       | in_default w ↦ absurd (w.in_default.not-Kept (kept_is c.args.losers further))
     ]
 
@@ -99,18 +99,35 @@ pub returns-clause-down : goal.returns-clause-down
 returns-clause-down g c apart further =
     let over = order_of g c in
     let strict = entry_order_is_strict (g.D.Dominance.order c.args.dominance.now) (g.met.D.Dominance.strict c.args.dominance.now) in
-    subst (λ l. SameMembers l (without_best over (c.args.held.now ++ c.args.coming.now))) (sym (goes_down g c further)) (down_members over strict c.args.held.now c.args.coming.now apart)
+    subst (λ l. SameMembers l (without_best over (c.args.held.now ++ c.args.coming.now))) (sym (goes_down g c apart further)) (down_members over strict c.args.held.now c.args.coming.now apart)
 
 pub returns-clause-counts : goal.returns-clause-counts
 returns-clause-counts g c p =
     let over = order_of g c in
     let held = c.args.held.now in
-    let coming = c.args.coming.now in
+    let sifted = c.in_ok-sifted.sifted in
+    let fewer : count_by p sifted.let_in.items + count_by p sifted.turned_away.items ≤ count_by p c.args.coming.now = c.in_ok-sifted.ensures.counts p in
     elim c.match-losers.branch [
       | in-Kept+in_ok-push_lost+in_ok-append w ↦
-          subst (λ l. count_by p l ≤ count_by p held + count_by p coming) (sym (goes_down g c (ap is_kept w.in-Kept.is))) (down_count over held coming p)
+          let top : c.in_ok-best.best.items ≡ in_order_of_id (best over sifted.let_in.items) = c.in_ok-best.ensures ∙ ap (λ l. in_order_of_id (best over l)) c.deref.ensures.value in
+          let differ = different_by_count held c.args.coming.now sifted.let_in.items c.requires.ids (λ q. let less = c.in_ok-sifted.ensures.counts q in omega (arith, less)) in
+          let lost : Entry → Bool = λ e. not (list_any (λ (b : Entry). eqb b.id e.id) w.deref-in-Kept-2.result.now) in
+          let pushed : w.push_lost.new.down.items ≡ sifted.turned_away.items ++ filter lost w.deref-in-Kept.result.now =
+          (w.in_ok-push_lost.ensures {u = tt}) (best over sifted.let_in.items) (different_filter (λ e. not (is_beaten over sifted.let_in.items e)) sifted.let_in.items differ) (w.deref-in-Kept-2.ensures.value ∙ top) in
+          let last : w.append.new.self.items ≡ w.push_lost.new.down.items ++ filter (is_beaten over c.deref-2.result.now) held =
+          (w.in_ok-append.ensures {u = tt}).items ∙ ap (λ d. w.push_lost.new.down.items ++ d) c.in_ok-parts.ensures.displaced in
+          omega (
+            arith,
+            fewer,
+            ap (count_by p) (ap (λ v. v.items) w.down-is ∙ last),
+            sum_by-append (λ (e : Entry). cond (p e) 1 0) w.push_lost.new.down.items (filter (is_beaten over c.deref-2.result.now) held),
+            count_filter p (is_beaten over c.deref-2.result.now) held,
+            ap (count_by p) pushed,
+            sum_by-append (λ (e : Entry). cond (p e) 1 0) sifted.turned_away.items (filter lost w.deref-in-Kept.result.now),
+            count_filter p lost w.deref-in-Kept.result.now,
+            ap (count_by p) w.deref-in-Kept.ensures.value,
+          )
       | in_default w ↦
-          let fewer = count_filter p (λ e. is_kept c.args.losers && is_beaten over held e) coming in
-          let same = ap (count_by p) (ap (λ v. v.items) w.down-is ∙ c.in_ok-sifted.ensures.turned_away) in
+          let same = ap (count_by p) (ap (λ v. v.items) w.down-is) in
           omega (arith, fewer, same)
     ]

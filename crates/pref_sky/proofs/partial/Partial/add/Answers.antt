@@ -9,7 +9,7 @@ use Rattle.pref_sky.specs.Levels.{HaveDifferentIds, entry_order, entry_of, in_or
 use Rattle.pref_sky.specs.Meetings.{is_kept, length_of_level}
 use Rattle.pref_sky.specs.Members.{SameMembers}
 use Rattle.pref_sky.proofs.Merges.{entry_order_is_strict}
-use Rattle.pref_sky.proofs.EarlyDrop.{MergingSome, some_begins, some_more, some_ends, chosen_count, parts_count, front_of}
+use Rattle.pref_sky.proofs.EarlyDrop.{MergingSome, some_begins, some_more, some_ends, held_apart, parts_count, front_of}
 use Rattle.pref_sky.proofs.partial.Partial.add.Goals as goal
 use Rattle.pref_sky.proofs.partial.Partial.add.Goals.{then-each_level-test+else-not-is_empty, else-each_level-test}
 
@@ -25,11 +25,11 @@ each_level-init g c =
     let tail : c.as_slice-tail.result.now ≡ c.args.self.now = c.as_slice-tail.ensures in
     record {
       within = omega arith;
-      counts = λ p. let fewer = chosen_count over c.args.entries.now c.in_ok-coming.coming.items c.args.cut c.as_slice-tail.result.now p c.in_ok-coming.ensures in
+      counts = λ p. let fewer = c.in_ok-coming.ensures.counts p in
           omega (arith, fewer, ap (λ l. count_by p (map entry_of l)) tail);
       merging = λ before different held.
           subst (λ l. MergingSome over before c.args.entries.now c.args.cut 0 l c.in_ok-coming.coming.items c.as_slice-tail.result.now) (sym (c.in_ok-ranked.ensures {u = tt}).items)
-          (some_begins over strict before c.args.entries.now c.args.cut c.as_slice-tail.result.now c.in_ok-coming.coming.items (tail ∙ held) different c.in_ok-coming.ensures);
+          (some_begins over strict before c.args.entries.now c.args.cut c.as_slice-tail.result.now c.in_ok-coming.coming.items (tail ∙ held) different (c.in_ok-coming.ensures.coming (held_apart over before c.args.cut c.as_slice-tail.result.now (tail ∙ held))));
     }
 
 -- what is held of the level, and what comes, have different ids
@@ -100,7 +100,7 @@ returns-then-is_empty-clause-ok g c before different held =
     let tail : c.as_slice-tail.result.now ≡ c.args.self.now = c.as_slice-tail.ensures in
     let coming = c.in_ok-coming.coming in
     let nothing : coming.items ≡ [] = no_items coming.items (omega (arith, eqb-true (vec_len coming) 0 (sym c.is_empty.ensures ∙ c.if-is_empty.true), coming.ok.0)) in
-    let begun = some_begins over strict before c.args.entries.now c.args.cut c.as_slice-tail.result.now coming.items (tail ∙ held) different c.in_ok-coming.ensures in
+    let begun = some_begins over strict before c.args.entries.now c.args.cut c.as_slice-tail.result.now coming.items (tail ∙ held) different (c.in_ok-coming.ensures.coming (held_apart over before c.args.cut c.as_slice-tail.result.now (tail ∙ held))) in
     sym tail ∙ some_ends over before c.args.entries.now c.args.cut 0 [] coming.items c.as_slice-tail.result.now (omega arith) (inr nothing) begun
 
 pub returns-clause-ok : goal.returns-clause-ok

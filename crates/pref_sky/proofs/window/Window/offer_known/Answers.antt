@@ -5,10 +5,11 @@ use Rattle.std.proofs.lemmas.Bool.{both_ways}
 use Rattle.pref_sky.specs.declared.entry.Entry.{Entry}
 use Rattle.pref_sky.specs.Best.{is_beaten}
 use Rattle.pref_sky.specs.Levels.{entry_order}
+use Rattle.pref_sky.specs.Meetings.{IsKnown}
 use Rattle.pref_sky.specs.Windows.{held, joined, not_below}
 use Rattle.pref_sky.proofs.Splits.{overflow_view, joined_early, joined_late, held_of, front_count_le, front_count_all, meets_says}
-use Rattle.pref_sky.proofs.window.Window.offer.Goals as goal
-use Rattle.pref_sky.proofs.window.Window.offer.Goals.{in-Above, in-Apart}
+use Rattle.pref_sky.proofs.window.Window.offer_known.Goals as goal
+use Rattle.pref_sky.proofs.window.Window.offer_known.Goals.{in-Above, in-Apart}
 
 pub returns-then-len-self-clause-outcome : goal.returns-then-len-self-clause-outcome
 returns-then-len-self-clause-outcome g c =
@@ -17,10 +18,11 @@ returns-then-len-self-clause-outcome g c =
     let a = c.self.inside in
     let counted : c.make_room-self-inside.result ≡ count_by (λ (w : Entry). not (over e w)) (take a.early a.entries.items) = c.make_room-self-inside.ensures.early in
     let held_all : held c.args.self.now ≡ a.entries.items = ap held (sym c.self.view_is) ∙ take-append-drop a.early a.entries.items in
+    let known : IsKnown over c.deref.result.now c.args.known = subst (λ l. IsKnown over l c.args.known) (held_all ∙ sym c.deref.ensures.value) c.requires in
     let not_beaten : is_beaten over c.deref.result.now e ≡ false =
     elim c.match-meet.branch [
-      | in-Above w ↦ (meets_says over c.deref.result.now e c.meet.result c.match-meet.above c.meet.ensures (inl (w.in-Above.is, w.above-is))).0
-      | in-Apart w ↦ (meets_says over c.deref.result.now e c.meet.result c.match-meet.above c.meet.ensures (inr (w.in-Apart.is, w.above-is))).0
+      | in-Above w ↦ (meets_says over c.deref.result.now e c.meet.result c.match-meet.above (c.meet.ensures.meets known) (inl (w.in-Above.is, w.above-is))).0
+      | in-Apart w ↦ (meets_says over c.deref.result.now e c.meet.result c.match-meet.above (c.meet.ensures.meets known) (inr (w.in-Apart.is, w.above-is))).0
     ] in
     let unbeaten : is_beaten over (held c.args.self.now) e ≡ false = ap (λ l. is_beaten over l e) (held_all ∙ sym c.deref.ensures.value) ∙ not_beaten in
     let parts = overflow_view (λ (w : Entry). not (over e w)) a.entries.items c.make_room-self-inside.new.entries.items a.size a.early c.make_room-self-inside.result true (omega (arith, c.self.invariant.within)) counted c.make_room-self-inside.ensures.items (omega (arith, c.make_room-self-inside.new.entries.ok.0, c.len.ensures, c.if-len-self.true)) in
@@ -45,10 +47,11 @@ returns-then-not-self-clause-outcome g c =
     let a = c.self.inside in
     let counted : c.make_room-self-inside.result ≡ count_by (λ (w : Entry). not (over e w)) (take a.early a.entries.items) = c.make_room-self-inside.ensures.early in
     let held_all : held c.args.self.now ≡ a.entries.items = ap held (sym c.self.view_is) ∙ take-append-drop a.early a.entries.items in
+    let known : IsKnown over c.deref.result.now c.args.known = subst (λ l. IsKnown over l c.args.known) (held_all ∙ sym c.deref.ensures.value) c.requires in
     let not_beaten : is_beaten over c.deref.result.now e ≡ false =
     elim c.match-meet.branch [
-      | in-Above w ↦ (meets_says over c.deref.result.now e c.meet.result c.match-meet.above c.meet.ensures (inl (w.in-Above.is, w.above-is))).0
-      | in-Apart w ↦ (meets_says over c.deref.result.now e c.meet.result c.match-meet.above c.meet.ensures (inr (w.in-Apart.is, w.above-is))).0
+      | in-Above w ↦ (meets_says over c.deref.result.now e c.meet.result c.match-meet.above (c.meet.ensures.meets known) (inl (w.in-Above.is, w.above-is))).0
+      | in-Apart w ↦ (meets_says over c.deref.result.now e c.meet.result c.match-meet.above (c.meet.ensures.meets known) (inr (w.in-Apart.is, w.above-is))).0
     ] in
     let unbeaten : is_beaten over (held c.args.self.now) e ≡ false = ap (λ l. is_beaten over l e) (held_all ∙ sym c.deref.ensures.value) ∙ not_beaten in
     let okay : is_ok c.push.result ≡ true = ap is_ok c.unwrap.ensures in
@@ -63,10 +66,11 @@ returns-else-not-self-clause-outcome g c =
     let a = c.self.inside in
     let counted : c.make_room-self-inside.result ≡ count_by (λ (w : Entry). not (over e w)) (take a.early a.entries.items) = c.make_room-self-inside.ensures.early in
     let held_all : held c.args.self.now ≡ a.entries.items = ap held (sym c.self.view_is) ∙ take-append-drop a.early a.entries.items in
+    let known : IsKnown over c.deref.result.now c.args.known = subst (λ l. IsKnown over l c.args.known) (held_all ∙ sym c.deref.ensures.value) c.requires in
     let not_beaten : is_beaten over c.deref.result.now e ≡ false =
     elim c.match-meet.branch [
-      | in-Above w ↦ (meets_says over c.deref.result.now e c.meet.result c.match-meet.above c.meet.ensures (inl (w.in-Above.is, w.above-is))).0
-      | in-Apart w ↦ (meets_says over c.deref.result.now e c.meet.result c.match-meet.above c.meet.ensures (inr (w.in-Apart.is, w.above-is))).0
+      | in-Above w ↦ (meets_says over c.deref.result.now e c.meet.result c.match-meet.above (c.meet.ensures.meets known) (inl (w.in-Above.is, w.above-is))).0
+      | in-Apart w ↦ (meets_says over c.deref.result.now e c.meet.result c.match-meet.above (c.meet.ensures.meets known) (inr (w.in-Apart.is, w.above-is))).0
     ] in
     let unbeaten : is_beaten over (held c.args.self.now) e ≡ false = ap (λ l. is_beaten over l e) (held_all ∙ sym c.deref.ensures.value) ∙ not_beaten in
     let okay : is_ok c.push.result ≡ true = ap is_ok c.unwrap.ensures in

@@ -1,0 +1,103 @@
+//! Rows that are the same under an ask: all of them are kept, by any window and on each level.
+use super::answers::{ask_of, check_answer};
+use super::fixtures::{ids_of, numbered};
+use super::passes::check_passes;
+use super::plain::best_rows_by_pairs;
+use crate::same::{assert_same, assert_same_list};
+use pref_sky::{Offer, Window, best_rows};
+use std::test::Fail;
+
+/// Nine hotels with their stars, of which six have the most.
+const RATED: [(i64, i64); 9] = [
+    (5, 1),
+    (4, 2),
+    (5, 3),
+    (5, 4),
+    (3, 5),
+    (5, 6),
+    (5, 7),
+    (4, 8),
+    (5, 9),
+];
+
+#[test]
+fn ties_in_windows_smaller_than_the_ties(rt: HostRuntime) -> Result<(), Fail> {
+    let alloc = rt.alloc();
+    let rated = ask_of(alloc, b"best high(x)")?;
+    let ids = [1, 3, 4, 6, 7, 9];
+    check_passes(&rt, alloc, &rated, &RATED, 1, &ids, 6)?;
+    check_passes(&rt, alloc, &rated, &RATED, 2, &ids, 3)?;
+    check_passes(&rt, alloc, &rated, &RATED, 4, &ids, 2)?;
+    check_passes(&rt, alloc, &rated, &RATED, 64, &ids, 1)?;
+
+    let alike = ask_of(alloc, b"best pos(x, 9)")?;
+    let ids = [1, 2, 3, 4, 5, 6, 7, 8, 9];
+    check_passes(&rt, alloc, &alike, &RATED, 2, &ids, 5)?;
+    check_passes(&rt, alloc, &alike, &RATED, 4, &ids, 3)?;
+    check_passes(&rt, alloc, &alike, &RATED, 9, &ids, 1)
+}
+
+#[test]
+fn ties_that_a_later_tie_displaces(rt: HostRuntime) -> Result<(), Fail> {
+    let alloc = rt.alloc();
+    let rated = ask_of(alloc, b"best high(x)")?;
+    let rows = [(1, 0), (1, 0), (1, 0), (2, 0), (2, 0), (2, 0), (2, 0)];
+    check_passes(&rt, alloc, &rated, &rows, 2, &[4, 5, 6, 7], 3)
+}
+
+#[test]
+fn ties_on_each_level(rt: HostRuntime) -> Result<(), Fail> {
+    let alloc = rt.alloc();
+    let best = [(1, 1), (1, 3), (1, 4), (1, 6), (1, 7), (1, 9)];
+    let two_levels = [
+        (1, 1),
+        (1, 3),
+        (1, 4),
+        (1, 6),
+        (1, 7),
+        (1, 9),
+        (2, 2),
+        (2, 8),
+    ];
+    check_answer(&rt, alloc, b"best high(x)", &RATED, &best)?;
+    check_answer(&rt, alloc, b"top_level 2 high(x)", &RATED, &two_levels)?;
+    check_answer(&rt, alloc, b"at_least 7 high(x)", &RATED, &two_levels)
+}
+
+#[test]
+fn many_ties_by_windows_of_every_size(rt: HostRuntime) -> Result<(), Fail> {
+    let alloc = rt.alloc();
+    let mut rows = Vec::with_capacity(alloc, 1000)?;
+    for i in 0..1000_u32 {
+        rows.push((i64::from(i % 5), i64::from(i % 7)))?;
+    }
+    let entries = numbered(alloc, &rows)?;
+    let ask = ask_of(alloc, b"best high(x) * around(y, 3)")?;
+    let plain = ids_of(alloc, &best_rows_by_pairs(alloc, &ask, &entries)?)?;
+    assert_same(&rt, "ties", &plain.len(), &28);
+    for window in [1, 2, 27, 1000] {
+        let found = ids_of(alloc, &best_rows(alloc, &ask, window, &entries)?)?;
+        assert_same_list(&rt, ("window", window), found.as_slice(), plain.as_slice());
+    }
+    Ok(())
+}
+
+/// By y all three are the same, so the window takes the first two, of which the second is over the first by x.
+#[test]
+fn an_offer_by_another_order(rt: HostRuntime) -> Result<(), Fail> {
+    let alloc = rt.alloc();
+    let entries = numbered(alloc, &[(2, 0), (1, 0), (2, 0)])?;
+    let by_x = ask_of(alloc, b"best low(x)")?;
+    let by_y = ask_of(alloc, b"best low(y)")?;
+    let mut window = Window::new(alloc, 3)?;
+    let offers = [
+        (&by_y, Offer::Joined),
+        (&by_y, Offer::Joined),
+        (&by_x, Offer::Dropped),
+    ];
+    for (entry, (ask, outcome)) in entries.iter().zip(offers) {
+        let told = window.offer(ask, *entry);
+        assert_same(&rt, ("id", entry.id), &told, &outcome);
+    }
+    Ok(())
+}
