@@ -1,7 +1,6 @@
 -- An op that is legal at slots that stand for a state leaves slots that stand for the next one.
 use Rattle.std.proofs.Common.{◌≡◌, ℕ, zero, suc, Bool, true, false, not, List, [], ◌∷◌, length, Option, Some, None, is_some, slice_set, refl, sym, ap, ◌∙◌, arith}
 use Rattle.std.specs.List.{AllZip}
-use Rattle.std.specs.Option.{option_to_list}
 use Rattle.std.proofs.lemmas.Bool.{and_parts, eqb-true}
 use Rattle.pref_core.specs.declared.store.version.Version.{Version}
 use Rattle.pref_core.specs.declared.store.caller.Caller.{Caller}
@@ -13,7 +12,7 @@ use Rattle.pref_core.specs.declared.call.Op.{Op}
 use Rattle.pref_core.specs.State.{State, Client, Snapshot, with_seat, is_change, missing, ended, begun, granted, outcome, outcome_of, succeeds, committed, begun_after, counted, after}
 use Rattle.pref_core.specs.Slots.{Contents, StandsFor, StandsForClient, ShowsBegin, stamps, caller_calls}
 use Rattle.pref_core.specs.Operations.{grown, filled, begin_after, callers_after, is_next, same_number, same_outcome, outcome_at, refusal_at, slots_after, stepped}
-use Rattle.pref_core.proofs.Commit.{grown_stands}
+use Rattle.pref_core.proofs.Committing.{grown_stands}
 use Rattle.pref_core.proofs.Reuse.{filled_stands}
 use Rattle.pref_core.proofs.Outcomes.{SameSeat, nobody, somebody, same_seat, same_outcome_at}
 
@@ -120,11 +119,11 @@ stepped_stands contents state op slots h next fits = go (is_change op.call) refl
     same : op.outcome ≡ outcome (length contents.slots) state op.call
     same = (IsAllowed-from contents op next).outcome ∙ same_outcome_at contents state op.call h
 
-    quiet : filled (stamps contents) contents.stamp (option_to_list op.slot) [] contents.slots ≡ Some slots
+    quiet : filled (stamps contents) contents.stamp op.slots [] contents.slots ≡ Some slots
         → StandsFor (record { slots = slots; stamp = contents.stamp; next_id = contents.next_id; callers = callers_after contents.stamp contents.callers op.client op.call })
         (record { table = state.table; next_id = state.next_id; commits = state.commits; clients = counted state op.client op.call })
     quiet e = counted_stands (record { slots = slots; stamp = contents.stamp; next_id = contents.next_id; callers = contents.callers }) state op.client op.call
-        (filled_stands contents state contents.stamp (option_to_list op.slot) [] contents.slots slots e h)
+        (filled_stands contents state contents.stamp op.slots [] contents.slots slots e h)
 
     go : (c : Bool) → is_change op.call ≡ c → (s : Bool) → succeeds op.outcome ≡ s → StandsFor (stepped contents op slots) (after (length contents.slots) state op.client op.call)
     go false c s o = rw c (quiet (rw c at fits))
@@ -135,6 +134,6 @@ stepped_stands contents state op slots h next fits = go (is_change op.call) refl
         let granted_too = rw c at (ap succeeds (sym same) ∙ o) in
         let none = succeeds-missing _ _ (missing (ended op.call) state.table) _ _ granted_too in
         let grows = grown_stands contents state op.call c none h in
-        let placed = filled_stands (grown op.call contents) (committed op.call state) (suc contents.stamp) (option_to_list op.slot) (begun contents.next_id op.call) _ slots (rw (c, o) at fits) grows in
+        let placed = filled_stands (grown op.call contents) (committed op.call state) (suc contents.stamp) op.slots (begun contents.next_id op.call) _ slots (rw (c, o) at fits) grows in
         let counts = counted_stands _ _ op.client op.call placed in
         rw (c, o, granted_too) (rw (callers_after-change contents.stamp (suc contents.stamp) contents.callers op.client op.call c, counted-change state op.client op.call c) at counts)

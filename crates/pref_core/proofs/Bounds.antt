@@ -1,7 +1,6 @@
 -- No number of a store comes near its type's end.
 use Rattle.std.proofs.Common.{◌≡◌, ℕ, zero, suc, ◌+◌, ◌^◌, ◌<◌, ◌≤◌, Bool, true, false, cond, ◌&&◌, nat_lt, List, [], ◌∷◌, map, length, Option, Some, None, is_some, slice_get, slice_set, refl, sym, ap, ◌∙◌, arith}
 use Rattle.std.specs.List.{AllByRecursion, sum_by}
-use Rattle.std.specs.Option.{option_to_list}
 use Rattle.std.proofs.lemmas.List.{length-map, length-set}
 use Rattle.std.proofs.lemmas.Bool.{ltb-true}
 use Rattle.std.proofs.lemmas.List.Elements.{All-from_recursion}
@@ -49,7 +48,7 @@ AllByRecursion-set P (z ∷ xs) zero y p h = (p, h.1)
 AllByRecursion-set P (z ∷ xs) (suc k) y p h = (h.0, AllByRecursion-set P xs k y p h.1)
 
 -- the slots stay as many
-length-filled : (ns : List ℕ) (made : ℕ) (places : List ℕ) (begun : List Entry) (slots after : List (Option Version)) → filled ns made places begun slots ≡ Some after → length after ≡ length slots
+pub length-filled : (ns : List ℕ) (made : ℕ) (places : List ℕ) (begun : List Entry) (slots after : List (Option Version)) → filled ns made places begun slots ≡ Some after → length after ≡ length slots
 length-filled ns made [] [] slots after e = let same : slots ≡ after = cc in ap length (sym same)
 length-filled ns made (place ∷ places) (entry ∷ rest) slots after e = go (is_free ns slots place) e (length-filled ns made places rest (slice_set slots place (born made entry)) after)
   where
@@ -64,8 +63,8 @@ pub length-slots_after : (contents : Contents) (op : Op) (slots : List (Option V
 length-slots_after contents op slots fits = go (is_change op.call && succeeds op.outcome) refl
   where
     go : (b : Bool) → (is_change op.call && succeeds op.outcome) ≡ b → length slots ≡ length contents.slots
-    go true e = length-filled (stamps (grown op.call contents)) (suc contents.stamp) (option_to_list op.slot) (begun contents.next_id op.call) (map (close (ended op.call) (suc contents.stamp)) contents.slots) slots (rw e at fits) ∙ length-map contents.slots (close (ended op.call) (suc contents.stamp))
-    go false e = length-filled (stamps contents) contents.stamp (option_to_list op.slot) [] contents.slots slots (rw e at fits)
+    go true e = length-filled (stamps (grown op.call contents)) (suc contents.stamp) op.slots (begun contents.next_id op.call) (map (close (ended op.call) (suc contents.stamp)) contents.slots) slots (rw e at fits) ∙ length-map contents.slots (close (ended op.call) (suc contents.stamp))
+    go false e = length-filled (stamps contents) contents.stamp op.slots [] contents.slots slots (rw e at fits)
 
 -- what a call that is let in leaves of the callers
 record CountsOne (before after : List Caller) : Type 0 where

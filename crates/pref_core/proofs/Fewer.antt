@@ -1,10 +1,13 @@
 -- Fewer keys are needed where each is needed before.
-use Rattle.std.proofs.Common.{◌≡◌, ℕ, ◌≤◌, Bool, true, false, not, ◌||◌, cond, List, [], ◌∷◌, ◌++◌, length, refl, sym, ap, ◌∙◌, arith}
+use Rattle.std.proofs.Common.{◌≡◌, ℕ, ◌≤◌, Bool, true, false, not, ◌||◌, cond, List, [], ◌∷◌, ◌++◌, length, suc, subst, refl, sym, ap, ◌∙◌, arith}
 use Rattle.std.proofs.lemmas.Bool.{or_right}
-use Rattle.pref_core.specs.Table.{Line, Key, same_key, holds_key, keys, without, among}
-use Rattle.pref_core.specs.State.{found_tables}
+use Rattle.pref_core.specs.Table.{Line, Key, same_key, holds_key, keys, different, with_rows, without, among}
+use Rattle.pref_core.specs.State.{found_tables, ended, changes_of}
+use Rattle.pref_core.specs.declared.changes.Change.{Change}
+use Rattle.pref_core.specs.declared.changes.Change.TheVariants.{Add, Set, Remove}
+use Rattle.pref_core.specs.Changes.{begun_by, begins_any}
 use Rattle.pref_core.specs.Slots.{AreDifferent}
-use Rattle.pref_core.specs.Laws.{DeletesNeedNoMore}
+use Rattle.pref_core.specs.Laws.{DeletesNeedNoMore, EndsNeedNoMore}
 use Rattle.pref_core.proofs.Counting.{others, holds_key-others-at, AreDifferent-others, length-others, same_key_refl, same_key-true, holds_key-different, AreDifferent-different, holds_key-keys-append}
 
 pub fewer : (xs ys : List Key) → AreDifferent xs → AreDifferent ys → ((key : Key) → holds_key xs key ≡ true → holds_key ys key ≡ true) → length xs ≤ length ys
@@ -34,14 +37,29 @@ held_without ids (line ∷ rest) key h = go (among ids line.id) (held_without id
         here true h = refl
         here false h = more h
 
-pub deletes_need_no_more : DeletesNeedNoMore
-deletes_need_no_more state id =
-    fewer _ _ (AreDifferent-different (keys (without (id ∷ []) state.table ++ found_tables state.clients))) (AreDifferent-different (keys (state.table ++ found_tables state.clients))) (λ key h.
-    let held = sym (holds_key-different (keys (without (id ∷ []) state.table ++ found_tables state.clients)) key ∙ holds_key-keys-append key (without (id ∷ []) state.table) (found_tables state.clients)) ∙ h in
-    holds_key-different (keys (state.table ++ found_tables state.clients)) key ∙ holds_key-keys-append key state.table (found_tables state.clients)
-    ∙ both (holds_key (keys (without (id ∷ []) state.table)) key) (holds_key (keys state.table) key) (holds_key (keys (found_tables state.clients)) key) (held_without (id ∷ []) state.table key) held)
+-- where rows end and none begins
+without_needs_no_more : (ids : List ℕ) (table found : List Line) → length (different (keys (without ids table ++ found))) ≤ length (different (keys (table ++ found)))
+without_needs_no_more ids table found =
+    fewer _ _ (AreDifferent-different (keys (without ids table ++ found))) (AreDifferent-different (keys (table ++ found))) (λ key h.
+    let held = sym (holds_key-different (keys (without ids table ++ found)) key ∙ holds_key-keys-append key (without ids table) found) ∙ h in
+    holds_key-different (keys (table ++ found)) key ∙ holds_key-keys-append key table found
+    ∙ both (holds_key (keys (without ids table)) key) (holds_key (keys table) key) (holds_key (keys found) key) (held_without ids table key) held)
   where
     both : (a b f : Bool) → (a ≡ true → b ≡ true) → (a || f) ≡ true → (b || f) ≡ true
     both true b f i h = ap (λ x. x || f) (i refl)
     both false true f i h = refl
     both false false f i h = h
+
+pub deletes_need_no_more : DeletesNeedNoMore
+deletes_need_no_more state id = without_needs_no_more (id ∷ []) state.table (found_tables state.clients)
+
+none_begun : (next_id : ℕ) (changes : List Change) → begins_any changes ≡ false → begun_by next_id changes ≡ []
+none_begun next_id [] h = refl
+none_begun next_id (Add row ∷ rest) h = absurd (cc)
+none_begun next_id (Set id row ∷ rest) h = absurd (cc)
+none_begun next_id (Remove id ∷ rest) h = none_begun next_id rest h
+
+pub ends_need_no_more : EndsNeedNoMore
+ends_need_no_more state call h =
+    subst (λ begun. length (different (keys (with_rows (suc state.commits) begun (without (ended call) state.table) ++ found_tables state.clients))) ≤ length (different (keys (state.table ++ found_tables state.clients))))
+    (sym (none_begun state.next_id (changes_of call) h)) (without_needs_no_more (ended call) state.table (found_tables state.clients))

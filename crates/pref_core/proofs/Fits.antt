@@ -5,11 +5,11 @@ use Rattle.std.proofs.lemmas.List.Sums.{count_by-le-length}
 use Rattle.pref_core.specs.declared.call.Call.{Call}
 use Rattle.pref_core.specs.declared.call.Call.TheVariants.{Insert, Update, Delete, Begin, Finish, Abandon}
 use Rattle.pref_core.specs.Table.{Line, Key, holds_key, keys}
-use Rattle.pref_core.specs.State.{State, Client, Snapshot, found_tables, needed, is_change, missing, ended, granted, outcome, succeeds, committed, begun_after, counted, after}
+use Rattle.pref_core.specs.State.{State, Client, Snapshot, found_tables, needed, is_change, missing, ended, granted, outcome, outcome_of, succeeds, begins_row, committed, begun_after, counted, after}
 use Rattle.pref_core.specs.Slots.{is_needed, stamps}
 use Rattle.pref_core.specs.Laws.{NeededFits, NeededFitsSlots}
 use Rattle.pref_core.proofs.Counting.{length-needed, holds_key-different, AreDifferent-different, holds_key-keys-append}
-use Rattle.pref_core.proofs.Fewer.{fewer, deletes_need_no_more}
+use Rattle.pref_core.proofs.Fewer.{fewer, ends_need_no_more}
 use Rattle.pref_core.proofs.Plans.{succeeds-fits}
 
 holds : Key → List Line → Bool
@@ -92,14 +92,14 @@ noted state client call = record { table = state.table; next_id = state.next_id;
 noted_fits : (capacity : ℕ) (state : State) (client : ℕ) (call : Call) → length (needed state) ≤ capacity → length (needed (noted state client call)) ≤ capacity
 noted_fits capacity state client call fits = let fewer_now = needed_counted state.table state client call state.next_id state.commits (λ q. refl) in omega arith
 
--- a change that succeeds leaves what is within the capacity
+-- a change that succeeds leaves what is within the capacity: where it begins no row no more is needed
 change_fits : (capacity : ℕ) (state : State) (call : Call) → is_change call ≡ true → succeeds (outcome capacity state call) ≡ true → length (needed state) ≤ capacity → length (needed (committed call state)) ≤ capacity
-change_fits capacity state (Insert row) c s fits = succeeds-fits capacity (missing (ended (Insert row)) state.table) _ (granted state.next_id (Insert row)) s
-change_fits capacity state (Update id row) c s fits = succeeds-fits capacity (missing (ended (Update id row)) state.table) _ (granted state.next_id (Update id row)) s
-change_fits capacity state (Delete id) c s fits = let fewer_now = deletes_need_no_more state id in omega arith
-change_fits capacity state Begin c s fits = absurd (cc)
-change_fits capacity state Finish c s fits = absurd (cc)
-change_fits capacity state Abandon c s fits = absurd (cc)
+change_fits capacity state call c s fits = go (begins_row call) refl (rw c at s)
+  where
+    go : (b : Bool) → begins_row call ≡ b → succeeds (outcome_of capacity b (missing (ended call) state.table) (length (needed (committed call state))) (granted state.next_id call)) ≡ true
+        → length (needed (committed call state)) ≤ capacity
+    go true b s = succeeds-fits capacity (missing (ended call) state.table) _ (granted state.next_id call) s
+    go false b s = let fewer_now = ends_need_no_more state call b in omega arith
 
 after_fits : (capacity : ℕ) (state : State) (client : ℕ) (call : Call) → length (needed state) ≤ capacity → length (needed (after capacity state client call)) ≤ capacity
 after_fits capacity state client call fits = go (is_change call) refl (succeeds (outcome capacity state call)) refl

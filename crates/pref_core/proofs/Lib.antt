@@ -1,11 +1,13 @@
 pub mod WorkedRows
 pub mod Permutations
 pub mod Arranging
+pub mod Listing
 pub mod Visible
 pub mod Tables
 pub mod Standing
 pub mod Keys
-pub mod Commit
+pub mod Changing
+pub mod Committing
 pub mod Counting
 pub mod Reuse
 pub mod Sweeping
@@ -18,7 +20,10 @@ pub mod Scans
 pub mod Bounds
 pub mod Plans
 pub mod Legal
-pub mod Room
+pub mod Several
+pub mod Freeing
+pub mod Choosing
+pub mod Filling
 pub mod Ends
 pub mod Closing
 pub mod Openings
@@ -43,3 +48,4 @@ pub mod Linking
 pub mod Chains
 pub mod OpeningLinks
 pub mod Linked
+pub mod Naming

@@ -7,7 +7,7 @@ use Rattle.pref_core.specs.declared.call.Call.{Call}
 use Rattle.pref_core.specs.State.{State, Client, Snapshot, seat, calls_of, refusal, refusal_of, missing, ended, outcome, committed, is_change}
 use Rattle.pref_core.specs.Slots.{Contents, StandsFor, StandsForClient, ShowsBegin, visible, caller_calls}
 use Rattle.pref_core.specs.Operations.{refusal_at, outcome_at, grown}
-use Rattle.pref_core.proofs.Commit.{has_visible, grown_stands}
+use Rattle.pref_core.proofs.Committing.{has_visible, grown_stands}
 use Rattle.pref_core.proofs.Counting.{length-needed}
 
 -- the caller and the client of one number: both or none

@@ -1,7 +1,6 @@
 -- An index follows the store through each op that is done.
-use Rattle.std.proofs.Common.{◌≡◌, ℕ, suc, Bool, true, false, ◌&&◌, ◌||◌, cond, eqb, nat_lt, List, [], ◌∷◌, map, length, set, Option, Some, None, is_some, refl, sym, ap, ◌∙◌, subst, arith}
+use Rattle.std.proofs.Common.{◌≡◌, ℕ, suc, Bool, true, false, ◌&&◌, ◌||◌, cond, eqb, nat_lt, List, [], ◌∷◌, map, length, set, slice_get, Option, Some, None, is_some, refl, sym, ap, ◌∙◌, subst, arith}
 use Rattle.std.specs.List.{AllByRecursion}
-use Rattle.std.specs.Option.{option_to_list}
 use Rattle.std.proofs.lemmas.Bool.{eqb-true}
 use Rattle.pref_core.specs.declared.store.version.Version.{Version}
 use Rattle.pref_core.specs.declared.call.Call.{Call}
@@ -34,24 +33,29 @@ inside : (id x : ℕ) → eqb id x ≡ true → among (id ∷ []) x ≡ true
 inside id x e = ap (λ b. b || false) e
 
 -- an op without a row leaves the slots
-nothing_filled : (ns : List ℕ) (made : ℕ) (slot : Option ℕ) (slots after : List (Option Version)) → filled ns made (option_to_list slot) [] slots ≡ Some after → after ≡ slots
-nothing_filled ns made None slots after e = cc
-nothing_filled ns made (Some place) slots after e = absurd (cc)
+nothing_filled : (ns : List ℕ) (made : ℕ) (places : List ℕ) (slots after : List (Option Version)) → filled ns made places [] slots ≡ Some after → after ≡ slots
+nothing_filled ns made [] slots after e = cc
+nothing_filled ns made (place ∷ places) slots after e = absurd (cc)
 
 -- an op with one puts it at a free place
-record FillsOne (ns : List ℕ) (made : ℕ) (fresh : Entry) (slot : Option ℕ) (slots after : List (Option Version)) : Type 0 where
+record FillsOne (ns : List ℕ) (made : ℕ) (fresh : Entry) (places : List ℕ) (slots after : List (Option Version)) : Type 0 where
   place : ℕ
-  at : slot ≡ Some place
+  at : places ≡ place ∷ []
   free : is_free ns slots place ≡ true
   filled_by : after ≡ set slots place (born made fresh)
 
-one_filled : (ns : List ℕ) (made : ℕ) (fresh : Entry) (slot : Option ℕ) (slots after : List (Option Version)) → filled ns made (option_to_list slot) (fresh ∷ []) slots ≡ Some after → FillsOne ns made fresh slot slots after
-one_filled ns made fresh None slots after e = absurd (cc)
-one_filled ns made fresh (Some place) slots after e = go (is_free ns slots place) refl e
+one_filled : (ns : List ℕ) (made : ℕ) (fresh : Entry) (places : List ℕ) (slots after : List (Option Version)) → filled ns made places (fresh ∷ []) slots ≡ Some after → FillsOne ns made fresh places slots after
+one_filled ns made fresh [] slots after e = absurd (cc)
+one_filled ns made fresh (place ∷ []) slots after e = go (is_free ns slots place) refl e
   where
-    go : (b : Bool) → is_free ns slots place ≡ b → ◌≡◌ {A = Option (List (Option Version))} (cond b (Some (set slots place (born made fresh))) None) (Some after) → FillsOne ns made fresh (Some place) slots after
+    go : (b : Bool) → is_free ns slots place ≡ b → ◌≡◌ {A = Option (List (Option Version))} (cond b (Some (set slots place (born made fresh))) None) (Some after) → FillsOne ns made fresh (place ∷ []) slots after
     go false f e = absurd (cc)
     go true f e = record { place = place; at = refl; free = f; filled_by = cc }
+one_filled ns made fresh (place ∷ other ∷ places) slots after e = absurd (go (is_free ns slots place) e)
+  where
+    go : (b : Bool) → ◌≡◌ {A = Option (List (Option Version))} (cond b None None) (Some after) → ⊥
+    go true e = cc
+    go false e = cc
 
 -- a row begins at a free place, and rows of these ids end
 begins_at : (next now : ℕ) (ids ns : List ℕ) (fresh : Entry) (slots : List (Option Version)) (place : ℕ) (before after : Pairs) → AllByRecursion (IsWithin next now) slots
@@ -118,41 +122,41 @@ update_added contents n row id e = done_only (length contents.slots) true (missi
 delete_added : (contents : Contents) (n id : ℕ) → Added id ≡ outcome_at contents (Delete n) → ⊥
 delete_added contents n id e = done_only (length contents.slots) false (missing (n ∷ []) (visible contents.stamp contents.slots)) (used (grown (Delete n) contents)) id e
 
-quiet : (contents : Contents) (slot : Option ℕ) (after : List (Option Version)) (before later : Pairs) → filled (contents.stamp ∷ begins contents.callers) contents.stamp (option_to_list slot) [] contents.slots ≡ Some after
+quiet : (contents : Contents) (slot : List ℕ) (after : List (Option Version)) (before later : Pairs) → filled (contents.stamp ∷ begins contents.callers) contents.stamp slot [] contents.slots ≡ Some after
     → IsIndexAt contents.stamp contents.slots before → later ≡ before → IsIndexAt contents.stamp after later
 quiet contents slot after before later e is same x =
     subst (λ l. IsPlaceOf contents.stamp x l (slot_of later x)) (sym (nothing_filled (contents.stamp ∷ begins contents.callers) contents.stamp slot contents.slots after e))
     (subst (λ index. IsPlaceOf contents.stamp x contents.slots (slot_of index x)) (sym same) (is x))
 
 module _ (contents : Contents) (within : AllByRecursion (IsWithin contents.next_id contents.stamp) contents.slots) where
-  starts : (ids : List ℕ) (fresh : Entry) (slot : Option ℕ) (after : List (Option Version)) (before later : Pairs)
-      → filled (suc contents.stamp ∷ begins contents.callers) (suc contents.stamp) (option_to_list slot) (fresh ∷ []) (map (close ids (suc contents.stamp)) contents.slots) ≡ Some after
+  starts : (ids : List ℕ) (fresh : Entry) (slot : List ℕ) (after : List (Option Version)) (before later : Pairs)
+      → filled (suc contents.stamp ∷ begins contents.callers) (suc contents.stamp) slot (fresh ∷ []) (map (close ids (suc contents.stamp)) contents.slots) ≡ Some after
       → ((x : ℕ) → eqb fresh.id x ≡ false → among ids x ≡ false)
-      → IsIndexAt contents.stamp contents.slots before → Points before fresh.id slot later → IsIndexAt (suc contents.stamp) after later
+      → IsIndexAt contents.stamp contents.slots before → Points before fresh.id (slice_get slot 0) later → IsIndexAt (suc contents.stamp) after later
   starts ids fresh slot after before later e apart is points =
       let one = one_filled (suc contents.stamp ∷ begins contents.callers) (suc contents.stamp) fresh slot (map (close ids (suc contents.stamp)) contents.slots) after e in
       subst (λ l. IsIndexAt (suc contents.stamp) l later) (sym one.filled_by)
       (begins_at contents.next_id contents.stamp ids (begins contents.callers) fresh contents.slots one.place before later within one.free apart is
-      (subst (λ s. Points before fresh.id s later) one.at points))
+      (subst (λ s. Points before fresh.id (slice_get s 0) later) one.at points))
 
   -- each call
-  followed : (call : Call) (slot : Option ℕ) (outcome : Outcome) (after : List (Option Version)) (before ready later : Pairs)
+  followed : (call : Call) (slot : List ℕ) (outcome : Outcome) (after : List (Option Version)) (before ready later : Pairs)
       → outcome ≡ outcome_at contents call → placed contents call slot outcome ≡ Some after
-      → IsIndexAt contents.stamp contents.slots before → Prepares outcome slot before ready → Moves (succeeds outcome) (ended call) slot ready later
+      → IsIndexAt contents.stamp contents.slots before → Prepares outcome (slice_get slot 0) before ready → Moves (succeeds outcome) (ended call) (slice_get slot 0) ready later
       → IsIndexAt (cond (is_change call && succeeds outcome) (suc contents.stamp) contents.stamp) after later
-  followed (Insert row) (Some place) (Added id) after before ready later told fits is prepares follows =
+  followed (Insert row) (place ∷ places) (Added id) after before ready later told fits is prepares follows =
       let same : id ≡ contents.next_id = insert_added contents row id told in
-      starts [] (record { id = contents.next_id; row = row }) (Some place) after before later fits (λ x e. refl) is
+      starts [] (record { id = contents.next_id; row = row }) (place ∷ places) after before later fits (λ x e. refl) is
       (subst (λ n. Points before n (Some place) later) same (subst (Points before id (Some place)) (sym follows) prepares))
-  followed (Insert row) None (Added id) after before ready later told fits is prepares follows = absurd (cc)
+  followed (Insert row) [] (Added id) after before ready later told fits is prepares follows = absurd (cc)
   followed (Insert row) slot Done after before ready later told fits is prepares follows = absurd (insert_done contents row told)
   followed (Update id row) slot Done after before ready later told fits is prepares follows =
-      starts (id ∷ []) (record { id = id; row = row }) slot after before later fits (outside id) is (subst (λ r. Points r id slot later) prepares follows)
+      starts (id ∷ []) (record { id = id; row = row }) slot after before later fits (outside id) is (subst (λ r. Points r id (slice_get slot 0) later) prepares follows)
   followed (Update id row) slot (Added n) after before ready later told fits is prepares follows = absurd (update_added contents id row n told)
-  followed (Delete id) None Done after before ready later told fits is prepares follows =
-      subst (λ l. IsIndexAt (suc contents.stamp) l later) (sym (nothing_filled (suc contents.stamp ∷ begins contents.callers) (suc contents.stamp) None (map (close (id ∷ []) (suc contents.stamp)) contents.slots) after fits))
+  followed (Delete id) [] Done after before ready later told fits is prepares follows =
+      subst (λ l. IsIndexAt (suc contents.stamp) l later) (sym (nothing_filled (suc contents.stamp ∷ begins contents.callers) (suc contents.stamp) [] (map (close (id ∷ []) (suc contents.stamp)) contents.slots) after fits))
       (ends_at contents.next_id contents.stamp id contents.slots before later within is (subst (λ r. Points r id None later) prepares follows))
-  followed (Delete id) (Some place) Done after before ready later told fits is prepares follows = absurd (cc)
+  followed (Delete id) (place ∷ places) Done after before ready later told fits is prepares follows = absurd (cc)
   followed (Delete id) slot (Added n) after before ready later told fits is prepares follows = absurd (delete_added contents id n told)
   followed Begin slot Done after before ready later told fits is prepares follows = quiet contents slot after before later fits is (follows ∙ prepares)
   followed Finish slot Done after before ready later told fits is prepares follows = quiet contents slot after before later fits is (follows ∙ prepares)
@@ -186,7 +190,7 @@ indexed contents op ready later within next fits is follows = go (slots_after co
     go None e s = absurd (cc)
     go (Some after) e s = rw (next, e)
         (of_step (is_change op.call && succeeds op.outcome) after refl
-        (followed contents within op.call op.slot op.outcome after is.before ready later (IsAllowed-from contents op next).outcome e is.is_index is.prepares follows))
+        (followed contents within op.call op.slots op.outcome after is.before ready later (IsAllowed-from contents op next).outcome e is.is_index is.prepares follows))
 
 -- A call that is no commit leaves the index as it is.
 pub indexed_still : (contents : Contents) (op : Op) (index : Pairs) → is_next contents op ≡ true → is_some (slots_after contents op) ≡ true → is_change op.call ≡ false → IsIndexOf contents index → IsIndexOf (applied contents op) index
@@ -194,7 +198,7 @@ indexed_still contents op index next fits still is = go (slots_after contents op
   where
     go : (o : Option (List (Option Version))) → slots_after contents op ≡ o → is_some o ≡ true → IsIndexOf (applied contents op) index
     go None e s = absurd (cc)
-    go (Some after) e s = rw (next, e, still) (quiet contents op.slot after index index (rw still at e) is refl)
+    go (Some after) e s = rw (next, e, still) (quiet contents op.slots after index index (rw still at e) is refl)
 
 -- An id that is to be added isn't in the store, and its row is the only one that an insert adds.
 pub added_new : (contents : Contents) (op : Op) (id : ℕ) → is_next contents op ≡ true → op.outcome ≡ Added id → (id ≡ contents.next_id) × (nat_lt 0 (added op.call) ≡ true)
@@ -210,7 +214,7 @@ added_new contents op id next is = go op.call (sym is ∙ (IsAllowed-from conten
 
 -- The index without what was put for an op that isn't done.
 pub withdrawn : (contents : Contents) (op : Op) (ready later : Pairs) → AllByRecursion (IsWithin contents.next_id contents.stamp) contents.slots → is_next contents op ≡ true → IsReady contents op ready → Withdraws op.outcome ready later → IsIndexOf contents later
-withdrawn contents op ready later within next is takes = go op.outcome op.slot refl is.prepares takes
+withdrawn contents op ready later within next is takes = go op.outcome (slice_get op.slots 0) refl is.prepares takes
   where
     gone : (id : ℕ) → op.outcome ≡ Added id → (x : ℕ) → eqb id x ≡ true → IsPlaceOf contents.stamp x contents.slots None
     gone id e x same = has_visible-new contents.next_id contents.stamp contents.stamp contents.slots x within (let a : id ≡ contents.next_id = (added_new contents op id next e).0 in let b : id ≡ x = eqb-true _ _ same in omega arith)
@@ -234,7 +238,7 @@ withdrawn contents op ready later within next is takes = go op.outcome op.slot r
 
 -- Before an op is done, the index gives the place of the row that it ends.
 pub ready_ended : (contents : Contents) (op : Op) (index : Pairs) → is_next contents op ≡ true → IsReady contents op index → (id : ℕ) → ended op.call ≡ id ∷ [] → IsPlaceOf contents.stamp id contents.slots (slot_of index id)
-ready_ended contents op index next is id ends = go op.outcome op.slot refl is.prepares
+ready_ended contents op index next is id ends = go op.outcome (slice_get op.slots 0) refl is.prepares
   where
     stays : index ≡ is.before → IsPlaceOf contents.stamp id contents.slots (slot_of index id)
     stays same = subst (λ r. IsPlaceOf contents.stamp id contents.slots (slot_of r id)) (sym same) (is.is_index id)

@@ -1,7 +1,6 @@
 -- What an open query was shown at its begin stays, though slots are used again.
 use Rattle.std.proofs.Common.{◌≡◌, ℕ, zero, suc, ◌+◌, ◌*◌, ◌<◌, ◌≤◌, Bool, true, false, ◌&&◌, cond, nat_lt, ◌^◌, List, [], ◌∷◌, map, take, drop, Option, Some, None, is_some, slice_get, slice_set, refl, sym, ap, ap₂, ◌∙◌, subst, arith, ⊎_elim}
 use Rattle.std.specs.List.{AllByRecursion, filter_map, cons_option}
-use Rattle.std.specs.Option.{option_to_list}
 use Rattle.std.proofs.lemmas.List.{take-map, drop-map}
 use Rattle.std.proofs.lemmas.Bool.{cases_eq, eq-eqb}
 use Rattle.pref_core.specs.declared.store.version.Version.{Version}
@@ -95,20 +94,20 @@ shown_after contents client stamp is l op slots fits = go (is_change op.call && 
   where
     go : (b : Bool) → (is_change op.call && succeeds op.outcome) ≡ b → shown stamp slots ≡ shown stamp contents.slots
     go true e =
-        shown_filled contents client stamp (suc contents.stamp) is (omega arith) (suc contents.stamp) (option_to_list op.slot) (begun contents.next_id op.call) (map (close (ended op.call) (suc contents.stamp)) contents.slots) slots (rw e at fits)
+        shown_filled contents client stamp (suc contents.stamp) is (omega arith) (suc contents.stamp) op.slots (begun contents.next_id op.call) (map (close (ended op.call) (suc contents.stamp)) contents.slots) slots (rw e at fits)
         ∙ shown_close (ended op.call) contents.stamp stamp contents.slots l
-    go false e = quiet (option_to_list op.slot) (rw e at fits)
+    go false e = quiet op.slots (rw e at fits)
       where
         quiet : (places : List ℕ) → filled (stamps contents) contents.stamp places [] contents.slots ≡ Some slots → shown stamp slots ≡ shown stamp contents.slots
         quiet [] f = let same : contents.slots ≡ slots = cc in ap (shown stamp) (sym same)
         quiet (place ∷ places) f = absurd (cc)
 
-slice_get-set_same : {X : Type 0} (xs : List X) (k : ℕ) (x y : X) → slice_get xs k ≡ Some x → slice_get (slice_set xs k y) k ≡ Some y
+pub slice_get-set_same : {X : Type 0} (xs : List X) (k : ℕ) (x y : X) → slice_get xs k ≡ Some x → slice_get (slice_set xs k y) k ≡ Some y
 slice_get-set_same [] k x y h = absurd (cc)
 slice_get-set_same (z ∷ xs) zero x y h = refl
 slice_get-set_same (z ∷ xs) (suc k) x y h = slice_get-set_same xs k x y h
 
-slice_get-set_other : {X : Type 0} (xs : List X) (k j : ℕ) (y : X) → (k ≡ j → ⊥) → slice_get (slice_set xs j y) k ≡ slice_get xs k
+pub slice_get-set_other : {X : Type 0} (xs : List X) (k j : ℕ) (y : X) → (k ≡ j → ⊥) → slice_get (slice_set xs j y) k ≡ slice_get xs k
 slice_get-set_other [] k j y n = refl
 slice_get-set_other (z ∷ xs) zero zero y n = absurd (n refl)
 slice_get-set_other (z ∷ xs) zero (suc j) y n = refl

@@ -14,7 +14,6 @@ use Rattle.pref_core.specs.Slots.{Contents, StandsFor, is_visible, seen, visible
 use Rattle.pref_core.specs.Operations.{close, close_at, is_free}
 use Rattle.pref_core.specs.Places.{is_free_zone, free_at, zone_of}
 use Rattle.pref_core.specs.Indexes.{is_row, row_at}
-use Rattle.pref_core.specs.Kept.{IsOldPlace, ClosesAt, missed}
 use Rattle.pref_core.proofs.Counting.{is_needed-empty}
 
 pub count_by-cons : {X : Type 0} (p : X → Bool) (x : X) (xs : List X) → count_by p (x ∷ xs) ≡ cond (p x) 1 0 + count_by p xs
@@ -92,7 +91,7 @@ one_yes b e = ap (λ t. cond t 1 0) e
 pub one_no : (b : Bool) → b ≡ false → ◌≡◌ {A = ℕ} (cond b 1 0) 0
 one_no b e = ap (λ t. cond t 1 0) e
 
-close_idle : (ids : List ℕ) (made : ℕ) (slot : Option Version) → live ids slot ≡ false → close ids made slot ≡ slot
+pub close_idle : (ids : List ℕ) (made : ℕ) (slot : Option Version) → live ids slot ≡ false → close ids made slot ≡ slot
 close_idle ids made None h = refl
 close_idle ids made (Some version) h = at_death version.death h
   where
@@ -100,84 +99,8 @@ close_idle ids made (Some version) h = at_death version.death h
     at_death (Some death) h = refl
     at_death None h = ap (λ b. Some (record version { death = close_at made b None })) h
 
-close_nobody : (ids : List ℕ) (made : ℕ) (slots : List (Option Version)) → count_by (live ids) slots ≡ 0 → map (close ids made) slots ≡ slots
-close_nobody ids made [] h = refl
-close_nobody ids made (slot ∷ slots) h = go (live ids slot) refl (count_by-cons (live ids) slot slots ∙ ap (λ b. cond b 1 0 + count_by (live ids) slots) refl) (close_nobody ids made slots)
-  where
-    go : (b : Bool) → live ids slot ≡ b → count_by (live ids) (slot ∷ slots) ≡ cond (live ids slot) 1 0 + count_by (live ids) slots → (count_by (live ids) slots ≡ 0 → map (close ids made) slots ≡ slots) → map (close ids made) (slot ∷ slots) ≡ slot ∷ slots
-    go true e c rest = absurd (let one = one_yes (live ids slot) e in omega arith)
-    go false e c rest = let none = one_no (live ids slot) e in ap₂ ◌∷◌ (close_idle ids made slot e) (rest (omega arith))
-
--- One slot ends, where it is the only one of these ids.
-pub close_one : (ids : List ℕ) (made : ℕ) (slots : List (Option Version)) (place : ℕ) (slot : Option Version) → slice_get slots place ≡ Some slot → live ids slot ≡ true → count_by (live ids) slots ≤ 1
-    → map (close ids made) slots ≡ set slots place (close ids made slot)
-close_one ids made [] place slot at l h = absurd (cc)
-close_one ids made (first ∷ slots) zero slot at l h =
-    let same : first ≡ slot = cc in
-    let here : live ids first ≡ true = ap (live ids) same ∙ l in
-    let count : count_by (live ids) (first ∷ slots) ≡ 1 + count_by (live ids) slots = count_by-cons (live ids) first slots ∙ ap (λ b. cond b 1 0 + count_by (live ids) slots) here in
-    ap₂ ◌∷◌ (ap (close ids made) same) (close_nobody ids made slots (omega arith))
-close_one ids made (first ∷ slots) (suc place) slot at l h = go (live ids first) refl (count_by-cons (live ids) first slots) (close_one ids made slots place slot at l)
-  where
-    some : (slots : List (Option Version)) (place : ℕ) → slice_get slots place ≡ Some slot → 1 ≤ count_by (live ids) slots
-    some [] place at = absurd (cc)
-    some (other ∷ slots) zero at =
-        let same : other ≡ slot = cc in
-        let here : live ids other ≡ true = ap (live ids) same ∙ l in
-        let count : count_by (live ids) (other ∷ slots) ≡ 1 + count_by (live ids) slots = count_by-cons (live ids) other slots ∙ ap (λ b. cond b 1 0 + count_by (live ids) slots) here in
-        omega arith
-    some (other ∷ slots) (suc place) at = let rest = some slots place at in let count = count_by-cons (live ids) other slots in omega arith
-
-    go : (b : Bool) → live ids first ≡ b → count_by (live ids) (first ∷ slots) ≡ cond (live ids first) 1 0 + count_by (live ids) slots → (count_by (live ids) slots ≤ 1 → map (close ids made) slots ≡ set slots place (close ids made slot))
-        → map (close ids made) (first ∷ slots) ≡ first ∷ set slots place (close ids made slot)
-    go true e c rest = absurd (let more = some slots place at in let one = one_yes (live ids first) e in omega arith)
-    go false e c rest = let none = one_no (live ids first) e in ap₂ ◌∷◌ (close_idle ids made first e) (rest (omega arith))
-
--- As many slots hold rows of these ids as the table has of them: at most one of one id.
-count_lines : (ids : List ℕ) (next now : ℕ) (slots : List (Option Version)) → AllByRecursion (IsWithin next now) slots → count_by (live ids) slots ≡ count_by (λ (l : Line). among ids l.id) (visible now slots)
-count_lines ids next now [] h = refl
-count_lines ids next now (None ∷ slots) h = let a = count_by-cons (live ids) None slots in let rest = count_lines ids next now slots h.1 in omega arith
-count_lines ids next now (Some version ∷ slots) h =
-    count_by-cons (live ids) (Some version) slots ∙ ap (λ n. cond (live_by ids version.id version.death) 1 0 + n) (count_lines ids next now slots h.1) ∙ at_death version.death h.0.2
-  where
-    at_death : (death : Option ℕ) → EndsBy now death → cond (live_by ids version.id death) 1 0 + count_by (λ (l : Line). among ids l.id) (visible now slots)
-        ≡ count_by (λ (l : Line). among ids l.id) (cons_option (seen now (Some (record version { death = death }))) (visible now slots))
-    at_death (Some death) ends = rw (le-leb version.birth now h.0.1, le-leb death now ends) (omega arith)
-    at_death None ends = rw (le-leb version.birth now h.0.1) (sym (count_by-cons (λ (l : Line). among ids l.id) (line (record version { death = None })) (visible now slots)))
-
-none_above : (id low : ℕ) (table : List Line) → id ≤ low → AllByRecursion (λ later. low < later.id) table → count_by (λ (l : Line). among (id ∷ []) l.id) table ≡ 0
-none_above id low [] h l = refl
-none_above id low (first ∷ rest) h l =
-    let a = count_by-cons (λ (l : Line). among (id ∷ []) l.id) first rest in
-    let above = l.0 in
-    let other : among (id ∷ []) first.id ≡ false = ap (λ b. b || false) (ne_eqb id first.id (λ (e : id ≡ first.id). omega arith)) in
-    let here = one_no (among (id ∷ []) first.id) other in
-    let more = none_above id low rest h l.1 in
-    omega arith
-
-only_one : (id : ℕ) (table : List Line) → IsOrdered table → count_by (λ (l : Line). among (id ∷ []) l.id) table ≤ 1
-only_one id [] h = omega arith
-only_one id (first ∷ rest) h = go (eqb id first.id) refl (count_by-cons (λ (l : Line). among (id ∷ []) l.id) first rest) (only_one id rest h.1)
-  where
-    go : (b : Bool) → eqb id first.id ≡ b → count_by (λ (l : Line). among (id ∷ []) l.id) (first ∷ rest) ≡ cond (eqb id first.id || false) 1 0 + count_by (λ (l : Line). among (id ∷ []) l.id) rest → count_by (λ (l : Line). among (id ∷ []) l.id) rest ≤ 1 → count_by (λ (l : Line). among (id ∷ []) l.id) (first ∷ rest) ≤ 1
-    go true e c more =
-        let same : id ≡ first.id = eqb-true _ _ e in
-        let none = none_above id first.id rest (omega arith) h.0 in
-        let here = one_yes (eqb id first.id || false) (ap (λ b. b || false) e) in
-        omega arith
-    go false e c more =
-        let here = one_no (eqb id first.id || false) (ap (λ b. b || false) e) in
-        omega arith
-
-pub sole : (contents : Contents) (state : State) (id : ℕ) → StandsFor contents state → count_by (live (id ∷ [])) contents.slots ≤ 1
-sole contents state id h =
-    let a = count_lines (id ∷ []) contents.next_id contents.stamp contents.slots h.within in
-    let b : count_by (λ (l : Line). among (id ∷ []) l.id) state.table ≡ count_by (λ (l : Line). among (id ∷ []) l.id) (visible contents.stamp contents.slots) = sum_by-IsPermutation (λ (l : Line). cond (among (id ∷ []) l.id) 1 0) _ _ h.table.lines in
-    let one = only_one id state.table h.table.ordered in
-    omega arith
-
 -- A slot that shows an id's row now is live.
-row_live : (next now id : ℕ) (ns : List ℕ) (slot : Option Version) → IsWithin next now slot → is_row now id slot ≡ true → (live (id ∷ []) slot ≡ true) × (zone_of ns slot ≡ Live)
+pub row_live : (next now id : ℕ) (ns : List ℕ) (slot : Option Version) → IsWithin next now slot → is_row now id slot ≡ true → (live (id ∷ []) slot ≡ true) × (zone_of ns slot ≡ Live)
 row_live next now id ns None h r = absurd (cc)
 row_live next now id ns (Some version) h r =
     let parts = and_parts (eqb version.id id) (is_visible now version) r in
@@ -187,22 +110,6 @@ row_live next now id ns (Some version) h r =
         → (live_by (id ∷ []) version.id death ≡ true) × (zone_of ns (Some (record version { death = death })) ≡ Live)
     at_death None ends e v = (ap (λ b. b || false) (eq-eqb id version.id (sym e)), refl)
     at_death (Some death) ends e v = absurd (let w = rw (le-leb version.birth now h.1, le-leb death now ends) at v in cc)
-
-pub closes_at : (contents : Contents) (state : State) (ns : List ℕ) (made id place : ℕ) → StandsFor contents state → row_at contents.stamp id contents.slots place ≡ true
-    → ClosesAt (id ∷ []) made contents.slots (map (zone_of ns) contents.slots) place
-closes_at contents state ns made id place h r = go (slice_get contents.slots place) refl r
-  where
-    go : (o : Option (Option Version)) → slice_get contents.slots place ≡ o → elim o as (λ x. Bool) [ None ↦ false | Some slot ↦ is_row contents.stamp id slot ] ≡ true → ClosesAt (id ∷ []) made contents.slots (map (zone_of ns) contents.slots) place
-    go None at is = absurd (cc)
-    go (Some slot) at is =
-        let within = holds_there (IsWithin contents.next_id contents.stamp) contents.slots place slot at h.within in
-        let facts = row_live contents.next_id contents.stamp id ns slot within is in
-        record {
-          slot = slot;
-          at = at;
-          live = slice_get-map (zone_of ns) contents.slots place ∙ ap (option_map (zone_of ns)) at ∙ ap Some facts.1;
-          closes = close_one (id ∷ []) made contents.slots place slot at facts.0 (sole contents state id h);
-        }
 
 -- A place that shows an id's row is in the table.
 pub has_row_at : (stamp id : ℕ) (slots : List (Option Version)) (place : ℕ) → row_at stamp id slots place ≡ true → has (visible stamp slots) id ≡ true
@@ -217,11 +124,9 @@ has_row_at stamp id (slot ∷ slots) (suc place) h = more (seen stamp slot) (has
     more None e = e
     more (Some shown) e = or_right (eqb shown.id id) (has (visible stamp slots) id) e
 
-pub missing_old : (stamp : ℕ) (slots : List (Option Version)) (ended old : Option ℕ) → IsOldPlace stamp (option_to_list ended) slots old → missed ended old ≡ missing (option_to_list ended) (visible stamp slots)
-missing_old stamp slots None None h = refl
-missing_old stamp slots None (Some place) h = absurd (cc)
-missing_old stamp slots (Some id) None h = rw h refl
-missing_old stamp slots (Some id) (Some place) h = rw (has_row_at stamp id slots place h) refl
+-- An empty slot shows none.
+pub row_there : (stamp id : ℕ) (slots : List (Option Version)) (place : ℕ) → row_at stamp id slots place ≡ true → slice_get slots place ≡ Some None → ⊥
+row_there stamp id slots place row at = let none = ap (λ o. elim o as (λ x. Bool) [ None ↦ false | Some s ↦ is_row stamp id s ]) (sym at) ∙ row in cc
 
 -- Where no place shows the id's row it isn't in the table.
 pub has_nowhere : (stamp id : ℕ) (slots : List (Option Version)) → ((k : ℕ) → k < length slots → row_at stamp id slots k ≡ false) → has (visible stamp slots) id ≡ false

@@ -58,10 +58,10 @@ Moves false ids slot old new = new ≡ old
 
 -- the index after an op that was done
 abbrev pub Follows : Op → List (ℕ × ℕ) → List (ℕ × ℕ) → Type 0
-Follows op old new = Moves (succeeds op.outcome) (ended op.call) op.slot old new
+Follows op old new = Moves (succeeds op.outcome) (ended op.call) (slice_get op.slots 0) old new
 
 -- An index is ready for an op where it is the store's, but that it gives the row that the op adds.
 pub record IsReady (contents : Contents) (op : Op) (index : List (ℕ × ℕ)) : Type 0 where
   pub before : List (ℕ × ℕ)
   pub is_index : IsIndexOf contents before
-  pub prepares : Prepares op.outcome op.slot before index
+  pub prepares : Prepares op.outcome (slice_get op.slots 0) before index

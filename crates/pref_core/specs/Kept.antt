@@ -1,16 +1,19 @@
 -- No public contract cites this.
 -- What a store keeps beside its slots, so that no change looks through them.
-use Rattle.std.specs.Prelude.{◌≡◌, ◌==◌, ℕ, List, [], ◌∷◌, map, Bool, false, Option, Some, None, option_map, slice_get, slice_set}
+use Rattle.std.specs.Prelude.{◌≡◌, ◌==◌, ◌+◌, ◌^◌, ◌<◌, ◌≤◌, ◌&&◌, ◌||◌, ℕ, suc, List, [], ◌∷◌, ◌++◌, map, length, Bool, true, false, not, Option, Some, None, option_map, slice_get, Result, MatchResult}
+use Rattle.std.specs.List.{count_by, AllByRecursion}
 use Rattle.pref_core.specs.declared.store.version.Version.{Version}
 use Rattle.pref_core.specs.declared.store.places.Zone.{Zone}
-use Rattle.pref_core.specs.declared.store.places.Zone.TheVariants.{Live}
+use Rattle.pref_sky.specs.declared.entry.Entry.{Entry}
 use Rattle.pref_core.specs.Rows.{Row}
-use Rattle.pref_core.specs.State.{State}
-use Rattle.pref_core.specs.Slots.{Contents, StandsFor, begins}
-use Rattle.pref_core.specs.Operations.{close}
+use Rattle.pref_core.specs.Table.{Line, among, has}
+use Rattle.pref_core.specs.State.{State, missing}
+use Rattle.pref_core.specs.Slots.{Contents, StandsFor, IsWithin, begins, visible, is_needed}
+use Rattle.pref_core.specs.Operations.{close, is_free}
 use Rattle.pref_core.specs.Bounds.{IsBounded}
-use Rattle.pref_core.specs.Places.{is_free_zone, zone_of}
-use Rattle.pref_core.specs.Indexes.{IsPlaceOf}
+use Rattle.pref_core.specs.Places.{is_free_zone, free_at, zone_of}
+use Rattle.pref_core.specs.Links.{ids_of, id_at, AreIds, AreLinks}
+use Rattle.pref_core.specs.Indexes.{row_at, IsPlaceOf}
 
 -- A store's slots stand for a state, and each place is in the zone of its slot.
 pub record IsKept (contents : Contents) (zones : List Zone) : Type 0 where
@@ -18,6 +21,14 @@ pub record IsKept (contents : Contents) (zones : List Zone) : Type 0 where
   pub state : State
   pub stands : StandsFor contents state
   pub listed : zones ≡ map (zone_of (begins contents.callers)) contents.slots
+
+-- While a commit is made: no version is ahead, and the lists beside the slots go along with them.
+pub record IsTracked (contents : Contents) (zones : List Zone) (links : List ℕ) : Type 0 where
+  pub few : length contents.slots ≤ 65536
+  pub within : AllByRecursion (IsWithin contents.next_id contents.stamp) contents.slots
+  pub listed : zones ≡ map (zone_of (begins contents.callers)) contents.slots
+  pub linked : AreLinks (ids_of contents.stamp contents.slots) links
+  pub ids : AreIds (2 ^ 64) (id_at (ids_of contents.stamp contents.slots))
 
 -- the contents with these slots
 abbrev pub with_slots : List (Option Version) → Contents → Contents
@@ -33,28 +44,42 @@ abbrev pub IsOldPlace : ℕ → List ℕ → List (Option Version) → Option �
 IsOldPlace stamp [] slots old = old ≡ None
 IsOldPlace stamp (id ∷ ids) slots old = IsPlaceOf stamp id slots old
 
--- the id that a call misses, by the place that was found
-abbrev pub missed : Option ℕ → Option ℕ → Option ℕ
-missed ended None = ended
-missed ended (Some place) = None
+-- the places of the rows of these ids, one for each
+abbrev pub AreOldPlaces : ℕ → List ℕ → List (Option Version) → List ℕ → Type 0
+AreOldPlaces stamp [] slots [] = Unit {0}
+AreOldPlaces stamp (id ∷ ids) slots (place ∷ places) = (row_at stamp id slots place ≡ true) × AreOldPlaces stamp ids slots places
+AreOldPlaces stamp [] slots (place ∷ places) = ⊥
+AreOldPlaces stamp (id ∷ ids) slots [] = ⊥
 
 -- the slot of this place, as it is after a commit that ends these ids, is free
-abbrev pub frees : List ℕ → List ℕ → ℕ → List (Option Version) → Option ℕ → Bool
-frees begins ids stamp slots None = false
-frees begins ids stamp slots (Some place) = elim (slice_get slots place) [ None ↦ false | Some slot ↦ is_free_zone (zone_of begins (close ids stamp slot)) ]
+abbrev pub frees_at : List ℕ → List ℕ → ℕ → List (Option Version) → ℕ → Bool
+frees_at begins ids stamp slots place = elim (slice_get slots place) [ None ↦ false | Some slot ↦ is_free_zone (zone_of begins (close ids stamp slot)) ]
+
+-- a place that can be used once rows ended: it is free, or they leave it free
+abbrev pub is_open : List Zone → List ℕ → ℕ → Bool
+is_open zones freed place = free_at zones place || among freed place
+
+-- The rows of these ids are there, and these slots are left free when they end.
+pub record IsFreed (contents : Contents) (ids freed : List ℕ) : Type 0 where
+  pub there : missing ids (visible contents.stamp contents.slots) ≡ None
+  pub opens : (place : ℕ) → is_free (suc contents.stamp ∷ begins contents.callers) (map (close ids (suc contents.stamp)) contents.slots) place ≡ is_open (map (zone_of (begins contents.callers)) contents.slots) freed place
+  pub counted : count_by is_free_zone (map (zone_of (begins contents.callers)) contents.slots) + length freed + count_by (is_needed (suc contents.stamp ∷ begins contents.callers)) (map (close ids (suc contents.stamp)) contents.slots) ≡ length contents.slots
+
+-- what a look for the slots that they leave free answers: these, or the first id that the table lacks
+abbrev pub FindsFreed : Contents → List ℕ → Result (List ℕ) ℕ → Type 0
+FindsFreed contents ids result = MatchResult result (λ freed. IsFreed contents ids freed) (λ id. missing ids (visible contents.stamp contents.slots) ≡ Some id)
+
+-- each of these places is free, and none comes twice or is one of the earlier ones
+abbrev pub are_free : List ℕ → List (Option Version) → List ℕ → List ℕ → Bool
+are_free stamps slots earlier [] = true
+are_free stamps slots earlier (place ∷ places) = not (among earlier place) && is_free stamps slots place && are_free stamps slots (earlier ++ place ∷ []) places
+
+-- rows whose ids are below a number, are not in the table, and are different
+abbrev pub AreFresh : ℕ → List Line → List Entry → Type 0
+AreFresh limit table [] = Unit {0}
+AreFresh limit table (fresh ∷ rest) = (fresh.id < limit) × (has table fresh.id ≡ false) × (among (map (λ entry. entry.id) rest) fresh.id ≡ false) × AreFresh limit table rest
 
 -- whether a row's new slot is its old one
 abbrev pub stays : Option ℕ → Option ℕ → Bool
 stays (Some slot) (Some old) = slot == old
 stays slot old = false
-
--- one slot ends, where the row of these ids stands
-pub record ClosesAt (ids : List ℕ) (stamp : ℕ) (slots : List (Option Version)) (zones : List Zone) (place : ℕ) : Type 0 where
-  pub slot : Option Version
-  pub at : slice_get slots place ≡ Some slot
-  pub live : slice_get zones place ≡ Some Live
-  pub closes : map (close ids stamp) slots ≡ slice_set slots place (close ids stamp slot)
-
-abbrev pub Closes : List ℕ → ℕ → List (Option Version) → List Zone → Option ℕ → Type 0
-Closes ids stamp slots zones None = map (close ids stamp) slots ≡ slots
-Closes ids stamp slots zones (Some place) = ClosesAt ids stamp slots zones place

@@ -1,8 +1,9 @@
 -- Laws of the sequential table and of the blocks. (this project)
-use Rattle.std.specs.Prelude.{◌≡◌, ℕ, zero, suc, ◌≤◌, List, [], ◌++◌, length, Option}
+use Rattle.std.specs.Prelude.{◌≡◌, ℕ, zero, suc, ◌≤◌, List, [], ◌++◌, length, false, Option}
+use Rattle.pref_core.specs.declared.call.Call.{Call}
 use Rattle.pref_core.specs.declared.call.Call.TheVariants.{Delete}
 use Rattle.pref_core.specs.Limits.{Limits, AreAllowed, blocks}
-use Rattle.pref_core.specs.State.{State, needed, committed}
+use Rattle.pref_core.specs.State.{State, needed, begins_row, committed}
 use Rattle.pref_core.specs.declared.store.version.Version.{Version}
 use Rattle.pref_core.specs.Slots.{Contents, StandsFor, block_of}
 use Rattle.pref_core.specs.History.{Numbered, IsLegalHistory, state_after}
@@ -10,6 +11,10 @@ use Rattle.pref_core.specs.History.{Numbered, IsLegalHistory, state_after}
 -- A delete never makes `needed` larger.
 abbrev pub DeletesNeedNoMore : Type 0
 DeletesNeedNoMore = (state : State) (id : ℕ) → length (needed (committed (Delete id) state)) ≤ length (needed state)
+
+-- Nor does any call that begins no row.
+abbrev pub EndsNeedNoMore : Type 0
+EndsNeedNoMore = (state : State) (call : Call) → begins_row call ≡ false → length (needed (committed call state)) ≤ length (needed state)
 
 -- After a legal history `needed` is within the capacity, where it was so before.
 abbrev pub NeededFits : Type 0

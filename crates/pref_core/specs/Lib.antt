@@ -1,6 +1,8 @@
 pub mod Rows
 pub mod Limits
 pub mod Table
+pub mod Changes
+pub mod Filled
 pub mod State
 pub mod Step
 pub mod History

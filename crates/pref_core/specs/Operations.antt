@@ -1,7 +1,6 @@
 -- What an operation does to a store, and when it is legal there. (this project)
 use Rattle.std.specs.Prelude.{◌≡◌, ℕ, suc, ◌+◌, List, [], ◌∷◌, ◌++◌, map, length, Bool, true, false, not, ◌&&◌, ◌==◌, Option, Some, None, is_some, Result, MatchResult, if◌then◌else◌, slice_get, slice_set}
 use Rattle.std.specs.List.{count_by}
-use Rattle.std.specs.Option.{option_to_list}
 use Rattle.pref_core.specs.declared.store.version.Version.{Version}
 use Rattle.pref_core.specs.declared.store.caller.Caller.{Caller}
 use Rattle.pref_core.specs.declared.call.Call.{Call}
@@ -78,15 +77,15 @@ same_number (Some calls) number = suc calls == number
 abbrev pub is_next : Contents → Op → Bool
 is_next contents op = not (is_some (refusal_at contents op.client op.call)) && same_number (caller_calls contents op.client) op.number && same_outcome op.outcome (outcome_at contents op.call)
 
--- the slots after a call with this outcome, its new row in this slot; none where the slot doesn't fit
-abbrev pub placed : Contents → Call → Option ℕ → Outcome → Option (List (Option Version))
-placed contents call slot outcome = if is_change call && succeeds outcome
-    then filled (stamps (grown call contents)) (suc contents.stamp) (option_to_list slot) (begun contents.next_id call) (map (close (ended call) (suc contents.stamp)) contents.slots)
-    else filled (stamps contents) contents.stamp (option_to_list slot) [] contents.slots
+-- the slots after a call with this outcome, its new rows in these slots; none where a slot doesn't fit
+abbrev pub placed : Contents → Call → List ℕ → Outcome → Option (List (Option Version))
+placed contents call places outcome = if is_change call && succeeds outcome
+    then filled (stamps (grown call contents)) (suc contents.stamp) places (begun contents.next_id call) (map (close (ended call) (suc contents.stamp)) contents.slots)
+    else filled (stamps contents) contents.stamp places [] contents.slots
 
 -- the slots after an operation
 abbrev pub slots_after : Contents → Op → Option (List (Option Version))
-slots_after contents op = placed contents op.call op.slot op.outcome
+slots_after contents op = placed contents op.call op.slots op.outcome
 
 -- the stamp at the open query's begin, after a call
 abbrev pub begin_after : ℕ → Call → Option ℕ → Option ℕ
@@ -125,12 +124,12 @@ abbrev pub ran : Contents → List Op → Contents
 ran contents [] = contents
 ran contents (op ∷ ops) = ran (applied contents op) ops
 
--- an operation is legal at slots that stand for a state: its call is legal next, and its slot is free
+-- an operation is legal at slots that stand for a state: its call is legal next, and it has a free slot for each row that it begins
 pub record IsLegal (state : State) (contents : Contents) (op : Op) : Type 0 where
   pub next : IsNext (length contents.slots) state op
   pub fits : is_some (slots_after contents op) ≡ true
 
--- what a plan of a call is: an op that is legal next, in a slot that fits, or the refusal that leaves the call without a number
+-- what a plan of a call is: an op that is legal next, in slots that fit, or the refusal that leaves the call without a number
 pub record IsPlan (contents : Contents) (client : ℕ) (call : Call) (op : Op) : Type 0 where
   pub by : op.client ≡ client
   pub what : op.call ≡ call

@@ -4,10 +4,15 @@ use Rattle.std.specs.List.{find}
 use Rattle.pref_core.specs.Rows.{Row}
 use Rattle.pref_core.specs.declared.call.Call.{Call}
 use Rattle.pref_core.specs.declared.call.Call.TheVariants.{Insert, Update, Delete, Begin, Finish, Abandon}
+use Rattle.pref_core.specs.declared.changes.Change.{Change}
+use Rattle.pref_core.specs.declared.changes.Change.TheVariants.{Add, Set, Remove}
+use Rattle.pref_core.specs.declared.call.QueryState.{QueryState}
+use Rattle.pref_core.specs.declared.call.QueryState.TheVariants.{Open, NotOpen}
 use Rattle.pref_core.specs.declared.call.Outcome.{Outcome}
 use Rattle.pref_core.specs.declared.call.Outcome.TheVariants.{Added, Done, NoSuchRow, Full}
 use Rattle.pref_core.specs.declared.fault.CoreFault.{CoreFault}
-use Rattle.pref_core.specs.declared.fault.CoreFault.TheVariants.{NoSuchClient, Spent, QueryOpen, NoQuery}
+use Rattle.pref_core.specs.declared.fault.CoreFault.TheVariants.{NoSuchClient, Spent, QueryOpen, NoQuery, NoSuchRow as MissingRow, Full as TooFull}
+use Rattle.pref_core.specs.Changes.{ended_by, begun_by, added_by, begins_any}
 use Rattle.pref_core.specs.Table.{Line, Key, has, without, with_rows, keys, different}
 use Rattle.pref_sky.specs.declared.entry.Entry.{Entry}
 
@@ -52,6 +57,11 @@ abbrev pub with_seat : {X : Type 0} → ℕ → X → List X → List X
 with_seat zero x xs = xs
 with_seat (suc k) x xs = slice_set xs k x
 
+-- whether a client that stands so has a query open
+abbrev pub is_open : QueryState → Bool
+is_open Open = true
+is_open NotOpen = false
+
 -- the refusals that leave a call without a number: by the open query, ..
 abbrev pub refusal_by_query : Bool → Call → Option CoreFault
 refusal_by_query true Begin = Some QueryOpen
@@ -76,22 +86,24 @@ begun_of state client = elim (seat client state.clients) [ None ↦ None | Some 
 abbrev pub refusal : State → ℕ → Call → Option CoreFault
 refusal state client call = refusal_of (calls_of state client) (is_some (begun_of state client)) call
 
+-- the changes of a call: an insert, an update and a delete are commits of one change
+abbrev pub changes_of : Call → List Change
+changes_of (Insert row) = Add row ∷ []
+changes_of (Update id row) = Set id row ∷ []
+changes_of (Delete id) = Remove id ∷ []
+changes_of call = []
+
 -- the ids whose rows a call ends
 abbrev pub ended : Call → List ℕ
-ended (Update id row) = id ∷ []
-ended (Delete id) = id ∷ []
-ended call = []
+ended call = ended_by (changes_of call)
 
 -- the rows that it begins, by the next id
 abbrev pub begun : ℕ → Call → List Entry
-begun next_id (Insert row) = record { id = next_id; row = row } ∷ []
-begun next_id (Update id row) = record { id = id; row = row } ∷ []
-begun next_id call = []
+begun next_id call = begun_by next_id (changes_of call)
 
 -- how many ids a call uses up
 abbrev pub added : Call → ℕ
-added (Insert row) = 1
-added call = 0
+added call = added_by (changes_of call)
 
 -- whether a call is a commit where it isn't refused
 abbrev pub is_change : Call → Bool
@@ -100,7 +112,7 @@ is_change (Update id row) = true
 is_change (Delete id) = true
 is_change call = false
 
--- one commit: these rows out and those in, all with one number
+-- one commit: all these rows out and all those in, with one number
 abbrev pub committed : Call → State → State
 committed call state = record {
   table = with_rows (suc state.commits) (begun state.next_id call) (without (ended call) state.table);
@@ -122,16 +134,13 @@ needed state = different (keys (state.table ++ found_tables state.clients))
 abbrev pub missing : List ℕ → List Line → Option ℕ
 missing ids table = find (λ id. not (has table id)) ids
 
--- the outcome of a change that succeeds
+-- the outcome of a change that succeeds: the id of the first row that it adds, if it adds one
 abbrev pub granted : ℕ → Call → Outcome
-granted next_id (Insert row) = Added next_id
-granted next_id call = Done
+granted next_id call = if nat_lt 0 (added call) then Added next_id else Done
 
 -- whether the call begins a row, so that there must be room
 abbrev pub begins_row : Call → Bool
-begins_row (Insert row) = true
-begins_row (Update id row) = true
-begins_row call = false
+begins_row call = begins_any (changes_of call)
 
 -- the outcome of a change by whether it begins a row, the first id that it misses and the size of `needed` after it
 abbrev pub outcome_of : ℕ → Bool → Option ℕ → ℕ → Outcome → Outcome
@@ -150,6 +159,13 @@ succeeds (Added id) = true
 succeeds Done = true
 succeeds (NoSuchRow id) = false
 succeeds (Full needed) = false
+
+-- the refusal that an outcome is, if it is one
+abbrev pub refusal_by_outcome : Outcome → Option CoreFault
+refusal_by_outcome (NoSuchRow id) = Some (MissingRow id)
+refusal_by_outcome (Full size) = Some (TooFull size)
+refusal_by_outcome (Added id) = None
+refusal_by_outcome Done = None
 
 -- the open query that a call leaves
 abbrev pub begun_after : State → Call → Option Snapshot → Option Snapshot

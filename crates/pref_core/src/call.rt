@@ -3,11 +3,16 @@
 //! Each client counts its calls of these kinds from 1 on, so that histories of many clients can be
 //! compared call by call. A call that is refused before its outcome is planned has no number.
 
-ghost use Rattle.std.specs.Prelude.{◌≡◌};
+ghost use Rattle.std.specs.Prelude.{◌≡◌, ◌++◌, ◌∷◌, [], ◌<◌, ◌≤◌, ℕ, Some, is_some, length, slice_get};
 ghost use Rattle.std.specs.Option.{option_to_list};
 
-use pref_sky::Entry;
+use crate::changes::Change;
+use crate::fault::CoreFault;
 use pref_table::Row;
+use std::marker::Model;
+
+/// The most numbered calls of a client.
+const MOST_CALLS: u64 = 1 << 56;
 
 /// A call that is numbered.
 #[derive(Clone, Copy, Debug, PartialEq, Eq)]
@@ -27,7 +32,26 @@ pub enum Call {
 }
 
 impl Call {
-    ghost use Rattle.pref_core.specs.State.{ended, begun, begins_row, added, is_change};
+    ghost use Rattle.pref_core.specs.Table.{among};
+    ghost use Rattle.pref_core.specs.State.{refusal_of, is_open, changes_of, ended, begun, begins_row, added, is_change};
+
+    /// Why the call gets no number, of a client that has made so many numbered calls and stands so with its query; `None`
+    /// where it gets one.
+    ///
+    /// `Spent` where the client has made all that it may; else `QueryOpen` for a begin beside an open query, and `NoQuery`
+    /// for the end of a query where none is open. This is the one rule of refusal: a machine and each client of a board ask it.
+    pub fn refusal(&self, calls: u64, query: QueryState) -> Option<CoreFault>
+        ensures { result ≡ refusal_of (Some calls) (is_open query) self.now }
+    {
+        if calls >= MOST_CALLS {
+            return Some(CoreFault::Spent);
+        }
+        match (*self, query) {
+            (Call::Begin, QueryState::Open) => Some(CoreFault::QueryOpen),
+            (Call::Finish | Call::Abandon, QueryState::NotOpen) => Some(CoreFault::NoQuery),
+            _ => None,
+        }
+    }
 
     /// The id whose row the call ends.
     pub(crate) fn ended(&self) -> Option<u64>
@@ -39,14 +63,46 @@ impl Call {
         }
     }
 
-    /// The row that the call begins, with its id.
-    pub(crate) fn begun(&self, next_id: u64) -> Option<Entry>
-        ensures { option_to_list result ≡ begun next_id self.now }
+    /// How many changes the call makes.
+    pub(crate) fn count(&self) -> usize
+        ensures { result ≡ length (changes_of self.now) }
     {
         match *self {
-            Call::Insert(row) => Some(Entry { id: next_id, row }),
-            Call::Update(id, row) => Some(Entry { id, row }),
-            _ => None,
+            Call::Insert(_) | Call::Update(_, _) | Call::Delete(_) => 1,
+            Call::Begin | Call::Finish | Call::Abandon => 0,
+        }
+    }
+
+    /// The change at this place, from 0 on.
+    pub(crate) fn change(&self, at: usize) -> Change
+        requires { at < length (changes_of self.now) }
+        ensures { slice_get (changes_of self.now) at ≡ Some result }
+    {
+        match *self {
+            Call::Insert(row) => Change::Add(row),
+            Call::Update(id, row) => Change::Set(id, row),
+            Call::Delete(id) => Change::Remove(id),
+            Call::Begin | Call::Finish | Call::Abandon => unreachable!(),
+        }
+    }
+
+    /// Whether the call ends the row of this id.
+    pub(crate) fn ends(&self, id: u64) -> bool
+        ensures { result ≡ among (ended self.now) id }
+    {
+        match *self {
+            Call::Update(other, _) | Call::Delete(other) => other == id,
+            _ => false,
+        }
+    }
+
+    /// How many rows the call begins.
+    pub(crate) fn begun(&self) -> usize
+        ensures { (next_id : ℕ) → result ≡ length (begun next_id self.now) }
+    {
+        match *self {
+            Call::Insert(_) | Call::Update(_, _) => 1,
+            _ => 0,
         }
     }
 
@@ -78,6 +134,29 @@ impl Call {
     }
 }
 
+/// Whether a client has a query open.
+#[derive(Clone, Copy, Debug, PartialEq, Eq)]
+pub enum QueryState {
+    /// It has begun one, which has neither finished nor been abandoned.
+    Open,
+    /// It has none.
+    NotOpen,
+}
+
+impl QueryState {
+    ghost use Rattle.pref_core.specs.State.{is_open};
+
+    /// How a client stands that keeps its open query here.
+    pub fn of<Q>(kept: &Option<Q>) -> QueryState
+        ensures { is_open result ≡ is_some kept.now }
+    {
+        match kept {
+            Some(_) => QueryState::Open,
+            None => QueryState::NotOpen,
+        }
+    }
+}
+
 /// What becomes of a numbered call.
 #[derive(Clone, Copy, Debug, PartialEq, Eq)]
 pub enum Outcome {
@@ -92,13 +171,92 @@ pub enum Outcome {
 }
 
 impl Outcome {
-    ghost use Rattle.pref_core.specs.State.{succeeds};
+    ghost use Rattle.pref_core.specs.State.{succeeds, refusal_by_outcome};
 
     /// Whether the call did what it asked.
     pub(crate) fn succeeds(&self) -> bool
         ensures { result ≡ succeeds self.now }
     {
         matches!(*self, Outcome::Added(_) | Outcome::Done)
+    }
+
+    /// The refusal that the call meets, where it did not do what it asked; `None` where it did.
+    pub fn refusal(&self) -> Option<CoreFault>
+        ensures { result ≡ refusal_by_outcome self.now }
+    {
+        match *self {
+            Outcome::NoSuchRow(id) => Some(CoreFault::NoSuchRow { id }),
+            Outcome::Full(needed) => Some(CoreFault::Full { needed }),
+            Outcome::Added(_) | Outcome::Done => None,
+        }
+    }
+}
+
+/// At most eight slots, each the number of a place. Contracts see their list.
+#[derive(Clone, Copy, Debug, PartialEq, Eq)]
+pub struct SlotList {
+    slots: [u32; 8],
+    count: usize,
+}
+
+impl Model for SlotList {
+    ghost use Rattle.std.specs.Prelude.{ℕ, List, take, length, ◌-◌, ◌++◌, replicate};
+    ghost use Rattle.pref_core.specs.Filled.{AreFilled};
+
+    ghost Value = { List ℕ };
+
+    ghost view = { λ s. take s.count s.slots };
+
+    ghost invariant = { λ s. AreFilled s.slots s.count };
+
+    ghost inverse = { λ list. record { slots = list ++ replicate (8 - length list) 0; count = length list } };
+
+    ghost inverse_ok = { λ a h i. record { slots = h.blank i; count = h.counted i } };
+}
+
+impl SlotList {
+    ghost use Rattle.pref_core.specs.Table.{among};
+
+    /// No slot.
+    pub const NONE: SlotList = SlotList {
+        slots: [0; 8],
+        count: 0,
+    };
+
+    /// The slots, in their order.
+    pub fn as_slice(&self) -> &[u32]
+        ensures same { result.now ≡ self.now }
+        ensures few { length self.now ≤ 8 }
+    {
+        &self.slots[..self.count]
+    }
+
+    /// The first slot, where there is one.
+    pub(crate) fn first(&self) -> Option<u32>
+        ensures { result ≡ slice_get self.now 0 }
+    {
+        self.as_slice().first().copied()
+    }
+
+    /// One more slot, behind the others.
+    pub(crate) fn push(&mut self, slot: u32)
+        requires { length self.old < 8 }
+        ensures { self.new ≡ self.old ++ slot ∷ [] }
+    {
+        self.slots[self.count] = slot;
+        self.count += 1;
+    }
+
+    /// Whether the slot is one of them.
+    pub(crate) fn has(&self, slot: u32) -> bool
+        ensures { result ≡ among self.now slot }
+    {
+        for other in self.as_slice() {
+            if *other == slot {
+                return true;
+            }
+        }
+        false
     }
 }
 
@@ -114,8 +272,8 @@ pub struct Op {
     pub number: u64,
     /// The call.
     pub call: Call,
-    /// The slot of the version that begins, none where no version begins.
-    pub slot: Option<u32>,
+    /// The slots of the versions that begin, in the order of the changes that begin them.
+    pub slots: SlotList,
     /// What becomes of the call.
     pub outcome: Outcome,
 }

@@ -6,10 +6,11 @@ ghost use Rattle.pref_core.specs.declared.fault.CoreFault.TheVariants.{OutOfMemo
 use std::alloc::AllocError;
 use thiserror::Error;
 
-/// A refusal. They are tested in this order.
+/// A refusal. Those of an act are tested in this order, up to `OutOfMemory`.
 ///
 /// The first six change nothing, and the act is not counted among the client's calls. A change that is
 /// refused `NoSuchRow` or `Full` is counted and changes no row. After `OutOfMemory` nothing has changed.
+/// `ChangeCount` and then `Twice` are [`Commit::of`](crate::Commit::of)'s, and no other call's.
 #[derive(Clone, Copy, Debug, PartialEq, Eq, Error)]
 pub enum CoreFault {
     /// The client's number is 0, or above the number of clients.
@@ -48,6 +49,15 @@ pub enum CoreFault {
     /// Memory was wanting.
     #[error("out of memory")]
     OutOfMemory,
+    /// A change names an id that an earlier change of its commit names.
+    #[error("twice place {place}")]
+    Twice {
+        /// The change's place among all changes, from 1 on.
+        place: u64,
+    },
+    /// A commit would have no change, or more than eight.
+    #[error("change count")]
+    ChangeCount,
 }
 
 impl From<AllocError> for CoreFault {

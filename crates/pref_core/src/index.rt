@@ -1,6 +1,6 @@
 //! An index from row id to slot, which finds a row of a store without a look at other slots.
 
-ghost use Rattle.std.specs.Prelude.{◌≡◌, ℕ, [], ◌∷◌, true, is_some, None, Some, IfOk, OnOk, OnErr};
+ghost use Rattle.std.specs.Prelude.{◌≡◌, ℕ, [], ◌∷◌, true, is_some, None, Some, slice_get, IfOk, OnOk, OnErr};
 ghost use Rattle.pref_core.specs.Indexes.{slot_of, Points, Prepares, Withdraws, Follows, adds, IsIndexOf, IsReady};
 ghost use Rattle.pref_core.specs.Kept.{stays};
 ghost use Rattle.pref_core.specs.Operations.{IsPlan};
@@ -84,11 +84,11 @@ impl Index {
     /// Puts the row that a planned op adds, before the op is done, so that [`Store::apply_at`] takes no memory.
     /// `Err` is want of memory, comes only for an op that adds a row, and leaves the index as it was.
     pub fn prepare(&mut self, alloc: Global, op: &Op) -> Result<(), AllocError>
-        ensures prepared { OnOk result (Prepares op.now.outcome op.now.slot self.old self.new) }
+        ensures prepared { OnOk result (Prepares op.now.outcome (slice_get op.now.slots 0) self.old self.new) }
         ensures err { OnErr result (self.new ≡ self.old) }
         ensures refused { OnErr result (adds op.now.outcome ≡ true) }
     {
-        match (op.outcome, op.slot) {
+        match (op.outcome, op.slots.first()) {
             (Outcome::Added(id), Some(slot)) => self.put(alloc, id, slot as usize),
             _ => Ok(()),
         }
@@ -108,14 +108,14 @@ impl Index {
     /// gone. Where it stands in its old slot the index is as before.
     pub(crate) fn follow(&mut self, op: &Op, old: Option<u32>)
         requires there { (id : ℕ) → ended op.now.call ≡ id ∷ [] → succeeds op.now.outcome ≡ true → is_some (slot_of self.old id) ≡ true }
-        requires kept { (id : ℕ) → ended op.now.call ≡ id ∷ [] → stays op.now.slot old ≡ true → slot_of self.old id ≡ op.now.slot }
+        requires kept { (id : ℕ) → ended op.now.call ≡ id ∷ [] → stays (slice_get op.now.slots 0) old ≡ true → slot_of self.old id ≡ slice_get op.now.slots 0 }
         ensures { Follows op.now self.old self.new }
     {
-        if stays(op.slot, old) || !op.outcome.succeeds() {
+        if stays(op.slots.first(), old) || !op.outcome.succeeds() {
             return;
         }
         if let Some(id) = op.call.ended() {
-            match op.slot {
+            match op.slots.first() {
                 Some(slot) => self.set(id, slot as usize),
                 None => self.take(id),
             }

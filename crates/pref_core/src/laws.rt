@@ -2,7 +2,7 @@
 //! of [`Store`](crate::Store) and [`Query`](crate::Query) build on.
 
 ghost use Rattle.pref_core.specs.History.{OpsAreHistory};
-ghost use Rattle.pref_core.specs.Laws.{DeletesNeedNoMore, NeededFits, NeededFitsSlots, BlocksAreTheSlots};
+ghost use Rattle.pref_core.specs.Laws.{DeletesNeedNoMore, EndsNeedNoMore, NeededFits, NeededFitsSlots, BlocksAreTheSlots};
 ghost use Rattle.pref_core.specs.Queries.{NextBlockIsNew, AnswersTheBegin};
 ghost use Rattle.pref_core.specs.Stability.{IsStable};
 
@@ -21,6 +21,11 @@ pub fn ops_are_history()
 /// A delete never makes the needed versions more, so it is never refused for want of room.
 pub fn deletes_need_no_more()
     ensures { DeletesNeedNoMore }
+{}
+
+/// Nor does any call that begins no row, so the code asks for room only where one begins.
+pub fn ends_need_no_more()
+    ensures { EndsNeedNoMore }
 {}
 
 /// The needed versions are never more than the capacity along a legal history.

@@ -1,14 +1,15 @@
-//! A table of rows that up to eight clients change and ask, seen by each open query as it stood when that
+//! A multiversion table of rows that up to eight clients change and ask. Each open query sees a snapshot: the table as it was when that
 //! query began.
 //!
 //! [`Store`] keeps versions of rows in slots that are used again; [`Query`] reads it block by block, and holds the
 //! best levels of what it has read; [`Machine`] puts both together, a step for each [`Event`]; [`replay`] runs a
-//! whole list of events, and [`replay_part`] as much of it as memory is there for. The sequential table that says
+//! whole list of events, and [`replay_part`] as much of it as there is memory for. The sequential table that says
 //! what each reply must be is a plain list of rows, copied whole at each begin (specs/State.antt, specs/Step.antt);
 //! the laws on which threads build stand in [`laws`].
 #![tactic(auto)]
 
 mod call;
+mod changes;
 mod event;
 mod fault;
 mod index;
@@ -19,7 +20,8 @@ mod run;
 mod setup;
 mod store;
 
-pub use call::{Call, Op, Outcome};
+pub use call::{Call, Op, Outcome, QueryState, SlotList};
+pub use changes::{Change, Commit};
 pub use event::{Act, Event, RankedList, Reply, StepFault};
 pub use fault::CoreFault;
 pub use index::Index;

@@ -215,10 +215,9 @@ impl Machine {
 fn told(outcome: Outcome, done: Reply) -> Result<Reply, CoreFault>
     ensures { result ≡ told_of outcome done }
 {
-    match outcome {
-        Outcome::NoSuchRow(id) => Err(CoreFault::NoSuchRow { id }),
-        Outcome::Full(needed) => Err(CoreFault::Full { needed }),
-        Outcome::Added(_) | Outcome::Done => Ok(done),
+    match outcome.refusal() {
+        Some(fault) => Err(fault),
+        None => Ok(done),
     }
 }
 

@@ -183,17 +183,17 @@ impl Store {
         self.places.free()
     }
 
-    /// What becomes of a call, and where its new row goes. Changes nothing.
+    /// What becomes of a call, and where its new rows go. Changes nothing.
     ///
     /// Refused `NoSuchClient`, `Spent`, `QueryOpen` or `NoQuery`, and then the call has no number. Else an operation
-    /// that is legal here, whose outcome may be that the row is missing or the table full. Finds the row as
+    /// that is legal here, whose outcome may be that the row is missing or the table full. Finds each row as
     /// [`Store::get`] does, by one chain; all else is constant in the slots.
     pub fn plan(&self, client: u8, call: Call) -> Result<Op, CoreFault>
         ensures exact { Plans self.now client call result }
         ensures state { (state : State) → StandsFor self.now state → PlansIn state self.now client call result }
     {
-        let old = reads::old_place(&self.contents, &self.links, call.ended());
-        planning::plan(&self.contents, &self.places, old, client, call)
+        let freed = reads::freed_places(&self.contents, &self.links, &call);
+        planning::plan(&self.contents, &self.places, &freed, client, call)
     }
 
     /// The same by an index of this store: constant in the slots.
@@ -202,8 +202,8 @@ impl Store {
         ensures exact { Plans self.now client call result }
         ensures state { (state : State) → StandsFor self.now state → PlansIn state self.now client call result }
     {
-        let old = indexing::indexed_old_place(&self.contents, index, call.ended());
-        planning::plan(&self.contents, &self.places, old, client, call)
+        let freed = indexing::indexed_freed_places(&self.contents, index, &call);
+        planning::plan(&self.contents, &self.places, &freed, client, call)
     }
 
     /// Does a planned call. One that is not legal here changes nothing: so an operation is done once, and in its
@@ -213,12 +213,12 @@ impl Store {
         ensures exact { self.new ≡ applied self.old op.now }
         ensures state { (state : State) → StandsFor self.old state → AppliesIn state self.old op.now self.new }
     {
-        let old = reads::old_place(&self.contents, &self.links, op.call.ended());
+        let freed = reads::freed_places(&self.contents, &self.links, &op.call);
         applying::apply(
             &mut self.contents,
             &mut self.places,
             &mut self.links,
-            old,
+            &freed,
             op,
         );
     }
@@ -234,13 +234,7 @@ impl Store {
         ensures state { (state : State) → StandsFor self.old state → AppliesIn state self.old op.now self.new }
     {
         let old = indexing::indexed_old_place(&self.contents, index, op.call.ended());
-        applying::carry_out(
-            &mut self.contents,
-            &mut self.places,
-            &mut self.links,
-            old,
-            op,
-        );
+        applying::carry_out(&mut self.contents, &mut self.places, &mut self.links, op);
         index.follow(op, old);
     }
 }

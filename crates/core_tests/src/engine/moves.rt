@@ -11,7 +11,7 @@ use std::test::Fail;
 fn done(store: &mut Store, client: u8, call: Call) -> Result<Option<u32>, Fail> {
     let op = store.plan(client, call)?;
     store.apply(&op);
-    Ok(op.slot)
+    Ok(op.slots.as_slice().first().copied())
 }
 
 /// Row 1 moves when client 2 updates it beside client 1's query.

@@ -2,7 +2,7 @@
 
 use super::{row, with_store};
 use crate::same::{assert_same, assert_same_list};
-use pref_core::{Call, CoreFault, Op, Outcome, Store};
+use pref_core::{Call, CoreFault, Op, Outcome, QueryState, Store};
 use pref_table::Schema;
 use std::alloc::Global;
 use std::process::Abort;
@@ -76,7 +76,7 @@ fn tells_what_becomes_of_a_call(
 ) -> Result<(), Fail> {
     let op = store.plan(2, Call::Insert(row(schema, 5)?))?;
     assert_same(rt, "outcome", &op.outcome, &Outcome::Added(3));
-    assert_same(rt, "slot", &op.slot, &Some(2));
+    assert_same_list(rt, "slots", op.slots.as_slice(), [2].as_slice());
     let told = store.plan(9, Call::Abandon).err();
     assert_same(rt, "client 9", &told, &Some(CoreFault::NoSuchClient));
     Ok(())
@@ -87,4 +87,70 @@ fn a_plan_tells_what_becomes_of_a_call(rt: HostRuntime) -> Result<(), Fail> {
     with_store(rt.alloc(), &[4, 6], |schema, store| {
         tells_what_becomes_of_a_call(&rt, schema, store)
     })
+}
+
+fn is_one_commit(rt: &impl Abort, schema: &Schema, store: &mut Store) -> Result<(), Fail> {
+    let op = store.plan(1, Call::Update(2, row(schema, 5)?))?;
+    store.apply(&op);
+    assert_same(rt, "outcome", &op.outcome, &Outcome::Done);
+    assert_same(rt, "stamp", &store.stamp(), &3);
+    assert_same(rt, "row", &store.get(2), &Some(row(schema, 5)?));
+    assert_same(rt, "room", &store.room(), &1);
+    Ok(())
+}
+
+#[test]
+fn an_update_is_one_commit(rt: HostRuntime) -> Result<(), Fail> {
+    with_store(rt.alloc(), &[4, 6], |schema, store| {
+        is_one_commit(&rt, schema, store)
+    })
+}
+
+#[test]
+fn a_call_gets_a_number_or_its_refusal(rt: HostRuntime) -> Result<(), Fail> {
+    let most = 1 << 56;
+    let cases = [
+        (Call::Begin, 0, QueryState::NotOpen, None),
+        (Call::Begin, 0, QueryState::Open, Some(CoreFault::QueryOpen)),
+        (Call::Finish, 7, QueryState::Open, None),
+        (
+            Call::Finish,
+            7,
+            QueryState::NotOpen,
+            Some(CoreFault::NoQuery),
+        ),
+        (Call::Abandon, 7, QueryState::Open, None),
+        (
+            Call::Abandon,
+            7,
+            QueryState::NotOpen,
+            Some(CoreFault::NoQuery),
+        ),
+        (Call::Delete(1), most - 1, QueryState::Open, None),
+        (
+            Call::Delete(1),
+            most,
+            QueryState::Open,
+            Some(CoreFault::Spent),
+        ),
+        (Call::Begin, most, QueryState::Open, Some(CoreFault::Spent)),
+    ];
+    for (case, (call, calls, query, wanted)) in cases.iter().enumerate() {
+        assert_same(&rt, case, &call.refusal(*calls, *query), wanted);
+    }
+    Ok(())
+}
+
+#[test]
+fn an_outcome_is_a_refusal_or_none(rt: HostRuntime) -> Result<(), Fail> {
+    let cases = [
+        (Outcome::Added(3), None),
+        (Outcome::Done, None),
+        (Outcome::NoSuchRow(4), Some(CoreFault::NoSuchRow { id: 4 })),
+        (Outcome::Full(5), Some(CoreFault::Full { needed: 5 })),
+    ];
+    for (case, (outcome, wanted)) in cases.iter().enumerate() {
+        assert_same(&rt, case, &outcome.refusal(), wanted);
+    }
+    Ok(())
 }

@@ -1,144 +1,167 @@
 //! A planned call, done.
 
-ghost use Rattle.std.specs.Option.{option_to_list};
-ghost use Rattle.std.specs.Prelude.{map, length, true, None, Some, is_some, slice_get, slice_set, ◌≡◌, ◌+◌, ◌^◌, ◌<◌, ◌≤◌};
-ghost use Rattle.pref_core.specs.Indexes.{IsPlaceOf};
-ghost use Rattle.pref_core.specs.Kept.{IsKept, IsOldPlace, Closes, with_slots};
-ghost use Rattle.pref_core.specs.Links.{ids_of, id_at, AreIds, AreLinks};
-ghost use Rattle.pref_core.specs.Operations.{close, is_next, slots_after, stepped, applied};
+ghost use Rattle.std.specs.Prelude.{map, true, false, length, [], ◌∷◌, is_some, Some, slice_set, ◌≡◌, ◌+◌, ◌^◌, ◌<◌, ◌≤◌};
+ghost use Rattle.pref_core.specs.Kept.{IsKept, IsTracked, FindsFreed, AreFresh, with_slots, are_free};
+ghost use Rattle.pref_core.specs.Links.{ids_of, AreLinks};
+ghost use Rattle.pref_core.specs.Operations.{close, is_free, filled, is_next, slots_after, stepped, applied};
 ghost use Rattle.pref_core.specs.Places.{zone_of};
-ghost use Rattle.pref_core.specs.Slots.{begins, born};
+ghost use Rattle.pref_core.specs.Slots.{stamps, begins, born, visible};
 ghost use Rattle.pref_core.specs.Stability.{is_end};
-ghost use Rattle.pref_core.specs.State.{ended, is_change, succeeds};
+ghost use Rattle.pref_core.specs.State.{changes_of, ended, begun, added, is_change, succeeds};
+ghost use Rattle.pref_core.specs.Table.{has};
 
-use crate::call::{Call, Op, Outcome};
+use crate::call::{Call, Op, QueryState, SlotList};
 use crate::store::caller::caller_of;
 use crate::store::contents::Contents;
 use crate::store::links::Links;
 use crate::store::needs::{is_free_place, zone_of};
-use crate::store::places::{Places, Zone};
-use crate::store::planning::{outcome, refusal};
-use crate::store::version::{born, closed};
+use crate::store::places::Places;
+use crate::store::planning::outcome;
+use crate::store::version::{born, ended};
 use pref_sky::Entry;
 
 /// Whether the call, its number and its outcome are legal next.
-fn is_next(contents: &Contents, places: &Places, old: Option<u32>, op: &Op) -> bool
+fn is_next(contents: &Contents, places: &Places, freed: &Result<SlotList, u64>, op: &Op) -> bool
     requires kept { IsKept contents.now places.now }
-    requires old { IsOldPlace contents.now.stamp (ended op.now.call) contents.now.slots old }
+    requires freed { FindsFreed contents.now (ended op.now.call) freed.now }
+    requires changes { length (changes_of op.now.call) ≤ 8 }
     ensures { result ≡ is_next contents.now op.now }
 {
     let Some(caller) = caller_of(&contents.callers, op.client) else {
         return false;
     };
-    if refusal(Some(caller), &op.call).is_some() || op.number != caller.calls + 1 {
+    let refusal = op.call.refusal(caller.calls, QueryState::of(&caller.begun));
+    if refusal.is_some() || op.number != caller.calls + 1 {
         return false;
     }
-    op.outcome == outcome(contents, places, old, &op.call)
+    op.outcome == outcome(contents, places, freed, &op.call)
 }
 
-/// Whether the op's slot fits its call.
+/// Whether the op's slots fit its call: one for each row that begins, each free once the old rows ended, and none twice.
 fn fits(contents: &Contents, op: &Op) -> bool
     requires early { contents.now.stamp < 2 ^ 63 }
     ensures { result ≡ is_some (slots_after contents.now op.now) }
 {
-    let begun = if op.outcome.succeeds() {
-        op.call.begun(contents.next_id)
+    if op.call.is_change() && op.outcome.succeeds() {
+        op.slots.as_slice().len() == op.call.begun() && are_free(contents, op)
     } else {
-        None
-    };
-    match (op.slot, begun) {
-        (Some(place), Some(_)) => is_free_place(contents, place, op.call.ended()),
-        (None, None) => true,
-        _ => false,
+        op.slots.as_slice().is_empty()
     }
 }
 
-/// Ends the row at this place by the next commit.
-fn close_old(
-    contents: &mut Contents,
-    places: &mut Places,
-    links: &mut Links,
-    old: Option<u32>,
-    ended: Option<u64>,
-)
-    requires kept { IsKept contents.old places.old }
-    requires old { IsOldPlace contents.old.stamp (option_to_list ended) contents.old.slots old }
-    requires closes { Closes (option_to_list ended) (contents.old.stamp + 1) contents.old.slots places.old old }
-    requires links { AreLinks (ids_of contents.old.stamp contents.old.slots) links.old }
-    ensures contents { contents.new ≡ with_slots (map (close (option_to_list ended) (contents.old.stamp + 1)) contents.old.slots) contents.old }
-    ensures zones { places.new ≡ map (zone_of (begins contents.new.callers)) contents.new.slots }
-    ensures links { AreLinks (ids_of (contents.old.stamp + 1) contents.new.slots) links.new }
+/// Whether each slot of the op is free once the old rows ended, and none comes twice.
+fn are_free(contents: &Contents, op: &Op) -> bool
+    requires early { contents.now.stamp < 2 ^ 63 }
+    ensures { result ≡ are_free ((contents.now.stamp + 1) ∷ begins contents.now.callers) (map (close (ended op.now.call) (contents.now.stamp + 1)) contents.now.slots) [] op.now.slots }
 {
-    let Some(place) = old else {
+    let mut earlier = SlotList::NONE;
+    for place in op.slots.as_slice() {
+        if earlier.has(*place) || !is_free_place(contents, *place, &op.call) {
+            return false;
+        }
+        earlier.push(*place);
+    }
+    true
+}
+
+/// Ends the row of this id, where there is one.
+fn end_row(contents: &mut Contents, places: &mut Places, links: &mut Links, id: u64)
+    requires { IsTracked contents.old places.old links.old }
+    ensures contents { contents.new ≡ with_slots (map (close (id ∷ []) contents.old.stamp) contents.old.slots) contents.old }
+    ensures tracked { IsTracked contents.new places.new links.new }
+{
+    let stamp = contents.stamp;
+    let Some(place) = links.take(&contents.slots, stamp, id) else {
         return;
     };
-    let Some(id) = ended else {
-        return;
+    let Some(version) = contents.slots[place as usize] else {
+        unreachable!()
     };
-    links.remove(&contents.slots, contents.stamp, id, place);
-    let stamp = contents.stamp + 1;
-    contents.slots[place as usize] = closed(contents.slots[place as usize], ended, stamp);
+    contents.slots[place as usize] = ended(version, stamp);
     let zone = zone_of(contents.slots[place as usize], &contents.callers);
     places.close(place, zone);
 }
 
-/// Begins a row at a free place by the next commit.
-fn begin_new(
+/// Begins a row at a free place.
+fn begin_row(
     contents: &mut Contents,
     places: &mut Places,
     links: &mut Links,
     entry: Entry,
     place: u32,
 )
-    requires few { length contents.old.slots ≤ 65536 }
-    requires early { contents.old.stamp < 2 ^ 63 }
-    requires free { slice_get places.old place ≡ Some Zone.Free }
-    requires zones { places.old ≡ map (zone_of (begins contents.old.callers)) contents.old.slots }
-    requires links { AreLinks (ids_of (contents.old.stamp + 1) contents.old.slots) links.old }
-    requires ids { AreIds (2 ^ 64) (id_at (ids_of (contents.old.stamp + 1) contents.old.slots)) }
-    requires empty { id_at (ids_of (contents.old.stamp + 1) contents.old.slots) place ≡ None }
-    requires absent { IsPlaceOf (contents.old.stamp + 1) entry.id contents.old.slots None }
-    ensures contents { contents.new ≡ with_slots (slice_set contents.old.slots place (born (contents.old.stamp + 1) entry)) contents.old }
-    ensures zones { places.new ≡ map (zone_of (begins contents.new.callers)) contents.new.slots }
-    ensures links { AreLinks (ids_of (contents.old.stamp + 1) contents.new.slots) links.new }
+    requires tracked { IsTracked contents.old places.old links.old }
+    requires free { is_free (stamps contents.old) contents.old.slots place ≡ true }
+    requires absent { has (visible contents.old.stamp contents.old.slots) entry.id ≡ false }
+    requires low { entry.id < contents.old.next_id }
+    ensures contents { contents.new ≡ with_slots (slice_set contents.old.slots place (born contents.old.stamp entry)) contents.old }
+    ensures tracked { IsTracked contents.new places.new links.new }
 {
-    let stamp = contents.stamp + 1;
+    let stamp = contents.stamp;
     links.add(&contents.slots, stamp, entry.id, place);
     contents.slots[place as usize] = born(entry, stamp);
     places.take(place);
 }
 
-/// A commit: a row ends, and one begins at its place.
-fn commit(
-    contents: &mut Contents,
-    places: &mut Places,
-    links: &mut Links,
-    old: Option<u32>,
-    op: &Op,
-)
+/// Ends all rows that the call ends.
+fn end_rows(contents: &mut Contents, places: &mut Places, links: &mut Links, call: &Call)
+    requires { IsTracked contents.old places.old links.old }
+    ensures contents { contents.new ≡ with_slots (map (close (ended call.now) contents.old.stamp) contents.old.slots) contents.old }
+    ensures tracked { IsTracked contents.new places.new links.new }
+{
+    for at in 0..call.count() {
+        if let Some(id) = call.change(at).ended() {
+            end_row(contents, places, links, id);
+        }
+    }
+}
+
+/// Begins all rows that the op's call begins, each in its slot; added ones get the ids from this one on.
+fn begin_rows(contents: &mut Contents, places: &mut Places, links: &mut Links, first: u64, op: &Op)
+    requires tracked { IsTracked contents.old places.old links.old }
+    requires fits { is_some (filled (stamps contents.old) contents.old.stamp op.now.slots (begun first op.now.call) contents.old.slots) ≡ true }
+    requires fresh { AreFresh contents.old.next_id (visible contents.old.stamp contents.old.slots) (begun first op.now.call) }
+    requires changes { length (changes_of op.now.call) ≤ 8 }
+    requires small { first < 2 ^ 63 }
+    ensures slots { filled (stamps contents.old) contents.old.stamp op.now.slots (begun first op.now.call) contents.old.slots ≡ Some contents.new.slots }
+    ensures rest { contents.new ≡ with_slots contents.new.slots contents.old }
+    ensures tracked { IsTracked contents.new places.new links.new }
+{
+    let slots = op.slots.as_slice();
+    let mut next_id = first;
+    let mut used = 0;
+    for at in 0..op.call.count() {
+        let change = op.call.change(at);
+        if let Some(entry) = change.begun(next_id) {
+            begin_row(contents, places, links, entry, slots[used]);
+            used += 1;
+        }
+        next_id += change.added();
+    }
+}
+
+/// A commit: all rows end that are to end, and then others begin in the slots that are free.
+fn commit(contents: &mut Contents, places: &mut Places, links: &mut Links, op: &Op)
     requires kept { IsKept contents.old places.old }
-    requires old { IsOldPlace contents.old.stamp (ended op.now.call) contents.old.slots old }
+    requires links { AreLinks (ids_of contents.old.stamp contents.old.slots) links.old }
     requires next { is_next contents.old op.now ≡ true }
     requires fits { is_some (slots_after contents.old op.now) ≡ true }
     requires change { is_change op.now.call ≡ true }
     requires succeeds { succeeds op.now.outcome ≡ true }
-    requires links { AreLinks (ids_of contents.old.stamp contents.old.slots) links.old }
     ensures slots { slots_after contents.old op.now ≡ Some contents.new.slots }
-    ensures rest { contents.new ≡ with_slots contents.new.slots contents.old }
-    ensures zones { places.new ≡ map (zone_of (begins contents.new.callers)) contents.new.slots }
-    ensures links { AreLinks (ids_of (contents.old.stamp + 1) contents.new.slots) links.new }
+    ensures rest { contents.new ≡ record { slots = contents.new.slots; stamp = contents.old.stamp + 1; next_id = contents.old.next_id + added op.now.call; callers = contents.old.callers } }
+    ensures tracked { IsTracked contents.new places.new links.new }
 {
-    let begun = op.call.begun(contents.next_id);
-    close_old(contents, places, links, old, op.call.ended());
-    if let (Some(entry), Some(place)) = (begun, op.slot) {
-        begin_new(contents, places, links, entry, place);
-    }
+    let first = contents.next_id;
+    contents.stamp += 1;
+    contents.next_id += op.call.added();
+    end_rows(contents, places, links, &op.call);
+    begin_rows(contents, places, links, first, op);
 }
 
 /// A legal op, done.
-fn step(contents: &mut Contents, places: &mut Places, links: &mut Links, old: Option<u32>, op: &Op)
+fn step(contents: &mut Contents, places: &mut Places, links: &mut Links, op: &Op)
     requires kept { IsKept contents.old places.old }
-    requires old { IsOldPlace contents.old.stamp (ended op.now.call) contents.old.slots old }
     requires next { is_next contents.old op.now ≡ true }
     requires fits { is_some (slots_after contents.old op.now) ≡ true }
     requires links { AreLinks (ids_of contents.old.stamp contents.old.slots) links.old }
@@ -148,10 +171,8 @@ fn step(contents: &mut Contents, places: &mut Places, links: &mut Links, old: Op
     ensures links { AreLinks (ids_of contents.new.stamp contents.new.slots) links.new }
 {
     if op.call.is_change() && op.outcome.succeeds() {
-        commit(contents, places, links, old, op);
+        commit(contents, places, links, op);
         contents.count(op.client, &op.call);
-        contents.next_id += op.call.added();
-        contents.stamp += 1;
     } else {
         contents.count(op.client, &op.call);
         if ends_query(&op.call) {
@@ -170,16 +191,9 @@ fn ends_query(call: &Call) -> bool
     }
 }
 
-/// A legal op that ends the row at this place, done.
-pub(crate) fn carry_out(
-    contents: &mut Contents,
-    places: &mut Places,
-    links: &mut Links,
-    old: Option<u32>,
-    op: &Op,
-)
+/// A legal op, done.
+pub(crate) fn carry_out(contents: &mut Contents, places: &mut Places, links: &mut Links, op: &Op)
     requires kept { IsKept contents.old places.old }
-    requires old { IsOldPlace contents.old.stamp (ended op.now.call) contents.old.slots old }
     requires next { is_next contents.old op.now ≡ true }
     requires fits { is_some (slots_after contents.old op.now) ≡ true }
     requires links { AreLinks (ids_of contents.old.stamp contents.old.slots) links.old }
@@ -187,25 +201,26 @@ pub(crate) fn carry_out(
     ensures kept { IsKept contents.new places.new }
     ensures links { AreLinks (ids_of contents.new.stamp contents.new.slots) links.new }
 {
-    step(contents, places, links, old, op);
+    step(contents, places, links, op);
 }
 
-/// An op that ends the row at this place, done where it is legal.
+/// An op, done where it is legal, by the slots that its ended rows leave free.
 pub(crate) fn apply(
     contents: &mut Contents,
     places: &mut Places,
     links: &mut Links,
-    old: Option<u32>,
+    freed: &Result<SlotList, u64>,
     op: &Op,
 )
     requires kept { IsKept contents.old places.old }
-    requires old { IsOldPlace contents.old.stamp (ended op.now.call) contents.old.slots old }
+    requires freed { FindsFreed contents.old (ended op.now.call) freed.now }
+    requires changes { length (changes_of op.now.call) ≤ 8 }
     requires links { AreLinks (ids_of contents.old.stamp contents.old.slots) links.old }
     ensures done { contents.new ≡ applied contents.old op.now }
     ensures kept { IsKept contents.new places.new }
     ensures links { AreLinks (ids_of contents.new.stamp contents.new.slots) links.new }
 {
-    if is_next(contents, places, old, op) && fits(contents, op) {
-        carry_out(contents, places, links, old, op);
+    if is_next(contents, places, freed, op) && fits(contents, op) {
+        carry_out(contents, places, links, op);
     }
 }

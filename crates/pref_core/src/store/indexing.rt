@@ -1,13 +1,18 @@
 //! Where rows stand, by an index.
 
 ghost use Rattle.std.specs.Option.{option_to_list};
-ghost use Rattle.std.specs.Prelude.{ℕ, IfOk, Some, length, ◌≡◌, ◌≤◌};
-ghost use Rattle.pref_core.specs.Indexes.{slot_of, IsPlaceOf};
-ghost use Rattle.pref_core.specs.Kept.{IsOldPlace};
+ghost use Rattle.std.specs.Prelude.{ℕ, IfOk, Some, length, map, ◌≡◌, ◌≤◌};
+ghost use Rattle.pref_core.specs.Indexes.{slot_of, IsPlaceOf, IsIndexOf};
+ghost use Rattle.pref_core.specs.Kept.{IsOldPlace, IsKept, FindsFreed};
+ghost use Rattle.pref_core.specs.Places.{zone_of};
+ghost use Rattle.pref_core.specs.Slots.{begins};
+ghost use Rattle.pref_core.specs.State.{changes_of, ended};
 
+use crate::call::{Call, SlotList};
 use crate::index::Index;
 use crate::store::contents::Contents;
 use crate::store::links::home_of;
+use crate::store::needs::frees;
 use crate::store::reads::stands_at;
 use crate::store::version::Version;
 use std::alloc::{AllocError, Global};
@@ -67,4 +72,30 @@ pub(crate) fn indexed_old_place(
         Some(id) => indexed_place(contents, index, id),
         None => None,
     }
+}
+
+/// The slots that the rows which a call ends leave free, or the first id that it ends and the table lacks. Rows are found by
+/// an index.
+pub(crate) fn indexed_freed_places(
+    contents: &Contents,
+    index: &Index,
+    call: &Call,
+) -> Result<SlotList, u64>
+    requires kept { IsKept contents.now (map (zone_of (begins contents.now.callers)) contents.now.slots) }
+    requires changes { length (changes_of call.now) ≤ 8 }
+    requires index { IsIndexOf contents.now index.now }
+    ensures { FindsFreed contents.now (ended call.now) result }
+{
+    let mut freed = SlotList::NONE;
+    for at in 0..call.count() {
+        if let Some(id) = call.change(at).ended() {
+            let Some(place) = indexed_place(contents, index, id) else {
+                return Err(id);
+            };
+            if frees(contents, place, call) {
+                freed.push(place);
+            }
+        }
+    }
+    Ok(freed)
 }

@@ -1,7 +1,7 @@
 //! Where rows are found: those of one home are chained, from the greatest id to the smallest.
 
-ghost use Rattle.std.specs.Prelude.{◌≡◌, ◌<◌, ◌≤◌, ◌^◌, length, true, IfOk, Some, None, slice_set};
-ghost use Rattle.pref_core.specs.Indexes.{row_at, IsPlaceOf};
+ghost use Rattle.std.specs.Prelude.{◌≡◌, ◌<◌, ◌≤◌, ◌^◌, length, IfOk, IfSome, IfNone, Some, None, slice_set};
+ghost use Rattle.pref_core.specs.Indexes.{IsPlaceOf};
 ghost use Rattle.pref_core.specs.Links.{home_of, ids_of, id_at, is_above, AreIds, AreLinks, IsBefore, opening_ids};
 
 use crate::store::reads::stands_at;
@@ -113,16 +113,25 @@ impl Links {
         self.next[node as usize] = place;
     }
 
-    /// The row of this id, which stands at this place, is about to end.
-    pub(crate) fn remove(&mut self, slots: &[Option<Version>], stamp: u64, id: u64, place: u32)
+    /// The row of this id is about to end: takes it out of its chain, and answers where it stands.
+    pub(crate) fn take(&mut self, slots: &[Option<Version>], stamp: u64, id: u64) -> Option<u32>
         requires few { length slots.now ≤ 65536 }
         requires links { AreLinks (ids_of stamp slots.now) self.old }
         requires ids { AreIds (2 ^ 64) (id_at (ids_of stamp slots.now)) }
-        requires there { row_at stamp id slots.now place ≡ true }
-        ensures { AreLinks (slice_set (ids_of stamp slots.now) place None) self.new }
+        ensures place { IsPlaceOf stamp id slots.now result }
+        ensures some { IfSome result (λ place. AreLinks (slice_set (ids_of stamp slots.now) place None) self.new) }
+        ensures none { IfNone result (self.new ≡ self.old) }
     {
+        if slots.is_empty() {
+            return None;
+        }
         let node = before(&self.next, slots, stamp, id);
+        let place = self.next[node as usize];
+        if !stands_at(slots, place, stamp, id) {
+            return None;
+        }
         self.next[node as usize] = self.next[place as usize];
+        Some(place)
     }
 }
 

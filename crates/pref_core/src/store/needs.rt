@@ -1,12 +1,13 @@
 //! Which versions are needed, and which slots are free.
 
-ghost use Rattle.std.specs.Option.{option_to_list};
 ghost use Rattle.std.specs.Prelude.{map, Some, ◌≡◌, ◌+◌, ◌^◌, ◌<◌, ◌∷◌};
-ghost use Rattle.pref_core.specs.Kept.{frees};
+ghost use Rattle.pref_core.specs.Kept.{frees_at};
 ghost use Rattle.pref_core.specs.Operations.{close, is_free};
 ghost use Rattle.pref_core.specs.Places.{zone_of};
 ghost use Rattle.pref_core.specs.Slots.{begins, is_needed};
+ghost use Rattle.pref_core.specs.State.{ended};
 
+use crate::call::Call;
 use crate::store::caller::{Caller, sees};
 use crate::store::contents::Contents;
 use crate::store::places::Zone;
@@ -34,14 +35,14 @@ fn is_kept(slot: Option<Version>, now: u64, callers: &[Caller]) -> bool
     }
 }
 
-/// Whether the slot of this place can be used again after a commit that ends the row of this id.
-pub(crate) fn is_free_place(contents: &Contents, place: u32, ended: Option<u64>) -> bool
+/// Whether the slot of this place can be used again once the rows that the call ends have ended.
+pub(crate) fn is_free_place(contents: &Contents, place: u32, call: &Call) -> bool
     requires { contents.now.stamp < 2 ^ 63 }
-    ensures { result ≡ is_free ((contents.now.stamp + 1) ∷ begins contents.now.callers) (map (close (option_to_list ended) (contents.now.stamp + 1)) contents.now.slots) place }
+    ensures { result ≡ is_free ((contents.now.stamp + 1) ∷ begins contents.now.callers) (map (close (ended call.now) (contents.now.stamp + 1)) contents.now.slots) place }
 {
     let stamp = contents.stamp + 1;
     match contents.slots.get(place as usize) {
-        Some(slot) => !is_kept(closed(*slot, ended, stamp), stamp, &contents.callers),
+        Some(slot) => !is_kept(closed(*slot, call, stamp), stamp, &contents.callers),
         None => false,
     }
 }
@@ -57,17 +58,14 @@ pub(crate) fn zone_of(slot: Option<Version>, callers: &[Caller]) -> Zone
     }
 }
 
-/// Whether the slot of this place is free after a commit that ends the row of this id.
-pub(crate) fn frees(contents: &Contents, ended: Option<u64>, old: Option<u32>) -> bool
+/// Whether nobody needs the slot of this place once the rows that the call ends have ended.
+pub(crate) fn frees(contents: &Contents, place: u32, call: &Call) -> bool
     requires { contents.now.stamp < 2 ^ 63 }
-    ensures { result ≡ frees (begins contents.now.callers) (option_to_list ended) (contents.now.stamp + 1) contents.now.slots old }
+    ensures { result ≡ frees_at (begins contents.now.callers) (ended call.now) (contents.now.stamp + 1) contents.now.slots place }
 {
-    let Some(place) = old else {
-        return false;
-    };
     match contents.slots.get(place as usize) {
         Some(slot) => {
-            let slot = closed(*slot, ended, contents.stamp + 1);
+            let slot = closed(*slot, call, contents.stamp + 1);
             zone_of(slot, &contents.callers).is_free()
         }
         None => false,

@@ -1,10 +1,12 @@
 //! Where each slot's place stands: the free ones first, so that each change takes or gives back a place in constant time.
 
 ghost use Rattle.std.specs.List.{count_by, range_with_len, AllZip};
-ghost use Rattle.std.specs.Prelude.{◌≡◌, ◌-◌, ◌<◌, ◌≤◌, ◌++◌, length, map, replicate, Some, slice_get, slice_set, IfOk, IfSome, IfNone};
+ghost use Rattle.std.specs.Prelude.{◌≡◌, ◌-◌, ◌<◌, ◌≤◌, ◌++◌, ℕ, true, false, length, map, replicate, Some, slice_get, slice_set, IfOk, IfSome, IfNone};
 ghost use Rattle.pref_core.specs.Places.{zone_at, zone_of, is_free_zone, free_at, IsInverse, IsArranged, MayBecome, turned, moved_order, moved_positions};
 ghost use Rattle.pref_core.specs.Slots.{begins};
+ghost use Rattle.pref_core.specs.Table.{among};
 
+use crate::call::SlotList;
 use crate::store::caller::Caller;
 use crate::store::needs::zone_of;
 use crate::store::version::Version;
@@ -120,16 +122,12 @@ impl Places {
         }
     }
 
-    /// A place that is free.
-    pub(crate) fn any_free(&self) -> Option<u32>
-        ensures found { IfSome result (λ place. slice_get self.now place ≡ Some Zone.Free) }
-        ensures none { IfNone result (count_by is_free_zone self.now ≡ 0) }
+    /// A place that is free and not one of these.
+    pub(crate) fn any_free_but(&self, chosen: &SlotList) -> Option<u32>
+        ensures found { IfSome result (λ place. (free_at self.now place ≡ true) × (among chosen.now place ≡ false)) }
+        ensures none { IfNone result ((place : ℕ) → free_at self.now place ≡ true → among chosen.now place ≡ true) }
     {
-        if self.free == 0 {
-            None
-        } else {
-            Some(self.order[self.free as usize - 1])
-        }
+        any_but(&self.order[..self.free as usize], chosen)
     }
 
     /// The row of a place ends, and an open query needs it.
@@ -195,6 +193,19 @@ impl Places {
         self.hold(place);
         self.revive(place);
     }
+}
+
+/// The first of these places that is not chosen.
+pub(crate) fn any_but(places: &[u32], chosen: &SlotList) -> Option<u32>
+    ensures found { IfSome result (λ place. (among places.now place ≡ true) × (among chosen.now place ≡ false)) }
+    ensures none { IfNone result ((place : ℕ) → among places.now place ≡ true → among chosen.now place ≡ true) }
+{
+    for place in places {
+        if !chosen.has(*place) {
+            return Some(*place);
+        }
+    }
+    None
 }
 
 /// A place goes to a position, and the place there to its own.

@@ -1,15 +1,18 @@
 //! What slots show at a stamp.
 
-ghost use Rattle.std.specs.Option.{option_to_list};
-ghost use Rattle.std.specs.Prelude.{IfOk, length, ◌≡◌, ◌≤◌};
+ghost use Rattle.std.specs.Prelude.{IfOk, length, map, ◌≡◌, ◌≤◌};
 ghost use Rattle.pref_core.specs.Indexes.{is_row, row_at, IsPlaceOf};
-ghost use Rattle.pref_core.specs.Kept.{row_in, IsOldPlace};
+ghost use Rattle.pref_core.specs.Kept.{row_in, IsKept, FindsFreed};
 ghost use Rattle.pref_core.specs.Links.{ids_of, AreLinks};
-ghost use Rattle.pref_core.specs.Slots.{visible, block_of};
+ghost use Rattle.pref_core.specs.Places.{zone_of};
+ghost use Rattle.pref_core.specs.Slots.{begins, visible, block_of};
+ghost use Rattle.pref_core.specs.State.{changes_of, ended};
 ghost use Rattle.pref_core.specs.Table.{entries};
 
+use crate::call::{Call, SlotList};
 use crate::store::contents::Contents;
 use crate::store::links::Links;
+use crate::store::needs::frees;
 use crate::store::version::Version;
 use pref_sky::Entry;
 use pref_table::Row;
@@ -44,16 +47,26 @@ pub(crate) fn place_of(contents: &Contents, links: &Links, id: u64) -> Option<u3
     links.find(&contents.slots, contents.stamp, id)
 }
 
-/// The place of the row that a call ends, where it ends one.
-pub(crate) fn old_place(contents: &Contents, links: &Links, ended: Option<u64>) -> Option<u32>
-    requires few { length contents.now.slots ≤ 65536 }
+/// The slots that the rows which a call ends leave free, or the first id that it ends and the table lacks. Rows are found by
+/// the chains of their homes.
+pub(crate) fn freed_places(contents: &Contents, links: &Links, call: &Call) -> Result<SlotList, u64>
+    requires kept { IsKept contents.now (map (zone_of (begins contents.now.callers)) contents.now.slots) }
+    requires changes { length (changes_of call.now) ≤ 8 }
     requires links { AreLinks (ids_of contents.now.stamp contents.now.slots) links.now }
-    ensures { IsOldPlace contents.now.stamp (option_to_list ended) contents.now.slots result }
+    ensures { FindsFreed contents.now (ended call.now) result }
 {
-    match ended {
-        Some(id) => place_of(contents, links, id),
-        None => None,
+    let mut freed = SlotList::NONE;
+    for at in 0..call.count() {
+        if let Some(id) = call.change(at).ended() {
+            let Some(place) = place_of(contents, links, id) else {
+                return Err(id);
+            };
+            if frees(contents, place, call) {
+                freed.push(place);
+            }
+        }
     }
+    Ok(freed)
 }
 
 /// The row at this place, where one stands there.

@@ -1,11 +1,11 @@
 //! Versions of rows.
 
-ghost use Rattle.std.specs.Option.{option_to_list};
-ghost use Rattle.std.specs.Prelude.{◌≡◌};
+ghost use Rattle.std.specs.Prelude.{◌≡◌, Some};
 ghost use Rattle.pref_core.specs.Operations.{close};
 ghost use Rattle.pref_core.specs.Slots.{is_visible, born};
 ghost use Rattle.pref_core.specs.State.{ended};
 
+use crate::call::Call;
 use pref_sky::Entry;
 use pref_table::Row;
 
@@ -26,19 +26,27 @@ impl Version {
     }
 }
 
-/// The slot after a commit that ends the row of this id.
-pub(crate) fn closed(slot: Option<Version>, ended: Option<u64>, stamp: u64) -> Option<Version>
-    ensures { result ≡ close (option_to_list ended) stamp slot }
+/// The slot after a commit by this call.
+pub(crate) fn closed(slot: Option<Version>, call: &Call, stamp: u64) -> Option<Version>
+    ensures { result ≡ close (ended call.now) stamp slot }
 {
     match slot {
-        Some(version) if version.death.is_none() && ended == Some(version.id) => Some(Version {
-            death: Some(stamp),
-            ..version
-        }),
+        Some(version) if version.death.is_none() && call.ends(version.id) => ended(version, stamp),
         other => other,
     }
 }
 
+/// A version that ends.
+pub(crate) fn ended(version: Version, stamp: u64) -> Option<Version>
+    ensures { result ≡ Some (record version { death = Some stamp }) }
+{
+    Some(Version {
+        death: Some(stamp),
+        ..version
+    })
+}
+
+/// A version that begins.
 pub(crate) fn born(entry: Entry, stamp: u64) -> Option<Version>
     ensures { result ≡ born stamp entry }
 {

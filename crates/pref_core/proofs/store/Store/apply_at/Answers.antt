@@ -1,4 +1,4 @@
-use Rattle.std.proofs.Common.{ap, sym, subst, ◌∙◌}
+use Rattle.std.proofs.Common.{ap, slice_get, sym, subst, ◌∙◌}
 use Rattle.std.specs.List.{AllByRecursion}
 use Rattle.pref_core.specs.Slots.{Contents, IsWithin, Shows}
 use Rattle.pref_core.specs.Kept.{IsOldPlace}
@@ -23,7 +23,7 @@ follow-requires-clause-kept c id ends same =
     let found = subst (λ ids. IsOldPlace c.self.inside.contents.stamp ids c.self.inside.contents.slots old) (c.ended.ensures ∙ ends) c.indexed_old_place-old.ensures in
     let at = subst (λ (s : Contents). IsPlaceOf s.stamp id s.slots old) c.self.view_is found in
     let shows = subst (λ (s : Contents). Shows s.slots s.stamp c.self.invariant.0.state.table) c.self.view_is c.self.invariant.0.stands.table in
-    stays_indexed c.args.self.now.slots c.args.self.now.stamp c.self.invariant.0.state.table id c.args.op.now.slot old _ shows at there same
+    stays_indexed c.args.self.now.slots c.args.self.now.stamp c.self.invariant.0.state.table id (slice_get c.args.op.now.slots 0) old _ shows at there same
 
 pub returns-clause-exact : goal.returns-clause-exact
 returns-clause-exact c = c.carry_out.ensures.done ∙ ap (λ s. applied s c.args.op.now) c.self.view_is

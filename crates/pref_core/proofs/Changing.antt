@@ -1,0 +1,209 @@
+-- The changes of a commit: which ids they name, and that the rows that they begin have ids of their own.
+use Rattle.std.proofs.Common.{◌≡◌, ℕ, zero, suc, ◌+◌, ◌<◌, ◌≤◌, Bool, true, false, not, ◌||◌, cond, eqb, List, [], ◌∷◌, ◌++◌, map, length, take, drop, add-one, slice_get, Option, Some, None, is_some, refl, sym, ap, ◌∙◌, subst, arith, ⊎_elim, ◌⊎◌, inl, inr, nat_lt}
+use Rattle.std.specs.Prelude.{nat_le}
+use Rattle.std.proofs.lemmas.List.{append-nil, take_more}
+use Rattle.std.proofs.lemmas.Option.{slice_get_within, get_or_from_slice_get}
+use Rattle.std.proofs.lemmas.Bool.{and_parts, or_parts, or_from, or_cases, or_right, eqb-true, eq-eqb, ne_eqb, leb-true, not-true}
+use Rattle.pref_core.specs.declared.changes.Change.{Change}
+use Rattle.pref_core.specs.declared.changes.Change.TheVariants.{Add, Set, Remove}
+use Rattle.pref_core.specs.declared.call.Call.{Call}
+use Rattle.pref_core.specs.declared.call.Call.TheVariants.{Insert, Update, Delete, Begin, Finish, Abandon}
+use Rattle.pref_core.specs.Changes.{ended_by, begun_by, added_by, twice_from, twice, is_count, is_commit}
+use Rattle.pref_core.specs.Table.{Line, among, has}
+use Rattle.pref_core.specs.State.{missing, ended, changes_of}
+use Rattle.pref_core.specs.Kept.{AreFresh}
+use Rattle.pref_sky.specs.declared.entry.Entry.{Entry}
+
+never : (b : Bool) → (b ≡ true → ⊥) → b ≡ false
+never true f = absurd (f refl)
+never false f = refl
+
+none_is : {X : Type 0} (o : Option X) → not (is_some o) ≡ true → o ≡ None
+none_is None e = refl
+none_is (Some x) e = absurd (cc)
+
+pub commit_length : (commit : List Change) → is_commit commit ≡ true → length commit ≤ 8
+commit_length commit h =
+    let count = (and_parts (is_count commit) (not (is_some (twice commit))) h).0 in
+    leb-true _ _ (and_parts (nat_lt 0 (length commit)) (nat_le (length commit) 8) count).1
+
+-- no id comes twice
+abbrev pub AreApart : List ℕ → Type 0
+AreApart [] = Unit {0}
+AreApart (id ∷ ids) = (among ids id ≡ false) × AreApart ids
+
+among_first : (id : ℕ) (ids : List ℕ) → among (id ∷ ids) id ≡ true
+among_first id ids = ap (λ b. b || among ids id) (eq-eqb id id refl)
+
+among_append : (xs ys : List ℕ) (id : ℕ) → among (xs ++ ys) id ≡ (among xs id || among ys id)
+among_append [] ys id = refl
+among_append (x ∷ xs) ys id = go (eqb x id) (among_append xs ys id)
+  where
+    go : (b : Bool) → among (xs ++ ys) id ≡ (among xs id || among ys id) → (b || among (xs ++ ys) id) ≡ ((b || among xs id) || among ys id)
+    go true h = refl
+    go false h = h
+
+pub ended_by-append : (xs ys : List Change) → ended_by (xs ++ ys) ≡ ended_by xs ++ ended_by ys
+ended_by-append [] ys = refl
+ended_by-append (Add row ∷ xs) ys = ended_by-append xs ys
+ended_by-append (Set id row ∷ xs) ys = ap (λ l. id ∷ l) (ended_by-append xs ys)
+ended_by-append (Remove id ∷ xs) ys = ap (λ l. id ∷ l) (ended_by-append xs ys)
+
+-- changes that name no id twice, nor one of these ids
+record Names (earlier : List ℕ) (ids : List ℕ) : Type 0 where
+  apart : AreApart ids
+  others : (id : ℕ) → among ids id ≡ true → among earlier id ≡ false
+
+names_more : (earlier : List ℕ) (id : ℕ) (ids : List ℕ) → among earlier id ≡ false → Names (earlier ++ id ∷ []) ids → Names earlier (id ∷ ids)
+names_more earlier id ids new h = record {
+  apart = (never (among ids id) (λ there. let both : true ≡ false = sym (among_append earlier (id ∷ []) id ∙ or_right (among earlier id) (among (id ∷ []) id) (among_first id [])) ∙ h.others id there in cc), h.apart);
+  others = λ other there. ⊎_elim
+      (λ (e : eqb id other ≡ true). let same : id ≡ other = eqb-true id other e in subst (λ n. among earlier n ≡ false) same new)
+      (λ (e : among ids other ≡ true). (or_parts (among earlier other) (among (id ∷ []) other) (sym (among_append earlier (id ∷ []) other) ∙ h.others other e)).0)
+      (or_cases (eqb id other) (among ids other) there);
+}
+
+once_named : (earlier : List Change) (change : Change) (id : ℕ) (rest : List Change) → ended_by (change ∷ []) ≡ id ∷ [] → cond (among (ended_by earlier) id) (Some (suc (length earlier))) (twice_from (earlier ++ change ∷ []) rest) ≡ None
+    → (twice_from (earlier ++ change ∷ []) rest ≡ None → Names (ended_by (earlier ++ change ∷ [])) (ended_by rest)) → Names (ended_by earlier) (id ∷ ended_by rest)
+once_named earlier change id rest is h more = go (among (ended_by earlier) id) refl h
+  where
+    go : (b : Bool) → among (ended_by earlier) id ≡ b → cond b (Some (suc (length earlier))) (twice_from (earlier ++ change ∷ []) rest) ≡ None → Names (ended_by earlier) (id ∷ ended_by rest)
+    go true e h = absurd (cc)
+    go false e h = names_more (ended_by earlier) id (ended_by rest) e (subst (λ l. Names l (ended_by rest)) (ended_by-append earlier (change ∷ []) ∙ ap (λ l. ended_by earlier ++ l) is) (more h))
+
+once : (earlier changes : List Change) → twice_from earlier changes ≡ None → Names (ended_by earlier) (ended_by changes)
+once earlier [] h = record { apart = tt; others = λ id there. absurd (cc) }
+once earlier (Add row ∷ rest) h = subst (λ l. Names l (ended_by rest)) (ended_by-append earlier (Add row ∷ []) ∙ append-nil (ended_by earlier)) (once (earlier ++ Add row ∷ []) rest h)
+once earlier (Set id row ∷ rest) h = once_named earlier (Set id row) id rest refl h (once (earlier ++ Set id row ∷ []) rest)
+once earlier (Remove id ∷ rest) h = once_named earlier (Remove id) id rest refl h (once (earlier ++ Remove id ∷ []) rest)
+
+pub ended_apart : (call : Call) → AreApart (ended call)
+ended_apart (Insert row) = tt
+ended_apart (Update id row) = (refl, tt)
+ended_apart (Delete id) = (refl, tt)
+ended_apart Begin = tt
+ended_apart Finish = tt
+ended_apart Abandon = tt
+
+-- a call makes a few changes
+pub few_changes : (call : Call) → length (changes_of call) ≤ 8
+few_changes (Insert row) = omega arith
+few_changes (Update id row) = omega arith
+few_changes (Delete id) = omega arith
+few_changes Begin = omega arith
+few_changes Finish = omega arith
+few_changes Abandon = omega arith
+
+-- where none is missing each is there
+pub found_all : (ids : List ℕ) (table : List Line) → missing ids table ≡ None → (id : ℕ) → among ids id ≡ true → has table id ≡ true
+found_all [] table m id a = absurd (cc)
+found_all (first ∷ ids) table m id a = go (has table first) refl m (λ n. found_all ids table n id)
+  where
+    go : (b : Bool) → has table first ≡ b → cond (not b) (Some first) (missing ids table) ≡ None → (missing ids table ≡ None → among ids id ≡ true → has table id ≡ true) → has table id ≡ true
+    go false h m more = absurd (cc)
+    go true h m more = ⊎_elim
+        (λ (e : eqb first id ≡ true). let same : first ≡ id = eqb-true first id e in subst (λ n. has table n ≡ true) same h)
+        (more m)
+        (or_cases (eqb first id) (among ids id) a)
+
+abbrev pub ids_of : List Entry → List ℕ
+ids_of entries = map (λ entry. entry.id) entries
+
+-- a row that begins has the id of one that ends, or a new one
+begun_ids : (next : ℕ) (changes : List Change) (id : ℕ) → among (ids_of (begun_by next changes)) id ≡ true → (among (ended_by changes) id ≡ true) ⊎ (next ≤ id)
+begun_ids next [] id a = absurd (cc)
+begun_ids next (Add row ∷ rest) id a = ⊎_elim
+    (λ (e : eqb next id ≡ true). let same : next ≡ id = eqb-true next id e in inr (omega arith))
+    (λ (e : among (ids_of (begun_by (suc next) rest)) id ≡ true). ⊎_elim (λ (there : among (ended_by rest) id ≡ true). inl there) (λ (l : suc next ≤ id). inr (omega arith)) (begun_ids (suc next) rest id e))
+    (or_cases (eqb next id) (among (ids_of (begun_by (suc next) rest)) id) a)
+begun_ids next (Set other row ∷ rest) id a = ⊎_elim
+    (λ (e : eqb other id ≡ true). inl (ap (λ b. b || among (ended_by rest) id) e))
+    (λ (e : among (ids_of (begun_by next rest)) id ≡ true). ⊎_elim (λ (there : among (ended_by rest) id ≡ true). inl (right (eqb other id) (among (ended_by rest) id) there)) (λ (l : next ≤ id). inr l) (begun_ids next rest id e))
+    (or_cases (eqb other id) (among (ids_of (begun_by next rest)) id) a)
+  where
+    right : (a b : Bool) → b ≡ true → (a || b) ≡ true
+    right true b e = refl
+    right false b e = e
+begun_ids next (Remove other ∷ rest) id a = ⊎_elim (λ (there : among (ended_by rest) id ≡ true). inl (right (eqb other id) (among (ended_by rest) id) there)) (λ (l : next ≤ id). inr l) (begun_ids next rest id a)
+  where
+    right : (a b : Bool) → b ≡ true → (a || b) ≡ true
+    right true b e = refl
+    right false b e = e
+
+-- the rows that changes begin, over a table that has none of the ids from `start` on nor those that they name
+pub begun_fresh : (start next limit : ℕ) (table : List Line) (changes : List Change) → start ≤ next → next + added_by changes ≤ limit
+    → ((id : ℕ) → among (ended_by changes) id ≡ true → (id < start) × (has table id ≡ false)) → ((id : ℕ) → start ≤ id → has table id ≡ false)
+    → AreApart (ended_by changes) → AreFresh limit table (begun_by next changes)
+begun_fresh start next limit table [] l few low high apart = tt
+begun_fresh start next limit table (Add row ∷ rest) l few low high apart = (
+  omega arith,
+  high next l,
+  never (among (ids_of (begun_by (suc next) rest)) next) (λ there. ⊎_elim
+      (λ (e : among (ended_by rest) next ≡ true). let below : next < start = (low next e).0 in absurd (omega arith))
+      (λ (e : suc next ≤ next). absurd (omega arith))
+      (begun_ids (suc next) rest next there)),
+  begun_fresh start (suc next) limit table rest (omega arith) (omega arith) low high apart,
+)
+begun_fresh start next limit table (Set id row ∷ rest) l few low high apart =
+    let here = low id (among_first id (ended_by rest)) in (
+      (let below : id < start = here.0 in omega arith),
+      here.1,
+      never (among (ids_of (begun_by next rest)) id) (λ there. ⊎_elim
+          (λ (e : among (ended_by rest) id ≡ true). let both : true ≡ false = sym e ∙ apart.0 in absurd (cc))
+          (λ (e : next ≤ id). let below : id < start = here.0 in absurd (omega arith))
+          (begun_ids next rest id there)),
+      begun_fresh start next limit table rest l few (λ other there. low other (right (eqb id other) (among (ended_by rest) other) there)) high apart.1,
+    )
+  where
+    right : (a b : Bool) → b ≡ true → (a || b) ≡ true
+    right true b e = refl
+    right false b e = e
+begun_fresh start next limit table (Remove id ∷ rest) l few low high apart =
+    begun_fresh start next limit table rest l few (λ other there. low other (right (eqb id other) (among (ended_by rest) other) there)) high apart.1
+  where
+    right : (a b : Bool) → b ≡ true → (a || b) ≡ true
+    right true b e = refl
+    right false b e = e
+
+-- The changes up to a place, and those from it on.
+pub drop_at : {X : Type 0} (xs : List X) (at : ℕ) (x : X) → slice_get xs at ≡ Some x → drop at xs ≡ x ∷ drop (at + 1) xs
+drop_at [] at x e = absurd (cc)
+drop_at (y ∷ xs) zero x e = let same : y ≡ x = cc in ap (λ z. z ∷ xs) same
+drop_at (y ∷ xs) (suc at) x e = drop_at xs at x e ∙ ap (λ n. x ∷ drop n xs) (add-one at) ∙ ap (λ n. x ∷ drop n (y ∷ xs)) (sym (add-one (suc at)))
+
+pub take_at : {X : Type 0} (xs : List X) (at : ℕ) (x : X) → slice_get xs at ≡ Some x → take (at + 1) xs ≡ take at xs ++ x ∷ []
+take_at xs at x e = let inside = slice_get_within xs at x e in take_more xs at x inside ∙ ap (λ y. take at xs ++ y ∷ []) (get_or_from_slice_get xs at x x e)
+
+pub ended_so_far : (changes : List Change) (at : ℕ) (change : Change) → slice_get changes at ≡ Some change → ended_by (take (at + 1) changes) ≡ ended_by (take at changes) ++ ended_by (change ∷ [])
+ended_so_far changes at change e = ap ended_by (take_at changes at change e) ∙ ended_by-append (take at changes) (change ∷ [])
+
+pub begun_from : (next : ℕ) (change : Change) (rest : List Change) → begun_by next (change ∷ rest) ≡ begun_by next (change ∷ []) ++ begun_by (next + added_by (change ∷ [])) rest
+begun_from next (Add row) rest = ap (λ n. record { id = next; row = row } ∷ begun_by n rest) (let e : suc next ≡ next + 1 = omega arith in e)
+begun_from next (Set id row) rest = ap (λ n. record { id = id; row = row } ∷ begun_by n rest) (let e : next ≡ next + 0 = omega arith in e)
+begun_from next (Remove id) rest = ap (λ n. begun_by n rest) (let e : next ≡ next + 0 = omega arith in e)
+
+pub begun_at : (next : ℕ) (changes : List Change) (at : ℕ) (change : Change) → slice_get changes at ≡ Some change → begun_by next (drop at changes) ≡ begun_by next (change ∷ []) ++ begun_by (next + added_by (change ∷ [])) (drop (at + 1) changes)
+begun_at next changes at change e = ap (begun_by next) (drop_at changes at change e) ∙ begun_from next change (drop (at + 1) changes)
+
+pub added_one : (change : Change) → added_by (change ∷ []) ≤ 1
+added_one (Add row) = omega arith
+added_one (Set id row) = omega arith
+added_one (Remove id) = omega arith
+
+pub begun_few : (next : ℕ) (changes : List Change) → length (begun_by next changes) ≤ length changes
+begun_few next [] = omega arith
+begun_few next (Add row ∷ rest) = let more = begun_few (suc next) rest in omega arith
+begun_few next (Set id row ∷ rest) = let more = begun_few next rest in omega arith
+begun_few next (Remove id ∷ rest) = let more = begun_few next rest in omega arith
+
+pub drop_all : {X : Type 0} (xs : List X) (at : ℕ) → length xs ≤ at → drop at xs ≡ []
+drop_all [] zero l = refl
+drop_all [] (suc at) l = refl
+drop_all (x ∷ xs) zero l = absurd (omega arith)
+drop_all (x ∷ xs) (suc at) l = drop_all xs at (omega arith)
+
+pub take_all : {X : Type 0} (xs : List X) (at : ℕ) → length xs ≤ at → take at xs ≡ xs
+take_all [] zero l = refl
+take_all [] (suc at) l = refl
+take_all (x ∷ xs) zero l = absurd (omega arith)
+take_all (x ∷ xs) (suc at) l = ap (λ r. x ∷ r) (take_all xs at (omega arith))

@@ -1,0 +1,6 @@
+use Rattle.std.proofs.Common.{◌≡◌, ℕ, ◌⊎◌, drop, true}
+use Rattle.pref_core.specs.Table.{among}
+use Rattle.pref_core.proofs.store.places.any_but.Given as goal
+
+abbrev pub invariant-loop-place : goal.invariant-loop-place
+invariant-loop-place l = (p : ℕ) → among l.places p ≡ true → (among (drop l.place-index l.places) p ≡ true) ⊎ (among l.chosen p ≡ true)

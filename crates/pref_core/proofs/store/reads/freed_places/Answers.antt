@@ -1,0 +1,43 @@
+use Rattle.std.proofs.Common.{◌≡◌, ◌+◌, ◌++◌, suc, [], ◌∷◌, true, false, Some, None, take, drop, sym, ap, ◌∙◌, subst, arith}
+use Rattle.std.specs.Option.{option_to_list}
+use Rattle.std.proofs.lemmas.List.{append-nil, take-append-drop}
+use Rattle.pref_core.specs.Changes.{ended_by}
+use Rattle.pref_core.specs.Kept.{IsFreed, frees_at}
+use Rattle.pref_core.specs.Slots.{begins}
+use Rattle.pref_core.specs.State.{changes_of, ended}
+use Rattle.pref_core.proofs.Bounds.{stamp-small}
+use Rattle.pref_core.proofs.Changing.{ended_so_far, ended_apart, take_all}
+use Rattle.pref_core.proofs.Freeing.{FreesUpTo, frees_one, freed_all}
+use Rattle.pref_core.proofs.store.reads.freed_places.Goals as goal
+use Rattle.pref_core.proofs.store.reads.freed_places.Goals.{in-Some+in-Some-place_of+then-frees, in-Some+in-Some-place_of+else-frees, in_default}
+
+pub frees-requires : goal.frees-requires
+frees-requires c = let small = stamp-small _ c.requires.kept.bounded in omega arith
+
+pub loop-at-preserved : goal.loop-at-preserved
+loop-at-preserved c =
+    let now = c.args.contents.now in
+    let call = c.args.call.now in
+    let done = ended_by (take c.loop-at.at (changes_of call)) in
+    let more = ended_so_far (changes_of call) c.loop-at.at c.change.result c.change.ensures in
+    let next : suc now.stamp ≡ now.stamp + 1 = omega arith in
+    elim c.match-ended.branch [
+      | in-Some+in-Some-place_of+then-frees w ↦
+          subst (FreesUpTo now (ended call) (ended_by (take (c.loop-at.at + 1) (changes_of call)))) (sym (w.freed-is ∙ w.push.ensures))
+          (subst (λ l. FreesUpTo now (ended call) l (c.loop-at.freed ++ w.in-Some-place_of.place ∷ [])) (sym (more ∙ ap (λ l. done ++ l) (sym c.ended.ensures ∙ ap option_to_list w.in-Some.is)))
+          (frees_one now (ended call) done c.loop-at.freed w.in-Some.id w.in-Some-place_of.place true (ap (λ m. frees_at (begins now.callers) (ended call) m now.slots w.in-Some-place_of.place) next ∙ sym w.frees.ensures ∙ w.if-frees.true) w.in-Some-place_of.ensures c.loop-at.invariant))
+      | in-Some+in-Some-place_of+else-frees w ↦
+          subst (FreesUpTo now (ended call) (ended_by (take (c.loop-at.at + 1) (changes_of call)))) (sym w.freed-is)
+          (subst (λ l. FreesUpTo now (ended call) l c.loop-at.freed) (sym (more ∙ ap (λ l. done ++ l) (sym c.ended.ensures ∙ ap option_to_list w.in-Some.is)))
+          (frees_one now (ended call) done c.loop-at.freed w.in-Some.id w.in-Some-place_of.place false (ap (λ m. frees_at (begins now.callers) (ended call) m now.slots w.in-Some-place_of.place) next ∙ sym w.frees.ensures ∙ w.if-frees.false) w.in-Some-place_of.ensures c.loop-at.invariant))
+      | in_default w ↦
+          subst (FreesUpTo now (ended call) (ended_by (take (c.loop-at.at + 1) (changes_of call)))) (sym w.freed-is)
+          (subst (λ l. FreesUpTo now (ended call) l c.loop-at.freed) (sym (more ∙ ap (λ l. done ++ l) (sym c.ended.ensures ∙ ap option_to_list w.in_default.is) ∙ append-nil done)) c.loop-at.invariant)
+    ]
+
+pub returns : goal.returns
+returns c =
+    let now = c.args.contents.now in
+    let call = c.args.call.now in
+    freed_all now c.requires.kept.state c.requires.kept.bounded c.requires.kept.stands (ended call) c.loop-at.freed (ended_apart call)
+    (subst (λ l. FreesUpTo now (ended call) (ended_by l) c.loop-at.freed) (take_all (changes_of call) c.loop-at.at (omega arith)) c.loop-at.invariant)

@@ -1,0 +1,158 @@
+//! Changes of rows, and commits of one to eight of them.
+
+ghost use Rattle.std.specs.Prelude.{◌≡◌, ◌<◌, ◌≤◌, ◌++◌, ◌-◌, [], ◌∷◌, true, length, take, replicate, slice_index_or};
+ghost use Rattle.std.specs.Option.{option_to_list};
+ghost use Rattle.pref_core.specs.Table.{among};
+ghost use Rattle.pref_core.specs.Changes.{ended_by, begun_by, added_by, names_again, twice, commit_of, is_commit};
+
+use crate::fault::CoreFault;
+use pref_sky::Entry;
+use pref_table::Row;
+use std::marker::Model;
+
+/// The most changes of a commit.
+const MOST_CHANGES: usize = 8;
+
+/// One change of a commit.
+#[derive(Clone, Copy, Debug, PartialEq, Eq)]
+pub enum Change {
+    /// A new row, which gets the next id.
+    Add(Row),
+    /// The row of this id is another.
+    Set(u64, Row),
+    /// The row of this id goes.
+    Remove(u64),
+}
+
+impl Change {
+    /// The id of the row that it ends.
+    pub(crate) fn ended(&self) -> Option<u64>
+        ensures { option_to_list result ≡ ended_by (self.now ∷ []) }
+    {
+        match *self {
+            Change::Add(_) => None,
+            Change::Set(id, _) | Change::Remove(id) => Some(id),
+        }
+    }
+
+    /// The row that it begins, by the next id.
+    pub(crate) fn begun(&self, next_id: u64) -> Option<Entry>
+        ensures { option_to_list result ≡ begun_by next_id (self.now ∷ []) }
+    {
+        match *self {
+            Change::Add(row) => Some(Entry { id: next_id, row }),
+            Change::Set(id, row) => Some(Entry { id, row }),
+            Change::Remove(_) => None,
+        }
+    }
+
+    /// How many rows it adds.
+    pub(crate) fn added(&self) -> u64
+        ensures { result ≡ added_by (self.now ∷ []) }
+    {
+        match *self {
+            Change::Add(_) => 1,
+            Change::Set(_, _) | Change::Remove(_) => 0,
+        }
+    }
+}
+
+/// One to eight changes, of which no two name one id: all of them are done at one moment, or none is. Contracts see
+/// their list.
+#[derive(Clone, Copy, Debug, PartialEq, Eq)]
+pub struct Commit {
+    changes: [Change; MOST_CHANGES],
+    count: usize,
+}
+
+impl Model for Commit {
+    ghost use Rattle.std.specs.Prelude.{List, take, length, ◌-◌, ◌++◌, replicate};
+    ghost use Rattle.pref_core.specs.declared.changes.Change.{Change};
+    ghost use Rattle.pref_core.specs.declared.changes.Change.TheVariants.{Remove};
+    ghost use Rattle.pref_core.specs.Filled.{IsFilled};
+
+    ghost Value = { List Change };
+
+    ghost view = { λ c. take c.count c.changes };
+
+    ghost invariant = { λ c. IsFilled c.changes c.count };
+
+    ghost inverse = { λ list. record { changes = list ++ replicate (8 - length list) (Remove 0); count = length list } };
+
+    ghost inverse_ok = { λ a h i. record { changes = h.blank i; count = h.counted i } };
+}
+
+impl Commit {
+    /// The commit of these changes. Takes no memory.
+    ///
+    /// Refused `ChangeCount` for none or more than eight, then `Twice` for the first change that names an id which an
+    /// earlier one names.
+    pub fn of(changes: &[Change]) -> Result<Commit, CoreFault>
+        ensures { result ≡ commit_of changes.now }
+    {
+        if changes.is_empty() || changes.len() > MOST_CHANGES {
+            return Err(CoreFault::ChangeCount);
+        }
+        if let Some(place) = twice(changes) {
+            return Err(CoreFault::Twice { place });
+        }
+        Ok(Commit {
+            changes: filled(changes),
+            count: changes.len(),
+        })
+    }
+
+    /// The changes, as they stand.
+    pub fn as_slice(&self) -> &[Change]
+        ensures same { result.now ≡ self.now }
+        ensures commit { is_commit self.now ≡ true }
+    {
+        &self.changes[..self.count]
+    }
+}
+
+/// Whether one of the changes names the id.
+fn is_named(changes: &[Change], id: u64) -> bool
+    ensures { result ≡ among (ended_by changes.now) id }
+{
+    for change in changes {
+        if change.ended() == Some(id) {
+            return true;
+        }
+    }
+    false
+}
+
+/// Whether the change at this place names an id that one before it names.
+fn is_again(changes: &[Change], at: usize) -> bool
+    requires { at < length changes.now }
+    ensures { (d : Change) → result ≡ names_again (take at changes.now) (slice_index_or changes.now at d) }
+{
+    match changes[at].ended() {
+        Some(id) => is_named(&changes[..at], id),
+        None => false,
+    }
+}
+
+/// The place, from 1 on, of the first change that names an id which an earlier one names.
+fn twice(changes: &[Change]) -> Option<u64>
+    requires { length changes.now ≤ 8 }
+    ensures { result ≡ twice changes.now }
+{
+    for at in 0..changes.len() {
+        if is_again(changes, at) {
+            return Some(at as u64 + 1);
+        }
+    }
+    None
+}
+
+/// The changes with removes of no row behind them.
+fn filled(changes: &[Change]) -> [Change; MOST_CHANGES]
+    requires { length changes.now ≤ 8 }
+    ensures { result ≡ changes.now ++ replicate (8 - length changes.now) (Change.Remove 0) }
+{
+    let mut all = [Change::Remove(0); MOST_CHANGES];
+    all[..changes.len()].copy_from_slice(changes);
+    all
+}
