@@ -19,16 +19,20 @@ HELD = {
         ("let told = read(alloc, &mut client);", "let taken = board.master.lock(rt); let told = read(alloc, &mut client); drop(taken);"),
     ],
 }
+REFUSES_GET = "ensures refused { IfErr result (λ fault. RefusesGet J.opening self.old id fault self.new) }"
+REFUSES_ROOM = "ensures refused { IfErr result (λ fault. (fault ≡ Closed) × (self.new ≡ self.old)) }"
 LOCKED = {
     "pref_share/src/client/reads.rt": [
         ("use crate::book::Naming;", "use crate::board::Board; use crate::book::Naming; use std::sync::Wait;"),
         ("pub fn get(&mut self, id: u64)", "pub fn get<R: Wait>(&mut self, rt: &R, board: &Board<J>, id: u64)"),
-        ("match self.found_row(id) {", "let taken = board.master.lock(rt); let found = self.found_row(id); drop(taken); match found {"),
+        (f"{REFUSES_GET}\n    {{\n", f"{REFUSES_GET}\n    {{\n        let taken = board.master.lock(rt);\n"),
+        ("let Some((now, row)) = found else {", "drop(taken); let Some((now, row)) = found else {"),
         ("pub fn room(&mut self)", "pub fn room<R: Wait>(&mut self, rt: &R, board: &Board<J>)"),
-        ("match self.found_room() {", "let taken = board.master.lock(rt); let found = self.found_room(); drop(taken); match found {"),
+        (f"{REFUSES_ROOM}\n    {{\n", f"{REFUSES_ROOM}\n    {{\n        let taken = board.master.lock(rt);\n"),
+        ("let Some((now, room)) = found else {", "drop(taken); let Some((now, room)) = found else {"),
         ("pub fn scan(&mut self, alloc: Global)", "pub fn scan<R: Wait>(&mut self, rt: &R, alloc: Global, board: &Board<J>)"),
-        ("self.may_scan()?;", "self.may_scan()?; let taken = board.master.lock(rt); let found = self.found_block(alloc); drop(taken);"),
-        ("let Some((now, block)) = self.found_block(alloc) else {", "let Some((now, block)) = found else {"),
+        ("let query = &asking.query;", "let query = &asking.query; let taken = board.master.lock(rt);"),
+        ("let Some((now, block)) = found else {", "drop(taken); let Some((now, block)) = found else {"),
     ],
     "pref_share/src/run/acts.rt": [
         ("client.scan(alloc)", "client.scan(rt, alloc, board)"),

@@ -6,10 +6,9 @@ use Rattle.std.specs.Global.{Vec}
 use mathlib.Core.List.{IsPrefix}
 use Rattle.pref_term.specs.Question.{Question}
 use Rattle.pref_sky.specs.declared.entry.Ranked.{Ranked}
-use Rattle.pref_core.specs.declared.store.version.Version.{Version}
 use Rattle.pref_core.specs.declared.store.caller.Caller.{Caller}
 use Rattle.pref_core.specs.declared.call.Call.{Call}
-use Rattle.pref_core.specs.declared.call.Call.TheVariants.{Insert, Update, Delete, Begin, Finish, Abandon}
+use Rattle.pref_core.specs.declared.call.Call.TheVariants.{Begin, Finish, Abandon}
 use Rattle.pref_core.specs.declared.call.Op.{Op}
 use Rattle.pref_core.specs.declared.call.Outcome.{Outcome}
 use Rattle.pref_core.specs.declared.call.Outcome.TheVariants.{Added, Done, NoSuchRow, Full}
@@ -21,8 +20,7 @@ use Rattle.std.proofs.lemmas.Bool.{eqb-true}
 use Rattle.pref_core.specs.Operations.{ran, same_number}
 use Rattle.pref_core.specs.History.{IsLegalHistory, state_after}
 use Rattle.pref_core.specs.Stability.{is_end, ends_query}
-use Rattle.pref_sky.specs.declared.entry.Entry.{Entry}
-use Rattle.pref_core.specs.Scans.{Scan, begin, next_block, NextIsNew, IsScanned, Reads, Answers}
+use Rattle.pref_core.specs.Scans.{Scan, begin, NextIsNew, IsScanned, Answers}
 use Rattle.pref_share.specs.Scanning.{Scanned}
 use Rattle.pref_core.proofs.Outcomes.{SameSeat, nobody, somebody, same_seat}
 use Rattle.pref_core.proofs.Shown.{begun_kept}
@@ -31,7 +29,7 @@ use Rattle.pref_core.proofs.Following.{stays_on_its_way, begun_on_its_way, next_
 use Rattle.pref_share.specs.Openings.{Opening, IsLegal, HasCall, MayFollow, history_of, contents_at, state_at, calls_at, first_state}
 use Rattle.pref_share.specs.Standing.{Asking, Standing}
 use Rattle.pref_share.specs.Clients.{Sees, Joins, Changes, RefusesChange, IsAnswer, own_refusal}
-use Rattle.pref_share.specs.Following.{Follows, Asks, Stands, IsJoined, GivesNone, ReadsBlock, snapshot_at, done_or_refused}
+use Rattle.pref_share.specs.Following.{Follows, Asks, Stands, IsJoined, GivesNone, snapshot_at, done_or_refused}
 use Rattle.pref_share.proofs.Prefixes.{prefix_self, prefix_trans}
 use Rattle.pref_share.proofs.Histories.{legal-more, legal-prefix, legal_stands, legal_capacity, contents_at-append, state_at-append, history_rest, legal_is_history}
 use Rattle.pref_share.proofs.Counting.{IsGrown, caller, calls_own, begun_own, calls_grow, none_own, has_call, calls_few, idle_seat}
@@ -345,12 +343,6 @@ change_told o old new call told result e j q = subst (λ (r : Result Outcome Sha
     go Done j = ((j, q), tt)
     go (NoSuchRow id) j = (tt, (j, q))
     go (Full needed) j = (tt, (j, q))
-
--- what the next block of the open query showed
-pub block_is : (slots : List (Option Version)) (query : Option Asking) (asking : Asking) (shown : Result (Vec Entry) CoreFault) (block : Vec Entry) → query ≡ Some asking → shown ≡ Ok block → ReadsBlock query slots shown → block.items ≡ next_block asking.scan slots
-block_is slots query asking shown block q s h =
-    let reads : Reads asking.scan slots (Ok block) = subst (λ (r : Result (Vec Entry) CoreFault). Reads asking.scan slots r) s (subst (λ (x : Option Asking). ReadsBlock x slots shown) q h) in
-    reads.0
 
 pub sees : (o : Opening) (old new : Standing) → IsPrefix old.seen new.seen → IsLegal o new.seen → new.counter ≡ old.counter → new.number ≡ old.number → new.query ≡ old.query → Sees o old new
 sees o old new further legal counted same query = record { further = further; legal = legal; counted = counted; same = same; query = query }

@@ -1,20 +1,17 @@
 -- No public contract cites this.
 -- What the history that a client has seen says of its counter and its open query.
 use Rattle.std.specs.Prelude.{◌≡◌, ℕ, suc, ◌<◌, ◌≤◌, List, [], ◌∷◌, ◌++◌, Option, Some, None, Result, Ok, Err}
-use Rattle.std.specs.Global.{Vec}
 use mathlib.Core.List.{IsPrefix}
 use Rattle.pref_core.specs.declared.call.Call.{Call}
 use Rattle.pref_core.specs.declared.call.Op.{Op}
 use Rattle.pref_core.specs.declared.call.Outcome.{Outcome}
-use Rattle.pref_core.specs.declared.call.Outcome.TheVariants.{Added, Done, NoSuchRow, Full}
 use Rattle.pref_core.specs.declared.fault.CoreFault.{CoreFault}
-use Rattle.pref_core.specs.declared.fault.CoreFault.TheVariants.{NotDone, NoSuchRow as MissingRow, Full as TooFull, OutOfMemory}
+use Rattle.pref_core.specs.declared.fault.CoreFault.TheVariants.{NotDone, OutOfMemory}
 use Rattle.pref_core.specs.History.{numbered_of}
-use Rattle.pref_core.specs.declared.store.version.Version.{Version}
-use Rattle.pref_core.specs.Scans.{Reads}
-use Rattle.pref_sky.specs.declared.entry.Entry.{Entry}
-use Rattle.pref_core.specs.State.{Snapshot, begun_of}
+use Rattle.pref_core.specs.State.{Snapshot, begun_of, refusal_by_outcome}
 use Rattle.pref_core.specs.Queries.{IsOnItsWay}
+use Rattle.pref_share.specs.declared.client.calls.Joining.{Joining}
+use Rattle.pref_share.specs.declared.client.calls.Joining.TheVariants.{Joined, Ahead}
 use Rattle.pref_share.specs.declared.fault.ShareFault.{ShareFault}
 use Rattle.pref_share.specs.declared.fault.ShareFault.TheVariants.{Core}
 use Rattle.pref_share.specs.Openings.{Opening, IsLegal, MayFollow, HasCall, contents_at, state_at, calls_at}
@@ -64,20 +61,17 @@ pub record IsAhead (o : Opening) (old : Standing) (whole : List Op) : Type 0 whe
   pub legal : IsLegal o whole
   pub holds : HasCall whole old.number (suc old.counter)
 
+-- what becomes of a call that is let in to join
+abbrev pub MayJoin : Opening → Standing → Call → Joining (List Op) → Type 0
+MayJoin o old call (Joined seen outcome stamp) = IsJoined o old call outcome seen stamp
+MayJoin o old call (Ahead seen) = IsAhead o old seen
+
 -- the outcome of a change, or the refusal that it is
 abbrev pub done_or_refused : Outcome → Result Outcome ShareFault
-done_or_refused (NoSuchRow id) = Err (Core (MissingRow id))
-done_or_refused (Full needed) = Err (Core (TooFull needed))
-done_or_refused (Added id) = Ok (Added id)
-done_or_refused Done = Ok Done
+done_or_refused outcome = elim (refusal_by_outcome outcome) [ None ↦ Ok outcome | Some fault ↦ Err (Core fault) ]
 
 -- why an open query gives no answer
 abbrev pub GivesNone : Standing → CoreFault → Type 0
 GivesNone s (NotDone left) = HasLeft s left
 GivesNone s OutOfMemory = HasNoneLeft s
 GivesNone s fault = ⊥
-
--- what the next block of an open query shows, copied out
-abbrev pub ReadsBlock : Option Asking → List (Option Version) → Result (Vec Entry) CoreFault → Type 0
-ReadsBlock None slots shown = ⊥
-ReadsBlock (Some asking) slots shown = Reads asking.scan slots shown

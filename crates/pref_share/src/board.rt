@@ -31,7 +31,7 @@ impl<J: Naming> Board<J> {
 
 /// Opens a table with these rows under a new name, and gives its clients, in order of number.
 ///
-/// Refused `Full` where there are more rows than slots, else `OutOfMemory` where memory is wanting. `Closed` stands where
+/// Refused `Full` where there are more rows than slots, else `OutOfMemory`. `Closed` comes where
 /// no reader is given or somebody has opened a board under this name, which nobody can. Nothing is kept then. Cost: three
 /// stores of all slots, since readers take two copies in turn, and an index of the rows.
 ///

@@ -13,7 +13,7 @@ ghost use Rattle.pref_share.specs.Book.{word_of, ops_of, first_key};
 
 use crate::entry::Entry;
 use logbook::{Gain, Offer, Pen, Plain, Play, Rule, Seen, Start, Word};
-use pref_core::{Call, Op, Outcome};
+use pref_core::{Call, Op, Outcome, SlotList};
 use std::marker::{Brand, Model};
 
 /// The rule of the book.
@@ -152,7 +152,7 @@ pub(crate) const NO_CALL: Op = Op {
     client: 0,
     number: 0,
     call: Call::Begin,
-    slot: None,
+    slots: SlotList::NONE,
     outcome: Outcome::Done,
 };
 

@@ -1,4 +1,4 @@
-//! A client, which may go to a thread of its own, and the words by which clients tell each other what they have seen.
+//! A client, which may go to a thread of its own, and the words by which clients pass on what they have seen.
 
 mod calls;
 mod reads;
@@ -21,7 +21,7 @@ use crate::published::StoreReader;
 use pref_core::{Query, Setup};
 use std::marker::Model;
 
-/// A beginning of the history, which a client tells others. Contracts see its operations.
+/// A beginning of the history, which one client hands to others. Contracts see its operations.
 #[derive(Drop)]
 pub struct Word<J: Naming> {
     seen: Prefix<J>,
@@ -59,6 +59,14 @@ impl<J: Naming> Model for Asking<J> {
 /// seen of the history. It may be moved to a thread of its own.
 ///
 /// A client that is dropped with a query open keeps that query's versions needed.
+///
+/// ```text
+/// let blocks = client.begin(rt, alloc, &board, ask).map_err(|refused| refused.fault)?;
+/// for _ in 0..blocks {
+///     client.scan(alloc)?;
+/// }
+/// let ranked = client.finish(rt, alloc, &board)?;
+/// ```
 #[derive(Drop)]
 pub struct Client<J: Naming> {
     number: u8,

@@ -12,7 +12,7 @@ use thiserror::Error;
 /// A refusal. Those of the table are tested in their order; `Spent`, `QueryOpen`, `NoQuery`, `AllScanned` and `NotDone`
 /// before the others of this type.
 ///
-/// After `OutOfMemory`, `ClientInUse` and `Closed` the client's counter and its query are as they were, and no call has joined the history.
+/// After `OutOfMemory`, `ClientInUse` and `Closed` the client's counter and its query are as they were, so the call can be made again.
 #[derive(Clone, Copy, Debug, PartialEq, Eq, Error)]
 pub enum ShareFault {
     /// The table's refusal.

@@ -3,7 +3,9 @@
 //! [`open_board`] gives a [`Board`] and its [`Client`]s. What a client changes joins one history under the board's
 //! lock, and is published to readers; what it reads takes no lock and waits for nobody. Each call's reply is that
 //! of the sequential table at one place of that history, and the history that a client has seen never gets
-//! shorter. [`run_all`] runs the acts of all clients, each on a thread.
+//! shorter. [`run_all`] runs the acts of all clients, each on a thread; their replies are sequentially consistent. Nothing is
+//! promised in real time: a read may see an older table than the one that another client's call has just left, unless a
+//! [`Word`] of it was heard.
 #![tactic(auto)]
 
 mod board;

@@ -6,29 +6,33 @@ ghost use Rattle.pref_core.specs.State.{added, is_change, granted};
 ghost use Rattle.pref_core.specs.Stability.{is_end};
 ghost use Rattle.pref_share.specs.declared.fault.ShareFault.TheVariants.{ClientInUse};
 ghost use Rattle.pref_share.specs.Clients.{own_refusal, Changes, Joins, Begins, Finishes, IsAnswer, Refused, Refuses, RefusesChange, RefusesBegin, RefusesFinish, IsInUse};
-ghost use Rattle.pref_share.specs.Following.{IsJoined, IsAhead, done_or_refused, GivesNone};
+ghost use Rattle.pref_share.specs.Following.{MayJoin, IsAhead, done_or_refused, GivesNone};
 
 use crate::board::Board;
 use crate::book::Naming;
 use crate::client::{Asking, Client};
 use crate::fault::{BeginFault, ShareFault};
 use crate::history::Prefix;
-use pref_core::{Call, CoreFault, Outcome, Query};
+use pref_core::{Call, CoreFault, Outcome, Query, QueryState};
 use pref_sky::Ranked;
 use pref_table::Row;
 use pref_term::Ask;
 use std::alloc::{AllocError, Global};
 use std::sync::Wait;
 
-/// So many numbered calls a client makes at most.
-const MOST_CALLS: u64 = 1 << 56;
-
-/// A call that joined the history: all of it then, what became of the call, and how many commits there were.
+/// What becomes of a call that is let in to join, with all of the history as it is then.
 #[derive(Drop)]
-pub(super) struct Joined<J: Naming> {
-    seen: Prefix<J>,
-    outcome: Outcome,
-    stamp: u64,
+pub(super) enum Joining<H> {
+    /// The history ends with the call; so many commits there were.
+    Joined {
+        seen: H,
+        outcome: Outcome,
+        stamp: u64,
+    },
+    /// The history holds a call of this client that it has not made.
+    Ahead {
+        seen: H,
+    },
 }
 
 impl<J: Naming> Client<J> {
@@ -65,10 +69,8 @@ impl<J: Naming> Client<J> {
         ensures updated { IfOk result (λ _. Changes J.opening self.old (Call.Update id row) Done self.new) }
         ensures refused { IfErr result (λ fault. RefusesChange J.opening self.old (Call.Update id row) fault self.new) }
     {
-        match self.change(rt, alloc, board, &Call::Update(id, row))? {
-            Outcome::Done => Ok(()),
-            _ => unreachable!(),
-        }
+        self.change(rt, alloc, board, &Call::Update(id, row))?;
+        Ok(())
     }
 
     /// Deletes the row of this id. Waits for the board.
@@ -84,10 +86,8 @@ impl<J: Naming> Client<J> {
         ensures deleted { IfOk result (λ _. Changes J.opening self.old (Call.Delete id) Done self.new) }
         ensures refused { IfErr result (λ fault. RefusesChange J.opening self.old (Call.Delete id) fault self.new) }
     {
-        match self.change(rt, alloc, board, &Call::Delete(id))? {
-            Outcome::Done => Ok(()),
-            _ => unreachable!(),
-        }
+        self.change(rt, alloc, board, &Call::Delete(id))?;
+        Ok(())
     }
 
     /// Begins a query of the table as it is now, and answers how many blocks it has to scan. Waits for the board, and copies
@@ -110,20 +110,21 @@ impl<J: Naming> Client<J> {
                 ask,
             });
         }
-        let Ok(told) = self.join(rt, alloc, board, &Call::Begin) else {
-            unreachable!()
-        };
-        match told {
-            Ok(joined) => {
-                let query = Query::begin(ask, joined.stamp, &self.setup);
-                let begun = joined.seen.again();
+        match self.join(rt, alloc, board, &Call::Begin) {
+            Ok(Joining::Joined { seen, stamp, .. }) => {
+                let query = Query::begin(ask, stamp, &self.setup);
+                let begun = seen.again();
                 self.asking = Some(Asking { query, begun });
                 self.counter += 1;
-                self.seen = joined.seen;
+                self.seen = seen;
                 Ok(self.setup.blocks())
             }
-            Err(whole) => Err(BeginFault {
-                fault: self.in_use(whole),
+            Ok(Joining::Ahead { seen }) => Err(BeginFault {
+                fault: self.in_use(seen),
+                ask,
+            }),
+            Err(fault) => Err(BeginFault {
+                fault: ShareFault::from(fault),
                 ask,
             }),
         }
@@ -171,14 +172,7 @@ impl<J: Naming> Client<J> {
     fn refusal(&self, call: &Call) -> Option<CoreFault>
         ensures { result ≡ own_refusal self.now call.now }
     {
-        if self.counter >= MOST_CALLS {
-            return Some(CoreFault::Spent);
-        }
-        match *call {
-            Call::Begin if self.asking.is_some() => Some(CoreFault::QueryOpen),
-            Call::Finish | Call::Abandon if self.asking.is_none() => Some(CoreFault::NoQuery),
-            _ => None,
-        }
+        call.refusal(self.counter, QueryState::of(&self.asking))
     }
 
     /// A change of rows. Where the row is missing or the table full, the call has joined all the same.
@@ -198,12 +192,12 @@ impl<J: Naming> Client<J> {
             return Err(ShareFault::Core(fault));
         }
         match self.join(rt, alloc, board, call)? {
-            Ok(joined) => {
+            Joining::Joined { seen, outcome, .. } => {
                 self.counter += 1;
-                self.seen = joined.seen;
-                done_or_refused(joined.outcome)
+                self.seen = seen;
+                done_or_refused(outcome)
             }
-            Err(whole) => Err(self.in_use(whole)),
+            Joining::Ahead { seen } => Err(self.in_use(seen)),
         }
     }
 
@@ -220,17 +214,14 @@ impl<J: Naming> Client<J> {
         ensures ended { OnOk result (Joins J.opening self.old call.now Done self.new × (self.new.query ≡ None)) }
         ensures refused { IfErr result (λ fault. (fault ≡ ClientInUse (suc self.old.counter)) × IsInUse J.opening self.old (suc self.old.counter) self.new) }
     {
-        let Ok(told) = self.join(rt, alloc, board, call) else {
-            unreachable!()
-        };
-        match told {
-            Ok(joined) => {
+        match self.join(rt, alloc, board, call)? {
+            Joining::Joined { seen, .. } => {
                 self.asking = None;
                 self.counter += 1;
-                self.seen = joined.seen;
+                self.seen = seen;
                 Ok(())
             }
-            Err(whole) => Err(self.in_use(whole)),
+            Joining::Ahead { seen } => Err(self.in_use(seen)),
         }
     }
 
@@ -241,36 +232,36 @@ impl<J: Naming> Client<J> {
     {
         match &self.asking {
             Some(asking) => asking.query.answer(alloc),
-            None => unreachable!(),
+            None => Err(CoreFault::NoQuery),
         }
     }
 
-    /// A call joins the history. The inner `Err` is all of the history, which holds a call of this client that it has not made;
-    /// the outer is want of memory, which comes for an insert alone.
+    /// A call joins the history, unless the history is ahead of the client. Out of memory comes for an insert alone.
     fn join<R: Wait>(
         &self,
         rt: &R,
         alloc: Global,
         board: &Board<J>,
         call: &Call,
-    ) -> Result<Result<Joined<J>, Prefix<J>>, AllocError>
+    ) -> Result<Joining<Prefix<J>>, AllocError>
         requires { own_refusal self.now call.now ≡ None }
-        ensures joined { IfOk result (λ told. IfOk told (λ joined. IsJoined J.opening self.now call.now joined.outcome joined.seen joined.stamp)) }
-        ensures ahead { IfOk result (λ told. IfErr told (λ whole. IsAhead J.opening self.now whole)) }
+        ensures joins { IfOk result (λ joining. MayJoin J.opening self.now call.now joining) }
         ensures memory { OnErr result (nat_lt 0 (added call.now) ≡ true) }
     {
         let mut guard = board.master.lock(rt);
         let master = &mut *guard;
         master.check(&self.seen);
         if master.last(self.number) > self.counter {
-            return Ok(Err(master.whole()));
+            return Ok(Joining::Ahead {
+                seen: master.whole(),
+            });
         }
         match master.join(rt, alloc, self.number, call) {
-            Ok(op) => Ok(Ok(Joined {
+            Ok(op) => Ok(Joining::Joined {
                 seen: master.whole(),
                 outcome: op.outcome,
                 stamp: master.stamp(),
-            })),
+            }),
             Err(_) => Err(AllocError),
         }
     }
@@ -292,9 +283,8 @@ impl<J: Naming> Client<J> {
 fn done_or_refused(outcome: Outcome) -> Result<Outcome, ShareFault>
     ensures { result ≡ done_or_refused outcome }
 {
-    match outcome {
-        Outcome::NoSuchRow(id) => Err(ShareFault::Core(CoreFault::NoSuchRow { id })),
-        Outcome::Full(needed) => Err(ShareFault::Core(CoreFault::Full { needed })),
-        done => Ok(done),
+    match outcome.refusal() {
+        Some(fault) => Err(ShareFault::Core(fault)),
+        None => Ok(outcome),
     }
 }

@@ -3,15 +3,18 @@
 //! Each numbered call publishes before it lets the lock go, and a client has seen no more than was published. So no run meets a copy that
 //! is older than what its client has seen; where one did, the read would be refused and nothing changed.
 
-ghost use Rattle.std.specs.Prelude.{◌≡◌, ◌<◌, Some, IfOk, IfErr, IfSome, MatchResult};
-ghost use Rattle.std.specs.Option.{unwrap_or};
+ghost use Rattle.std.specs.Prelude.{◌≡◌, ◌<◌, ◌-◌, length, Some, IfOk, IfErr, IfSome, MatchResult};
+ghost use Rattle.std.specs.Fn.{FnOnceReturnsAt};
+ghost use Rattle.std.specs.Option.{unwrap_or, option_map};
 ghost use mathlib.Core.List.{IsPrefix};
 ghost use Rattle.left_right.specs.Sides.{view};
 ghost use Rattle.pref_core.specs.Scans.{Reads};
+ghost use Rattle.pref_core.specs.Slots.{StandsFor as StandsForState};
+ghost use Rattle.pref_core.specs.State.{State, calls_of, needed};
+ghost use Rattle.pref_core.specs.Table.{line_of};
 ghost use Rattle.pref_share.specs.Openings.{IsLegal, first_contents, contents_at, calls_at};
 ghost use Rattle.pref_share.specs.Clients.{Sees};
 ghost use Rattle.pref_share.specs.Scanning.{Scanned, HasMore, RefusedScan, RefusesScan, RefusesGet, room_at, row_at};
-ghost use Rattle.pref_share.specs.Following.{ReadsBlock};
 ghost use Rattle.pref_share.specs.Views.{Knows, StandsFor};
 ghost use Rattle.pref_share.specs.declared.fault.ShareFault.TheVariants.{Closed};
 
@@ -21,7 +24,7 @@ use crate::fault::ShareFault;
 use crate::history::Prefix;
 use crate::published::{Published, Reading, StoreReader, StoreReading};
 use core::mem::replace_with;
-use pref_core::{CoreFault, Query};
+use pref_core::{CoreFault, Store};
 use pref_sky::Entry;
 use pref_table::Row;
 use std::alloc::Global;
@@ -60,65 +63,47 @@ fn entered<J: Naming>(
     }
 }
 
-/// The row of an id, as it is published.
-fn find<J: Naming>(
-    reader: StoreReader,
+/// What a look at the published table finds there, with the table's history, where a reader is let in. The reader is back outside when
+/// this returns, so that the writer need not wait for what is made of what was found.
+fn read<J: Naming, T, F: FnOnce(&Store) -> T>(
+    reader: &mut StoreReader,
     seen: &Prefix<J>,
-    id: u64,
-) -> (StoreReader, Option<(Prefix<J>, Option<Row>)>)
-    requires knows { Knows (first_contents J.opening) J.book (view reader.place) }
+    look: F,
+) -> Option<(Prefix<J>, T)>
+    requires knows { Knows (first_contents J.opening) J.book (view reader.old.place) }
     requires legal { IsLegal J.opening seen.now }
-    ensures view { view result.0.place ≡ view reader.place }
-    ensures found { IfSome result.1 (λ found. IsPrefix seen.now found.0 × IsLegal J.opening found.0 × (found.1 ≡ row_at J.opening found.0 id)) }
+    requires look { F.IsAlwaysCallable look }
+    ensures view { view reader.new.place ≡ view reader.old.place }
+    ensures found { IfSome result (λ found. IsPrefix seen.now found.0 × IsLegal J.opening found.0 × FnOnceReturnsAt F.FnOnce look (contents_at J.opening found.0) found.1) }
 {
-    let (reading, now) = match entered(reader, seen) {
-        Ok(entered) => entered,
-        Err(reader) => return (reader, None),
-    };
-    let row = reading.get().store.get(id);
-    (reading.leave(), Some((now, row)))
+    replace_with(
+        reader,
+        look,
+        |reader: StoreReader, look: F| -> (StoreReader, Option<(Prefix<J>, T)>)
+            requires { Knows (first_contents J.opening) J.book (view reader.place) × IsLegal J.opening seen.now × F.IsAlwaysCallable look }
+            ensures { (view result.0.place ≡ view reader.place) × IfSome result.1 (λ found. IsPrefix seen.entry.now found.0 × IsLegal J.opening found.0 × FnOnceReturnsAt F.FnOnce look (contents_at J.opening found.0) found.1) }
+        { looked(reader, seen, look) },
+    )
 }
 
-/// How many more versions there is room for, as it is published.
-fn count_room<J: Naming>(
+/// The same with a reader that is handed over and back.
+fn looked<J: Naming, T, F: FnOnce(&Store) -> T>(
     reader: StoreReader,
     seen: &Prefix<J>,
-) -> (StoreReader, Option<(Prefix<J>, u32)>)
+    look: F,
+) -> (StoreReader, Option<(Prefix<J>, T)>)
     requires knows { Knows (first_contents J.opening) J.book (view reader.place) }
     requires legal { IsLegal J.opening seen.now }
+    requires look { F.IsAlwaysCallable look }
     ensures view { view result.0.place ≡ view reader.place }
-    ensures found { IfSome result.1 (λ found. IsPrefix seen.now found.0 × IsLegal J.opening found.0 × (found.1 ≡ room_at J.opening found.0)) }
+    ensures found { IfSome result.1 (λ found. IsPrefix seen.now found.0 × IsLegal J.opening found.0 × FnOnceReturnsAt F.FnOnce look (contents_at J.opening found.0) found.1) }
 {
     let (reading, now) = match entered(reader, seen) {
         Ok(entered) => entered,
         Err(reader) => return (reader, None),
     };
-    let room = reading.get().store.room();
-    (reading.leave(), Some((now, room)))
-}
-
-/// What the next block of a query shows, as it is published. It is copied out, so that the writer need not wait for what is
-/// made of it.
-fn read_block<J: Naming>(
-    reader: StoreReader,
-    seen: &Prefix<J>,
-    query: &Query,
-    alloc: Global,
-    client: u8,
-) -> (StoreReader, Option<(Prefix<J>, Block)>)
-    requires knows { Knows (first_contents J.opening) J.book (view reader.place) }
-    requires legal { IsLegal J.opening seen.now }
-    ensures view { view result.0.place ≡ view reader.place }
-    ensures found { IfSome result.1 (λ found. IsPrefix seen.now found.0 × IsLegal J.opening found.0 × (found.1.calls ≡ unwrap_or (calls_at J.opening found.0 client) 0) × Reads query.now (contents_at J.opening found.0).slots found.1.shown) }
-{
-    let (reading, now) = match entered(reader, seen) {
-        Ok(entered) => entered,
-        Err(reader) => return (reader, None),
-    };
-    let store = &reading.get().store;
-    let calls = store.last(client);
-    let shown = query.read(alloc, store);
-    (reading.leave(), Some((now, Block { calls, shown })))
+    let found = look(&reading.get().store);
+    (reading.leave(), Some((now, found)))
 }
 
 impl<J: Naming> Client<J> {
@@ -129,15 +114,20 @@ impl<J: Naming> Client<J> {
         ensures row { IfOk result (λ row. Sees J.opening self.old self.new × (row_at J.opening self.new.seen id ≡ Some row)) }
         ensures refused { IfErr result (λ fault. RefusesGet J.opening self.old id fault self.new) }
     {
-        match self.found_row(id) {
-            Some((now, row)) => {
-                self.seen = now;
-                match row {
-                    Some(row) => Ok(row),
-                    None => Err(ShareFault::Core(CoreFault::NoSuchRow { id })),
-                }
-            }
-            None => Err(ShareFault::Closed),
+        let found = read(
+            &mut self.reader,
+            &self.seen,
+            |store: &Store| -> Option<Row>
+                ensures { (state : State) → StandsForState store.now state → result ≡ option_map (λ line. line.row) (line_of state.table id) }
+            { store.get(id) },
+        );
+        let Some((now, row)) = found else {
+            return Err(ShareFault::Closed);
+        };
+        self.seen = now;
+        match row {
+            Some(row) => Ok(row),
+            None => Err(ShareFault::Core(CoreFault::NoSuchRow { id })),
         }
     }
 
@@ -148,13 +138,18 @@ impl<J: Naming> Client<J> {
         ensures room { IfOk result (λ room. Sees J.opening self.old self.new × (room ≡ room_at J.opening self.new.seen)) }
         ensures refused { IfErr result (λ fault. (fault ≡ Closed) × (self.new ≡ self.old)) }
     {
-        match self.found_room() {
-            Some((now, room)) => {
-                self.seen = now;
-                Ok(room)
-            }
-            None => Err(ShareFault::Closed),
-        }
+        let found = read(
+            &mut self.reader,
+            &self.seen,
+            |store: &Store| -> u32
+                ensures { (state : State) → StandsForState store.now state → result ≡ length store.now.slots - length (needed state) }
+            { store.room() },
+        );
+        let Some((now, room)) = found else {
+            return Err(ShareFault::Closed);
+        };
+        self.seen = now;
+        Ok(room)
     }
 
     /// Scans the next block for the open query, and answers how many are left. Takes no lock and waits for nobody.
@@ -164,8 +159,27 @@ impl<J: Naming> Client<J> {
         ensures scanned { IfOk result (λ left. Scanned J.opening self.old left self.new) }
         ensures refused { IfErr result (λ fault. RefusesScan J.opening self.old fault self.new) }
     {
-        self.may_scan()?;
-        let Some((now, block)) = self.found_block(alloc) else {
+        let Some(asking) = &mut self.asking else {
+            return Err(ShareFault::Core(CoreFault::NoQuery));
+        };
+        if asking.query.left() == 0 {
+            return Err(ShareFault::Core(CoreFault::AllScanned));
+        }
+        let query = &asking.query;
+        let number = self.number;
+        let found = read(
+            &mut self.reader,
+            &self.seen,
+            |store: &Store| -> Block
+                ensures { ((state : State) → StandsForState store.now state → result.calls ≡ unwrap_or (calls_of state number) 0) × Reads query.entry.now store.now.slots result.shown }
+            {
+                Block {
+                    calls: store.last(number),
+                    shown: query.read(alloc, store),
+                }
+            },
+        );
+        let Some((now, block)) = found else {
             return Err(ShareFault::Closed);
         };
         if block.calls > self.counter {
@@ -175,76 +189,9 @@ impl<J: Naming> Client<J> {
         let Ok(shown) = block.shown else {
             return Err(ShareFault::Core(CoreFault::OutOfMemory));
         };
-        let Some(asking) = &mut self.asking else {
-            unreachable!()
-        };
         match asking.query.add(alloc, &shown) {
             Ok(left) => Ok(left),
             Err(_) => Err(ShareFault::Core(CoreFault::OutOfMemory)),
         }
-    }
-
-    /// Why there is nothing to scan, by the client's own query.
-    fn may_scan(&self) -> Result<(), CoreFault>
-        ensures { MatchResult result (λ _. HasMore self.now) (λ fault. RefusedScan J.opening self.now fault self.now) }
-    {
-        match &self.asking {
-            Some(asking) if asking.query.left() == 0 => Err(CoreFault::AllScanned),
-            Some(_) => Ok(()),
-            None => Err(CoreFault::NoQuery),
-        }
-    }
-
-    /// The row of an id, where a reader is let in.
-    fn found_row(&mut self, id: u64) -> Option<(Prefix<J>, Option<Row>)>
-        ensures kept { self.new ≡ self.old }
-        ensures found { IfSome result (λ found. IsPrefix self.old.seen found.0 × IsLegal J.opening found.0 × (found.1 ≡ row_at J.opening found.0 id)) }
-    {
-        let seen = &self.seen;
-        replace_with(
-            &mut self.reader,
-            id,
-            |reader: StoreReader, id: u64| -> (StoreReader, Option<(Prefix<J>, Option<Row>)>)
-                requires { Knows (first_contents J.opening) J.book (view reader.place) × IsLegal J.opening seen.now }
-                ensures { (view result.0.place ≡ view reader.place) × IfSome result.1 (λ found. IsPrefix seen.entry.now found.0 × IsLegal J.opening found.0 × (found.1 ≡ row_at J.opening found.0 id)) }
-            { find(reader, seen, id) },
-        )
-    }
-
-    /// The room, where a reader is let in.
-    fn found_room(&mut self) -> Option<(Prefix<J>, u32)>
-        ensures kept { self.new ≡ self.old }
-        ensures found { IfSome result (λ found. IsPrefix self.old.seen found.0 × IsLegal J.opening found.0 × (found.1 ≡ room_at J.opening found.0)) }
-    {
-        let seen = &self.seen;
-        replace_with(
-            &mut self.reader,
-            (),
-            |reader: StoreReader, _nothing: ()| -> (StoreReader, Option<(Prefix<J>, u32)>)
-                requires { Knows (first_contents J.opening) J.book (view reader.place) × IsLegal J.opening seen.now }
-                ensures { (view result.0.place ≡ view reader.place) × IfSome result.1 (λ found. IsPrefix seen.entry.now found.0 × IsLegal J.opening found.0 × (found.1 ≡ room_at J.opening found.0)) }
-            { count_room(reader, seen) },
-        )
-    }
-
-    /// What the open query's next block shows, where a reader is let in.
-    fn found_block(&mut self, alloc: Global) -> Option<(Prefix<J>, Block)>
-        ensures kept { self.new ≡ self.old }
-        ensures found { IfSome result (λ found. IsPrefix self.old.seen found.0 × IsLegal J.opening found.0 × (found.1.calls ≡ unwrap_or (calls_at J.opening found.0 self.old.number) 0) × ReadsBlock self.old.query (contents_at J.opening found.0).slots found.1.shown) }
-    {
-        let Some(asking) = &self.asking else {
-            return None;
-        };
-        let seen = &self.seen;
-        let query = &asking.query;
-        let number = self.number;
-        replace_with(
-            &mut self.reader,
-            alloc,
-            |reader: StoreReader, alloc: Global| -> (StoreReader, Option<(Prefix<J>, Block)>)
-                requires { Knows (first_contents J.opening) J.book (view reader.place) × IsLegal J.opening seen.now }
-                ensures { (view result.0.place ≡ view reader.place) × IfSome result.1 (λ found. IsPrefix seen.entry.now found.0 × IsLegal J.opening found.0 × (found.1.calls ≡ unwrap_or (calls_at J.opening found.0 number) 0) × Reads query.entry.now (contents_at J.opening found.0).slots found.1.shown) }
-            { read_block(reader, seen, query, alloc, number) },
-        )
     }
 }

@@ -6,8 +6,8 @@ use Rattle.pref_share.specs.Following.{Stands, GivesNone}
 use Rattle.pref_share.proofs.Standings.{answers}
 use Rattle.pref_share.proofs.client.Client.answer.Goals as goal
 
-pub returns : goal.returns
-returns g c =
+pub returns-in-Some : goal.returns-in-Some
+returns-in-Some g c =
     let o = g.J.Naming.opening in
     let s = c.self.inside in
     let asking : s.asking ≡ Some c.in-Some.asking = c.in-Some.is in

@@ -1,9 +1,8 @@
 use Rattle.std.proofs.Common.{◌≡◌, suc, ◌+◌, Option, Some, sym, subst, ap, ◌∙◌, arith}
 use Rattle.pref_core.specs.declared.call.Call.TheVariants.{Begin}
 use Rattle.pref_core.specs.Scans.{begin}
-use Rattle.std.proofs.lemmas.Result.{IfOk-at_ok}
 use Rattle.pref_share.specs.Standing.{Asking, Standing}
-use Rattle.pref_share.specs.Following.{IsJoined, Stands}
+use Rattle.pref_share.specs.Following.{IsJoined, MayJoin, Stands}
 use Rattle.pref_share.proofs.Standings.{stands_begun}
 use Rattle.pref_share.proofs.client.Client.begin.Goals as goal
 
@@ -12,9 +11,9 @@ invariant_of-self g c =
     let o = g.J.Naming.opening in
     let s = c.self.inside in
     let mine : Standing = record { number = s.number; counter = s.counter; seen = s.seen; query = s.asking } in
-    let j = c.in-Ok-told.joined in
-    let joined : IsJoined o mine Begin j.outcome j.seen j.stamp = subst (λ (x : Standing). IsJoined o x Begin j.outcome j.seen j.stamp) (sym c.self.view_is) (IfOk-at_ok _ c.in-Ok-told.is c.in-Ok.ensures.joined) in
+    let j = c.in-Ok-Joined in
+    let joined : IsJoined o mine Begin j.field-0-1 j.seen j.stamp = subst (λ (x : Standing). IsJoined o x Begin j.field-0-1 j.seen j.stamp) (sym c.self.view_is) (subst (MayJoin o c.args.self.now Begin) j.field-0-is j.ensures.joins) in
     let up : s.counter + 1 ≡ suc s.counter = omega arith in
     let scan : c.begin-query.result ≡ begin c.args.ask j.stamp o.limits = c.begin-query.ensures ∙ ap (begin c.args.ask j.stamp) c.self.invariant.1 in
     let asking : Some (record { scan = c.begin-query.result; begun = c.again-begun.result }) ≡ Some (record { scan = begin c.args.ask j.stamp o.limits; begun = j.seen }) = λ i. Some (record { scan = scan i; begun = c.again-begun.ensures.same i }) in
-    (c.self.invariant.0, c.self.invariant.1, subst (λ (q : Option Asking). Stands o s.number (s.counter + 1) j.seen q) (sym asking) (stands_begun o mine j.outcome j.seen j.stamp (s.counter + 1) c.args.ask c.self.invariant.2 joined up))
+    (c.self.invariant.0, c.self.invariant.1, subst (λ (q : Option Asking). Stands o s.number (s.counter + 1) j.seen q) (sym asking) (stands_begun o mine j.field-0-1 j.seen j.stamp (s.counter + 1) c.args.ask c.self.invariant.2 joined up))

@@ -1,8 +1,7 @@
 use Rattle.std.proofs.Common.{◌≡◌, suc, ◌+◌, None, refl, sym, subst, ◌∙◌, arith, rules}
-use Rattle.std.proofs.lemmas.Result.{IfOk-at_ok}
 use Rattle.pref_share.specs.Standing.{Standing}
 use Rattle.pref_share.specs.Clients.{own_refusal}
-use Rattle.pref_share.specs.Following.{IsJoined}
+use Rattle.pref_share.specs.Following.{IsJoined, MayJoin}
 use Rattle.pref_share.proofs.Standings.{stands_changed, joins, change_told}
 use Rattle.pref_share.proofs.client.Client.change.Goals as goal
 
@@ -11,18 +10,18 @@ invariant_of-self g c =
     let o = g.J.Naming.opening in
     let s = c.self.inside in
     let mine : Standing = record { number = s.number; counter = s.counter; seen = s.seen; query = s.asking } in
-    let j = c.in-Ok.joined in
-    let joined : IsJoined o mine c.args.call.now j.outcome j.seen j.stamp = subst (λ (x : Standing). IsJoined o x c.args.call.now j.outcome j.seen j.stamp) (sym c.self.view_is) (IfOk-at_ok _ c.in-Ok.is c.in_ok-joined.ensures.joined) in
+    let j = c.in-Joined in
+    let joined : IsJoined o mine c.args.call.now j.outcome j.seen j.stamp = subst (λ (x : Standing). IsJoined o x c.args.call.now j.outcome j.seen j.stamp) (sym c.self.view_is) (subst (MayJoin o c.args.self.now c.args.call.now) j.is c.in_ok-seen.ensures.joins) in
     let up : s.counter + 1 ≡ suc s.counter = omega arith in
     (c.self.invariant.0, c.self.invariant.1, stands_changed o mine c.args.call.now j.outcome j.seen j.stamp (s.counter + 1) c.self.invariant.2 joined c.requires.change up)
 
-pub returns-in-Ok : goal.returns-in-Ok
-returns-in-Ok g c =
+pub returns-in-Joined : goal.returns-in-Joined
+returns-in-Joined g c =
     let o = g.J.Naming.opening in
     let s = c.self.inside in
     let mine : Standing = record { number = s.number; counter = s.counter; seen = s.seen; query = s.asking } in
-    let j = c.in-Ok.joined in
-    let joined : IsJoined o mine c.args.call.now j.outcome j.seen j.stamp = subst (λ (x : Standing). IsJoined o x c.args.call.now j.outcome j.seen j.stamp) (sym c.self.view_is) (IfOk-at_ok _ c.in-Ok.is c.in_ok-joined.ensures.joined) in
+    let j = c.in-Joined in
+    let joined : IsJoined o mine c.args.call.now j.outcome j.seen j.stamp = subst (λ (x : Standing). IsJoined o x c.args.call.now j.outcome j.seen j.stamp) (sym c.self.view_is) (subst (MayJoin o c.args.self.now c.args.call.now) j.is c.in_ok-seen.ensures.joins) in
     let accepted : own_refusal mine c.args.call.now ≡ None = subst (λ (x : Standing). own_refusal x c.args.call.now ≡ None) (sym c.self.view_is) (sym c.refusal.ensures ∙ c.in_default.is) in
     let up : s.counter + 1 ≡ suc s.counter = omega arith in
     let told = change_told o mine _ c.args.call.now j.outcome c.done_or_refused.result c.done_or_refused.ensures (joins o mine _ c.args.call.now j.outcome j.seen j.stamp accepted joined refl up refl) refl in

@@ -1,7 +1,6 @@
 use Rattle.std.proofs.Common.{◌≡◌, suc, ◌+◌, sym, subst, arith}
-use Rattle.std.proofs.lemmas.Result.{IfOk-at_ok}
 use Rattle.pref_share.specs.Standing.{Standing}
-use Rattle.pref_share.specs.Following.{IsJoined}
+use Rattle.pref_share.specs.Following.{IsJoined, MayJoin}
 use Rattle.pref_share.proofs.Standings.{stands_ended}
 use Rattle.pref_share.proofs.client.Client.end.Goals as goal
 
@@ -10,7 +9,7 @@ invariant_of-self g c =
     let o = g.J.Naming.opening in
     let s = c.self.inside in
     let mine : Standing = record { number = s.number; counter = s.counter; seen = s.seen; query = s.asking } in
-    let j = c.in-Ok-told.joined in
-    let joined : IsJoined o mine c.args.call.now j.outcome j.seen j.stamp = subst (λ (x : Standing). IsJoined o x c.args.call.now j.outcome j.seen j.stamp) (sym c.self.view_is) (IfOk-at_ok _ c.in-Ok-told.is c.in-Ok.ensures.joined) in
+    let j = c.in-Joined in
+    let joined : IsJoined o mine c.args.call.now j.outcome j.seen j.stamp = subst (λ (x : Standing). IsJoined o x c.args.call.now j.outcome j.seen j.stamp) (sym c.self.view_is) (subst (MayJoin o c.args.self.now c.args.call.now) j.is c.in_ok-seen.ensures.joins) in
     let up : s.counter + 1 ≡ suc s.counter = omega arith in
     (c.self.invariant.0, c.self.invariant.1, stands_ended o mine c.args.call.now j.outcome j.seen j.stamp (s.counter + 1) c.self.invariant.2 joined c.requires.ends up)

@@ -9,8 +9,8 @@ use Rattle.pref_share.specs.Following.{IsJoined}
 use Rattle.pref_share.proofs.Standings.{ahead, even, moved_up, same_refusal, joined}
 use Rattle.pref_share.proofs.client.Client.join.Goals as goal
 
-pub returns-then-last-self-clause-ahead : goal.returns-then-last-self-clause-ahead
-returns-then-last-self-clause-ahead g c =
+pub returns-then-last-self-clause-joins : goal.returns-then-last-self-clause-joins
+returns-then-last-self-clause-joins g c =
     let o = g.J.Naming.opening in
     let s = c.self.inside in
     let history = c.deref_mut-master.result.now in
@@ -35,8 +35,8 @@ returns-clause-memory g c =
     ⊎_elim (λ told. absurd (let here : refusal (state_at o history) s.number c.args.call.now ≡ Some c.in-Err.field-0 = ap (λ (l : List Op). refusal (state_at o l) s.number c.args.call.now) (sym c.check.ensures.same) ∙ told in cc (here, same_refusal o mine history c.args.call.now is follows, none)))
     (λ is_one. is_one) c.in-Err.ensures.refused
 
-pub returns-in-Ok-clause-joined : goal.returns-in-Ok-clause-joined
-returns-in-Ok-clause-joined g c =
+pub returns-in-Ok-clause-joins : goal.returns-in-Ok-clause-joins
+returns-in-Ok-clause-joins g c =
     let o = g.J.Naming.opening in
     let s = c.self.inside in
     let history = c.deref_mut-master.result.now in

@@ -1,24 +1,23 @@
-use Rattle.std.proofs.Common.{◌≡◌, ℕ, ◌++◌, List, map, Option, Result, Some, refl, sym, subst, ap, ◌∙◌}
-use Rattle.std.specs.Option.{unwrap_or}
+use Rattle.std.proofs.Common.{rules, ◌≡◌, suc, ◌++◌, List, map, Option, Result, Some, refl, sym, subst, ap, ◌∙◌}
 use Rattle.std.specs.Global.{Vec}
 use mathlib.Core.List.{IsPrefix}
 use Rattle.pref_sky.specs.declared.entry.Entry.{Entry}
 use Rattle.pref_sky.specs.Levels.{HaveDifferentIds, entry_of}
 use Rattle.pref_core.specs.declared.call.Op.{Op}
 use Rattle.pref_core.specs.declared.fault.CoreFault.{CoreFault}
-use Rattle.pref_core.specs.Scans.{Scan, next_block}
-use Rattle.pref_share.specs.Openings.{Opening, IsLegal, calls_at, contents_at}
+use Rattle.pref_core.specs.Scans.{Scan, Reads, next_block}
+use Rattle.pref_core.specs.Slots.{Contents}
+use Rattle.pref_share.specs.Openings.{Opening, IsLegal, calls_at, contents_at, state_at, first_contents}
 use Rattle.pref_share.specs.Standing.{Asking, Standing}
+use Rattle.pref_share.specs.Clients.{IsInUse}
+use Rattle.pref_share.specs.Views.{Knows}
 use Rattle.pref_share.specs.Scanning.{HasMore}
-use Rattle.pref_share.specs.Following.{IsAhead, ReadsBlock, Stands}
-use Rattle.pref_share.proofs.Standings.{ahead, even, next_new, stands_seen, stands_scanned, block_is, sees, scanned}
+use Rattle.pref_share.specs.Following.{Stands}
+use Rattle.pref_share.proofs.Histories.{left_stands}
+use Rattle.pref_share.proofs.Standings.{ahead, even, next_new, stands_seen, stands_scanned, sees, scanned}
 use Rattle.pref_share.proofs.client.Client.scan.Given.{Over}
 use Rattle.pref_share.proofs.client.Client.scan.Goals.{After-deref}
 use Rattle.pref_share.proofs.client.Client.scan.Goals as goal
-
--- what was found at a history, for the client that stands so
-abbrev Found : Opening → List Op → ℕ → Result (Vec Entry) CoreFault → Standing → Type 0
-Found o now calls shown s = IsPrefix s.seen now × IsLegal o now × (calls ≡ unwrap_or (calls_at o now s.number) 0) × ReadsBlock s.query (contents_at o now).slots shown
 
 -- what is known of the block that was read for the open query
 record IsReadFor (o : Opening) (s : Standing) (asking : Asking) (now : List Op) (block : List Entry) : Type 0 where
@@ -29,31 +28,33 @@ record IsReadFor (o : Opening) (s : Standing) (asking : Asking) (now : List Op) 
   alone : calls_at o now s.number ≡ Some s.counter
   is : block ≡ next_block asking.scan (contents_at o now).slots
 
-is_read : (g : Over) (c : After-deref g) → IsReadFor g.J.Naming.opening (record { number = c.self.inside.number; counter = c.self.inside.counter; seen = c.self.inside.seen; query = c.self.inside.asking }) (record { scan = c.asking.inside.query; begun = c.asking.inside.begun }) c.in-Some.now c.deref.result.now
+is_read : (g : Over) (c : After-deref g) → IsReadFor g.J.Naming.opening (record { number = c.self.inside.number; counter = c.self.inside.counter; seen = c.self.inside.seen; query = c.self.inside.asking }) (record { scan = c.asking.inside.query; begun = c.asking.inside.begun }) c.in-Some-found.now c.deref.result.now
 is_read g c =
     let o = g.J.Naming.opening in
     let s = c.self.inside in
-    let now = c.in-Some.now in
+    let now = c.in-Some-found.now in
     let asking : Asking = record { scan = c.asking.inside.query; begun = c.asking.inside.begun } in
-    let found = subst (Found o now c.in-Some.block.calls c.in-Some.block.shown) (sym (c.self.view_is ∙ c.found_block.ensures.kept)) c.in-Some.ensures.found in
-    let query : s.asking ≡ Some asking = c.in-Some-asking.is ∙ ap Some (sym c.asking.view_is) in
+    let found = c.in-Some-found.ensures.found in
+    let query : s.asking ≡ Some asking = c.in-Some.is ∙ ap Some (sym c.asking.view_is) in
+    let calls = found.2.1.0 (state_at o now) (left_stands o now _ found.1 found.2.2) in
+    let reads = subst (λ (x : Contents). Reads asking.scan x.slots c.in-Some-found.block.shown) found.2.2 found.2.1.1 in
     record {
       query = query;
       stands = subst (λ (q : Option Asking). Stands o s.number s.counter s.seen q) query c.self.invariant.2;
       further = found.0;
       legal = found.1;
-      alone = even o s.number s.counter c.in-Some.block.calls s.seen now s.asking c.self.invariant.2 found.0 found.1 found.2 c.if-block-self.false;
-      is = c.deref.ensures.value ∙ ap (λ (v : Vec Entry). v.items) c.in-Ok.shown-is ∙ block_is (contents_at o now).slots s.asking asking c.in-Some.block.shown c.in-Ok.shown query c.in-Ok.is found.3;
+      alone = even o s.number s.counter c.in-Some-found.block.calls s.seen now s.asking c.self.invariant.2 found.0 found.1 calls c.if-block-self.false;
+      is = c.deref.ensures.value ∙ ap (λ (v : Vec Entry). v.items) c.in-Ok.shown-is ∙ (subst (λ (r : Result (Vec Entry) CoreFault). Reads asking.scan (contents_at o now).slots r) c.in-Ok.is reads).0;
     }
 
 pub in_use-requires : goal.in_use-requires
 in_use-requires g c =
     let o = g.J.Naming.opening in
     let s = c.self.inside in
-    let now = c.in-Some.now in
-    let found = subst (Found o now c.in-Some.block.calls c.in-Some.block.shown) (sym (c.self.view_is ∙ c.found_block.ensures.kept)) c.in-Some.ensures.found in
-    subst (λ (x : Standing). IsAhead o x now) c.self.view_is
-    (record { further = found.0; legal = found.1; holds = ahead o s.number s.counter c.in-Some.block.calls s.seen now s.asking c.self.invariant.2 found.0 found.1 found.2 c.if-block-self.true })
+    let now = c.in-Some-found.now in
+    let found = c.in-Some-found.ensures.found in
+    let calls = found.2.1.0 (state_at o now) (left_stands o now _ found.1 found.2.2) in
+    record { further = found.0; legal = found.1; holds = ahead o s.number s.counter c.in-Some-found.block.calls s.seen now s.asking c.self.invariant.2 found.0 found.1 calls c.if-block-self.true }
 
 pub add-requires-clause-new : goal.add-requires-clause-new
 add-requires-clause-new g c =
@@ -63,13 +64,13 @@ add-requires-clause-new g c =
 pub invariant_of-self-in-Ok-add : goal.invariant_of-self-in-Ok-add
 invariant_of-self-in-Ok-add g c =
     let r = is_read g (goal.at.invariant_of-self-in-Ok-add g c).After-deref in
-    (c.self.invariant.0, c.self.invariant.1, stands_scanned g.J.Naming.opening _ _ _ _ _ c.add.new.self r.stands r.further r.legal r.alone (c.in-Ok-add.ensures _ (sym r.is)).1)
+    (subst (Knows (first_contents g.J.Naming.opening) g.J.Naming.book) (sym c.read-found.ensures.view) c.self.invariant.0, c.self.invariant.1, stands_scanned g.J.Naming.opening _ _ _ _ _ c.add.new.self r.stands r.further r.legal r.alone (c.in-Ok-add.ensures _ (sym r.is)).1)
 
 pub returns-in-Ok-add-clause-scanned : goal.returns-in-Ok-add-clause-scanned
 returns-in-Ok-add-clause-scanned g c =
     let r = is_read g (goal.at.returns-in-Ok-add-clause-scanned g c).After-deref in
     let told = c.in-Ok-add.ensures _ (sym r.is) in
-    rw (← (c.self.view_is ∙ c.found_block.ensures.kept))
+    rw (← (c.self.view_is))
     (scanned g.J.Naming.opening _ _ _ c.add.new.self c.in-Ok-add.left r.query refl told.0 told.1 r.further r.legal r.alone refl refl)
 
 pub invariant_of-self-2 : goal.invariant_of-self-2
@@ -78,15 +79,24 @@ invariant_of-self-2 g c =
     let s = c.self.inside in
     let r = is_read g (goal.at.invariant_of-self-2 g c).After-deref in
     let kept : c.add.new.self ≡ c.asking.inside.query = (c.in-Err.ensures _ (sym r.is)).0 in (
-      c.self.invariant.0,
+      subst (Knows (first_contents o) g.J.Naming.book) (sym c.read-found.ensures.view) c.self.invariant.0,
       c.self.invariant.1,
-      subst (λ (x : Scan). Stands o s.number s.counter c.in-Some.now (Some (record { scan = x; begun = c.asking.inside.begun }))) (sym kept) (stands_seen o _ _ _ _ _ r.stands r.further r.legal),
+      subst (λ (x : Scan). Stands o s.number s.counter c.in-Some-found.now (Some (record { scan = x; begun = c.asking.inside.begun }))) (sym kept) (stands_seen o _ _ _ _ _ r.stands r.further r.legal),
     )
 
 pub returns-clause-refused : goal.returns-clause-refused
 returns-clause-refused g c =
     let r = is_read g (goal.at.returns-clause-refused g c).After-deref in
-    let same = c.self.view_is ∙ c.found_block.ensures.kept in
+    let same = c.self.view_is in
     let kept : c.add.new.self ≡ c.asking.inside.query = (c.in-Err.ensures _ (sym r.is)).0 in
     rw (← same)
-    (subst HasMore (sym same) c.in_ok-may_scan.ensures, sees g.J.Naming.opening _ _ r.further r.legal refl refl ((λ i. Some (record { scan = kept i; begun = c.asking.inside.begun })) ∙ sym r.query))
+    ((c.left.result, record { asking = _; is_open = r.query; left_is = c.left.ensures; some = search rules }), sees g.J.Naming.opening _ _ r.further r.legal refl refl ((λ i. Some (record { scan = kept i; begun = c.asking.inside.begun })) ∙ sym r.query))
+
+pub returns-then-block-self-clause-refused : goal.returns-then-block-self-clause-refused
+returns-then-block-self-clause-refused g c =
+    let o = g.J.Naming.opening in
+    let s = c.self.inside in
+    let query : s.asking ≡ Some (record { scan = c.asking.inside.query; begun = c.asking.inside.begun }) = c.in-Some.is ∙ ap Some (sym c.asking.view_is) in
+    let more : HasMore (record { number = s.number; counter = s.counter; seen = s.seen; query = s.asking }) = (c.left.result, record { asking = _; is_open = query; left_is = c.left.ensures; some = search rules }) in
+    let in_use = subst (λ (q : Option Asking). IsInUse o (record { number = s.number; counter = s.counter; seen = s.seen; query = q }) (suc s.counter) c.in_use.new.self) (sym c.in-Some.is) c.in_use.ensures.sees in
+    rw c.in_use.ensures.fault (rw (← c.self.view_is) (more, in_use))

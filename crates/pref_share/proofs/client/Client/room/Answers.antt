@@ -1,0 +1,15 @@
+use Rattle.std.proofs.Common.{◌-◌, length, refl, ap, ◌∙◌}
+use Rattle.pref_core.specs.State.{needed}
+use Rattle.pref_core.specs.Slots.{Contents}
+use Rattle.pref_share.specs.Openings.{state_at}
+use Rattle.pref_share.proofs.Histories.{left_stands, legal_capacity}
+use Rattle.pref_share.proofs.Standings.{sees}
+use Rattle.pref_share.proofs.client.Client.room.Goals as goal
+
+pub returns-clause-room : goal.returns-clause-room
+returns-clause-room g c =
+    let o = g.J.Naming.opening in
+    let now = c.in-Some.now in
+    let read = c.in-Some.ensures.found in
+    let slots = ap (λ (s : Contents). length s.slots) read.2.2 ∙ legal_capacity o now read.1.fits in
+    rw (← c.self.view_is) (sees o _ _ read.0 read.1 refl refl refl, read.2.1 (state_at o now) (left_stands o now _ read.1 read.2.2) ∙ ap (λ n. n - length (needed (state_at o now))) slots)
