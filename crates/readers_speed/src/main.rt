@@ -1,11 +1,15 @@
-//! How many gets, updates and scans the clients of one board do in a second, each on a thread of its own.
+//! How many gets, updates and scans the clients of one board do in a second, each on a thread of its own; and what a change and a
+//! get cost in a table whose rows come and go.
 #![tactic(auto)]
 
+mod ages;
 mod random;
 mod threads;
 
 ghost use Rattle.std.specs.Prelude.{◌≤◌, ◌+◌, IfSome};
 
+use ages::Age;
+use anyhow::Context;
 use pref_core::Setup;
 use pref_share::Name;
 use pref_table::{Row, Schema, TableFault};
@@ -16,7 +20,11 @@ use std::{env, io};
 use threads::{Does, Plan, Tally, measure};
 
 const USAGE: &str =
-    "readers_speed READERS WRITERS SCANNERS MILLISECONDS: 1 to 8 clients of 40000 rows in 65536 slots";
+    "readers_speed READERS WRITERS SCANNERS MILLISECONDS: 1 to 8 clients of 40000 rows in 65536 slots
+readers_speed ages: a change and a get in 30000 slots, after up to 10000000 changes";
+
+/// The ages that are measured, in changes.
+const AGES: [u64; 4] = [0, 100_000, 1_000_000, 10_000_000];
 
 /// What these words ask for.
 fn plan_of(words: &[String]) -> Option<Plan>
@@ -37,9 +45,9 @@ fn plan_of(words: &[String]) -> Option<Plan>
     })
 }
 
-fn opening_rows(alloc: Global, schema: &Schema) -> Result<Vec<Row>, TableFault> {
+fn opening_rows(alloc: Global, schema: &Schema, count: u64) -> Result<Vec<Row>, TableFault> {
     let mut random = Random(0);
-    (0..ROWS).map(|_| random.row(schema)).try_collect(alloc)
+    (0..count).map(|_| random.row(schema)).try_collect(alloc)
 }
 
 /// Prints how often in a second this was done.
@@ -50,14 +58,36 @@ fn print_rate(rt: &impl Print, tallies: &[Tally], does: Does, milliseconds: u32)
     println!(rt; "{does:?} a second: {rate}")
 }
 
+/// Prints what a change and a get cost at each age.
+fn print_ages(rt: &impl Print, ages: &[Age]) -> io::Result<()> {
+    for age in ages {
+        if let Some(change) = age.change {
+            println!(rt; "after {} changes: {} ns a change", age.changes, change)?;
+        }
+        println!(rt;
+            "after {} changes: {} ns a get of a row, {} of a deleted one, {} of one that never was",
+            age.changes, age.get, age.get_of_deleted, age.get_of_unknown
+        )?;
+    }
+    Ok(())
+}
+
 fn main(rt: HostRuntime) -> anyhow::Result<()> {
     let words: Vec<String> = env::args(&rt)?.skip(1).collect(rt.alloc())?;
+    let names = [b"a".as_slice(), b"b", b"c", b"d", b"e", b"f"];
+    let schema = Schema::new(rt.alloc(), names.as_slice())?;
+    if let [word] = words.as_slice()
+        && word.as_str() == "ages"
+    {
+        let setup = Setup::new(1, ages::SLOTS, 65_536, 64).context("a setup of one client")?;
+        let rows = opening_rows(rt.alloc(), &schema, ages::ROWS as u64)?;
+        let aged = ages::measure::<Brand, _>(&rt, Name::new(), &schema, &rows, setup, &AGES)?;
+        return Ok(print_ages(&rt, &aged)?);
+    }
     let Some(plan) = plan_of(&words) else {
         return Ok(rt.println(USAGE)?);
     };
-    let names = [b"a".as_slice(), b"b", b"c", b"d", b"e", b"f"];
-    let schema = Schema::new(rt.alloc(), names.as_slice())?;
-    let rows = opening_rows(rt.alloc(), &schema)?;
+    let rows = opening_rows(rt.alloc(), &schema, ROWS)?;
     let tallies = measure::<Brand, _>(&rt, Name::new(), &schema, &rows, plan)?;
     for does in [Does::Gets, Does::Updates, Does::Scans] {
         print_rate(&rt, &tallies, does, plan.milliseconds)?;

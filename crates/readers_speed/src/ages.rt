@@ -1,0 +1,173 @@
+//! What a change and a get cost in a table whose rows come and go, at several ages.
+
+ghost use Rattle.std.specs.Prelude.{◌≡◌};
+
+use crate::random::Random;
+use pref_core::Setup;
+use pref_share::{Board, Client, Name, Naming, open_board};
+use pref_table::{Row, Schema};
+use std::sync::Wait;
+use std::time::{Clock, Instant};
+
+/// So many slots the table has.
+pub const SLOTS: u32 = 30_000;
+
+/// So many rows it holds all the time.
+pub const ROWS: usize = 20_000;
+
+/// Times are taken over so many changes, or gets.
+const SAMPLE: u64 = 100_000;
+
+/// An id that no row ever had.
+const NEVER: u64 = 1 << 63;
+
+/// Nanoseconds that each took, of a table that had so many changes.
+#[derive(Clone, Copy)]
+pub struct Age {
+    pub changes: u64,
+    /// None where nothing has changed yet.
+    pub change: Option<u64>,
+    pub get: u64,
+    pub get_of_deleted: u64,
+    pub get_of_unknown: u64,
+}
+
+/// Gets are timed in so many rounds of all rows.
+const ROUNDS: u64 = 10;
+
+/// A client alone on a board, with the ids of the rows and of the row before each.
+#[derive(Drop)]
+struct Table<'a, J: Naming, R> {
+    rt: &'a R,
+    board: &'a Board<J>,
+    schema: &'a Schema,
+    client: Client<J>,
+    random: Random,
+    changes: u64,
+    ids: Vec<u64>,
+    deleted: Vec<u64>,
+}
+
+/// Nanoseconds from then until now for each of so many.
+fn nanoseconds(rt: &impl Clock, start: Instant, times: u64) -> anyhow::Result<u64> {
+    let nanoseconds = start.elapsed(rt)?.as_nanos() / u128::from(times.max(1));
+    Ok(u64::try_from(nanoseconds)?)
+}
+
+/// How many of these ids a get finds.
+fn count<J: Naming>(client: &mut Client<J>, ids: &[u64]) -> u64 {
+    let mut found = 0u64;
+    for id in ids {
+        if client.get(*id).is_ok() {
+            found = found.saturating_add(1);
+        }
+    }
+    found
+}
+
+/// Nanoseconds of a get of one of these ids. Refused where another number of them is found than wanted.
+fn get<J: Naming>(
+    rt: &impl Clock,
+    client: &mut Client<J>,
+    ids: &[u64],
+    wanted: usize,
+) -> anyhow::Result<u64> {
+    let start = Instant::now(rt)?;
+    for _ in 0..ROUNDS {
+        anyhow::ensure!(
+            count(client, ids) == wanted as u64,
+            "gets find other rows than there are"
+        );
+    }
+    nanoseconds(rt, start, ROUNDS.saturating_mul(ids.len() as u64))
+}
+
+impl<'a, J: Naming, R: Wait + Clock + AllocGlobal> Table<'a, J, R> {
+    /// A row at random leaves and another comes: two changes.
+    fn replace(&mut self) -> anyhow::Result<()> {
+        let place = self.random.id() as usize % ROWS;
+        let (Some(id), Some(deleted)) = (self.ids.get_mut(place), self.deleted.get_mut(place))
+        else {
+            return Ok(());
+        };
+        let row = self.random.row(self.schema)?;
+        let alloc = self.rt.alloc();
+        self.client.delete(self.rt, alloc, self.board, *id)?;
+        *deleted = *id;
+        *id = self.client.insert(self.rt, alloc, self.board, row)?;
+        self.changes = self.changes.saturating_add(2);
+        Ok(())
+    }
+
+    /// Nanoseconds of a change, over so many, if any.
+    fn change(&mut self, changes: u64) -> anyhow::Result<Option<u64>> {
+        if changes == 0 {
+            return Ok(None);
+        }
+        let start = Instant::now(self.rt)?;
+        for _ in 0..changes / 2 {
+            self.replace()?;
+        }
+        Ok(Some(nanoseconds(self.rt, start, changes)?))
+    }
+
+    /// The table, aged by so many changes: the last [`SAMPLE`] of them are timed.
+    fn age(&mut self, changes: u64, unknown: &[u64]) -> anyhow::Result<Age> {
+        self.change(changes.saturating_sub(self.changes).saturating_sub(SAMPLE))?;
+        let change = self.change(changes.saturating_sub(self.changes).min(SAMPLE))?;
+        Ok(Age {
+            changes: self.changes,
+            change,
+            get: get(self.rt, &mut self.client, &self.ids, ROWS)?,
+            get_of_deleted: get(self.rt, &mut self.client, &self.deleted, 0)?,
+            get_of_unknown: get(self.rt, &mut self.client, unknown, 0)?,
+        })
+    }
+}
+
+/// The client's table at these ages, each a number of changes.
+fn at_ages<J: Naming, R: Wait + Clock + AllocGlobal>(
+    rt: &R,
+    board: &Board<J>,
+    schema: &Schema,
+    client: Client<J>,
+    ages: &[u64],
+) -> anyhow::Result<Vec<Age>> {
+    let mut table = Table {
+        rt,
+        board,
+        schema,
+        client,
+        random: Random(0),
+        changes: 0,
+        ids: (1..=ROWS as u64).collect(rt.alloc())?,
+        deleted: (0..ROWS).map(|_| 0).collect(rt.alloc())?,
+    };
+    let unknown: Vec<u64> = (NEVER..NEVER + ROWS as u64).collect(rt.alloc())?;
+    let mut measured = Vec::new(rt.alloc());
+    for changes in ages {
+        measured.push(table.age(*changes, &unknown)?)?;
+    }
+    Ok(measured)
+}
+
+/// A new table of one client at these ages, each a number of changes.
+pub fn measure<J: Naming, R: Wait + Clock + AllocGlobal>(
+    rt: &R,
+    name: Name,
+    schema: &Schema,
+    rows: &[Row],
+    setup: Setup,
+    ages: &[u64],
+) -> anyhow::Result<Vec<Age>>
+    requires book { name.seen.book ≡ J.book }
+    requires opening { J.opening ≡ record { limits = setup; rows = rows.now } }
+{
+    let (board, clients) = open_board::<J, R>(rt, rt.alloc(), name, setup, rows)?;
+    let measured = match clients.into_iter().next() {
+        Some(client) => at_ages(rt, &board, schema, client, ages),
+        None => Ok(Vec::new(rt.alloc())),
+    };
+    board.close(rt);
+    measured
+}
