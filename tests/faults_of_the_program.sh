@@ -26,16 +26,20 @@ printf 'as 1 room\n' >"$room/headless"
 { cat "$room/largest"; printf ' '; } >"$room/one_more"
 
 for mode in play threads; do
-    expect 1 'fault: read' "$room" $mode
     expect 1 'fault: too large' "$room/large" $mode
     expect 0 '' "$room/largest" $mode
     expect 1 'fault: too large' "$room/one_more" $mode
+done
+for mode in play live threads; do
+    expect 1 'fault: read' "$room" $mode
     expect 2 'table refused 8: too many rows' "$room/rows" $mode
     expect 2 'script refused: no table' "$room/headless" $mode
     status=0
     "$prefq" $mode <"$room/script" >/dev/full || status=$?
     [ "$status" = 1 ] || { echo "$mode: a full disk ends with status $status" >&2; exit 1; }
 done
+expect 2 'script refused: no table' "$room/large" live
+expect 0 $'2 row 1: 3\n1 row 1: 3\n2 room 1023' "$room/script" live
 expect 0 $'2 row 1: 3\n1 row 1: 3\n2 room 1023' "$room/script" play
 expect 0 $'1 row 1: 3\n2 row 1: 3\n2 room 1023' "$room/script" threads
 expect 2 'arguments refused' "$room/script" jump

@@ -5,8 +5,13 @@ pub mod CommandFacts
 pub mod TextFacts
 pub mod OutputFacts
 pub mod PlayFacts
+pub mod LiveFacts
 pub mod ClientFacts
 pub mod ThreadsFacts
 pub mod RunFacts
+pub mod LineFacts
+pub mod BlockFacts
+pub mod HeardFacts
+pub mod LiveRunFacts
 pub mod Examples
 pub mod QuestionExamples

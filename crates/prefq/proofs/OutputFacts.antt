@@ -27,7 +27,7 @@ parts-faults (first ∷ rest) why h = by (is_table first) (nat_lt (position_or_l
     by true false e f h = inr (cc (rw (e, f) at h))
     by true true e f h = cc (rw (e, f) at h)
 
-script-parts : (limits : Limits) (bytes : List ℕ) (why : RunFault) → parts_of (raw_lines bytes) ≡ Err why → script_of limits bytes ≡ Err why
+pub script-parts : (limits : Limits) (bytes : List ℕ) (why : RunFault) → parts_of (raw_lines bytes) ≡ Err why → script_of limits bytes ≡ Err why
 unfolding script_of
 script-parts limits bytes why h = rw h refl
 

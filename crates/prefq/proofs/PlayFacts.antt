@@ -88,10 +88,9 @@ playing_all width names first now all number [] text playing none = λ system h.
 playing_all width names first now all number (x ∷ xs) text playing none = absurd (omega arith)
 
 -- all that the commands of a script are told
-pub tells_output : (limits : Limits) (rows : List (List ℤ)) (names : List (List ℕ)) (number first : ℕ) (lines raws : List (List ℕ)) (running : Running) (text : List ℕ)
-    → running.limits ≡ limits → StandsForSystem running (opened limits rows) → TellsAll (length names) running (commands_of names number lines) text → number ≡ first → lines ≡ raws
-    → text ≡ told (length names) (commands_of names first raws) (replies limits rows (events_of (commands_of names first raws)))
-tells_output limits rows names number first lines raws running text same stands tells is all =
-    subst (λ (l : Limits). text ≡ told_from l (length names) (opened limits rows) (commands_of names first raws)) same
-    (subst (λ (n : ℕ). text ≡ told_from running.limits (length names) (opened limits rows) (commands_of names n raws)) is
-    (subst (λ (r : List (List ℕ)). text ≡ told_from running.limits (length names) (opened limits rows) (commands_of names number r)) all (tells (opened limits rows) stands)))
+pub tells_output : (limits : Limits) (rows : List (List ℤ)) (names : List (List ℕ)) (number first : ℕ) (lines : List (List ℕ)) (running : Running) (text : List ℕ)
+    → running.limits ≡ limits → StandsForSystem running (opened limits rows) → TellsAll (length names) running (commands_of names number lines) text → number ≡ first
+    → text ≡ told (length names) (commands_of names first lines) (replies limits rows (events_of (commands_of names first lines)))
+tells_output limits rows names number first lines running text same stands tells is =
+    subst (λ (l : Limits). text ≡ told_from l (length names) (opened limits rows) (commands_of names first lines)) same
+    (subst (λ (n : ℕ). text ≡ told_from running.limits (length names) (opened limits rows) (commands_of names n lines)) is (tells (opened limits rows) stands))

@@ -49,6 +49,13 @@ unfolding digits next_record records_from schema_of number_of all_from row_of ta
     act_of commands_of events_of told after_word said_by said_in verb_of word_number word_of texts asked
 at_least_five = refl
 
+-- values within a range are alike, and of the others the nearer ones are better
+nearest_to_a_range : output (limits_of 1024 1024) (codes "table\nx\n1\n4\n6\n9\n12\nend\nas 1 begin top_level 2 between(x, 5, 9)\nas 1 scan\nas 1 finish\nas 1 begin best between(x, 5, 4)\n")
+    ≡ codes "1 begun 1\n1 left 0\n1 answer 3\nlevel 1 id 3: 6\nlevel 1 id 4: 9\nlevel 2 id 2: 4\nline 12 refused term 9: empty range at 19\n"
+unfolding digits next_record records_from schema_of number_of all_from row_of table_of table_of_records without_marks script_of raw_lines
+    act_of commands_of events_of told after_word said_by said_in verb_of word_number word_of texts asked
+nearest_to_a_range = refl
+
 -- questions that are refused, each with its number, its text and its place
 refused_questions : output (limits_of 1024 1024) (codes "table\nx\nend\nas 1 begin best low(z)\nas 1 begin best low(x\nas 1 begin at_least 0 low(x)\nas 1 begin skyline of x diff\nas 1 insert 1,2\nas 1 jump\nas 1 begin best low(x) +\n")
     ≡ codes "line 4 refused term 2: unknown column at 9\nline 5 refused term 1: unexpected at 10\nline 6 refused term 6: bad count at 9\nline 7 refused term 7: no min or max\nline 8 refused table 5: width row 0\nline 9 refused: command\nline 10 refused term 1: unexpected at 12\n"

@@ -14,7 +14,7 @@ pub wrote-text : (sink : Sink) (text : List ℕ) (result : Result (Unit {0}) Run
 wrote-text sink text (Ok done) all part = (refl, all)
 wrote-text sink text (Err why) all (write, failed, count, few, part) = rw write (failed, (count, part))
 
-nothing-written : (held holds : Option (List ℕ)) → Appends held holds [] → Keeps held holds
+pub nothing-written : (held holds : Option (List ℕ)) → Appends held holds [] → Keeps held holds
 nothing-written None holds h = tt
 nothing-written (Some xs) None h = h
 nothing-written (Some xs) (Some ys) h = h ∙ append-nil xs

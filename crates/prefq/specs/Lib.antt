@@ -10,3 +10,7 @@ pub mod Status
 pub mod Playing
 pub mod Reading
 pub mod Threads
+pub mod LiveTable
+pub mod ReadAhead
+pub mod Live
+pub mod Hearing

@@ -1,4 +1,3 @@
--- No public contract cites this.
 -- What commands are told while they are played one after the other. (this project)
 use Rattle.std.specs.Prelude.{ℕ, ◌≡◌, List, ◌++◌}
 use Rattle.pref_core.specs.Limits.{Limits}

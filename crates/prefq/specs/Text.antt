@@ -41,6 +41,7 @@ term_fault_text term.TooLong = codes "5: too long"
 term_fault_text (term.BadCount at) = codes "6: bad count at " <> decimal at
 term_fault_text term.NoMinOrMax = codes "7: no min or max"
 term_fault_text term.OutOfMemory = codes "8: out of memory"
+term_fault_text (term.EmptyRange at) = codes "9: empty range at " <> decimal at
 
 -- the number and the text of a refusal of the engine
 abbrev pub core_fault_text : CoreFault → List ℕ
@@ -53,6 +54,8 @@ core_fault_text (core.NotDone left) = codes "6: not done left " <> decimal left
 core_fault_text (core.NoSuchRow id) = codes "7: no such row " <> decimal id
 core_fault_text (core.Full needed) = codes "8: full needed " <> decimal needed
 core_fault_text core.OutOfMemory = codes "9: out of memory"
+core_fault_text (core.Twice place) = codes "12: twice place " <> decimal place
+core_fault_text core.ChangeCount = codes "13: change count"
 
 -- the cells of a row below the width, with commas between them
 abbrev pub row_text : ℕ → List ℤ → List ℕ

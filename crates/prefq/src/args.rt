@@ -9,8 +9,10 @@ use std::alloc::{AllocError, Global};
 /// How a script is run.
 #[derive(Clone, Copy, Debug, PartialEq, Eq)]
 pub enum Mode {
-    /// Line by line.
+    /// Line by line, once all are read.
     Play,
+    /// Line by line, each as it comes.
+    Live,
     /// Each client's lines on a thread of its own.
     Threads,
 }
@@ -27,14 +29,24 @@ pub struct Args {
 pub enum ArgsFault {
     /// The arguments are none of the program's.
     Refused,
-    /// They ask for this help text.
+    /// They ask for this text: a help, or the version.
     Help(String),
     /// There was no memory.
     Memory,
 }
 
-/// What stands behind the help of the program: an example, and where more is told.
-const EXAMPLE: &str = "\
+/// What `--version` prints after the name.
+const VERSION: &str = "0.1.0";
+
+/// What stands behind the help of the program: the options, an example, and where more is said.
+const AFTER_HELP: &str = "\
+With no arguments it runs play. These options stand after play, live or threads:
+
+  --clients N  How many clients there are, 1 to 8 (4 by default)
+  --cap N      How many versions of rows there is room for, 1 to 65536 (1024 by default)
+  --block N    How many slots one scan reads, 1 to 65536 (1024 by default)
+  --window N   How many rows are compared at a time, 1 to 65536 (64 by default)
+
 Example, as a script on standard input:
 
     table
@@ -46,7 +58,8 @@ Example, as a script on standard input:
     as 1 scan
     as 1 finish
 
-It prints an answer of one row: level 1 id 2: 20.
+Its last lines are '1 answer 1' and 'level 1 id 2: 20'. With play and threads the replies come when the whole script
+was read, with live after each line.
 The commands and the question language are explained in docs/GUIDE.md.";
 
 /// An option that takes a whole number from 1 on.
@@ -106,11 +119,18 @@ fn run_command<'a>(
 fn program<'a>(alloc: Global) -> Result<Command<'a>, AllocError> {
     Command::new(alloc, "prefq")
         .no_binary_name(true)
+        .bin_name("prefq")?
+        .version(VERSION)
         .about(
             "Runs a script over a table of whole numbers: clients change rows and ask for the best ones",
         )
-        .after_help(EXAMPLE)
+        .after_help(AFTER_HELP)
         .subcommand(run_command(alloc, "play", "Runs the script of standard input")?)?
+        .subcommand(run_command(
+            alloc,
+            "live",
+            "Runs the script of standard input, and replies to each line as it comes",
+        )?)?
         .subcommand(run_command(
             alloc,
             "threads",
@@ -140,7 +160,7 @@ fn setup_of(options: &ArgMatches) -> Option<Setup> {
 fn fault_of(alloc: Global, error: Error) -> ArgsFault {
     match error.kind() {
         ErrorKind::OutOfMemory => ArgsFault::Memory,
-        ErrorKind::DisplayHelp => match error.to_string(alloc) {
+        ErrorKind::DisplayHelp | ErrorKind::DisplayVersion => match error.to_string(alloc) {
             Ok(text) => ArgsFault::Help(text),
             Err(_) => ArgsFault::Memory,
         },
@@ -148,11 +168,11 @@ fn fault_of(alloc: Global, error: Error) -> ArgsFault {
     }
 }
 
-/// Reads the words after the program's name: `play` or `threads` with options, or no word at all, which is `play`.
+/// Reads the words after the program's name: `play`, `live` or `threads` with options, or no word at all, which is `play`.
 ///
 /// The options are `--clients` (1 to 8, else 4), `--cap` and `--block` (1 to 65,536, else 1024) and `--window`
-/// (1 to 65,536, else 64). Answers `Help` where the words ask for help, `Memory` where there is none, and `Refused`
-/// for all other words.
+/// (1 to 65,536, else 64). Refused `Help` where the words ask for help or for the version, `Memory` where there is none,
+/// and `Refused` for all other words.
 pub fn read_args(alloc: Global, words: &[&str]) -> Result<Args, ArgsFault> {
     let Ok(program) = program(alloc) else {
         return Err(ArgsFault::Memory);
@@ -168,6 +188,7 @@ pub fn read_args(alloc: Global, words: &[&str]) -> Result<Args, ArgsFault> {
         });
     };
     let mode = match name {
+        "live" => Mode::Live,
         "threads" => Mode::Threads,
         _ => Mode::Play,
     };

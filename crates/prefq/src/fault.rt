@@ -12,16 +12,16 @@ use thiserror::Error;
 /// Why a run of a script ended early.
 #[derive(Clone, Copy, Debug, PartialEq, Eq, Error)]
 pub enum RunFault {
-    /// The reader failed. Nothing was written.
+    /// The reader failed.
     #[error("read")]
     Read,
     /// The writer failed, or took no byte. A beginning of the output was written.
     #[error("write")]
     Write,
-    /// The input has more than 16,777,216 bytes. Nothing was written.
+    /// The input has more than 16,777,216 bytes; of a run that tells each line as it comes, its table block or a line.
     #[error("too large")]
     TooLarge,
-    /// There was no memory. Nothing was written.
+    /// There was no memory.
     #[error("memory")]
     Memory,
     /// The script's first line isn't `table`.

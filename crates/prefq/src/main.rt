@@ -7,8 +7,12 @@ mod command;
 mod commands;
 mod fault;
 mod input;
+mod lines;
+mod live;
+mod live_table;
 mod output;
 mod playing;
+mod read_ahead;
 mod reading;
 mod replies;
 mod run;
@@ -20,6 +24,7 @@ mod words;
 
 use args::{Args, ArgsFault, Mode, read_args};
 use fault::RunFault;
+use live::run_live;
 use run::run_script;
 use std::alloc::{AllocError, Global};
 use std::env;
@@ -107,6 +112,7 @@ fn run_as_asked<T: Threads + Wait + Sync + AllocGlobal + Print, R: Read + Drop, 
     let mut writer = Watched::new(writer);
     let result = match mode {
         Mode::Play => run_script(rt.alloc(), &mut reader, &mut writer, setup),
+        Mode::Live => run_live(rt.alloc(), &mut reader, &mut writer, setup),
         Mode::Threads => run_script_on_threads(rt, rt.alloc(), &mut reader, &mut writer, setup),
     };
     match result {

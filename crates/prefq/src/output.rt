@@ -11,7 +11,7 @@ use crate::watched::Watched;
 use std::alloc::{AllocError, Global};
 use std::io::Write;
 
-/// Writes all bytes, in as many writes as the writer needs. Takes no memory.
+/// Writes all bytes, in as many writes as the writer needs, and flushes. Takes no memory.
 ///
 /// Refused `Write` where the writer fails or takes no byte; a beginning of the bytes was written then.
 pub fn write_output<W: Write>(writer: &mut Watched<W>, bytes: &[u8]) -> Result<(), RunFault>
@@ -25,6 +25,9 @@ pub fn write_output<W: Write>(writer: &mut Watched<W>, bytes: &[u8]) -> Result<(
             Ok(count) if count > 0 => rest = &rest[count..],
             _ => return Err(RunFault::Write),
         }
+    }
+    if writer.flush().is_err() {
+        return Err(RunFault::Write);
     }
     Ok(())
 }

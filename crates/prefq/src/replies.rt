@@ -16,7 +16,7 @@ fn is_client(clients: u8, number: u8) -> bool
     0 < number && number <= clients
 }
 
-/// Appends what a line is told that belongs to none of so many clients: its refusal, or that there is no such client.
+/// Appends what is printed for a line that belongs to none of so many clients: its refusal, or that there is no such client.
 fn push_if_unowned(
     out: &mut String,
     width: usize,

@@ -1,39 +1,51 @@
 //! A script from its bytes to the bytes of its output.
-ghost use Rattle.std.specs.Prelude.{◌≡◌, ◌≤◌, ◌<◌, ◌⊎◌, ◌↔◌, ℕ, List, Err, false, length, IfErr, IfOk};
+ghost use Rattle.std.specs.Prelude.{◌≡◌, ◌≤◌, ◌<◌, ◌+◌, ◌^◌, ℕ, List, false, length, string_bytes, IfErr, IfOk};
 ghost use Rattle.std.specs.Io.KnownBytes.{Consumes};
-ghost use Rattle.pref_core.specs.Step.{opened};
-ghost use Rattle.pref_core.specs.Systems.{StandsForSystem};
+ghost use Rattle.prefq.specs.Commands.{commands_of};
+ghost use Rattle.prefq.specs.LiveTable.{names_of, number_of, running_of};
 ghost use Rattle.prefq.specs.Output.{TellsOutput, in_bytes};
+ghost use Rattle.prefq.specs.Playing.{TellsAll};
 ghost use Rattle.prefq.specs.Run.{Ran, sink_of, source_of};
+ghost use Rattle.prefq.specs.Script.{raw_lines};
 ghost use Rattle.prefq.specs.Watched.{has_failed, inside};
 
 use crate::fault::RunFault;
 use crate::input::read_input;
+use crate::live_table::LiveTable;
 use crate::output::write_told;
-use crate::playing::play_lines;
-use crate::reading::{Opening, read_opening};
+use crate::script::{ScriptText, cut_line, line_text, parts};
 use crate::watched::Watched;
-use pref_core::{CoreFault, Machine, Setup};
-use pref_table::Row;
+use pref_core::Setup;
 use std::alloc::Global;
 use std::io::{Read, Write};
 
-/// A table with these opening rows, which are let go.
-fn opened(alloc: Global, setup: Setup, rows: Vec<Row>) -> Result<Machine, CoreFault>
-    ensures opened { IfOk result (λ machine. (machine.limits ≡ setup) × StandsForSystem machine (opened setup rows.items)) }
-    ensures full { result ≡ Err (CoreFault.Full (length rows.items)) ↔ (setup.capacity < length rows.items) }
-    ensures other { IfErr result (λ fault. (fault ≡ CoreFault.OutOfMemory) ⊎ (setup.capacity < length rows.items)) }
+/// What lines are told by a live table, in one pass over them. Refused `Memory` alone.
+fn tell_lines(alloc: Global, live: &mut LiveTable, lines: &[u8]) -> Result<String, RunFault>
+    requires { number_of live.old + length lines.now < 2 ^ 64 }
+    ensures told { IfOk result (λ text. TellsAll (length (names_of live.old)) (running_of live.old) (commands_of (names_of live.old) (number_of live.old) (raw_lines lines.now)) (string_bytes text)) }
+    ensures memory { IfErr result (λ fault. fault ≡ RunFault.Memory) }
 {
-    Machine::new(alloc, setup, rows.as_slice())
+    let mut text = String::new(alloc);
+    let mut left = lines;
+    while !left.is_empty() {
+        let (raw, tail) = cut_line(left);
+        live.tell(alloc, line_text(raw), &mut text)?;
+        left = tail;
+    }
+    Ok(text)
 }
 
 /// The text of a script's replies, or the script's fault.
 fn reply_text(alloc: Global, setup: Setup, bytes: &[u8]) -> Result<String, RunFault>
     ensures { TellsOutput setup bytes.now (in_bytes result) }
 {
-    let Opening { schema, rows, text } = read_opening(alloc, bytes)?;
-    let mut machine = opened(alloc, setup, rows)?;
-    play_lines(alloc, &schema, &mut machine, text)
+    let ScriptText {
+        table,
+        commands,
+        first,
+    } = parts(bytes)?;
+    let mut live = LiveTable::open(alloc, setup, table, first)?;
+    tell_lines(alloc, &mut live, commands)
 }
 
 /// Reads a script, runs it under a setup and writes its output. The whole output is made before its first byte is written.

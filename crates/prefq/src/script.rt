@@ -35,13 +35,15 @@ pub fn line_text(raw: &[u8]) -> &[u8]
     drop_last(b'\r', drop_last(b'\n', raw))
 }
 
-fn is_table_line(raw: &[u8]) -> bool
+/// Whether a line is the one that a script begins with.
+pub fn is_table_line(raw: &[u8]) -> bool
     ensures { result ≡ is_table raw.now }
 {
     line_text(raw) == b"table".as_slice()
 }
 
-fn is_end_line(raw: &[u8]) -> bool
+/// Whether a line ends the table text.
+pub fn is_end_line(raw: &[u8]) -> bool
     ensures { result ≡ is_end raw.now }
 {
     line_text(raw) == b"end".as_slice()

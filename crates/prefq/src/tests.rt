@@ -3,6 +3,7 @@
 mod arguments;
 mod ends;
 mod faults;
+mod live;
 mod refusals;
 mod threads;
 

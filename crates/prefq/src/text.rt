@@ -41,6 +41,7 @@ pub fn push_term_fault(out: &mut String, fault: &TermFault) -> Result<(), AllocE
         TermFault::BadCount { at } => write!(out, "6: bad count at {at}"),
         TermFault::NoMinOrMax => write!(out, "7: no min or max"),
         TermFault::OutOfMemory => write!(out, "8: out of memory"),
+        TermFault::EmptyRange { at } => write!(out, "9: empty range at {at}"),
     }
 }
 
@@ -58,10 +59,12 @@ pub fn push_core_fault(out: &mut String, fault: CoreFault) -> Result<(), AllocEr
         CoreFault::NoSuchRow { id } => write!(out, "7: no such row {id}"),
         CoreFault::Full { needed } => write!(out, "8: full needed {needed}"),
         CoreFault::OutOfMemory => write!(out, "9: out of memory"),
+        CoreFault::Twice { place } => write!(out, "12: twice place {place}"),
+        CoreFault::ChangeCount => write!(out, "13: change count"),
     }
 }
 
-/// Appends what a refused line is told after its number.
+/// Appends what is printed for a refused line after its number.
 fn push_refusal(out: &mut String, why: &Refusal) -> Result<(), AllocError>
     ensures { OnOk result (string_bytes out.new ≡ string_bytes out.old ++ refusal_text why.now) }
 {

@@ -1,7 +1,7 @@
 //! Readers and writers that remember whether they have failed.
-ghost use Rattle.std.specs.Prelude.{◌≡◌, ◌<◌, true, false, IfOk, OnErr};
+ghost use Rattle.std.specs.Prelude.{◌≡◌, ◌<◌, true, false, IfOk, OnErr, OnOk};
 ghost use Rattle.std.specs.Io.{ReadsAtMost, WritesAtMost};
-ghost use Rattle.std.specs.Io.KnownBytes.{ReadConsumes, WriteAppends};
+ghost use Rattle.std.specs.Io.KnownBytes.{Keeps, ReadConsumes, WriteAppends};
 ghost use Rattle.prefq.specs.Watched.{has_failed, inside};
 
 use std::io;
@@ -75,6 +75,17 @@ impl<W: Write> Watched<W> {
         if !matches!(result, Ok(1..)) {
             self.failed = true;
         }
+        result
+    }
+
+    /// Hands on what the writer has taken and still holds back. An error of the writer is handed on.
+    pub fn flush(&mut self) -> io::Result<()>
+        ensures bytes { Keeps (W.contents (inside self.old)) (W.contents (inside self.new)) }
+        ensures fails { OnErr result (has_failed self.new ≡ true) }
+        ensures goes { OnOk result (has_failed self.new ≡ has_failed self.old) }
+    {
+        let result = self.inner.flush();
+        self.failed = self.failed || result.is_err();
         result
     }
 }

@@ -20,10 +20,12 @@ fn read(alloc: Global, words: &[&str]) -> Told {
 
 #[test]
 fn arguments_are_accepted_or_refused_or_ask_for_help(rt: HostRuntime) {
-    let cases: [(&[&str], Told); 25] = [
+    let cases: [(&[&str], Told); 27] = [
         (&[], Ok((Mode::Play, 4, 1024, 1024))),
         (&["play"], Ok((Mode::Play, 4, 1024, 1024))),
         (&["threads"], Ok((Mode::Threads, 4, 1024, 1024))),
+        (&["live"], Ok((Mode::Live, 4, 1024, 1024))),
+        (&["live", "--cap", "4"], Ok((Mode::Live, 4, 4, 1024))),
         (
             &["play", "--cap", "4", "--block", "2"],
             Ok((Mode::Play, 4, 4, 2)),
@@ -58,7 +60,9 @@ fn arguments_are_accepted_or_refused_or_ask_for_help(rt: HostRuntime) {
         (&["play", "play"], Err("refused")),
         (&["play", "--cap", "4", "--cap", "5"], Err("refused")),
         (&["help", "jump"], Err("refused")),
-        (&["--version"], Err("refused")),
+        (&["play", "--version"], Err("refused")),
+        (&["--version"], Err("help")),
+        (&["-V"], Err("help")),
         (&["--help"], Err("help")),
         (&["-h"], Err("help")),
         (&["help"], Err("help")),

@@ -1,8 +1,10 @@
 //! Requests for memory that are refused. `tests/refuse_each_allocation.sh` runs these tests once for each of their requests,
 //! and refuses it; where none is refused they show that the run succeeds.
-use super::{Full, Narrow, Run, assert_same, in_steps, run_through, setup_of};
+use super::{Full, Narrow, Run, assert_same, ended, in_steps, run_through, setup_of};
 use crate::fault::RunFault;
+use crate::live::run_live;
 use crate::threads::{OpenGate, run_threads};
+use crate::watched::Watched;
 use pref_core::Setup;
 use std::alloc::Global;
 use std::test::Fail;
@@ -42,6 +44,46 @@ fn a_refused_run_has_written_nothing_and_is_made_again(rt: HostRuntime) -> Resul
     assert_same(
         &rt,
         &"made again",
+        &run.seen(),
+        &(Ok(()), TOLD, false, false),
+    );
+    Ok(())
+}
+
+#[test]
+fn a_refused_live_run_has_told_whole_lines_and_is_made_again(rt: HostRuntime) -> Result<(), Fail> {
+    let alloc = rt.alloc();
+    let setup = setup_of(4, 2)?;
+    let mut reader = Watched::new(in_steps(SCRIPT, 8192));
+    let mut writer = Watched::new(Narrow {
+        taken: Vec::with_capacity(alloc, 1024)?,
+        step: 8192,
+        room: usize::MAX,
+        full: Full::Fails,
+    });
+    let first = ended(
+        run_live(alloc, &mut reader, &mut writer, setup),
+        reader,
+        writer,
+    );
+    let run = match first.result {
+        Ok(()) => first,
+        Err(fault) => {
+            assert_same(&rt, "refused", &fault, &RunFault::Memory);
+            let told = first.output.as_slice();
+            assert_same(&rt, "refused", &told, &&TOLD[..told.len()]);
+            assert_same(
+                &rt,
+                "refused",
+                &(told.is_empty() || told.ends_with(b"\n")),
+                &true,
+            );
+            run_into(alloc, setup, Vec::with_capacity(alloc, 1024)?)
+        }
+    };
+    assert_same(
+        &rt,
+        "made again",
         &run.seen(),
         &(Ok(()), TOLD, false, false),
     );
