@@ -170,6 +170,13 @@ def deep(n, repeat):
     return lines, options(n)
 
 
+def rated(n, ask):
+    """Hotels: stars from 1 to 5, an id that is the row's own, a price: many rows score alike."""
+    r = random.Random("rated")
+    lines = table(["stars", "id", "price"], [[r.randrange(1, 6), i, r.randrange(SCALE)] for i in range(n)])
+    return lines + query(1, ask, -(-n // 1024)), options(n)
+
+
 FULL = {"load": lambda: load(65_536)}
 for _kind, _d, _window, _repeat in [("ind", 2, 64, 24), ("ind", 2, 1024, 24), ("ind", 4, 64, 6), ("ind", 4, 1024, 6), ("ind", 6, 64, 1), ("ind", 6, 1024, 1),
                                     ("cor", 2, 64, 24), ("cor", 2, 1024, 24), ("cor", 4, 64, 24), ("cor", 4, 1024, 24), ("cor", 6, 64, 12), ("cor", 6, 1024, 12),
@@ -183,6 +190,8 @@ FULL |= {
     "changes": lambda: changes(40_000, 100_000, 65_536),
     "grouped": lambda: grouped(65_536, 3, 100, 4),
     "deep": lambda: deep(20_000, 2),
+    "alike": lambda: rated(65_536, "best high(stars)"),
+    "alike-all": lambda: rated(65_536, "best pos(stars, 9)"),
 }
 
 QUICK = {
@@ -198,6 +207,8 @@ QUICK = {
     "quick-changes": lambda: changes(10_000, 80_000, 16_384),
     "quick-grouped": lambda: grouped(8_192, 3, 100, 6),
     "quick-deep": lambda: deep(4_096, 3),
+    "quick-alike": lambda: rated(8_192, "best high(stars)"),
+    "quick-alike-all": lambda: rated(2_048, "best pos(stars, 9)"),
 }
 
 ALL = FULL | QUICK

@@ -1,13 +1,18 @@
 #!/usr/bin/env python3
-"""Runs the examples and the guide on the built program and compares what it prints.
+"""Runs what the documents show on the built program, and compares what it prints.
 
     (cd crates/prefq && rt run prefq < stdin)     # builds crates/prefq/out/prefq
     python3 examples/check.py [PROGRAM]
     python3 examples/check.py --cases FOLDER      # writes the runs as cases of `rt try --cases`, which runs them on a program without a proof
 
-A folder of an example has `args` (a word a line), `script.txt` and `replies.txt`. In its README a block `script` or `replies` is a part
-of these. In docs/GUIDE.md a block `script ARGS` is a whole script, `question` one question over the last block `table`, and the block
-`replies [STATUS]` or `answer` after it is what the program prints.
+A folder of an example has `args` (a word a line), `script.txt` and `replies.txt`. In its document, which is its README or else that of the
+repository, a block `script` or `replies` is a part of these. In the documents below, these stand for runs:
+
+- a block `script ARGS`, which is a whole script, and the block `replies [STATUS]` after it
+- a block `sh` of one command, which gives the program a script between `<<'END'` and `END`, or none, and the block `replies [STATUS]` after it
+- over the last block `table`: a block `question` and the block `answer` after it
+- over the last block `table`: a table's line of a question, a meaning, and the ids of its answer, a `/` between two levels
+- over the last block `table`: a table's line of a refused command, what is printed behind `line N`, and the right command
 """
 import re
 import subprocess
@@ -16,8 +21,12 @@ from dataclasses import dataclass
 from pathlib import Path
 
 TOP = Path(__file__).resolve().parent.parent
-GUIDE = TOP / "docs/GUIDE.md"
-BLOCK = re.compile(r"^```(\w+)([^\n]*)\n(.*?)^```$", re.MULTILINE | re.DOTALL)
+DOCUMENTS = [TOP / "README.md", *sorted(TOP.glob("docs/*.md"))]
+BLOCK = r"^```(?P<kind>\w+)(?P<rest>[^\n]*)\n(?P<text>.*?)^```$"
+ASKED = r"^\| `(?P<question>[^`]+)` \|[^|\n]*\| (?P<ids>\d[\d, /]*) \|$"
+SLIP = r"^\| `(?P<slip>as [^`]+)` \| `(?P<says>refused[^`]+)` \| `(?P<right>as [^`]+)` \|"
+PART = re.compile(f"{BLOCK}|{ASKED}|{SLIP}", re.MULTILINE | re.DOTALL)
+COMMAND = re.compile(r"crates/prefq/out/prefq(?P<words>[^\n<]*?)(?: <<'END'\n(?P<script>.*)END)?\n", re.DOTALL)
 
 
 @dataclass
@@ -44,7 +53,7 @@ class Run:
 
 
 def blocks(path):
-    return [(kind, rest.split(), text) for kind, rest, text in BLOCK.findall(path.read_text())]
+    return [(part["kind"], part["text"]) for part in re.finditer(BLOCK, path.read_text(), re.MULTILINE | re.DOTALL)]
 
 
 def example(folder):
@@ -53,33 +62,73 @@ def example(folder):
 
 
 def strange_parts(folder, run):
-    """What an example's README shows and its files do not have."""
-    for kind, _, text in blocks(folder / "README.md"):
+    """What an example's document shows and its files do not have."""
+    own = folder / "README.md"
+    document = own if own.is_file() else TOP / "README.md"
+    for kind, text in blocks(document):
         if kind in ("script", "replies") and text not in {"script": run.script, "replies": run.printed}[kind]:
-            yield f"{run.name}: the README shows what {kind}.txt does not have: {text.splitlines()[0]}"
+            yield f"{run.name}: {document.parent.name}/README.md shows what {kind}.txt does not have: {text.splitlines()[0]}"
 
 
-def guide():
-    """Each script and question of the guide, with the block after it."""
-    table, asked = "", None
-    for number, (kind, rest, text) in enumerate(blocks(GUIDE)):
-        name = f"guide-{number}"
+def over(table, *commands):
+    """The script of some commands over a table."""
+    return "".join(f"{line}\n" for line in ("table", *table, "end", *commands))
+
+
+def answer_of(table, ids):
+    """What an answer prints that has these ids, a `/` between two levels."""
+    levels = [[int(number) for number in level.split(",")] for level in ids.split("/")]
+    rows = [f"level {level} id {number}: {table[number]}\n" for level, numbers in enumerate(levels, 1) for number in numbers]
+    return f"1 begun 1\n1 left 0\n1 answer {len(rows)}\n" + "".join(rows)
+
+
+def scanned(question):
+    """The commands that ask a question of a table of one block."""
+    return f"as 1 begin {question}", "as 1 scan", "as 1 finish"
+
+
+def slip(name, table, part):
+    """A refused command and the right one after it, which begins a query or inserts a row."""
+    done = "1 begun 1" if part["right"].startswith("as 1 begin ") else f"1 inserted {len(table)}"
+    printed = f"line {len(table) + 3} {part['says']}\n{done}\n"
+    return Run(name, [], over(table, part["slip"], part["right"]), printed)
+
+
+def command(text):
+    """The words and the script of a command that a block shows."""
+    parts = COMMAND.fullmatch(text)
+    if not parts:
+        sys.exit(f"this is no command of the program: {text}")
+    return parts["words"].split(), parts["script"] or ""
+
+
+def runs_of(document):
+    """What a document shows, run by run."""
+    table, asked = [], None
+    for number, part in enumerate(PART.finditer(document.read_text())):
+        name, kind, text = f"{document.stem}-{number}", part["kind"], part["text"]
         if kind == "table":
-            table = text
+            table = text.splitlines()
         elif kind == "script":
-            asked = (rest, text)
+            asked = (part["rest"].split(), text)
+        elif kind == "sh":
+            asked = command(text)
         elif kind == "question":
-            asked = ([], f"table\n{table}end\nas 1 begin {text}as 1 scan\nas 1 finish\n")
+            asked = ([], over(table, *scanned(text.strip())))
         elif kind == "replies":
-            yield Run(name, *asked, text, int(rest[0]) if rest else 0)
+            yield Run(name, *asked, text, int(part["rest"] or 0))
         elif kind == "answer":
             yield Run(name, *asked, f"1 begun 1\n1 left 0\n{text}")
+        elif part["question"]:
+            yield Run(name, [], over(table, *scanned(part["question"])), answer_of(table, part["ids"]))
+        elif part["slip"]:
+            yield slip(name, table, part)
 
 
 def main():
     folders = [args.parent for args in sorted(TOP.glob("examples/*/args"))]
     examples = [example(folder) for folder in folders]
-    runs = [*examples, *guide()]
+    runs = [*examples, *(run for document in DOCUMENTS for run in runs_of(document))]
     if sys.argv[1:2] == ["--cases"]:
         for run in runs:
             run.write(Path(sys.argv[2]))

@@ -1,6 +1,6 @@
 #!/usr/bin/env bash
-# The quick checks, for every change before the long ones: the layout of the files, each test without its proof, the stored run, the
-# scripts, the examples and the guide. Nothing is proved.
+# The quick checks, for every change before the long ones: the layout of the files, the list of definitions, each test without its proof, the
+# stored run, the scripts, the examples and what the documents show. Nothing is proved.
 #
 #     tests/quick.sh
 #
@@ -56,7 +56,7 @@ tests_of() { # crate
     cd "crates/$1" && rt try --test
 }
 
-# The program on its stored run, and on every script, example and block of the guide.
+# The program on its stored run, and on every script, every example and all that the documents show.
 scripts() {
     mkdir "$room/cases"
     python3 tests/scripts.py --cases "$room/cases" && python3 examples/check.py --cases "$room/cases" || return 1
@@ -68,7 +68,8 @@ scripts() {
 for crate in core_tests share_tests prefq; do
     start "tests of $crate, not proved" tests_of "$crate"
 done
-start 'stored run, scripts, examples, guide' scripts
+start 'stored run, scripts, examples, documents' scripts
 start 'layout of the files' layout
+start 'list of definitions' python3 tests/definitions.py
 wait
 report
