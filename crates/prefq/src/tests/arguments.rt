@@ -20,7 +20,7 @@ fn read(alloc: Global, words: &[&str]) -> Told {
 
 #[test]
 fn arguments_are_accepted_or_refused_or_ask_for_help(rt: HostRuntime) {
-    let cases: [(&[&str], Told); 27] = [
+    let cases: [(&[&str], Told); 29] = [
         (&[], Ok((Mode::Play, 4, 1024, 1024))),
         (&["play"], Ok((Mode::Play, 4, 1024, 1024))),
         (&["threads"], Ok((Mode::Threads, 4, 1024, 1024))),
