@@ -71,7 +71,7 @@ fn a_refused_live_run_has_told_whole_lines_and_is_made_again(rt: HostRuntime) ->
         Err(fault) => {
             assert_same(&rt, "refused", &fault, &RunFault::Memory);
             let told = first.output.as_slice();
-            assert_same(&rt, "refused", &told, &&TOLD[..told.len()]);
+            assert_same(&rt, "refused", &TOLD.starts_with(told), &true);
             assert_same(
                 &rt,
                 "refused",
