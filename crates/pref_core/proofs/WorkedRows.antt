@@ -1,5 +1,5 @@
 -- Worked runs, computed from the definitions.
-use Rattle.std.proofs.Common.{◌≡◌, ℕ, pos, List, [], ◌∷◌, map, refl}
+use Rattle.std.proofs.Common.{false, ◌≡◌, ℕ, pos, List, [], ◌∷◌, map, refl}
 use Rattle.pref_table.specs.Rows.{padded}
 use Rattle.pref_term.specs.Preference.{scored, low}
 use Rattle.pref_term.specs.Question.{Question}
@@ -18,7 +18,7 @@ abbrev row : ℕ → Row
 row n = padded (pos n ∷ [])
 
 abbrev smallest : Question
-smallest = record { preference = scored (low 0); group = []; mode = Best }
+smallest = record { preference = scored (low 0); group = []; mode = Best; distinct = false }
 
 abbrev by : ℕ → Act → Event
 by client act = record { client = client; act = act }

@@ -12,7 +12,7 @@ use Rattle.pref_term.specs.Better.{in_same_group}
 use Rattle.pref_sky.specs.declared.entry.Entry.{Entry}
 use Rattle.pref_sky.specs.declared.entry.Ranked.{Ranked}
 use Rattle.pref_sky.specs.Best.{best, rest, without_best}
-use Rattle.pref_term.specs.AskOrder.{order_of, order_of_is_strict}
+use Rattle.pref_term.specs.AskOrder.{order_of, order_of_is_row_order}
 use Rattle.pref_sky.specs.Levels.{entry_order, HaveDifferentIds, in_order_of_id, at_level, entry_of, held_after, levels}
 use Rattle.pref_sky.specs.Answers.{count_before, count_upto, selected, answer_of, at_least}
 use Rattle.pref_sky.proofs.Removals.{comes_after, comes_after_less}
@@ -44,7 +44,7 @@ selected_of_same over strict same within (AtLeast k) xs ys levels_same =
 
 pub answer_of_same : (ask : Question) (xs ys : List Entry) → HaveDifferentIds xs → HaveDifferentIds ys → SameMembers xs ys → answer_of ask xs ≡ answer_of ask ys
 answer_of_same ask xs ys dx dy same =
-    let strict = entry_order_is_strict (order_of ask) (order_of_is_strict ask) in
+    let strict = entry_order_is_strict (order_of ask) (order_of_is_row_order ask) in
     selected_of_same (entry_order (order_of ask)) strict (in_same_group ask.group) (entry_order_stays_in_groups ask) ask.mode xs ys (levels_of_same (entry_order (order_of ask)) strict xs ys dx dy same)
 
 -- two tests of which an entry passes one at most, and then a third

@@ -1,12 +1,12 @@
 -- The merge law: the levels up to a cut of a list are those of what is of these levels in a part of it, with the others.
-use Rattle.std.proofs.Common.{◌≡◌, ℕ, zero, suc, ◌≤◌, ◌+◌, Bool, true, false, cond, not, ◌&&◌, inl, inr, List, [], ◌∷◌, ◌++◌, map, refl, sym, ◌∙◌, ap, subst, arith, filter, ◌==◌, add-one}
+use Rattle.std.proofs.Common.{ltb, ◌||◌, ◌≡◌, ℕ, zero, suc, ◌≤◌, ◌+◌, Bool, true, false, cond, not, ◌&&◌, inl, inr, List, [], ◌∷◌, ◌++◌, map, refl, sym, ◌∙◌, ap, subst, arith, filter, ◌==◌, add-one}
 use Rattle.std.specs.List.{count_by}
-use Rattle.std.proofs.lemmas.Bool.{cases_Bool, cond_both, false≢true, both_ways, and_parts, and_from, not-true, not_from_false, false_from_ne_true}
+use Rattle.std.proofs.lemmas.Bool.{or_from, or_cases, or_left, or_right, and_right, le-ltb, lt-ltb, ltb-true, cases_Bool, cond_both, false≢true, both_ways, and_parts, and_from, not-true, not_from_false, false_from_ne_true}
 use Rattle.std.proofs.lemmas.List.Sums.{sum_by-cons}
 use Rattle.std.proofs.lemmas.List.{map-append}
-use Rattle.pref_term.specs.AskOrder.{order_of, order_of_stays_in_groups}
+use Rattle.pref_term.specs.AskOrder.{order_of, order_of_stays_in_groups, twins_stay_in_groups}
 use Rattle.pref_term.specs.Better.{in_same_group}
-use Rattle.pref_term.specs.Order.{IsStrictOrder, RowOrder}
+use Rattle.pref_term.specs.Order.{IsStrictOrder, IsRowOrder, RowOrder}
 use Rattle.pref_term.specs.Question.{Question}
 use Rattle.pref_sky.specs.declared.entry.Entry.{Entry}
 use Rattle.pref_sky.specs.declared.entry.Ranked.{Ranked}
@@ -109,17 +109,42 @@ merge over strict before new cut da ds =
 pub different_rest : (over : Entry → Entry → Bool) (all : List Entry) (n : ℕ) → HaveDifferentIds all → HaveDifferentIds (rest over all n)
 different_rest over all n different = subst HaveDifferentIds (sym (rest_is over all n)) (different_filter (comes_after over all n) all different)
 
--- entries are in a strict order where their rows are
-pub entry_order_is_strict : (order : RowOrder) → IsStrictOrder order.over → IsStrictOrder (entry_order order)
-entry_order_is_strict order strict =
+-- entries are in a strict order where their rows are in a row order
+pub entry_order_is_strict : (order : RowOrder) → IsRowOrder order → IsStrictOrder (entry_order order)
+entry_order_is_strict order laws =
+    let over = order.over in
+    let twin = order.twin in
     record {
-      irreflexive = λ a. strict.irreflexive a.row;
-      transitive = λ a b c. strict.transitive a.row b.row c.row;
+      irreflexive = λ a. or_from (over a.row a.row) (twin a.row a.row && ltb a.id a.id) (laws.strict.irreflexive a.row) (and_right (twin a.row a.row) (ltb a.id a.id) (le-ltb a.id a.id (omega arith)));
+      transitive = λ a b c h k.
+          let left = over a.row c.row in
+          let right = twin a.row c.row && ltb a.id c.id in
+          elim (or_cases (over a.row b.row) (twin a.row b.row && ltb a.id b.id) h) [
+            | inl ab ↦ elim (or_cases (over b.row c.row) (twin b.row c.row && ltb b.id c.id) k) [
+              | inl bc ↦ or_left left right (laws.strict.transitive a.row b.row c.row ab bc)
+              | inr bc ↦
+                  let both = and_parts (twin b.row c.row) (ltb b.id c.id) bc in
+                  or_left left right (sym ((laws.alike b.row c.row both.0).above a.row) ∙ ab)
+            ]
+            | inr ab ↦
+                let first = and_parts (twin a.row b.row) (ltb a.id b.id) ab in
+                elim (or_cases (over b.row c.row) (twin b.row c.row && ltb b.id c.id) k) [
+                  | inl bc ↦ or_left left right ((laws.alike a.row b.row first.0).below c.row ∙ bc)
+                  | inr bc ↦
+                      let second = and_parts (twin b.row c.row) (ltb b.id c.id) bc in
+                      or_right left right (and_from (twin a.row c.row) (ltb a.id c.id) (laws.transitive a.row b.row c.row first.0 second.0)
+                      (lt-ltb a.id c.id (omega (arith, ltb-true a.id b.id first.1, ltb-true b.id c.id second.1))))
+                ]
+          ];
     }
 
 -- an entry of an ask is over entries of its own group alone
 pub entry_order_stays_in_groups : (ask : Question) (a b : Entry) → entry_order (order_of ask) a b ≡ true → in_same_group ask.group a.row b.row ≡ true
-entry_order_stays_in_groups ask a b h = order_of_stays_in_groups ask a.row b.row h
+entry_order_stays_in_groups ask a b h =
+    elim (or_cases ((order_of ask).over a.row b.row) ((order_of ask).twin a.row b.row && ltb a.id b.id) h) [
+      | inl above ↦ order_of_stays_in_groups ask a.row b.row above
+      | inr twins ↦ twins_stay_in_groups ask a.row b.row (and_parts ((order_of ask).twin a.row b.row) (ltb a.id b.id) twins).0
+    ]
 
 -- a loop's step: one level more is told
 pub told_more : (over : Entry → Entry → Bool) (all : List Entry) (n : ℕ) (told more : List Ranked) (left found : List Entry) → told ≡ levels over all n → left ≡ rest over all n → found ≡ in_order_of_id (best over left)

@@ -1,5 +1,5 @@
 -- Worked examples: the definitions compute.
-use Rattle.std.proofs.Common.{◌≡◌, ℕ, List, [], ◌∷◌, map, refl, pos}
+use Rattle.std.proofs.Common.{false, true, ◌≡◌, ℕ, List, [], ◌∷◌, map, refl, pos}
 use Rattle.pref_term.specs.Preference.{Preference, low, scored, pareto, prior}
 use Rattle.pref_term.specs.AskOrder.{order_of}
 use Rattle.pref_term.specs.Better.{in_same_group}
@@ -19,7 +19,7 @@ abbrev places : List Ranked → List (ℕ × ℕ)
 places ranked = map (λ r. (r.level, r.id)) ranked
 
 abbrev ask_for : Mode → Preference → List ℕ → Question
-ask_for mode preference group = record { preference = preference; group = group; mode = mode }
+ask_for mode preference group = record { preference = preference; group = group; mode = mode; distinct = false }
 
 abbrev both_low : Preference
 both_low = pareto (scored (low 0)) (scored (low 1))
@@ -71,3 +71,14 @@ cities = entry 1 (10 ∷ 1 ∷ []) ∷ entry 2 (20 ∷ 1 ∷ []) ∷ entry 3 (30
 
 pub best_by_city : places (answer_of (ask_for Best (scored (low 0)) (1 ∷ [])) cities) ≡ (1, 1) ∷ (1, 3) ∷ (1, 4) ∷ []
 best_by_city = refl
+
+-- of rows that are equal in the columns of a clause the one with the smallest id alone is best
+abbrev distinct_cheapest_by_city : Question
+distinct_cheapest_by_city = record { preference = scored (low 0); group = 1 ∷ []; mode = Best; distinct = true }
+
+abbrev offers : List Entry
+offers =
+    entry 1 (10 ∷ 1 ∷ 5 ∷ []) ∷ entry 2 (20 ∷ 1 ∷ 0 ∷ []) ∷ entry 3 (10 ∷ 1 ∷ 7 ∷ []) ∷ entry 4 (30 ∷ 2 ∷ 1 ∷ []) ∷ entry 5 (30 ∷ 2 ∷ 2 ∷ []) ∷ []
+
+pub distinct_offers : places (answer_of distinct_cheapest_by_city offers) ≡ (1, 1) ∷ (1, 4) ∷ []
+distinct_offers = refl

@@ -1,11 +1,12 @@
 //! Entries, alone and with a level, and how two of them compare.
 
-ghost use Rattle.std.specs.Prelude.{◌≡◌, true};
+ghost use Rattle.std.specs.Prelude.{◌≡◌, ◌&&◌, ◌⊎◌, true, false, nat_lt};
 ghost use Rattle.pref_sky.specs.Levels.{entry_order};
 ghost use Rattle.pref_term.specs.Order.{StandAlike, is_better, is_same, is_worse};
 
 use pref_table::Row;
 use pref_term::{Dominance, Relation};
+use std::cmp::Ordering;
 
 /// A row with its id.
 ///
@@ -33,7 +34,24 @@ pub struct Ranked {
 pub(crate) fn is_over<D: Dominance>(dominance: &D, a: &Entry, b: &Entry) -> bool
     ensures { result ≡ entry_order (D.order dominance.now) a.now b.now }
 {
-    dominance.over(&a.row, &b.row)
+    compare(dominance, a, b).is_better()
+}
+
+/// How entries whose rows are the same stand to each other: of twins the one with the smaller id is
+/// over the other.
+fn by_id<D: Dominance>(dominance: &D, a: &Entry, b: &Entry) -> Relation
+    ensures better { is_better result ≡ (D.order dominance.now).twin a.now.row b.now.row && nat_lt a.now.id b.now.id }
+    ensures worse { is_worse result ≡ (D.order dominance.now).twin b.now.row a.now.row && nat_lt b.now.id a.now.id }
+    ensures same { is_same result ≡ true → ((D.order dominance.now).twin a.now.row b.now.row ≡ false) ⊎ (a.now.id ≡ b.now.id) }
+{
+    if !dominance.twin(&a.row, &b.row) {
+        return Relation::Same;
+    }
+    match a.id.cmp(&b.id) {
+        Ordering::Less => Relation::Better,
+        Ordering::Equal => Relation::Same,
+        Ordering::Greater => Relation::Worse,
+    }
 }
 
 /// How the first entry stands to the second: both questions in one comparison of their rows.
@@ -42,5 +60,8 @@ pub(crate) fn compare<D: Dominance>(dominance: &D, a: &Entry, b: &Entry) -> Rela
     ensures worse { is_worse result ≡ entry_order (D.order dominance.now) b.now a.now }
     ensures stand_alike { is_same result ≡ true → StandAlike (entry_order (D.order dominance.now)) a.now b.now }
 {
-    dominance.compare(&a.row, &b.row)
+    match dominance.compare(&a.row, &b.row) {
+        Relation::Same => by_id(dominance, a, b),
+        relation => relation,
+    }
 }

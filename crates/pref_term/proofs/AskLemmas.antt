@@ -2,6 +2,7 @@
 use Rattle.std.proofs.Common.{◌≡◌, ℕ, List, [], ◌∷◌, ◌++◌, length, map, Bool, true, false, Option, Some, None, Ok, refl, sym, ap, subst, ◌∙◌, append-nil}
 use Rattle.std.specs.Prelude.{All, IfSome, cond, unwrap_or}
 use Rattle.std.specs.Str.Parse.{digits_value}
+use Rattle.std.proofs.lemmas.Bool.{false≢true}
 use Rattle.std.proofs.lemmas.List.{map-append}
 use Rattle.std.proofs.lemmas.List.Elements.{All-append, All-nil}
 use Rattle.std.proofs.lemmas.List.Sums.{fold-append}
@@ -102,13 +103,13 @@ goes_asks_nothing names s m ts us f h k = unless_map f (λ k p. let a = h p in a
 fails_asks : (names : Names) (s : State) (ts : List Placed) (f : TermFault) → Fails names s ts f → AsksNothing names s ts f
 fails_asks names s ts f h = unless_map f (λ k p. ap (meant names) (k p)) h
 
-pub rated_read : (names : Names) (ts us : List Placed) (p : Preference) (group : List ℕ) (mode : Mode) → ReadsPrior names 0 ts p us → ReadsGrouping names us group → (head : HeadText) → mode_of head ≡ mode → Asks names (operand (in_whole head)) ts (record { preference = p; group = group; mode = mode })
+pub rated_read : (names : Names) (ts us : List Placed) (p : Preference) (group : List ℕ) (mode : Mode) → ReadsPrior names 0 ts p us → ReadsGrouping names us group → (head : HeadText) → mode_of head ≡ mode → Asks names (operand (in_whole head)) ts (record { preference = p; group = group; mode = mode; distinct = false })
 rated_read names ts us p group mode r g head e =
     goes_asks names _ (ranked (whole head) r.products.tree) ts us _ (r.products.goes (whole head) refl)
     (λ k. ap (meant names) (g.goes head r.products.tree k)
-    ∙ (ap (λ x. Ok (record { preference = x; group = map (column_at names) g.some; mode = mode_of head })) r.products.meaning
-    ∙ (ap (λ x. Ok (record { preference = p; group = x; mode = mode_of head })) g.meaning
-    ∙ ap (λ x. Ok (record { preference = p; group = group; mode = x })) e)))
+    ∙ (ap (λ x. Ok (record { preference = x; group = map (column_at names) g.some; mode = mode_of head; distinct = false })) r.products.meaning
+    ∙ (ap (λ x. Ok (record { preference = p; group = x; mode = mode_of head; distinct = false })) g.meaning
+    ∙ ap (λ x. Ok (record { preference = p; group = group; mode = x; distinct = false })) e)))
 
 pub rated_prior_fails : (names : Names) (ts : List Placed) (f : TermFault) → FailsPrior names 0 ts f → (head : HeadText) → AsksNothing names (operand (in_whole head)) ts f
 rated_prior_fails names ts f h head = fails_asks names _ ts f (h (whole head) refl)
@@ -348,15 +349,17 @@ term_writable names (pareto p q) h = (term_writable names p h.0, term_writable n
 term_writable names (prior p q) h = (term_writable names p h.0, term_writable names q h.1)
 term_writable names (reverse p) h = term_writable names p h
 
-pub is_ask : (names : Names) (p : Preference) (group : List ℕ) (mode : Mode) → IsTermOf names p → All (IsKnown names) group → IsCount (cut_of mode) → IsAsk (record { preference = p; group = group; mode = mode })
+pub is_ask : (names : Names) (p : Preference) (group : List ℕ) (mode : Mode) → IsTermOf names p → All (IsKnown names) group → IsCount (cut_of mode) → IsAsk (record { preference = p; group = group; mode = mode; distinct = false })
 is_ask names p group mode h g k =
     record {
       columns = record { preference = term_columns names p h; group = λ i d b. let a = g i d b in a.0 };
       writable = term_writable names p h;
       count = k;
+      clause = λ h. absurd (false≢true h);
+      plain = refl;
     }
 
-pub fits_width : (names : Names) (p : Preference) (group : List ℕ) (mode : Mode) → IsTermOf names p → All (IsKnown names) group → FitsWidth (length names) (record { preference = p; group = group; mode = mode })
+pub fits_width : (names : Names) (p : Preference) (group : List ℕ) (mode : Mode) → IsTermOf names p → All (IsKnown names) group → FitsWidth (length names) (record { preference = p; group = group; mode = mode; distinct = false })
 fits_width names p group mode h g = record { preference = term_known names p h; group = λ i d b. let a = g i d b in a.1 }
 
 -- the same product and group, in other words

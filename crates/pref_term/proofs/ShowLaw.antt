@@ -283,9 +283,10 @@ shown_spells names q schema ask width deep short =
           (good_both names (prior_leaves term 0) (group_leaves group ++ last ∷ []) (good_prior names shape 0 (good_shape names q.preference can 0 room))
           (good_both names (group_leaves group) (last ∷ []) (group_good names q.group columns) (refl, tt)));
       meaning =
-          ap (λ p. Some (record { preference = p; group = map (column_at names) group; mode = mode_of head })) (prior_same shape names ∙ meaning_same names q.preference can)
-          ∙ (ap (λ cs. Some (record { preference = q.preference; group = cs; mode = mode_of head })) (columns_same names q.group columns)
-          ∙ ap (λ m. Some (record { preference = q.preference; group = q.group; mode = m })) (head_same q.mode ask.count));
+          ap (λ p. Some (record { preference = p; group = map (column_at names) group; mode = mode_of head; distinct = false })) (prior_same shape names ∙ meaning_same names q.preference can)
+          ∙ (ap (λ cs. Some (record { preference = q.preference; group = cs; mode = mode_of head; distinct = false })) (columns_same names q.group columns)
+          ∙ (ap (λ m. Some (record { preference = q.preference; group = q.group; mode = m; distinct = false })) (head_same q.mode ask.count)
+          ∙ ap (λ d. Some (record { preference = q.preference; group = q.group; mode = q.mode; distinct = d })) (sym ask.plain)));
     }
 
 -- so it is the ask that the text asks

@@ -1,5 +1,5 @@
 -- Which columns a preference reads. (this project)
-use Rattle.std.specs.Prelude.{ℕ, ◌<◌}
+use Rattle.std.specs.Prelude.{ℕ, ◌<◌, List, [], ◌∷◌, ◌++◌}
 use Rattle.pref_term.specs.Preference.{Base, low, high, around, one_of, Preference, scored, pareto, prior, reverse, between}
 
 -- the column of a base term
@@ -9,6 +9,13 @@ column (high col) = col
 column (around col centre) = col
 column (between col left right) = col
 column (one_of col set) = col
+
+-- the columns that a preference reads, from left to right
+abbrev pub columns_in : Preference → List ℕ
+columns_in (scored t) = column t ∷ []
+columns_in (pareto p q) = columns_in p ++ columns_in q
+columns_in (prior p q) = columns_in p ++ columns_in q
+columns_in (reverse p) = columns_in p
 
 -- each column of the preference is below this number
 abbrev pub ReadsBelow : ℕ → Preference → Type 0

@@ -1,10 +1,10 @@
 -- No public contract cites this.
 -- The tests of equality are true exactly where preferences, modes and questions are the same. (this project)
-use Rattle.std.proofs.Common.{◌≡◌, ◌==◌, ℕ, List, Bool, true, ap, refl, sym, subst}
+use Rattle.std.proofs.Common.{◌≡◌, ◌==◌, ℕ, List, Bool, true, false, ap, refl, sym, subst}
 use Rattle.std.proofs.lemmas.Bool.Decides.{same_from_decides}
 use Rattle.std.proofs.lemmas.Cmp.{on_equiv}
 use Rattle.std.proofs.lemmas.Slice.Eq.{slice_eq-Decides}
-use Rattle.std.specs.Bool.{Decides}
+use Rattle.std.specs.Bool.{Decides, beq}
 use Rattle.std.specs.Cmp.{IsEquivalence, signed_Decides, unsigned_Decides}
 use Rattle.std.specs.Cmp.Derive.{both_true}
 use Rattle.std.specs.Cmp.Lexicographic.{pointwise}
@@ -102,14 +102,21 @@ mode_same (AtLeast k) = (unsigned_Decides k k).1 refl
 group_eq-Decides : (a b : List ℕ) → Decides (pointwise ◌==◌ a b) (a ≡ b)
 group_eq-Decides a b = slice_eq-Decides unsigned_Decides a b _ refl
 
+bool_Decides : (a b : Bool) → Decides (beq a b) (a ≡ b)
+bool_Decides true true = (λ h. refl, λ e. refl)
+bool_Decides true false = (λ h. cc, λ e. cc)
+bool_Decides false true = (λ h. cc, λ e. cc)
+bool_Decides false false = (λ h. refl, λ e. refl)
+
 question_same : (q : Question) → question_eq q q ≡ true
-question_same q = both_true (both_true (preference_same q.preference) ((group_eq-Decides q.group q.group).1 refl)) (mode_same q.mode)
+question_same q = both_true (both_true (both_true (preference_same q.preference) ((group_eq-Decides q.group q.group).1 refl)) (mode_same q.mode)) ((bool_Decides q.distinct q.distinct).1 refl)
 
 question_sound : (p q : Question) → question_eq p q ≡ true → p ≡ q
 question_sound p q h =
     let k = and_parts _ _ h in
     let l = and_parts _ _ k.0 in
-    λ i. record { preference = preference_sound p.preference q.preference l.0 i; group = (group_eq-Decides p.group q.group).0 l.1 i; mode = mode_sound p.mode q.mode k.1 i }
+    let m = and_parts _ _ l.0 in
+    λ i. record { preference = preference_sound p.preference q.preference m.0 i; group = (group_eq-Decides p.group q.group).0 m.1 i; mode = mode_sound p.mode q.mode l.1 i; distinct = (bool_Decides p.distinct q.distinct).0 k.1 i }
 
 pub question_eq-Decides : (p q : Question) → Decides (question_eq p q) (p ≡ q)
 question_eq-Decides p q = (question_sound p q, λ e. subst (λ r. question_eq p r ≡ true) e (question_same p))

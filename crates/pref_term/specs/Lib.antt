@@ -5,6 +5,7 @@ pub mod Better
 pub mod Question
 pub mod Order
 pub mod OrderLaws
+pub mod TwinLaws
 pub mod AskOrder
 pub mod Equal
 pub mod EqualLaws

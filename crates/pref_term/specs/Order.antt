@@ -13,9 +13,17 @@ pub record StandAlike {E : Type 0} (over : E → E → Bool) (a b : E) : Type 0 
   pub above : (c : E) → over c a ≡ over c b
   pub below : (c : E) → over a c ≡ over b c
 
--- what a question says of two rows
+-- what a question says of two rows: the first is over the second; the two are twins, of which one is kept
 pub record RowOrder : Type 0 where
   pub over : List ℤ → List ℤ → Bool
+  pub twin : List ℤ → List ℤ → Bool
+
+-- over is a strict order, and twins stand alike in it; being twins goes both ways and on
+pub record IsRowOrder (order : RowOrder) : Type 0 where
+  pub strict : IsStrictOrder order.over
+  pub symmetric : (a b : List ℤ) → order.twin a b ≡ true → order.twin b a ≡ true
+  pub transitive : (a b c : List ℤ) → order.twin a b ≡ true → order.twin b c ≡ true → order.twin a c ≡ true
+  pub alike : (a b : List ℤ) → order.twin a b ≡ true → StandAlike order.over a b
 
 -- what a comparison says of its first row
 abbrev pub is_better : Relation → Bool

@@ -201,7 +201,7 @@ better_order (pareto p q) = pareto_order (better_order p) (better_order q)
 better_order (prior p q) = prior_order (better_order p) (better_order q)
 better_order (reverse p) = converse_order (better_order p)
 
-group_on : (cols : List ℕ) (a b c : List ℤ) → in_same_group cols a b ≡ true → in_same_group cols b c ≡ true → in_same_group cols a c ≡ true
+pub group_on : (cols : List ℕ) (a b c : List ℤ) → in_same_group cols a b ≡ true → in_same_group cols b c ≡ true → in_same_group cols a c ≡ true
 group_on [] a b c h k = refl
 group_on (col ∷ cols) a b c h k =
     let x = and_parts (int_eq (cell a col) (cell b col)) (in_same_group cols a b) h in
@@ -224,7 +224,7 @@ over_on q a b c h k =
     let y = and_parts (in_same_group q.group b c) (better q.preference b c) k in
     and_made (in_same_group q.group a c) (better q.preference a c) (group_on q.group a b c x.0 y.0) ((better_order q.preference).on a b c x.1 y.1)
 
-group_back : (cols : List ℕ) (a b : List ℤ) → in_same_group cols a b ≡ true → in_same_group cols b a ≡ true
+pub group_back : (cols : List ℕ) (a b : List ℤ) → in_same_group cols a b ≡ true → in_same_group cols b a ≡ true
 group_back [] a b h = refl
 group_back (col ∷ cols) a b h =
     let x = and_parts (int_eq (cell a col) (cell b col)) (in_same_group cols a b) h in
@@ -237,7 +237,7 @@ alike_back q a b h =
     and_made (in_same_group q.group b a) (same q.preference b a) (group_back q.group a b x.0) ((better_order q.preference).alike_back a b x.1)
 
 -- two tests, each of which passes where the other does
-same_test : (x y : Bool) → (x ≡ true → y ≡ true) → (y ≡ true → x ≡ true) → x ≡ y
+pub same_test : (x y : Bool) → (x ≡ true → y ≡ true) → (y ≡ true → x ≡ true) → x ≡ y
 same_test true y f g = sym (f refl)
 same_test false true f g = g refl
 same_test false false f g = refl

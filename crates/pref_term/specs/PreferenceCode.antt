@@ -1,9 +1,9 @@
 -- No public contract cites this.
 -- A code of preferences and of questions, by which proofs tell their values apart. It says nothing of what they mean. (this project)
-use Rattle.std.specs.Prelude.{◌≡◌, ℕ, ℤ, List, ◌⊎◌, refl}
+use Rattle.std.specs.Prelude.{◌≡◌, Bool, ℕ, ℤ, List, ◌⊎◌, refl}
 use Rattle.std.proofs.Common.{inl, inr, ap}
 use base.Stored.{Gv, gnum, gcons}
-use Rattle.std.specs.Coded.{Coded, code_by, coded_ℕ, coded_ℤ, coded_list, coded×, coded⊎}
+use Rattle.std.specs.Coded.{Coded, code_by, coded_ℕ, coded_ℤ, coded_list, coded_bool, coded×, coded⊎}
 use Rattle.pref_term.specs.Preference.{Base, low, high, around, one_of, Preference, scored, pareto, prior, reverse, between}
 use Rattle.pref_term.specs.declared.ask.Mode.{Mode}
 use Rattle.pref_term.specs.declared.ask.Mode.TheVariants.{Best, TopLevel, AtLeast}
@@ -93,5 +93,5 @@ coded_mode = code_by (ℕ ⊎ (ℕ ⊎ ℕ)) (coded⊎ coded_ℕ (coded⊎ coded
 
 abbrev pub coded_question : Coded Question
 coded_question =
-    code_by (Preference × (List ℕ × Mode)) (coded× coded_preference (coded× (coded_list coded_ℕ) coded_mode))
-    (λ q. (q.preference, (q.group, q.mode))) (λ p. record { preference = p.0; group = p.1.0; mode = p.1.1 }) (λ _. refl)
+    code_by (Preference × (List ℕ × (Mode × Bool))) (coded× coded_preference (coded× (coded_list coded_ℕ) (coded× coded_mode coded_bool)))
+    (λ q. (q.preference, (q.group, (q.mode, q.distinct)))) (λ p. record { preference = p.0; group = p.1.0; mode = p.1.1.0; distinct = p.1.1.1 }) (λ _. refl)

@@ -1,5 +1,5 @@
 -- Which ask a text spells, and what is wrong with a text that spells none. (this project)
-use Rattle.std.specs.Prelude.{◌≡◌, ◌≤◌, ◌<◌, ℕ, ℤ, List, [], ◌∷◌, ◌++◌, map, length, Bool, true, Option, Some, None, unwrap_or, nat_lt, int_lt, is_none, fold, if◌then◌else◌, ◌⊎◌}
+use Rattle.std.specs.Prelude.{◌≡◌, ◌≤◌, ◌<◌, ℕ, ℤ, List, [], ◌∷◌, ◌++◌, map, length, Bool, true, false, Option, Some, None, unwrap_or, nat_lt, int_lt, is_none, fold, if◌then◌else◌, ◌⊎◌}
 use Rattle.std.specs.List.{AllByRecursion, flat_map}
 use Rattle.std.specs.Option.{option_map}
 use Rattle.std.specs.Str.Parse.{digits_value}
@@ -88,9 +88,9 @@ product_of (p ∷ ps) = Some (fold pareto p ps)
 
 -- what a text asks; a skyline clause with DIFF columns alone asks nothing
 abbrev pub question : Names → AskText → Option Question
-question names (rated head r group) = Some (record { preference = prior_meaning r names; group = map (column_at names) group; mode = mode_of head })
+question names (rated head r group) = Some (record { preference = prior_meaning r names; group = map (column_at names) group; mode = mode_of head; distinct = false })
 question names (skyline s o first others) =
-    option_map (λ p. record { preference = p; group = groups_of names (first ∷ others); mode = Best }) (product_of (orders_of names (first ∷ others)))
+    option_map (λ p. record { preference = p; group = groups_of names (first ∷ others); mode = Best; distinct = false }) (product_of (orders_of names (first ∷ others)))
 
 -- ---- a token's own fault
 

@@ -22,7 +22,7 @@ pub enum Mode {
     AtLeast(u32),
 }
 
-/// A question. Contracts see its preference, its group and its mode, and asks are equal where they see the same.
+/// A question. Contracts see its preference, its group, its mode and whether of equal rows one is kept, and asks are equal where they see the same.
 #[derive(Drop)]
 pub struct Ask {
     term: Term,
@@ -30,6 +30,8 @@ pub struct Ask {
     factors: Option<Vec<Factor>>,
     group: Vec<usize>,
     mode: Mode,
+    // Whether of equal rows one is kept.
+    distinct: bool,
 }
 
 impl Model for Ask {
@@ -43,9 +45,9 @@ impl Model for Ask {
 
     ghost coded = { coded_question };
 
-    ghost view = { λ a. record { preference = preference_of a.term; group = a.group.items; mode = a.mode } };
+    ghost view = { λ a. record { preference = preference_of a.term; group = a.group.items; mode = a.mode; distinct = a.distinct } };
 
-    ghost invariant = { λ a. IsAsk (record { preference = preference_of a.term; group = a.group.items; mode = a.mode })
+    ghost invariant = { λ a. IsAsk (record { preference = preference_of a.term; group = a.group.items; mode = a.mode; distinct = a.distinct })
         × IfSome a.factors (λ factors. AreFactorsOf (preference_of a.term) factors.items) };
 }
 
@@ -61,9 +63,10 @@ impl Ask {
         term: Term,
         group: Vec<usize>,
         mode: Mode,
+        distinct: bool,
     ) -> Result<Ask, AllocError>
-        requires { IsAsk (record { preference = preference_of term; group = group.items; mode = mode }) }
-        ensures { IfOk result (λ ask. ask ≡ record { preference = preference_of term; group = group.items; mode = mode }) }
+        requires { IsAsk (record { preference = preference_of term; group = group.items; mode = mode; distinct = distinct }) }
+        ensures { IfOk result (λ ask. ask ≡ record { preference = preference_of term; group = group.items; mode = mode; distinct = distinct }) }
     {
         let factors = factors_of(alloc, &term)?;
         Ok(Ask {
@@ -71,6 +74,7 @@ impl Ask {
             factors,
             group,
             mode,
+            distinct,
         })
     }
 
@@ -98,6 +102,13 @@ impl Ask {
         ensures count { IsCount (cut_of result) }
     {
         self.mode
+    }
+
+    /// Whether of equal rows one is kept.
+    pub fn distinct(&self) -> bool
+        ensures { result ≡ self.now.distinct }
+    {
+        self.distinct
     }
 
     /// How many levels of a partial result are enough to answer, 1 to 1000.
@@ -136,7 +147,7 @@ impl PartialEq for Ask {
     ghost laws = { partial_equiv_from_equiv questions_equal };
 
     fn eq(&self, other: &Ask) -> bool {
-        self.term == other.term && self.group == other.group && self.mode == other.mode
+        self.term == other.term && self.group == other.group && self.mode == other.mode && self.distinct == other.distinct
     }
 }
 
@@ -161,17 +172,26 @@ pub fn in_same_group(columns: &[usize], a: &Row, b: &Row) -> bool
 }
 
 impl Dominance for Ask {
-    ghost use Rattle.pref_term.specs.AskOrder.{order_of, order_of_is_strict};
+    ghost use Rattle.pref_term.specs.AskOrder.{order_of, order_of_is_row_order};
     ghost use Rattle.pref_term.specs.Order.{StandAlike, is_better, is_same, is_worse};
-    ghost use Rattle.pref_term.specs.Question.{over, alike};
+    ghost use Rattle.pref_term.specs.Question.{over, alike, twins};
 
     ghost order = { order_of };
 
-    ghost strict = { order_of_is_strict };
+    ghost laws = { order_of_is_row_order };
 
     #[inline(always)]
     fn over(&self, a: &Row, b: &Row) -> bool {
         self.compare(a, b).is_better()
+    }
+
+    /// Whether of the two rows one is kept. What keeps one of equal rows is a skyline clause, where rows of
+    /// a group that score alike are equal in each column.
+    #[inline(always)]
+    fn twin(&self, a: &Row, b: &Row) -> bool
+        ensures { result ≡ twins self.now a.now b.now }
+    {
+        self.distinct && self.compare(a, b).is_same()
     }
 
     /// Compares the group's columns first. Rows of two groups are `Neither`.
@@ -184,6 +204,8 @@ impl Dominance for Ask {
         ensures worse { is_worse result ≡ over self.now b.now a.now }
         ensures same { is_same result ≡ alike self.now a.now b.now }
         ensures stand_alike { is_same result ≡ true → StandAlike (over self.now) a.now b.now }
+        ensures twins { twins self.now a.now b.now ≡ true → is_same result ≡ true }
+        ensures twins_alike { is_same result ≡ true → StandAlike (twins self.now) a.now b.now }
     {
         if in_same_group(&self.group, a, b) {
             self.compare_in_group(a, b)

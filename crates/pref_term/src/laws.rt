@@ -1,5 +1,5 @@
 //! Laws of question texts, and of equality.
-ghost use Rattle.std.specs.Prelude.{◌≡◌, ◌≤◌, ℕ, List, [], ◌∷◌, length, MatchResult, Ok, Err, codes};
+ghost use Rattle.std.specs.Prelude.{◌≡◌, ◌≤◌, ℕ, List, [], ◌∷◌, length, false, MatchResult, Ok, Err, codes};
 ghost use Rattle.std.specs.Bool.{Decides};
 ghost use Rattle.pref_table.specs.Names.{schema_of};
 ghost use Rattle.pref_term.specs.Equal.{preference_eq, question_eq};
@@ -41,8 +41,8 @@ pub fn equal_where_the_same_is_seen()
 
 /// Texts and what they ask: the answer of a closed text is computed.
 pub fn worked_texts()
-    ensures best { asked (codes "x" ∷ []) (codes "best low(x)") ≡ Ok (record { preference = scored (low 0); group = []; mode = best }) }
-    ensures skyline { asked (codes "price" ∷ codes "city" ∷ []) (codes "skyline of price MIN, city diff") ≡ Ok (record { preference = scored (low 0); group = 1 ∷ []; mode = best }) }
+    ensures best { asked (codes "x" ∷ []) (codes "best low(x)") ≡ Ok (record { preference = scored (low 0); group = []; mode = best; distinct = false }) }
+    ensures skyline { asked (codes "price" ∷ codes "city" ∷ []) (codes "skyline of price MIN, city diff") ≡ Ok (record { preference = scored (low 0); group = 1 ∷ []; mode = best; distinct = false }) }
     ensures unknown { asked (codes "x" ∷ []) (codes "best low(z)") ≡ Err (unknown_column 9) }
     ensures unordered { asked (codes "x" ∷ []) (codes "skyline of x diff") ≡ Err no_min_or_max }
 {}

@@ -2,7 +2,7 @@
 ghost use Rattle.std.specs.Prelude.{◌≡◌, ◌++◌, IfOk};
 ghost use Rattle.pref_sky.specs.Levels.{HaveDifferentIds, entry_order, levels};
 
-use super::fixtures::{LowBoth, LowInGroup, PAIRS, numbered, places_of};
+use super::fixtures::{LowBoth, LowInGroup, LowOnce, PAIRS, falling, numbered, places_of};
 use super::plain::add_plainly;
 use crate::same::assert_same_list;
 use pref_sky::{Entry, Partial, Ranked, levels};
@@ -84,4 +84,14 @@ fn a_thousand_levels_of_few_rows(rt: HostRuntime) -> Result<(), Fail> {
     let entries = numbered(alloc, &[(3, 3), (1, 1), (2, 2)])?;
     let places = [(1, 2), (2, 3), (3, 1)];
     check_every_cutting(&rt, alloc, &LowBoth, 1000, &entries, &places)
+}
+
+/// Entries that come in falling order of id: the one that stays comes last.
+#[test]
+fn of_twins_the_one_with_the_least_id_stays(rt: HostRuntime) -> Result<(), Fail> {
+    let alloc = rt.alloc();
+    let entries = falling(alloc, &[(5, 1), (5, 2), (7, 1), (5, 3), (7, 2)])?;
+    check_every_cutting(&rt, alloc, &LowOnce, 1, &entries, &[(1, 1)])?;
+    let places = [(1, 1), (2, 2), (3, 4), (4, 3), (5, 5)];
+    check_every_cutting(&rt, alloc, &LowOnce, 5, &entries, &places)
 }

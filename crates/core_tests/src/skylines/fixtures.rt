@@ -1,4 +1,4 @@
-//! Two small orders, and rows with the ids 1, 2, ..
+//! Three small orders, and rows with the ids 1, 2, ..
 ghost use Rattle.std.specs.Prelude.{IfOk};
 ghost use Rattle.pref_sky.specs.Levels.{HaveDifferentIds};
 
@@ -24,19 +24,23 @@ pub(crate) const PAIRS: [(i64, i64); 9] = [
 pub(crate) struct LowBoth;
 
 impl Dominance for LowBoth {
-    ghost use Rattle.std.specs.Prelude.{[]};
-    ghost use Rattle.pref_term.specs.AskOrder.{order_of, order_of_is_strict};
+    ghost use Rattle.std.specs.Prelude.{[], false};
+    ghost use Rattle.pref_term.specs.AskOrder.{order_of, order_of_is_row_order};
     ghost use Rattle.pref_term.specs.Preference.{low, pareto, scored};
     ghost use Rattle.pref_term.specs.declared.ask.Mode.TheVariants.{Best};
 
-    ghost order = { λ _. order_of (record { preference = pareto (scored (low 0)) (scored (low 1)); group = []; mode = Best }) };
+    ghost order = { λ _. order_of (record { preference = pareto (scored (low 0)) (scored (low 1)); group = []; mode = Best; distinct = false }) };
 
-    ghost strict = { λ _. order_of_is_strict (record { preference = pareto (scored (low 0)) (scored (low 1)); group = []; mode = Best }) };
+    ghost laws = { λ _. order_of_is_row_order (record { preference = pareto (scored (low 0)) (scored (low 1)); group = []; mode = Best; distinct = false }) };
 
     fn over(&self, a: &Row, b: &Row) -> bool {
         let first = a.cell(0) <= b.cell(0);
         let second = a.cell(1) <= b.cell(1);
         (a.cell(0) < b.cell(0) && second) || (a.cell(1) < b.cell(1) && first)
+    }
+
+    fn twin(&self, _a: &Row, _b: &Row) -> bool {
+        false
     }
 }
 
@@ -44,17 +48,43 @@ impl Dominance for LowBoth {
 pub(crate) struct LowInGroup;
 
 impl Dominance for LowInGroup {
-    ghost use Rattle.std.specs.Prelude.{[], ◌∷◌};
-    ghost use Rattle.pref_term.specs.AskOrder.{order_of, order_of_is_strict};
+    ghost use Rattle.std.specs.Prelude.{[], ◌∷◌, false};
+    ghost use Rattle.pref_term.specs.AskOrder.{order_of, order_of_is_row_order};
     ghost use Rattle.pref_term.specs.Preference.{low, scored};
     ghost use Rattle.pref_term.specs.declared.ask.Mode.TheVariants.{Best};
 
-    ghost order = { λ _. order_of (record { preference = scored (low 0); group = 1 ∷ []; mode = Best }) };
+    ghost order = { λ _. order_of (record { preference = scored (low 0); group = 1 ∷ []; mode = Best; distinct = false }) };
 
-    ghost strict = { λ _. order_of_is_strict (record { preference = scored (low 0); group = 1 ∷ []; mode = Best }) };
+    ghost laws = { λ _. order_of_is_row_order (record { preference = scored (low 0); group = 1 ∷ []; mode = Best; distinct = false }) };
 
     fn over(&self, a: &Row, b: &Row) -> bool {
         a.cell(1) == b.cell(1) && a.cell(0) < b.cell(0)
+    }
+
+    fn twin(&self, _a: &Row, _b: &Row) -> bool {
+        false
+    }
+}
+
+/// Smaller is better in the first column, and of rows that are equal there one is kept.
+pub(crate) struct LowOnce;
+
+impl Dominance for LowOnce {
+    ghost use Rattle.std.specs.Prelude.{[], true};
+    ghost use Rattle.pref_term.specs.AskOrder.{order_of, order_of_is_row_order};
+    ghost use Rattle.pref_term.specs.Preference.{low, scored};
+    ghost use Rattle.pref_term.specs.declared.ask.Mode.TheVariants.{Best};
+
+    ghost order = { λ _. order_of (record { preference = scored (low 0); group = []; mode = Best; distinct = true }) };
+
+    ghost laws = { λ _. order_of_is_row_order (record { preference = scored (low 0); group = []; mode = Best; distinct = true }) };
+
+    fn over(&self, a: &Row, b: &Row) -> bool {
+        a.cell(0) < b.cell(0)
+    }
+
+    fn twin(&self, a: &Row, b: &Row) -> bool {
+        a.cell(0) == b.cell(0)
     }
 }
 
@@ -71,6 +101,15 @@ pub(crate) fn numbered(alloc: Global, rows: &[(i64, i64)]) -> Result<Vec<Entry>,
         let row = Row::of(&schema, &[cells.0, cells.1])?;
         entries.push(Entry { id, row })?;
     }
+    Ok(entries)
+}
+
+/// The same rows and ids, in falling order of id.
+pub(crate) fn falling(alloc: Global, rows: &[(i64, i64)]) -> Result<Vec<Entry>, TableFault>
+    ensures { IfOk result (λ entries. HaveDifferentIds entries.items) }
+{
+    let mut entries = numbered(alloc, rows)?;
+    entries.reverse();
     Ok(entries)
 }
 

@@ -10,13 +10,16 @@ use pref_sky::{Entry, Partial, Ranked, levels};
 use pref_term::Dominance;
 use std::alloc::{AllocError, Global};
 
-/// Whether some entry of the list is over this one.
+/// Whether some entry of the list is over this one, or its twin with a smaller id.
 fn is_beaten<D: Dominance>(dominance: &D, entries: &[Entry], entry: &Entry) -> bool
     ensures { result ≡ is_beaten (entry_order (D.order dominance.now)) entries.now entry.now }
 {
     entries
         .iter()
-        .any(|other| dominance.over(&other.row, &entry.row))
+        .any(|other| {
+            dominance.over(&other.row, &entry.row)
+                || (dominance.twin(&other.row, &entry.row) && other.id < entry.id)
+        })
 }
 
 /// The list of `best_rows`, found by comparing each entry with each.

@@ -114,11 +114,11 @@ fn grouping<'a>(alloc: Global, schema: &Schema, cursor: Cursor<'a>) -> Result<Ve
 
 /// The ask of these parts.
 fn ask_of(alloc: Global, term: Term, group: Vec<usize>, mode: Mode) -> Result<Ask, TermFault>
-    requires { IsAsk (record { preference = preference_of term; group = group.items; mode = mode }) }
-    ensures ok { IfOk result (λ a. a ≡ record { preference = preference_of term; group = group.items; mode = mode }) }
+    requires { IsAsk (record { preference = preference_of term; group = group.items; mode = mode; distinct = false }) }
+    ensures ok { IfOk result (λ a. a ≡ record { preference = preference_of term; group = group.items; mode = mode; distinct = false }) }
     ensures err { IfErr result (λ f. f ≡ TermFault.OutOfMemory) }
 {
-    Ask::new(alloc, term, group, mode).map_err(|_| TermFault::OutOfMemory)
+    Ask::new(alloc, term, group, mode, false).map_err(|_| TermFault::OutOfMemory)
 }
 
 /// Takes what stands behind the words that say how many are wanted.

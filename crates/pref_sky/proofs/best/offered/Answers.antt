@@ -19,7 +19,7 @@ pub loop-entry-preserved : goal.loop-entry-preserved
 loop-entry-preserved g c =
     let row_order = g.D.Dominance.order c.args.dominance.now in
     let over = entry_order row_order in
-    let strict = entry_order_is_strict row_order (g.met.D.Dominance.strict c.args.dominance.now) in
+    let strict = entry_order_is_strict row_order (g.met.D.Dominance.laws c.args.dominance.now) in
     let input = c.args.input.now in
     let i = c.loop-entry.entry-index in
     let x : Entry = c.entry-item.result in

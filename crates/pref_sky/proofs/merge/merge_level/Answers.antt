@@ -47,7 +47,7 @@ pub returns-clause-level : goal.returns-clause-level
 returns-clause-level g c apart =
     let row_order = g.D.Dominance.order c.args.dominance.now in
     let over = entry_order row_order in
-    let strict = entry_order_is_strict row_order (g.met.D.Dominance.strict c.args.dominance.now) in
+    let strict = entry_order_is_strict row_order (g.met.D.Dominance.laws c.args.dominance.now) in
     let held = c.args.held.now in
     let coming = c.args.coming.now in
     let left : c.deref.result.now ≡ let_in over held coming = c.deref.ensures.value ∙ c.in_ok-sifted.ensures.let_in apart in
@@ -98,7 +98,7 @@ goes_down g c apart further =
 pub returns-clause-down : goal.returns-clause-down
 returns-clause-down g c apart further =
     let over = order_of g c in
-    let strict = entry_order_is_strict (g.D.Dominance.order c.args.dominance.now) (g.met.D.Dominance.strict c.args.dominance.now) in
+    let strict = entry_order_is_strict (g.D.Dominance.order c.args.dominance.now) (g.met.D.Dominance.laws c.args.dominance.now) in
     subst (λ l. SameMembers l (without_best over (c.args.held.now ++ c.args.coming.now))) (sym (goes_down g c apart further)) (down_members over strict c.args.held.now c.args.coming.now apart)
 
 pub returns-clause-counts : goal.returns-clause-counts

@@ -14,7 +14,7 @@ pub returns : goal.returns
 returns g c =
     let row_order = g.D.Dominance.order c.args.dominance.now in
     let over = entry_order row_order in
-    let strict = entry_order_is_strict row_order (g.met.D.Dominance.strict c.args.dominance.now) in
+    let strict = entry_order_is_strict row_order (g.met.D.Dominance.laws c.args.dominance.now) in
     let all : c.deref.result.now ≡ map entry_of c.args.partial.now ++ c.args.entries.now =
     c.deref.ensures.value ∙ ((c.in_ok-extend_from_slice.ensures {u = tt}).items ∙ ap (λ l. l ++ c.args.entries.now) (c.in_ok-all.ensures ∙ ap (map entry_of) c.as_slice.ensures)) in
     IfOk-weaker c.levels.result _ _ (λ ranked is before different held.

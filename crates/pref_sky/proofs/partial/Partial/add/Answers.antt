@@ -21,7 +21,7 @@ pub each_level-init : goal.each_level-init
 each_level-init g c =
     let row_order = g.D.Dominance.order c.args.dominance.now in
     let over = entry_order row_order in
-    let strict = entry_order_is_strict row_order (g.met.D.Dominance.strict c.args.dominance.now) in
+    let strict = entry_order_is_strict row_order (g.met.D.Dominance.laws c.args.dominance.now) in
     let tail : c.as_slice-tail.result.now ≡ c.args.self.now = c.as_slice-tail.ensures in
     record {
       within = omega arith;
@@ -54,7 +54,7 @@ pub each_level-preserved : goal.each_level-preserved
 each_level-preserved g c =
     let row_order = g.D.Dominance.order c.args.dominance.now in
     let over = entry_order row_order in
-    let strict = entry_order_is_strict row_order (g.met.D.Dominance.strict c.args.dominance.now) in
+    let strict = entry_order_is_strict row_order (g.met.D.Dominance.laws c.args.dominance.now) in
     let n = c.each_level.above in
     let cut = c.args.cut in
     let tail = c.each_level.tail.now in
@@ -96,7 +96,7 @@ pub returns-then-is_empty-clause-ok : goal.returns-then-is_empty-clause-ok
 returns-then-is_empty-clause-ok g c before different held =
     let row_order = g.D.Dominance.order c.args.dominance.now in
     let over = entry_order row_order in
-    let strict = entry_order_is_strict row_order (g.met.D.Dominance.strict c.args.dominance.now) in
+    let strict = entry_order_is_strict row_order (g.met.D.Dominance.laws c.args.dominance.now) in
     let tail : c.as_slice-tail.result.now ≡ c.args.self.now = c.as_slice-tail.ensures in
     let coming = c.in_ok-coming.coming in
     let nothing : coming.items ≡ [] = no_items coming.items (omega (arith, eqb-true (vec_len coming) 0 (sym c.is_empty.ensures ∙ c.if-is_empty.true), coming.ok.0)) in
