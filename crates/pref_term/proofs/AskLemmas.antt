@@ -2,7 +2,6 @@
 use Rattle.std.proofs.Common.{◌≡◌, ℕ, List, [], ◌∷◌, ◌++◌, length, map, Bool, true, false, Option, Some, None, Ok, refl, sym, ap, subst, ◌∙◌, append-nil}
 use Rattle.std.specs.Prelude.{All, IfSome, cond, unwrap_or}
 use Rattle.std.specs.Str.Parse.{digits_value}
-use Rattle.std.proofs.lemmas.Bool.{false≢true}
 use Rattle.std.proofs.lemmas.List.{map-append}
 use Rattle.std.proofs.lemmas.List.Elements.{All-append, All-nil}
 use Rattle.std.proofs.lemmas.List.Sums.{fold-append}
@@ -16,7 +15,7 @@ use Rattle.pref_term.specs.Led.{Goes, Fails, Passes, IsNoWord, IsKnown, IsTermOf
 use Rattle.pref_term.specs.Preference.{Preference, scored, low, high, pareto, prior, reverse}
 use Rattle.pref_term.specs.Columns.{ReadsBelow}
 use Rattle.pref_term.specs.Writable.{IsWritable}
-use Rattle.pref_term.specs.Question.{Question, FitsWidth, IsAsk, IsCount, is_count, cut_of}
+use Rattle.pref_term.specs.Question.{Question, FitsWidth, IsAsk, IsSkyline, IsCount, is_count, cut_of}
 use Rattle.pref_term.specs.declared.ask.Mode.{Mode}
 use Rattle.pref_term.specs.declared.ask.Mode.TheVariants.{Best, TopLevel, AtLeast}
 use Rattle.pref_term.specs.declared.fault.TermFault.{TermFault}
@@ -95,18 +94,18 @@ grouping_fails names letters ts us f c e r ns na head p =
 -- ---- what stands behind a head
 
 goes_asks : (names : Names) (s m : State) (ts us : List Placed) (q : Question) → Goes names s ts m us → Asks names m us q → Asks names s ts q
-goes_asks names s m ts us q h k p = let a = h p in ap (meant names) a.1 ∙ k a.0
+goes_asks names s m ts us q h k p = let a = h p in ap (meant names false) a.1 ∙ k a.0
 
 goes_asks_nothing : (names : Names) (s m : State) (ts us : List Placed) (f : TermFault) → Goes names s ts m us → AsksNothing names m us f → AsksNothing names s ts f
-goes_asks_nothing names s m ts us f h k = unless_map f (λ k p. let a = h p in ap (meant names) a.1 ∙ k a.0) k
+goes_asks_nothing names s m ts us f h k = unless_map f (λ k p. let a = h p in ap (meant names false) a.1 ∙ k a.0) k
 
 fails_asks : (names : Names) (s : State) (ts : List Placed) (f : TermFault) → Fails names s ts f → AsksNothing names s ts f
-fails_asks names s ts f h = unless_map f (λ k p. ap (meant names) (k p)) h
+fails_asks names s ts f h = unless_map f (λ k p. ap (meant names false) (k p)) h
 
 pub rated_read : (names : Names) (ts us : List Placed) (p : Preference) (group : List ℕ) (mode : Mode) → ReadsPrior names 0 ts p us → ReadsGrouping names us group → (head : HeadText) → mode_of head ≡ mode → Asks names (operand (in_whole head)) ts (record { preference = p; group = group; mode = mode; distinct = false })
 rated_read names ts us p group mode r g head e =
     goes_asks names _ (ranked (whole head) r.products.tree) ts us _ (r.products.goes (whole head) refl)
-    (λ k. ap (meant names) (g.goes head r.products.tree k)
+    (λ k. ap (meant names false) (g.goes head r.products.tree k)
     ∙ (ap (λ x. Ok (record { preference = x; group = map (column_at names) g.some; mode = mode_of head; distinct = false })) r.products.meaning
     ∙ (ap (λ x. Ok (record { preference = p; group = x; mode = mode_of head; distinct = false })) g.meaning
     ∙ ap (λ x. Ok (record { preference = p; group = group; mode = x; distinct = false })) e)))
@@ -349,18 +348,17 @@ term_writable names (pareto p q) h = (term_writable names p h.0, term_writable n
 term_writable names (prior p q) h = (term_writable names p h.0, term_writable names q h.1)
 term_writable names (reverse p) h = term_writable names p h
 
-pub is_ask : (names : Names) (p : Preference) (group : List ℕ) (mode : Mode) → IsTermOf names p → All (IsKnown names) group → IsCount (cut_of mode) → IsAsk (record { preference = p; group = group; mode = mode; distinct = false })
-is_ask names p group mode h g k =
+pub is_ask : (names : Names) (p : Preference) (group : List ℕ) (mode : Mode) → IsTermOf names p → All (IsKnown names) group → IsCount (cut_of mode) → (distinct : Bool) → (distinct ≡ true → IsSkyline (record { preference = p; group = group; mode = mode; distinct = distinct })) → IsAsk (record { preference = p; group = group; mode = mode; distinct = distinct })
+is_ask names p group mode h g k distinct clause =
     record {
       columns = record { preference = term_columns names p h; group = λ i d b. let a = g i d b in a.0 };
       writable = term_writable names p h;
       count = k;
-      clause = λ h. absurd (false≢true h);
-      plain = refl;
+      clause = clause;
     }
 
-pub fits_width : (names : Names) (p : Preference) (group : List ℕ) (mode : Mode) → IsTermOf names p → All (IsKnown names) group → FitsWidth (length names) (record { preference = p; group = group; mode = mode; distinct = false })
-fits_width names p group mode h g = record { preference = term_known names p h; group = λ i d b. let a = g i d b in a.1 }
+pub fits_width : (names : Names) (p : Preference) (group : List ℕ) (mode : Mode) → IsTermOf names p → All (IsKnown names) group → (distinct : Bool) → FitsWidth (length names) (record { preference = p; group = group; mode = mode; distinct = distinct })
+fits_width names p group mode h g distinct = record { preference = term_known names p h; group = λ i d b. let a = g i d b in a.1 }
 
 -- the same product and group, in other words
 pub reads_dims : (names : Names) (ts us : List Placed) (more : Bool) (p q : Option Preference) (g h : List ℕ) → p ≡ q → g ≡ h → ReadsDims names ts q h more us → ReadsDims names ts p g more us

@@ -4,14 +4,20 @@ use Rattle.std.specs.Prelude.{MatchResult, IfOk, IfErr}
 use Rattle.std.proofs.lemmas.Bool.Decides.{nat_tests}
 use Rattle.pref_table.specs.Number.{is_blank}
 use Rattle.pref_term.specs.Token.{Placed, more_bytes, token_from, tokens_from, tokens_of}
-use Rattle.pref_term.specs.Grammar.{AskText}
-use Rattle.pref_term.specs.Spells.{Names, Spells, Faults, LacksOrder, FirstFault, UnlessMemory, question}
+use Rattle.pref_term.specs.Distinct.{is_in_any_case, plain, says_distinct, without_third}
+use Rattle.pref_term.specs.Grammar.{AskText, rated, skyline}
+use Rattle.pref_term.specs.Preference.{Preference}
+use Rattle.pref_term.specs.declared.ask.Mode.TheVariants.{Best}
+use Rattle.std.specs.Option.{option_map}
+use Rattle.std.specs.Prelude.{◌&&◌, codes}
+use Rattle.std.proofs.lemmas.Bool.{false≢true}
+use Rattle.pref_term.specs.Spells.{Names, Spells, Faults, LacksOrder, FirstFault, UnlessMemory, question, product_of, orders_of, groups_of}
 use Rattle.pref_term.specs.Question.{Question, FitsWidth}
 use Rattle.pref_term.specs.Reading.{start, run}
 use Rattle.pref_term.specs.Asked.{ordered, meant, asked}
 use Rattle.pref_term.specs.declared.fault.TermFault.{TermFault}
 use Rattle.pref_term.specs.declared.fault.TermFault.TheVariants.{TooLong, NoMinOrMax}
-use Rattle.pref_term.specs.Led.{Asks, AsksNothing}
+use Rattle.pref_term.specs.Led.{AsksWhole, AsksWholeNothing}
 use Rattle.pref_term.proofs.LedLemmas.{unless_map}
 use Rattle.pref_term.proofs.Exact.{Finishes, Due, Spelt, Answers, run_answers, reached_start, spelt_run, fault_run}
 
@@ -30,8 +36,28 @@ tokens_finish zero p (b ∷ bs) = go (is_blank b) (tokens_finish 0 (p + 1) bs) (
     go true h k = h
     go false h k = finishes_more (record { token = token_from b bs; place = p }) (tokens_from (more_bytes b bs) (p + 1) bs) k
 
-text_answers : (names : Names) (text : List ℕ) → Answers names (tokens_of text) (run names (tokens_of text) 0 start)
-text_answers names text = run_answers names (tokens_of text) [] start (reached_start names) (go (tokens_of text) (tokens_finish 0 0 text))
+-- also without the word `distinct`
+finishes_plain : (ts : List Placed) → Finishes ts → Finishes (plain ts)
+finishes_plain ts h = go (says_distinct ts) refl
+  where
+    third : (ts : List Placed) → says_distinct ts ≡ true → Finishes ts → Finishes (without_third ts)
+    third [] e h = h
+    third (s ∷ []) e h = h
+    third (s ∷ o ∷ []) e h = h
+    third (s ∷ o ∷ d ∷ []) e h = absurd (false≢true (sym (last (is_in_any_case (codes "skyline") s.token) (is_in_any_case (codes "of") o.token)) ∙ e))
+      where
+        last : (x y : Bool) → (x && (y && false)) ≡ false
+        last true true = refl
+        last true false = refl
+        last false y = refl
+    third (s ∷ o ∷ d ∷ t ∷ ts) e h = h
+
+    go : (b : Bool) → says_distinct ts ≡ b → Finishes (cond b (without_third ts) ts)
+    go true e = third ts e h
+    go false e = h
+
+text_answers : (names : Names) (text : List ℕ) → Answers names (plain (tokens_of text)) (run names (plain (tokens_of text)) 0 start)
+text_answers names text = run_answers names (plain (tokens_of text)) [] start (reached_start names) (go (plain (tokens_of text)) (finishes_plain (tokens_of text) (tokens_finish 0 0 text)))
   where
     go : (ts : List Placed) → Finishes ts → Due ts start
     go [] h = absurd h
@@ -43,30 +69,42 @@ pub asked_long : (names : Names) (text : List ℕ) → 4096 < length text → as
 unfolding asked
 asked_long names text h =
     let e : nat_lt 4096 (length text) ≡ true = grind (arith, nat_tests) in
-    ap (λ (b : Bool). cond b (Err TooLong) (meant names (run names (tokens_of text) 0 start))) e
+    ap (λ (b : Bool). cond b (Err TooLong) (meant names (says_distinct (tokens_of text)) (run names (plain (tokens_of text)) 0 start))) e
 
-pub asked_short : (names : Names) (text : List ℕ) → length text ≤ 4096 → asked names text ≡ meant names (run names (tokens_of text) 0 start)
+pub asked_short : (names : Names) (text : List ℕ) → length text ≤ 4096 → asked names text ≡ meant names (says_distinct (tokens_of text)) (run names (plain (tokens_of text)) 0 start)
 unfolding asked
 asked_short names text h =
     let e : nat_lt 4096 (length text) ≡ false = grind (arith, nat_tests) in
-    ap (λ (b : Bool). cond b (Err TooLong) (meant names (run names (tokens_of text) 0 start))) e
+    ap (λ (b : Bool). cond b (Err TooLong) (meant names (says_distinct (tokens_of text)) (run names (plain (tokens_of text)) 0 start))) e
 
 -- ---- and what the grammar says
 
 abbrev IsAnswer : Names → List ℕ → Result Question TermFault → Type 0
 IsAnswer names text r = MatchResult r (Spells names text) (Faults names text)
 
-tree_answer : (names : Names) (text : List ℕ) (tree : AskText) → length text ≤ 4096 → Spelt names (tokens_of text) tree → IsAnswer names text (meant names (Ok tree))
-tree_answer names text tree short s = go (question names tree) refl
+-- whether of equal rows one is kept has no part in whether a tree asks something
+none_anyway : (names : Names) (d e : Bool) (tree : AskText) → question names d tree ≡ None → question names e tree ≡ None
+none_anyway names d e (rated head r group) h = cc
+none_anyway names d e (skyline s o first others) h = go (product_of (orders_of names (first ∷ others))) h
   where
-    go : (o : Option Question) → question names tree ≡ o → IsAnswer names text (ordered o)
-    go (Some q) e = record { tree = tree; written = s.written; short = short; tokens = s.tokens_are; good = s.good; meaning = e }
-    go None e = inr (short, inr (record { tree = tree; written = s.written; played = s.tokens_are; good = s.good; none = e }, refl))
+    marked : Bool → Preference → Question
+    marked b p = record { preference = p; group = groups_of names (first ∷ others); mode = Best; distinct = b }
 
-short_answer : (names : Names) (text : List ℕ) → length text ≤ 4096 → IsAnswer names text (meant names (run names (tokens_of text) 0 start))
-short_answer names text short = go (run names (tokens_of text) 0 start) (text_answers names text)
+    go : (x : Option Preference) → option_map (marked d) x ≡ None → option_map (marked e) x ≡ None
+    go None h = refl
+    go (Some p) h = cc
+
+tree_answer : (names : Names) (text : List ℕ) (tree : AskText) → length text ≤ 4096 → Spelt names (plain (tokens_of text)) tree → IsAnswer names text (meant names (says_distinct (tokens_of text)) (Ok tree))
+tree_answer names text tree short s = go (question names (says_distinct (tokens_of text)) tree) refl
   where
-    go : (r : Result AskText TermFault) → Answers names (tokens_of text) r → IsAnswer names text (meant names r)
+    go : (o : Option Question) → question names (says_distinct (tokens_of text)) tree ≡ o → IsAnswer names text (ordered o)
+    go (Some q) e = record { tree = tree; written = s.written; short = short; tokens = s.tokens_are; good = s.good; meaning = e }
+    go None e = inr (short, inr (record { tree = tree; written = s.written; played = s.tokens_are; good = s.good; none = none_anyway names (says_distinct (tokens_of text)) false tree e }, refl))
+
+short_answer : (names : Names) (text : List ℕ) → length text ≤ 4096 → IsAnswer names text (meant names (says_distinct (tokens_of text)) (run names (plain (tokens_of text)) 0 start))
+short_answer names text short = go (run names (plain (tokens_of text)) 0 start) (text_answers names text)
+  where
+    go : (r : Result AskText TermFault) → Answers names (plain (tokens_of text)) r → IsAnswer names text (meant names (says_distinct (tokens_of text)) r)
     go (Ok tree) s = tree_answer names text tree short s
     go (Err f) h = inr (short, inl h)
 
@@ -85,17 +123,17 @@ asked_answer names text = go (nat_lt 4096 (length text)) refl
 pub spelled_asked : (names : Names) (text : List ℕ) (q : Question) → Spells names text q → asked names text ≡ Ok q
 spelled_asked names text q s =
     asked_short names text s.short
-    ∙ (ap (meant names) (spelt_run names (tokens_of text) s.tree (record { written = s.written; tokens_are = s.tokens; good = s.good })) ∙ ap ordered s.meaning)
+    ∙ (ap (meant names (says_distinct (tokens_of text))) (spelt_run names (plain (tokens_of text)) s.tree (record { written = s.written; tokens_are = s.tokens; good = s.good })) ∙ ap ordered s.meaning)
 
 pub fault_asked : (names : Names) (text : List ℕ) (f : TermFault) → Faults names text f → asked names text ≡ Err f
 fault_asked names text f (inl h) = asked_long names text h.0 ∙ ap Err (sym h.1)
 fault_asked names text f (inr h) = asked_short names text h.0 ∙ go h.1
   where
-    go : FirstFault names (tokens_of text) f ⊎ (LacksOrder names (tokens_of text) × (f ≡ NoMinOrMax)) → meant names (run names (tokens_of text) 0 start) ≡ Err f
-    go (inl k) = ap (meant names) (fault_run names (tokens_of text) f k)
+    go : FirstFault names (plain (tokens_of text)) f ⊎ (LacksOrder names (plain (tokens_of text)) × (f ≡ NoMinOrMax)) → meant names (says_distinct (tokens_of text)) (run names (plain (tokens_of text)) 0 start) ≡ Err f
+    go (inl k) = ap (meant names (says_distinct (tokens_of text))) (fault_run names (plain (tokens_of text)) f k)
     go (inr k) =
-        ap (meant names) (spelt_run names (tokens_of text) k.0.tree (record { written = k.0.written; tokens_are = k.0.played; good = k.0.good }))
-        ∙ (ap ordered k.0.none ∙ ap Err (sym k.1))
+        ap (meant names (says_distinct (tokens_of text))) (spelt_run names (plain (tokens_of text)) k.0.tree (record { written = k.0.written; tokens_are = k.0.played; good = k.0.good }))
+        ∙ (ap ordered (none_anyway names false (says_distinct (tokens_of text)) k.0.tree k.0.none) ∙ ap Err (sym k.1))
 
 -- ---- one reading
 
@@ -116,9 +154,9 @@ ok_spells names text q e = subst (IsAnswer names text) e (asked_answer names tex
 pub err_faults : (names : Names) (text : List ℕ) (f : TermFault) → asked names text ≡ Err f → Faults names text f
 err_faults names text f e = subst (IsAnswer names text) e (asked_answer names text)
 
-pub read_exact : (names : Names) (text : List ℕ) (r : Result Question TermFault) → length text ≤ 4096 → IfOk r (Asks names start (tokens_of text)) → IfErr r (AsksNothing names start (tokens_of text)) → MatchResult r (λ a. asked names text ≡ Ok a) (λ f. UnlessMemory f (asked names text ≡ Err f))
-read_exact names text (Ok a) short h k = asked_short names text short ∙ h 0
-read_exact names text (Err f) short h k = unless_map f (λ e. asked_short names text short ∙ e 0) k
+pub read_exact : (names : Names) (text : List ℕ) (r : Result Question TermFault) → length text ≤ 4096 → IfOk r (AsksWhole names (tokens_of text)) → IfErr r (AsksWholeNothing names (tokens_of text)) → MatchResult r (λ a. asked names text ≡ Ok a) (λ f. UnlessMemory f (asked names text ≡ Err f))
+read_exact names text (Ok a) short h k = asked_short names text short ∙ h
+read_exact names text (Err f) short h k = unless_map f (λ e. asked_short names text short ∙ e) k
 
 pub read_ok : (names : Names) (text : List ℕ) (r : Result Question TermFault) → MatchResult r (λ a. asked names text ≡ Ok a) (λ f. UnlessMemory f (asked names text ≡ Err f)) → IfOk r (FitsWidth (length names)) → IfOk r (λ a. Spells names text a × FitsWidth (length names) a)
 read_ok names text (Ok a) e h = (ok_spells names text a e, h)

@@ -206,7 +206,7 @@ keyword_no_skyline at_least_word e = differ _ _ refl e
 keyword_no_skyline by_word e = differ _ _ refl e
 
 -- `skyline` is no keyword
-no_keyword : (letters : List ℕ) → IsWritten (cased skyline_word letters) → keyword_of letters ≡ None
+pub no_keyword : (letters : List ℕ) → IsWritten (cased skyline_word letters) → keyword_of letters ≡ None
 no_keyword letters w = go (keyword_of letters) (keyword_letters letters)
   where
     go : (o : Option Keyword) → IfSome o (λ k. letters_of k ≡ letters) → o ≡ None

@@ -24,7 +24,7 @@ abbrev pub at_place : Token → ℕ → Placed
 at_place t p = record { token = t; place = p }
 
 -- one token on
-run_step : (names : Names) (t : Token) (at : ℕ) (ts : List Placed) (p : ℕ) (s : State) (leaf : Leaf) (m : State) → next s t ≡ Some (leaf, m) → own_fault names leaf ≡ None → run names (at_place t at ∷ ts) p s ≡ run names ts at m
+pub run_step : (names : Names) (t : Token) (at : ℕ) (ts : List Placed) (p : ℕ) (s : State) (leaf : Leaf) (m : State) → next s t ≡ Some (leaf, m) → own_fault names leaf ≡ None → run names (at_place t at ∷ ts) p s ≡ run names ts at m
 run_step names t at ts p s leaf m e own =
     ap (led names p at (run names ts at)) e ∙ ap (judged leaf p at (run names ts at m)) own
 

@@ -10,6 +10,7 @@ pub mod LedLemmas
 pub mod CycleLemmas
 pub mod AskedLemmas
 pub mod AskLemmas
+pub mod DistinctLemmas
 pub mod ShownNames
 pub mod ShownLemmas
 pub mod Lexed

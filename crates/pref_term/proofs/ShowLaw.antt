@@ -1,6 +1,6 @@
 -- What is shown spells what was shown.
 use Rattle.std.proofs.Common.{◌≡◌, ◌<◌, ◌≤◌, ◌^◌, ◌+◌, ℕ, ℤ, pos, negsuc, suc, List, [], ◌∷◌, ◌++◌, map, true, cond, Some, None, Ok, length, refl, sym, ap, ◌∙◌, append_assoc, arith, int_lt, false}
-use Rattle.std.specs.Prelude.{FitsSigned, decimal, is_none}
+use Rattle.std.specs.Prelude.{FitsSigned, decimal, is_none, ◌&&◌, codes}
 use Rattle.std.specs.List.{AllByRecursion}
 use Rattle.std.specs.Int.{w64}
 use Rattle.std.specs.Char.{is_ascii_digit}
@@ -8,8 +8,8 @@ use Rattle.std.specs.Str.{all_ascii_digits}
 use Rattle.std.proofs.lemmas.Fmt.{digits_value-decimal, digits_decimal, decimal_nonempty}
 use Rattle.std.proofs.lemmas.List.Elements.{recursion_from_All}
 use Rattle.std.proofs.lemmas.Bool.Decides.{nat_tests}
-use Rattle.pref_term.specs.Token.{left, right, star, ampersand, minus, comma}
-use Rattle.pref_term.specs.Grammar.{PriorText, one_product, then_product, then_factor, grouped, AskText, rated, mark, column_name, count_digits, last, head_leaves, more_columns, group_leaves, number_leaves, others_leaves, base_leaves, prior_leaves, product_leaves, unary_leaves, end_leaves}
+use Rattle.pref_term.specs.Token.{left, right, star, ampersand, minus, comma, Token, word, Placed, tokens_of}
+use Rattle.pref_term.specs.Grammar.{PriorText, one_product, then_product, then_factor, grouped, AskText, rated, mark, column_name, count_digits, last, head_leaves, more_columns, group_leaves, number_leaves, others_leaves, base_leaves, prior_leaves, product_leaves, unary_leaves, end_leaves, HeadText, best_head, top_level_head, at_least_head, ask_leaves}
 use Rattle.pref_table.specs.Names.{schema_of}
 use Rattle.pref_table.specs.Number.{fits_cell}
 use Rattle.pref_term.specs.OrderLaws.{and_parts}
@@ -17,9 +17,9 @@ use Rattle.pref_term.specs.Columns.{column, ReadsBelow}
 use Rattle.pref_term.specs.Writable.{IsWritableBase, IsWritable}
 use Rattle.pref_term.specs.Question.{Question, FitsWidth, IsCount, is_count, cut_of, IsAsk}
 use Rattle.pref_term.specs.Asked.{asked}
-use Rattle.pref_term.specs.Spells.{Names, Spells, IsGood, own_fault, number_value, mode_of, column_at, unknown_column, number_range, bad_count, below, empty_range}
+use Rattle.pref_term.specs.Spells.{Names, Spells, IsGood, own_fault, number_value, mode_of, column_at, unknown_column, number_range, bad_count, below, empty_range, tokens_in, tokens_on}
 use Rattle.pref_term.specs.Preference.{Base, low, high, around, one_of, Preference, scored, pareto, prior, reverse, between}
-use Rattle.pref_term.specs.Shown.{is_prior, is_composed, held_nests, nests, name_at, shown_term, shown_mode, shown_group, shown}
+use Rattle.pref_term.specs.Shown.{is_prior, is_composed, held_nests, nests, name_at, shown_term, shown_mode, shown_group, shown, shown_dims, shown_diffs}
 use Rattle.pref_term.specs.declared.ask.Mode.{Mode}
 use Rattle.pref_term.specs.declared.ask.Mode.TheVariants.{Best, TopLevel, AtLeast}
 use Rattle.pref_term.proofs.ShownNames.{IsWordText, IsNamed, is_named}
@@ -27,6 +27,8 @@ use Rattle.pref_term.proofs.AskedLemmas.{spelled_asked}
 use Rattle.pref_term.proofs.ShownLemmas.{AreInRange, CanShowBase, CanShow, leaves_text, leaves_text-append, head_text, head_shown, group_shown, columns_same, number_text, base_text, Shape, factor, product, ranked, as_prior, as_product, as_factor, shape_of, shape_leaves, prior_same, number_same, meaning_same, prior_text, text_shown, own_numerals}
 use Rattle.pref_term.proofs.Exact.{good_both}
 use Rattle.pref_term.proofs.CycleLemmas.{depth_good}
+use Rattle.pref_term.specs.Distinct.{is_in_any_case, is_distinct_ahead, says_distinct, without_third, plain}
+use Rattle.std.specs.Str.{bytes_eq, str_to_ascii_lowercase}
 use Rattle.pref_term.proofs.Lexed.{lexed, IsDigitsText, FineHead, FineNumbers, FineBase, FinePrior, FineProduct, FineUnary, said, rated_lexed, rated_written}
 
 digits_text : (ds : List ℕ) → all_ascii_digits ds ≡ true → 0 < length ds → IsDigitsText ds
@@ -248,8 +250,29 @@ module _ (names : Names) (each : (col : ℕ) → col < length names → IsNamed 
 abbrev shown_tree : Names → Question → AskText
 shown_tree names q = rated (head_text q.mode) (as_prior (shape_of names q.preference)) (map (name_at names) q.group)
 
-tree_text : (names : Names) (q : Question) → CanShow names q.preference → leaves_text (said (head_text q.mode) (as_prior (shape_of names q.preference)) (map (name_at names) q.group)) ≡ shown names q
-tree_text names q h =
+-- where all equal rows are kept, a question is shown as a term
+shown_plain : (names : Names) (q : Question) → q.distinct ≡ false → shown names q ≡ shown_mode q.mode ++ shown_term names q.preference ++ shown_group names q.group
+shown_plain names q all = ap (λ b. cond b (codes "skyline of distinct " ++ (shown_dims names q.preference ++ shown_diffs names q.group)) (shown_mode q.mode ++ shown_term names q.preference ++ shown_group names q.group)) all
+
+-- a text that begins with another word than `skyline` does not say `distinct`
+not_said : (ts : List Placed) (letters : List ℕ) (rest : List Token) → tokens_in ts ≡ word letters ∷ rest → bytes_eq (codes "skyline") (str_to_ascii_lowercase letters) ≡ false → says_distinct ts ≡ false
+not_said [] letters rest e h = refl
+not_said (t ∷ []) letters rest e h = refl
+not_said (t ∷ u ∷ us) letters rest e h =
+    let same : t.token ≡ word letters = cc in
+    ap (λ x. is_in_any_case (codes "skyline") x && (is_in_any_case (codes "of") u.token && is_distinct_ahead us)) same
+    ∙ ap (λ b. b && (is_in_any_case (codes "of") u.token && is_distinct_ahead us)) h
+
+head_said : (head : HeadText) (r : PriorText) (group : List (List ℕ)) (ts : List Placed) → tokens_in ts ≡ tokens_on (ask_leaves (rated head r group)) → says_distinct ts ≡ false
+head_said best_head r group ts e = not_said ts _ _ e refl
+head_said (top_level_head count) r group ts e = not_said ts _ _ e refl
+head_said (at_least_head count) r group ts e = not_said ts _ _ e refl
+
+plain_tokens : (ts : List Placed) (tokens : List Token) → tokens_in ts ≡ tokens → says_distinct ts ≡ false → tokens_in (plain ts) ≡ tokens
+plain_tokens ts tokens e f = ap (λ b. tokens_in (cond b (without_third ts) ts)) f ∙ e
+
+tree_text : (names : Names) (q : Question) → CanShow names q.preference → q.distinct ≡ false → leaves_text (said (head_text q.mode) (as_prior (shape_of names q.preference)) (map (name_at names) q.group)) ≡ shown names q
+tree_text names q h all =
     let head = head_leaves (head_text q.mode) in
     let term = prior_leaves (as_prior (shape_of names q.preference)) 0 in
     let group = group_leaves (map (name_at names) q.group) in
@@ -259,11 +282,12 @@ tree_text names q h =
     (leaves_text-append term group
     ∙ (ap (λ xs. xs ++ leaves_text group) (prior_text (shape_of names q.preference) 0 ∙ text_shown names q.preference h 0)
     ∙ ap (λ xs. shown_term names q.preference ++ xs) (group_shown names q.group)))
-    ∙ sym (append_assoc (shown_mode q.mode) (shown_term names q.preference) (shown_group names q.group))))
+    ∙ (sym (append_assoc (shown_mode q.mode) (shown_term names q.preference) (shown_group names q.group))
+    ∙ sym (shown_plain names q all))))
 
 -- where the shown text keeps the limits of length and nesting, it spells what was shown
-pub shown_spells : (names : Names) (q : Question) → schema_of names ≡ Ok names → IsAsk q → FitsWidth (length names) q → nests q.preference ≤ 64 → length (shown names q) ≤ 4096 → Spells names (shown names q) q
-shown_spells names q schema ask width deep short =
+pub shown_spells : (names : Names) (q : Question) → schema_of names ≡ Ok names → IsAsk q → q.distinct ≡ false → FitsWidth (length names) q → nests q.preference ≤ 64 → length (shown names q) ≤ 4096 → Spells names (shown names q) q
+shown_spells names q schema ask all width deep short =
     let each = is_named names schema in
     let can = can_show names each q.preference ask.writable width.preference in
     let columns = all_named names each q.group (recursion_from_All (λ col. col < length names) q.group width.group) in
@@ -273,11 +297,12 @@ shown_spells names q schema ask width deep short =
     let head = head_text q.mode in
     let fine = fine_prior shape (shape_fine names q.preference can) in
     let room : nests q.preference + 0 ≤ 64 = omega arith in
+    let lexed_is = ap lexed (sym (tree_text names q can all)) ∙ rated_lexed head term group (head_fine q.mode ask.count) fine (columns_fine names q.group columns) in
     record {
       tree = shown_tree names q;
       written = rated_written head term group (head_fine q.mode ask.count) fine (columns_fine names q.group columns);
       short = short;
-      tokens = ap lexed (sym (tree_text names q can)) ∙ rated_lexed head term group (head_fine q.mode ask.count) fine (columns_fine names q.group columns);
+      tokens = plain_tokens (tokens_of (shown names q)) _ lexed_is (head_said head term group (tokens_of (shown names q)) lexed_is);
       good =
           good_both names (head_leaves head) (prior_leaves term 0 ++ (group_leaves group ++ last ∷ [])) (head_good names q.mode ask.count)
           (good_both names (prior_leaves term 0) (group_leaves group ++ last ∷ []) (good_prior names shape 0 (good_shape names q.preference can 0 room))
@@ -286,9 +311,9 @@ shown_spells names q schema ask width deep short =
           ap (λ p. Some (record { preference = p; group = map (column_at names) group; mode = mode_of head; distinct = false })) (prior_same shape names ∙ meaning_same names q.preference can)
           ∙ (ap (λ cs. Some (record { preference = q.preference; group = cs; mode = mode_of head; distinct = false })) (columns_same names q.group columns)
           ∙ (ap (λ m. Some (record { preference = q.preference; group = q.group; mode = m; distinct = false })) (head_same q.mode ask.count)
-          ∙ ap (λ d. Some (record { preference = q.preference; group = q.group; mode = q.mode; distinct = d })) (sym ask.plain)));
+          ∙ ap (λ d. Some (record { preference = q.preference; group = q.group; mode = q.mode; distinct = d })) (sym all)));
     }
 
 -- so it is the ask that the text asks
-pub shown_asked : (names : Names) (q : Question) → schema_of names ≡ Ok names → IsAsk q → FitsWidth (length names) q → nests q.preference ≤ 64 → length (shown names q) ≤ 4096 → asked names (shown names q) ≡ Ok q
-shown_asked names q schema ask width deep short = spelled_asked names (shown names q) q (shown_spells names q schema ask width deep short)
+pub shown_asked : (names : Names) (q : Question) → schema_of names ≡ Ok names → IsAsk q → q.distinct ≡ false → FitsWidth (length names) q → nests q.preference ≤ 64 → length (shown names q) ≤ 4096 → asked names (shown names q) ≡ Ok q
+shown_asked names q schema ask all width deep short = spelled_asked names (shown names q) q (shown_spells names q schema ask all width deep short)

@@ -1,10 +1,10 @@
 -- The order of an ask: within its groups, by its preference; and which rows it keeps one of. (skyline with DIFF and DISTINCT; psel on a grouped table)
-use Rattle.std.specs.Prelude.{◌≡◌, true, List, ℤ}
+use Rattle.std.proofs.Common.{◌≡◌, Bool, true, false, List, ℤ, refl, sym, ◌∙◌}
 use Rattle.pref_term.specs.Better.{better, in_same_group, same}
 use Rattle.pref_term.specs.Order.{IsRowOrder, IsStrictOrder, RowOrder, StandAlike}
-use Rattle.pref_term.specs.OrderLaws.{and_parts, over_not_self, over_on, alike_above, alike_below}
-use Rattle.pref_term.specs.Question.{Question, alike, over, twins}
-use Rattle.pref_term.specs.TwinLaws.{twins_alike, twins_back, twins_on}
+use Rattle.pref_term.specs.OrderLaws.{and_made, and_parts, over_not_self, over_on, alike_above, alike_below}
+use Rattle.pref_term.specs.Question.{Question, IsAsk, alike, over, twins}
+use Rattle.pref_term.specs.TwinLaws.{clause_twins, twins_alike, twins_back, twins_have_twins, twins_on}
 
 -- the order that an ask stands for
 abbrev pub order_of : Question → RowOrder
@@ -26,6 +26,16 @@ order_of_is_row_order q = record {
   transitive = twins_on q;
   alike = λ a b h. order_of_alike q a b (twins_alike q a b h);
 }
+
+-- and the same rows are their twins, since an ask that keeps one of equal rows is a skyline clause
+pub order_of_twins_alike : (q : Question) → IsAsk q → (a b : List ℤ) → alike q a b ≡ true → StandAlike (order_of q).twin a b
+order_of_twins_alike q known a b h = go q.distinct refl
+  where
+    go : (d : Bool) → q.distinct ≡ d → StandAlike (order_of q).twin a b
+    go true keeps =
+        twins_have_twins (order_of q) (order_of_is_row_order q) a b
+        (and_made q.distinct _ keeps (sym (clause_twins q a b (known.clause keeps).preference) ∙ h))
+    go false all = record { above = λ c. rw all refl; below = λ c. rw all refl }
 
 -- a row is over rows of its own group alone
 pub order_of_stays_in_groups : (q : Question) (a b : List ℤ) → (order_of q).over a b ≡ true → in_same_group q.group a b ≡ true

@@ -7,8 +7,9 @@ use Rattle.pref_table.specs.Columns.{column_of}
 use Rattle.pref_term.specs.Token.{star, ampersand, Token, word, digits, sign, Placed}
 use Rattle.pref_term.specs.Grammar.{based, grouped, reversed, low_text, pos_text, NumberText, BaseText, UnaryText, ProductText, PriorText, HeadText, DimText, Direction, minimal, maximal, different, direction_word, cased_of, of_word, rated, skyline, column_name, count_digits}
 use Rattle.pref_term.specs.Spells.{Names, UnlessMemory, number_value, column_at, base_meaning, unary_meaning, product_meaning, prior_meaning, product_of, orders_of, groups_of, below, empty_range}
-use Rattle.pref_term.specs.Reading.{BaseKind, named, columned, NumberHole, first_of, next_of, number_due, filled, UnaryHole, ProductHole, PriorHole, whole, in_group, in_reverse, in_whole, first_factor, first_product, unary_depth, product_depth, prior_depth, State, operand, reverse_named, reading, after, group_due, skyline_named, dim_due, dim_named, done, completed, ranked, next, run, least_of, end_of, range_ended}
+use Rattle.pref_term.specs.Reading.{BaseKind, named, columned, NumberHole, first_of, next_of, number_due, filled, UnaryHole, ProductHole, PriorHole, whole, in_group, in_reverse, in_whole, first_factor, first_product, unary_depth, product_depth, prior_depth, State, start, operand, reverse_named, reading, after, group_due, skyline_named, dim_due, dim_named, done, completed, ranked, next, run, least_of, end_of, range_ended}
 use Rattle.pref_term.specs.Asked.{meant}
+use Rattle.pref_term.specs.Distinct.{plain, says_distinct}
 use Rattle.pref_term.specs.Preference.{Base, low, high, Preference, scored, pareto, prior, reverse}
 use Rattle.pref_term.specs.Columns.{column}
 use Rattle.pref_term.specs.Writable.{IsWritableBase}
@@ -237,11 +238,11 @@ FailsPrior names depth ts f = (h : PriorHole) → prior_depth h ≡ depth → Fa
 
 -- reading asks the question
 abbrev pub Asks : Names → State → List Placed → Question → Type 0
-Asks names s ts q = (p : ℕ) → meant names (run names ts p s) ≡ Ok q
+Asks names s ts q = (p : ℕ) → meant names false (run names ts p s) ≡ Ok q
 
 -- reading tells the fault, unless memory ran out
 abbrev pub AsksNothing : Names → State → List Placed → TermFault → Type 0
-AsksNothing names s ts f = UnlessMemory f ((p : ℕ) → meant names (run names ts p s) ≡ Err f)
+AsksNothing names s ts f = UnlessMemory f ((p : ℕ) → meant names false (run names ts p s) ≡ Err f)
 
 -- the token isn't digits
 abbrev pub IsNoDigits : Token → Type 0
@@ -363,3 +364,28 @@ PassesOf ts us = (letters : List ℕ) × (cased_of letters ≡ Some of_word) × 
 
 abbrev pub FailsOf : List Placed → TermFault → Type 0
 FailsOf ts f = (names : Names) (s : List ℕ) → Fails names (skyline_named s) ts f
+
+-- ---- with the word `distinct`, or without it
+
+-- a whole question asks this
+abbrev pub AsksWhole : Names → List Placed → Question → Type 0
+AsksWhole names ts q = meant names (says_distinct ts) (run names (plain ts) 0 start) ≡ Ok q
+
+-- or has this fault, unless memory ran out
+abbrev pub AsksWholeNothing : Names → List Placed → TermFault → Type 0
+AsksWholeNothing names ts f = UnlessMemory f (meant names (says_distinct ts) (run names (plain ts) 0 start) ≡ Err f)
+
+-- behind the word `distinct` of a clause: there reading stands behind `of`
+pub record IsBehindDistinct (ts us : List Placed) : Type 0 where
+  pub said : says_distinct ts ≡ true
+  pub skyline_is : List ℕ
+  pub of_is : List ℕ
+  pub place : ℕ
+  pub leads : (names : Names) → run names (plain ts) 0 start ≡ run names us place (dim_due skyline_is of_is [])
+
+-- a clause from its first column on, of equal rows one kept
+abbrev pub AsksClause : Names → List Placed → Question → Type 0
+AsksClause names ts q = (s o : List ℕ) (p : ℕ) → meant names true (run names ts p (dim_due s o [])) ≡ Ok q
+
+abbrev pub AsksClauseNothing : Names → List Placed → TermFault → Type 0
+AsksClauseNothing names ts f = (s o : List ℕ) → UnlessMemory f ((p : ℕ) → meant names true (run names ts p (dim_due s o [])) ≡ Err f)

@@ -14,6 +14,7 @@ pub mod Walk
 pub mod Factors
 pub mod Token
 pub mod Grammar
+pub mod Distinct
 pub mod Spells
 pub mod Reading
 pub mod Asked

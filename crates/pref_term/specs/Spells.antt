@@ -6,6 +6,7 @@ use Rattle.std.specs.Str.Parse.{digits_value}
 use Rattle.pref_table.specs.Columns.{column_of}
 use Rattle.pref_table.specs.Number.{fits_cell, signed_by}
 use Rattle.pref_term.specs.Token.{Token, Placed, tokens_of}
+use Rattle.pref_term.specs.Distinct.{plain, says_distinct}
 use Rattle.pref_term.specs.Grammar.{NumberText, BaseText, low_text, high_text, around_text, pos_text, HeadText, best_head, top_level_head, at_least_head, Direction, minimal, maximal, different, DimText, AskText, rated, skyline, IsText, PriorText, one_product, then_product, ProductText, one_factor, then_factor, UnaryText, negated, grouped, reversed, based, Leaf, name, mark, opens, column_name, number_digits, count_digits, cased, last, token_of, ask_leaves, between_text}
 use Rattle.pref_term.specs.Preference.{Base, low, high, around, one_of, Preference, scored, pareto, prior, reverse, between}
 use Rattle.pref_term.specs.Question.{Question, is_count}
@@ -86,11 +87,11 @@ abbrev pub product_of : List Preference → Option Preference
 product_of [] = None
 product_of (p ∷ ps) = Some (fold pareto p ps)
 
--- what a text asks; a skyline clause with DIFF columns alone asks nothing
-abbrev pub question : Names → AskText → Option Question
-question names (rated head r group) = Some (record { preference = prior_meaning r names; group = map (column_at names) group; mode = mode_of head; distinct = false })
-question names (skyline s o first others) =
-    option_map (λ p. record { preference = p; group = groups_of names (first ∷ others); mode = Best; distinct = false }) (product_of (orders_of names (first ∷ others)))
+-- what a text asks, where of equal rows one is kept in a skyline clause or all are; a clause with DIFF columns alone asks nothing
+abbrev pub question : Names → (distinct : Bool) → AskText → Option Question
+question names distinct (rated head r group) = Some (record { preference = prior_meaning r names; group = map (column_at names) group; mode = mode_of head; distinct = false })
+question names distinct (skyline s o first others) =
+    option_map (λ p. record { preference = p; group = groups_of names (first ∷ others); mode = Best; distinct = distinct }) (product_of (orders_of names (first ∷ others)))
 
 -- ---- a token's own fault
 
@@ -145,14 +146,14 @@ tokens_in ts = map (λ t. t.token) ts
 abbrev pub tokens_on : List Leaf → List Token
 tokens_on leaves = map token_of leaves
 
--- the text has the tokens of a tree of the grammar, none with a fault, and the tree asks q
+-- the text has the tokens of a tree of the grammar, none with a fault, and perhaps the word `distinct`; the tree asks q
 pub record Spells (names : Names) (text : List ℕ) (q : Question) : Type 0 where
   pub tree : AskText
   pub written : IsText tree
   pub short : length text ≤ 4096
-  pub tokens : tokens_in (tokens_of text) ≡ tokens_on (ask_leaves tree)
+  pub tokens : tokens_in (plain (tokens_of text)) ≡ tokens_on (ask_leaves tree)
   pub good : AllByRecursion (IsGood names) (ask_leaves tree)
-  pub meaning : question names tree ≡ Some q
+  pub meaning : question names (says_distinct (tokens_of text)) tree ≡ Some q
 
 -- ---- what is wrong with a text
 
@@ -200,13 +201,13 @@ pub record LacksOrder (names : Names) (tokens : List Placed) : Type 0 where
   pub written : IsText tree
   pub played : tokens_in tokens ≡ tokens_on (ask_leaves tree)
   pub good : AllByRecursion (IsGood names) (ask_leaves tree)
-  pub none : question names tree ≡ None
+  pub none : question names false tree ≡ None
 
--- what is wrong with a text
+-- what is wrong with a text, the word `distinct` left out where it is one of the clause
 abbrev pub Faults : Names → List ℕ → TermFault → Type 0
 Faults names text fault =
     ((4096 < length text) × (fault ≡ TooLong))
-    ⊎ ((length text ≤ 4096) × (FirstFault names (tokens_of text) fault ⊎ (LacksOrder names (tokens_of text) × (fault ≡ NoMinOrMax))))
+    ⊎ ((length text ≤ 4096) × (FirstFault names (plain (tokens_of text)) fault ⊎ (LacksOrder names (plain (tokens_of text)) × (fault ≡ NoMinOrMax))))
 
 -- that, unless the fault is want of memory
 abbrev pub UnlessMemory : TermFault → Type 0 → Type 0

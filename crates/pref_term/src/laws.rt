@@ -1,5 +1,5 @@
 //! Laws of question texts, and of equality.
-ghost use Rattle.std.specs.Prelude.{◌≡◌, ◌≤◌, ℕ, List, [], ◌∷◌, length, false, MatchResult, Ok, Err, codes};
+ghost use Rattle.std.specs.Prelude.{◌≡◌, ◌≤◌, ℕ, List, [], ◌∷◌, length, true, false, MatchResult, Ok, Err, codes};
 ghost use Rattle.std.specs.Bool.{Decides};
 ghost use Rattle.pref_table.specs.Names.{schema_of};
 ghost use Rattle.pref_term.specs.Equal.{preference_eq, question_eq};
@@ -10,7 +10,7 @@ ghost use Rattle.pref_term.specs.Asked.{asked};
 ghost use Rattle.pref_term.specs.Preference.{Preference, scored, low};
 ghost use Rattle.pref_term.specs.declared.fault.TermFault.{TermFault};
 ghost use Rattle.pref_term.specs.declared.ask.Mode.TheVariants.{Best as best};
-ghost use Rattle.pref_term.specs.declared.fault.TermFault.TheVariants.{UnknownColumn as unknown_column, NoMinOrMax as no_min_or_max};
+ghost use Rattle.pref_term.specs.declared.fault.TermFault.TheVariants.{Unexpected as unexpected, UnknownColumn as unknown_column, NoMinOrMax as no_min_or_max};
 
 /// What is computed of a text is the ask that it spells, or what is wrong with it.
 pub fn asked_is_the_answer()
@@ -27,9 +27,9 @@ pub fn one_reading()
 /// What is shown of an ask over the columns of a schema spells that ask, where it keeps the limits of a question's length
 /// and nesting: so reading what was shown gives the ask again.
 pub fn shown_is_read_again()
-    ensures spelled { (names : Names) (q : Question) → schema_of names ≡ Ok names → IsAsk q → FitsWidth (length names) q →
+    ensures spelled { (names : Names) (q : Question) → schema_of names ≡ Ok names → IsAsk q → q.distinct ≡ false → FitsWidth (length names) q →
         nests q.preference ≤ 64 → length (shown names q) ≤ 4096 → Spells names (shown names q) q }
-    ensures asked { (names : Names) (q : Question) → schema_of names ≡ Ok names → IsAsk q → FitsWidth (length names) q →
+    ensures asked { (names : Names) (q : Question) → schema_of names ≡ Ok names → IsAsk q → q.distinct ≡ false → FitsWidth (length names) q →
         nests q.preference ≤ 64 → length (shown names q) ≤ 4096 → asked names (shown names q) ≡ Ok q }
 {}
 
@@ -45,6 +45,11 @@ pub fn worked_texts()
     ensures skyline { asked (codes "price" ∷ codes "city" ∷ []) (codes "skyline of price MIN, city diff") ≡ Ok (record { preference = scored (low 0); group = 1 ∷ []; mode = best; distinct = false }) }
     ensures unknown { asked (codes "x" ∷ []) (codes "best low(z)") ≡ Err (unknown_column 9) }
     ensures unordered { asked (codes "x" ∷ []) (codes "skyline of x diff") ≡ Err no_min_or_max }
+    ensures distinct { asked (codes "x" ∷ []) (codes "skyline of Distinct x min") ≡ Ok (record { preference = scored (low 0); group = []; mode = best; distinct = true }) }
+    ensures column { asked (codes "distinct" ∷ []) (codes "skyline of distinct min") ≡ Ok (record { preference = scored (low 0); group = []; mode = best; distinct = false }) }
+    ensures no_column { asked (codes "x" ∷ []) (codes "skyline of distinct x") ≡ Err (unknown_column 11) }
+    ensures column_then { asked (codes "distinct" ∷ codes "x" ∷ []) (codes "skyline of distinct x") ≡ Err (unexpected 20) }
+    ensures comma_then_word { asked (codes "x" ∷ []) (codes "skyline of distinct , min") ≡ Err (unexpected 20) }
 {}
 
 /// Texts over the columns x, y, z, g and h, and how they are shown.

@@ -35,5 +35,5 @@ pub fn read_ask(alloc: Global, schema: &Schema, text: &[u8]) -> Result<Ask, Term
     if text.len() > LONGEST {
         return Err(TermFault::TooLong);
     }
-    ask::ask(alloc, schema, Cursor::new(text))
+    ask::question(alloc, schema, Cursor::new(text))
 }

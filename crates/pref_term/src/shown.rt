@@ -23,6 +23,12 @@ pub fn show(alloc: Global, schema: &Schema, ask: &Ask) -> Result<Vec<u8>, AllocE
     ensures { IfOk result (λ text. text.items ≡ shown.shown schema.now ask.now) }
 {
     let mut text = Vec::new(alloc);
+    if ask.distinct() {
+        text.extend_from_slice(b"skyline of distinct ")?;
+        show_dimensions(&mut text, schema, ask.term())?;
+        show_differing(&mut text, schema, ask.group())?;
+        return Ok(text);
+    }
     show_mode(alloc, &mut text, ask.mode())?;
     show_term(alloc, &mut text, schema, ask.term())?;
     show_group(&mut text, schema, ask.group())?;
@@ -189,6 +195,41 @@ fn show_term(
             put_if(text, held, b")")
         }
     }
+}
+
+/// The MIN and MAX columns of a clause.
+fn show_dimensions(text: &mut Vec<u8>, schema: &Schema, term: &Term) -> Result<(), AllocError>
+    requires { ReadsBelow (length schema.now) (preference_of term.now) }
+    ensures { OnOk result (text.new.items ≡ text.old.items ++ shown.shown_dims schema.now (preference_of term.now)) }
+{
+    match term {
+        Term::Low { col } => {
+            show_named(text, schema, b"", *col)?;
+            text.extend_from_slice(b" min")
+        }
+        Term::High { col } => {
+            show_named(text, schema, b"", *col)?;
+            text.extend_from_slice(b" max")
+        }
+        Term::Pareto(p, q) => {
+            show_dimensions(text, schema, p)?;
+            text.extend_from_slice(b", ")?;
+            show_dimensions(text, schema, q)
+        }
+        _ => Ok(()),
+    }
+}
+
+/// The DIFF columns of a clause, each behind a comma.
+fn show_differing(text: &mut Vec<u8>, schema: &Schema, columns: &[usize]) -> Result<(), AllocError>
+    requires { All (λ col. col < length schema.now) columns.now }
+    ensures { OnOk result (text.new.items ≡ text.old.items ++ shown.shown_diffs schema.now columns.now) }
+{
+    for col in columns {
+        show_named(text, schema, b", ", *col)?;
+        text.extend_from_slice(b" diff")?;
+    }
+    Ok(())
 }
 
 /// Whether the term is a prioritisation.

@@ -1,8 +1,9 @@
 //! Reading whole questions: what stands around a term, and skyline clauses.
-ghost use Rattle.std.specs.Prelude.{◌≡◌, ◌≤◌, ◌<◌, ◌+◌, ℕ, List, [], ◌∷◌, ◌++◌, length, IfOk, IfErr, OnOk, OnErr, true, false, Some, None};
+ghost use Rattle.std.specs.Prelude.{◌≡◌, ◌≤◌, ◌<◌, ◌+◌, ℕ, List, [], ◌∷◌, ◌++◌, length, IfOk, IfErr, OnOk, OnErr, true, false, Some, None, MatchOption};
 ghost use Rattle.std.specs.Option.{option_map};
 ghost use Rattle.pref_term.specs.Ahead.{ahead};
 ghost use Rattle.pref_term.specs.Token as tokens;
+ghost use Rattle.pref_term.specs.Distinct as distinct;
 ghost use Rattle.pref_term.specs.Grammar as grammar;
 ghost use Rattle.pref_term.specs.Led as led;
 ghost use Rattle.pref_term.specs.Reading as reading;
@@ -113,12 +114,18 @@ fn grouping<'a>(alloc: Global, schema: &Schema, cursor: Cursor<'a>) -> Result<Ve
 }
 
 /// The ask of these parts.
-fn ask_of(alloc: Global, term: Term, group: Vec<usize>, mode: Mode) -> Result<Ask, TermFault>
-    requires { IsAsk (record { preference = preference_of term; group = group.items; mode = mode; distinct = false }) }
-    ensures ok { IfOk result (λ a. a ≡ record { preference = preference_of term; group = group.items; mode = mode; distinct = false }) }
+fn ask_of(
+    alloc: Global,
+    term: Term,
+    group: Vec<usize>,
+    mode: Mode,
+    distinct: bool,
+) -> Result<Ask, TermFault>
+    requires { IsAsk (record { preference = preference_of term; group = group.items; mode = mode; distinct = distinct }) }
+    ensures ok { IfOk result (λ a. a ≡ record { preference = preference_of term; group = group.items; mode = mode; distinct = distinct }) }
     ensures err { IfErr result (λ f. f ≡ TermFault.OutOfMemory) }
 {
-    Ask::new(alloc, term, group, mode, false).map_err(|_| TermFault::OutOfMemory)
+    Ask::new(alloc, term, group, mode, distinct).map_err(|_| TermFault::OutOfMemory)
 }
 
 /// Takes what stands behind the words that say how many are wanted.
@@ -135,7 +142,7 @@ fn rated<'a>(
 {
     let (term, next) = prior(alloc, schema, 0, cursor)?;
     let group = grouping(alloc, schema, next)?;
-    ask_of(alloc, term, group, mode)
+    ask_of(alloc, term, group, mode, false)
 }
 
 /// Takes the word `of`.
@@ -273,7 +280,7 @@ fn skyline<'a>(alloc: Global, schema: &Schema, cursor: Cursor<'a>) -> Result<Ask
     let behind = of(cursor)?;
     let Clause { product, group } = dimensions(alloc, schema, behind)?;
     match product {
-        Some(term) => ask_of(alloc, term, group, Mode::Best),
+        Some(term) => ask_of(alloc, term, group, Mode::Best, false),
         None => Err(TermFault::NoMinOrMax),
     }
 }
@@ -294,8 +301,8 @@ fn cased_ask<'a>(alloc: Global, schema: &Schema, word: Word<'a>) -> Result<Ask, 
     skyline(alloc, schema, word.next)
 }
 
-/// Takes a whole question.
-pub(super) fn ask<'a>(alloc: Global, schema: &Schema, cursor: Cursor<'a>) -> Result<Ask, TermFault>
+/// Takes a whole question, in which no word `distinct` stands as itself.
+fn ask<'a>(alloc: Global, schema: &Schema, cursor: Cursor<'a>) -> Result<Ask, TermFault>
     ensures ok { IfOk result (λ a. led.Asks schema.now reading.start (ahead cursor.entry) a) }
     ensures known { IfOk result (λ a. FitsWidth (length schema.now) a) }
     ensures err { IfErr result (λ f. led.AsksNothing schema.now reading.start (ahead cursor.entry) f) }
@@ -315,5 +322,72 @@ pub(super) fn ask<'a>(alloc: Global, schema: &Schema, cursor: Cursor<'a>) -> Res
             rated(alloc, schema, Mode::AtLeast(k), behind)
         }
         _ => Err(TermFault::Unexpected { at: word.at as u64 }),
+    }
+}
+
+/// Whether a word `distinct` ahead is one of a skyline clause: the second token behind it is a word.
+fn is_distinct_ahead<'a>(cursor: Cursor<'a>) -> bool
+    ensures { result ≡ distinct.is_distinct_ahead (ahead cursor.entry) }
+{
+    let taken = cursor.take();
+    let Token::Word(letters) = taken.token else {
+        return false;
+    };
+    let second = taken.next.take();
+    if second.ends() {
+        return false;
+    }
+    let third = second.next.take();
+    letters.eq_ignore_ascii_case(b"distinct") && matches!(third.token, Token::Word(_))
+}
+
+/// Takes `skyline of distinct`, where the last is a word of the clause.
+fn distinct_clause<'a>(cursor: Cursor<'a>) -> Option<Cursor<'a>>
+    ensures { MatchOption result (distinct.says_distinct (ahead cursor.entry) ≡ false) (λ next. led.IsBehindDistinct (ahead cursor.entry) (ahead next)) }
+{
+    let first = cursor.take();
+    let Token::Word(skyline) = first.token else {
+        return None;
+    };
+    let second = first.next.take();
+    let Token::Word(of) = second.token else {
+        return None;
+    };
+    if skyline.eq_ignore_ascii_case(b"skyline")
+        && of.eq_ignore_ascii_case(b"of")
+        && is_distinct_ahead(second.next)
+    {
+        Some(second.next.take().next)
+    } else {
+        None
+    }
+}
+
+/// Takes the dimensions of a clause that keeps one of equal rows.
+fn distinct_ask<'a>(alloc: Global, schema: &Schema, cursor: Cursor<'a>) -> Result<Ask, TermFault>
+    ensures ok { IfOk result (λ a. led.AsksClause schema.now (ahead cursor.entry) a) }
+    ensures known { IfOk result (λ a. FitsWidth (length schema.now) a) }
+    ensures err { IfErr result (λ f. led.AsksClauseNothing schema.now (ahead cursor.entry) f) }
+{
+    let Clause { product, group } = dimensions(alloc, schema, cursor)?;
+    match product {
+        Some(term) => ask_of(alloc, term, group, Mode::Best, true),
+        None => Err(TermFault::NoMinOrMax),
+    }
+}
+
+/// Takes a whole question. Whether a word `distinct` behind `skyline of` is one of the clause or a column is chosen first.
+pub(super) fn question<'a>(
+    alloc: Global,
+    schema: &Schema,
+    cursor: Cursor<'a>,
+) -> Result<Ask, TermFault>
+    ensures ok { IfOk result (λ a. led.AsksWhole schema.now (ahead cursor.entry) a) }
+    ensures known { IfOk result (λ a. FitsWidth (length schema.now) a) }
+    ensures err { IfErr result (λ f. led.AsksWholeNothing schema.now (ahead cursor.entry) f) }
+{
+    match distinct_clause(cursor) {
+        Some(behind) => distinct_ask(alloc, schema, behind),
+        None => ask(alloc, schema, cursor),
     }
 }

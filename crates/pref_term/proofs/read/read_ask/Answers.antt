@@ -1,8 +1,7 @@
 use Rattle.std.proofs.Common.{◌≤◌, List, length, arith, subst}
 use Rattle.std.specs.Prelude.{IfOk, IfErr}
 use Rattle.pref_term.specs.Token.{Placed}
-use Rattle.pref_term.specs.Reading.{start}
-use Rattle.pref_term.specs.Led.{Asks, AsksNothing}
+use Rattle.pref_term.specs.Led.{AsksWhole, AsksWholeNothing}
 use Rattle.pref_term.proofs.AskedLemmas.{asked_long, read_exact, read_ok, read_err}
 use Rattle.pref_term.proofs.read.read_ask.Goals as goal
 
@@ -14,21 +13,21 @@ returns-clause-exact c =
     let names = c.args.schema.now in
     let text = c.args.text.now in
     let short : length text ≤ 4096 = omega arith in
-    read_exact names text c.ask.result short (subst (λ (ts : List Placed). IfOk c.ask.result (Asks names start ts)) c.new.ensures c.ask.ensures.ok)
-    (subst (λ (ts : List Placed). IfErr c.ask.result (AsksNothing names start ts)) c.new.ensures c.ask.ensures.err)
+    read_exact names text c.question.result short (subst (λ (ts : List Placed). IfOk c.question.result (AsksWhole names ts)) c.new.ensures c.question.ensures.ok)
+    (subst (λ (ts : List Placed). IfErr c.question.result (AsksWholeNothing names ts)) c.new.ensures c.question.ensures.err)
 
 pub returns-clause-ok : goal.returns-clause-ok
 returns-clause-ok c =
     let names = c.args.schema.now in
     let text = c.args.text.now in
     let short : length text ≤ 4096 = omega arith in
-    read_ok names text c.ask.result (read_exact names text c.ask.result short (subst (λ (ts : List Placed). IfOk c.ask.result (Asks names start ts)) c.new.ensures c.ask.ensures.ok)
-    (subst (λ (ts : List Placed). IfErr c.ask.result (AsksNothing names start ts)) c.new.ensures c.ask.ensures.err)) c.ask.ensures.known
+    read_ok names text c.question.result (read_exact names text c.question.result short (subst (λ (ts : List Placed). IfOk c.question.result (AsksWhole names ts)) c.new.ensures c.question.ensures.ok)
+    (subst (λ (ts : List Placed). IfErr c.question.result (AsksWholeNothing names ts)) c.new.ensures c.question.ensures.err)) c.question.ensures.known
 
 pub returns-clause-err : goal.returns-clause-err
 returns-clause-err c =
     let names = c.args.schema.now in
     let text = c.args.text.now in
     let short : length text ≤ 4096 = omega arith in
-    read_err names text c.ask.result (read_exact names text c.ask.result short (subst (λ (ts : List Placed). IfOk c.ask.result (Asks names start ts)) c.new.ensures c.ask.ensures.ok)
-    (subst (λ (ts : List Placed). IfErr c.ask.result (AsksNothing names start ts)) c.new.ensures c.ask.ensures.err))
+    read_err names text c.question.result (read_exact names text c.question.result short (subst (λ (ts : List Placed). IfOk c.question.result (AsksWhole names ts)) c.new.ensures c.question.ensures.ok)
+    (subst (λ (ts : List Placed). IfErr c.question.result (AsksWholeNothing names ts)) c.new.ensures c.question.ensures.err))

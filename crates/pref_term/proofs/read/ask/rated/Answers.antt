@@ -1,3 +1,5 @@
+use Rattle.std.proofs.lemmas.Bool.{false≢true}
+use Rattle.std.proofs.Common.{false}
 use Rattle.std.proofs.Common.{sym, subst, length, ◌≡◌}
 use Rattle.std.proofs.lemmas.Result.{IfOk-weaker}
 use Rattle.pref_term.specs.Ahead.{ahead}
@@ -29,7 +31,7 @@ pub ask_of-requires : goal.ask_of-requires
 ask_of-requires c =
     let v = c.in_ok-term in
     let g = c.in_ok-group in
-    is_ask c.args.schema.now (preference_of v.term) g.group.items c.args.mode v.ensures.ok.products.known g.ensures.ok.known c.requires
+    is_ask c.args.schema.now (preference_of v.term) g.group.items c.args.mode v.ensures.ok.products.known g.ensures.ok.known c.requires false (λ h. absurd (false≢true h))
 
 pub returns-clause-ok : goal.returns-clause-ok
 returns-clause-ok c =
@@ -46,5 +48,5 @@ returns-clause-known c =
     let g = c.in_ok-group in
     IfOk-weaker c.ask_of.result _ _
     (λ a is. subst (FitsWidth (length c.args.schema.now)) (sym is)
-    (fits_width c.args.schema.now (preference_of v.term) g.group.items c.args.mode v.ensures.ok.products.known g.ensures.ok.known))
+    (fits_width c.args.schema.now (preference_of v.term) g.group.items c.args.mode v.ensures.ok.products.known g.ensures.ok.known false))
     c.ask_of.ensures.ok

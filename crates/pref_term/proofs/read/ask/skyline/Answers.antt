@@ -1,3 +1,5 @@
+use Rattle.std.proofs.lemmas.Bool.{false≢true}
+use Rattle.std.proofs.Common.{false}
 use Rattle.std.proofs.Common.{List, ℕ, Option, sym, subst, length, arith}
 use Rattle.std.specs.Option.{option_map}
 use Rattle.std.proofs.lemmas.Result.{IfOk-weaker}
@@ -28,12 +30,12 @@ returns-in_err-product-clause-err c =
 pub ask_of-requires : goal.ask_of-requires
 ask_of-requires c =
     let r = subst (λ (o : Option Term). ReadsClause c.args.schema.now (ahead c.in_ok-behind.behind) (option_map preference_of o) c.in_ok-product.field-0.group.items) c.in-Some.is c.in_ok-product.ensures.ok in
-    is_ask c.args.schema.now (preference_of c.in-Some.term) c.in_ok-product.field-0.group.items Best r.product_known r.group_known (omega arith, omega arith)
+    is_ask c.args.schema.now (preference_of c.in-Some.term) c.in_ok-product.field-0.group.items Best r.product_known r.group_known (omega arith, omega arith) false (λ h. absurd (false≢true h))
 
 pub returns-in-Some-clause-known : goal.returns-in-Some-clause-known
 returns-in-Some-clause-known c =
     let r = subst (λ (o : Option Term). ReadsClause c.args.schema.now (ahead c.in_ok-behind.behind) (option_map preference_of o) c.in_ok-product.field-0.group.items) c.in-Some.is c.in_ok-product.ensures.ok in
     IfOk-weaker c.ask_of.result _ _
     (λ a is. subst (FitsWidth (length c.args.schema.now)) (sym is)
-    (fits_width c.args.schema.now (preference_of c.in-Some.term) c.in_ok-product.field-0.group.items Best r.product_known r.group_known))
+    (fits_width c.args.schema.now (preference_of c.in-Some.term) c.in_ok-product.field-0.group.items Best r.product_known r.group_known false))
     c.ask_of.ensures.ok

@@ -1,0 +1,130 @@
+-- What the word `distinct` of a clause leaves of a text, and what a clause behind it asks.
+use Rattle.std.proofs.Common.{◌≡◌, ℕ, List, [], ◌∷◌, ◌++◌, Bool, true, false, cond, Option, Some, None, Result, Ok, Err, refl, sym, ap, subst, ◌∙◌}
+use Rattle.std.specs.Prelude.{◌&&◌, ◌≢◌, fold, codes, IfErr}
+use Rattle.std.specs.List.{AllByRecursion}
+use Rattle.std.specs.Option.{option_map}
+use Rattle.std.specs.Str.{bytes_eq, str_to_ascii_lowercase}
+use Rattle.std.proofs.lemmas.Slice.Eq.{bytes_eq-Decides}
+use Rattle.pref_term.specs.Token.{Token, word, finish, Placed}
+use Rattle.pref_term.specs.Seen.{seen}
+use Rattle.pref_term.specs.Ahead.{behind_token}
+use Rattle.pref_term.specs.declared.front.Token as code
+use Rattle.pref_term.specs.declared.front.Token.TheVariants.{Word, Digits, Sign, Other, End}
+use Rattle.pref_term.specs.Grammar.{CasedWord, skyline_word, of_word, cased_letters, cased_of, cased, IsWritten, Direction, minimal, maximal, different, DimText}
+use Rattle.pref_term.specs.Distinct.{is_in_any_case, is_distinct_ahead, says_distinct, without_third, plain}
+use Rattle.pref_term.specs.Spells.{Names, UnlessMemory, column_at, order_by, orders_of, groups_of, product_of}
+use Rattle.pref_term.specs.Asked.{meant, ordered}
+use Rattle.pref_term.specs.Reading.{start, skyline_named, dim_due, begun, of_named, run}
+use Rattle.pref_term.specs.Led.{word_ahead, Asks, AsksNothing, AsksWhole, AsksWholeNothing, AsksClause, AsksClauseNothing, IsBehindDistinct, ReadsClause, FailsClause}
+use Rattle.pref_term.specs.Preference.{Preference, scored, pareto, prior, reverse}
+use Rattle.pref_term.specs.Question.{Question, IsClause, IsDimension}
+use Rattle.pref_term.specs.declared.ask.Mode.TheVariants.{Best}
+use Rattle.pref_term.specs.declared.fault.TermFault.{TermFault}
+use Rattle.pref_term.specs.declared.fault.TermFault.TheVariants.{NoMinOrMax}
+use Rattle.pref_term.proofs.Complete.{cased_found, no_keyword}
+use Rattle.pref_term.proofs.LedLemmas.{run_step, unless_map}
+use Rattle.pref_term.specs.OrderLaws.{and_made}
+
+spelled : (k : CasedWord) (letters : List ℕ) → bytes_eq (cased_letters k) (str_to_ascii_lowercase letters) ≡ true → IsWritten (cased k letters)
+spelled k letters h = (bytes_eq-Decides (cased_letters k) (str_to_ascii_lowercase letters)).0 h
+
+-- the two words lead to a column of the clause
+words_lead : (names : Names) (s o : List ℕ) (ps po : ℕ) (us : List Placed) → IsWritten (cased skyline_word s) → IsWritten (cased of_word o) → run names (word_ahead s ps (word_ahead o po us)) 0 start ≡ run names us po (dim_due s o [])
+words_lead names s o ps po us ws wo =
+    run_step names (word s) ps (word_ahead o po us) 0 start (cased skyline_word s) (skyline_named s) (ap (λ k. begun s k (cased_of s)) (no_keyword s ws) ∙ ap (begun s None) (cased_found skyline_word s ws)) refl
+    ∙ run_step names (word o) po us ps (skyline_named s) (cased of_word o) (dim_due s o []) (ap (of_named s o) (cased_found of_word o wo)) refl
+
+pub behind_distinct : (s o : List ℕ) (ps po : ℕ) (d : Placed) (us : List Placed) → bytes_eq (codes "skyline") (str_to_ascii_lowercase s) ≡ true → bytes_eq (codes "of") (str_to_ascii_lowercase o) ≡ true → is_distinct_ahead (d ∷ us) ≡ true
+    → IsBehindDistinct (word_ahead s ps (word_ahead o po (d ∷ us))) us
+behind_distinct s o ps po d us hs ho hd =
+    let ts = word_ahead s ps (word_ahead o po (d ∷ us)) in
+    let said : says_distinct ts ≡ true = and_made _ _ hs (and_made _ _ ho hd) in
+    record {
+      said = said;
+      skyline_is = s;
+      of_is = o;
+      place = po;
+      leads = λ names. ap (λ b. run names (cond b (word_ahead s ps (word_ahead o po us)) ts) 0 start) said ∙ words_lead names s o ps po us (spelled skyline_word s hs) (spelled of_word o ho);
+    }
+
+-- what is behind a token that is not the end
+pub behind_more : (k : code.Token) (ts : List Placed) → seen k ≢ finish → behind_token k ts ≡ ts
+behind_more End ts h = absurd (h refl)
+behind_more (Word letters) ts h = refl
+behind_more (Digits ds) ts h = refl
+behind_more (Sign s) ts h = refl
+behind_more Other ts h = refl
+
+-- the word is not the end
+pub behind_said : (k : code.Token) (at : ℕ) (ts : List Placed) → is_distinct_ahead (record { token = seen k; place = at } ∷ behind_token k ts) ≡ true → behind_token k ts ≡ ts
+behind_said End at ts h = cc
+behind_said (Word letters) at ts h = refl
+behind_said (Digits ds) at ts h = refl
+behind_said (Sign s) at ts h = refl
+behind_said Other at ts h = refl
+
+-- three tokens ahead
+pub ahead_distinct : (ts us vs ws : List Placed) (d w : List ℕ) (t : Token) (pd pt pw : ℕ) → ts ≡ word_ahead d pd us → us ≡ record { token = t; place = pt } ∷ vs → vs ≡ word_ahead w pw ws → bytes_eq (codes "distinct") (str_to_ascii_lowercase d) ≡ true → true ≡ is_distinct_ahead ts
+ahead_distinct ts us vs ws d w t pd pt pw e f g h =
+    sym (ap is_distinct_ahead (e ∙ ap (word_ahead d pd) (f ∙ ap (λ xs. record { token = t; place = pt } ∷ xs) g)) ∙ and_made (bytes_eq (codes "distinct") (str_to_ascii_lowercase d)) true h refl)
+
+-- ---- whole questions
+
+pub whole_clause : (names : Names) (ts us : List Placed) (q : Question) → IsBehindDistinct ts us → AsksClause names us q → AsksWhole names ts q
+whole_clause names ts us q b h = ap (λ d. meant names d (run names (plain ts) 0 start)) b.said ∙ (ap (meant names true) (b.leads names) ∙ h b.skyline_is b.of_is b.place)
+
+pub whole_clause_nothing : (names : Names) (ts us : List Placed) (f : TermFault) → IsBehindDistinct ts us → AsksClauseNothing names us f → AsksWholeNothing names ts f
+whole_clause_nothing names ts us f b h =
+    unless_map f (λ k. ap (λ d. meant names d (run names (plain ts) 0 start)) b.said ∙ (ap (meant names true) (b.leads names) ∙ k b.place)) (h b.skyline_is b.of_is)
+
+plain_same : (names : Names) (ts : List Placed) → says_distinct ts ≡ false → meant names (says_distinct ts) (run names (plain ts) 0 start) ≡ meant names false (run names ts 0 start)
+plain_same names ts e = ap (λ d. meant names d (run names (cond d (without_third ts) ts) 0 start)) e
+
+pub whole_plain : (names : Names) (ts : List Placed) (q : Question) → says_distinct ts ≡ false → Asks names start ts q → AsksWhole names ts q
+whole_plain names ts q e h = plain_same names ts e ∙ h 0
+
+pub whole_plain_nothing : (names : Names) (ts : List Placed) (f : TermFault) → says_distinct ts ≡ false → AsksNothing names start ts f → AsksWholeNothing names ts f
+whole_plain_nothing names ts f e h = unless_map f (λ k. plain_same names ts e ∙ k 0) h
+
+-- ---- a clause
+
+pub clause_asks : (names : Names) (ts : List Placed) (p : Preference) (group : List ℕ) → ReadsClause names ts (Some p) group → AsksClause names ts (record { preference = p; group = group; mode = Best; distinct = true })
+clause_asks names ts p group r s o k =
+    ap (meant names true) (r.goes s o k)
+    ∙ (ap (λ x. ordered (option_map (λ p. record { preference = p; group = groups_of names (r.first ∷ r.others); mode = Best; distinct = true }) x)) r.product_is
+    ∙ ap (λ g. Ok (record { preference = p; group = g; mode = Best; distinct = true })) r.group_is)
+
+pub clause_asks_nothing : (names : Names) (ts : List Placed) (group : List ℕ) → ReadsClause names ts None group → AsksClauseNothing names ts NoMinOrMax
+clause_asks_nothing names ts group r s o k =
+    ap (meant names true) (r.goes s o k)
+    ∙ ap (λ x. ordered (option_map (λ p. record { preference = p; group = groups_of names (r.first ∷ r.others); mode = Best; distinct = true }) x)) r.product_is
+
+pub clause_fails_too : (names : Names) (ts : List Placed) (f : TermFault) → FailsClause names ts f → AsksClauseNothing names ts f
+clause_fails_too names ts f h s o = unless_map f (λ k p. ap (meant names true) (k p)) (h s o)
+
+-- the product of MIN and MAX columns is that of a clause
+clause_on : (p : Preference) (ps : List Preference) → IsClause p → AllByRecursion IsDimension ps → IsClause (fold pareto p ps)
+clause_on p [] h k = h
+clause_on p (scored t ∷ ps) h k = clause_on (pareto p (scored t)) ps (h, k.0) k.1
+clause_on p (pareto r s ∷ ps) h k = absurd k.0
+clause_on p (prior r s ∷ ps) h k = absurd k.0
+clause_on p (reverse r ∷ ps) h k = absurd k.0
+
+orders_fine : (names : Names) (ds : List DimText) → AllByRecursion IsDimension (orders_of names ds)
+orders_fine names [] = tt
+orders_fine names (d ∷ ds) = go d.direction (orders_fine names ds)
+  where
+    go : (w : Direction) → AllByRecursion IsDimension (orders_of names ds) → AllByRecursion IsDimension (order_by w (column_at names d.column) ++ orders_of names ds)
+    go minimal h = (tt, h)
+    go maximal h = (tt, h)
+    go different h = h
+
+pub product_is_clause : (names : Names) (ds : List DimText) (p : Preference) → product_of (orders_of names ds) ≡ Some p → IsClause p
+product_is_clause names ds p e = go (orders_of names ds) (orders_fine names ds) e
+  where
+    go : (ps : List Preference) → AllByRecursion IsDimension ps → product_of ps ≡ Some p → IsClause p
+    go [] k e = cc
+    go (scored t ∷ ps) k e = let f : fold pareto (scored t) ps ≡ p = cc in subst IsClause f (clause_on (scored t) ps k.0 k.1)
+    go (pareto r s ∷ ps) k e = absurd k.0
+    go (prior r s ∷ ps) k e = absurd k.0
+    go (reverse r ∷ ps) k e = absurd k.0

@@ -1,0 +1,10 @@
+use Rattle.pref_term.specs.Ahead.{ahead}
+use Rattle.pref_term.specs.Led.{AsksClauseNothing, AsksWholeNothing}
+use Rattle.pref_term.proofs.LedLemmas.{if_err_map}
+use Rattle.pref_term.proofs.DistinctLemmas.{whole_clause_nothing}
+use Rattle.pref_term.proofs.read.ask.question.Goals as goal
+
+pub returns-in-Some-clause-err : goal.returns-in-Some-clause-err
+returns-in-Some-clause-err c =
+    if_err_map c.distinct_ask.result (AsksClauseNothing c.args.schema.now (ahead c.in-Some.behind)) (AsksWholeNothing c.args.schema.now (ahead c.args.cursor))
+    (λ f h. whole_clause_nothing c.args.schema.now (ahead c.args.cursor) (ahead c.in-Some.behind) f c.in-Some.ensures h) c.distinct_ask.ensures.err

@@ -1,0 +1,7 @@
+use Rattle.std.proofs.Common.{◌≡◌, ◌++◌, drop}
+use Rattle.pref_term.specs.Shown.{shown_diffs}
+use Rattle.pref_term.proofs.shown.show_differing.Given as goal
+
+-- the text so far, and the names that are left
+abbrev pub invariant-loop-col : goal.invariant-loop-col
+invariant-loop-col l = l.text.items ++ shown_diffs l.schema (drop l.col-index l.columns) ≡ l.fn.text.items ++ shown_diffs l.schema l.columns
