@@ -1,6 +1,6 @@
 -- What the word `distinct` of a clause leaves of a text, and what a clause behind it asks.
-use Rattle.std.proofs.Common.{◌≡◌, ℕ, List, [], ◌∷◌, ◌++◌, Bool, true, false, cond, Option, Some, None, Result, Ok, Err, refl, sym, ap, subst, ◌∙◌}
-use Rattle.std.specs.Prelude.{◌&&◌, ◌≢◌, fold, codes, IfErr}
+use Rattle.std.proofs.Common.{◌≡◌, ℕ, List, [], ◌∷◌, ◌++◌, true, false, cond, Some, None, Ok, refl, sym, ap, subst, ◌∙◌}
+use Rattle.std.specs.Prelude.{◌≢◌, fold, codes}
 use Rattle.std.specs.List.{AllByRecursion}
 use Rattle.std.specs.Option.{option_map}
 use Rattle.std.specs.Str.{bytes_eq, str_to_ascii_lowercase}
@@ -11,8 +11,8 @@ use Rattle.pref_term.specs.Ahead.{behind_token}
 use Rattle.pref_term.specs.declared.front.Token as code
 use Rattle.pref_term.specs.declared.front.Token.TheVariants.{Word, Digits, Sign, Other, End}
 use Rattle.pref_term.specs.Grammar.{CasedWord, skyline_word, of_word, cased_letters, cased_of, cased, IsWritten, Direction, minimal, maximal, different, DimText}
-use Rattle.pref_term.specs.Distinct.{is_in_any_case, is_distinct_ahead, says_distinct, without_third, plain}
-use Rattle.pref_term.specs.Spells.{Names, UnlessMemory, column_at, order_by, orders_of, groups_of, product_of}
+use Rattle.pref_term.specs.Distinct.{is_distinct_ahead, says_distinct, without_third, plain}
+use Rattle.pref_term.specs.Spells.{Names, column_at, order_by, orders_of, groups_of, product_of}
 use Rattle.pref_term.specs.Asked.{meant, ordered}
 use Rattle.pref_term.specs.Reading.{start, skyline_named, dim_due, begun, of_named, run}
 use Rattle.pref_term.specs.Led.{word_ahead, Asks, AsksNothing, AsksWhole, AsksWholeNothing, AsksClause, AsksClauseNothing, IsBehindDistinct, ReadsClause, FailsClause}

@@ -16,7 +16,7 @@ use Rattle.pref_term.proofs.TokenLemmas.{told_passed}
 use Rattle.pref_term.proofs.ShownLemmas.{leaf_text, leaves_text, sign_text, word_text, leaves_text-append}
 
 -- the tokens don't depend on where they stand
-place_free : (k p q : ℕ) (bs : List ℕ) → tokens_in (tokens_from k p bs) ≡ tokens_in (tokens_from k q bs)
+pub place_free : (k p q : ℕ) (bs : List ℕ) → tokens_in (tokens_from k p bs) ≡ tokens_in (tokens_from k q bs)
 place_free k p q [] = refl
 place_free (suc k) p q (b ∷ bs) = place_free k (p + 1) (q + 1) bs
 place_free zero p q (b ∷ bs) = go (is_blank b) (place_free 0 (p + 1) (q + 1) bs) (place_free (more_bytes b bs) (p + 1) (q + 1) bs)
@@ -72,7 +72,7 @@ run_lexed b bs rest t plain run e =
     ∙ (ap (λ u. u ∷ lexed (drop (more_bytes b (bs ++ rest)) (bs ++ rest))) e
     ∙ ap (λ xs. t ∷ lexed xs) (ap (λ n. drop n (bs ++ rest)) run ∙ drop-append_seam bs rest))
 
-word_lexed : (b : ℕ) (bs rest : List ℕ) → IsWordText (b ∷ bs) → Ends is_name_byte rest → lexed ((b ∷ bs) ++ rest) ≡ word (b ∷ bs) ∷ lexed rest
+pub word_lexed : (b : ℕ) (bs rest : List ℕ) → IsWordText (b ∷ bs) → Ends is_name_byte rest → lexed ((b ∷ bs) ++ rest) ≡ word (b ∷ bs) ∷ lexed rest
 word_lexed b bs rest h e =
     let run = ap (λ t. cond t (prefix_len is_name_byte (bs ++ rest)) (cond (is_ascii_digit b) (prefix_len is_ascii_digit (bs ++ rest)) 0)) h.0 ∙ run_length is_name_byte bs rest h.1 e in
     let xs = bs ++ rest in
@@ -91,7 +91,7 @@ digits_lexed b bs rest h f =
     ∙ (ap (λ n. digits (b ∷ take n xs)) run ∙ ap (λ ys. digits (b ∷ ys)) (take-append_seam bs rest))) in
     run_lexed b bs rest (digits (b ∷ bs)) (digit_plain b h.0) run e
 
-sign_lexed : (s : Sign) (rest : List ℕ) → lexed (sign_text s ++ rest) ≡ sign s ∷ lexed rest
+pub sign_lexed : (s : Sign) (rest : List ℕ) → lexed (sign_text s ++ rest) ≡ sign s ∷ lexed rest
 sign_lexed left rest = ap (λ ts. sign left ∷ ts) (place_free 0 1 0 rest)
 sign_lexed right rest = ap (λ ts. sign right ∷ ts) (place_free 0 1 0 rest)
 sign_lexed minus rest = ap (λ ts. sign minus ∷ ts) (place_free 0 1 0 rest)

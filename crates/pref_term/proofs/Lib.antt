@@ -15,3 +15,4 @@ pub mod ShownNames
 pub mod ShownLemmas
 pub mod Lexed
 pub mod ShowLaw
+pub mod ClauseLaw

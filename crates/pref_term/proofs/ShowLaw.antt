@@ -1,4 +1,4 @@
--- What is shown spells what was shown.
+-- What is shown of an ask that keeps all equal rows spells it.
 use Rattle.std.proofs.Common.{◌≡◌, ◌<◌, ◌≤◌, ◌^◌, ◌+◌, ℕ, ℤ, pos, negsuc, suc, List, [], ◌∷◌, ◌++◌, map, true, cond, Some, None, Ok, length, refl, sym, ap, ◌∙◌, append_assoc, arith, int_lt, false}
 use Rattle.std.specs.Prelude.{FitsSigned, decimal, is_none, ◌&&◌, codes}
 use Rattle.std.specs.List.{AllByRecursion}
@@ -16,14 +16,12 @@ use Rattle.pref_term.specs.OrderLaws.{and_parts}
 use Rattle.pref_term.specs.Columns.{column, ReadsBelow}
 use Rattle.pref_term.specs.Writable.{IsWritableBase, IsWritable}
 use Rattle.pref_term.specs.Question.{Question, FitsWidth, IsCount, is_count, cut_of, IsAsk}
-use Rattle.pref_term.specs.Asked.{asked}
 use Rattle.pref_term.specs.Spells.{Names, Spells, IsGood, own_fault, number_value, mode_of, column_at, unknown_column, number_range, bad_count, below, empty_range, tokens_in, tokens_on}
 use Rattle.pref_term.specs.Preference.{Base, low, high, around, one_of, Preference, scored, pareto, prior, reverse, between}
 use Rattle.pref_term.specs.Shown.{is_prior, is_composed, held_nests, nests, name_at, shown_term, shown_mode, shown_group, shown, shown_dims, shown_diffs}
 use Rattle.pref_term.specs.declared.ask.Mode.{Mode}
 use Rattle.pref_term.specs.declared.ask.Mode.TheVariants.{Best, TopLevel, AtLeast}
 use Rattle.pref_term.proofs.ShownNames.{IsWordText, IsNamed, is_named}
-use Rattle.pref_term.proofs.AskedLemmas.{spelled_asked}
 use Rattle.pref_term.proofs.ShownLemmas.{AreInRange, CanShowBase, CanShow, leaves_text, leaves_text-append, head_text, head_shown, group_shown, columns_same, number_text, base_text, Shape, factor, product, ranked, as_prior, as_product, as_factor, shape_of, shape_leaves, prior_same, number_same, meaning_same, prior_text, text_shown, own_numerals}
 use Rattle.pref_term.proofs.Exact.{good_both}
 use Rattle.pref_term.proofs.CycleLemmas.{depth_good}
@@ -86,7 +84,7 @@ shape_fine names (reverse p) h = fine_factor (shape_of names p) (shape_fine name
 
 -- ---- no leaf has a fault of its own
 
-column_fine : (names : Names) (col : ℕ) → IsNamed names col → own_fault names (column_name (name_at names col)) ≡ None
+pub column_fine : (names : Names) (col : ℕ) → IsNamed names col → own_fault names (column_name (name_at names col)) ≡ None
 column_fine names col h = ap (λ o. cond (is_none o) (Some unknown_column) None) h.1
 
 range_fine : (v : ℤ) → FitsSigned w64 v → fits_cell (number_value (number_text v)) ≡ true
@@ -236,13 +234,13 @@ module _ (names : Names) (each : (col : ℕ) → col < length names → IsNamed 
   can_show_base (one_of col []) w k = absurd (w.0 refl)
   can_show_base (one_of col (v ∷ vs)) w k = (each col k, recursion_from_All (FitsSigned w64) (v ∷ vs) w.1)
 
-  can_show : (p : Preference) → IsWritable p → ReadsBelow (length names) p → CanShow names p
+  pub can_show : (p : Preference) → IsWritable p → ReadsBelow (length names) p → CanShow names p
   can_show (scored b) w k = can_show_base b w k
   can_show (pareto p q) w k = (can_show p w.0 k.0, can_show q w.1 k.1)
   can_show (prior p q) w k = (can_show p w.0 k.0, can_show q w.1 k.1)
   can_show (reverse p) w k = can_show p w k
 
-  all_named : (cs : List ℕ) → AllByRecursion (λ col. col < length names) cs → AllByRecursion (IsNamed names) cs
+  pub all_named : (cs : List ℕ) → AllByRecursion (λ col. col < length names) cs → AllByRecursion (IsNamed names) cs
   all_named [] h = tt
   all_named (c ∷ cs) h = (each c h.0, all_named cs h.1)
 
@@ -286,8 +284,8 @@ tree_text names q h all =
     ∙ sym (shown_plain names q all))))
 
 -- where the shown text keeps the limits of length and nesting, it spells what was shown
-pub shown_spells : (names : Names) (q : Question) → schema_of names ≡ Ok names → IsAsk q → q.distinct ≡ false → FitsWidth (length names) q → nests q.preference ≤ 64 → length (shown names q) ≤ 4096 → Spells names (shown names q) q
-shown_spells names q schema ask all width deep short =
+pub plain_spells : (names : Names) (q : Question) → schema_of names ≡ Ok names → IsAsk q → q.distinct ≡ false → FitsWidth (length names) q → nests q.preference ≤ 64 → length (shown names q) ≤ 4096 → Spells names (shown names q) q
+plain_spells names q schema ask all width deep short =
     let each = is_named names schema in
     let can = can_show names each q.preference ask.writable width.preference in
     let columns = all_named names each q.group (recursion_from_All (λ col. col < length names) q.group width.group) in
@@ -313,7 +311,3 @@ shown_spells names q schema ask all width deep short =
           ∙ (ap (λ m. Some (record { preference = q.preference; group = q.group; mode = m; distinct = false })) (head_same q.mode ask.count)
           ∙ ap (λ d. Some (record { preference = q.preference; group = q.group; mode = q.mode; distinct = d })) (sym all)));
     }
-
--- so it is the ask that the text asks
-pub shown_asked : (names : Names) (q : Question) → schema_of names ≡ Ok names → IsAsk q → q.distinct ≡ false → FitsWidth (length names) q → nests q.preference ≤ 64 → length (shown names q) ≤ 4096 → asked names (shown names q) ≡ Ok q
-shown_asked names q schema ask all width deep short = spelled_asked names (shown names q) q (shown_spells names q schema ask all width deep short)

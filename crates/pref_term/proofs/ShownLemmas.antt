@@ -148,7 +148,7 @@ pub number_same : (v : ℤ) → FitsSigned w64 v → number_value (number_text v
 number_same (pos n) h = let small : n < 2 ^ 64 = omega (arith, h.sfits) in ap pos (digits_value-decimal own_numerals n small)
 number_same (negsuc n) h = let small : suc n < 2 ^ 64 = omega (arith, h.sfits) in ap (λ m. neg_ℤ (pos m)) (digits_value-decimal own_numerals (suc n) small)
 
-column_same : (names : Names) (col : ℕ) → IsNamed names col → column_at names (name_at names col) ≡ col
+pub column_same : (names : Names) (col : ℕ) → IsNamed names col → column_at names (name_at names col) ≡ col
 column_same names col h = ap (λ o. unwrap_or o 0) h.1
 
 numbers_same : (vs : List ℤ) → AreInRange vs → map number_value (map number_text vs) ≡ vs

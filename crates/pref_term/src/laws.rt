@@ -27,9 +27,9 @@ pub fn one_reading()
 /// What is shown of an ask over the columns of a schema spells that ask, where it keeps the limits of a question's length
 /// and nesting: so reading what was shown gives the ask again.
 pub fn shown_is_read_again()
-    ensures spelled { (names : Names) (q : Question) → schema_of names ≡ Ok names → IsAsk q → q.distinct ≡ false → FitsWidth (length names) q →
+    ensures spelled { (names : Names) (q : Question) → schema_of names ≡ Ok names → IsAsk q → FitsWidth (length names) q →
         nests q.preference ≤ 64 → length (shown names q) ≤ 4096 → Spells names (shown names q) q }
-    ensures asked { (names : Names) (q : Question) → schema_of names ≡ Ok names → IsAsk q → q.distinct ≡ false → FitsWidth (length names) q →
+    ensures asked { (names : Names) (q : Question) → schema_of names ≡ Ok names → IsAsk q → FitsWidth (length names) q →
         nests q.preference ≤ 64 → length (shown names q) ≤ 4096 → asked names (shown names q) ≡ Ok q }
 {}
 

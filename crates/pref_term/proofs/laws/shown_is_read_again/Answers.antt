@@ -1,4 +1,4 @@
-use Rattle.pref_term.proofs.ShowLaw.{shown_spells, shown_asked}
+use Rattle.pref_term.proofs.ClauseLaw.{shown_spells, shown_asked}
 use Rattle.pref_term.proofs.laws.shown_is_read_again.Goals as goal
 
 pub returns : goal.returns

@@ -1,4 +1,4 @@
-use Rattle.std.proofs.Common.{List, ℕ, Option, None, true, refl, sym, subst, length, arith, ◌∷◌}
+use Rattle.std.proofs.Common.{Option, true, refl, sym, subst, length, arith, ◌∷◌}
 use Rattle.std.specs.Option.{option_map}
 use Rattle.std.proofs.lemmas.Result.{IfOk-weaker}
 use Rattle.pref_term.specs.Ahead.{ahead}
