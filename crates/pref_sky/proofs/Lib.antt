@@ -14,6 +14,7 @@ pub mod LevelsBehind
 pub mod LevelByLevel
 pub mod EarlyDrop
 pub mod Selections
+pub mod TwinsAmongBest
 pub mod LevelLaws
 pub mod Worked
 pub mod Sifting

@@ -3,12 +3,14 @@
 ghost use Rattle.std.specs.Prelude.{◌≡◌, ◌<◌, ◌++◌, [], ℕ, Bool, List, map};
 ghost use Rattle.std.specs.List.{flat_map};
 ghost use Rattle.pref_sky.specs.Answers.{answer_of, at_least, count_upto};
-ghost use Rattle.pref_sky.specs.Levels.{HaveDifferentIds, entry_of, held_after, levels};
+ghost use Rattle.pref_sky.specs.Best.{best};
+ghost use Rattle.pref_sky.specs.Levels.{HaveDifferentIds, entry_of, entry_order, held_after, levels};
 ghost use Rattle.pref_sky.specs.Members.{Among, SameMembers};
+ghost use Rattle.pref_sky.specs.Twins.{IsFirstOfTwins};
 ghost use Rattle.pref_sky.specs.declared.entry.Entry.{Entry};
 ghost use Rattle.pref_sky.specs.declared.entry.Ranked.{Ranked};
 ghost use Rattle.pref_table.specs.declared.row.Row.{Row};
-ghost use Rattle.pref_term.specs.Order.{IsStrictOrder};
+ghost use Rattle.pref_term.specs.Order.{IsStrictOrder, RowOrder};
 ghost use Rattle.pref_term.specs.Question.{Question};
 
 /// The merge law: whatever the pieces into which a list is cut, after the last one a partial result
@@ -34,6 +36,15 @@ pub fn held_ids_differ()
     ensures { (over : Entry → Entry → Bool) (before new : List Entry) (cut : ℕ)
         → HaveDifferentIds (before ++ new)
         → HaveDifferentIds (map entry_of (levels over before cut) ++ new) }
+{}
+
+/// The best of a list are, of its entries, those that no entry is over and of which none with a smaller
+/// id is a twin.
+pub fn best_keeps_the_first_of_twins()
+    ensures first { (order : RowOrder) (all : List Entry) (e : Entry)
+        → Among e (best (entry_order order) all) → IsFirstOfTwins order all e }
+    ensures kept { (order : RowOrder) (all : List Entry) (e : Entry)
+        → Among e all → IsFirstOfTwins order all e → Among e (best (entry_order order) all) }
 {}
 
 /// "At least k" gives in each group the levels 1 to m, where m is the least number whose levels 1 to m

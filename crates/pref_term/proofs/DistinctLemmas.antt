@@ -1,18 +1,18 @@
 -- What the word `distinct` of a clause leaves of a text, and what a clause behind it asks.
-use Rattle.std.proofs.Common.{◌≡◌, ℕ, List, [], ◌∷◌, ◌++◌, true, false, cond, Some, None, Ok, refl, sym, ap, subst, ◌∙◌}
-use Rattle.std.specs.Prelude.{◌≢◌, fold, codes}
+use Rattle.std.proofs.Common.{◌≡◌, ℕ, List, [], ◌∷◌, ◌++◌, true, false, cond, Some, None, Ok, refl, sym, ap, subst, ◌∙◌, ◌≤◌, length}
+use Rattle.std.specs.Prelude.{◌&&◌, ◌≢◌, fold, codes}
 use Rattle.std.specs.List.{AllByRecursion}
 use Rattle.std.specs.Option.{option_map}
 use Rattle.std.specs.Str.{bytes_eq, str_to_ascii_lowercase}
 use Rattle.std.proofs.lemmas.Slice.Eq.{bytes_eq-Decides}
-use Rattle.pref_term.specs.Token.{Token, word, finish, Placed}
+use Rattle.pref_term.specs.Token.{Token, word, finish, Placed, tokens_of}
 use Rattle.pref_term.specs.Seen.{seen}
 use Rattle.pref_term.specs.Ahead.{behind_token}
 use Rattle.pref_term.specs.declared.front.Token as code
 use Rattle.pref_term.specs.declared.front.Token.TheVariants.{Word, Digits, Sign, Other, End}
-use Rattle.pref_term.specs.Grammar.{CasedWord, skyline_word, of_word, cased_letters, cased_of, cased, IsWritten, Direction, minimal, maximal, different, DimText}
-use Rattle.pref_term.specs.Distinct.{is_distinct_ahead, says_distinct, without_third, plain}
-use Rattle.pref_term.specs.Spells.{Names, column_at, order_by, orders_of, groups_of, product_of}
+use Rattle.pref_term.specs.Grammar.{CasedWord, skyline_word, of_word, cased_letters, cased_of, cased, IsWritten, Direction, minimal, maximal, different, DimText, HeadText, PriorText, AskText, rated, skyline, best_head, top_level_head, at_least_head, ask_leaves, IsText}
+use Rattle.pref_term.specs.Distinct.{is_in_any_case, is_distinct_ahead, says_distinct, without_third, plain, is_word}
+use Rattle.pref_term.specs.Spells.{Names, column_at, order_by, orders_of, groups_of, product_of, tokens_in, tokens_on, IsGood, Spells, question}
 use Rattle.pref_term.specs.Asked.{meant, ordered}
 use Rattle.pref_term.specs.Reading.{start, skyline_named, dim_due, begun, of_named, run}
 use Rattle.pref_term.specs.Led.{word_ahead, Asks, AsksNothing, AsksWhole, AsksWholeNothing, AsksClause, AsksClauseNothing, IsBehindDistinct, ReadsClause, FailsClause}
@@ -24,6 +24,7 @@ use Rattle.pref_term.specs.declared.fault.TermFault.TheVariants.{NoMinOrMax}
 use Rattle.pref_term.proofs.Complete.{cased_found, no_keyword}
 use Rattle.pref_term.proofs.LedLemmas.{run_step, unless_map}
 use Rattle.pref_term.specs.OrderLaws.{and_made}
+use Rattle.std.proofs.lemmas.Bool.{and_right}
 
 spelled : (k : CasedWord) (letters : List ℕ) → bytes_eq (cased_letters k) (str_to_ascii_lowercase letters) ≡ true → IsWritten (cased k letters)
 spelled k letters h = (bytes_eq-Decides (cased_letters k) (str_to_ascii_lowercase letters)).0 h
@@ -128,3 +129,54 @@ product_is_clause names ds p e = go (orders_of names ds) (orders_fine names ds) 
     go (pareto r s ∷ ps) k e = absurd k.0
     go (prior r s ∷ ps) k e = absurd k.0
     go (reverse r ∷ ps) k e = absurd k.0
+
+-- ---- texts without the word
+
+-- a text that begins with another word than `skyline` does not say `distinct`
+not_said : (ts : List Placed) (letters : List ℕ) (rest : List Token) → tokens_in ts ≡ word letters ∷ rest → bytes_eq (codes "skyline") (str_to_ascii_lowercase letters) ≡ false → says_distinct ts ≡ false
+not_said [] letters rest e h = refl
+not_said (t ∷ []) letters rest e h = refl
+not_said (t ∷ u ∷ us) letters rest e h =
+    let same : t.token ≡ word letters = cc in
+    ap (λ x. is_in_any_case (codes "skyline") x && (is_in_any_case (codes "of") u.token && is_distinct_ahead us)) same
+    ∙ ap (λ b. b && (is_in_any_case (codes "of") u.token && is_distinct_ahead us)) h
+
+pub head_said : (head : HeadText) (r : PriorText) (group : List (List ℕ)) (ts : List Placed) → tokens_in ts ≡ tokens_on (ask_leaves (rated head r group)) → says_distinct ts ≡ false
+head_said best_head r group ts e = not_said ts _ _ e refl
+head_said (top_level_head count) r group ts e = not_said ts _ _ e refl
+head_said (at_least_head count) r group ts e = not_said ts _ _ e refl
+
+pub plain_tokens : (ts : List Placed) (tokens : List Token) → tokens_in ts ≡ tokens → says_distinct ts ≡ false → tokens_in (plain ts) ≡ tokens
+plain_tokens ts tokens e f = ap (λ b. tokens_in (cond b (without_third ts) ts)) f ∙ e
+
+-- nor does a text whose fifth token is no word
+fifth_said : (ts : List Placed) (a b c d e : Token) (rest : List Token) → tokens_in ts ≡ a ∷ b ∷ c ∷ d ∷ e ∷ rest → is_word e ≡ false → says_distinct ts ≡ false
+fifth_said [] a b c d e rest h ends = refl
+fifth_said (s ∷ []) a b c d e rest h ends = refl
+fifth_said (s ∷ o ∷ []) a b c d e rest h ends = cc
+fifth_said (s ∷ o ∷ t ∷ []) a b c d e rest h ends = cc
+fifth_said (s ∷ o ∷ t ∷ u ∷ []) a b c d e rest h ends = cc
+fifth_said (s ∷ o ∷ t ∷ u ∷ v ∷ ts) a b c d e rest h ends =
+    let same : v.token ≡ e = cc in
+    and_right (is_in_any_case (codes "skyline") s.token) _
+    (and_right (is_in_any_case (codes "of") o.token) _
+    (and_right (is_in_any_case (codes "distinct") t.token) (is_word v.token) (ap is_word same ∙ ends)))
+
+-- so a text of the grammar does not
+tree_said : (tree : AskText) (ts : List Placed) → tokens_in ts ≡ tokens_on (ask_leaves tree) → says_distinct ts ≡ false
+tree_said (rated head r group) ts e = head_said head r group ts e
+tree_said (skyline s o first []) ts e = fifth_said ts _ _ _ _ _ _ e refl
+tree_said (skyline s o first (d ∷ ds)) ts e = fifth_said ts _ _ _ _ _ _ e refl
+
+-- and it spells what its tree asks
+pub tree_spells : (names : Names) (text : List ℕ) (tree : AskText) (q : Question) → IsText tree → length text ≤ 4096 → tokens_in (tokens_of text) ≡ tokens_on (ask_leaves tree) → AllByRecursion (IsGood names) (ask_leaves tree) → question names false tree ≡ Some q → Spells names text q
+tree_spells names text tree q written short tokens good meaning =
+    let said = tree_said tree (tokens_of text) tokens in
+    record {
+      tree = tree;
+      written = written;
+      short = short;
+      tokens = plain_tokens (tokens_of text) (tokens_on (ask_leaves tree)) tokens said;
+      good = good;
+      meaning = ap (λ d. question names d tree) said ∙ meaning;
+    }

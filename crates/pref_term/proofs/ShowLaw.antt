@@ -25,8 +25,7 @@ use Rattle.pref_term.proofs.ShownNames.{IsWordText, IsNamed, is_named}
 use Rattle.pref_term.proofs.ShownLemmas.{AreInRange, CanShowBase, CanShow, leaves_text, leaves_text-append, head_text, head_shown, group_shown, columns_same, number_text, base_text, Shape, factor, product, ranked, as_prior, as_product, as_factor, shape_of, shape_leaves, prior_same, number_same, meaning_same, prior_text, text_shown, own_numerals}
 use Rattle.pref_term.proofs.Exact.{good_both}
 use Rattle.pref_term.proofs.CycleLemmas.{depth_good}
-use Rattle.pref_term.specs.Distinct.{is_in_any_case, is_distinct_ahead, says_distinct, without_third, plain}
-use Rattle.std.specs.Str.{bytes_eq, str_to_ascii_lowercase}
+use Rattle.pref_term.proofs.DistinctLemmas.{head_said, plain_tokens}
 use Rattle.pref_term.proofs.Lexed.{lexed, IsDigitsText, FineHead, FineNumbers, FineBase, FinePrior, FineProduct, FineUnary, said, rated_lexed, rated_written}
 
 digits_text : (ds : List ℕ) → all_ascii_digits ds ≡ true → 0 < length ds → IsDigitsText ds
@@ -251,23 +250,6 @@ shown_tree names q = rated (head_text q.mode) (as_prior (shape_of names q.prefer
 -- where all equal rows are kept, a question is shown as a term
 shown_plain : (names : Names) (q : Question) → q.distinct ≡ false → shown names q ≡ shown_mode q.mode ++ shown_term names q.preference ++ shown_group names q.group
 shown_plain names q all = ap (λ b. cond b (codes "skyline of distinct " ++ (shown_dims names q.preference ++ shown_diffs names q.group)) (shown_mode q.mode ++ shown_term names q.preference ++ shown_group names q.group)) all
-
--- a text that begins with another word than `skyline` does not say `distinct`
-not_said : (ts : List Placed) (letters : List ℕ) (rest : List Token) → tokens_in ts ≡ word letters ∷ rest → bytes_eq (codes "skyline") (str_to_ascii_lowercase letters) ≡ false → says_distinct ts ≡ false
-not_said [] letters rest e h = refl
-not_said (t ∷ []) letters rest e h = refl
-not_said (t ∷ u ∷ us) letters rest e h =
-    let same : t.token ≡ word letters = cc in
-    ap (λ x. is_in_any_case (codes "skyline") x && (is_in_any_case (codes "of") u.token && is_distinct_ahead us)) same
-    ∙ ap (λ b. b && (is_in_any_case (codes "of") u.token && is_distinct_ahead us)) h
-
-head_said : (head : HeadText) (r : PriorText) (group : List (List ℕ)) (ts : List Placed) → tokens_in ts ≡ tokens_on (ask_leaves (rated head r group)) → says_distinct ts ≡ false
-head_said best_head r group ts e = not_said ts _ _ e refl
-head_said (top_level_head count) r group ts e = not_said ts _ _ e refl
-head_said (at_least_head count) r group ts e = not_said ts _ _ e refl
-
-plain_tokens : (ts : List Placed) (tokens : List Token) → tokens_in ts ≡ tokens → says_distinct ts ≡ false → tokens_in (plain ts) ≡ tokens
-plain_tokens ts tokens e f = ap (λ b. tokens_in (cond b (without_third ts) ts)) f ∙ e
 
 tree_text : (names : Names) (q : Question) → CanShow names q.preference → q.distinct ≡ false → leaves_text (said (head_text q.mode) (as_prior (shape_of names q.preference)) (map (name_at names) q.group)) ≡ shown names q
 tree_text names q h all =

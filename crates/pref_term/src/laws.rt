@@ -1,11 +1,14 @@
 //! Laws of question texts, and of equality.
 ghost use Rattle.std.specs.Prelude.{◌≡◌, ◌≤◌, ℕ, List, [], ◌∷◌, length, true, false, MatchResult, Ok, Err, codes};
 ghost use Rattle.std.specs.Bool.{Decides};
+ghost use Rattle.std.specs.List.{AllByRecursion};
 ghost use Rattle.pref_table.specs.Names.{schema_of};
 ghost use Rattle.pref_term.specs.Equal.{preference_eq, question_eq};
 ghost use Rattle.pref_term.specs.Question.{Question, IsAsk, FitsWidth};
 ghost use Rattle.pref_term.specs.Shown.{shown, nests, IsShownAs, worked_names};
-ghost use Rattle.pref_term.specs.Spells.{Names, Spells, Faults};
+ghost use Rattle.pref_term.specs.Grammar.{AskText, IsText, ask_leaves};
+ghost use Rattle.pref_term.specs.Spells.{Names, Spells, Faults, IsGood, question, tokens_in, tokens_on};
+ghost use Rattle.pref_term.specs.Token.{tokens_of};
 ghost use Rattle.pref_term.specs.Asked.{asked};
 ghost use Rattle.pref_term.specs.Preference.{Preference, scored, low};
 ghost use Rattle.pref_term.specs.declared.fault.TermFault.{TermFault};
@@ -39,6 +42,14 @@ pub fn equal_where_the_same_is_seen()
     ensures asks { (p q : Question) → Decides (question_eq p q) (p ≡ q) }
 {}
 
+/// A text whose tokens are those of a tree of the grammar, the word `distinct` not counted out, asks what the tree does
+/// with all equal rows kept: the word takes no such text away.
+pub fn a_text_of_the_grammar_keeps_its_meaning()
+    ensures { (names : Names) (text : List ℕ) (tree : AskText) (q : Question) → IsText tree → length text ≤ 4096
+        → tokens_in (tokens_of text) ≡ tokens_on (ask_leaves tree) → AllByRecursion (IsGood names) (ask_leaves tree)
+        → question names false tree ≡ Some q → Spells names text q }
+{}
+
 /// Texts and what they ask: the answer of a closed text is computed.
 pub fn worked_texts()
     ensures best { asked (codes "x" ∷ []) (codes "best low(x)") ≡ Ok (record { preference = scored (low 0); group = []; mode = best; distinct = false }) }
@@ -60,5 +71,6 @@ pub fn worked_showings()
     ensures reversed { IsShownAs worked_names (codes "best reverse(low(x) & pos(y,-1,2))") (codes "best -(low(x) & pos(y, -1, 2))") }
     ensures factor { IsShownAs worked_names (codes "best low(x)*-high(y)") (codes "best low(x) * -high(y)") }
     ensures skyline { IsShownAs worked_names (codes "SKYLINE OF x Min, g DIFF, y max") (codes "best low(x) * high(y) by g") }
+    ensures distinct { IsShownAs worked_names (codes "skyline of DISTINCT y max, g Diff, x MIN") (codes "skyline of distinct y max, x min, g diff") }
     ensures counted { IsShownAs worked_names (codes "at_least 007 around( x , - 3 ) by g,h") (codes "at_least 7 around(x, -3) by g, h") }
 {}

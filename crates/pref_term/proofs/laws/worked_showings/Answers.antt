@@ -18,4 +18,4 @@ counted_shown =
 
 pub returns : goal.returns
 unfolding asked
-returns c = record { tighter = refl; grouped = refl; bare = refl; reversed = reversed_shown; factor = refl; skyline = refl; counted = counted_shown }
+returns c = record { tighter = refl; grouped = refl; bare = refl; reversed = reversed_shown; factor = refl; skyline = refl; distinct = refl; counted = counted_shown }
