@@ -1,4 +1,5 @@
 //! Questions that are read, refused and asked, by their texts.
+mod distinct;
 mod products;
 mod ranges;
 mod refusals;
@@ -79,10 +80,7 @@ fn refused_at_their_token(rt: HostRuntime) {
         ("best low(z) +", TermFault::UnknownColumn { at: 9 }),
         ("Best low(x)", TermFault::Unexpected { at: 0 }),
         ("best pos(x)", TermFault::Unexpected { at: 10 }),
-        (
-            "skyline of distinct x min",
-            TermFault::UnknownColumn { at: 11 },
-        ),
+        ("skyline of z min", TermFault::UnknownColumn { at: 11 }),
     ];
     for (text, wanted) in cases {
         let found = fault(rt.alloc(), text.as_bytes());
@@ -101,6 +99,7 @@ fn accepted(rt: HostRuntime) {
         "top_level 2low(x)",
         "at_least 0007 pos(x, 2, 2) by x, x",
         "SKYLINE OF x Min",
+        "skyline of DISTINCT x Min",
     ];
     for text in cases {
         assert_same(&rt, text, &fault(rt.alloc(), text.as_bytes()), &None);

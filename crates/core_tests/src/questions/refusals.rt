@@ -49,6 +49,19 @@ fn a_refused_reading_of_a_product_is_told_and_made_again(rt: HostRuntime) -> Res
 }
 
 #[test]
+fn a_refused_reading_of_a_distinct_clause_is_told_and_made_again(
+    rt: HostRuntime,
+) -> Result<(), Fail> {
+    let alloc = rt.alloc();
+    let schema = columns(alloc)?;
+    let question = b"skyline of distinct x min, g diff, y max";
+    let ask = read_in_the_end(&rt, alloc, &schema, question);
+    assert_same(&rt, "distinct", &ask.distinct(), &true);
+    assert_same_list(&rt, "group", ask.group(), [2].as_slice());
+    Ok(())
+}
+
+#[test]
 fn a_refused_showing_is_told_and_made_again(rt: HostRuntime) -> Result<(), Fail> {
     let alloc = rt.alloc();
     let schema = columns(alloc)?;

@@ -81,3 +81,16 @@ fn cheapest_of_each_city(rt: HostRuntime) -> Result<(), Fail> {
     check_answer(&rt, alloc, b"best low(x) by y", &rows, &places)?;
     check_answer(&rt, alloc, b"skyline of x MIN, y diff", &rows, &places)
 }
+
+#[test]
+fn one_of_the_rows_that_are_equal_in_a_clause(rt: HostRuntime) -> Result<(), Fail> {
+    let alloc = rt.alloc();
+    let rows = [(10, 1), (20, 1), (10, 1), (30, 2), (30, 2), (10, 1)];
+    let places = [(1, 1), (1, 4)];
+    let text = b"skyline of distinct x min, y diff";
+    check_answer(&rt, alloc, text, &rows, &places)?;
+    let rows = [(3, 3), (3, 3), (2, 4), (4, 2), (2, 4), (3, 3), (5, 5)];
+    let places = [(1, 1), (1, 3), (1, 4)];
+    let text = b"skyline of distinct x min, y min";
+    check_answer(&rt, alloc, text, &rows, &places)
+}

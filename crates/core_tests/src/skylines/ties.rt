@@ -101,3 +101,23 @@ fn an_offer_by_another_order(rt: HostRuntime) -> Result<(), Fail> {
     }
     Ok(())
 }
+
+/// Ten times each of a hundred rows, of which all are in the front: by any window one of each is best.
+#[test]
+fn one_of_many_equal_rows_by_any_window(rt: HostRuntime) -> Result<(), Fail> {
+    let alloc = rt.alloc();
+    let ask = ask_of(alloc, b"skyline of distinct x min, y max")?;
+    let mut rows = Vec::with_capacity(alloc, 1000)?;
+    for i in 0..1000_i64 {
+        let n = 7 * i % 100;
+        rows.push((n, n))?;
+    }
+    let entries = numbered(alloc, &rows)?;
+    let plain = ids_of(alloc, &best_rows_by_pairs(alloc, &ask, &entries)?)?;
+    assert_same(&rt, "one of each", &plain.len(), &100);
+    for window in [1, 2, 64, 1000] {
+        let found = ids_of(alloc, &best_rows(alloc, &ask, window, &entries)?)?;
+        assert_same_list(&rt, ("window", window), found.as_slice(), plain.as_slice());
+    }
+    Ok(())
+}
