@@ -13,11 +13,13 @@ best_is_first order all e m other there =
     let over = entry_order order in
     let w = from_filter (λ x. not (is_beaten over all x)) all e m in
     let none : over other e ≡ false = false_from_ne_true (over other e) (λ h. both_ways (is_beaten over all e) (not-true (is_beaten over all e) w.1) (any_from (λ o. over o e) all other there h)) in
-    let parts = or_parts (order.over other.row e.row) (order.twin other.row e.row && ltb other.id e.id) none in
-    (parts.0, λ twin. elim (cases_lt other.id e.id) [
-      | inl less ↦ absurd (both_ways (order.twin other.row e.row && ltb other.id e.id) parts.1 (and_from (order.twin other.row e.row) (ltb other.id e.id) twin (lt-ltb other.id e.id less)))
-      | inr least ↦ least
-    ])
+    let parts = or_parts (order.over other.row e.row) (order.twin other.row e.row && ltb other.id e.id) none in (
+      parts.0,
+      λ twin. elim (cases_lt other.id e.id) [
+        | inl less ↦ absurd (both_ways (order.twin other.row e.row && ltb other.id e.id) parts.1 (and_from (order.twin other.row e.row) (ltb other.id e.id) twin (lt-ltb other.id e.id less)))
+        | inr least ↦ least
+      ],
+    )
 
 pub first_is_best : (order : RowOrder) (all : List Entry) (e : Entry) → Among e all → IsFirstOfTwins order all e → Among e (best (entry_order order) all)
 first_is_best order all e m first =

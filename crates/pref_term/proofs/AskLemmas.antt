@@ -11,7 +11,7 @@ use Rattle.pref_term.specs.Grammar.{Keyword, best_word, top_level_word, at_least
 use Rattle.pref_term.specs.Spells.{Names, own_fault, column_at, mode_of, order_by, group_by, orders_of, groups_of, product_of, bad_count}
 use Rattle.pref_term.specs.Reading.{State, start, operand, whole, in_whole, ranked, top_level_named, at_least_named, group_due, skyline_named, dim_due, dim_named, done, listed_column, listed_dim, directed, begun, of_named, grouped_by, next}
 use Rattle.pref_term.specs.Asked.{meant}
-use Rattle.pref_term.specs.Led.{Goes, Fails, Passes, IsNoWord, IsKnown, IsTermOf, IsColumn, WantsColumn, TakesColumn, FailsColumn, ReadsPrior, FailsPrior, Asks, AsksNothing, IsNoDigits, WantsCount, TakesCount, FailsCount, left_over, ReadsGroupColumn, FailsGroupColumn, ReadsColumns, FailsColumns, ReadsGrouping, FailsGrouping, TakesDirection, FailsDirection, behind_dim, ReadsDim, FailsDim, with_order, ReadsDims, ReadsClause, FailsClause, PassesOf, FailsOf}
+use Rattle.pref_term.specs.Led.{Goes, Fails, Passes, IsNoWord, IsKnown, IsTermOf, IsColumn, WantsColumn, TakesColumn, FailsColumn, ReadsPrior, FailsPrior, Asks, AsksNothing, IsNoDigits, WantsCount, TakesCount, FailsCount, left_over, ReadsGroupColumn, FailsGroupColumn, ReadsColumns, FailsColumns, ReadsGrouping, FailsGrouping, TakesDirection, FailsDirection, behind_dim, ReadsDim, FailsDim, with_order, ReadsDims, ReadsClause, FailsClause, PassesOf, FailsOf, AsksClause, AsksClauseNothing}
 use Rattle.pref_term.specs.Preference.{Preference, scored, low, high, pareto, prior, reverse}
 use Rattle.pref_term.specs.Columns.{ReadsBelow}
 use Rattle.pref_term.specs.Writable.{IsWritable}
@@ -245,8 +245,11 @@ dims_all names ts us vs product group col d r l =
 of_goes : (names : Names) (s : List ℕ) (ts us : List Placed) → (c : PassesOf ts us) → Goes names (skyline_named s) ts (dim_due s c.0 []) us
 of_goes names s ts us c = passes_goes names (word c.0) ts us (skyline_named s) (dim_due s c.0 []) (cased of_word c.0) c.2 (ap (of_named s c.0) c.1) refl
 
-pub clause_fails : (names : Names) (ts us : List Placed) (f : TermFault) → PassesOf ts us → FailsClause names us f → (s : List ℕ) → AsksNothing names (skyline_named s) ts f
-clause_fails names ts us f c r s = fails_asks names _ ts f (goes_fails names _ _ ts us f (of_goes names s ts us c) (r s c.0))
+pub clause_read : (names : Names) (ts us : List Placed) (q : Question) → PassesOf ts us → AsksClause names false us q → (s : List ℕ) → Asks names (skyline_named s) ts q
+clause_read names ts us q c h s = goes_asks names _ _ ts us q (of_goes names s ts us c) (h s c.0)
+
+pub clause_faults : (names : Names) (ts us : List Placed) (f : TermFault) → PassesOf ts us → AsksClauseNothing names false us f → (s : List ℕ) → AsksNothing names (skyline_named s) ts f
+clause_faults names ts us f c h s = goes_asks_nothing names _ _ ts us f (of_goes names s ts us c) (h s c.0)
 
 pub of_fails : (names : Names) (ts : List Placed) (f : TermFault) → FailsOf ts f → (s : List ℕ) → AsksNothing names (skyline_named s) ts f
 of_fails names ts f h s = fails_asks names _ ts f (h names s)

@@ -61,8 +61,8 @@ clause_lexed names (pareto p q) ds rest c h e is =
     let behind = shown_dims names q ++ rest in
     ap lexed (append_assoc (shown_dims names p ++ codes ", ") (shown_dims names q) rest ∙ append_assoc (shown_dims names p) (codes ", ") behind)
     ∙ clause_lexed names p (dim_of names q ∷ ds) (codes ", " ++ behind) c.0 h.0 refl
-      (sign_lexed comma behind
-      ∙ ap (λ ts. sign comma ∷ ts) (dim_lexed names q rest c.1 h.1 e ∙ ap (λ ts. word (dim_of names q).column ∷ word (dim_of names q).written ∷ ts) is))
+    (sign_lexed comma behind
+    ∙ ap (λ ts. sign comma ∷ ts) (dim_lexed names q rest c.1 h.1 e ∙ ap (λ ts. word (dim_of names q).column ∷ word (dim_of names q).written ∷ ts) is))
 clause_lexed names (prior p q) ds rest c h e is = absurd c
 clause_lexed names (reverse p) ds rest c h e is = absurd c
 
@@ -76,9 +76,9 @@ diffs_lexed names (c ∷ cs) h =
     let more = shown_diffs names cs in
     sign_lexed comma (name_at names c ++ (codes " diff" ++ more))
     ∙ ap (λ ts. sign comma ∷ ts)
-      (ap lexed (sym (append_assoc (name_at names c) (codes " diff") more))
-      ∙ (named_lexed (name_at names c) 100 (105 ∷ 102 ∷ 102 ∷ []) more h.0.0 (refl, (refl, (refl, (refl, tt)))) (diffs_end names cs)
-      ∙ ap (λ ts. word (name_at names c) ∷ word (codes "diff") ∷ ts) (diffs_lexed names cs h.1)))
+    (ap lexed (sym (append_assoc (name_at names c) (codes " diff") more))
+    ∙ (named_lexed (name_at names c) 100 (105 ∷ 102 ∷ 102 ∷ []) more h.0.0 (refl, (refl, (refl, (refl, tt)))) (diffs_end names cs)
+    ∙ ap (λ ts. word (name_at names c) ∷ word (codes "diff") ∷ ts) (diffs_lexed names cs h.1)))
 
 -- behind the three words
 words_lexed : (rest : List ℕ) → lexed (codes "skyline of distinct " ++ rest) ≡ word (codes "skyline") ∷ word (codes "of") ∷ word (codes "distinct") ∷ lexed rest
@@ -198,7 +198,7 @@ module _ (names : Names) (q : Question) (keeps : q.distinct ≡ true) (clause : 
       (ap lexed text_is
       ∙ (words_lexed (shown_dims names q.preference ++ shown_diffs names q.group)
       ∙ ap (λ ts. word (codes "skyline") ∷ word (codes "of") ∷ word (codes "distinct") ∷ ts)
-        (clause_lexed names q.preference diffs (shown_diffs names q.group) clause.preference can (diffs_end names q.group) (diffs_lexed names q.group columns))))
+      (clause_lexed names q.preference diffs (shown_diffs names q.group) clause.preference can (diffs_end names q.group) (diffs_lexed names q.group columns))))
 
   meaning_is : question names true tree ≡ Some q
   meaning_is =

@@ -1,5 +1,5 @@
 -- What the word `distinct` of a clause leaves of a text, and what a clause behind it asks.
-use Rattle.std.proofs.Common.{◌≡◌, ℕ, List, [], ◌∷◌, ◌++◌, true, false, cond, Some, None, Ok, refl, sym, ap, subst, ◌∙◌, ◌≤◌, length}
+use Rattle.std.proofs.Common.{◌≡◌, ℕ, List, [], ◌∷◌, ◌++◌, Bool, true, false, cond, Some, None, Ok, refl, sym, ap, subst, ◌∙◌, ◌≤◌, length}
 use Rattle.std.specs.Prelude.{◌&&◌, ◌≢◌, fold, codes}
 use Rattle.std.specs.List.{AllByRecursion}
 use Rattle.std.specs.Option.{option_map}
@@ -71,10 +71,10 @@ ahead_distinct ts us vs ws d w t pd pt pw e f g h =
 
 -- ---- whole questions
 
-pub whole_clause : (names : Names) (ts us : List Placed) (q : Question) → IsBehindDistinct ts us → AsksClause names us q → AsksWhole names ts q
+pub whole_clause : (names : Names) (ts us : List Placed) (q : Question) → IsBehindDistinct ts us → AsksClause names true us q → AsksWhole names ts q
 whole_clause names ts us q b h = ap (λ d. meant names d (run names (plain ts) 0 start)) b.said ∙ (ap (meant names true) (b.leads names) ∙ h b.skyline_is b.of_is b.place)
 
-pub whole_clause_nothing : (names : Names) (ts us : List Placed) (f : TermFault) → IsBehindDistinct ts us → AsksClauseNothing names us f → AsksWholeNothing names ts f
+pub whole_clause_nothing : (names : Names) (ts us : List Placed) (f : TermFault) → IsBehindDistinct ts us → AsksClauseNothing names true us f → AsksWholeNothing names ts f
 whole_clause_nothing names ts us f b h =
     unless_map f (λ k. ap (λ d. meant names d (run names (plain ts) 0 start)) b.said ∙ (ap (meant names true) (b.leads names) ∙ k b.place)) (h b.skyline_is b.of_is)
 
@@ -89,19 +89,19 @@ whole_plain_nothing names ts f e h = unless_map f (λ k. plain_same names ts e �
 
 -- ---- a clause
 
-pub clause_asks : (names : Names) (ts : List Placed) (p : Preference) (group : List ℕ) → ReadsClause names ts (Some p) group → AsksClause names ts (record { preference = p; group = group; mode = Best; distinct = true })
-clause_asks names ts p group r s o k =
-    ap (meant names true) (r.goes s o k)
-    ∙ (ap (λ x. ordered (option_map (λ p. record { preference = p; group = groups_of names (r.first ∷ r.others); mode = Best; distinct = true }) x)) r.product_is
-    ∙ ap (λ g. Ok (record { preference = p; group = g; mode = Best; distinct = true })) r.group_is)
+pub clause_asks : (names : Names) (distinct : Bool) (ts : List Placed) (p : Preference) (group : List ℕ) → ReadsClause names ts (Some p) group → AsksClause names distinct ts (record { preference = p; group = group; mode = Best; distinct = distinct })
+clause_asks names distinct ts p group r s o k =
+    ap (meant names distinct) (r.goes s o k)
+    ∙ (ap (λ x. ordered (option_map (λ p. record { preference = p; group = groups_of names (r.first ∷ r.others); mode = Best; distinct = distinct }) x)) r.product_is
+    ∙ ap (λ g. Ok (record { preference = p; group = g; mode = Best; distinct = distinct })) r.group_is)
 
-pub clause_asks_nothing : (names : Names) (ts : List Placed) (group : List ℕ) → ReadsClause names ts None group → AsksClauseNothing names ts NoMinOrMax
-clause_asks_nothing names ts group r s o k =
-    ap (meant names true) (r.goes s o k)
-    ∙ ap (λ x. ordered (option_map (λ p. record { preference = p; group = groups_of names (r.first ∷ r.others); mode = Best; distinct = true }) x)) r.product_is
+pub clause_asks_nothing : (names : Names) (distinct : Bool) (ts : List Placed) (group : List ℕ) → ReadsClause names ts None group → AsksClauseNothing names distinct ts NoMinOrMax
+clause_asks_nothing names distinct ts group r s o k =
+    ap (meant names distinct) (r.goes s o k)
+    ∙ ap (λ x. ordered (option_map (λ p. record { preference = p; group = groups_of names (r.first ∷ r.others); mode = Best; distinct = distinct }) x)) r.product_is
 
-pub clause_fails_too : (names : Names) (ts : List Placed) (f : TermFault) → FailsClause names ts f → AsksClauseNothing names ts f
-clause_fails_too names ts f h s o = unless_map f (λ k p. ap (meant names true) (k p)) (h s o)
+pub clause_fails : (names : Names) (distinct : Bool) (ts : List Placed) (f : TermFault) → FailsClause names ts f → AsksClauseNothing names distinct ts f
+clause_fails names distinct ts f h s o = unless_map f (λ k p. ap (meant names distinct) (k p)) (h s o)
 
 -- the product of MIN and MAX columns is that of a clause
 clause_on : (p : Preference) (ps : List Preference) → IsClause p → AllByRecursion IsDimension ps → IsClause (fold pareto p ps)

@@ -383,9 +383,9 @@ pub record IsBehindDistinct (ts us : List Placed) : Type 0 where
   pub place : ℕ
   pub leads : (names : Names) → run names (plain ts) 0 start ≡ run names us place (dim_due skyline_is of_is [])
 
--- a clause from its first column on, of equal rows one kept
-abbrev pub AsksClause : Names → List Placed → Question → Type 0
-AsksClause names ts q = (s o : List ℕ) (p : ℕ) → meant names true (run names ts p (dim_due s o [])) ≡ Ok q
+-- a clause from its first column on, with the word or without it
+abbrev pub AsksClause : Names → (distinct : Bool) → List Placed → Question → Type 0
+AsksClause names distinct ts q = (s o : List ℕ) (p : ℕ) → meant names distinct (run names ts p (dim_due s o [])) ≡ Ok q
 
-abbrev pub AsksClauseNothing : Names → List Placed → TermFault → Type 0
-AsksClauseNothing names ts f = (s o : List ℕ) → UnlessMemory f ((p : ℕ) → meant names true (run names ts p (dim_due s o [])) ≡ Err f)
+abbrev pub AsksClauseNothing : Names → (distinct : Bool) → List Placed → TermFault → Type 0
+AsksClauseNothing names distinct ts f = (s o : List ℕ) → UnlessMemory f ((p : ℕ) → meant names distinct (run names ts p (dim_due s o [])) ≡ Err f)

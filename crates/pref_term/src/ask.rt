@@ -147,7 +147,10 @@ impl PartialEq for Ask {
     ghost laws = { partial_equiv_from_equiv questions_equal };
 
     fn eq(&self, other: &Ask) -> bool {
-        self.term == other.term && self.group == other.group && self.mode == other.mode && self.distinct == other.distinct
+        self.term == other.term
+            && self.group == other.group
+            && self.mode == other.mode
+            && self.distinct == other.distinct
     }
 }
 

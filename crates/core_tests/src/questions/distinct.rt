@@ -67,10 +67,7 @@ fn the_second_token_behind_it_tells_the_word_from_a_column(rt: HostRuntime) -> R
         ),
         ("skyline of distinct x diff", TermFault::NoMinOrMax),
         ("best distinct low(x)", TermFault::Unexpected { at: 5 }),
-        (
-            "skyline distinct of x min",
-            TermFault::Unexpected { at: 8 },
-        ),
+        ("skyline distinct of x min", TermFault::Unexpected { at: 8 }),
     ];
     check_refused(&rt, rt.alloc(), &X, &cases)
 }

@@ -14,12 +14,10 @@ use std::alloc::{AllocError, Global};
 fn is_beaten<D: Dominance>(dominance: &D, entries: &[Entry], entry: &Entry) -> bool
     ensures { result ≡ is_beaten (entry_order (D.order dominance.now)) entries.now entry.now }
 {
-    entries
-        .iter()
-        .any(|other| {
-            dominance.over(&other.row, &entry.row)
-                || (dominance.twin(&other.row, &entry.row) && other.id < entry.id)
-        })
+    entries.iter().any(|other| {
+        dominance.over(&other.row, &entry.row)
+            || (dominance.twin(&other.row, &entry.row) && other.id < entry.id)
+    })
 }
 
 /// The list of `best_rows`, found by comparing each entry with each.

@@ -271,6 +271,24 @@ fn dimensions<'a>(alloc: Global, schema: &Schema, cursor: Cursor<'a>) -> Result<
     }
 }
 
+/// Takes the dimensions of a clause.
+fn clause_ask<'a>(
+    alloc: Global,
+    schema: &Schema,
+    cursor: Cursor<'a>,
+    distinct: bool,
+) -> Result<Ask, TermFault>
+    ensures ok { IfOk result (λ a. led.AsksClause schema.now distinct (ahead cursor.entry) a) }
+    ensures known { IfOk result (λ a. FitsWidth (length schema.now) a) }
+    ensures err { IfErr result (λ f. led.AsksClauseNothing schema.now distinct (ahead cursor.entry) f) }
+{
+    let Clause { product, group } = dimensions(alloc, schema, cursor)?;
+    match product {
+        Some(term) => ask_of(alloc, term, group, Mode::Best, distinct),
+        None => Err(TermFault::NoMinOrMax),
+    }
+}
+
 /// Takes what stands behind `skyline`.
 fn skyline<'a>(alloc: Global, schema: &Schema, cursor: Cursor<'a>) -> Result<Ask, TermFault>
     ensures ok { IfOk result (λ a. (s : List ℕ) → led.Asks schema.now (reading.skyline_named s) (ahead cursor.entry) a) }
@@ -278,11 +296,7 @@ fn skyline<'a>(alloc: Global, schema: &Schema, cursor: Cursor<'a>) -> Result<Ask
     ensures err { IfErr result (λ f. (s : List ℕ) → led.AsksNothing schema.now (reading.skyline_named s) (ahead cursor.entry) f) }
 {
     let behind = of(cursor)?;
-    let Clause { product, group } = dimensions(alloc, schema, behind)?;
-    match product {
-        Some(term) => ask_of(alloc, term, group, Mode::Best, false),
-        None => Err(TermFault::NoMinOrMax),
-    }
+    clause_ask(alloc, schema, behind, false)
 }
 
 /// Takes a question that begins with a word in any case.
@@ -363,19 +377,6 @@ fn distinct_clause<'a>(cursor: Cursor<'a>) -> Option<Cursor<'a>>
     }
 }
 
-/// Takes the dimensions of a clause that keeps one of equal rows.
-fn distinct_ask<'a>(alloc: Global, schema: &Schema, cursor: Cursor<'a>) -> Result<Ask, TermFault>
-    ensures ok { IfOk result (λ a. led.AsksClause schema.now (ahead cursor.entry) a) }
-    ensures known { IfOk result (λ a. FitsWidth (length schema.now) a) }
-    ensures err { IfErr result (λ f. led.AsksClauseNothing schema.now (ahead cursor.entry) f) }
-{
-    let Clause { product, group } = dimensions(alloc, schema, cursor)?;
-    match product {
-        Some(term) => ask_of(alloc, term, group, Mode::Best, true),
-        None => Err(TermFault::NoMinOrMax),
-    }
-}
-
 /// Takes a whole question. Whether a word `distinct` behind `skyline of` is one of the clause or a column is chosen first.
 pub(super) fn question<'a>(
     alloc: Global,
@@ -387,7 +388,7 @@ pub(super) fn question<'a>(
     ensures err { IfErr result (λ f. led.AsksWholeNothing schema.now (ahead cursor.entry) f) }
 {
     match distinct_clause(cursor) {
-        Some(behind) => distinct_ask(alloc, schema, behind),
+        Some(behind) => clause_ask(alloc, schema, behind, true),
         None => ask(alloc, schema, cursor),
     }
 }

@@ -1,4 +1,4 @@
-use Rattle.std.proofs.Common.{Option, true, refl, sym, subst, length, arith, ◌∷◌}
+use Rattle.std.proofs.Common.{Option, refl, sym, subst, length, arith, ◌∷◌}
 use Rattle.std.specs.Option.{option_map}
 use Rattle.std.proofs.lemmas.Result.{IfOk-weaker}
 use Rattle.pref_term.specs.Ahead.{ahead}
@@ -9,27 +9,27 @@ use Rattle.pref_term.specs.declared.ask.Mode.TheVariants.{Best}
 use Rattle.pref_term.specs.declared.term.Term.{Term}
 use Rattle.pref_term.proofs.LedLemmas.{err_exit}
 use Rattle.pref_term.proofs.AskLemmas.{is_ask, fits_width}
-use Rattle.pref_term.proofs.DistinctLemmas.{clause_asks, clause_asks_nothing, clause_fails_too, product_is_clause}
-use Rattle.pref_term.proofs.read.ask.distinct_ask.Goals as goal
+use Rattle.pref_term.proofs.DistinctLemmas.{clause_asks, clause_asks_nothing, clause_fails, product_is_clause}
+use Rattle.pref_term.proofs.read.ask.clause_ask.Goals as goal
 
 pub returns-in_err-product-clause-err : goal.returns-in_err-product-clause-err
 returns-in_err-product-clause-err c =
     let f = c.in_err-product.field-0.0 in
-    err_exit c.from_residual.result f (AsksClauseNothing c.args.schema.now (ahead c.args.cursor)) c.from_residual.ensures.1
-    (clause_fails_too c.args.schema.now (ahead c.args.cursor) f c.in_err-product.ensures.err)
+    err_exit c.from_residual.result f (AsksClauseNothing c.args.schema.now c.args.distinct (ahead c.args.cursor)) c.from_residual.ensures.1
+    (clause_fails c.args.schema.now c.args.distinct (ahead c.args.cursor) f c.in_err-product.ensures.err)
 
 pub ask_of-requires : goal.ask_of-requires
 ask_of-requires c =
     let r = subst (λ (o : Option Term). ReadsClause c.args.schema.now (ahead c.args.cursor) (option_map preference_of o) c.in_ok-product.field-0.group.items) c.in-Some.is c.in_ok-product.ensures.ok in
-    is_ask c.args.schema.now (preference_of c.in-Some.term) c.in_ok-product.field-0.group.items Best r.product_known r.group_known (omega arith, omega arith) true
+    is_ask c.args.schema.now (preference_of c.in-Some.term) c.in_ok-product.field-0.group.items Best r.product_known r.group_known (omega arith, omega arith) c.args.distinct
     (λ _. record { mode = refl; preference = product_is_clause c.args.schema.now (r.first ∷ r.others) (preference_of c.in-Some.term) r.product_is })
 
 pub returns-in-Some-clause-ok : goal.returns-in-Some-clause-ok
 returns-in-Some-clause-ok c =
     let r = subst (λ (o : Option Term). ReadsClause c.args.schema.now (ahead c.args.cursor) (option_map preference_of o) c.in_ok-product.field-0.group.items) c.in-Some.is c.in_ok-product.ensures.ok in
     IfOk-weaker c.ask_of.result _ _
-    (λ a is. subst (AsksClause c.args.schema.now (ahead c.args.cursor)) (sym is)
-    (clause_asks c.args.schema.now (ahead c.args.cursor) (preference_of c.in-Some.term) c.in_ok-product.field-0.group.items r))
+    (λ a is. subst (AsksClause c.args.schema.now c.args.distinct (ahead c.args.cursor)) (sym is)
+    (clause_asks c.args.schema.now c.args.distinct (ahead c.args.cursor) (preference_of c.in-Some.term) c.in_ok-product.field-0.group.items r))
     c.ask_of.ensures.ok
 
 pub returns-in-Some-clause-known : goal.returns-in-Some-clause-known
@@ -37,10 +37,10 @@ returns-in-Some-clause-known c =
     let r = subst (λ (o : Option Term). ReadsClause c.args.schema.now (ahead c.args.cursor) (option_map preference_of o) c.in_ok-product.field-0.group.items) c.in-Some.is c.in_ok-product.ensures.ok in
     IfOk-weaker c.ask_of.result _ _
     (λ a is. subst (FitsWidth (length c.args.schema.now)) (sym is)
-    (fits_width c.args.schema.now (preference_of c.in-Some.term) c.in_ok-product.field-0.group.items Best r.product_known r.group_known true))
+    (fits_width c.args.schema.now (preference_of c.in-Some.term) c.in_ok-product.field-0.group.items Best r.product_known r.group_known c.args.distinct))
     c.ask_of.ensures.ok
 
 pub returns-in-None-clause-err : goal.returns-in-None-clause-err
 returns-in-None-clause-err c =
     let r = subst (λ (o : Option Term). ReadsClause c.args.schema.now (ahead c.args.cursor) (option_map preference_of o) c.in_ok-product.field-0.group.items) c.in-None.is c.in_ok-product.ensures.ok in
-    clause_asks_nothing c.args.schema.now (ahead c.args.cursor) c.in_ok-product.field-0.group.items r
+    clause_asks_nothing c.args.schema.now c.args.distinct (ahead c.args.cursor) c.in_ok-product.field-0.group.items r
