@@ -42,8 +42,8 @@ pub fn equal_where_the_same_is_seen()
     ensures asks { (p q : Question) → Decides (question_eq p q) (p ≡ q) }
 {}
 
-/// A text whose tokens are those of a tree of the grammar, the word `distinct` not counted out, asks what the tree does
-/// with all equal rows kept: the word takes no such text away.
+/// A text whose tokens are those of a tree of the grammar, none left out, asks what the tree does, with all equal rows kept:
+/// the word `distinct` takes no such text away.
 pub fn a_text_of_the_grammar_keeps_its_meaning()
     ensures { (names : Names) (text : List ℕ) (tree : AskText) (q : Question) → IsText tree → length text ≤ 4096
         → tokens_in (tokens_of text) ≡ tokens_on (ask_leaves tree) → AllByRecursion (IsGood names) (ask_leaves tree)
