@@ -1,5 +1,6 @@
 //! Questions that are read, refused and asked, by their texts.
 mod distinct;
+mod layers;
 mod products;
 mod ranges;
 mod refusals;
@@ -96,6 +97,7 @@ fn accepted(rt: HostRuntime) {
         "best around(x, -9223372036854775808)",
         "best between(x, -9223372036854775808, 9223372036854775807)",
         "best between(x, 5, 5)",
+        "best layered(x,{5},{5, - 5,5})",
         "top_level 2low(x)",
         "at_least 0007 pos(x, 2, 2) by x, x",
         "SKYLINE OF x Min",
@@ -295,6 +297,32 @@ fn equal_where_the_same_is_seen(rt: HostRuntime) -> Result<(), Fail> {
         ("best between(x, 1, 2)", "best between(x, 0, 2)", false),
         ("best between(x, 1, 2)", "best between(x, 1, 3)", false),
         ("best between(x, 1, 1)", "best around(x, 1)", false),
+        (
+            "best layered(x, {1, 2}, {3})",
+            "best layered( x ,{1,02}, { 3 } )",
+            true,
+        ),
+        (
+            "best layered(x, {1, 2}, {3})",
+            "best layered(x, {2, 1}, {3})",
+            false,
+        ),
+        (
+            "best layered(x, {1, 2}, {3})",
+            "best layered(x, {3}, {1, 2})",
+            false,
+        ),
+        (
+            "best layered(x, {1, 2}, {3})",
+            "best layered(x, {1, 2, 3})",
+            false,
+        ),
+        (
+            "best layered(x, {1, 2}, {3})",
+            "best layered(y, {1, 2}, {3})",
+            false,
+        ),
+        ("best layered(x, {1, 2})", "best pos(x, 1, 2)", false),
         ("best low(x) by g", "best low(x)", false),
         ("top_level 1 low(x)", "at_least 1 low(x)", false),
     ];

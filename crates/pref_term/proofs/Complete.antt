@@ -5,9 +5,9 @@ use Rattle.std.specs.List.{AllByRecursion}
 use Rattle.std.specs.Str.{bytes_eq, str_to_ascii_lowercase}
 use Rattle.std.proofs.lemmas.Slice.Eq.{bytes_eq-Decides}
 use Rattle.pref_term.proofs.Sound.{keyword_letters}
-use Rattle.pref_term.specs.Token.{left, right, comma, star, ampersand, word, sign, finish}
-use Rattle.pref_term.specs.Grammar.{Keyword, best_word, low_word, high_word, around_word, pos_word, reverse_word, top_level_word, at_least_word, by_word, CasedWord, skyline_word, of_word, min_word, max_word, diff_word, letters_of, keyword_of, cased_letters, cased_in, cased_of, HeadText, best_head, top_level_head, at_least_head, head_leaves, Direction, minimal, maximal, different, direction_word, DimText, dim_leaves, more_dims, group_leaves, more_columns, AskText, rated, skyline, IsWritten, IsText, NumberText, BaseText, low_text, high_text, around_text, pos_text, PriorText, one_product, then_product, ProductText, one_factor, then_factor, UnaryText, negated, grouped, reversed, based, Leaf, name, mark, opens, column_name, number_digits, count_digits, cased, last, signed_leaves, number_leaves, others_leaves, base_leaves, prior_leaves, product_leaves, unary_leaves, ask_leaves, token_of, between_word, between_text, end_leaves}
-use Rattle.pref_term.specs.Reading.{BaseKind, low_kind, high_kind, around_kind, pos_kind, NumberHole, centre_of, first_of, next_of, BasePart, named, opened, columned, number_due, number_signed, centred, listed, filled, PriorHole, whole, in_group, in_reverse, ProductHole, first_product, next_product, UnaryHole, first_factor, next_factor, in_minus, prior_depth, product_depth, unary_depth, State, start, operand, reverse_named, reading, after, top_level_named, at_least_named, group_due, group_listed, skyline_named, dim_due, dim_named, dims_listed, done, completed, outer, closed, ranked, in_whole, begun, of_named, listed_dim, directed, next, between_kind, start_of, end_of, least_of, ranged, range_ended}
+use Rattle.pref_term.specs.Token.{left, right, left_brace, comma, star, ampersand, word, sign, finish}
+use Rattle.pref_term.specs.Grammar.{Keyword, best_word, low_word, high_word, around_word, pos_word, reverse_word, top_level_word, at_least_word, by_word, CasedWord, skyline_word, of_word, min_word, max_word, diff_word, letters_of, keyword_of, cased_letters, cased_in, cased_of, HeadText, best_head, top_level_head, at_least_head, head_leaves, Direction, minimal, maximal, different, direction_word, DimText, dim_leaves, more_dims, group_leaves, more_columns, AskText, rated, skyline, IsWritten, IsText, NumberText, BaseText, low_text, high_text, around_text, pos_text, PriorText, one_product, then_product, ProductText, one_factor, then_factor, UnaryText, negated, grouped, reversed, based, Leaf, name, mark, opens, column_name, number_digits, count_digits, cased, last, signed_leaves, number_leaves, others_leaves, base_leaves, prior_leaves, product_leaves, unary_leaves, ask_leaves, token_of, between_word, between_text, end_leaves, layered_word, layered_text, SetText, list_leaves, set_leaves, more_sets}
+use Rattle.pref_term.specs.Reading.{BaseKind, low_kind, high_kind, around_kind, pos_kind, NumberHole, centre_of, first_of, next_of, BasePart, named, opened, columned, number_due, number_signed, centred, listed, filled, PriorHole, whole, in_group, in_reverse, ProductHole, first_product, next_product, UnaryHole, first_factor, next_factor, in_minus, prior_depth, product_depth, unary_depth, State, start, operand, reverse_named, reading, after, top_level_named, at_least_named, group_due, group_listed, skyline_named, dim_due, dim_named, dims_listed, done, completed, outer, closed, ranked, in_whole, begun, of_named, listed_dim, directed, next, between_kind, start_of, end_of, least_of, ranged, range_ended, layered_kind, NumberList, in_pos, in_set, closing, list_closed, stepped, set_due, sets_listed, with_set}
 
 -- reading these leaves leads from one state to the other
 abbrev pub Reads : State → List Leaf → State → Type 0
@@ -25,15 +25,41 @@ reads_number h hole n = go n.negative n.digits
     go true ds = (_, refl, (_, refl, refl))
     go false ds = (_, refl, refl)
 
-reads_others : (h : UnaryHole) (column : List ℕ) (first : NumberText) (front ns : List NumberText) → Reads (reading h (listed column first front)) (others_leaves ns) (reading h (listed column first (front ++ ns)))
-reads_others h column first front [] = ap (λ ns. reading h (listed column first ns)) (sym (append-nil front))
-reads_others h column first front (n ∷ ns) = (
-  reading h (number_due (next_of column first front)),
+reads_others : (h : UnaryHole) (l : NumberList) (first : NumberText) (front ns : List NumberText) → Reads (reading h (listed l first front)) (others_leaves ns) (reading h (listed l first (front ++ ns)))
+reads_others h l first front [] = ap (λ ns. reading h (listed l first ns)) (sym (append-nil front))
+reads_others h l first front (n ∷ ns) = (
+  reading h (number_due (next_of l first front)),
   refl,
-  reads_on (reading h (number_due (next_of column first front))) (number_leaves n) (others_leaves ns) (reading h (listed column first (front ++ n ∷ []))) (reading h (listed column first (front ++ n ∷ ns)))
-      (reads_number h (next_of column first front) n)
-      (subst (λ (ms : List NumberText). Reads (reading h (listed column first (front ++ n ∷ []))) (others_leaves ns) (reading h (listed column first ms))) (append_assoc front (n ∷ []) ns)
-      (reads_others h column first (front ++ n ∷ []) ns)),
+  reads_on (reading h (number_due (next_of l first front))) (number_leaves n) (others_leaves ns) (reading h (listed l first (front ++ n ∷ []))) (reading h (listed l first (front ++ n ∷ ns)))
+      (reads_number h (next_of l first front) n)
+      (subst (λ (ms : List NumberText). Reads (reading h (listed l first (front ++ n ∷ []))) (others_leaves ns) (reading h (listed l first ms))) (append_assoc front (n ∷ []) ns)
+      (reads_others h l first (front ++ n ∷ []) ns)),
+)
+
+-- the sign that closes a list of numbers ends it
+pub list_ends : (h : UnaryHole) (l : NumberList) (first : NumberText) (others : List NumberText) → next (reading h (listed l first others)) (sign (closing l)) ≡ Some (mark (closing l), stepped h (list_closed l first others))
+list_ends h (in_pos column) first others = refl
+list_ends h (in_set column sets) first others = refl
+
+reads_list : (h : UnaryHole) (l : NumberList) (first : NumberText) (others : List NumberText) → Reads (reading h (number_due (first_of l))) (list_leaves first others (closing l)) (stepped h (list_closed l first others))
+reads_list h l first others =
+    reads_on (reading h (number_due (first_of l))) (number_leaves first) (others_leaves others ++ mark (closing l) ∷ []) (reading h (listed l first [])) (stepped h (list_closed l first others))
+    (reads_number h (first_of l) first)
+    (reads_on (reading h (listed l first [])) (others_leaves others) (mark (closing l) ∷ []) (reading h (listed l first others)) (stepped h (list_closed l first others))
+    (reads_others h l first [] others) (_, list_ends h l first others, refl))
+
+reads_set : (h : UnaryHole) (column : List ℕ) (sets : List SetText) (s : SetText) → Reads (reading h (set_due column sets)) (set_leaves s) (reading h (with_set column sets s))
+reads_set h column sets s = (_, refl, reads_list h (in_set column sets) s.first s.others)
+
+reads_sets : (h : UnaryHole) (column : List ℕ) (first : SetText) (front ss : List SetText) → Reads (reading h (sets_listed column first front)) (more_sets ss) (reading h (sets_listed column first (front ++ ss)))
+reads_sets h column first front [] = ap (λ ss. reading h (sets_listed column first ss)) (sym (append-nil front))
+reads_sets h column first front (s ∷ ss) = (
+  reading h (set_due column (first ∷ front)),
+  refl,
+  reads_on (reading h (set_due column (first ∷ front))) (set_leaves s) (more_sets ss) (reading h (sets_listed column first (front ++ s ∷ []))) (reading h (sets_listed column first (front ++ s ∷ ss)))
+      (reads_set h column (first ∷ front) s)
+      (subst (λ (ts : List SetText). Reads (reading h (sets_listed column first (front ++ s ∷ []))) (more_sets ss) (reading h (sets_listed column first ts))) (append_assoc front (s ∷ []) ss)
+      (reads_sets h column first (front ++ s ∷ []) ss)),
 )
 
 reads_base : (b : BaseText) (h : UnaryHole) → Reads (operand h) (base_leaves b) (completed h (based b))
@@ -89,13 +115,26 @@ reads_base (pos_text column first others) h = (
     (
       _,
       refl,
+      (_, refl, reads_list h (in_pos column) first others),
+    ),
+  ),
+)
+reads_base (layered_text column first others) h = (
+  _,
+  refl,
+  (
+    _,
+    refl,
+    (
+      _,
+      refl,
       (
         _,
         refl,
-        reads_on (reading h (number_due (first_of column))) (number_leaves first) (others_leaves others ++ mark right ∷ []) (reading h (listed column first [])) (completed h (based (pos_text column first others)))
-            (reads_number h (first_of column) first)
-            (reads_on (reading h (listed column first [])) (others_leaves others) (mark right ∷ []) (reading h (listed column first others)) (completed h (based (pos_text column first others)))
-            (reads_others h column first [] others) (_, refl, refl)),
+        reads_on (reading h (set_due column [])) (set_leaves first) (more_sets others ++ mark right ∷ []) (reading h (sets_listed column first [])) (completed h (based (layered_text column first others)))
+            (reads_set h column [] first)
+            (reads_on (reading h (sets_listed column first [])) (more_sets others) (mark right ∷ []) (reading h (sets_listed column first others)) (completed h (based (layered_text column first others)))
+            (reads_sets h column first [] others) (_, refl, refl)),
       ),
     ),
   ),
@@ -200,6 +239,7 @@ keyword_no_skyline high_word e = differ _ _ refl e
 keyword_no_skyline around_word e = differ _ _ refl e
 keyword_no_skyline between_word e = differ _ _ refl e
 keyword_no_skyline pos_word e = differ _ _ refl e
+keyword_no_skyline layered_word e = differ _ _ refl e
 keyword_no_skyline reverse_word e = differ _ _ refl e
 keyword_no_skyline top_level_word e = differ _ _ refl e
 keyword_no_skyline at_least_word e = differ _ _ refl e
@@ -295,8 +335,16 @@ mutual
 ends_operand : (h : UnaryHole) → CanEnd (operand h)
 ends_operand h = more_reads (operand h) (base_leaves (low_text x_name)) (completed h (based (low_text x_name))) (reads_base (low_text x_name) h) (ends_unary h (based (low_text x_name)))
 
-ends_listed : (h : UnaryHole) (column : List ℕ) (first : NumberText) (others : List NumberText) → CanEnd (reading h (listed column first others))
-ends_listed h column first others = first_reads _ (mark right) (completed h (based (pos_text column first others))) refl (ends_unary h (based (pos_text column first others)))
+ends_sets : (h : UnaryHole) (column : List ℕ) (first : SetText) (others : List SetText) → CanEnd (reading h (sets_listed column first others))
+ends_sets h column first others = first_reads _ (mark right) (completed h (based (layered_text column first others))) refl (ends_unary h (based (layered_text column first others)))
+
+ends_closed : (h : UnaryHole) (l : NumberList) (first : NumberText) (others : List NumberText) → CanEnd (stepped h (list_closed l first others))
+ends_closed h (in_pos column) first others = ends_unary h (based (pos_text column first others))
+ends_closed h (in_set column []) first others = ends_sets h column (record { first = first; others = others }) []
+ends_closed h (in_set column (s ∷ ss)) first others = ends_sets h column s (ss ++ record { first = first; others = others } ∷ [])
+
+ends_listed : (h : UnaryHole) (l : NumberList) (first : NumberText) (others : List NumberText) → CanEnd (reading h (listed l first others))
+ends_listed h l first others = first_reads _ (mark (closing l)) (stepped h (list_closed l first others)) (list_ends h l first others) (ends_closed h l first others)
 
 ends_range : (h : UnaryHole) (column : List ℕ) (l r : NumberText) → CanEnd (reading h (range_ended column l r))
 ends_range h column l r = first_reads _ (mark right) (completed h (based (between_text column l r))) refl (ends_unary h (based (between_text column l r)))
@@ -306,13 +354,16 @@ ends_range_due h column l = first_reads _ (number_digits (Some l) false zero_dig
 
 ends_filled : (h : UnaryHole) (hole : NumberHole) (n : NumberText) → CanEnd (reading h (filled hole n))
 ends_filled h (centre_of column) n = first_reads _ (mark right) (completed h (based (around_text column n))) refl (ends_unary h (based (around_text column n)))
-ends_filled h (first_of column) n = ends_listed h column n []
+ends_filled h (first_of l) n = ends_listed h l n []
 ends_filled h (start_of column) n = first_reads _ (mark comma) (reading h (number_due (end_of column n))) refl (ends_range_due h column n)
 ends_filled h (end_of column l) n = ends_range h column l n
-ends_filled h (next_of column first others) n = ends_listed h column first (others ++ n ∷ [])
+ends_filled h (next_of l first others) n = ends_listed h l first (others ++ n ∷ [])
 
 ends_due : (h : UnaryHole) (hole : NumberHole) → CanEnd (reading h (number_due hole))
 ends_due h hole = first_reads _ (number_digits (least_of hole) false zero_digits) (reading h (filled hole (record { negative = false; digits = zero_digits }))) refl (ends_filled h hole (record { negative = false; digits = zero_digits }))
+
+ends_set_due : (h : UnaryHole) (column : List ℕ) (sets : List SetText) → CanEnd (reading h (set_due column sets))
+ends_set_due h column sets = first_reads _ (mark left_brace) (reading h (number_due (first_of (in_set column sets)))) refl (ends_due h (first_of (in_set column sets)))
 
 -- behind a column of each kind of base term
 ends_columned : (h : UnaryHole) (k : BaseKind) (column : List ℕ) → CanEnd (reading h (columned k column))
@@ -320,7 +371,8 @@ ends_columned h low_kind column = first_reads _ (mark right) (completed h (based
 ends_columned h high_kind column = first_reads _ (mark right) (completed h (based (high_text column))) refl (ends_unary h (based (high_text column)))
 ends_columned h around_kind column = first_reads _ (mark comma) (reading h (number_due (centre_of column))) refl (ends_due h (centre_of column))
 ends_columned h between_kind column = first_reads _ (mark comma) (reading h (number_due (start_of column))) refl (ends_due h (start_of column))
-ends_columned h pos_kind column = first_reads _ (mark comma) (reading h (number_due (first_of column))) refl (ends_due h (first_of column))
+ends_columned h pos_kind column = first_reads _ (mark comma) (reading h (number_due (first_of (in_pos column)))) refl (ends_due h (first_of (in_pos column)))
+ends_columned h layered_kind column = first_reads _ (mark comma) (reading h (set_due column [])) refl (ends_set_due h column [])
 
 pub ends_part : (h : UnaryHole) (b : BasePart) → CanEnd (reading h b)
 ends_part h (named k) = first_reads _ (mark left) (reading h (opened k)) refl (first_reads _ (column_name x_name) (reading h (columned k x_name)) refl (ends_columned h k x_name))
@@ -331,7 +383,9 @@ ends_part h (number_signed n) = first_reads _ (number_digits (least_of n) true z
 ends_part h (centred column centre) = ends_filled h (centre_of column) centre
 ends_part h (ranged column l) = ends_filled h (start_of column) l
 ends_part h (range_ended column l r) = ends_range h column l r
-ends_part h (listed column first others) = ends_listed h column first others
+ends_part h (listed l first others) = ends_listed h l first others
+ends_part h (set_due column sets) = ends_set_due h column sets
+ends_part h (sets_listed column first others) = ends_sets h column first others
 
 ends_listed_group : (head : HeadText) (r : PriorText) (first : List ℕ) (others : List (List ℕ)) → CanEnd (group_listed head r first others)
 ends_listed_group head r first others = record { leaves = last ∷ []; tree = rated head r (first ∷ others); reads = (done (rated head r (first ∷ others)), refl, refl) }

@@ -6,7 +6,7 @@ use Rattle.std.proofs.lemmas.Bool.Decides.{nat_tests}
 use Rattle.pref_term.specs.Token.{Sign, left, right, star, ampersand, minus, Token, word, sign, Placed}
 use Rattle.pref_term.specs.Grammar.{reverse_word, keyword_of, based, grouped, reversed, negated, one_factor, then_factor, PriorText, one_product, then_product, name, mark, opens}
 use Rattle.pref_term.specs.Spells.{Names, own_fault, too_deep, unary_meaning, product_meaning}
-use Rattle.pref_term.specs.Reading.{BaseKind, low_kind, high_kind, around_kind, pos_kind, kind_word, named, UnaryHole, in_minus, first_factor, next_factor, first_product, next_product, in_group, in_reverse, unary_depth, State, operand, reverse_named, reading, after, ranked, next, operand_word, between_kind}
+use Rattle.pref_term.specs.Reading.{BaseKind, low_kind, high_kind, around_kind, pos_kind, kind_word, named, UnaryHole, in_minus, first_factor, next_factor, first_product, next_product, in_group, in_reverse, unary_depth, State, operand, reverse_named, reading, after, ranked, next, operand_word, between_kind, layered_kind}
 use Rattle.pref_term.specs.Led.{Goes, Fails, IsOther, Passes, ReadsBase, ReadsUnary, ReadsFactors, ReadsProducts, ReadsProduct, ReadsPrior, ReadsGroup, ReadsReverse, FailsBase, FailsUnary, FailsGroup, FailsProduct, FailsPrior}
 use Rattle.pref_term.specs.Ahead.{ahead, taken}
 use Rattle.pref_term.specs.Preference.{Preference, pareto, prior, reverse, preference_of}
@@ -100,6 +100,7 @@ by_kind h high_kind = refl
 by_kind h around_kind = refl
 by_kind h between_kind = refl
 by_kind h pos_kind = refl
+by_kind h layered_kind = refl
 
 word_goes : (names : Names) (letters : List ℕ) (k : BaseKind) (ts us : List Placed) (h : UnaryHole) → Passes (word letters) ts us → keyword_of letters ≡ Some (kind_word k) → Goes names (operand h) ts (reading h (named k)) us
 word_goes names letters k ts us h c e = passes_goes names (word letters) ts us (operand h) (reading h (named k)) (name (kind_word k)) c (ap (operand_word h) e ∙ by_kind h k) refl

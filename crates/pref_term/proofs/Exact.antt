@@ -6,7 +6,7 @@ use Rattle.std.proofs.lemmas.List.{map-append}
 use Rattle.pref_term.specs.Token.{Token, finish, Placed}
 use Rattle.pref_term.specs.Grammar.{PriorText, AskText, rated, skyline, IsText, IsWritten, Leaf, token_of, ask_leaves}
 use Rattle.pref_term.specs.Spells.{Names, tokens_in, tokens_on, IsGood, own_fault, OwnFault, Starts, told, told_at, last_place, IsUnexpected, HasOwnFault, FirstFault}
-use Rattle.pref_term.specs.Reading.{State, start, reading, after, group_listed, dims_listed, done, read_of, next, run, led, judged, ended, PriorHole, whole, finished, BasePart, named, opened, columned, number_due, number_signed, centred, listed, base_next, outer, closed, ranged, range_ended}
+use Rattle.pref_term.specs.Reading.{State, start, reading, after, group_listed, dims_listed, done, read_of, next, run, led, judged, ended, PriorHole, whole, finished, BasePart, named, opened, columned, number_due, number_signed, centred, listed, base_next, outer, closed, ranged, range_ended, set_due, sets_listed}
 use Rattle.pref_term.specs.declared.fault.TermFault.{TermFault}
 use Rattle.pref_term.specs.declared.fault.TermFault.TheVariants.{Unexpected}
 use Rattle.pref_term.proofs.Sound.{next_grows, Grows}
@@ -161,7 +161,9 @@ base_unfinished (columned k column) = refl
 base_unfinished (number_due n) = refl
 base_unfinished (number_signed n) = refl
 base_unfinished (centred column centre) = refl
-base_unfinished (listed column first others) = refl
+base_unfinished (listed l first others) = refl
+base_unfinished (set_due column sets) = refl
+base_unfinished (sets_listed column first others) = refl
 base_unfinished (ranged column l) = refl
 base_unfinished (range_ended column l r) = refl
 

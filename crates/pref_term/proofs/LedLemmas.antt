@@ -2,19 +2,20 @@
 use Rattle.std.proofs.Common.{◌≡◌, ℕ, ℤ, List, [], ◌∷◌, ◌++◌, map, Bool, true, false, cond, Some, None, Result, Ok, Err, refl, sym, ap, subst, ◌∙◌}
 use Rattle.pref_table.specs.Columns.{column_of}
 use Rattle.pref_table.specs.Number.{fits_cell}
-use Rattle.pref_term.specs.Token.{Sign, left, right, comma, minus, Token, word, digits, sign, Placed}
+use Rattle.pref_term.specs.Token.{Sign, left, right, right_brace, comma, minus, Token, word, digits, sign, Placed}
 use Rattle.pref_term.specs.Grammar.{based, NumberText, low_text, high_text, around_text, pos_text, Leaf, mark, column_name, number_digits, between_text}
 use Rattle.pref_term.specs.Spells.{Names, UnlessMemory, own_fault, signed_value, number_value, column_at, number_range, below, empty_range, told_at}
-use Rattle.pref_term.specs.Reading.{BaseKind, low_kind, high_kind, around_kind, pos_kind, centre_of, first_of, named, opened, columned, number_due, number_signed, centred, listed, filled, UnaryHole, State, reading, completed, run, led, judged, next, between_kind, start_of, end_of, least_of, ranged, range_ended}
+use Rattle.pref_term.specs.Reading.{BaseKind, low_kind, high_kind, around_kind, pos_kind, centre_of, first_of, named, opened, columned, number_due, number_signed, centred, listed, filled, UnaryHole, State, reading, completed, run, led, judged, next, between_kind, start_of, end_of, least_of, ranged, range_ended, NumberList, in_pos, in_set, closing, list_closed, stepped}
 use Rattle.pref_term.specs.Seen.{seen}
 use Rattle.pref_term.specs.Ahead.{ahead, taken, behind_token}
 use Rattle.pref_term.specs.declared.cursor.Taken.{Taken}
 use Rattle.pref_term.specs.declared.front.Token as code
-use Rattle.pref_term.specs.Led.{Goes, Fails, IsOther, Passes, WantsColumn, TakesColumn, ReadsOpened, IsNoWord, FailsColumn, FailsOpened, ReadsNumber, ReadsListed, ReadsSome, ReadsNumbers, ReadsBase, FailsListed, FailsNumber, FailsNumbers, FailsBase, set_hole, set_text, behind_number, ReadsEnd, FailsEnd, first_place}
+use Rattle.pref_term.specs.Led.{Goes, Fails, IsOther, Passes, WantsColumn, TakesColumn, ReadsOpened, IsNoWord, FailsColumn, FailsOpened, ReadsNumber, ReadsListed, ReadsSome, ReadsNumbers, ReadsBase, FailsListed, FailsNumber, FailsNumbers, FailsBase, list_sign, list_hole, behind_number, ReadsEnd, FailsEnd, first_place}
 use Rattle.pref_term.specs.declared.fault.TermFault.{TermFault}
 use Rattle.pref_term.specs.declared.fault.TermFault.TheVariants.{Unexpected, OutOfMemory, EmptyRange}
 use Rattle.std.specs.Prelude.{All, FitsSigned, ◌≢◌, IsErrAnd, IfErr, unwrap_or, int_lt, Option}
 use Rattle.pref_term.specs.Preference.{scored, low, high, around, one_of, between}
+use Rattle.pref_term.proofs.Complete.{list_ends}
 use Rattle.std.proofs.lemmas.List.{map-append}
 use Rattle.std.proofs.lemmas.List.Elements.{All-append, All-cons, All-nil}
 use Rattle.std.specs.Int.{w64}
@@ -57,6 +58,12 @@ pub other_fails : (names : Names) (t : Token) (ts : List Placed) (f : TermFault)
 other_fails names t [] f s h stuck = absurd h
 other_fails names t (u ∷ us) f s h stuck =
     subst (λ (g : TermFault). Fails names s (u ∷ us) g) (sym h.1) (λ p. ap (led names p u.place (run names us u.place)) (stuck u.token h.0))
+
+-- a token that is neither of two
+pub neither_fails : (names : Names) (t v : Token) (ts : List Placed) (f : TermFault) (s : State) → IsOther t ts f → IsOther v ts f → ((u : Token) → u ≢ t → u ≢ v → next s u ≡ None) → Fails names s ts f
+neither_fails names t v [] f s h k stuck = absurd h
+neither_fails names t v (u ∷ us) f s h k stuck =
+    subst (λ (g : TermFault). Fails names s (u ∷ us) g) (sym h.1) (λ p. ap (led names p u.place (run names us u.place)) (stuck u.token h.0 k.0))
 
 pub opened_read : (names : Names) (ts us vs : List Placed) (col : ℕ) → Passes (sign left) ts us → TakesColumn names us col vs → ReadsOpened names ts col vs
 opened_read names ts us vs col c t =
@@ -177,87 +184,87 @@ pub pos_goes_on : (h : UnaryHole) (column : List ℕ) (u : Token) → u ≢ sign
 pos_goes_on h column (sign comma) ne = absurd (ne refl)
 pos_goes_on h column _ ne = refl
 
-pub listed_stuck : (h : UnaryHole) (column : List ℕ) (first : NumberText) (others : List NumberText) (u : Token) → u ≢ sign comma → u ≢ sign right → next (reading h (listed column first others)) u ≡ None
-listed_stuck h column first others (sign comma) ne nr = absurd (ne refl)
-listed_stuck h column first others (sign right) ne nr = absurd (nr refl)
-listed_stuck h column first others _ ne nr = refl
+pub listed_stuck : (h : UnaryHole) (l : NumberList) (first : NumberText) (others : List NumberText) (u : Token) → u ≢ sign comma → u ≢ sign (closing l) → next (reading h (listed l first others)) u ≡ None
+listed_stuck h l first others (sign comma) nc nr = absurd (nc refl)
+listed_stuck h (in_pos column) first others (sign right) nc nr = absurd (nr refl)
+listed_stuck h (in_set column sets) first others (sign right_brace) nc nr = absurd (nr refl)
+listed_stuck h (in_pos column) first others _ nc nr = refl
+listed_stuck h (in_set column sets) first others _ nc nr = refl
 
--- ---- the numbers of a set
+-- ---- the numbers of a list
 
 pub all_one : {X : Type 0} (P : X → Type 0) (x : X) → P x → All P (x ∷ [])
 all_one P x h = All-cons P x [] h (All-nil P)
 
-cons_not_none : {A : Type 0} {x : A} {xs : List A} → (x ∷ xs) ≢ []
+pub cons_not_none : {A : Type 0} {x : A} {xs : List A} → (x ∷ xs) ≢ []
 cons_not_none h = cc
 
-set_comma : (h : UnaryHole) (column : List ℕ) (some : List NumberText) (n : NumberText) → next (reading h (filled (set_hole column some) n)) (sign comma) ≡ Some (mark comma, reading h (number_due (set_hole column (some ++ n ∷ []))))
-set_comma h column [] n = refl
-set_comma h column (f ∷ os) n = refl
+-- behind an entry of a list
+list_closes : (h : UnaryHole) (l : NumberList) (first : NumberText) (others : List NumberText) (close : Sign) → closing l ≡ close → next (reading h (listed l first others)) (sign close) ≡ Some (mark close, stepped h (list_closed l first others))
+list_closes h l first others close e = subst (λ (s : Sign). next (reading h (listed l first others)) (sign s) ≡ Some (mark s, stepped h (list_closed l first others))) e (list_ends h l first others)
 
-set_right : (h : UnaryHole) (column : List ℕ) (some : List NumberText) (n : NumberText) → next (reading h (filled (set_hole column some) n)) (sign right) ≡ Some (mark right, completed h (based (set_text column (some ++ n ∷ []))))
-set_right h column [] n = refl
-set_right h column (f ∷ os) n = refl
+list_goes_on : (h : UnaryHole) (l : NumberList) (some : List NumberText) (n : NumberText) (close : Sign) (more : Bool) → closing l ≡ close
+    → next (reading h (filled (list_hole l some) n)) (sign (list_sign close more)) ≡ Some (mark (list_sign close more), behind_number h l (some ++ n ∷ []) more)
+list_goes_on h l [] n close true e = refl
+list_goes_on h l (f ∷ os) n close true e = refl
+list_goes_on h l [] n close false e = list_closes h l n [] close e
+list_goes_on h l (f ∷ os) n close false e = list_closes h l f (os ++ n ∷ []) close e
 
-set_stuck : (h : UnaryHole) (column : List ℕ) (some : List NumberText) (n : NumberText) (u : Token) → u ≢ sign comma → u ≢ sign right → next (reading h (filled (set_hole column some) n)) u ≡ None
-set_stuck h column [] n u nc nr = listed_stuck h column n [] u nc nr
-set_stuck h column (f ∷ os) n u nc nr = listed_stuck h column f (os ++ n ∷ []) u nc nr
+list_stuck : (h : UnaryHole) (l : NumberList) (some : List NumberText) (n : NumberText) (close : Sign) → closing l ≡ close → (u : Token) → u ≢ sign comma → u ≢ sign close → next (reading h (filled (list_hole l some) n)) u ≡ None
+list_stuck h l [] n close e u nc nr = listed_stuck h l n [] u nc (λ k. nr (k ∙ ap sign e))
+list_stuck h l (f ∷ os) n close e u nc nr = listed_stuck h l f (os ++ n ∷ []) u nc (λ k. nr (k ∙ ap sign e))
 
--- a number of a set may be any
-set_plain : (column : List ℕ) (some : List NumberText) (n : NumberText) → below (least_of (set_hole column some)) (number_value n) ≡ None
-set_plain column [] n = refl
-set_plain column (f ∷ os) n = refl
+-- a number of a list may be any
+list_plain : (l : NumberList) (some : List NumberText) (n : NumberText) → below (least_of (list_hole l some)) (number_value n) ≡ None
+list_plain l [] n = refl
+list_plain l (f ∷ os) n = refl
 
-pub listed_more : (names : Names) (ts us vs : List Placed) (value v : ℤ) → ReadsNumber names ts value us → v ≡ value → Passes (sign comma) us vs → ReadsListed names ts v true vs
-listed_more names ts us vs value v r e c =
+pub listed_read : (names : Names) (close : Sign) (ts us vs : List Placed) (value v : ℤ) (more : Bool) → ReadsNumber names ts value us → v ≡ value → Passes (sign (list_sign close more)) us vs → ReadsListed names close ts v more vs
+listed_read names close ts us vs value v more r e c =
     record {
       number = r.number;
       fits = subst (FitsSigned w64) (sym e) r.fits;
       value_is = r.value_is ∙ sym e;
-      goes = λ h column some. goes_then names _ (reading h (filled (set_hole column some) r.number)) _ ts us vs (r.goes h (set_hole column some) (set_plain column some r.number))
-          (passes_goes names (sign comma) us vs _ _ (mark comma) c (set_comma h column some r.number) refl);
+      goes = λ h l some k. goes_then names _ (reading h (filled (list_hole l some) r.number)) _ ts us vs (r.goes h (list_hole l some) (list_plain l some r.number))
+          (passes_goes names (sign (list_sign close more)) us vs _ _ (mark (list_sign close more)) c (list_goes_on h l some r.number close more k) refl);
     }
 
-pub listed_last : (names : Names) (ts us vs : List Placed) (value v : ℤ) → ReadsNumber names ts value us → v ≡ value → Passes (sign right) us vs → ReadsListed names ts v false vs
-listed_last names ts us vs value v r e c =
-    record {
-      number = r.number;
-      fits = subst (FitsSigned w64) (sym e) r.fits;
-      value_is = r.value_is ∙ sym e;
-      goes = λ h column some. goes_then names _ (reading h (filled (set_hole column some) r.number)) _ ts us vs (r.goes h (set_hole column some) (set_plain column some r.number))
-          (passes_goes names (sign right) us vs _ _ (mark right) c (set_right h column some r.number) refl);
-    }
+pub listed_fails : (names : Names) (close : Sign) (ts us : List Placed) (value : ℤ) (f : TermFault) → ReadsNumber names ts value us → IsOther (sign comma) us f → IsOther (sign close) us f → FailsListed names close ts f
+listed_fails names close ts us value f r nc nr h l some e =
+    goes_fails names _ (reading h (filled (list_hole l some) r.number)) ts us f (r.goes h (list_hole l some) (list_plain l some r.number))
+    (neither_fails names (sign comma) (sign close) us f _ nc nr (list_stuck h l some r.number close e))
 
-pub listed_fails : (names : Names) (ts us vs : List Placed) (value : ℤ) (t : Token) (at : ℕ) → ReadsNumber names ts value us → us ≡ at_place t at ∷ vs → t ≢ sign comma → t ≢ sign right → FailsListed names ts (Unexpected at)
-listed_fails names ts us vs value t at r e nc nr h column some =
-    goes_fails names _ (reading h (filled (set_hole column some) r.number)) ts us (Unexpected at) (r.goes h (set_hole column some) (set_plain column some r.number))
-    (stuck_fails names t at vs us _ e (set_stuck h column some r.number t nc nr))
+pub listed_number_fails : (names : Names) (close : Sign) (ts : List Placed) (f : TermFault) → FailsNumber names ts f → FailsListed names close ts f
+listed_number_fails names close ts f n h l some e = n h (list_hole l some)
 
 -- the first number is due
-pub some_none : (names : Names) (ts : List Placed) → ReadsSome names ts [] true ts
-some_none names ts = record { some = []; fits = All-nil (FitsSigned w64); values_are = refl; goes = λ h column p. (p, refl) }
+pub some_none : (names : Names) (close : Sign) (ts : List Placed) → ReadsSome names close ts [] true ts
+some_none names close ts = record { some = []; fits = All-nil (FitsSigned w64); values_are = refl; goes = λ h l e p. (p, refl) }
 
-mapped_more : (some : List NumberText) (n : NumberText) (values : List ℤ) (v : ℤ) → map number_value some ≡ values → number_value n ≡ v → map number_value (some ++ n ∷ []) ≡ values ++ v ∷ []
-mapped_more some n values v e f = map-append number_value some (n ∷ []) ∙ (ap (λ xs. xs ++ number_value n ∷ []) e ∙ ap (λ x. values ++ x ∷ []) f)
+pub mapped_more : {A B : Type 0} (f : A → B) (some : List A) (x : A) (values : List B) (v : B) → map f some ≡ values → f x ≡ v → map f (some ++ x ∷ []) ≡ values ++ v ∷ []
+mapped_more f some x values v e k = map-append f some (x ∷ []) ∙ (ap (λ ys. ys ++ f x ∷ []) e ∙ ap (λ y. values ++ y ∷ []) k)
 
-pub some_more : (names : Names) (ts us vs : List Placed) (values : List ℤ) (v : ℤ) (more : Bool) → ReadsSome names ts values true us → ReadsListed names us v more vs → ReadsSome names ts (values ++ v ∷ []) more vs
-some_more names ts us vs values v more r l =
+pub some_more : (names : Names) (close : Sign) (ts us vs : List Placed) (values : List ℤ) (v : ℤ) (more : Bool) → ReadsSome names close ts values true us → ReadsListed names close us v more vs → ReadsSome names close ts (values ++ v ∷ []) more vs
+some_more names close ts us vs values v more r n =
     record {
-      some = r.some ++ l.number ∷ [];
-      fits = All-append (FitsSigned w64) values (v ∷ []) r.fits (all_one (FitsSigned w64) v l.fits);
-      values_are = mapped_more r.some l.number values v r.values_are l.value_is;
-      goes = λ h column. goes_then names _ _ _ ts us vs (r.goes h column) (l.goes h column r.some);
+      some = r.some ++ n.number ∷ [];
+      fits = All-append (FitsSigned w64) values (v ∷ []) r.fits (all_one (FitsSigned w64) v n.fits);
+      values_are = mapped_more number_value r.some n.number values v r.values_are n.value_is;
+      goes = λ h l e. goes_then names _ _ _ ts us vs (r.goes h l e) (n.goes h l r.some e);
     }
 
-pub some_fails : (names : Names) (ts us : List Placed) (values : List ℤ) (f : TermFault) → ReadsSome names ts values true us → FailsListed names us f → FailsNumbers names ts f
-some_fails names ts us values f r l h column = goes_fails names _ _ ts us f (r.goes h column) (l h column r.some)
+pub some_fails : (names : Names) (close : Sign) (ts us : List Placed) (values : List ℤ) (f : TermFault) → ReadsSome names close ts values true us → FailsListed names close us f → FailsNumbers names close ts f
+some_fails names close ts us values f r n h l e = goes_fails names _ _ ts us f (r.goes h l e) (n h l r.some e)
 
--- the last number ends a set that has one
-pub some_all : (names : Names) (ts us vs : List Placed) (values : List ℤ) (v : ℤ) → ReadsSome names ts values true us → ReadsListed names us v false vs → ReadsNumbers names ts (values ++ v ∷ []) vs
-some_all names ts us vs values v r l = go r.some r.values_are (λ h column. goes_then names _ _ _ ts us vs (r.goes h column) (l.goes h column r.some))
+-- the last number ends a list that has one
+pub some_all : (names : Names) (close : Sign) (ts us vs : List Placed) (values : List ℤ) (v : ℤ) → ReadsSome names close ts values true us → ReadsListed names close us v false vs → ReadsNumbers names close ts (values ++ v ∷ []) vs
+unfolding some_more
+some_all names close ts us vs values v r n = let all = some_more names close ts us vs values v false r n in go r.some all.fits all.values_are all.goes
   where
-    go : (some : List NumberText) → map number_value some ≡ values → ((h : UnaryHole) (column : List ℕ) → Goes names (reading h (number_due (first_of column))) ts (behind_number h column (some ++ l.number ∷ []) false) vs) → ReadsNumbers names ts (values ++ v ∷ []) vs
-    go [] e goes = record { first = l.number; others = []; fits = All-append (FitsSigned w64) values (v ∷ []) r.fits (all_one (FitsSigned w64) v l.fits); values_are = mapped_more [] l.number values v e l.value_is; goes = goes }
-    go (f ∷ os) e goes = record { first = f; others = os ++ l.number ∷ []; fits = All-append (FitsSigned w64) values (v ∷ []) r.fits (all_one (FitsSigned w64) v l.fits); values_are = mapped_more (f ∷ os) l.number values v e l.value_is; goes = goes }
+    go : (some : List NumberText) → All (FitsSigned w64) (values ++ v ∷ []) → map number_value (some ++ n.number ∷ []) ≡ values ++ v ∷ []
+        → ((h : UnaryHole) (l : NumberList) → closing l ≡ close → Goes names (reading h (number_due (first_of l))) ts (behind_number h l (some ++ n.number ∷ []) false) vs) → ReadsNumbers names close ts (values ++ v ∷ []) vs
+    go [] fits e goes = record { first = n.number; others = []; fits = fits; values_are = e; goes = goes }
+    go (f ∷ os) fits e goes = record { first = f; others = os ++ n.number ∷ []; fits = fits; values_are = e; goes = goes }
 
 -- ---- base terms
 
@@ -265,7 +272,7 @@ some_all names ts us vs values v r l = go r.some r.values_are (λ h column. goes
 pub sign_behind : (names : Names) (ts us vs : List Placed) (s m n : State) (g : Sign) → Goes names s ts m us → Passes (sign g) us vs → next m (sign g) ≡ Some (mark g, n) → Goes names s ts n vs
 sign_behind names ts us vs s m n g h c e = goes_then names s m n ts us vs h (passes_goes names (sign g) us vs m n (mark g) c e refl)
 
-column_is : (names : Names) (letters : List ℕ) (col : ℕ) → column_of names letters ≡ Some col → column_at names letters ≡ col
+pub column_is : (names : Names) (letters : List ℕ) (col : ℕ) → column_of names letters ≡ Some col → column_at names letters ≡ col
 column_is names letters col h = ap (λ o. unwrap_or o 0) h
 
 pub low_read : (names : Names) (ts us vs : List Placed) (col : ℕ) → ReadsOpened names ts col us → Passes (sign right) us vs → ReadsBase names low_kind ts (scored (low col)) vs
@@ -313,13 +320,13 @@ between_read names ts us vs ws xs ys zs col l r o c n d m e =
           (goes_then names _ _ _ ts xs ys (range_goes names ts us vs ws xs col l o c n d h) (m.goes h o.letters n.number n.value_is)) e refl;
     }
 
-pub pos_read : (names : Names) (ts us vs ws : List Placed) (col : ℕ) (set : List ℤ) → ReadsOpened names ts col us → Passes (sign comma) us vs → ReadsNumbers names vs set ws → ReadsBase names pos_kind ts (scored (one_of col set)) ws
+pub pos_read : (names : Names) (ts us vs ws : List Placed) (col : ℕ) (set : List ℤ) → ReadsOpened names ts col us → Passes (sign comma) us vs → ReadsNumbers names right vs set ws → ReadsBase names pos_kind ts (scored (one_of col set)) ws
 pos_read names ts us vs ws col set r c n =
     record {
       tree = pos_text r.letters n.first n.others;
       meaning = ap (λ i. scored (one_of i (number_value n.first ∷ map number_value n.others))) (column_is names r.letters col r.found.place) ∙ ap (λ v. scored (one_of col v)) n.values_are;
       known = (r.found.known, (subst (λ (set : List ℤ). set ≢ []) n.values_are cons_not_none, n.fits));
-      goes = λ h. goes_then names _ _ _ ts vs ws (sign_behind names ts us vs _ _ (reading h (number_due (first_of r.letters))) comma (r.goes h pos_kind) c refl) (n.goes h r.letters);
+      goes = λ h. goes_then names _ _ _ ts vs ws (sign_behind names ts us vs _ _ (reading h (number_due (first_of (in_pos r.letters)))) comma (r.goes h pos_kind) c refl) (n.goes h (in_pos r.letters) refl);
     }
 
 -- and their faults
@@ -379,6 +386,6 @@ between_end_fails names ts us vs ws xs ys col l r f o c n d m e h =
 pub pos_fails : (names : Names) (ts us : List Placed) (col : ℕ) (f : TermFault) → ReadsOpened names ts col us → IsOther (sign comma) us f → FailsBase names pos_kind ts f
 pos_fails names ts us col f r o h = goes_fails names _ _ ts us f (r.goes h pos_kind) (other_fails names (sign comma) us f _ o (pos_goes_on h r.letters))
 
-pub pos_numbers_fails : (names : Names) (ts us vs : List Placed) (col : ℕ) (f : TermFault) → ReadsOpened names ts col us → Passes (sign comma) us vs → FailsNumbers names vs f → FailsBase names pos_kind ts f
+pub pos_numbers_fails : (names : Names) (ts us vs : List Placed) (col : ℕ) (f : TermFault) → ReadsOpened names ts col us → Passes (sign comma) us vs → FailsNumbers names right vs f → FailsBase names pos_kind ts f
 pos_numbers_fails names ts us vs col f r c n h =
-    goes_fails names _ _ ts vs f (sign_behind names ts us vs _ _ (reading h (number_due (first_of r.letters))) comma (r.goes h pos_kind) c refl) (n h r.letters)
+    goes_fails names _ _ ts vs f (sign_behind names ts us vs _ _ (reading h (number_due (first_of (in_pos r.letters)))) comma (r.goes h pos_kind) c refl) (n h (in_pos r.letters) refl)

@@ -8,8 +8,8 @@ use Rattle.std.proofs.lemmas.List.{length-append, map-append}
 use Rattle.std.proofs.lemmas.Bool.Decides.{nat_tests}
 use Rattle.pref_table.specs.Names.{is_name_byte}
 use Rattle.pref_table.specs.Number.{is_blank}
-use Rattle.pref_term.specs.Token.{Sign, left, right, comma, star, ampersand, minus, Token, word, digits, sign, sign_or_other, more_bytes, token_from, tokens_from}
-use Rattle.pref_term.specs.Grammar.{Keyword, best_word, low_word, high_word, around_word, pos_word, reverse_word, top_level_word, at_least_word, by_word, letters_of, NumberText, BaseText, low_text, high_text, around_text, pos_text, PriorText, one_product, then_product, ProductText, one_factor, then_factor, UnaryText, negated, grouped, reversed, based, HeadText, best_head, top_level_head, at_least_head, rated, Leaf, name, mark, opens, column_name, number_digits, count_digits, cased, last, IsWritten, IsText, signed_leaves, number_leaves, others_leaves, base_leaves, prior_leaves, product_leaves, unary_leaves, head_leaves, more_columns, group_leaves, ask_leaves, token_of, between_word, between_text, end_leaves}
+use Rattle.pref_term.specs.Token.{Sign, left, right, comma, star, ampersand, minus, left_brace, right_brace, Token, word, digits, sign, sign_or_other, more_bytes, token_from, tokens_from}
+use Rattle.pref_term.specs.Grammar.{Keyword, best_word, low_word, high_word, around_word, pos_word, reverse_word, top_level_word, at_least_word, by_word, letters_of, NumberText, BaseText, low_text, high_text, around_text, pos_text, PriorText, one_product, then_product, ProductText, one_factor, then_factor, UnaryText, negated, grouped, reversed, based, HeadText, best_head, top_level_head, at_least_head, rated, Leaf, name, mark, opens, column_name, number_digits, count_digits, cased, last, IsWritten, IsText, signed_leaves, number_leaves, others_leaves, base_leaves, prior_leaves, product_leaves, unary_leaves, head_leaves, more_columns, group_leaves, ask_leaves, token_of, between_word, between_text, end_leaves, layered_word, layered_text, SetText, list_leaves, set_leaves, more_sets}
 use Rattle.pref_term.specs.Spells.{tokens_in, tokens_on}
 use Rattle.pref_term.proofs.ShownNames.{IsWordText}
 use Rattle.pref_term.proofs.TokenLemmas.{told_passed}
@@ -95,6 +95,8 @@ pub sign_lexed : (s : Sign) (rest : List ℕ) → lexed (sign_text s ++ rest) �
 sign_lexed left rest = ap (λ ts. sign left ∷ ts) (place_free 0 1 0 rest)
 sign_lexed right rest = ap (λ ts. sign right ∷ ts) (place_free 0 1 0 rest)
 sign_lexed minus rest = ap (λ ts. sign minus ∷ ts) (place_free 0 1 0 rest)
+sign_lexed left_brace rest = ap (λ ts. sign left_brace ∷ ts) (place_free 0 1 0 rest)
+sign_lexed right_brace rest = ap (λ ts. sign right_brace ∷ ts) (place_free 0 1 0 rest)
 sign_lexed comma rest = ap (λ ts. sign comma ∷ ts) (place_free 0 2 0 rest)
 sign_lexed star rest = ap (λ ts. sign star ∷ ts) (place_free 0 3 0 rest)
 sign_lexed ampersand rest = ap (λ ts. sign ampersand ∷ ts) (place_free 0 3 0 rest)
@@ -131,6 +133,7 @@ keyword_lexed high_word rest h = word_lexed 104 (105 ∷ 103 ∷ 104 ∷ []) res
 keyword_lexed around_word rest h = word_lexed 97 (114 ∷ 111 ∷ 117 ∷ 110 ∷ 100 ∷ []) rest (refl, (refl, (refl, (refl, (refl, (refl, tt)))))) h
 keyword_lexed between_word rest h = word_lexed 98 (101 ∷ 116 ∷ 119 ∷ 101 ∷ 101 ∷ 110 ∷ []) rest (refl, (refl, (refl, (refl, (refl, (refl, (refl, tt))))))) h
 keyword_lexed pos_word rest h = word_lexed 112 (111 ∷ 115 ∷ []) rest (refl, (refl, (refl, tt))) h
+keyword_lexed layered_word rest h = word_lexed 108 (97 ∷ 121 ∷ 101 ∷ 114 ∷ 101 ∷ 100 ∷ []) rest (refl, (refl, (refl, (refl, (refl, (refl, (refl, tt))))))) h
 keyword_lexed reverse_word rest h = word_lexed 114 (101 ∷ 118 ∷ 101 ∷ 114 ∷ 115 ∷ 101 ∷ []) rest (refl, (refl, (refl, (refl, (refl, (refl, (refl, tt))))))) h
 keyword_lexed top_level_word rest h = word_lexed 116 (111 ∷ 112 ∷ 95 ∷ 108 ∷ 101 ∷ 118 ∷ 101 ∷ 108 ∷ []) (32 ∷ rest) (refl, (refl, (refl, (refl, (refl, (refl, (refl, (refl, (refl, tt))))))))) refl ∙ ap (λ ts. word (codes "top_level") ∷ ts) (place_free 0 1 0 rest)
 keyword_lexed at_least_word rest h = word_lexed 97 (116 ∷ 95 ∷ 108 ∷ 101 ∷ 97 ∷ 115 ∷ 116 ∷ []) (32 ∷ rest) (refl, (refl, (refl, (refl, (refl, (refl, (refl, (refl, tt)))))))) refl ∙ ap (λ ts. word (codes "at_least") ∷ ts) (place_free 0 1 0 rest)
@@ -171,12 +174,16 @@ apart_both (leaf ∷ a) b rest h k =
 abbrev pub FineNumbers : List NumberText → Type 0
 FineNumbers ns = AllByRecursion (λ n. IsDigitsText n.digits) ns
 
+abbrev pub FineSet : SetText → Type 0
+FineSet s = FineNumbers (s.first ∷ s.others)
+
 abbrev pub FineBase : BaseText → Type 0
 FineBase (low_text column) = IsWordText column
 FineBase (high_text column) = IsWordText column
 FineBase (around_text column centre) = IsWordText column × IsDigitsText centre.digits
 FineBase (between_text column l r) = IsWordText column × IsDigitsText l.digits × IsDigitsText r.digits
 FineBase (pos_text column first others) = IsWordText column × FineNumbers (first ∷ others)
+FineBase (layered_text column first others) = IsWordText column × AllByRecursion FineSet (first ∷ others)
 
 abbrev mutual
   pub FinePrior : PriorText → Type 0
@@ -205,6 +212,27 @@ apart_others : (ns : List NumberText) (rest : List ℕ) → FineNumbers ns → E
 apart_others [] rest h e = tt
 apart_others (n ∷ ns) rest h e =
     (tt, tt, apart_both (number_leaves n) (others_leaves ns) rest (apart_number None n.negative n.digits (leaves_text (others_leaves ns) ++ rest) h.0 (others_end ns rest e)) (apart_others ns rest h.1 e))
+
+-- numbers, and a sign that no digit begins
+apart_list : (first : NumberText) (others : List NumberText) (closing : Sign) (rest : List ℕ) → FineNumbers (first ∷ others) → Ends is_ascii_digit (sign_text closing ++ rest) → Apart (list_leaves first others closing) rest
+apart_list first others closing rest h e =
+    apart_both (number_leaves first) (others_leaves others ++ mark closing ∷ []) rest
+    (apart_number None first.negative first.digits (leaves_text (others_leaves others ++ mark closing ∷ []) ++ rest) h.0 (numbers_end others))
+    (apart_both (others_leaves others) (mark closing ∷ []) rest (apart_others others (leaves_text (mark closing ∷ []) ++ rest) h.1 one) (tt, tt, tt))
+  where
+    one : Ends is_ascii_digit (leaves_text (mark closing ∷ []) ++ rest)
+    one = subst (λ (text : List ℕ). Ends is_ascii_digit (text ++ rest)) (sym (append-nil (sign_text closing))) e
+
+    numbers_end : (ns : List NumberText) → Ends is_ascii_digit (leaves_text (others_leaves ns ++ mark closing ∷ []) ++ rest)
+    numbers_end [] = one
+    numbers_end (n ∷ ns) = refl
+
+apart_set : (s : SetText) (rest : List ℕ) → FineSet s → Apart (set_leaves s) rest
+apart_set s rest h = (tt, tt, apart_list s.first s.others right_brace rest h refl)
+
+apart_sets : (ss : List SetText) (rest : List ℕ) → AllByRecursion FineSet ss → Apart (more_sets ss) rest
+apart_sets [] rest h = tt
+apart_sets (s ∷ ss) rest h = (tt, tt, apart_both (set_leaves s) (more_sets ss) rest (apart_set s (leaves_text (more_sets ss) ++ rest) h.0) (apart_sets ss rest h.1))
 
 apart_base : (b : BaseText) (rest : List ℕ) → FineBase b → Apart (base_leaves b) rest
 apart_base (low_text column) rest h = (tt, refl, (tt, tt, (h, refl, (tt, tt, tt))))
@@ -239,20 +267,28 @@ apart_base (pos_text column first others) rest h = (
     (
       h.0,
       refl,
+      (tt, tt, apart_list first others right rest h.1 refl),
+    ),
+  ),
+)
+apart_base (layered_text column first others) rest h = (
+  tt,
+  refl,
+  (
+    tt,
+    tt,
+    (
+      h.0,
+      refl,
       (
         tt,
         tt,
-        apart_both (number_leaves first) (others_leaves others ++ mark right ∷ []) rest
-            (apart_number None first.negative first.digits (leaves_text (others_leaves others ++ mark right ∷ []) ++ rest) h.1.0 (numbers_end others rest))
-            (apart_both (others_leaves others) (mark right ∷ []) rest (apart_others others (codes ")" ++ rest) h.1.1 refl) (tt, tt, tt)),
+        apart_both (set_leaves first) (more_sets others ++ mark right ∷ []) rest (apart_set first (leaves_text (more_sets others ++ mark right ∷ []) ++ rest) h.1.0)
+            (apart_both (more_sets others) (mark right ∷ []) rest (apart_sets others (codes ")" ++ rest) h.1.1) (tt, tt, tt)),
       ),
     ),
   ),
 )
-  where
-    numbers_end : (ns : List NumberText) (rest : List ℕ) → Ends is_ascii_digit (leaves_text (others_leaves ns ++ mark right ∷ []) ++ rest)
-    numbers_end [] rest = refl
-    numbers_end (n ∷ ns) rest = refl
 
 mutual
   pub apart_prior : (r : PriorText) (depth : ℕ) (rest : List ℕ) → FinePrior r → Apart (prior_leaves r depth) rest

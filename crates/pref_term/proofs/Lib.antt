@@ -7,6 +7,7 @@ pub mod TokenLemmas
 pub mod Complete
 pub mod Exact
 pub mod LedLemmas
+pub mod SetLemmas
 pub mod CycleLemmas
 pub mod AskedLemmas
 pub mod AskLemmas

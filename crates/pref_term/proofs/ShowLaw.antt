@@ -8,25 +8,25 @@ use Rattle.std.specs.Str.{all_ascii_digits}
 use Rattle.std.proofs.lemmas.Fmt.{digits_value-decimal, digits_decimal, decimal_nonempty}
 use Rattle.std.proofs.lemmas.List.Elements.{recursion_from_All}
 use Rattle.std.proofs.lemmas.Bool.Decides.{nat_tests}
-use Rattle.pref_term.specs.Token.{left, right, star, ampersand, minus, comma, tokens_of}
-use Rattle.pref_term.specs.Grammar.{PriorText, one_product, then_product, then_factor, grouped, AskText, rated, mark, column_name, count_digits, last, head_leaves, more_columns, group_leaves, number_leaves, others_leaves, base_leaves, prior_leaves, product_leaves, unary_leaves, end_leaves}
+use Rattle.pref_term.specs.Token.{left, right, star, ampersand, minus, comma, tokens_of, Sign, right_brace}
+use Rattle.pref_term.specs.Grammar.{PriorText, one_product, then_product, then_factor, grouped, AskText, rated, mark, column_name, count_digits, last, head_leaves, more_columns, group_leaves, number_leaves, others_leaves, base_leaves, prior_leaves, product_leaves, unary_leaves, end_leaves, list_leaves, set_leaves, more_sets}
 use Rattle.pref_table.specs.Names.{schema_of}
 use Rattle.pref_table.specs.Number.{fits_cell}
 use Rattle.pref_term.specs.OrderLaws.{and_parts}
 use Rattle.pref_term.specs.Columns.{column, ReadsBelow}
-use Rattle.pref_term.specs.Writable.{IsWritableBase, IsWritable}
+use Rattle.pref_term.specs.Writable.{IsWritableSet, IsWritableBase, IsWritable}
 use Rattle.pref_term.specs.Question.{Question, FitsWidth, IsCount, is_count, cut_of, IsAsk}
 use Rattle.pref_term.specs.Spells.{Names, Spells, IsGood, own_fault, number_value, mode_of, column_at, unknown_column, number_range, bad_count, below, empty_range}
-use Rattle.pref_term.specs.Preference.{Base, low, high, around, one_of, Preference, scored, pareto, prior, reverse, between}
+use Rattle.pref_term.specs.Preference.{Base, low, high, around, one_of, Preference, scored, pareto, prior, reverse, between, layered}
 use Rattle.pref_term.specs.Shown.{is_prior, is_composed, held_nests, nests, name_at, shown_term, shown_mode, shown_group, shown, shown_dims, shown_diffs}
 use Rattle.pref_term.specs.declared.ask.Mode.{Mode}
 use Rattle.pref_term.specs.declared.ask.Mode.TheVariants.{Best, TopLevel, AtLeast}
 use Rattle.pref_term.proofs.ShownNames.{IsWordText, IsNamed, is_named}
-use Rattle.pref_term.proofs.ShownLemmas.{AreInRange, CanShowBase, CanShow, leaves_text, leaves_text-append, head_text, head_shown, group_shown, columns_same, number_text, base_text, Shape, factor, product, ranked, as_prior, as_product, as_factor, shape_of, shape_leaves, prior_same, number_same, meaning_same, prior_text, text_shown, own_numerals}
+use Rattle.pref_term.proofs.ShownLemmas.{AreInRange, CanShowBase, CanShow, leaves_text, leaves_text-append, head_text, head_shown, group_shown, columns_same, number_text, base_text, Shape, factor, product, ranked, as_prior, as_product, as_factor, shape_of, shape_leaves, prior_same, number_same, meaning_same, prior_text, text_shown, own_numerals, CanShowSet, set_text}
 use Rattle.pref_term.proofs.Exact.{good_both}
 use Rattle.pref_term.proofs.CycleLemmas.{depth_good}
 use Rattle.pref_term.proofs.DistinctLemmas.{head_said, plain_tokens}
-use Rattle.pref_term.proofs.Lexed.{lexed, IsDigitsText, FineHead, FineNumbers, FineBase, FinePrior, FineProduct, FineUnary, said, rated_lexed, rated_written}
+use Rattle.pref_term.proofs.Lexed.{lexed, IsDigitsText, FineHead, FineNumbers, FineBase, FinePrior, FineProduct, FineUnary, said, rated_lexed, rated_written, FineSet}
 
 digits_text : (ds : List ℕ) → all_ascii_digits ds ≡ true → 0 < length ds → IsDigitsText ds
 digits_text [] h n = absurd (omega arith)
@@ -47,6 +47,14 @@ numbers_fine : (vs : List ℤ) → AreInRange vs → FineNumbers (map number_tex
 numbers_fine [] h = tt
 numbers_fine (v ∷ vs) h = (number_fine v h.0, numbers_fine vs h.1)
 
+set_fine : (set : List ℤ) → CanShowSet set → FineSet (set_text set)
+set_fine [] h = absurd h
+set_fine (v ∷ vs) h = (number_fine v h.0, numbers_fine vs h.1)
+
+sets_fine : (sets : List (List ℤ)) → AllByRecursion CanShowSet sets → AllByRecursion FineSet (map set_text sets)
+sets_fine [] h = tt
+sets_fine (s ∷ ss) h = (set_fine s h.0, sets_fine ss h.1)
+
 base_fine : (names : Names) (b : Base) → CanShowBase names b → FineBase (base_text names b)
 base_fine names (low col) h = h.0
 base_fine names (high col) h = h.0
@@ -54,6 +62,8 @@ base_fine names (around col centre) h = (h.0.0, number_fine centre h.1)
 base_fine names (between col l r) h = (h.0.0, number_fine l h.1, number_fine r h.2)
 base_fine names (one_of col []) h = absurd h
 base_fine names (one_of col (v ∷ vs)) h = (h.0.0, (number_fine v h.1.0, numbers_fine vs h.1.1))
+base_fine names (layered col []) h = absurd h
+base_fine names (layered col (s ∷ ss)) h = (h.0.0, sets_fine (s ∷ ss) h.1)
 
 abbrev FineShape : Shape → Type 0
 FineShape (factor u) = FineUnary u
@@ -111,6 +121,19 @@ numbers_good : (names : Names) (vs : List ℤ) → AreInRange vs → AllByRecurs
 numbers_good names [] h = tt
 numbers_good names (v ∷ vs) h = (refl, good_both names (number_leaves (number_text v)) (others_leaves (map number_text vs)) (number_good names v h.0) (numbers_good names vs h.1))
 
+list_good : (names : Names) (v : ℤ) (vs : List ℤ) (closing : Sign) → AreInRange (v ∷ vs) → AllByRecursion (IsGood names) (list_leaves (number_text v) (map number_text vs) closing)
+list_good names v vs closing h =
+    good_both names (number_leaves (number_text v)) (others_leaves (map number_text vs) ++ mark closing ∷ []) (number_good names v h.0)
+    (good_both names (others_leaves (map number_text vs)) (mark closing ∷ []) (numbers_good names vs h.1) (refl, tt))
+
+set_good : (names : Names) (set : List ℤ) → CanShowSet set → AllByRecursion (IsGood names) (set_leaves (set_text set))
+set_good names [] h = absurd h
+set_good names (v ∷ vs) h = (refl, list_good names v vs right_brace h)
+
+sets_good : (names : Names) (sets : List (List ℤ)) → AllByRecursion CanShowSet sets → AllByRecursion (IsGood names) (more_sets (map set_text sets))
+sets_good names [] h = tt
+sets_good names (s ∷ ss) h = (refl, good_both names (set_leaves (set_text s)) (more_sets (map set_text ss)) (set_good names s h.0) (sets_good names ss h.1))
+
 base_good : (names : Names) (b : Base) → CanShowBase names b → AllByRecursion (IsGood names) (base_leaves (base_text names b))
 base_good names (low col) h = (refl, (refl, (column_fine names col h, (refl, tt))))
 base_good names (high col) h = (refl, (refl, (column_fine names col h, (refl, tt))))
@@ -137,10 +160,21 @@ base_good names (one_of col (v ∷ vs)) h = (
     refl,
     (
       column_fine names col h.0,
+      (refl, list_good names v vs right h.1),
+    ),
+  ),
+)
+base_good names (layered col []) h = absurd h
+base_good names (layered col (s ∷ ss)) h = (
+  refl,
+  (
+    refl,
+    (
+      column_fine names col h.0,
       (
         refl,
-        good_both names (number_leaves (number_text v)) (others_leaves (map number_text vs) ++ mark right ∷ []) (number_good names v h.1.0)
-            (good_both names (others_leaves (map number_text vs)) (mark right ∷ []) (numbers_good names vs h.1.1) (refl, tt)),
+        good_both names (set_leaves (set_text s)) (more_sets (map set_text ss) ++ mark right ∷ []) (set_good names s h.1.0)
+            (good_both names (more_sets (map set_text ss)) (mark right ∷ []) (sets_good names ss h.1.1) (refl, tt)),
       ),
     ),
   ),
@@ -224,12 +258,22 @@ group_good names (c ∷ cs) h = (refl, (column_fine names c h.0, columns_good na
 
 -- ---- what can be shown is what contracts see of an ask over the columns of a schema
 
+can_show_set : (set : List ℤ) → IsWritableSet set → CanShowSet set
+can_show_set [] w = absurd (w.0 refl)
+can_show_set (v ∷ vs) w = recursion_from_All (FitsSigned w64) (v ∷ vs) w.1
+
+can_show_sets : (sets : List (List ℤ)) → AllByRecursion IsWritableSet sets → AllByRecursion CanShowSet sets
+can_show_sets [] w = tt
+can_show_sets (s ∷ ss) w = (can_show_set s w.0, can_show_sets ss w.1)
+
 module _ (names : Names) (each : (col : ℕ) → col < length names → IsNamed names col) where
   can_show_base : (b : Base) → IsWritableBase b → column b < length names → CanShowBase names b
   can_show_base (low col) w k = each col k
   can_show_base (high col) w k = each col k
   can_show_base (around col centre) w k = (each col k, w)
   can_show_base (between col l r) w k = (each col k, w.0, w.1, w.2)
+  can_show_base (layered col []) w k = absurd (w.0 refl)
+  can_show_base (layered col (s ∷ ss)) w k = (each col k, can_show_sets (s ∷ ss) (recursion_from_All IsWritableSet (s ∷ ss) w.1))
   can_show_base (one_of col []) w k = absurd (w.0 refl)
   can_show_base (one_of col (v ∷ vs)) w k = (each col k, recursion_from_All (FitsSigned w64) (v ∷ vs) w.1)
 

@@ -8,11 +8,11 @@ use Rattle.std.specs.Str.{all_ascii_digits}
 use Rattle.std.specs.Str.Parse.{digits_value}
 use Rattle.std.proofs.lemmas.Str.Parse.{IsNumeralModel, numerals_by_value, tells_all_ascii_digits}
 use Rattle.std.proofs.lemmas.Fmt.{digits_value-decimal}
-use Rattle.pref_term.specs.Token.{Sign, left, right, comma, star, ampersand, minus}
-use Rattle.pref_term.specs.Grammar.{Keyword, best_word, low_word, high_word, around_word, pos_word, reverse_word, top_level_word, at_least_word, by_word, NumberText, BaseText, low_text, high_text, around_text, pos_text, PriorText, one_product, then_product, ProductText, one_factor, then_factor, UnaryText, negated, grouped, based, HeadText, best_head, top_level_head, at_least_head, Leaf, name, mark, opens, column_name, number_digits, count_digits, cased, last, number_leaves, others_leaves, base_leaves, prior_leaves, product_leaves, unary_leaves, head_leaves, more_columns, group_leaves, between_word, between_text, end_leaves}
-use Rattle.pref_term.specs.Spells.{Names, number_value, column_at, base_meaning, prior_meaning, product_meaning, unary_meaning}
-use Rattle.pref_term.specs.Preference.{Base, low, high, around, one_of, Preference, scored, pareto, prior, reverse, between}
-use Rattle.pref_term.specs.Shown.{name_at, shown_values, shown_base, is_prior, is_composed, held, shown_term, shown_mode, more_names, shown_group}
+use Rattle.pref_term.specs.Token.{Sign, left, right, comma, star, ampersand, minus, left_brace, right_brace}
+use Rattle.pref_term.specs.Grammar.{Keyword, best_word, low_word, high_word, around_word, pos_word, reverse_word, top_level_word, at_least_word, by_word, NumberText, BaseText, low_text, high_text, around_text, pos_text, PriorText, one_product, then_product, ProductText, one_factor, then_factor, UnaryText, negated, grouped, based, HeadText, best_head, top_level_head, at_least_head, Leaf, name, mark, opens, column_name, number_digits, count_digits, cased, last, number_leaves, others_leaves, base_leaves, prior_leaves, product_leaves, unary_leaves, head_leaves, more_columns, group_leaves, between_word, between_text, end_leaves, layered_word, layered_text, SetText, list_leaves, set_leaves, more_sets}
+use Rattle.pref_term.specs.Spells.{Names, number_value, set_value, column_at, base_meaning, prior_meaning, product_meaning, unary_meaning}
+use Rattle.pref_term.specs.Preference.{Base, low, high, around, one_of, Preference, scored, pareto, prior, reverse, between, layered}
+use Rattle.pref_term.specs.Shown.{name_at, shown_values, shown_set, shown_sets, shown_base, is_prior, is_composed, held, shown_term, shown_mode, more_names, shown_group}
 use Rattle.pref_term.specs.declared.ask.Mode.{Mode}
 use Rattle.pref_term.specs.declared.ask.Mode.TheVariants.{Best, TopLevel, AtLeast}
 use Rattle.pref_term.proofs.ShownNames.{IsNamed}
@@ -23,6 +23,11 @@ use Rattle.pref_term.proofs.ShownNames.{IsNamed}
 abbrev pub AreInRange : List ℤ → Type 0
 AreInRange values = AllByRecursion (FitsSigned w64) values
 
+-- a set that has values, all of 64 bits
+abbrev pub CanShowSet : List ℤ → Type 0
+CanShowSet [] = ⊥
+CanShowSet (v ∷ vs) = AreInRange (v ∷ vs)
+
 abbrev pub CanShowBase : Names → Base → Type 0
 CanShowBase names (low col) = IsNamed names col
 CanShowBase names (high col) = IsNamed names col
@@ -30,6 +35,8 @@ CanShowBase names (around col centre) = IsNamed names col × FitsSigned w64 cent
 CanShowBase names (between col l r) = IsNamed names col × FitsSigned w64 l × FitsSigned w64 r × (int_lt r l ≡ false)
 CanShowBase names (one_of col []) = ⊥
 CanShowBase names (one_of col (v ∷ vs)) = IsNamed names col × AreInRange (v ∷ vs)
+CanShowBase names (layered col []) = ⊥
+CanShowBase names (layered col (s ∷ ss)) = IsNamed names col × AllByRecursion CanShowSet (s ∷ ss)
 
 -- its columns have names, its numbers are of 64 bits and its sets aren't empty
 abbrev pub CanShow : Names → Preference → Type 0
@@ -47,6 +54,8 @@ sign_text comma = codes ", "
 sign_text star = codes " * "
 sign_text ampersand = codes " & "
 sign_text minus = codes "-"
+sign_text left_brace = codes "{"
+sign_text right_brace = codes "}"
 
 abbrev pub word_text : Keyword → List ℕ
 word_text best_word = codes "best "
@@ -55,6 +64,7 @@ word_text high_word = codes "high"
 word_text around_word = codes "around"
 word_text between_word = codes "between"
 word_text pos_word = codes "pos"
+word_text layered_word = codes "layered"
 word_text reverse_word = codes "reverse"
 word_text top_level_word = codes "top_level "
 word_text at_least_word = codes "at_least "
@@ -84,6 +94,11 @@ abbrev pub number_text : ℤ → NumberText
 number_text (pos n) = record { negative = false; digits = decimal n }
 number_text (negsuc n) = record { negative = true; digits = decimal (suc n) }
 
+-- an empty set is never shown
+abbrev pub set_text : List ℤ → SetText
+set_text [] = record { first = number_text (pos 0); others = [] }
+set_text (v ∷ vs) = record { first = number_text v; others = map number_text vs }
+
 abbrev pub base_text : Names → Base → BaseText
 base_text names (low col) = low_text (name_at names col)
 base_text names (high col) = high_text (name_at names col)
@@ -91,6 +106,8 @@ base_text names (around col centre) = around_text (name_at names col) (number_te
 base_text names (between col l r) = between_text (name_at names col) (number_text l) (number_text r)
 base_text names (one_of col []) = low_text (name_at names col)
 base_text names (one_of col (v ∷ vs)) = pos_text (name_at names col) (number_text v) (map number_text vs)
+base_text names (layered col []) = low_text (name_at names col)
+base_text names (layered col (s ∷ ss)) = layered_text (name_at names col) (set_text s) (map set_text ss)
 
 -- a tree of the tightest kind that the preference has
 pub data Shape : Type 0 where
@@ -155,6 +172,14 @@ numbers_same : (vs : List ℤ) → AreInRange vs → map number_value (map numbe
 numbers_same [] h = refl
 numbers_same (v ∷ vs) h = ap (λ x. x ∷ map number_value (map number_text vs)) (number_same v h.0) ∙ ap (λ xs. v ∷ xs) (numbers_same vs h.1)
 
+set_same : (set : List ℤ) → CanShowSet set → set_value (set_text set) ≡ set
+set_same [] h = absurd h
+set_same (v ∷ vs) h = numbers_same (v ∷ vs) h
+
+sets_same : (sets : List (List ℤ)) → AllByRecursion CanShowSet sets → map set_value (map set_text sets) ≡ sets
+sets_same [] h = refl
+sets_same (s ∷ ss) h = ap (λ x. x ∷ map set_value (map set_text ss)) (set_same s h.0) ∙ ap (λ xs. s ∷ xs) (sets_same ss h.1)
+
 base_same : (names : Names) (b : Base) → CanShowBase names b → base_meaning names (base_text names b) ≡ b
 base_same names (low col) h = ap low (column_same names col h)
 base_same names (high col) h = ap high (column_same names col h)
@@ -164,6 +189,8 @@ base_same names (between col l r) h =
     ∙ (ap (λ v. between col v (number_value (number_text r))) (number_same l h.1) ∙ ap (between col l) (number_same r h.2))
 base_same names (one_of col []) h = absurd h
 base_same names (one_of col (v ∷ vs)) h = ap (λ c. one_of c (map number_value (map number_text (v ∷ vs)))) (column_same names col h.0) ∙ ap (one_of col) (numbers_same (v ∷ vs) h.1)
+base_same names (layered col []) h = absurd h
+base_same names (layered col (s ∷ ss)) h = ap (λ c. layered c (map set_value (map set_text (s ∷ ss)))) (column_same names col h.0) ∙ ap (layered col) (sets_same (s ∷ ss) h.1)
 
 -- the tree has the meaning of what is shown
 pub meaning_same : (names : Names) (p : Preference) → CanShow names p → shape_meaning (shape_of names p) names ≡ p
@@ -198,6 +225,25 @@ values_shown (v ∷ vs) =
     ∙ (ap (λ xs. codes ", " ++ (xs ++ leaves_text (others_leaves (map number_text vs)))) (number_shown v)
     ∙ ap (λ xs. codes ", " ++ (signed_decimal v ++ xs)) (values_shown vs))
 
+-- numbers and the sign that closes their list
+list_shown : (v : ℤ) (vs : List ℤ) (closing : Sign) → leaves_text (list_leaves (number_text v) (map number_text vs) closing) ≡ signed_decimal v ++ (shown_values vs ++ sign_text closing)
+list_shown v vs closing =
+    leaves_text-append (number_leaves (number_text v)) (others_leaves (map number_text vs) ++ mark closing ∷ [])
+    ∙ (ap (λ ys. ys ++ leaves_text (others_leaves (map number_text vs) ++ mark closing ∷ [])) (number_shown v)
+    ∙ ap (λ ys. signed_decimal v ++ ys)
+    (leaves_text-append (others_leaves (map number_text vs)) (mark closing ∷ []) ∙ (ap (λ ys. ys ++ (sign_text closing ++ [])) (values_shown vs) ∙ ap (λ ys. shown_values vs ++ ys) (append-nil (sign_text closing)))))
+
+set_shown : (set : List ℤ) → CanShowSet set → leaves_text (set_leaves (set_text set)) ≡ shown_set set
+set_shown [] h = absurd h
+set_shown (v ∷ vs) h = ap (λ xs. codes "{" ++ xs) (list_shown v vs right_brace)
+
+sets_shown : (sets : List (List ℤ)) → AllByRecursion CanShowSet sets → leaves_text (more_sets (map set_text sets)) ≡ shown_sets sets
+sets_shown [] h = refl
+sets_shown (s ∷ ss) h =
+    ap (λ xs. codes ", " ++ xs) (leaves_text-append (set_leaves (set_text s)) (more_sets (map set_text ss)))
+    ∙ (ap (λ xs. codes ", " ++ (xs ++ leaves_text (more_sets (map set_text ss)))) (set_shown s h.0)
+    ∙ ap (λ xs. codes ", " ++ (shown_set s ++ xs)) (sets_shown ss h.1))
+
 base_shown : (names : Names) (b : Base) → CanShowBase names b → leaves_text (base_leaves (base_text names b)) ≡ shown_base names b
 base_shown names (low col) h = simp append_assoc
 base_shown names (high col) h = simp append_assoc
@@ -213,10 +259,13 @@ base_shown names (between col l r) h =
     ∙ simp append_assoc
 base_shown names (one_of col []) h = absurd h
 base_shown names (one_of col (v ∷ vs)) h =
-    ap (λ xs. codes "pos(" ++ (name_at names col ++ (codes ", " ++ xs)))
-    (leaves_text-append (number_leaves (number_text v)) (others_leaves (map number_text vs) ++ mark right ∷ [])
-    ∙ (ap (λ ys. ys ++ leaves_text (others_leaves (map number_text vs) ++ mark right ∷ [])) (number_shown v)
-    ∙ ap (λ ys. signed_decimal v ++ ys) (leaves_text-append (others_leaves (map number_text vs)) (mark right ∷ []) ∙ ap (λ ys. ys ++ codes ")") (values_shown vs))))
+    ap (λ xs. codes "pos(" ++ (name_at names col ++ (codes ", " ++ xs))) (list_shown v vs right) ∙ simp append_assoc
+base_shown names (layered col []) h = absurd h
+base_shown names (layered col (s ∷ ss)) h =
+    ap (λ xs. codes "layered(" ++ (name_at names col ++ (codes ", " ++ xs)))
+    (leaves_text-append (set_leaves (set_text s)) (more_sets (map set_text ss) ++ mark right ∷ [])
+    ∙ (ap (λ ys. ys ++ leaves_text (more_sets (map set_text ss) ++ mark right ∷ [])) (set_shown s h.1.0)
+    ∙ ap (λ ys. shown_set s ++ ys) (leaves_text-append (more_sets (map set_text ss)) (mark right ∷ []) ∙ ap (λ ys. ys ++ codes ")") (sets_shown ss h.1.1))))
     ∙ simp append_assoc
 
 abbrev pub Shows : Names → Preference → Type 0

@@ -4,9 +4,9 @@ use Rattle.std.specs.Prelude.{IfSome}
 use Rattle.std.specs.List.{find}
 use Rattle.std.specs.Str.{bytes_eq, str_to_ascii_lowercase}
 use Rattle.std.proofs.lemmas.Slice.Eq.{bytes_eq-Decides}
-use Rattle.pref_term.specs.Token.{left, right, comma, star, ampersand, minus, Token, word, digits, sign, finish}
-use Rattle.pref_term.specs.Grammar.{Keyword, best_word, low_word, high_word, around_word, pos_word, reverse_word, top_level_word, at_least_word, by_word, CasedWord, skyline_word, of_word, min_word, max_word, diff_word, letters_of, keyword_of, cased_letters, cased_of, HeadText, minimal, maximal, different, DimText, dim_leaves, more_dims, more_columns, IsWritten, NumberText, PriorText, ProductText, UnaryText, negated, grouped, reversed, based, Leaf, mark, column_name, cased, number_leaves, others_leaves, base_leaves, prior_leaves, product_leaves, unary_leaves, token_of, between_word, signed_leaves}
-use Rattle.pref_term.specs.Reading.{low_kind, high_kind, around_kind, pos_kind, NumberHole, centre_of, first_of, next_of, BasePart, named, opened, columned, number_due, number_signed, centred, listed, hole_leaves, part_leaves, BaseStep, part, whole_base, filled, base_next, PriorHole, whole, in_group, in_reverse, ProductHole, first_product, next_product, UnaryHole, first_factor, next_factor, in_minus, prior_depth, product_depth, unary_depth, before_prior, before_product, before_unary, State, start, operand, reverse_named, reading, after, top_level_named, at_least_named, group_due, group_listed, skyline_named, dim_due, dim_named, dims_listed, before_dim, read_of, completed, outer, closed, begun, of_named, listed_column, listed_dim, directed, grouped_by, operand_word, carried, parted, finished, next, between_kind, start_of, end_of, least_of, ranged, range_ended}
+use Rattle.pref_term.specs.Token.{left, right, comma, star, ampersand, minus, left_brace, right_brace, Token, word, digits, sign, finish}
+use Rattle.pref_term.specs.Grammar.{Keyword, best_word, low_word, high_word, around_word, pos_word, reverse_word, top_level_word, at_least_word, by_word, CasedWord, skyline_word, of_word, min_word, max_word, diff_word, letters_of, outer_words, base_words, keyword_of, cased_letters, cased_of, HeadText, minimal, maximal, different, DimText, dim_leaves, more_dims, more_columns, IsWritten, NumberText, PriorText, ProductText, UnaryText, negated, grouped, reversed, based, Leaf, name, mark, column_name, cased, number_leaves, others_leaves, base_leaves, prior_leaves, product_leaves, unary_leaves, token_of, between_word, signed_leaves, layered_word, SetText, set_leaves, more_sets}
+use Rattle.pref_term.specs.Reading.{low_kind, high_kind, around_kind, pos_kind, NumberHole, centre_of, first_of, next_of, BasePart, named, opened, columned, number_due, number_signed, centred, listed, hole_leaves, part_leaves, BaseStep, part, whole_base, filled, base_next, PriorHole, whole, in_group, in_reverse, ProductHole, first_product, next_product, UnaryHole, first_factor, next_factor, in_minus, prior_depth, product_depth, unary_depth, before_prior, before_product, before_unary, State, start, operand, reverse_named, reading, after, top_level_named, at_least_named, group_due, group_listed, skyline_named, dim_due, dim_named, dims_listed, before_dim, read_of, completed, outer, closed, begun, of_named, listed_column, listed_dim, directed, grouped_by, operand_word, carried, parted, finished, next, between_kind, start_of, end_of, least_of, ranged, range_ended, layered_kind, in_pos, in_set, set_due, sets_listed, with_set}
 
 -- one more number at the end of a list of them
 pub others_more : (ns : List NumberText) (n : NumberText) → others_leaves (ns ++ n ∷ []) ≡ others_leaves ns ++ mark comma ∷ number_leaves n
@@ -15,10 +15,25 @@ others_more (m ∷ ns) n = rw (others_more ns n) (simp append_assoc)
 
 pub hole_filled : (h : NumberHole) (n : NumberText) → part_leaves (filled h n) ≡ hole_leaves h ++ signed_leaves (least_of h) n.negative n.digits
 hole_filled (centre_of column) n = refl
-hole_filled (first_of column) n = simp append-nil
+hole_filled (first_of l) n = simp append-nil
 hole_filled (start_of column) n = refl
 hole_filled (end_of column l) n = simp append_assoc
-hole_filled (next_of column first others) n = rw (others_more others n) (simp append_assoc)
+hole_filled (next_of l first others) n = rw (others_more others n) (simp append_assoc)
+
+-- one more set at the end of some
+more_sets_end : (ss : List SetText) (s : SetText) → more_sets (ss ++ s ∷ []) ≡ more_sets ss ++ mark comma ∷ set_leaves s
+more_sets_end [] s = simp append-nil
+more_sets_end (t ∷ ts) s = ap (λ ls. mark comma ∷ set_leaves t ++ ls) (more_sets_end ts s) ∙ ap (λ ls. mark comma ∷ ls) (sym (append_assoc (set_leaves t) (more_sets ts) (mark comma ∷ set_leaves s)))
+
+-- a set behind others
+set_regrouped : (a b n o : List Leaf) (c l r : Leaf) → a ++ (b ++ c ∷ l ∷ (n ++ (o ++ r ∷ []))) ≡ (((a ++ (b ++ c ∷ [])) ++ l ∷ []) ++ (n ++ o)) ++ r ∷ []
+set_regrouped a b n o c l r = simp append_assoc
+
+set_closed : (column : List ℕ) (sets : List SetText) (first : NumberText) (others : List NumberText) → part_leaves (with_set column sets (record { first = first; others = others })) ≡ part_leaves (listed (in_set column sets) first others) ++ mark right_brace ∷ []
+set_closed column [] first others = simp (append_assoc, append-nil)
+set_closed column (s ∷ ss) first others =
+    ap (λ ls. name layered_word ∷ mark left ∷ column_name column ∷ mark comma ∷ set_leaves s ++ ls) (more_sets_end ss (record { first = first; others = others }))
+    ∙ ap (λ ls. name layered_word ∷ mark left ∷ column_name column ∷ mark comma ∷ ls) (set_regrouped (set_leaves s) (more_sets ss) (number_leaves first) (others_leaves others) (mark comma) (mark left_brace) (mark right_brace))
 
 abbrev pub step_leaves : BaseStep → List Leaf
 step_leaves (part b) = part_leaves b
@@ -36,14 +51,21 @@ base_grows (columned high_kind column) (sign right) = (refl, refl, tt)
 base_grows (columned around_kind column) (sign comma) = (refl, refl, tt)
 base_grows (columned between_kind column) (sign comma) = (refl, refl, tt)
 base_grows (columned pos_kind column) (sign comma) = (refl, refl, tt)
+base_grows (columned layered_kind column) (sign comma) = (refl, refl, tt)
 base_grows (number_due n) (sign minus) = (refl, refl, tt)
 base_grows (number_due n) (digits ds) = (refl, hole_filled n (record { negative = false; digits = ds }), tt)
 base_grows (number_signed n) (digits ds) = (refl, hole_filled n (record { negative = true; digits = ds }) ∙ simp append_assoc, tt)
 base_grows (centred column centre) (sign right) = (refl, refl, tt)
 base_grows (ranged column l) (sign comma) = (refl, refl, tt)
 base_grows (range_ended column l r) (sign right) = (refl, simp append_assoc, tt)
-base_grows (listed column first others) (sign right) = (refl, simp append_assoc, tt)
-base_grows (listed column first others) (sign comma) = (refl, simp append_assoc, tt)
+base_grows (listed l first others) (sign comma) = (refl, simp append_assoc, tt)
+base_grows (listed (in_pos column) first others) (sign right) = (refl, simp append_assoc, tt)
+base_grows (listed (in_set column sets) first others) (sign right_brace) = (refl, set_closed column sets first others, tt)
+base_grows (listed (in_pos column) first others) _ = tt
+base_grows (listed (in_set column sets) first others) _ = tt
+base_grows (set_due column sets) (sign left_brace) = (refl, refl, tt)
+base_grows (sets_listed column first others) (sign comma) = (refl, simp append_assoc, tt)
+base_grows (sets_listed column first others) (sign right) = (refl, simp append_assoc, tt)
 base_grows _ _ = tt
 
 -- a whole factor stands behind what was read before it
@@ -67,7 +89,7 @@ find_passes {A} test (x ∷ xs) = go (test x) refl (find_passes test xs)
     go false e h = h
 
 pub keyword_letters : (letters : List ℕ) → IfSome (keyword_of letters) (λ k. letters_of k ≡ letters)
-keyword_letters letters = go (keyword_of letters) (find_passes (λ k. bytes_eq (letters_of k) letters) (best_word ∷ low_word ∷ high_word ∷ around_word ∷ between_word ∷ pos_word ∷ reverse_word ∷ top_level_word ∷ at_least_word ∷ by_word ∷ []))
+keyword_letters letters = go (keyword_of letters) (find_passes (λ k. bytes_eq (letters_of k) letters) (outer_words ++ base_words))
   where
     go : (o : Option Keyword) → IfSome o (λ k. bytes_eq (letters_of k) letters ≡ true) → IfSome o (λ k. letters_of k ≡ letters)
     go None h = tt
@@ -125,6 +147,7 @@ operand_word_grows h (Some high_word) letters e = (ap word e, refl, tt)
 operand_word_grows h (Some around_word) letters e = (ap word e, refl, tt)
 operand_word_grows h (Some between_word) letters e = (ap word e, refl, tt)
 operand_word_grows h (Some pos_word) letters e = (ap word e, refl, tt)
+operand_word_grows h (Some layered_word) letters e = (ap word e, refl, tt)
 operand_word_grows h (Some reverse_word) letters e = (ap word e, refl, tt)
 operand_word_grows h _ letters e = tt
 

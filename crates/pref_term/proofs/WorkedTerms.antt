@@ -2,7 +2,7 @@
 use Rattle.std.proofs.Common.{◌≡◌, true, false, pos, [], ◌∷◌, refl}
 use Rattle.std.specs.Prelude.{negsuc, ◌^◌, ◌-◌}
 use Rattle.pref_term.specs.Better.{better, same, score}
-use Rattle.pref_term.specs.Preference.{Base, Preference, low, high, around, between, one_of, scored, pareto, prior, reverse}
+use Rattle.pref_term.specs.Preference.{Base, Preference, low, high, around, between, one_of, layered, scored, pareto, prior, reverse}
 
 abbrev x_low : Preference
 x_low = scored (low 0)
@@ -78,3 +78,27 @@ a_member_is_better = refl
 
 pub of_two_members_the_smaller : better wanted (pos 5 ∷ pos 6 ∷ []) (pos 2 ∷ pos 7 ∷ []) ≡ true
 of_two_members_the_smaller = refl
+
+-- 2 and 3 before 5, and these before all others; of those alike in that the smaller y
+abbrev two_or_three_then_five : Base
+two_or_three_then_five = layered 0 ((pos 2 ∷ pos 3 ∷ []) ∷ (pos 5 ∷ []) ∷ [])
+
+pub in_the_first_set : score two_or_three_then_five (pos 3 ∷ []) ≡ pos 0
+in_the_first_set = refl
+
+pub in_the_second_set : score two_or_three_then_five (pos 5 ∷ []) ≡ pos 1
+in_the_second_set = refl
+
+pub in_no_set : score two_or_three_then_five (pos 7 ∷ []) ≡ pos 2
+in_no_set = refl
+
+pub of_one_set_the_smaller : better (prior (scored two_or_three_then_five) y_low) (pos 2 ∷ pos 3 ∷ []) (pos 3 ∷ pos 9 ∷ []) ≡ true
+of_one_set_the_smaller = refl
+
+-- a value of two sets counts by the first
+pub of_two_sets_the_first : score (layered 0 ((pos 2 ∷ []) ∷ (pos 3 ∷ pos 2 ∷ []) ∷ [])) (pos 2 ∷ []) ≡ pos 0
+of_two_sets_the_first = refl
+
+-- a set that is there twice leaves a level out
+pub a_set_twice : score (layered 0 ((pos 5 ∷ []) ∷ (pos 5 ∷ []) ∷ [])) (pos 1 ∷ []) ≡ pos 2
+a_set_twice = refl

@@ -1,6 +1,6 @@
 -- Which columns a preference reads. (this project)
 use Rattle.std.specs.Prelude.{ℕ, ◌<◌, List, [], ◌∷◌, ◌++◌}
-use Rattle.pref_term.specs.Preference.{Base, low, high, around, one_of, Preference, scored, pareto, prior, reverse, between}
+use Rattle.pref_term.specs.Preference.{Base, low, high, around, one_of, Preference, scored, pareto, prior, reverse, between, layered}
 
 -- the column of a base term
 abbrev pub column : Base → ℕ
@@ -9,6 +9,7 @@ column (high col) = col
 column (around col centre) = col
 column (between col left right) = col
 column (one_of col set) = col
+column (layered col sets) = col
 
 -- the columns that a preference reads, from left to right
 abbrev pub columns_in : Preference → List ℕ

@@ -1,6 +1,6 @@
 -- No public contract cites this.
 -- The tests of equality are true exactly where preferences, modes and questions are the same. (this project)
-use Rattle.std.proofs.Common.{◌≡◌, ◌==◌, ℕ, List, Bool, true, false, ap, refl, sym, subst}
+use Rattle.std.proofs.Common.{◌≡◌, ◌==◌, ℕ, List, Bool, true, false, ap, refl, sym, subst, ℤ}
 use Rattle.std.proofs.lemmas.Bool.Decides.{same_from_decides}
 use Rattle.std.proofs.lemmas.Cmp.{on_equiv}
 use Rattle.std.proofs.lemmas.Slice.Eq.{slice_eq-Decides}
@@ -9,13 +9,17 @@ use Rattle.std.specs.Cmp.{IsEquivalence, signed_Decides, unsigned_Decides}
 use Rattle.std.specs.Cmp.Derive.{both_true}
 use Rattle.std.specs.Cmp.Lexicographic.{pointwise}
 use Rattle.std.specs.Cmp.Rules.{signed_items}
-use Rattle.std.specs.Ordering.{on}
+use Rattle.std.specs.Ordering.{int_eq, on}
 use Rattle.pref_term.specs.Equal.{base_eq, preference_eq, mode_eq, question_eq}
 use Rattle.pref_term.specs.OrderLaws.{and_parts}
-use Rattle.pref_term.specs.Preference.{Base, low, high, around, one_of, Preference, scored, pareto, prior, reverse, preference_of, between}
+use Rattle.pref_term.specs.Preference.{Base, low, high, around, one_of, Preference, scored, pareto, prior, reverse, preference_of, between, layered}
 use Rattle.pref_term.specs.Question.{Question}
 use Rattle.pref_term.specs.declared.ask.Mode.{Mode}
 use Rattle.pref_term.specs.declared.ask.Mode.TheVariants.{Best, TopLevel, AtLeast}
+
+-- lists of sets
+set_lists : (s t : List (List ℤ)) → Decides (pointwise (pointwise int_eq) s t) (s ≡ t)
+set_lists s t = slice_eq-Decides signed_items s t _ refl
 
 -- where a test is true, the two are the same
 base_sound : (a b : Base) → base_eq a b ≡ true → a ≡ b
@@ -27,6 +31,17 @@ base_sound (between a c d) (between b e f) h =
     let k = and_parts _ _ h in
     let l = and_parts _ _ k.0 in
     λ i. between ((unsigned_Decides a b).0 l.0 i) ((signed_Decides c e).0 l.1 i) ((signed_Decides d f).0 k.1 i)
+base_sound (layered a s) (layered b t) h = let k = and_parts _ _ h in λ i. layered ((unsigned_Decides a b).0 k.0 i) ((set_lists s t).0 k.1 i)
+base_sound (low a) (layered b t) h = cc
+base_sound (high a) (layered b t) h = cc
+base_sound (around a c) (layered b t) h = cc
+base_sound (between a c d) (layered b t) h = cc
+base_sound (one_of a s) (layered b t) h = cc
+base_sound (layered a s) (low b) h = cc
+base_sound (layered a s) (high b) h = cc
+base_sound (layered a s) (around b d) h = cc
+base_sound (layered a s) (between b e f) h = cc
+base_sound (layered a s) (one_of b t) h = cc
 base_sound (low a) (between b e f) h = cc
 base_sound (high a) (between b e f) h = cc
 base_sound (around a c) (between b e f) h = cc
@@ -55,6 +70,7 @@ base_same (high a) = (unsigned_Decides a a).1 refl
 base_same (around a c) = both_true ((unsigned_Decides a a).1 refl) ((signed_Decides c c).1 refl)
 base_same (between a c d) = both_true (both_true ((unsigned_Decides a a).1 refl) ((signed_Decides c c).1 refl)) ((signed_Decides d d).1 refl)
 base_same (one_of a s) = both_true ((unsigned_Decides a a).1 refl) ((signed_items s s).1 refl)
+base_same (layered a s) = both_true ((unsigned_Decides a a).1 refl) ((set_lists s s).1 refl)
 
 preference_sound : (p q : Preference) → preference_eq p q ≡ true → p ≡ q
 preference_sound (scored b) (scored c) h = ap scored (base_sound b c h)

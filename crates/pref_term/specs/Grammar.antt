@@ -3,9 +3,9 @@
 use Rattle.std.specs.Prelude.{◌≡◌, ℕ, ◌+◌, List, [], ◌∷◌, ◌++◌, Bool, true, false, Option, Some, None, codes}
 use Rattle.std.specs.List.{find, AllByRecursion}
 use Rattle.std.specs.Str.{bytes_eq, str_to_ascii_lowercase}
-use Rattle.pref_term.specs.Token.{Sign, left, right, comma, star, ampersand, minus, Token, word, digits, sign, finish}
+use Rattle.pref_term.specs.Token.{Sign, left, right, comma, star, ampersand, minus, left_brace, right_brace, Token, word, digits, sign, finish}
 pub use Rattle.pref_term.specs.declared.token.Keyword.{Keyword}
-pub use Rattle.pref_term.specs.declared.token.Keyword.TheVariants.{Best as best_word, Low as low_word, High as high_word, Around as around_word, Between as between_word, Pos as pos_word, Reverse as reverse_word, TopLevel as top_level_word, AtLeast as at_least_word, By as by_word}
+pub use Rattle.pref_term.specs.declared.token.Keyword.TheVariants.{Best as best_word, Low as low_word, High as high_word, Around as around_word, Between as between_word, Pos as pos_word, Layered as layered_word, Reverse as reverse_word, TopLevel as top_level_word, AtLeast as at_least_word, By as by_word}
 pub use Rattle.pref_term.specs.declared.token.CasedWord.{CasedWord}
 pub use Rattle.pref_term.specs.declared.token.CasedWord.TheVariants.{Skyline as skyline_word, Of as of_word, Min as min_word, Max as max_word, Diff as diff_word}
 pub use Rattle.pref_term.specs.declared.token.Direction.{Direction}
@@ -19,6 +19,7 @@ letters_of high_word = codes "high"
 letters_of around_word = codes "around"
 letters_of between_word = codes "between"
 letters_of pos_word = codes "pos"
+letters_of layered_word = codes "layered"
 letters_of reverse_word = codes "reverse"
 letters_of top_level_word = codes "top_level"
 letters_of at_least_word = codes "at_least"
@@ -41,15 +42,30 @@ cased_in lower =
 abbrev pub cased_of : List ℕ → Option CasedWord
 cased_of letters = cased_in (str_to_ascii_lowercase letters)
 
+-- the words that stand around base terms, and those of base terms
+abbrev pub outer_words : List Keyword
+outer_words = best_word ∷ reverse_word ∷ top_level_word ∷ at_least_word ∷ by_word ∷ []
+
+abbrev pub base_words : List Keyword
+base_words = low_word ∷ high_word ∷ around_word ∷ between_word ∷ pos_word ∷ layered_word ∷ []
+
+-- the one of these words with these letters
+abbrev pub word_among : List Keyword → List ℕ → Option Keyword
+word_among words letters = find (λ k. bytes_eq (letters_of k) letters) words
+
 -- the word of the grammar with these letters
 abbrev pub keyword_of : List ℕ → Option Keyword
-keyword_of letters =
-    find (λ k. bytes_eq (letters_of k) letters) (best_word ∷ low_word ∷ high_word ∷ around_word ∷ between_word ∷ pos_word ∷ reverse_word ∷ top_level_word ∷ at_least_word ∷ by_word ∷ [])
+keyword_of letters = word_among (outer_words ++ base_words) letters
 
 -- number = [ "-" ] digits
 pub record NumberText : Type 0 where
   pub negative : Bool
   pub digits : List ℕ
+
+-- set = "{" number { "," number } "}"
+pub record SetText : Type 0 where
+  pub first : NumberText
+  pub others : List NumberText
 
 -- what stands in a column
 pub data BaseText : Type 0 where
@@ -58,6 +74,7 @@ pub data BaseText : Type 0 where
   around_text : (column : List ℕ) (centre : NumberText) → BaseText
   between_text : (column : List ℕ) (lower upper : NumberText) → BaseText
   pos_text : (column : List ℕ) (first : NumberText) (others : List NumberText) → BaseText
+  layered_text : (column : List ℕ) (first : SetText) (others : List SetText) → BaseText
 
 mutual
   -- prior = pareto { "&" pareto }
@@ -142,6 +159,19 @@ abbrev pub others_leaves : List NumberText → List Leaf
 others_leaves [] = []
 others_leaves (n ∷ ns) = mark comma ∷ number_leaves n ++ others_leaves ns
 
+-- numbers, and the sign that closes their list
+abbrev pub list_leaves : NumberText → List NumberText → Sign → List Leaf
+list_leaves first others closing = number_leaves first ++ (others_leaves others ++ mark closing ∷ [])
+
+-- the leaves of a set
+abbrev pub set_leaves : SetText → List Leaf
+set_leaves s = mark left_brace ∷ list_leaves s.first s.others right_brace
+
+-- each after a comma
+abbrev pub more_sets : List SetText → List Leaf
+more_sets [] = []
+more_sets (s ∷ ss) = mark comma ∷ set_leaves s ++ more_sets ss
+
 -- the leaves of a base term
 abbrev pub base_leaves : BaseText → List Leaf
 base_leaves (low_text column) = name low_word ∷ mark left ∷ column_name column ∷ mark right ∷ []
@@ -151,7 +181,9 @@ base_leaves (around_text column centre) =
 base_leaves (between_text column lower upper) =
     name between_word ∷ mark left ∷ column_name column ∷ mark comma ∷ number_leaves lower ++ (mark comma ∷ end_leaves lower upper ++ mark right ∷ [])
 base_leaves (pos_text column first others) =
-    name pos_word ∷ mark left ∷ column_name column ∷ mark comma ∷ number_leaves first ++ (others_leaves others ++ mark right ∷ [])
+    name pos_word ∷ mark left ∷ column_name column ∷ mark comma ∷ list_leaves first others right
+base_leaves (layered_text column first others) =
+    name layered_word ∷ mark left ∷ column_name column ∷ mark comma ∷ set_leaves first ++ (more_sets others ++ mark right ∷ [])
 
 -- the leaves, where so many nestings are open around them
 abbrev mutual

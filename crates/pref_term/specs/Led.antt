@@ -4,15 +4,15 @@ use Rattle.std.specs.Prelude.{◌≡◌, ◌≢◌, ◌<◌, ◌+◌, ℕ, ℤ, 
 use Rattle.std.specs.Int.{w64}
 use Rattle.std.specs.Str.Parse.{digits_value}
 use Rattle.pref_table.specs.Columns.{column_of}
-use Rattle.pref_term.specs.Token.{star, ampersand, Token, word, digits, sign, Placed}
-use Rattle.pref_term.specs.Grammar.{based, grouped, reversed, low_text, pos_text, NumberText, BaseText, UnaryText, ProductText, PriorText, HeadText, DimText, Direction, minimal, maximal, different, direction_word, cased_of, of_word, rated, skyline, column_name, count_digits}
-use Rattle.pref_term.specs.Spells.{Names, UnlessMemory, number_value, column_at, base_meaning, unary_meaning, product_meaning, prior_meaning, product_of, orders_of, groups_of, below, empty_range}
-use Rattle.pref_term.specs.Reading.{BaseKind, named, columned, NumberHole, first_of, next_of, number_due, filled, UnaryHole, ProductHole, PriorHole, whole, in_group, in_reverse, in_whole, first_factor, first_product, unary_depth, product_depth, prior_depth, State, start, operand, reverse_named, reading, after, group_due, skyline_named, dim_due, dim_named, done, completed, ranked, next, run, least_of, end_of, range_ended}
+use Rattle.pref_term.specs.Token.{star, ampersand, Token, word, digits, sign, Placed, Sign, comma}
+use Rattle.pref_term.specs.Grammar.{based, grouped, reversed, NumberText, BaseText, UnaryText, ProductText, PriorText, HeadText, DimText, Direction, minimal, maximal, different, direction_word, cased_of, of_word, rated, skyline, column_name, count_digits, layered_text, SetText}
+use Rattle.pref_term.specs.Spells.{Names, UnlessMemory, number_value, column_at, base_meaning, unary_meaning, product_meaning, prior_meaning, product_of, orders_of, groups_of, below, empty_range, set_value}
+use Rattle.pref_term.specs.Reading.{BaseKind, named, columned, NumberHole, first_of, next_of, number_due, filled, UnaryHole, ProductHole, PriorHole, whole, in_group, in_reverse, in_whole, first_factor, first_product, unary_depth, product_depth, prior_depth, State, start, operand, reverse_named, reading, after, group_due, skyline_named, dim_due, dim_named, done, completed, ranked, next, run, least_of, end_of, range_ended, stepped, NumberList, closing, list_closed, set_due}
 use Rattle.pref_term.specs.Asked.{meant}
 use Rattle.pref_term.specs.Distinct.{plain, says_distinct}
 use Rattle.pref_term.specs.Preference.{Base, low, high, Preference, scored, pareto, prior, reverse}
 use Rattle.pref_term.specs.Columns.{column}
-use Rattle.pref_term.specs.Writable.{IsWritableBase}
+use Rattle.pref_term.specs.Writable.{IsWritableSet, IsWritableBase}
 use Rattle.pref_term.specs.Question.{Question, is_count}
 use Rattle.pref_term.specs.declared.fault.TermFault.{TermFault}
 use Rattle.pref_term.specs.declared.fault.TermFault.TheVariants.{Unexpected, EmptyRange}
@@ -115,44 +115,49 @@ pub record ReadsEnd (names : Names) (least : ℤ) (ts : List Placed) (value : �
 abbrev pub FailsEnd : Names → ℤ → List Placed → TermFault → Type 0
 FailsEnd names least ts f = (h : UnaryHole) (column : List ℕ) (lower : NumberText) → number_value lower ≡ least → Fails names (reading h (number_due (end_of column lower))) ts f
 
--- where the next number of a set stands, behind some
-abbrev pub set_hole : List ℕ → List NumberText → NumberHole
-set_hole column [] = first_of column
-set_hole column (first ∷ others) = next_of column first others
+-- behind an entry of a list: a comma where more are due, else the sign that closes the list
+abbrev pub list_sign : (close : Sign) (more : Bool) → Sign
+list_sign close true = comma
+list_sign close false = close
 
--- the base term of a set that has numbers
-abbrev pub set_text : List ℕ → List NumberText → BaseText
-set_text column [] = low_text column
-set_text column (first ∷ others) = pos_text column first others
+-- where the next number of a list stands, behind some
+abbrev pub list_hole : NumberList → List NumberText → NumberHole
+list_hole l [] = first_of l
+list_hole l (first ∷ others) = next_of l first others
 
--- behind a number of a set: more are due, or the set is whole
-abbrev pub behind_number : UnaryHole → List ℕ → List NumberText → Bool → State
-behind_number h column some true = reading h (number_due (set_hole column some))
-behind_number h column some false = completed h (based (set_text column some))
+-- behind all numbers of a list, which has one
+abbrev pub behind_list : UnaryHole → NumberList → List NumberText → State
+behind_list h l [] = reading h (number_due (first_of l))
+behind_list h l (first ∷ others) = stepped h (list_closed l first others)
 
-pub record ReadsListed (names : Names) (ts : List Placed) (value : ℤ) (more : Bool) (us : List Placed) : Type 0 where
+-- behind a number of a list: more are due, or the list is whole
+abbrev pub behind_number : UnaryHole → NumberList → List NumberText → Bool → State
+behind_number h l some true = reading h (number_due (list_hole l some))
+behind_number h l some false = behind_list h l some
+
+pub record ReadsListed (names : Names) (close : Sign) (ts : List Placed) (value : ℤ) (more : Bool) (us : List Placed) : Type 0 where
   pub number : NumberText
   pub fits : FitsSigned w64 value
   pub value_is : number_value number ≡ value
-  pub goes : (h : UnaryHole) (column : List ℕ) (some : List NumberText) → Goes names (reading h (number_due (set_hole column some))) ts (behind_number h column (some ++ number ∷ []) more) us
+  pub goes : (h : UnaryHole) (l : NumberList) (some : List NumberText) → closing l ≡ close → Goes names (reading h (number_due (list_hole l some))) ts (behind_number h l (some ++ number ∷ []) more) us
 
-abbrev pub FailsListed : Names → List Placed → TermFault → Type 0
-FailsListed names ts f = (h : UnaryHole) (column : List ℕ) (some : List NumberText) → Fails names (reading h (number_due (set_hole column some))) ts f
+abbrev pub FailsListed : Names → (close : Sign) → List Placed → TermFault → Type 0
+FailsListed names close ts f = (h : UnaryHole) (l : NumberList) (some : List NumberText) → closing l ≡ close → Fails names (reading h (number_due (list_hole l some))) ts f
 
--- some numbers of a set, and whether more are due
-pub record ReadsSome (names : Names) (ts : List Placed) (values : List ℤ) (more : Bool) (us : List Placed) : Type 0 where
+-- some numbers of a list, and whether more are due
+pub record ReadsSome (names : Names) (close : Sign) (ts : List Placed) (values : List ℤ) (more : Bool) (us : List Placed) : Type 0 where
   pub some : List NumberText
   pub fits : All (FitsSigned w64) values
   pub values_are : map number_value some ≡ values
-  pub goes : (h : UnaryHole) (column : List ℕ) → Goes names (reading h (number_due (first_of column))) ts (behind_number h column some more) us
+  pub goes : (h : UnaryHole) (l : NumberList) → closing l ≡ close → Goes names (reading h (number_due (first_of l))) ts (behind_number h l some more) us
 
--- the numbers of a set, and the parenthesis behind them
-pub record ReadsNumbers (names : Names) (ts : List Placed) (values : List ℤ) (us : List Placed) : Type 0 where
+-- the numbers of a list, and the sign that closes it
+pub record ReadsNumbers (names : Names) (close : Sign) (ts : List Placed) (values : List ℤ) (us : List Placed) : Type 0 where
   pub first : NumberText
   pub others : List NumberText
   pub fits : All (FitsSigned w64) values
   pub values_are : number_value first ∷ map number_value others ≡ values
-  pub goes : (h : UnaryHole) (column : List ℕ) → Goes names (reading h (number_due (first_of column))) ts (completed h (based (pos_text column first others))) us
+  pub goes : (h : UnaryHole) (l : NumberList) → closing l ≡ close → Goes names (reading h (number_due (first_of l))) ts (stepped h (list_closed l first others)) us
 
 abbrev pub FailsOpened : Names → List Placed → TermFault → Type 0
 FailsOpened names ts f = (h : UnaryHole) (k : BaseKind) → Fails names (reading h (named k)) ts f
@@ -160,8 +165,45 @@ FailsOpened names ts f = (h : UnaryHole) (k : BaseKind) → Fails names (reading
 abbrev pub FailsNumber : Names → List Placed → TermFault → Type 0
 FailsNumber names ts f = (h : UnaryHole) (hole : NumberHole) → Fails names (reading h (number_due hole)) ts f
 
-abbrev pub FailsNumbers : Names → List Placed → TermFault → Type 0
-FailsNumbers names ts f = (h : UnaryHole) (column : List ℕ) → Fails names (reading h (number_due (first_of column))) ts f
+abbrev pub FailsNumbers : Names → (close : Sign) → List Placed → TermFault → Type 0
+FailsNumbers names close ts f = (h : UnaryHole) (l : NumberList) → closing l ≡ close → Fails names (reading h (number_due (first_of l))) ts f
+
+-- behind all sets of `layered`, which has one
+abbrev pub behind_sets : UnaryHole → List ℕ → List SetText → State
+behind_sets h column [] = reading h (set_due column [])
+behind_sets h column (first ∷ others) = completed h (based (layered_text column first others))
+
+-- behind a set of `layered`: more are due, or the term is whole
+abbrev pub behind_set : UnaryHole → List ℕ → List SetText → Bool → State
+behind_set h column sets true = reading h (set_due column sets)
+behind_set h column sets false = behind_sets h column sets
+
+pub record ReadsSet (names : Names) (ts : List Placed) (set : List ℤ) (more : Bool) (us : List Placed) : Type 0 where
+  pub text : SetText
+  pub fits : IsWritableSet set
+  pub value_is : set_value text ≡ set
+  pub goes : (h : UnaryHole) (column : List ℕ) (some : List SetText) → Goes names (reading h (set_due column some)) ts (behind_set h column (some ++ text ∷ []) more) us
+
+abbrev pub FailsSet : Names → List Placed → TermFault → Type 0
+FailsSet names ts f = (h : UnaryHole) (column : List ℕ) (some : List SetText) → Fails names (reading h (set_due column some)) ts f
+
+-- some sets of `layered`, and whether more are due
+pub record ReadsSomeSets (names : Names) (ts : List Placed) (sets : List (List ℤ)) (more : Bool) (us : List Placed) : Type 0 where
+  pub some : List SetText
+  pub fits : All IsWritableSet sets
+  pub values_are : map set_value some ≡ sets
+  pub goes : (h : UnaryHole) (column : List ℕ) → Goes names (reading h (set_due column [])) ts (behind_set h column some more) us
+
+-- the sets of `layered`, and the parenthesis behind them
+pub record ReadsSets (names : Names) (ts : List Placed) (sets : List (List ℤ)) (us : List Placed) : Type 0 where
+  pub first : SetText
+  pub others : List SetText
+  pub fits : All IsWritableSet sets
+  pub values_are : set_value first ∷ map set_value others ≡ sets
+  pub goes : (h : UnaryHole) (column : List ℕ) → Goes names (reading h (set_due column [])) ts (completed h (based (layered_text column first others))) us
+
+abbrev pub FailsSets : Names → List Placed → TermFault → Type 0
+FailsSets names ts f = (h : UnaryHole) (column : List ℕ) → Fails names (reading h (set_due column [])) ts f
 
 -- a base term behind its word
 pub record ReadsBase (names : Names) (k : BaseKind) (ts : List Placed) (p : Preference) (us : List Placed) : Type 0 where

@@ -4,27 +4,29 @@ use Rattle.std.specs.Prelude.{◌≡◌, Bool, ℕ, ℤ, List, ◌⊎◌, refl}
 use Rattle.std.proofs.Common.{inl, inr, ap}
 use base.Stored.{Gv, gnum, gcons}
 use Rattle.std.specs.Coded.{Coded, code_by, coded_ℕ, coded_ℤ, coded_list, coded_bool, coded×, coded⊎}
-use Rattle.pref_term.specs.Preference.{Base, low, high, around, one_of, Preference, scored, pareto, prior, reverse, between}
+use Rattle.pref_term.specs.Preference.{Base, low, high, around, one_of, Preference, scored, pareto, prior, reverse, between, layered}
 use Rattle.pref_term.specs.declared.ask.Mode.{Mode}
 use Rattle.pref_term.specs.declared.ask.Mode.TheVariants.{Best, TopLevel, AtLeast}
 use Rattle.pref_term.specs.Question.{Question}
 
 abbrev BaseParts : Type 0
-BaseParts = (ℕ ⊎ ℕ) ⊎ ((ℕ × ℤ) ⊎ ((ℕ × List ℤ) ⊎ (ℕ × (ℤ × ℤ))))
+BaseParts = (ℕ ⊎ ℕ) ⊎ ((ℕ × ℤ) ⊎ ((ℕ × List ℤ) ⊎ ((ℕ × (ℤ × ℤ)) ⊎ (ℕ × List (List ℤ)))))
 
 abbrev parts_of : Base → BaseParts
 parts_of (low col) = inl (inl col)
 parts_of (high col) = inl (inr col)
 parts_of (around col centre) = inr (inl (col, centre))
 parts_of (one_of col set) = inr (inr (inl (col, set)))
-parts_of (between col left right) = inr (inr (inr (col, (left, right))))
+parts_of (between col left right) = inr (inr (inr (inl (col, (left, right)))))
+parts_of (layered col sets) = inr (inr (inr (inr (col, sets))))
 
 abbrev base_of : BaseParts → Base
 base_of (inl (inl col)) = low col
 base_of (inl (inr col)) = high col
 base_of (inr (inl (col, centre))) = around col centre
 base_of (inr (inr (inl (col, set)))) = one_of col set
-base_of (inr (inr (inr (col, (left, right))))) = between col left right
+base_of (inr (inr (inr (inl (col, (left, right)))))) = between col left right
+base_of (inr (inr (inr (inr (col, sets))))) = layered col sets
 
 pub base_again : (b : Base) → base_of (parts_of b) ≡ b
 base_again (low col) = refl
@@ -32,9 +34,10 @@ base_again (high col) = refl
 base_again (around col centre) = refl
 base_again (one_of col set) = refl
 base_again (between col left right) = refl
+base_again (layered col sets) = refl
 
 abbrev coded_base : Coded Base
-coded_base = code_by BaseParts (coded⊎ (coded⊎ coded_ℕ coded_ℕ) (coded⊎ (coded× coded_ℕ coded_ℤ) (coded⊎ (coded× coded_ℕ (coded_list coded_ℤ)) (coded× coded_ℕ (coded× coded_ℤ coded_ℤ))))) parts_of base_of base_again
+coded_base = code_by BaseParts (coded⊎ (coded⊎ coded_ℕ coded_ℕ) (coded⊎ (coded× coded_ℕ coded_ℤ) (coded⊎ (coded× coded_ℕ (coded_list coded_ℤ)) (coded⊎ (coded× coded_ℕ (coded× coded_ℤ coded_ℤ)) (coded× coded_ℕ (coded_list (coded_list coded_ℤ))))))) parts_of base_of base_again
 
 abbrev code_of : Preference → Gv
 code_of (scored b) = gcons (gnum 0) (coded_base.code b)

@@ -1,8 +1,8 @@
 -- No public contract cites this but through `asked`, which a law ties to the grammar.
 -- Reading a question text from the left, one token after another: what is still pending, and where a token leads. (this project)
 use Rattle.std.specs.Prelude.{ℕ, ◌+◌, List, [], ◌∷◌, ◌++◌, true, false, Option, Some, None, Result, Ok, Err}
-use Rattle.pref_term.specs.Token.{Sign, left, right, comma, star, ampersand, minus, Token, word, digits, sign, finish, Placed}
-use Rattle.pref_term.specs.Grammar.{Keyword, best_word, low_word, high_word, around_word, pos_word, reverse_word, top_level_word, at_least_word, by_word, CasedWord, skyline_word, of_word, min_word, max_word, diff_word, keyword_of, cased_of, HeadText, best_head, top_level_head, at_least_head, head_leaves, minimal, maximal, different, DimText, dim_leaves, more_dims, group_leaves, AskText, rated, skyline, NumberText, BaseText, low_text, high_text, around_text, pos_text, PriorText, one_product, then_product, ProductText, one_factor, then_factor, UnaryText, negated, grouped, reversed, based, Leaf, name, mark, opens, column_name, number_digits, count_digits, cased, last, number_leaves, others_leaves, prior_leaves, product_leaves, ask_leaves, between_word, between_text, end_leaves}
+use Rattle.pref_term.specs.Token.{Sign, left, right, comma, star, ampersand, minus, left_brace, right_brace, Token, word, digits, sign, finish, Placed}
+use Rattle.pref_term.specs.Grammar.{Keyword, best_word, low_word, high_word, around_word, pos_word, reverse_word, top_level_word, at_least_word, by_word, CasedWord, skyline_word, of_word, min_word, max_word, diff_word, keyword_of, cased_of, HeadText, best_head, top_level_head, at_least_head, head_leaves, minimal, maximal, different, DimText, dim_leaves, more_dims, group_leaves, AskText, rated, skyline, NumberText, BaseText, low_text, high_text, around_text, pos_text, PriorText, one_product, then_product, ProductText, one_factor, then_factor, UnaryText, negated, grouped, reversed, based, Leaf, name, mark, opens, column_name, number_digits, count_digits, cased, last, number_leaves, others_leaves, prior_leaves, product_leaves, ask_leaves, between_word, between_text, end_leaves, layered_word, layered_text, SetText, set_leaves, more_sets}
 use Rattle.pref_term.specs.Spells.{Names, own_fault, OwnFault, told, told_at}
 use Rattle.pref_term.specs.declared.fault.TermFault.{TermFault}
 use Rattle.pref_term.specs.declared.fault.TermFault.TheVariants.{Unexpected}
@@ -15,6 +15,7 @@ pub data BaseKind : Type 0 where
   around_kind : BaseKind
   between_kind : BaseKind
   pos_kind : BaseKind
+  layered_kind : BaseKind
 
 abbrev pub kind_word : BaseKind → Keyword
 kind_word low_kind = low_word
@@ -22,15 +23,26 @@ kind_word high_kind = high_word
 kind_word around_kind = around_word
 kind_word between_kind = between_word
 kind_word pos_kind = pos_word
+kind_word layered_kind = layered_word
+
+-- a list of numbers: that of `pos`, or a set of `layered` behind some others
+pub data NumberList : Type 0 where
+  in_pos : (column : List ℕ) → NumberList
+  in_set : (column : List ℕ) (sets : List SetText) → NumberList
+
+-- the sign that closes it
+abbrev pub closing : NumberList → Sign
+closing (in_pos column) = right
+closing (in_set column sets) = right_brace
 
 -- where a number is missing
 pub data NumberHole : Type 0 where
   centre_of : (column : List ℕ) → NumberHole
-  first_of : (column : List ℕ) → NumberHole
+  first_of : (l : NumberList) → NumberHole
   -- the left end of a range, and its right end
   start_of : (column : List ℕ) → NumberHole
   end_of : (column : List ℕ) (lower : NumberText) → NumberHole
-  next_of : (column : List ℕ) (first : NumberText) (others : List NumberText) → NumberHole
+  next_of : (l : NumberList) (first : NumberText) (others : List NumberText) → NumberHole
 
 pub data BasePart : Type 0 where
   named : (k : BaseKind) → BasePart
@@ -39,17 +51,29 @@ pub data BasePart : Type 0 where
   number_due : (n : NumberHole) → BasePart
   number_signed : (n : NumberHole) → BasePart
   centred : (column : List ℕ) (centre : NumberText) → BasePart
-  listed : (column : List ℕ) (first : NumberText) (others : List NumberText) → BasePart
+  listed : (l : NumberList) (first : NumberText) (others : List NumberText) → BasePart
+  -- a set of `layered` is due, behind these
+  set_due : (column : List ℕ) (sets : List SetText) → BasePart
+  sets_listed : (column : List ℕ) (first : SetText) (others : List SetText) → BasePart
   ranged : (column : List ℕ) (lower : NumberText) → BasePart
   range_ended : (column : List ℕ) (lower upper : NumberText) → BasePart
 
+-- what stands before a set
+abbrev pub before_set : List SetText → List Leaf
+before_set [] = []
+before_set (s ∷ ss) = set_leaves s ++ (more_sets ss ++ mark comma ∷ [])
+
+-- what stands before the first number of a list
+abbrev pub before_list : NumberList → List Leaf
+before_list (in_pos column) = name pos_word ∷ mark left ∷ column_name column ∷ mark comma ∷ []
+before_list (in_set column sets) = name layered_word ∷ mark left ∷ column_name column ∷ mark comma ∷ before_set sets ++ mark left_brace ∷ []
+
 abbrev pub hole_leaves : NumberHole → List Leaf
 hole_leaves (centre_of column) = name around_word ∷ mark left ∷ column_name column ∷ mark comma ∷ []
-hole_leaves (first_of column) = name pos_word ∷ mark left ∷ column_name column ∷ mark comma ∷ []
+hole_leaves (first_of l) = before_list l
 hole_leaves (start_of column) = name between_word ∷ mark left ∷ column_name column ∷ mark comma ∷ []
 hole_leaves (end_of column lower) = name between_word ∷ mark left ∷ column_name column ∷ mark comma ∷ number_leaves lower ++ mark comma ∷ []
-hole_leaves (next_of column first others) =
-    name pos_word ∷ mark left ∷ column_name column ∷ mark comma ∷ number_leaves first ++ (others_leaves others ++ mark comma ∷ [])
+hole_leaves (next_of l first others) = before_list l ++ (number_leaves first ++ (others_leaves others ++ mark comma ∷ []))
 
 -- the number that the missing one may not be less than
 abbrev pub least_of : NumberHole → Option NumberText
@@ -68,8 +92,9 @@ part_leaves (centred column centre) =
 part_leaves (ranged column lower) = name between_word ∷ mark left ∷ column_name column ∷ mark comma ∷ number_leaves lower
 part_leaves (range_ended column lower upper) =
     name between_word ∷ mark left ∷ column_name column ∷ mark comma ∷ number_leaves lower ++ mark comma ∷ end_leaves lower upper
-part_leaves (listed column first others) =
-    name pos_word ∷ mark left ∷ column_name column ∷ mark comma ∷ number_leaves first ++ others_leaves others
+part_leaves (listed l first others) = before_list l ++ (number_leaves first ++ others_leaves others)
+part_leaves (set_due column sets) = name layered_word ∷ mark left ∷ column_name column ∷ mark comma ∷ before_set sets
+part_leaves (sets_listed column first others) = name layered_word ∷ mark left ∷ column_name column ∷ mark comma ∷ set_leaves first ++ more_sets others
 
 pub data BaseStep : Type 0 where
   part : (b : BasePart) → BaseStep
@@ -77,17 +102,34 @@ pub data BaseStep : Type 0 where
 
 abbrev pub filled : NumberHole → NumberText → BasePart
 filled (centre_of column) n = centred column n
-filled (first_of column) n = listed column n []
+filled (first_of l) n = listed l n []
 filled (start_of column) n = ranged column n
 filled (end_of column lower) n = range_ended column lower n
-filled (next_of column first others) n = listed column first (others ++ n ∷ [])
+filled (next_of l first others) n = listed l first (others ++ n ∷ [])
+
+-- one more set
+abbrev pub with_set : List ℕ → List SetText → SetText → BasePart
+with_set column [] s = sets_listed column s []
+with_set column (first ∷ others) s = sets_listed column first (others ++ s ∷ [])
+
+-- a list of numbers is whole
+abbrev pub list_closed : NumberList → NumberText → List NumberText → BaseStep
+list_closed (in_pos column) first others = whole_base (pos_text column first others)
+list_closed (in_set column sets) first others = part (with_set column sets (record { first = first; others = others }))
+
+-- the sign behind a number of a list, other than a comma
+abbrev pub behind_listed : NumberList → NumberText → List NumberText → Sign → Option (Leaf × BaseStep)
+behind_listed (in_pos column) first others right = Some (mark right, list_closed (in_pos column) first others)
+behind_listed (in_set column sets) first others right_brace = Some (mark right_brace, list_closed (in_set column sets) first others)
+behind_listed _ _ _ _ = None
 
 abbrev pub after_column : BaseKind → List ℕ → Sign → Option (Leaf × BaseStep)
 after_column low_kind column right = Some (mark right, whole_base (low_text column))
 after_column high_kind column right = Some (mark right, whole_base (high_text column))
 after_column around_kind column comma = Some (mark comma, part (number_due (centre_of column)))
 after_column between_kind column comma = Some (mark comma, part (number_due (start_of column)))
-after_column pos_kind column comma = Some (mark comma, part (number_due (first_of column)))
+after_column pos_kind column comma = Some (mark comma, part (number_due (first_of (in_pos column))))
+after_column layered_kind column comma = Some (mark comma, part (set_due column []))
 after_column _ _ _ = None
 
 abbrev pub base_next : BasePart → Token → Option (Leaf × BaseStep)
@@ -100,8 +142,11 @@ base_next (number_signed n) (digits ds) = Some (number_digits (least_of n) true 
 base_next (centred column centre) (sign right) = Some (mark right, whole_base (around_text column centre))
 base_next (ranged column lower) (sign comma) = Some (mark comma, part (number_due (end_of column lower)))
 base_next (range_ended column lower upper) (sign right) = Some (mark right, whole_base (between_text column lower upper))
-base_next (listed column first others) (sign right) = Some (mark right, whole_base (pos_text column first others))
-base_next (listed column first others) (sign comma) = Some (mark comma, part (number_due (next_of column first others)))
+base_next (listed l first others) (sign comma) = Some (mark comma, part (number_due (next_of l first others)))
+base_next (listed l first others) (sign s) = behind_listed l first others s
+base_next (set_due column sets) (sign left_brace) = Some (mark left_brace, part (number_due (first_of (in_set column sets))))
+base_next (sets_listed column first others) (sign comma) = Some (mark comma, part (set_due column (first ∷ others)))
+base_next (sets_listed column first others) (sign right) = Some (mark right, whole_base (layered_text column first others))
 base_next _ _ = None
 
 -- ---- what is pending around a place
@@ -260,13 +305,18 @@ operand_word h (Some high_word) = Some (name high_word, reading h (named high_ki
 operand_word h (Some around_word) = Some (name around_word, reading h (named around_kind))
 operand_word h (Some between_word) = Some (name between_word, reading h (named between_kind))
 operand_word h (Some pos_word) = Some (name pos_word, reading h (named pos_kind))
+operand_word h (Some layered_word) = Some (name layered_word, reading h (named layered_kind))
 operand_word h (Some reverse_word) = Some (name reverse_word, reverse_named h)
 operand_word _ _ = None
 
+-- where a step within a base term leads
+abbrev pub stepped : UnaryHole → BaseStep → State
+stepped h (part b) = reading h b
+stepped h (whole_base b) = completed h (based b)
+
 abbrev pub carried : UnaryHole → Option (Leaf × BaseStep) → Option (Leaf × State)
 carried h None = None
-carried h (Some (leaf, part b)) = Some (leaf, reading h b)
-carried h (Some (leaf, whole_base b)) = Some (leaf, completed h (based b))
+carried h (Some (leaf, step)) = Some (leaf, stepped h step)
 
 abbrev pub parted : PriorHole → PriorText → Option (Leaf × State)
 parted (whole head) r = None

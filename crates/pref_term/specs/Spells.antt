@@ -7,8 +7,8 @@ use Rattle.pref_table.specs.Columns.{column_of}
 use Rattle.pref_table.specs.Number.{fits_cell, signed_by}
 use Rattle.pref_term.specs.Token.{Token, Placed, tokens_of}
 use Rattle.pref_term.specs.Distinct.{plain, says_distinct}
-use Rattle.pref_term.specs.Grammar.{NumberText, BaseText, low_text, high_text, around_text, pos_text, HeadText, best_head, top_level_head, at_least_head, Direction, minimal, maximal, different, DimText, AskText, rated, skyline, IsText, PriorText, one_product, then_product, ProductText, one_factor, then_factor, UnaryText, negated, grouped, reversed, based, Leaf, name, mark, opens, column_name, number_digits, count_digits, cased, last, token_of, ask_leaves, between_text}
-use Rattle.pref_term.specs.Preference.{Base, low, high, around, one_of, Preference, scored, pareto, prior, reverse, between}
+use Rattle.pref_term.specs.Grammar.{NumberText, BaseText, low_text, high_text, around_text, pos_text, HeadText, best_head, top_level_head, at_least_head, Direction, minimal, maximal, different, DimText, AskText, rated, skyline, IsText, PriorText, one_product, then_product, ProductText, one_factor, then_factor, UnaryText, negated, grouped, reversed, based, Leaf, name, mark, opens, column_name, number_digits, count_digits, cased, last, token_of, ask_leaves, between_text, SetText, layered_text}
+use Rattle.pref_term.specs.Preference.{Base, low, high, around, one_of, Preference, scored, pareto, prior, reverse, between, layered}
 use Rattle.pref_term.specs.Question.{Question, is_count}
 use Rattle.pref_term.specs.declared.ask.Mode.{Mode}
 use Rattle.pref_term.specs.declared.ask.Mode.TheVariants.{Best, TopLevel, AtLeast}
@@ -29,6 +29,10 @@ signed_value negative ds = signed_by negative (digits_value 10 ds)
 abbrev pub number_value : NumberText → ℤ
 number_value n = signed_value n.negative n.digits
 
+-- the values of a set
+abbrev pub set_value : SetText → List ℤ
+set_value s = number_value s.first ∷ map number_value s.others
+
 -- the column of this name
 abbrev pub column_at : Names → List ℕ → ℕ
 column_at names letters = unwrap_or (column_of names letters) 0
@@ -40,6 +44,7 @@ base_meaning names (high_text column) = high (column_at names column)
 base_meaning names (around_text column centre) = around (column_at names column) (number_value centre)
 base_meaning names (between_text column lower upper) = between (column_at names column) (number_value lower) (number_value upper)
 base_meaning names (pos_text column first others) = one_of (column_at names column) (number_value first ∷ map number_value others)
+base_meaning names (layered_text column first others) = layered (column_at names column) (set_value first ∷ map set_value others)
 
 abbrev mutual
   pub prior_meaning : PriorText → Names → Preference

@@ -5,7 +5,7 @@ use Rattle.std.specs.List.{prefix_len}
 use Rattle.pref_table.specs.Names.{is_name_byte}
 use Rattle.pref_table.specs.Number.{is_blank}
 pub use Rattle.pref_term.specs.declared.token.Sign.{Sign}
-pub use Rattle.pref_term.specs.declared.token.Sign.TheVariants.{Left as left, Right as right, Comma as comma, Star as star, Ampersand as ampersand, Minus as minus}
+pub use Rattle.pref_term.specs.declared.token.Sign.TheVariants.{Left as left, Right as right, Comma as comma, Star as star, Ampersand as ampersand, Minus as minus, LeftBrace as left_brace, RightBrace as right_brace}
 
 -- a token, with its bytes where it has a choice of them
 pub data Token : Type 0 where
@@ -30,6 +30,8 @@ sign_or_other b =
     else if b == 42 then sign star
     else if b == 38 then sign ampersand
     else if b == 45 then sign minus
+    else if b == 123 then sign left_brace
+    else if b == 125 then sign right_brace
     else other
 
 -- how many of the bytes after b belong to the token that b begins; a word goes on with the bytes of a name

@@ -231,7 +231,7 @@ fn with_factors(
             None => Ok(None),
         },
         Term::Reverse(p) => with_factors(factors, p, sense.opposite()),
-        Term::Pos { .. } | Term::Prior(..) => Ok(None),
+        Term::Pos { .. } | Term::Layered { .. } | Term::Prior(..) => Ok(None),
     }
 }
 

@@ -60,6 +60,8 @@ pub(crate) fn front(bytes: &[u8]) -> (Token<'_>, usize)
         b'*' => Token::Sign(Sign::Star),
         b'&' => Token::Sign(Sign::Ampersand),
         b'-' => Token::Sign(Sign::Minus),
+        b'{' => Token::Sign(Sign::LeftBrace),
+        b'}' => Token::Sign(Sign::RightBrace),
         _ => Token::Other,
     };
     (token, 1)

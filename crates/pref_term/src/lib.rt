@@ -25,5 +25,5 @@ pub use fault::TermFault;
 pub use read::read_ask;
 pub use relation::Relation;
 pub use shown::show;
-pub use term::{Numbers, Term};
+pub use term::{NumberSets, Numbers, Term};
 pub use walk::{better, compare, same};

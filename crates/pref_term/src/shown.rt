@@ -7,7 +7,7 @@ ghost use Rattle.pref_term.specs.Question.{FitsWidth};
 ghost use Rattle.pref_term.specs.Shown as shown;
 
 use crate::ask::{Ask, Mode};
-use crate::term::Term;
+use crate::term::{Numbers, Term};
 use pref_table::Schema;
 use std::alloc::{AllocError, Global};
 
@@ -91,6 +91,30 @@ fn show_values(alloc: Global, text: &mut Vec<u8>, set: &[i64]) -> Result<(), All
     Ok(())
 }
 
+/// A set in its braces.
+fn show_set(alloc: Global, text: &mut Vec<u8>, set: &Numbers) -> Result<(), AllocError>
+    ensures { OnOk result (text.new.items ≡ text.old.items ++ shown.shown_set set.now) }
+{
+    let Some((first, others)) = set.as_slice().split_first() else {
+        return text.extend_from_slice(b"{}");
+    };
+    text.extend_from_slice(b"{")?;
+    show_number(alloc, text, *first)?;
+    show_values(alloc, text, others)?;
+    text.extend_from_slice(b"}")
+}
+
+/// The sets, each after a comma.
+fn show_sets(alloc: Global, text: &mut Vec<u8>, sets: &[Numbers]) -> Result<(), AllocError>
+    ensures { OnOk result (text.new.items ≡ text.old.items ++ shown.shown_sets sets.now) }
+{
+    for set in sets {
+        text.extend_from_slice(b", ")?;
+        show_set(alloc, text, set)?;
+    }
+    Ok(())
+}
+
 fn show_group(text: &mut Vec<u8>, schema: &Schema, group: &[usize]) -> Result<(), AllocError>
     requires { All (λ col. col < length schema.now) group.now }
     ensures { OnOk result (text.new.items ≡ text.old.items ++ shown.shown_group schema.now group.now) }
@@ -166,6 +190,11 @@ fn show_term(
         Term::Pos { col, set } => {
             show_named(text, schema, b"pos(", *col)?;
             show_values(alloc, text, set.as_slice())?;
+            text.extend_from_slice(b")")
+        }
+        Term::Layered { col, sets } => {
+            show_named(text, schema, b"layered(", *col)?;
+            show_sets(alloc, text, sets.as_slice())?;
             text.extend_from_slice(b")")
         }
         Term::Pareto(p, q) => {

@@ -53,6 +53,56 @@ impl Eq for Numbers {
     ghost laws = { Prim.search (comparing, rules) };
 }
 
+/// Sets of numbers, in the order in which they were given. Contracts see the list of their lists.
+#[derive(Drop)]
+pub struct NumberSets {
+    sets: Vec<Numbers>,
+}
+
+impl Model for NumberSets {
+    ghost Value = { List (List ℤ) };
+
+    ghost view = { λ s. s.sets.items };
+}
+
+impl NumberSets {
+    /// These sets, as they are. Takes no memory.
+    pub fn of(sets: Vec<Numbers>) -> NumberSets
+        ensures { result ≡ sets.items }
+    {
+        NumberSets { sets }
+    }
+
+    /// The sets.
+    pub fn as_slice(&self) -> &[Numbers]
+        ensures { result.now ≡ self.now }
+    {
+        self.sets.as_slice()
+    }
+}
+
+impl PartialEq for NumberSets {
+    ghost use Rattle.std.proofs.Common.{rules};
+    ghost use Rattle.std.specs.Cmp.Lexicographic.{pointwise};
+    ghost use Rattle.std.specs.Cmp.Rules.{comparing};
+    ghost use Rattle.std.specs.Ordering.{int_eq};
+
+    ghost eq = { pointwise (pointwise int_eq) };
+
+    ghost laws = { Prim.search (comparing, rules) };
+
+    fn eq(&self, other: &NumberSets) -> bool {
+        self.sets.as_slice() == other.sets.as_slice()
+    }
+}
+
+impl Eq for NumberSets {
+    ghost use Rattle.std.proofs.Common.{rules};
+    ghost use Rattle.std.specs.Cmp.Rules.{comparing};
+
+    ghost laws = { Prim.search (comparing, rules) };
+}
+
 /// A preference. A column counts from 0, and is below 16. Terms are equal where contracts see the same preference.
 #[derive(Drop)]
 pub enum Term {
@@ -66,6 +116,9 @@ pub enum Term {
     Between { col: usize, left: i64, right: i64 },
     /// Values in the set are better than all others.
     Pos { col: usize, set: Numbers },
+    /// Values in an earlier set are better than those in a later one, and values in a set than those in none. It has a set, and each
+    /// set has a number.
+    Layered { col: usize, sets: NumberSets },
     /// The Pareto product: better in one part, and better or the same in the other.
     Pareto(Box<Term>, Box<Term>),
     /// Prioritisation: better in the first part, or the same in it and better in the second.
@@ -112,6 +165,13 @@ impl PartialEq for Term {
                     set: values,
                 },
             ) => *col == *same && *set == *values,
+            (
+                Term::Layered { col, sets },
+                Term::Layered {
+                    col: same,
+                    sets: others,
+                },
+            ) => *col == *same && *sets == *others,
             (Term::Pareto(p, q), Term::Pareto(r, s)) => **p == **r && **q == **s,
             (Term::Prior(p, q), Term::Prior(r, s)) => **p == **r && **q == **s,
             (Term::Reverse(p), Term::Reverse(r)) => **p == **r,

@@ -1,7 +1,7 @@
 //! The tokens of a question text.
 
 ghost use Rattle.std.specs.Prelude.{◌≡◌};
-ghost use Rattle.pref_term.specs.Grammar.{keyword_of, cased_of, direction_in};
+ghost use Rattle.pref_term.specs.Grammar.{base_words, keyword_of, cased_of, direction_in, outer_words, word_among};
 
 /// A byte that is a token by itself.
 #[derive(Clone, Copy, Debug, PartialEq, Eq)]
@@ -12,6 +12,8 @@ pub enum Sign {
     Star,
     Ampersand,
     Minus,
+    LeftBrace,
+    RightBrace,
 }
 
 /// A word of the grammar, where the place makes it one.
@@ -23,6 +25,7 @@ pub enum Keyword {
     Around,
     Between,
     Pos,
+    Layered,
     Reverse,
     TopLevel,
     AtLeast,
@@ -54,17 +57,34 @@ pub enum Direction {
 pub(crate) fn word_of_grammar(letters: &[u8]) -> Option<Keyword>
     ensures { result ≡ keyword_of letters.now }
 {
+    outer_word(letters).or(base_word(letters))
+}
+
+/// The word that stands around base terms with these letters.
+fn outer_word(letters: &[u8]) -> Option<Keyword>
+    ensures { result ≡ word_among outer_words letters.now }
+{
     match letters {
         b"best" => Some(Keyword::Best),
+        b"reverse" => Some(Keyword::Reverse),
+        b"top_level" => Some(Keyword::TopLevel),
+        b"at_least" => Some(Keyword::AtLeast),
+        b"by" => Some(Keyword::By),
+        _ => None,
+    }
+}
+
+/// The word of a base term with these letters.
+fn base_word(letters: &[u8]) -> Option<Keyword>
+    ensures { result ≡ word_among base_words letters.now }
+{
+    match letters {
         b"low" => Some(Keyword::Low),
         b"high" => Some(Keyword::High),
         b"around" => Some(Keyword::Around),
         b"between" => Some(Keyword::Between),
         b"pos" => Some(Keyword::Pos),
-        b"reverse" => Some(Keyword::Reverse),
-        b"top_level" => Some(Keyword::TopLevel),
-        b"at_least" => Some(Keyword::AtLeast),
-        b"by" => Some(Keyword::By),
+        b"layered" => Some(Keyword::Layered),
         _ => None,
     }
 }

@@ -1,5 +1,5 @@
 //! When a row is better than another: one walk over a term for each pair of rows.
-ghost use Rattle.std.specs.Prelude.{◌≡◌};
+ghost use Rattle.std.specs.Prelude.{◌≡◌, pos};
 ghost use Rattle.std.specs.List.{list_any};
 ghost use Rattle.std.specs.Ordering.{int_eq};
 ghost use Rattle.pref_term.specs.Better as better;
@@ -10,7 +10,7 @@ ghost use Rattle.pref_term.specs.Walk.{by_scores, in_priority, in_product, walke
 
 use crate::factor::{Factor, Sense};
 use crate::relation::Relation;
-use crate::term::{Numbers, Term};
+use crate::term::{NumberSets, Numbers, Term};
 use pref_table::Row;
 
 /// How the first row stands to the second one by a term.
@@ -42,7 +42,7 @@ pub fn same(term: &Term, a: &Row, b: &Row) -> bool
     compare(term, a, b).is_same()
 }
 
-/// A base term is compared as a factor, or by its set; composed ones walk their parts.
+/// A base term is compared as a factor, or by its sets; composed ones walk their parts.
 #[cycle(walk)]
 #[inline(always)]
 fn walk(term: &Term, a: &Row, b: &Row) -> Relation
@@ -66,6 +66,7 @@ fn walk(term: &Term, a: &Row, b: &Row) -> Relation
         }
         .compare(a, b),
         Term::Pos { col, set } => by_member(a.cell(*col), b.cell(*col), set),
+        Term::Layered { col, sets } => by_layer(a.cell(*col), b.cell(*col), sets),
         Term::Pareto(p, q) => product(Relation::Same, p, q, a, b),
         Term::Prior(p, q) => priority(p, q, a, b),
         Term::Reverse(p) => converse(p, a, b),
@@ -123,6 +124,24 @@ fn by_member(a: i64, b: i64, set: &Numbers) -> Relation
         (false, true) => Relation::Worse,
         _ => Relation::Same,
     }
+}
+
+/// A value in an earlier set is better than one in a later set, or in none.
+fn by_layer(a: i64, b: i64, sets: &NumberSets) -> Relation
+    ensures { result ≡ by_scores (pos (better.sets_before sets.now a)) (pos (better.sets_before sets.now b)) }
+{
+    let first = sets_before(sets.as_slice(), a);
+    let second = sets_before(sets.as_slice(), b);
+    Relation::by_sides(first < second, second < first)
+}
+
+/// How many sets stand before the first that holds the value; all, where none does.
+fn sets_before(sets: &[Numbers], value: i64) -> usize
+    ensures { result ≡ better.sets_before sets.now value }
+{
+    sets.iter()
+        .position(|set| is_member(set, value))
+        .unwrap_or(sets.len())
 }
 
 fn is_member(set: &Numbers, value: i64) -> bool

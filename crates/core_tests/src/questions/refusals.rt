@@ -23,7 +23,8 @@ fn read_in_the_end(rt: &impl Abort, alloc: Global, schema: &Schema, question: &[
     }
 }
 
-const QUESTION: &[u8] = b"at_least 20 -(low(x) * around(y, -3)) & pos(g, 1, 2) by g, x";
+const QUESTION: &[u8] =
+    b"at_least 20 -(low(x) * around(y, -3)) & pos(g, 1, 2) * layered(g, {1, 2}, {3}) by g, x";
 
 #[test]
 fn a_refused_reading_of_a_question_is_told_and_made_again(rt: HostRuntime) -> Result<(), Fail> {

@@ -61,6 +61,10 @@ fn shown_in_one_spelling(rt: HostRuntime) -> Result<(), Fail> {
             "best -between(y,-  9223372036854775808,007)",
             "best -between(y, -9223372036854775808, 7)",
         ),
+        (
+            "best -layered(y,{-  1,02,2},{007})",
+            "best -layered(y, {-1, 2, 2}, {7})",
+        ),
     ];
     for (text, wanted) in cases {
         let found = shown(rt.alloc(), text.as_bytes())?;
@@ -75,6 +79,7 @@ fn what_was_shown_is_shown_again(rt: HostRuntime) -> Result<(), Fail> {
         "best reverse((low(x)&-(low(y)*low(z)))*pos(g,3,-4,3)) by h,x",
         "at_least 1000 reverse(reverse(around(h,9223372036854775807)))",
         "skyline of h DIFF, z max, y min, x max, g diff",
+        "best layered(g,{3,-4,3},{3})*-layered(h,{-9223372036854775808})&low(x)",
         "skyline of Distinct h DIFF, z max, y min, x max, g diff",
         "best between(g,-5,-5)*-between(h,-3,9223372036854775807)&low(x)",
         "top_level 01 (((low(x)*high(x))&low(x))&low(y))&(low(x)&low(y))*(low(x)*low(y))",

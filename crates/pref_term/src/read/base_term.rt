@@ -12,7 +12,7 @@ ghost use Rattle.pref_term.specs.Preference.{preference_of};
 use crate::cursor::Cursor;
 use crate::fault::TermFault;
 use crate::front::Token;
-use crate::term::{Numbers, Term};
+use crate::term::{NumberSets, Numbers, Term};
 use crate::token::Sign;
 use pref_table::{Schema, signed_number};
 use std::alloc::Global;
@@ -123,18 +123,17 @@ fn number<'a>(cursor: Cursor<'a>) -> Result<(i64, Cursor<'a>), TermFault>
     }
 }
 
-/// Takes a number of a set and the sign behind it, and says whether more numbers follow.
-fn listed<'a>(cursor: Cursor<'a>) -> Result<(i64, bool, Cursor<'a>), TermFault>
-    ensures ok { IfOk result (λ x. (names : List (List ℕ)) → led.ReadsListed names (ahead cursor.entry) x.0 x.1 (ahead x.2)) }
-    ensures shorter { IfOk result (λ x. length (ahead x.2) < length (ahead cursor.entry)) }
-    ensures err { IfErr result (λ f. (names : List (List ℕ)) → led.FailsListed names (ahead cursor.entry) f) }
+/// Takes a comma, or the sign that closes a list, and says whether more follows.
+fn more_follows<'a>(cursor: Cursor<'a>, close: Sign) -> Result<(bool, Cursor<'a>), TermFault>
+    ensures ok { IfOk result (λ x. led.Passes (tokens.sign (led.list_sign close x.0)) (ahead cursor.entry) (ahead x.1)) }
+    ensures comma { IfErr result (λ f. led.IsOther (tokens.sign tokens.comma) (ahead cursor.entry) f) }
+    ensures close { IfErr result (λ f. led.IsOther (tokens.sign close) (ahead cursor.entry) f) }
 {
-    let (value, next) = number(cursor)?;
-    let taken = next.take();
+    let taken = cursor.take();
     if taken.is(Sign::Comma) {
-        Ok((value, true, taken.next))
-    } else if taken.is(Sign::Right) {
-        Ok((value, false, taken.next))
+        Ok((true, taken.next))
+    } else if taken.is(close) {
+        Ok((false, taken.next))
     } else {
         Err(TermFault::Unexpected {
             at: taken.at as u64,
@@ -142,23 +141,38 @@ fn listed<'a>(cursor: Cursor<'a>) -> Result<(i64, bool, Cursor<'a>), TermFault>
     }
 }
 
-fn push(set: &mut Vec<i64>, value: i64) -> Result<(), TermFault>
-    ensures ok { OnOk result (set.new.items ≡ set.old.items ++ value ∷ []) }
-    ensures err { IfErr result (λ f. f ≡ TermFault.OutOfMemory) }
+/// Takes a number of a list and the sign behind it, and says whether more numbers follow.
+fn listed<'a>(cursor: Cursor<'a>, close: Sign) -> Result<(i64, bool, Cursor<'a>), TermFault>
+    ensures ok { IfOk result (λ x. (names : List (List ℕ)) → led.ReadsListed names close (ahead cursor.entry) x.0 x.1 (ahead x.2)) }
+    ensures shorter { IfOk result (λ x. length (ahead x.2) < length (ahead cursor.entry)) }
+    ensures err { IfErr result (λ f. (names : List (List ℕ)) → led.FailsListed names close (ahead cursor.entry) f) }
 {
-    set.push(value).map_err(|_| TermFault::OutOfMemory)
+    let (value, next) = number(cursor)?;
+    let (more, rest) = more_follows(next, close)?;
+    Ok((value, more, rest))
 }
 
-/// Takes the numbers of a set and the parenthesis behind them.
-fn numbers<'a>(alloc: Global, cursor: Cursor<'a>) -> Result<(Vec<i64>, Cursor<'a>), TermFault>
-    ensures ok { IfOk result (λ x. (names : List (List ℕ)) → led.ReadsNumbers names (ahead cursor.entry) x.0.items (ahead x.1)) }
+fn push<T: Drop>(list: &mut Vec<T>, entry: T) -> Result<(), TermFault>
+    ensures ok { OnOk result (list.new.items ≡ list.old.items ++ entry ∷ []) }
+    ensures err { IfErr result (λ f. f ≡ TermFault.OutOfMemory) }
+{
+    list.push(entry).map_err(|_| TermFault::OutOfMemory)
+}
+
+/// Takes the numbers of a list and the sign that closes it.
+fn numbers<'a>(
+    alloc: Global,
+    cursor: Cursor<'a>,
+    close: Sign,
+) -> Result<(Vec<i64>, Cursor<'a>), TermFault>
+    ensures ok { IfOk result (λ x. (names : List (List ℕ)) → led.ReadsNumbers names close (ahead cursor.entry) x.0.items (ahead x.1)) }
     ensures shorter { IfOk result (λ x. length (ahead x.1) < length (ahead cursor.entry)) }
-    ensures err { IfErr result (λ f. (names : List (List ℕ)) → led.FailsNumbers names (ahead cursor.entry) f) }
+    ensures err { IfErr result (λ f. (names : List (List ℕ)) → led.FailsNumbers names close (ahead cursor.entry) f) }
 {
     let mut set = Vec::new(alloc);
     let mut place = cursor;
     loop {
-        let (value, more, next) = listed(place)?;
+        let (value, more, next) = listed(place, close)?;
         push(&mut set, value)?;
         if !more {
             return Ok((set, next));
@@ -251,7 +265,54 @@ pub(super) fn pos<'a>(
 {
     let (col, next) = opened_column(schema, cursor)?;
     let inside = expect(next, Sign::Comma)?;
-    let (numbers, rest) = numbers(alloc, inside)?;
+    let (numbers, rest) = numbers(alloc, inside, Sign::Right)?;
     let set = Numbers::of(numbers);
     Ok((Term::Pos { col, set }, rest))
+}
+
+/// Takes a set of `layered` and the sign behind it, and says whether more sets follow.
+fn set<'a>(alloc: Global, cursor: Cursor<'a>) -> Result<(Numbers, bool, Cursor<'a>), TermFault>
+    ensures ok { IfOk result (λ x. (names : List (List ℕ)) → led.ReadsSet names (ahead cursor.entry) x.0 x.1 (ahead x.2)) }
+    ensures shorter { IfOk result (λ x. length (ahead x.2) < length (ahead cursor.entry)) }
+    ensures err { IfErr result (λ f. (names : List (List ℕ)) → led.FailsSet names (ahead cursor.entry) f) }
+{
+    let inside = expect(cursor, Sign::LeftBrace)?;
+    let (numbers, next) = numbers(alloc, inside, Sign::RightBrace)?;
+    let (more, rest) = more_follows(next, Sign::Right)?;
+    Ok((Numbers::of(numbers), more, rest))
+}
+
+/// Takes the sets of `layered` and the parenthesis behind them.
+fn sets<'a>(alloc: Global, cursor: Cursor<'a>) -> Result<(Vec<Numbers>, Cursor<'a>), TermFault>
+    ensures ok { IfOk result (λ x. (names : List (List ℕ)) → led.ReadsSets names (ahead cursor.entry) x.0.items (ahead x.1)) }
+    ensures shorter { IfOk result (λ x. length (ahead x.1) < length (ahead cursor.entry)) }
+    ensures err { IfErr result (λ f. (names : List (List ℕ)) → led.FailsSets names (ahead cursor.entry) f) }
+{
+    let mut sets = Vec::new(alloc);
+    let mut place = cursor;
+    loop {
+        let (set, more, next) = set(alloc, place)?;
+        push(&mut sets, set)?;
+        if !more {
+            return Ok((sets, next));
+        }
+        place = next;
+    }
+}
+
+/// Takes what stands behind `layered`.
+pub(super) fn layered<'a>(
+    alloc: Global,
+    schema: &Schema,
+    cursor: Cursor<'a>,
+) -> Result<(Term, Cursor<'a>), TermFault>
+    ensures ok { IfOk result (λ x. led.ReadsBase schema.now reading.layered_kind (ahead cursor.entry) (preference_of x.0) (ahead x.1)) }
+    ensures shorter { IfOk result (λ x. length (ahead x.1) < length (ahead cursor.entry)) }
+    ensures err { IfErr result (λ f. led.FailsBase schema.now reading.layered_kind (ahead cursor.entry) f) }
+{
+    let (col, next) = opened_column(schema, cursor)?;
+    let inside = expect(next, Sign::Comma)?;
+    let (sets, rest) = sets(alloc, inside)?;
+    let sets = NumberSets::of(sets);
+    Ok((Term::Layered { col, sets }, rest))
 }

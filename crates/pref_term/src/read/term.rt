@@ -8,7 +8,7 @@ ghost use Rattle.pref_term.specs.Spells as spells;
 ghost use Rattle.pref_term.specs.Preference.{preference_of};
 ghost use Rattle.pref_term.specs.Preference as terms;
 
-use super::base_term::{around, between, expect, high, low, pos};
+use super::base_term::{around, between, expect, high, layered, low, pos};
 use crate::cursor::Cursor;
 use crate::fault::TermFault;
 use crate::front::Token;
@@ -73,6 +73,7 @@ fn unary<'a>(
         Keyword::Around => around(schema, taken.next),
         Keyword::Between => between(schema, taken.next),
         Keyword::Pos => pos(alloc, schema, taken.next),
+        Keyword::Layered => layered(alloc, schema, taken.next),
         _ => Err(TermFault::Unexpected {
             at: taken.at as u64,
         }),

@@ -6,7 +6,7 @@ use Rattle.pref_term.proofs.read.base_term.numbers.Given as goal
 -- the numbers so far were read, and more are due
 abbrev pub invariant-loop-set : goal.invariant-loop-set
 invariant-loop-set l = record {
-  so_far : (names : List (List ℕ)) → ReadsSome names (ahead l.fn.cursor) l.set.items true (ahead l.place);
+  so_far : (names : List (List ℕ)) → ReadsSome names l.close (ahead l.fn.cursor) l.set.items true (ahead l.place);
   shorter : length (ahead l.place) ≤ length (ahead l.fn.cursor);
 }
 

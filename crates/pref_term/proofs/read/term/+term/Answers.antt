@@ -1,7 +1,7 @@
 use Rattle.std.proofs.Common.{ℕ, List, Some, arith, sym, ap, subst, ◌∙◌, length}
 use Rattle.std.proofs.lemmas.Result.{IfOk-weaker}
 use Rattle.pref_term.specs.Token.{Placed}
-use Rattle.pref_term.specs.Reading.{low_kind, high_kind, around_kind, between_kind, pos_kind}
+use Rattle.pref_term.specs.Reading.{low_kind, high_kind, around_kind, between_kind, pos_kind, layered_kind}
 use Rattle.pref_term.specs.Ahead.{ahead}
 use Rattle.pref_term.specs.Led.{FailsUnary, FailsGroup, FailsProduct, FailsPrior, ReadsReverse, ReadsUnary, ReadsGroup, ReadsFactors, ReadsProducts}
 use Rattle.pref_term.specs.Preference.{Preference, preference_of}
@@ -155,6 +155,16 @@ pub unary-returns-in-Pos-clause-err : goal.unary-returns-in-Pos-clause-err
 unary-returns-in-Pos-clause-err t c =
     taken_base_fails c.args.schema.now c.args.depth pos_kind (ahead c.args.cursor) c.take-taken.result c.in-Word.letters c.take-taken.ensures c.in-Word.is (sym c.in-Some.ensures ∙ ap Some c.in-Pos.is)
     c.pos.result c.pos.ensures.err
+
+pub unary-returns-in-Layered-clause-ok : goal.unary-returns-in-Layered-clause-ok
+unary-returns-in-Layered-clause-ok t c =
+    taken_base_read c.args.schema.now c.args.depth layered_kind (ahead c.args.cursor) c.take-taken.result c.in-Word.letters c.take-taken.ensures c.in-Word.is (sym c.in-Some.ensures ∙ ap Some c.in-Layered.is)
+    c.layered.result c.layered.ensures.ok
+
+pub unary-returns-in-Layered-clause-err : goal.unary-returns-in-Layered-clause-err
+unary-returns-in-Layered-clause-err t c =
+    taken_base_fails c.args.schema.now c.args.depth layered_kind (ahead c.args.cursor) c.take-taken.result c.in-Word.letters c.take-taken.ensures c.in-Word.is (sym c.in-Some.ensures ∙ ap Some c.in-Layered.is)
+    c.layered.result c.layered.ensures.err
 
 pub unary-returns-in-Reverse-clause-ok : goal.unary-returns-in-Reverse-clause-ok
 unary-returns-in-Reverse-clause-ok t c =

@@ -1,0 +1,7 @@
+use Rattle.std.proofs.Common.{◌≡◌, ◌++◌, drop}
+use Rattle.pref_term.specs.Shown.{shown_sets}
+use Rattle.pref_term.proofs.shown.show_sets.Given as goal
+
+-- the text so far, and the sets that are left
+abbrev pub invariant-loop-set : goal.invariant-loop-set
+invariant-loop-set l = l.text.items ++ shown_sets (drop l.set-index l.sets) ≡ l.fn.text.items ++ shown_sets l.sets

@@ -1,0 +1,34 @@
+use Rattle.std.proofs.Common.{◌≡◌, ◌≤◌, ℕ, ℤ, List, [], ◌∷◌, length, Bool, true, false, cond, not, nat_lt, Some, None, Option, refl, ap, ◌∙◌, arith, w64, rules, tests, to_z, of_z}
+use Rattle.std.specs.Prelude.{◌+◌, unwrap_or}
+use Rattle.std.specs.List.{list_any, position_or_len}
+use Rattle.std.specs.Ordering.{int_eq}
+use Rattle.std.proofs.lemmas.Bool.{ltb-false}
+use Rattle.std.proofs.lemmas.Int.{to_z-of_z}
+use Rattle.std.proofs.lemmas.Iterator.{YieldsList-from_slice}
+use Rattle.std.proofs.lemmas.Iterator.Search.{position_from_yields_List}
+use Rattle.pref_term.specs.Better.{sets_before}
+use Rattle.pref_term.proofs.walk.sets_before.Goals as goal
+
+first_within : {X : Type 0} (test : X → Bool) (xs : List X) → position_or_len test xs ≤ length xs
+first_within test [] = omega arith
+first_within test (x ∷ xs) = go (test x) (first_within test xs)
+  where
+    go : (b : Bool) → position_or_len test xs ≤ length xs → cond (not b) (1 + position_or_len test xs) 0 ≤ length (x ∷ xs)
+    go true h = omega arith
+    go false h = omega arith
+
+-- the first place, or the length where there is none
+first_or_length : (i n : ℕ) (b : Bool) → i ≤ n → nat_lt i n ≡ b → unwrap_or (cond b (Some i) None) n ≡ i
+first_or_length i n true h e = refl
+first_or_length i n false h e = omega (arith, ltb-false i n e)
+
+pub returns : goal.returns
+returns c =
+    let value : to_z w64 (of_z w64 c.args.value) ≡ c.args.value = to_z-of_z w64 c.args.value (search rules) in
+    let sets = c.args.sets.now in
+    let test : List ℤ → Bool = λ set. list_any (int_eq (to_z w64 (of_z w64 c.args.value))) set in
+    let found = position_from_yields_List test _ _ c.position.result c.position.ensures.ran (YieldsList-from_slice _ c.iter.ensures.rest) (λ x b q k. search (rules, tests)) in
+    c.unwrap_or.ensures
+    ∙ (ap (λ (o : Option ℕ). unwrap_or o (length sets)) found
+    ∙ (first_or_length (position_or_len test sets) (length sets) _ (first_within test sets) refl
+    ∙ ap (sets_before sets) value))
