@@ -39,11 +39,6 @@ abbrev pub row_in : List (Option Version) → Option ℕ → Option Row
 row_in slots None = None
 row_in slots (Some place) = elim (slice_get slots place) [ None ↦ None | Some slot ↦ option_map (λ (version : Version). version.row) slot ]
 
--- the place of the row that a call ends
-abbrev pub IsOldPlace : ℕ → List ℕ → List (Option Version) → Option ℕ → Type 0
-IsOldPlace stamp [] slots old = old ≡ None
-IsOldPlace stamp (id ∷ ids) slots old = IsPlaceOf stamp id slots old
-
 -- the places of the rows of these ids, one for each
 abbrev pub AreOldPlaces : ℕ → List ℕ → List (Option Version) → List ℕ → Type 0
 AreOldPlaces stamp [] slots [] = Unit {0}
@@ -78,8 +73,3 @@ are_free stamps slots earlier (place ∷ places) = not (among earlier place) && 
 abbrev pub AreFresh : ℕ → List Line → List Entry → Type 0
 AreFresh limit table [] = Unit {0}
 AreFresh limit table (fresh ∷ rest) = (fresh.id < limit) × (has table fresh.id ≡ false) × (among (map (λ entry. entry.id) rest) fresh.id ≡ false) × AreFresh limit table rest
-
--- whether a row's new slot is its old one
-abbrev pub stays : Option ℕ → Option ℕ → Bool
-stays (Some slot) (Some old) = slot == old
-stays slot old = false

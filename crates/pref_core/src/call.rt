@@ -4,7 +4,6 @@
 //! compared call by call. A call that is refused before its outcome is planned has no number.
 
 ghost use Rattle.std.specs.Prelude.{◌≡◌, ◌++◌, ◌∷◌, [], ◌<◌, ◌≤◌, ℕ, Some, is_some, length, slice_get};
-ghost use Rattle.std.specs.Option.{option_to_list};
 
 use crate::changes::Change;
 use crate::fault::CoreFault;
@@ -49,16 +48,6 @@ impl Call {
         match (*self, query) {
             (Call::Begin, QueryState::Open) => Some(CoreFault::QueryOpen),
             (Call::Finish | Call::Abandon, QueryState::NotOpen) => Some(CoreFault::NoQuery),
-            _ => None,
-        }
-    }
-
-    /// The id whose row the call ends.
-    pub(crate) fn ended(&self) -> Option<u64>
-        ensures { option_to_list result ≡ ended self.now }
-    {
-        match *self {
-            Call::Update(id, _) | Call::Delete(id) => Some(id),
             _ => None,
         }
     }
@@ -229,13 +218,6 @@ impl SlotList {
         ensures few { length self.now ≤ 8 }
     {
         &self.slots[..self.count]
-    }
-
-    /// The first slot, where there is one.
-    pub(crate) fn first(&self) -> Option<u32>
-        ensures { result ≡ slice_get self.now 0 }
-    {
-        self.as_slice().first().copied()
     }
 
     /// One more slot, behind the others.

@@ -1,13 +1,14 @@
 //! An index from row id to slot, which finds a row of a store without a look at other slots.
 
-ghost use Rattle.std.specs.Prelude.{◌≡◌, ℕ, [], ◌∷◌, true, is_some, None, Some, slice_get, IfOk, OnOk, OnErr};
-ghost use Rattle.pref_core.specs.Indexes.{slot_of, Points, Prepares, Withdraws, Follows, adds, IsIndexOf, IsReady};
-ghost use Rattle.pref_core.specs.Kept.{stays};
+ghost use Rattle.std.specs.Prelude.{◌≡◌, ◌^◌, ◌<◌, ℕ, [], map, length, true, false, is_some, None, Some, IfOk, OnOk, OnErr};
+ghost use Rattle.pref_core.specs.Indexes.{slot_of, Points, PointsAll, placed_from, added_slots, added_rows, Prepares, Withdraws, adds, IsIndexOf, IsReady};
 ghost use Rattle.pref_core.specs.Operations.{IsPlan};
 ghost use Rattle.pref_core.specs.Slots.{Contents, StandsFor};
-ghost use Rattle.pref_core.specs.State.{State, ended, succeeds};
+ghost use Rattle.pref_core.specs.State.{State, changes_of};
+ghost use Rattle.pref_core.specs.Table.{among};
 
-use crate::call::{Op, Outcome};
+use crate::call::{Op, Outcome, SlotList};
+use crate::changes::Change;
 use crate::store::Store;
 use indexmap::IndexMap;
 use std::alloc::{AllocError, Global};
@@ -81,54 +82,111 @@ impl Index {
         self.slots.swap_remove(&id);
     }
 
-    /// Puts the row that a planned op adds, before the op is done, so that [`Store::apply_at`] takes no memory.
-    /// `Err` is want of memory, comes only for an op that adds a row, and leaves the index as it was.
+    /// Puts the rows that a planned op adds, one after the other, before the op is done, so that [`Store::apply_at`] takes
+    /// no memory.
+    ///
+    /// `Err` is want of memory, comes only for an op that adds a row, and leaves none of these rows in the index: where it
+    /// was that of a store which planned the op, it still is.
     pub fn prepare(&mut self, alloc: Global, op: &Op) -> Result<(), AllocError>
-        ensures prepared { OnOk result (Prepares op.now.outcome (slice_get op.now.slots 0) self.old self.new) }
-        ensures err { OnErr result (self.new ≡ self.old) }
+        ensures prepared { OnOk result (Prepares op.now self.old self.new) }
+        ensures err { OnErr result (Withdraws op.now self.old self.new) }
+        ensures index { OnErr result ((contents : Contents) (state : State) → StandsFor contents state → IsPlan contents op.now.client op.now.call op.now → IsIndexOf contents self.old → IsIndexOf contents self.new) }
         ensures refused { OnErr result (adds op.now.outcome ≡ true) }
     {
-        match (op.outcome, op.slots.first()) {
-            (Outcome::Added(id), Some(slot)) => self.put(alloc, id, slot as usize),
-            _ => Ok(()),
+        let added = AddedRows::of(op);
+        match self.put_all(alloc, &added) {
+            Ok(()) => Ok(()),
+            Err(refused) => {
+                self.take_all(&added);
+                Err(refused)
+            }
         }
     }
 
     /// Takes out again what was put for an op that won't be done: then the index is the store's as before.
     pub fn withdraw(&mut self, op: &Op)
-        ensures out { Withdraws op.now.outcome self.old self.new }
+        ensures out { Withdraws op.now self.old self.new }
         ensures index { (contents : Contents) (state : State) → StandsFor contents state → IsPlan contents op.now.client op.now.call op.now → IsReady contents op.now self.old → IsIndexOf contents self.new }
     {
-        if let Outcome::Added(id) = op.outcome {
-            self.take(id);
-        }
+        self.take_all(&AddedRows::of(op));
     }
 
-    /// Goes along with an op that was done, whose call ended the row at `old`: the row now stands in the op's slot, or is
-    /// gone. Where it stands in its old slot the index is as before.
-    pub(crate) fn follow(&mut self, op: &Op, old: Option<u32>)
-        requires there { (id : ℕ) → ended op.now.call ≡ id ∷ [] → succeeds op.now.outcome ≡ true → is_some (slot_of self.old id) ≡ true }
-        requires kept { (id : ℕ) → ended op.now.call ≡ id ∷ [] → stays (slice_get op.now.slots 0) old ≡ true → slot_of self.old id ≡ slice_get op.now.slots 0 }
-        ensures { Follows op.now self.old self.new }
+    /// Puts the slots of new rows. `Err` leaves other rows as they were.
+    fn put_all(&mut self, alloc: Global, added: &AddedRows) -> Result<(), AllocError>
+        requires { added.now.first < 2 ^ 63 }
+        ensures put { OnOk result (PointsAll self.old (placed_from added.now.first added.now.slots) self.new) }
+        ensures err { OnErr result ((id : ℕ) → among (map (λ placed. placed.0) (placed_from added.now.first added.now.slots)) id ≡ false → slot_of self.new id ≡ slot_of self.old id) }
+        ensures some { OnErr result (0 < length added.now.slots) }
     {
-        if stays(op.slots.first(), old) || !op.outcome.succeeds() {
-            return;
+        let slots = added.slots.as_slice();
+        for at in 0..slots.len() {
+            self.put(alloc, added.first + at as u64, slots[at] as usize)?;
         }
-        if let Some(id) = op.call.ended() {
-            match op.slots.first() {
-                Some(slot) => self.set(id, slot as usize),
-                None => self.take(id),
-            }
+        Ok(())
+    }
+
+    /// Takes new rows out, where they are there.
+    fn take_all(&mut self, added: &AddedRows)
+        requires { added.now.first < 2 ^ 63 }
+        ensures { PointsAll self.old (map (λ placed. (placed.0, None)) (placed_from added.now.first added.now.slots)) self.new }
+    {
+        for at in 0..added.slots.as_slice().len() {
+            self.take(added.first + at as u64);
         }
     }
 }
 
-/// Whether a row's new slot is its old one.
-fn stays(slot: Option<u32>, old: Option<u32>) -> bool
-    ensures { result ≡ stays slot old }
-{
-    match (slot, old) {
-        (Some(slot), Some(old)) => slot == old,
-        _ => false,
+/// The rows that an op adds.
+#[derive(Drop)]
+struct AddedRows {
+    /// The id of the first; the others have the next ones.
+    first: u64,
+    /// Their slots.
+    slots: SlotList,
+}
+
+impl AddedRows {
+    /// Ids are below this number.
+    const END_OF_IDS: u64 = 1 << 63;
+
+    /// The rows that this op adds.
+    fn of(op: &Op) -> AddedRows
+        ensures rows { placed_from result.first result.slots ≡ added_rows op.now }
+        ensures small { result.first < 2 ^ 63 }
+        ensures adds { 0 < length result.slots → adds op.now.outcome ≡ true }
+    {
+        match op.outcome {
+            Outcome::Added(first) if first < Self::END_OF_IDS => AddedRows {
+                first,
+                slots: added_slots(op),
+            },
+            _ => AddedRows {
+                first: 0,
+                slots: SlotList::NONE,
+            },
+        }
     }
+}
+
+/// The slots of the rows that the op's changes add, of the slots of all rows that they begin.
+fn added_slots(op: &Op) -> SlotList
+    ensures { result ≡ added_slots (changes_of op.now.call) op.now.slots }
+{
+    let slots = op.slots.as_slice();
+    let mut added = SlotList::NONE;
+    let mut used = 0;
+    for at in 0..op.call.count() {
+        match op.call.change(at) {
+            Change::Add(_) => {
+                let Some(slot) = slots.get(used) else {
+                    return added;
+                };
+                added.push(*slot);
+                used += 1;
+            }
+            Change::Set(_, _) => used += 1,
+            Change::Remove(_) => {}
+        }
+    }
+    added
 }

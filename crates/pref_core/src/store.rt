@@ -233,8 +233,7 @@ impl Store {
         ensures index { IsIndexOf self.new index.new }
         ensures state { (state : State) → StandsFor self.old state → AppliesIn state self.old op.now self.new }
     {
-        let old = indexing::indexed_old_place(&self.contents, index, op.call.ended());
+        indexing::follow(&self.contents, index, op);
         applying::carry_out(&mut self.contents, &mut self.places, &mut self.links, op);
-        index.follow(op, old);
     }
 }

@@ -1,14 +1,16 @@
 //! Where rows stand, by an index.
 
-ghost use Rattle.std.specs.Option.{option_to_list};
-ghost use Rattle.std.specs.Prelude.{ℕ, IfOk, Some, length, map, ◌≡◌, ◌≤◌};
-ghost use Rattle.pref_core.specs.Indexes.{slot_of, IsPlaceOf, IsIndexOf};
-ghost use Rattle.pref_core.specs.Kept.{IsOldPlace, IsKept, FindsFreed};
+ghost use Rattle.std.specs.Prelude.{ℕ, IfOk, Some, length, map, true, ◌≡◌, ◌≤◌};
+ghost use Rattle.pref_core.specs.Indexes.{slot_of, Points, IsPlaceOf, IsIndexOf, IsReady, Follows};
+ghost use Rattle.pref_core.specs.Kept.{IsKept, FindsFreed};
+ghost use Rattle.pref_core.specs.Operations.{is_next};
 ghost use Rattle.pref_core.specs.Places.{zone_of};
-ghost use Rattle.pref_core.specs.Slots.{begins};
+ghost use Rattle.pref_core.specs.Slots.{begins, visible};
 ghost use Rattle.pref_core.specs.State.{changes_of, ended};
+ghost use Rattle.pref_core.specs.Table.{has};
 
-use crate::call::{Call, SlotList};
+use crate::call::{Call, Op, SlotList};
+use crate::changes::Change;
 use crate::index::Index;
 use crate::store::contents::Contents;
 use crate::store::links::home_of;
@@ -58,22 +60,6 @@ pub(crate) fn indexed_place(contents: &Contents, index: &Index, id: u64) -> Opti
     }
 }
 
-/// The place of the row that a call ends, where it ends one.
-pub(crate) fn indexed_old_place(
-    contents: &Contents,
-    index: &Index,
-    ended: Option<u64>,
-) -> Option<u32>
-    requires few { length contents.now.slots ≤ 65536 }
-    requires index { (id : ℕ) → ended ≡ Some id → IsPlaceOf contents.now.stamp id contents.now.slots (slot_of index.now id) }
-    ensures { IsOldPlace contents.now.stamp (option_to_list ended) contents.now.slots result }
-{
-    match ended {
-        Some(id) => indexed_place(contents, index, id),
-        None => None,
-    }
-}
-
 /// The slots that the rows which a call ends leave free, or the first id that it ends and the table lacks. Rows are found by
 /// an index.
 pub(crate) fn indexed_freed_places(
@@ -98,4 +84,41 @@ pub(crate) fn indexed_freed_places(
         }
     }
     Ok(freed)
+}
+
+/// Goes along with a planned op before it is done: each row that it sets gets its new slot, and each that it removes goes out.
+pub(crate) fn follow(contents: &Contents, index: &mut Index, op: &Op)
+    requires kept { IsKept contents.now (map (zone_of (begins contents.now.callers)) contents.now.slots) }
+    requires next { is_next contents.now op.now ≡ true }
+    requires ready { IsReady contents.now op.now index.old }
+    ensures { Follows op.now index.old index.new }
+{
+    if !op.outcome.succeeds() {
+        return;
+    }
+    let slots = op.slots.as_slice();
+    let mut used = 0;
+    for at in 0..op.call.count() {
+        match op.call.change(at) {
+            Change::Add(_) => used += 1,
+            Change::Set(id, _) => {
+                let Some(slot) = slots.get(used) else { return };
+                move_row(contents, index, id, *slot);
+                used += 1;
+            }
+            Change::Remove(id) => index.take(id),
+        }
+    }
+}
+
+/// A row of the table gets this slot. Where it stands there already the index is left alone.
+fn move_row(contents: &Contents, index: &mut Index, id: u64, slot: u32)
+    requires kept { IsKept contents.now (map (zone_of (begins contents.now.callers)) contents.now.slots) }
+    requires there { has (visible contents.now.stamp contents.now.slots) id ≡ true }
+    requires index { IsPlaceOf contents.now.stamp id contents.now.slots (slot_of index.old id) }
+    ensures { Points index.old id (Some slot) index.new }
+{
+    if indexed_place(contents, index, id) != Some(slot) {
+        index.set(id, slot as usize);
+    }
 }

@@ -1,6 +1,8 @@
 use Rattle.std.proofs.Common.{◌≡◌, nat_lt, true, Err, refl, sym, subst, rules}
 use Rattle.pref_core.specs.declared.fault.CoreFault.TheVariants.{OutOfMemory}
+use Rattle.pref_core.specs.Operations.{IsPlan}
 use Rattle.pref_core.specs.State.{added}
+use Rattle.pref_core.specs.Step.{state_of}
 use Rattle.pref_core.specs.Parts.{Changes}
 use Rattle.pref_core.proofs.Steps.{running_of}
 use Rattle.pref_core.proofs.Doing.{change_done, change_not, change_unmade, in_order_changed}
@@ -34,6 +36,16 @@ returns-in_err-prepare c =
     subst (λ r. Changes r c.args.client c.args.call.now c.args.done (Err OutOfMemory) (running_of c.self.inside.store c.self.inside.setup c.self.inside.queries.items)) c.self.view_is
     (change_unmade (running_of c.self.inside.store c.self.inside.setup c.self.inside.queries.items) c.args.client c.args.call.now c.args.done adds)
     )
+
+pub invariant_of-self : goal.invariant_of-self
+invariant_of-self c =
+    let plan = c.in_ok-op.ensures.exact in
+    let whole : IsPlan c.self.inside.store c.in_ok-op.op.client c.in_ok-op.op.call c.in_ok-op.op = record { by = refl; what = refl; next = plan.next; fits = plan.fits } in
+    record {
+      system = c.self.invariant.system;
+      stands = c.self.invariant.stands;
+      indexed = c.in_err-prepare.ensures.index c.self.inside.store (state_of c.self.invariant.system) c.self.invariant.stands.store whole c.self.invariant.indexed;
+    }
 
 pub returns : goal.returns
 returns c =

@@ -3,13 +3,13 @@ use Rattle.core.specs.Mem.{manually_drop_value}
 use Rattle.pref_core.specs.declared.call.Op.{Op}
 use Rattle.pref_core.specs.declared.fault.CoreFault.{CoreFault}
 use Rattle.pref_core.specs.State.{added, refusal}
-use Rattle.pref_core.specs.Operations.{applied}
+use Rattle.pref_core.specs.Operations.{applied, IsPlan}
 use Rattle.pref_core.specs.Slots.{Contents}
 use Rattle.pref_share.specs.Openings.{MayFollow, first_contents, contents_at, state_at}
 use Rattle.pref_share.specs.declared.published.Published.{Published}
 use Rattle.pref_share.specs.declared.published.Stamp.{Stamp}
 use Rattle.pref_share.specs.Views.{stamped, StandsFor}
-use Rattle.pref_share.proofs.Histories.{contents_at-append, planned, unplanned}
+use Rattle.pref_share.proofs.Histories.{contents_at-append, left_stands, planned, unplanned}
 use Rattle.pref_share.proofs.Keeps.{published_next}
 use Rattle.pref_share.proofs.master.Master.join.Goals as goal
 
@@ -69,6 +69,20 @@ invariant_of-self-2 g c =
       subst (StandsFor (first_contents o) g.J.Naming.book) (sym shown) stands,
       rw (c.replace_with.ensures.0, c.deref_mut-2.ensures.value, c.append.ensures.desk, c.deref_mut.ensures.value) c.self.invariant.5,
       c.replace_with.ensures.2,
+    )
+
+pub invariant_of-self : goal.invariant_of-self
+invariant_of-self g c =
+    let o = g.J.Naming.opening in
+    let plan = c.in_ok-op.ensures.exact in
+    let whole : IsPlan c.self.inside.store c.in_ok-op.op.client c.in_ok-op.op.call c.in_ok-op.op = record { by = refl; what = refl; next = plan.next; fits = plan.fits } in (
+      c.self.invariant.0,
+      c.self.invariant.1,
+      c.in_err-prepare.ensures.index c.self.inside.store (state_at o c.self.inside.history) (left_stands o c.self.inside.history c.self.inside.store c.self.invariant.0 c.self.invariant.1) whole c.self.invariant.2,
+      c.self.invariant.3,
+      c.self.invariant.4,
+      c.self.invariant.5,
+      c.self.invariant.6,
     )
 
 pub returns-clause-planned : goal.returns-clause-planned
