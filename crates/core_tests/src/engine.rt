@@ -10,7 +10,7 @@ mod replies;
 
 use crate::same::{assert_same, assert_same_text};
 use pref_core::{
-    Act, CoreFault, Event, Machine, RankedList, Reply, Setup, Store, replay, replay_part,
+    Act, Committed, CoreFault, Event, Machine, RankedList, Reply, Setup, Store, replay, replay_part,
 };
 use pref_table::{Row, Schema};
 use pref_term::read_ask;
@@ -82,6 +82,7 @@ fn reply_text(alloc: Global, reply: &Reply) -> Result<String, Fail> {
         Reply::Inserted(id) => format!(in alloc; "inserted {id}")?,
         Reply::Updated(id) => format!(in alloc; "updated {id}")?,
         Reply::Deleted(id) => format!(in alloc; "deleted {id}")?,
+        Reply::Committed(told) => committed_text(alloc, told)?,
         Reply::Begun(blocks) => format!(in alloc; "begun {blocks}")?,
         Reply::Left(blocks) => format!(in alloc; "left {blocks}")?,
         Reply::Answer(list) => answer_text(alloc, list)?,
@@ -90,6 +91,12 @@ fn reply_text(alloc: Global, reply: &Reply) -> Result<String, Fail> {
         Reply::Room(room) => format!(in alloc; "room {room}")?,
         Reply::Refused(fault) => format!(in alloc; "refused: {fault}")?,
     })
+}
+
+fn committed_text(alloc: Global, told: &Committed) -> Result<String, Fail> {
+    let changes = told.changes;
+    let first = told.first;
+    Ok(format!(in alloc; "committed {changes} first {first}")?)
 }
 
 fn found_text(alloc: Global, id: u64, row: &Row) -> Result<String, Fail> {

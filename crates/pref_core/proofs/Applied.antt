@@ -5,11 +5,11 @@ use Rattle.std.proofs.lemmas.Bool.{and_parts, eqb-true}
 use Rattle.pref_core.specs.declared.store.version.Version.{Version}
 use Rattle.pref_core.specs.declared.store.caller.Caller.{Caller}
 use Rattle.pref_core.specs.declared.call.Call.{Call}
-use Rattle.pref_core.specs.declared.call.Call.TheVariants.{Insert, Update, Delete, Begin, Finish, Abandon}
+use Rattle.pref_core.specs.declared.call.Call.TheVariants.{Insert, Update, Delete, Commit, Begin, Finish, Abandon}
 use Rattle.pref_core.specs.declared.call.Outcome.{Outcome}
 use Rattle.pref_core.specs.declared.call.Outcome.TheVariants.{Added, Done, NoSuchRow, Full}
 use Rattle.pref_core.specs.declared.call.Op.{Op}
-use Rattle.pref_core.specs.State.{State, Client, Snapshot, with_seat, is_change, missing, ended, begun, granted, outcome, outcome_of, succeeds, committed, begun_after, counted, after}
+use Rattle.pref_core.specs.State.{State, Client, Snapshot, with_seat, is_change, missing, ended, begun, granted, outcome, outcome_of, succeeds, committed, begun_after, counted, after, is_formed}
 use Rattle.pref_core.specs.Slots.{Contents, StandsFor, StandsForClient, ShowsBegin, stamps, caller_calls}
 use Rattle.pref_core.specs.Operations.{grown, filled, begin_after, callers_after, is_next, same_number, same_outcome, outcome_at, refusal_at, slots_after, stepped}
 use Rattle.pref_core.proofs.Committing.{grown_stands}
@@ -51,6 +51,7 @@ begun_counts : (contents : Contents) (state : State) (call : Call) (b : Option �
 begun_counts contents state (Insert row) b f h s = s
 begun_counts contents state (Update id row) b f h s = s
 begun_counts contents state (Delete id) b f h s = s
+begun_counts contents state (Commit changes) b f h s = s
 begun_counts contents state Begin b f h s = (h.stamp, omega arith, h.table)
 begun_counts contents state Finish b f h s = tt
 begun_counts contents state Abandon b f h s = tt
@@ -84,6 +85,7 @@ callers_after-change : (now later : ℕ) (callers : List Caller) (client : ℕ) 
 callers_after-change now later callers client (Insert row) c = refl
 callers_after-change now later callers client (Update id row) c = refl
 callers_after-change now later callers client (Delete id) c = refl
+callers_after-change now later callers client (Commit changes) c = refl
 callers_after-change now later callers client Begin c = absurd (cc)
 callers_after-change now later callers client Finish c = absurd (cc)
 callers_after-change now later callers client Abandon c = absurd (cc)
@@ -92,6 +94,7 @@ counted-change : (state : State) (client : ℕ) (call : Call) → is_change call
 counted-change state client (Insert row) c = refl
 counted-change state client (Update id row) c = refl
 counted-change state client (Delete id) c = refl
+counted-change state client (Commit changes) c = refl
 counted-change state client Begin c = absurd (cc)
 counted-change state client Finish c = absurd (cc)
 counted-change state client Abandon c = absurd (cc)
@@ -101,12 +104,14 @@ pub record IsAllowed (contents : Contents) (op : Op) : Type 0 where
   pub accepted : refusal_at contents op.client op.call ≡ None
   pub number : same_number (caller_calls contents op.client) op.number ≡ true
   pub outcome : op.outcome ≡ outcome_at contents op.call
+  pub formed : is_formed op.call ≡ true
 
 pub IsAllowed-from : (contents : Contents) (op : Op) → is_next contents op ≡ true → IsAllowed contents op
 IsAllowed-from contents op h =
-    let outer = and_parts _ (same_outcome op.outcome (outcome_at contents op.call)) h in
+    let all = and_parts _ (is_formed op.call) h in
+    let outer = and_parts _ (same_outcome op.outcome (outcome_at contents op.call)) all.0 in
     let inner = and_parts (not (is_some (refusal_at contents op.client op.call))) (same_number (caller_calls contents op.client) op.number) outer.0 in
-    record { accepted = none (refusal_at contents op.client op.call) inner.0; number = inner.1; outcome = same_outcome-true _ _ outer.1 }
+    record { accepted = none (refusal_at contents op.client op.call) inner.0; number = inner.1; outcome = same_outcome-true _ _ outer.1; formed = all.1 }
   where
     none : {X : Type 0} (o : Option X) → not (is_some o) ≡ true → o ≡ None
     none None e = refl
@@ -117,7 +122,7 @@ pub stepped_stands : (contents : Contents) (state : State) (op : Op) (slots : Li
 stepped_stands contents state op slots h next fits = go (is_change op.call) refl (succeeds op.outcome) refl
   where
     same : op.outcome ≡ outcome (length contents.slots) state op.call
-    same = (IsAllowed-from contents op next).outcome ∙ same_outcome_at contents state op.call h
+    same = (IsAllowed-from contents op next).outcome ∙ same_outcome_at contents state op.call (IsAllowed-from contents op next).formed h
 
     quiet : filled (stamps contents) contents.stamp op.slots [] contents.slots ≡ Some slots
         → StandsFor (record { slots = slots; stamp = contents.stamp; next_id = contents.next_id; callers = callers_after contents.stamp contents.callers op.client op.call })
@@ -133,7 +138,7 @@ stepped_stands contents state op slots h next fits = go (is_change op.call) refl
     go true c true o =
         let granted_too = rw c at (ap succeeds (sym same) ∙ o) in
         let none = succeeds-missing _ _ (missing (ended op.call) state.table) _ _ granted_too in
-        let grows = grown_stands contents state op.call c none h in
+        let grows = grown_stands contents state op.call c (IsAllowed-from contents op next).formed none h in
         let placed = filled_stands (grown op.call contents) (committed op.call state) (suc contents.stamp) op.slots (begun contents.next_id op.call) _ slots (rw (c, o) at fits) grows in
         let counts = counted_stands _ _ op.client op.call placed in
         rw (c, o, granted_too) (rw (callers_after-change contents.stamp (suc contents.stamp) contents.callers op.client op.call c, counted-change state op.client op.call c) at counts)

@@ -9,14 +9,16 @@ use Rattle.pref_sky.specs.declared.entry.Entry.{Entry}
 use Rattle.pref_core.specs.declared.store.version.Version.{Version}
 use Rattle.pref_core.specs.declared.store.caller.Caller.{Caller}
 use Rattle.pref_core.specs.declared.call.Call.{Call}
-use Rattle.pref_core.specs.declared.call.Call.TheVariants.{Insert, Update, Delete, Begin, Finish, Abandon}
+use Rattle.pref_core.specs.declared.call.Call.TheVariants.{Insert, Update, Delete, Commit, Begin, Finish, Abandon}
 use Rattle.pref_core.specs.declared.fault.CoreFault.TheVariants.{Spent}
 use Rattle.pref_core.specs.declared.call.Op.{Op}
-use Rattle.pref_core.specs.State.{seat, with_seat, is_change, succeeds, ended, begun, added, refusal_of, refusal_by_query}
+use Rattle.pref_core.specs.State.{seat, with_seat, is_change, succeeds, ended, begun, added, refusal_of, refusal_by_query, is_formed}
 use Rattle.pref_core.specs.Slots.{Contents, stamps, born}
 use Rattle.pref_core.specs.Operations.{is_free, filled, close, slots_after, begin_after, callers_after, is_next, stepped, grown}
 use Rattle.pref_core.specs.Bounds.{IsBounded}
 use Rattle.pref_core.proofs.Applied.{IsAllowed, IsAllowed-from}
+use Rattle.pref_core.proofs.Changing.{commit_length}
+use Rattle.pref_core.proofs.Counts.{added_by-length}
 
 total-small : (callers : List Caller) → length callers ≤ 8 → AllByRecursion (λ caller. caller.calls ≤ 2 ^ 56) callers → sum_by (λ caller. caller.calls) callers ≤ 2 ^ 59
 total-small callers few small =
@@ -26,7 +28,7 @@ total-small callers few small =
 pub stamp-small : (contents : Contents) → IsBounded contents → contents.stamp < 2 ^ 60
 stamp-small contents h = let total = total-small contents.callers h.callers h.calls in let at = h.stamp in omega arith
 
-pub next_id-small : (contents : Contents) → IsBounded contents → contents.next_id < 2 ^ 60
+pub next_id-small : (contents : Contents) → IsBounded contents → contents.next_id < 2 ^ 63
 next_id-small contents h = let total = total-small contents.callers h.callers h.calls in let at = h.next_id in omega arith
 
 pub sum_by-set_suc : {X : Type 0} (f : X → ℕ) (xs : List X) (k : ℕ) (x y : X) → slice_get xs k ≡ Some x → f y ≡ suc (f x) → sum_by f (slice_set xs k y) ≡ suc (sum_by f xs)
@@ -97,19 +99,21 @@ callers_after-counts contents op allowed = go (seat op.client contents.callers) 
     go None at r = absurd (cc)
     go (Some found) at r = callers_count contents.callers op.client _ found at (few_calls found.calls (is_some found.begun) op.call r) refl
 
-pub added-small : (call : Call) → added call ≤ 1
-added-small (Insert row) = omega arith
-added-small (Update id row) = omega arith
-added-small (Delete id) = omega arith
-added-small Begin = omega arith
-added-small Finish = omega arith
-added-small Abandon = omega arith
+-- a call adds no more rows than a commit may have changes
+pub added-small : (call : Call) → is_formed call ≡ true → added call ≤ 8
+added-small (Insert row) f = omega arith
+added-small (Update id row) f = omega arith
+added-small (Delete id) f = omega arith
+added-small (Commit changes) f = let long = added_by-length changes in let few = commit_length changes f in omega arith
+added-small Begin f = omega arith
+added-small Finish f = omega arith
+added-small Abandon f = omega arith
 
 pub IsBounded-stepped : (contents : Contents) (op : Op) (slots : List (Option Version)) → IsBounded contents → is_next contents op ≡ true → slots_after contents op ≡ Some slots → IsBounded (stepped contents op slots)
 IsBounded-stepped contents op slots h next fits =
     let counts = callers_after-counts contents op (IsAllowed-from contents op next) in
     let long = length-slots_after contents op slots fits in
-    let one = added-small op.call in
+    let few = added-small op.call (IsAllowed-from contents op next).formed in
     let total = counts.total in
     let old_slots = h.slots in
     let old_callers = h.callers in

@@ -3,14 +3,14 @@ use Rattle.std.proofs.Common.{◌≡◌, ℕ, zero, suc, ◌+◌, ◌<◌, ◌�
 use Rattle.std.specs.Prelude.{nat_le}
 use Rattle.std.proofs.lemmas.List.{append-nil, take_more}
 use Rattle.std.proofs.lemmas.Option.{slice_get_within, get_or_from_slice_get}
-use Rattle.std.proofs.lemmas.Bool.{and_parts, or_parts, or_from, or_cases, or_right, eqb-true, eq-eqb, ne_eqb, leb-true, not-true}
+use Rattle.std.proofs.lemmas.Bool.{and_parts, or_parts, or_cases, or_right, eqb-true, eq-eqb, leb-true}
 use Rattle.pref_core.specs.declared.changes.Change.{Change}
 use Rattle.pref_core.specs.declared.changes.Change.TheVariants.{Add, Set, Remove}
 use Rattle.pref_core.specs.declared.call.Call.{Call}
-use Rattle.pref_core.specs.declared.call.Call.TheVariants.{Insert, Update, Delete, Begin, Finish, Abandon}
+use Rattle.pref_core.specs.declared.call.Call.TheVariants.{Insert, Update, Delete, Commit, Begin, Finish, Abandon}
 use Rattle.pref_core.specs.Changes.{ended_by, begun_by, added_by, twice_from, twice, is_count, is_commit}
 use Rattle.pref_core.specs.Table.{Line, among, has}
-use Rattle.pref_core.specs.State.{missing, ended, changes_of}
+use Rattle.pref_core.specs.State.{missing, ended, is_formed}
 use Rattle.pref_core.specs.Kept.{AreFresh}
 use Rattle.pref_sky.specs.declared.entry.Entry.{Entry}
 
@@ -77,22 +77,14 @@ once earlier (Add row ∷ rest) h = subst (λ l. Names l (ended_by rest)) (ended
 once earlier (Set id row ∷ rest) h = once_named earlier (Set id row) id rest refl h (once (earlier ++ Set id row ∷ []) rest)
 once earlier (Remove id ∷ rest) h = once_named earlier (Remove id) id rest refl h (once (earlier ++ Remove id ∷ []) rest)
 
-pub ended_apart : (call : Call) → AreApart (ended call)
-ended_apart (Insert row) = tt
-ended_apart (Update id row) = (refl, tt)
-ended_apart (Delete id) = (refl, tt)
-ended_apart Begin = tt
-ended_apart Finish = tt
-ended_apart Abandon = tt
-
--- a call makes a few changes
-pub few_changes : (call : Call) → length (changes_of call) ≤ 8
-few_changes (Insert row) = omega arith
-few_changes (Update id row) = omega arith
-few_changes (Delete id) = omega arith
-few_changes Begin = omega arith
-few_changes Finish = omega arith
-few_changes Abandon = omega arith
+pub formed_apart : (call : Call) → is_formed call ≡ true → AreApart (ended call)
+formed_apart (Insert row) h = tt
+formed_apart (Update id row) h = (refl, tt)
+formed_apart (Delete id) h = (refl, tt)
+formed_apart (Commit changes) h = (once [] changes (none_is (twice changes) (and_parts (is_count changes) (not (is_some (twice changes))) h).1)).apart
+formed_apart Begin h = tt
+formed_apart Finish h = tt
+formed_apart Abandon h = tt
 
 -- where none is missing each is there
 pub found_all : (ids : List ℕ) (table : List Line) → missing ids table ≡ None → (id : ℕ) → among ids id ≡ true → has table id ≡ true

@@ -1,5 +1,5 @@
 -- The slots of the rows that a call begins, chosen one after the other.
-use Rattle.std.proofs.Common.{◌≡◌, ℕ, suc, ◌+◌, ◌<◌, ◌≤◌, Bool, true, false, ◌&&◌, cond, nat_lt, List, [], ◌∷◌, ◌++◌, map, length, Option, Some, None, is_some, slice_set, refl, sym, ap, ◌∙◌, subst, arith}
+use Rattle.std.proofs.Common.{◌≡◌, ℕ, suc, ◌+◌, ◌<◌, ◌≤◌, Bool, true, false, ◌&&◌, cond, List, [], ◌∷◌, ◌++◌, map, length, Option, Some, None, is_some, slice_set, refl, sym, ap, ◌∙◌, arith}
 use Rattle.std.specs.List.{count_by}
 use Rattle.std.proofs.lemmas.List.{length-map, length-append, append-nil, append_assoc}
 use Rattle.std.proofs.lemmas.Bool.{lt-ltb, le-ltb}
@@ -13,8 +13,8 @@ use Rattle.pref_core.specs.declared.changes.Change.{Change}
 use Rattle.pref_core.specs.declared.changes.Change.TheVariants.{Add, Set, Remove}
 use Rattle.pref_core.specs.Changes.{begun_by, begins_any}
 use Rattle.pref_core.specs.Table.{among}
-use Rattle.pref_core.specs.State.{changes_of, ended, begun, begins_row, is_change, missing, granted, succeeds, outcome_of}
-use Rattle.pref_core.specs.Slots.{Contents, begins, born, visible, is_needed}
+use Rattle.pref_core.specs.State.{changes_of, ended, begun, begins_row, is_change, missing, granted, succeeds}
+use Rattle.pref_core.specs.Slots.{Contents, begins, born, visible}
 use Rattle.pref_core.specs.Operations.{close, filled, placed, used, grown, is_free, outcome_at}
 use Rattle.pref_core.specs.Places.{is_free_zone, zone_of}
 use Rattle.pref_core.specs.Kept.{IsFreed, is_open}

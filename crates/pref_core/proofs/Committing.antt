@@ -1,5 +1,5 @@
 -- After a commit the slots stand for the state after it: first as if there were always an empty slot, then in slots that are used again.
-use Rattle.std.proofs.Common.{◌≡◌, ℕ, suc, ◌+◌, ◌<◌, ◌≤◌, Bool, true, false, not, ◌||◌, ◌&&◌, cond, eqb, List, [], ◌∷◌, ◌++◌, map, Option, Some, None, refl, sym, ap, ◌∙◌, subst, arith, ⊎_elim}
+use Rattle.std.proofs.Common.{◌≡◌, ℕ, suc, ◌+◌, ◌<◌, ◌≤◌, true, false, not, ◌||◌, ◌&&◌, cond, eqb, List, [], ◌∷◌, ◌++◌, map, Option, None, refl, sym, ap, ◌∙◌, subst, arith, ⊎_elim}
 use Rattle.std.specs.List.{AllByRecursion, AllZip}
 use Rattle.std.specs.List.Sorted.{IsPermutation}
 use Rattle.std.proofs.lemmas.List.Sorted.{list_any-IsPermutation, IsPermutation-trans, IsPermutation-sym, IsPermutation-cons, IsPermutation-middle}
@@ -9,13 +9,13 @@ use Rattle.pref_core.specs.declared.call.Call.{Call}
 use Rattle.pref_core.specs.declared.store.caller.Caller.{Caller}
 use Rattle.pref_core.specs.Table.{Line, among, put, without, with_rows, has, holds_key, IsOrdered}
 use Rattle.pref_sky.specs.declared.entry.Entry.{Entry}
-use Rattle.pref_core.specs.State.{State, Client, committed, is_change, changes_of, ended, begun, added, missing}
+use Rattle.pref_core.specs.State.{State, Client, committed, is_change, is_formed, changes_of, ended, begun, added, missing}
 use Rattle.pref_core.specs.Slots.{Contents, StandsFor, StandsForClient, Shows, AreDifferent, IsWithin, visible, born}
 use Rattle.pref_core.specs.Operations.{close, grown}
 use Rattle.pref_core.specs.Kept.{AreFresh}
 use Rattle.pref_core.proofs.Tables.{has-without, has_visible-new, IsOrdered-put}
 use Rattle.pref_core.proofs.Visible.{seen_born, put_permutes}
-use Rattle.pref_core.proofs.Changing.{ids_of, begun_fresh, found_all, ended_apart}
+use Rattle.pref_core.proofs.Changing.{ids_of, begun_fresh, found_all, formed_apart}
 use Rattle.pref_core.proofs.Standing.{Shows-close, clients-close, clients-born, clients-later}
 use Rattle.pref_core.proofs.Keys.{eqb_comm, slot_keys, slot_keys-close, holds_key-new, within-close, within-more}
 
@@ -129,11 +129,11 @@ has-fewer ids (next ∷ rest) id h =
     elim (among ids next.id) as (λ b. has (cond (not b) (next ∷ without ids rest) (without ids rest)) id ≡ false) [ true ↦ more | false ↦ or_from _ _ parts.0 more ]
 
 -- as if there were always empty slots
-pub grown_stands : (contents : Contents) (state : State) (call : Call) → is_change call ≡ true → missing (ended call) state.table ≡ None → StandsFor contents state → StandsFor (grown call contents) (committed call state)
-grown_stands contents state call c m h =
+pub grown_stands : (contents : Contents) (state : State) (call : Call) → is_change call ≡ true → is_formed call ≡ true → missing (ended call) state.table ≡ None → StandsFor contents state → StandsFor (grown call contents) (committed call state)
+grown_stands contents state call c formed m h =
     subst (λ n. StandsFor (grown call contents) (record { table = with_rows (suc state.commits) (begun n call) (without (ended call) state.table); next_id = state.next_id + added call; commits = suc state.commits; clients = state.clients })) h.next_id
     (begun_stands contents state (ended call) (added call) (begun contents.next_id call) h
     (begun_fresh contents.next_id contents.next_id (contents.next_id + added call) (without (ended call) state.table) (changes_of call) (omega arith) (omega arith)
     (λ id there. (id_below contents state id h (found_all (ended call) state.table m id there), has-without (ended call) state.table id there))
     (λ id l. has-fewer (ended call) state.table id (later_absent contents state id h l))
-    (ended_apart call)))
+    (formed_apart call formed)))

@@ -1,25 +1,26 @@
 -- Each part of a machine does its act.
 use Rattle.std.proofs.Common.{◌≡◌, ℕ, ◌-◌, true, false, List, length, Option, Some, None, is_some, Ok, Err, Result, IfErr, MatchResult, ⊎_elim, inr, nat_lt, ap, refl, sym, ◌∙◌, subst}
-use Rattle.std.specs.Global.{Vec}
+use Rattle.std.specs.Global.{Box, Vec}
 use Rattle.std.specs.Option.{option_map}
 use Rattle.pref_sky.specs.declared.entry.Ranked.{Ranked}
 use Rattle.pref_term.specs.Question.{Question}
 use Rattle.pref_core.specs.declared.call.Call.{Call}
-use Rattle.pref_core.specs.declared.call.Call.TheVariants.{Insert as CallInsert, Update as CallUpdate, Delete as CallDelete, Begin, Finish, Abandon}
+use Rattle.pref_core.specs.declared.call.Call.TheVariants.{Insert as CallInsert, Update as CallUpdate, Delete as CallDelete, Commit as CallCommit, Begin, Finish, Abandon}
+use Rattle.pref_core.specs.declared.changes.Change.{Change}
 use Rattle.pref_core.specs.declared.call.Op.{Op}
 use Rattle.pref_core.specs.declared.fault.CoreFault.{CoreFault}
 use Rattle.pref_core.specs.declared.fault.CoreFault.TheVariants.{OutOfMemory}
 use Rattle.pref_core.specs.declared.event.Act.{Act}
-use Rattle.pref_core.specs.declared.event.Act.TheVariants.{Insert as ActInsert, Update as ActUpdate, Delete as ActDelete, Begin as ActBegin, Scan as ActScan, Finish as ActFinish, Abandon as ActAbandon, Get as ActGet, Room as ActRoom}
+use Rattle.pref_core.specs.declared.event.Act.TheVariants.{Insert as ActInsert, Update as ActUpdate, Delete as ActDelete, Commit as ActCommit, Begin as ActBegin, Scan as ActScan, Finish as ActFinish, Abandon as ActAbandon, Get as ActGet, Room as ActRoom}
 use Rattle.pref_core.specs.declared.event.Event.{Event}
 use Rattle.pref_core.specs.declared.event.Reply.{Reply}
-use Rattle.pref_core.specs.declared.event.Reply.TheVariants.{Inserted, Updated, Deleted, Begun, Answer, Abandoned, Room, Refused}
+use Rattle.pref_core.specs.declared.event.Reply.TheVariants.{Inserted, Updated, Deleted, Committed, Begun, Answer, Abandoned, Room, Refused}
 use Rattle.pref_core.specs.declared.event.StepFault.{StepFault}
 use Rattle.pref_core.specs.Rows.{Row}
 use Rattle.pref_core.specs.Limits.{AreAllowed, blocks}
 use Rattle.pref_core.specs.Table.{Line, line_of}
 use Rattle.pref_core.specs.State.{State, is_change, added, seat, with_seat, needed}
-use Rattle.pref_core.specs.Step.{System, Step, step}
+use Rattle.pref_core.specs.Step.{System, Step, step, told_of_commit}
 use Rattle.pref_core.specs.Slots.{Contents, StandsFor}
 use Rattle.pref_core.specs.Indexes.{IsIndexOf}
 use Rattle.pref_core.specs.Operations.{applied, IsPlan}
@@ -92,6 +93,13 @@ update_does old client id row result new changes = record { limits = changes.lim
 pub delete_does : (old : Running) (client id : ℕ) (result : Result Reply CoreFault) (new : Running) → Changes old client (CallDelete id) (Deleted id) result new → Does old client (ActDelete id) result new
 delete_does old client id result new changes = record { limits = changes.limits; tells = λ system h. changes.tells system h (ActDelete id) (λ e. absurd (cc)) }
 
+pub commit_does : (old : Running) (client next_id : ℕ) (boxed : Box (List Change)) (result : Result Reply CoreFault) (new : Running) → next_id ≡ old.contents.next_id
+    → Changes old client (CallCommit boxed.value) (Committed (told_of_commit next_id boxed.value)) result new → Does old client (ActCommit boxed) result new
+commit_does old client next_id boxed result new is changes = record {
+  limits = changes.limits;
+  tells = λ system h. subst (λ n. Tells old (change_of old.limits system client (CallCommit boxed.value) (Committed (told_of_commit n boxed.value))) (ActCommit boxed) result new) (is ∙ h.store.next_id) (changes.tells system h (ActCommit boxed) (λ e. e));
+}
+
 -- Queries.
 pub begin_does : (old : Running) (client : ℕ) (ask : Question) (op : Op) (new : Contents) (stamp : ℕ) → AreAllowed old.limits → stamp ≡ old.contents.stamp → PlansAlways old.contents client Begin (Ok op) → new ≡ applied old.contents op
     → Does old client (ActBegin ask) (Ok (Begun (blocks old.limits))) (running_of new old.limits (with_seat client (Some (begin ask stamp old.limits)) old.scans))
@@ -139,6 +147,7 @@ IsBegin-from (ActBegin ask) h = record { ask = ask; is = refl }
 IsBegin-from (ActInsert row) h = absurd (cc)
 IsBegin-from (ActUpdate id row) h = absurd (cc)
 IsBegin-from (ActDelete id) h = absurd (cc)
+IsBegin-from (ActCommit boxed) h = absurd (cc)
 IsBegin-from ActScan h = absurd (cc)
 IsBegin-from ActFinish h = absurd (cc)
 IsBegin-from ActAbandon h = absurd (cc)

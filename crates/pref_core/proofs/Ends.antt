@@ -7,7 +7,7 @@ use Rattle.pref_core.specs.declared.store.caller.Caller.{Caller}
 use Rattle.pref_core.specs.declared.store.places.Zone.{Zone}
 use Rattle.pref_core.specs.declared.store.places.Zone.TheVariants.{Free, Ended, Live}
 use Rattle.pref_core.specs.declared.call.Call.{Call}
-use Rattle.pref_core.specs.declared.call.Call.TheVariants.{Insert, Update, Delete, Begin, Finish, Abandon}
+use Rattle.pref_core.specs.declared.call.Call.TheVariants.{Insert, Update, Delete, Commit, Begin, Finish, Abandon}
 use Rattle.pref_core.specs.declared.fault.CoreFault.TheVariants.{QueryOpen, Spent}
 use Rattle.pref_core.specs.declared.call.Op.{Op}
 use Rattle.pref_core.specs.Rows.{Row}
@@ -74,6 +74,7 @@ begins_change now callers (suc k) call c = go (slice_get callers k) refl
     same (Insert row) b c = refl
     same (Update id row) b c = refl
     same (Delete id) b c = refl
+    same (Commit changes) b c = refl
     same Begin b c = absurd (cc)
     same Finish b c = absurd (cc)
     same Abandon b c = absurd (cc)
@@ -131,6 +132,7 @@ zones_kept contents op slots next stays within = go op.call stays within (IsAllo
     go (Insert row) e w r = change (Insert row) refl
     go (Update id row) e w r = change (Update id row) refl
     go (Delete id) e w r = change (Delete id) refl
+    go (Commit changes) e w r = change (Commit changes) refl
     go Begin e w r = begun_zones contents.next_id contents.stamp contents.callers op.client slots r (w refl)
     go Finish e w r = absurd (cc)
     go Abandon e w r = absurd (cc)
@@ -162,6 +164,7 @@ zones_end now callers client call slots e = zones_less _ _ slots (less client)
     gone (Insert row) b e = absurd (cc)
     gone (Update id row) b e = absurd (cc)
     gone (Delete id) b e = absurd (cc)
+    gone (Commit changes) b e = absurd (cc)
     gone Begin b e = absurd (cc)
     gone Finish b e = refl
     gone Abandon b e = refl

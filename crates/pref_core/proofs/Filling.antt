@@ -1,5 +1,5 @@
 -- The rows that a call begins, in their slots, one after the other.
-use Rattle.std.proofs.Common.{◌≡◌, ℕ, zero, suc, ◌+◌, ◌^◌, ◌<◌, ◌≤◌, Bool, true, false, not, ◌&&◌, ◌||◌, cond, eqb, nat_eq, List, [], ◌∷◌, ◌++◌, map, length, drop, set, Option, Some, None, is_some, slice_get, refl, sym, ap, ap₂, ◌∙◌, subst, arith, ⊎_elim}
+use Rattle.std.proofs.Common.{◌≡◌, ℕ, suc, ◌+◌, ◌^◌, ◌<◌, Bool, true, false, not, ◌&&◌, ◌||◌, cond, eqb, nat_eq, List, [], ◌∷◌, ◌++◌, map, length, drop, set, Option, Some, None, is_some, slice_get, get_or, refl, sym, ap, ap₂, ◌∙◌, subst, arith, ⊎_elim}
 use Rattle.std.specs.List.{AllByRecursion}
 use Rattle.std.proofs.lemmas.List.{length-map, length-set, map-set}
 use Rattle.std.specs.Option.{option_map}
@@ -9,7 +9,7 @@ use Rattle.pref_core.specs.declared.store.version.Version.{Version}
 use Rattle.pref_core.specs.declared.store.places.Zone.{Zone}
 use Rattle.pref_core.specs.declared.store.places.Zone.TheVariants.{Free, Ended, Live}
 use Rattle.pref_sky.specs.declared.entry.Entry.{Entry}
-use Rattle.pref_core.specs.Table.{Line, among, has}
+use Rattle.pref_core.specs.Table.{among, has}
 use Rattle.pref_core.specs.declared.call.Op.{Op}
 use Rattle.pref_core.specs.declared.call.Call.{Call}
 use Rattle.pref_core.specs.declared.call.Outcome.{Outcome}
@@ -21,7 +21,8 @@ use Rattle.pref_core.specs.Indexes.{is_row, row_at, IsPlaceOf}
 use Rattle.pref_core.specs.Links.{shown, ids_of, id_at, AreIds, AreLinks}
 use Rattle.pref_core.specs.Kept.{IsTracked, AreFresh, with_slots, are_free}
 use Rattle.pref_core.proofs.Applied.{IsAllowed-from, succeeds-missing}
-use Rattle.pref_core.proofs.Chains.{id_at-here, id_at-there, within_at}
+use Rattle.pref_core.proofs.Chains.{id_at-here, id_at-there}
+use Rattle.pref_core.proofs.Counts.{drop_item, drop_inside}
 use Rattle.pref_core.proofs.Closing.{none_closed, one_closed, row_alive, within_closed, ids_closed, links_ended, closed_zones, filled_zones}
 use Rattle.pref_core.proofs.Indexing.{other_place}
 use Rattle.pref_core.proofs.Keys.{within-set}
@@ -199,6 +200,63 @@ pub record BegunUpTo (start now : Contents) (zones : List Zone) (links places : 
   pub tracked : IsTracked now zones links
   pub fills : FillsRest start.next_id start.stamp (begins start.callers) places rest now.slots all
 
+-- What is known as the next row begins, ..
+pub record BeginsNext (start now : Contents) (places : List ℕ) (used : ℕ) (first : Entry) (rest : List Entry) (all : Option (List (Option Version))) : Type 0 where
+  pub inside : used < length places
+  pub free : is_free (stamps now) now.slots (get_or places used 0) ≡ true
+  pub absent : has (visible now.stamp now.slots) first.id ≡ false
+  pub low : first.id < now.next_id
+  pub next : FillsRest start.next_id start.stamp (begins start.callers) (drop (used + 1) places) rest (set now.slots (get_or places used 0) (born start.stamp first)) all
+
+pub begins_next : (start now : Contents) (zones : List Zone) (links places : List ℕ) (used : ℕ) (first : Entry) (rest : List Entry) (all : Option (List (Option Version))) → BegunUpTo start now zones links (drop used places) (first ∷ rest) all
+    → BeginsNext start now places used first rest all
+begins_next start now zones links places used first rest all h = record {
+  inside = inside;
+  free = ap (λ (s : Contents). is_free (stamps s) now.slots (get_or places used 0)) h.contents ∙ subst (λ place. is_free (start.stamp ∷ begins start.callers) now.slots place ≡ true) here filled_next.free;
+  absent = ap (λ (s : Contents). has (visible s.stamp now.slots) first.id) h.contents ∙ h.fills.fresh.1;
+  low = subst (λ (s : Contents). first.id < s.next_id) (sym h.contents) h.fills.fresh.0;
+  next = subst (λ place. FillsRest start.next_id start.stamp (begins start.callers) (drop (used + 1) places) rest (set now.slots place (born start.stamp first)) all) here
+      (subst (λ l. FillsRest start.next_id start.stamp (begins start.callers) l rest (set now.slots filled_next.place (born start.stamp first)) all) later filled_next.next);
+}
+  where
+    filled_next : FillsNext start.next_id start.stamp (begins start.callers) (drop used places) first rest now.slots all
+    filled_next = fills_next start.next_id start.stamp (begins start.callers) (drop used places) first rest now.slots all h.fills
+
+    inside : used < length places
+    inside = drop_inside places used filled_next.place filled_next.later filled_next.is
+
+    same : filled_next.place ∷ filled_next.later ≡ get_or places used 0 ∷ drop (used + 1) places
+    same = sym filled_next.is ∙ drop_item places used (get_or places used 0) 0 refl inside
+
+    here : filled_next.place ≡ get_or places used 0
+    here = cc same
+
+    later : filled_next.later ≡ drop (used + 1) places
+    later = cc same
+
+-- .. and once it has begun.
+pub begun_one : (start now new : Contents) (zones zones_new : List Zone) (links links_new places : List ℕ) (used : ℕ) (first : Entry) (rest : List Entry) (all : Option (List (Option Version))) → BegunUpTo start now zones links (drop used places) (first ∷ rest) all
+    → new ≡ with_slots (set now.slots (get_or places used 0) (born now.stamp first)) now → IsTracked new zones_new links_new → BegunUpTo start new zones_new links_new (drop (used + 1) places) rest all
+begun_one start now new zones zones_new links links_new places used first rest all h is tracked = record {
+  contents = is ∙ ap (with_slots slots) h.contents ∙ ap (λ l. with_slots l start) (sym same);
+  tracked = tracked;
+  fills = subst (λ l. FillsRest start.next_id start.stamp (begins start.callers) (drop (used + 1) places) rest l all) (sym (same ∙ ap (λ (s : Contents). set now.slots (get_or places used 0) (born s.stamp first)) h.contents))
+      (begins_next start now zones links places used first rest all h).next;
+}
+  where
+    slots : List (Option Version)
+    slots = set now.slots (get_or places used 0) (born now.stamp first)
+
+    same : new.slots ≡ slots
+    same = ap (λ (s : Contents). s.slots) is
+
+-- the same, of values that are the same
+pub begun_same : (start a b : Contents) (zones_a zones_b : List Zone) (links_a links_b places : List ℕ) (used_a used_b : ℕ) (rest : List Entry) (all : Option (List (Option Version))) → b ≡ a → zones_b ≡ zones_a → links_b ≡ links_a → used_b ≡ used_a
+    → BegunUpTo start a zones_a links_a (drop used_a places) rest all → BegunUpTo start b zones_b links_b (drop used_b places) rest all
+begun_same start a b zones_a zones_b links_a links_b places used_a used_b rest all contents zones links used h =
+    subst (λ s. BegunUpTo start s zones_b links_b (drop used_b places) rest all) (sym contents) (subst (λ z. BegunUpTo start a z links_b (drop used_b places) rest all) (sym zones)
+    (subst (λ l. BegunUpTo start a zones_a l (drop used_b places) rest all) (sym links) (subst (λ n. BegunUpTo start a zones_a links_a (drop n places) rest all) (sym used) h)))
+
 pub ended_moved : (start a b : Contents) (ids : List ℕ) (zones_a zones_b : List Zone) (links_a links_b : List ℕ) → b ≡ a → zones_b ≡ zones_a → links_b ≡ links_a → EndedUpTo start a ids zones_a links_a → EndedUpTo start b ids zones_b links_b
 ended_moved start a b ids zones_a zones_b links_a links_b contents zones links h =
     subst (λ s. EndedUpTo start s ids zones_b links_b) (sym contents) (subst (λ z. EndedUpTo start a ids z links_b) (sym zones) (subst (λ l. EndedUpTo start a ids zones_a l) (sym links) h))
@@ -306,7 +364,7 @@ commit_fresh now start closed state op first is next ends stands legal c s =
     subst (λ (e : Contents). AreFresh e.next_id (visible e.stamp e.slots) (begun first op.call)) (sym ends)
     (subst (λ (b : Contents). AreFresh b.next_id (visible b.stamp (map (close (ended op.call) b.stamp) b.slots)) (begun first op.call)) (sym is)
     (subst (λ n. AreFresh (now.next_id + added op.call) (visible (suc now.stamp) (map (close (ended op.call) (suc now.stamp)) now.slots)) (begun n op.call)) (sym next)
-    (fresh_begun now state op.call stands (none_missing now op.call op.outcome (IsAllowed-from now op legal).outcome s c))))
+    (fresh_begun now state op.call (IsAllowed-from now op legal).formed stands (none_missing now op.call op.outcome (IsAllowed-from now op legal).outcome s c))))
 
 pub commit_filled : (now start closed : Contents) (op : Op) (first : ℕ) → start ≡ begun_commit now (added op.call) → first ≡ now.next_id → closed ≡ with_slots (map (close (ended op.call) start.stamp) start.slots) start
     → is_change op.call ≡ true → succeeds op.outcome ≡ true → filled (stamps closed) closed.stamp op.slots (begun first op.call) closed.slots ≡ slots_after now op

@@ -3,7 +3,7 @@ use Rattle.std.proofs.Common.{◌≡◌, ℕ, zero, suc, ◌≤◌, Bool, true, 
 use Rattle.std.proofs.lemmas.Bool.{or_cases, or_left, or_right}
 use Rattle.std.proofs.lemmas.List.Sums.{count_by-le-length}
 use Rattle.pref_core.specs.declared.call.Call.{Call}
-use Rattle.pref_core.specs.declared.call.Call.TheVariants.{Insert, Update, Delete, Begin, Finish, Abandon}
+use Rattle.pref_core.specs.declared.call.Call.TheVariants.{Insert, Update, Delete, Commit, Begin, Finish, Abandon}
 use Rattle.pref_core.specs.Table.{Line, Key, holds_key, keys}
 use Rattle.pref_core.specs.State.{State, Client, Snapshot, found_tables, needed, is_change, missing, ended, granted, outcome, outcome_of, succeeds, begins_row, committed, begun_after, counted, after}
 use Rattle.pref_core.specs.Slots.{is_needed, stamps}
@@ -60,6 +60,7 @@ found_counted key table state client call quiet = go client
     kept who (Insert row) q was h = or_right (holds key table) _ (was h)
     kept who (Update id row) q was h = or_right (holds key table) _ (was h)
     kept who (Delete id) q was h = or_right (holds key table) _ (was h)
+    kept who (Commit changes) q was h = or_right (holds key table) _ (was h)
     kept who Begin q was h = or_left _ (holds key (found_tables state.clients)) (ap (holds key) (q refl) ∙ h)
     kept who Finish q was h = absurd (cc)
     kept who Abandon q was h = absurd (cc)

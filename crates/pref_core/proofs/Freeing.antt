@@ -1,30 +1,28 @@
 -- The slots that ended rows leave free.
-use Rattle.std.proofs.Common.{◌≡◌, ℕ, zero, suc, ◌+◌, ◌<◌, ◌≤◌, Bool, true, false, not, ◌&&◌, ◌||◌, cond, eqb, List, [], ◌∷◌, ◌++◌, map, length, set, Option, Some, None, is_some, slice_get, refl, sym, ap, ap₂, ◌∙◌, subst, arith, ⊎_elim}
-use Rattle.std.specs.List.{count_by, filter, AllByRecursion}
+use Rattle.std.proofs.Common.{◌≡◌, ℕ, zero, suc, ◌+◌, ◌<◌, ◌≤◌, Bool, true, false, ◌&&◌, ◌||◌, cond, eqb, List, [], ◌∷◌, ◌++◌, map, length, set, Option, Some, None, slice_get, refl, sym, ap, ◌∙◌, subst, arith, ⊎_elim}
+use Rattle.std.specs.List.{count_by, filter}
 use Rattle.std.specs.Option.{option_map}
-use Rattle.std.proofs.lemmas.List.{length-map, length-set, length-append}
+use Rattle.std.proofs.lemmas.List.{length-map, length-set}
 use Rattle.std.proofs.lemmas.List.Elements.{filter-append}
 use Rattle.std.proofs.lemmas.Option.{slice_get-map, slice_get_within}
-use Rattle.std.proofs.lemmas.Bool.{le-leb, eqb-true, eq-eqb, eqb-false, cases_eq, or_parts, or_cases, or_right, and_parts, true≢false}
+use Rattle.std.proofs.lemmas.Bool.{le-leb, eqb-true, eq-eqb, cases_eq, or_cases, or_right, and_parts, true≢false}
 use Rattle.pref_core.specs.declared.store.version.Version.{Version}
 use Rattle.pref_core.specs.declared.store.places.Zone.{Zone}
-use Rattle.pref_core.specs.declared.store.places.Zone.TheVariants.{Free, Ended, Live}
-use Rattle.pref_core.specs.Table.{Line, among, has}
+use Rattle.pref_core.specs.declared.store.places.Zone.TheVariants.{Free}
+use Rattle.pref_core.specs.Table.{among}
 use Rattle.pref_core.specs.State.{State, missing}
-use Rattle.pref_core.specs.Slots.{Contents, StandsFor, IsWithin, EndsBy, is_visible, visible, begins, is_needed}
-use Rattle.pref_core.specs.Operations.{close, is_free}
+use Rattle.pref_core.specs.Slots.{Contents, StandsFor, IsWithin, is_visible, visible, begins}
+use Rattle.pref_core.specs.Operations.{close}
 use Rattle.pref_core.specs.Places.{is_free_zone, free_at, zone_of}
 use Rattle.pref_core.specs.Bounds.{IsBounded}
 use Rattle.pref_core.specs.Indexes.{is_row, row_at, IsPlaceOf}
-use Rattle.pref_core.specs.Links.{ids_of, id_at, AreIds}
 use Rattle.pref_core.specs.Kept.{AreOldPlaces, frees_at, is_open, IsFreed}
-use Rattle.pref_core.proofs.Arranging.{count_set}
 use Rattle.pref_core.proofs.Changing.{AreApart}
 use Rattle.pref_core.proofs.Closing.{row_alive}
 use Rattle.pref_core.proofs.Keys.{within-close}
 use Rattle.pref_core.proofs.Linked.{known_ids}
 use Rattle.pref_core.proofs.Linking.{row_shown}
-use Rattle.pref_core.proofs.Zones.{count_by-cons, holds_there, read_written, read_other, live, live_by, close_idle, has_row_at, free_zone, used_zones, one_yes, one_no}
+use Rattle.pref_core.proofs.Zones.{count_by-cons, holds_there, read_other, live, live_by, close_idle, has_row_at, free_zone, used_zones, one_no}
 
 -- What was found of the first of these rows.
 pub record FreesUpTo (contents : Contents) (ids done freed : List ℕ) : Type 0 where

@@ -1,11 +1,12 @@
 -- The test of an op at slots is legality in the state that they stand for.
-use Rattle.std.proofs.Common.{◌≡◌, ℕ, Bool, true, false, not, cond, List, length, Option, Some, None, Ok, Err, Result, is_some, refl, sym, ap, ◌∙◌}
-use Rattle.std.proofs.lemmas.Bool.{and_from}
+use Rattle.std.proofs.Common.{◌≡◌, ℕ, suc, Bool, true, false, not, cond, List, length, Option, Some, None, Ok, Err, Result, is_some, refl, sym, ap, ◌∙◌}
+use Rattle.std.proofs.lemmas.Bool.{and_from, eq-eqb}
 use Rattle.pref_core.specs.declared.store.version.Version.{Version}
+use Rattle.pref_core.specs.declared.store.caller.Caller.{Caller}
 use Rattle.pref_core.specs.declared.call.Call.{Call}
 use Rattle.pref_core.specs.declared.fault.CoreFault.{CoreFault}
 use Rattle.pref_core.specs.declared.call.Op.{Op}
-use Rattle.pref_core.specs.State.{State, after}
+use Rattle.pref_core.specs.State.{State, after, seat, refusal_of, is_formed}
 use Rattle.pref_core.specs.Slots.{Contents, StandsFor, caller_calls}
 use Rattle.pref_core.specs.Operations.{IsNext, IsLegal, is_next, slots_after, stepped, applied, same_number, same_outcome, outcome_at, refusal_at, Plans, PlansIn, AppliesIn}
 use Rattle.pref_core.proofs.Outcomes.{same_calls, same_refusal, same_outcome_at}
@@ -16,8 +17,19 @@ pub is_next-from : (contents : Contents) (state : State) (op : Op) → StandsFor
 is_next-from contents state op h next =
     let accepted : refusal_at contents op.client op.call ≡ None = same_refusal contents state op.client op.call h ∙ next.accepted in
     let number : same_number (caller_calls contents op.client) op.number ≡ true = ap (λ n. same_number n op.number) (same_calls contents state op.client h) ∙ next.number in
-    let told : outcome_at contents op.call ≡ op.outcome = same_outcome_at contents state op.call h ∙ sym next.outcome in
-    and_from _ _ (and_from _ _ (ap (λ o. not (is_some o)) accepted) number) (ap (same_outcome op.outcome) told ∙ same_outcome_refl op.outcome)
+    let told : outcome_at contents op.call ≡ op.outcome = same_outcome_at contents state op.call next.formed h ∙ sym next.outcome in
+    and_from _ _ (and_from _ _ (and_from _ _ (ap (λ o. not (is_some o)) accepted) number) (ap (same_outcome op.outcome) told ∙ same_outcome_refl op.outcome)) next.formed
+
+-- what is planned for a caller that is let in
+pub is_next-planned : (contents : Contents) (op : Op) (caller : Caller) → seat op.client contents.callers ≡ Some caller → refusal_of (Some caller.calls) (is_some caller.begun) op.call ≡ None → op.number ≡ suc caller.calls → op.outcome ≡ outcome_at contents op.call
+    → is_formed op.call ≡ true → is_next contents op ≡ true
+is_next-planned contents op caller at accepted number told formed = and_from _ _ (and_from _ _ (and_from _ _ (ap (λ o. not (is_some o)) lets_in) counts) (ap (same_outcome op.outcome) (sym told) ∙ same_outcome_refl op.outcome)) formed
+  where
+    lets_in : refusal_at contents op.client op.call ≡ None
+    lets_in = ap (λ (o : Option Caller). refusal_of (elim o as (λ x. Option ℕ) [ None ↦ None | Some found ↦ Some found.calls ]) (is_some (elim o as (λ x. Option ℕ) [ None ↦ None | Some found ↦ found.begun ])) op.call) at ∙ accepted
+
+    counts : same_number (caller_calls contents op.client) op.number ≡ true
+    counts = ap (λ (o : Option Caller). same_number (elim o as (λ x. Option ℕ) [ None ↦ None | Some found ↦ Some found.calls ]) op.number) at ∙ eq-eqb (suc caller.calls) op.number (sym number)
 
 pub IsNext-from : (contents : Contents) (state : State) (op : Op) → StandsFor contents state → is_next contents op ≡ true → IsNext (length contents.slots) state op
 IsNext-from contents state op h next =
@@ -25,7 +37,8 @@ IsNext-from contents state op h next =
     record {
       accepted = sym (same_refusal contents state op.client op.call h) ∙ allowed.accepted;
       number = ap (λ n. same_number n op.number) (sym (same_calls contents state op.client h)) ∙ allowed.number;
-      outcome = allowed.outcome ∙ same_outcome_at contents state op.call h;
+      outcome = allowed.outcome ∙ same_outcome_at contents state op.call allowed.formed h;
+      formed = allowed.formed;
     }
 
 pub applied_stands : (contents : Contents) (state : State) (op : Op) → StandsFor contents state → IsLegal state contents op → StandsFor (applied contents op) (after (length contents.slots) state op.client op.call)

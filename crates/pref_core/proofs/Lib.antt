@@ -7,6 +7,7 @@ pub mod Tables
 pub mod Standing
 pub mod Keys
 pub mod Changing
+pub mod Counts
 pub mod Committing
 pub mod Counting
 pub mod Reuse

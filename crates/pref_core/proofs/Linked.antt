@@ -9,7 +9,7 @@ use Rattle.pref_core.specs.declared.store.places.Zone.{Zone}
 use Rattle.pref_core.specs.declared.call.Call.{Call}
 use Rattle.pref_sky.specs.declared.entry.Entry.{Entry}
 use Rattle.pref_core.specs.Table.{has}
-use Rattle.pref_core.specs.State.{State, changes_of, ended, begun, added, missing}
+use Rattle.pref_core.specs.State.{State, changes_of, ended, begun, added, missing, is_formed}
 use Rattle.pref_core.specs.Slots.{Contents, StandsFor, IsWithin, EndsBy, is_visible, is_needed, visible, begins, born}
 use Rattle.pref_core.specs.Operations.{close, is_free}
 use Rattle.pref_core.specs.Places.{zone_of}
@@ -17,7 +17,7 @@ use Rattle.pref_core.specs.Bounds.{IsBounded}
 use Rattle.pref_core.specs.Links.{shown, ids_of, id_at, AreIds, AreLinks}
 use Rattle.pref_core.specs.Kept.{IsTracked, AreFresh}
 use Rattle.pref_core.proofs.Bounds.{next_id-small}
-use Rattle.pref_core.proofs.Changing.{begun_fresh, found_all, ended_apart}
+use Rattle.pref_core.proofs.Changing.{begun_fresh, found_all, formed_apart}
 use Rattle.pref_core.proofs.Indexing.{ended_place}
 use Rattle.pref_core.proofs.Keys.{within-close, within-more}
 use Rattle.pref_core.proofs.Linking.{none_some, some_same, shows_row}
@@ -86,13 +86,13 @@ tracked_from contents state zones links more bounded stands listed linked = reco
 }
 
 -- The rows that it begins are new, once it has ended what it ends.
-pub fresh_begun : (contents : Contents) (state : State) (call : Call) → StandsFor contents state → missing (ended call) (visible contents.stamp contents.slots) ≡ None
+pub fresh_begun : (contents : Contents) (state : State) (call : Call) → is_formed call ≡ true → StandsFor contents state → missing (ended call) (visible contents.stamp contents.slots) ≡ None
     → AreFresh (contents.next_id + added call) (visible (suc contents.stamp) (map (close (ended call) (suc contents.stamp)) contents.slots)) (begun contents.next_id call)
-fresh_begun contents state call stands none =
+fresh_begun contents state call formed stands none =
     begun_fresh contents.next_id contents.next_id (contents.next_id + added call) (visible (suc contents.stamp) (map (close (ended call) (suc contents.stamp)) contents.slots)) (changes_of call) (omega arith) (omega arith)
     (λ id there. (low id (found_all (ended call) (visible contents.stamp contents.slots) none id there), ended_place contents.next_id contents.stamp id (ended call) contents.slots stands.within there))
     (λ id l. has_visible-new contents.next_id (suc contents.stamp) (suc contents.stamp) (map (close (ended call) (suc contents.stamp)) contents.slots) id (within-close (ended call) contents.next_id contents.stamp contents.slots stands.within) l)
-    (ended_apart call)
+    (formed_apart call formed)
   where
     low : (id : ℕ) → has (visible contents.stamp contents.slots) id ≡ true → id < contents.next_id
     low id there = ⊎_elim

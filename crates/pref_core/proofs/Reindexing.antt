@@ -1,12 +1,12 @@
 -- An index follows the store through each op that is done.
-use Rattle.std.proofs.Common.{◌≡◌, ℕ, zero, suc, ◌+◌, ◌^◌, ◌<◌, ◌≤◌, Bool, true, false, ◌&&◌, ◌||◌, cond, eqb, nat_lt, List, [], ◌∷◌, map, length, set, drop, slice_get, Option, Some, None, is_some, refl, sym, ap, ◌∙◌, subst, arith, ◌⊎◌, inl, inr, ⊎_elim}
+use Rattle.std.proofs.Common.{◌≡◌, ℕ, zero, suc, ◌+◌, ◌^◌, ◌<◌, ◌≤◌, Bool, true, false, ◌&&◌, ◌||◌, cond, eqb, nat_lt, List, [], ◌∷◌, map, length, set, drop, slice_get, Option, Some, None, is_some, refl, sym, ap, ◌∙◌, subst, arith, ⊎_elim}
 use Rattle.std.specs.List.{AllByRecursion}
 use Rattle.std.proofs.lemmas.Bool.{eqb-true, ne_eqb, lt-ltb, ltb-true, ltb-false, or_parts, or_cases, or_right, and_parts, true≢false}
 use Rattle.pref_core.specs.declared.store.version.Version.{Version}
 use Rattle.pref_core.specs.declared.changes.Change.{Change}
 use Rattle.pref_core.specs.declared.changes.Change.TheVariants.{Add, Set, Remove}
 use Rattle.pref_core.specs.declared.call.Call.{Call}
-use Rattle.pref_core.specs.declared.call.Call.TheVariants.{Insert, Update, Delete, Begin, Finish, Abandon}
+use Rattle.pref_core.specs.declared.call.Call.TheVariants.{Insert, Update, Delete, Commit, Begin, Finish, Abandon}
 use Rattle.pref_core.specs.declared.call.Outcome.{Outcome}
 use Rattle.pref_core.specs.declared.call.Outcome.TheVariants.{Added, Done, NoSuchRow, Full}
 use Rattle.pref_core.specs.declared.call.Op.{Op}
@@ -14,11 +14,11 @@ use Rattle.pref_sky.specs.declared.entry.Entry.{Entry}
 use Rattle.pref_core.specs.Changes.{ended_by, begun_by, added_by}
 use Rattle.pref_core.specs.Table.{among, has}
 use Rattle.pref_core.specs.State.{outcome_of, missing, granted, is_change, succeeds, added, begins_row, changes_of, ended, begun}
-use Rattle.pref_core.specs.Slots.{Contents, IsWithin, visible, begins, stamps, born}
-use Rattle.pref_core.specs.Operations.{close, is_free, filled, used, grown, outcome_at, stepped, slots_after, is_next, applied}
-use Rattle.pref_core.specs.Indexes.{slot_of, Points, given, added_slots, placed_from, placed_by, added_rows, moved, moved_rows, Prepares, Withdraws, Follows, adds, IsPlaceOf, IsIndexOf, IsReady}
+use Rattle.pref_core.specs.Slots.{Contents, IsWithin, visible, begins, born}
+use Rattle.pref_core.specs.Operations.{close, is_free, filled, used, grown, slots_after, is_next, applied}
+use Rattle.pref_core.specs.Indexes.{slot_of, Points, given, added_slots, placed_from, placed_by, added_rows, moved, moved_rows, Withdraws, Follows, adds, IsPlaceOf, IsIndexOf, IsReady}
 use Rattle.pref_core.proofs.Applied.{IsAllowed-from}
-use Rattle.pref_core.proofs.Changing.{AreApart, ended_apart, found_all, drop_at}
+use Rattle.pref_core.proofs.Changing.{AreApart, formed_apart, found_all, drop_at}
 use Rattle.pref_core.proofs.Filling.{none_missing, slots_still}
 use Rattle.pref_core.proofs.Indexing.{closed_place, ended_place, born_place, other_place}
 use Rattle.pref_core.proofs.Tables.{has_visible-new}
@@ -193,6 +193,7 @@ no_changes : (call : Call) → is_change call ≡ false → changes_of call ≡ 
 no_changes (Insert row) still = absurd (cc)
 no_changes (Update id row) still = absurd (cc)
 no_changes (Delete id) still = absurd (cc)
+no_changes (Commit changes) still = absurd (cc)
 no_changes Begin still = refl
 no_changes Finish still = refl
 no_changes Abandon still = refl
@@ -338,11 +339,11 @@ module _ (contents : Contents) (within : AllByRecursion (IsWithin contents.next_
       done change success after fills id =
           let all = missing_none change success in
           let same = found id
-              ∙ ap (λ l. given (moved_rows op) id (given l id (slot_of is.before id))) (adds_all contents op next small change success)
-              ∙ ap (λ b. given (cond b (moved (changes_of op.call) op.slots) []) id (given (placed_from contents.next_id (added_slots (changes_of op.call) op.slots)) id (slot_of is.before id))) success in
+          ∙ ap (λ l. given (moved_rows op) id (given l id (slot_of is.before id))) (adds_all contents op next small change success)
+          ∙ ap (λ b. given (cond b (moved (changes_of op.call) op.slots) []) id (given (placed_from contents.next_id (added_slots (changes_of op.call) op.slots)) id (slot_of is.before id))) success in
           subst (IsPlaceOf (suc contents.stamp) id after) (sym same)
           (filled_place (begins contents.callers) (suc contents.stamp) id (changes_of op.call) contents.next_id op.slots (map (close (ended op.call) (suc contents.stamp)) contents.slots) after (slot_of is.before id) fills
-          (ended_apart op.call) (λ there. has_below id (found_all (ended op.call) (visible contents.stamp contents.slots) all id there)) (closed_at (ended op.call) id (slot_of is.before id) (is.is_index id)))
+          (formed_apart op.call (IsAllowed-from contents op next).formed) (λ there. has_below id (found_all (ended op.call) (visible contents.stamp contents.slots) all id there)) (closed_at (ended op.call) id (slot_of is.before id) (is.is_index id)))
         where
           missing_none : is_change op.call ≡ true → succeeds op.outcome ≡ true → missing (ended op.call) (visible contents.stamp contents.slots) ≡ None
           missing_none change success = none_missing contents op.call op.outcome (IsAllowed-from contents op next).outcome success change
@@ -376,7 +377,7 @@ module _ (contents : Contents) (within : AllByRecursion (IsWithin contents.next_
   -- Before an op is done, the index gives the places of the rows that it ends.
   pub ready_there : (op : Op) (ready : Pairs) → is_next contents op ≡ true → succeeds op.outcome ≡ true → IsReady contents op ready → AreThere contents (ended op.call) ready
   ready_there op ready next success is = record {
-    apart = ended_apart op.call;
+    apart = formed_apart op.call (IsAllowed-from contents op next).formed;
     there = there;
     placed = λ id ends. subst (IsPlaceOf contents.stamp id contents.slots) (sym (same id (has_below id (there id ends)))) (is.is_index id);
   }

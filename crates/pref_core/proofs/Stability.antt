@@ -6,7 +6,7 @@ use Rattle.std.proofs.lemmas.Bool.{cases_eq, eq-eqb}
 use Rattle.pref_core.specs.declared.store.version.Version.{Version}
 use Rattle.pref_core.specs.declared.store.caller.Caller.{Caller}
 use Rattle.pref_core.specs.declared.call.Call.{Call}
-use Rattle.pref_core.specs.declared.call.Call.TheVariants.{Insert, Update, Delete, Begin, Finish, Abandon}
+use Rattle.pref_core.specs.declared.call.Call.TheVariants.{Insert, Update, Delete, Commit, Begin, Finish, Abandon}
 use Rattle.pref_core.specs.declared.fault.CoreFault.TheVariants.{QueryOpen, Spent}
 use Rattle.pref_core.specs.declared.call.Op.{Op}
 use Rattle.pref_core.specs.Table.{Line}
@@ -142,6 +142,7 @@ begin_after-kept : (calls : Option ℕ) (call : Call) (now stamp : ℕ) → refu
 begin_after-kept calls (Insert row) now stamp r e = refl
 begin_after-kept calls (Update id row) now stamp r e = refl
 begin_after-kept calls (Delete id) now stamp r e = refl
+begin_after-kept calls (Commit changes) now stamp r e = refl
 begin_after-kept None Begin now stamp r e = absurd (cc)
 begin_after-kept (Some n) Begin now stamp r e = absurd (refused (nat_lt n (2 ^ 56)) r)
   where

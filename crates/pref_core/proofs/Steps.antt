@@ -3,7 +3,7 @@ use Rattle.std.proofs.Common.{◌≡◌, ℕ, ◌^◌, Bool, true, false, cond, 
 use Rattle.std.specs.Option.{option_map}
 use Rattle.pref_term.specs.Question.{Question}
 use Rattle.pref_core.specs.declared.call.Call.{Call}
-use Rattle.pref_core.specs.declared.call.Call.TheVariants.{Insert as CallInsert, Update as CallUpdate, Delete as CallDelete, Begin, Finish, Abandon}
+use Rattle.pref_core.specs.declared.call.Call.TheVariants.{Insert as CallInsert, Update as CallUpdate, Delete as CallDelete, Commit as CallCommit, Begin, Finish, Abandon}
 use Rattle.pref_core.specs.declared.call.Outcome.{Outcome}
 use Rattle.pref_core.specs.declared.call.Outcome.TheVariants.{Added, Done, NoSuchRow, Full}
 use Rattle.pref_core.specs.declared.call.Op.{Op}
@@ -119,6 +119,8 @@ change_refused running system client call done fault act c h plans = refused_tel
     no_early (CallUpdate id row) false early c e = cc
     no_early (CallDelete id) true early c e = cc
     no_early (CallDelete id) false early c e = cc
+    no_early (CallCommit changes) true early c e = cc
+    no_early (CallCommit changes) false early c e = cc
     no_early Begin b early c e = cc
     no_early Finish b early c e = cc
     no_early Abandon b early c e = cc

@@ -6,7 +6,7 @@ use Rattle.pref_term.specs.Question.{Question}
 use Rattle.pref_core.specs.declared.store.version.Version.{Version}
 use Rattle.pref_core.specs.declared.store.caller.Caller.{Caller}
 use Rattle.pref_core.specs.declared.call.Call.{Call}
-use Rattle.pref_core.specs.declared.call.Call.TheVariants.{Insert, Update, Delete, Begin, Finish, Abandon}
+use Rattle.pref_core.specs.declared.call.Call.TheVariants.{Insert, Update, Delete, Commit, Begin, Finish, Abandon}
 use Rattle.pref_core.specs.declared.call.Outcome.{Outcome}
 use Rattle.pref_core.specs.declared.call.Outcome.TheVariants.{Added, Done, NoSuchRow, Full}
 use Rattle.pref_core.specs.declared.call.Op.{Op}
@@ -78,6 +78,7 @@ pub begun_after-change : (state : State) (call : Call) (found : Option Snapshot)
 begun_after-change state (Insert row) found c = refl
 begun_after-change state (Update id row) found c = refl
 begun_after-change state (Delete id) found c = refl
+begun_after-change state (Commit changes) found c = refl
 begun_after-change state Begin found c = absurd (cc)
 begun_after-change state Finish found c = absurd (cc)
 begun_after-change state Abandon found c = absurd (cc)

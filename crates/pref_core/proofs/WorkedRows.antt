@@ -1,15 +1,19 @@
 -- Worked runs, computed from the definitions.
-use Rattle.std.proofs.Common.{false, ◌≡◌, ℕ, pos, List, [], ◌∷◌, map, refl}
+use Rattle.std.proofs.Common.{false, ◌≡◌, ℕ, pos, List, [], ◌∷◌, map, refl, Err}
+use Rattle.std.specs.Global.{Box}
 use Rattle.pref_table.specs.Rows.{padded}
 use Rattle.pref_term.specs.Preference.{scored, low}
 use Rattle.pref_term.specs.Question.{Question}
-use Rattle.pref_term.specs.declared.ask.Mode.TheVariants.{Best}
+use Rattle.pref_term.specs.declared.ask.Mode.TheVariants.{Best, TopLevel}
 use Rattle.pref_sky.specs.declared.entry.Ranked.{Ranked}
 use Rattle.pref_core.specs.declared.event.Event.{Event}
 use Rattle.pref_core.specs.declared.event.Act.{Act}
-use Rattle.pref_core.specs.declared.event.Act.TheVariants.{Insert, Update, Delete, Begin, Scan, Finish, Abandon, Get, Room}
-use Rattle.pref_core.specs.declared.event.Reply.TheVariants.{Inserted, Updated, Deleted, Begun, Left, Answer, Abandoned, Found, Room as RoomIs, Refused}
-use Rattle.pref_core.specs.declared.fault.CoreFault.TheVariants.{NoSuchClient, QueryOpen, NoQuery, AllScanned, NotDone, NoSuchRow, Full}
+use Rattle.pref_core.specs.declared.event.Act.TheVariants.{Insert, Update, Delete, Commit, Begin, Scan, Finish, Abandon, Get, Room}
+use Rattle.pref_core.specs.declared.event.Reply.TheVariants.{Inserted, Updated, Deleted, Committed, Begun, Left, Answer, Abandoned, Found, Room as RoomIs, Refused}
+use Rattle.pref_core.specs.declared.fault.CoreFault.TheVariants.{NoSuchClient, QueryOpen, NoQuery, AllScanned, NotDone, NoSuchRow, Full, Twice, ChangeCount}
+use Rattle.pref_core.specs.declared.changes.Change.{Change}
+use Rattle.pref_core.specs.declared.changes.Change.TheVariants.{Add, Set, Remove}
+use Rattle.pref_core.specs.Changes.{commit_of}
 use Rattle.pref_core.specs.Rows.{Row}
 use Rattle.pref_core.specs.Limits.{Limits}
 use Rattle.pref_core.specs.Step.{replies}
@@ -66,3 +70,41 @@ pub two_updates_under_a_query : replies (setup 3 3) (map row (5 ∷ []))
     (by 1 (Begin smallest) ∷ by 2 (Update 1 (row 1)) ∷ by 2 (Update 1 (row 2)) ∷ by 2 Room ∷ by 1 Scan ∷ by 1 Finish ∷ by 2 Room ∷ by 2 (Get 1) ∷ [])
     ≡ Begun 1 ∷ Updated 1 ∷ Updated 1 ∷ RoomIs 1 ∷ Left 0 ∷ Answer (best 1 5) ∷ RoomIs 2 ∷ Found 1 (row 2) ∷ []
 two_updates_under_a_query = refl
+
+abbrev two_levels : Question
+two_levels = record { preference = scored (low 0); group = []; mode = TopLevel 2 }
+
+abbrev levels_of : ℕ → ℕ → ℕ → ℕ → List Ranked
+levels_of id n other m = record { level = 1; id = id; row = row n } ∷ record { level = 2; id = other; row = row m } ∷ []
+
+-- the changes in a box, whichever it is
+abbrev commit : Box (List Change) → List Change → Act
+commit box changes = Commit (record box { value = changes })
+
+pub a_commit_is_seen_wholly_or_not_at_all : (box : Box (List Change)) → replies (setup 4 4) (map row (5 ∷ 7 ∷ []))
+    (by 1 (Begin smallest) ∷ by 2 (commit box (Remove 1 ∷ Add (row 3) ∷ Set 2 (row 1) ∷ [])) ∷ by 1 Scan ∷ by 1 Finish ∷ by 2 (Begin two_levels) ∷ by 2 Scan ∷ by 2 Finish ∷ by 2 Room ∷ [])
+    ≡ Begun 1 ∷ Committed (record { changes = 3; first = 3 }) ∷ Left 0 ∷ Answer (best 1 5) ∷ Begun 1 ∷ Left 0 ∷ Answer (levels_of 2 1 3 3) ∷ RoomIs 2 ∷ []
+a_commit_is_seen_wholly_or_not_at_all box = refl
+
+pub a_full_table_takes_a_commit : (box : Box (List Change)) → replies (setup 2 2) (map row (1 ∷ 2 ∷ []))
+    (by 1 (commit box (Add (row 9) ∷ Remove 2 ∷ [])) ∷ by 1 (commit box (Set 1 (row 4) ∷ Set 2 (row 5) ∷ [])) ∷ by 1 (commit box (Add (row 6) ∷ Add (row 7) ∷ [])) ∷ by 1 (Get 1) ∷ by 1 Room ∷ [])
+    ≡ Committed (record { changes = 2; first = 3 }) ∷ Refused (NoSuchRow 2) ∷ Refused (Full 4) ∷ Found 1 (row 1) ∷ RoomIs 0 ∷ []
+a_full_table_takes_a_commit box = refl
+
+pub an_id_that_a_commit_adds_is_not_there_yet : (box : Box (List Change)) → replies (setup 4 4) (map row (1 ∷ [])) (by 1 (commit box (Add (row 5) ∷ Set 2 (row 6) ∷ [])) ∷ by 1 (Insert (row 9)) ∷ []) ≡ Refused (NoSuchRow 2) ∷ Inserted 2 ∷ []
+an_id_that_a_commit_adds_is_not_there_yet box = refl
+
+pub a_missing_row_is_told_before_a_full_table : (box : Box (List Change)) → replies (setup 2 2) (map row (1 ∷ 2 ∷ [])) (by 1 (commit box (Add (row 5) ∷ Remove 9 ∷ Remove 8 ∷ [])) ∷ []) ≡ Refused (NoSuchRow 9) ∷ []
+a_missing_row_is_told_before_a_full_table box = refl
+
+pub the_second_naming_is_told : commit_of (Remove 1 ∷ Remove 1 ∷ []) ≡ Err (Twice 2)
+the_second_naming_is_told = refl
+
+pub adds_name_no_id : commit_of (Add (row 1) ∷ Set 5 (row 2) ∷ Add (row 1) ∷ Remove 5 ∷ Remove 5 ∷ []) ≡ Err (Twice 4)
+adds_name_no_id = refl
+
+pub no_change_is_no_commit : commit_of [] ≡ Err ChangeCount
+no_change_is_no_commit = refl
+
+pub the_count_is_told_before_a_second_naming : commit_of (Remove 1 ∷ Remove 1 ∷ Remove 2 ∷ Remove 3 ∷ Remove 4 ∷ Remove 5 ∷ Remove 6 ∷ Remove 7 ∷ Remove 8 ∷ []) ≡ Err ChangeCount
+the_count_is_told_before_a_second_naming = refl

@@ -1,16 +1,12 @@
 -- The zones of slots, and how many are free.
-use Rattle.std.proofs.Common.{◌≡◌, ℕ, zero, suc, ◌+◌, ◌<◌, ◌≤◌, Bool, true, false, not, ◌&&◌, ◌||◌, cond, eqb, List, [], ◌∷◌, map, length, set, Option, Some, None, slice_get, refl, sym, ap, ap₂, ◌∙◌, subst, arith}
+use Rattle.std.proofs.Common.{◌≡◌, ℕ, zero, suc, ◌+◌, ◌<◌, Bool, true, false, not, ◌&&◌, ◌||◌, cond, eqb, List, [], ◌∷◌, map, length, set, Option, Some, None, slice_get, refl, sym, ap, ◌∙◌, subst, arith}
 use Rattle.std.specs.List.{count_by, cons_option, AllByRecursion}
-use Rattle.std.specs.Option.{option_map, option_to_list}
 use Rattle.std.proofs.lemmas.List.Sums.{sum_by-cons}
-use Rattle.std.proofs.lemmas.List.Sorted.{sum_by-IsPermutation}
-use Rattle.std.proofs.lemmas.Option.{slice_get-map}
-use Rattle.std.proofs.lemmas.Bool.{le-leb, and_parts, eqb-true, eq-eqb, ne_eqb, or_right}
+use Rattle.std.proofs.lemmas.Bool.{le-leb, and_parts, eqb-true, eq-eqb, or_right}
 use Rattle.pref_core.specs.declared.store.version.Version.{Version}
 use Rattle.pref_core.specs.declared.store.places.Zone.TheVariants.{Free, Ended, Live}
-use Rattle.pref_core.specs.Table.{Line, among, has, IsOrdered}
-use Rattle.pref_core.specs.State.{State, missing}
-use Rattle.pref_core.specs.Slots.{Contents, StandsFor, is_visible, seen, visible, line, is_needed, IsWithin, EndsBy}
+use Rattle.pref_core.specs.Table.{Line, among, has}
+use Rattle.pref_core.specs.Slots.{is_visible, seen, visible, line, is_needed, IsWithin, EndsBy}
 use Rattle.pref_core.specs.Operations.{close, close_at, is_free}
 use Rattle.pref_core.specs.Places.{is_free_zone, free_at, zone_of}
 use Rattle.pref_core.specs.Indexes.{is_row, row_at}

@@ -3,7 +3,7 @@ use Rattle.std.specs.Prelude.{◌≡◌, ℕ, List, [], ◌∷◌, map, length, 
 use Rattle.pref_core.specs.declared.call.Call.{Call}
 use Rattle.pref_core.specs.declared.call.Outcome.{Outcome}
 use Rattle.pref_core.specs.declared.call.Op.{Op}
-use Rattle.pref_core.specs.State.{State, after, refusal, calls_of, outcome}
+use Rattle.pref_core.specs.State.{State, after, refusal, calls_of, outcome, is_formed}
 use Rattle.pref_core.specs.Slots.{Contents, StandsFor}
 use Rattle.pref_core.specs.Operations.{IsLegal, applied, ran, same_number}
 
@@ -14,11 +14,12 @@ pub record Numbered : Type 0 where
   pub call : Call
   pub outcome : Outcome
 
--- the call is let in, is its client's next one, and has the outcome that it has in this state
+-- the call is let in, is its client's next one, has the outcome that it has in this state, and its changes are a commit
 pub record IsLegalCall (capacity : ℕ) (state : State) (numbered : Numbered) : Type 0 where
   pub accepted : refusal state numbered.client numbered.call ≡ None
   pub next : same_number (calls_of state numbered.client) numbered.number ≡ true
   pub told : numbered.outcome ≡ outcome capacity state numbered.call
+  pub formed : is_formed numbered.call ≡ true
 
 -- each call is legal in the state that those before it leave
 abbrev pub IsLegalHistory : ℕ → State → List Numbered → Type 0
@@ -30,7 +31,7 @@ abbrev pub state_after : ℕ → State → List Numbered → State
 state_after capacity state [] = state
 state_after capacity state (numbered ∷ rest) = state_after capacity (after capacity state numbered.client numbered.call) rest
 
--- an operation without its slot
+-- an operation without its slots
 abbrev pub numbered_of : Op → Numbered
 numbered_of op = record { client = op.client; number = op.number; call = op.call; outcome = op.outcome }
 

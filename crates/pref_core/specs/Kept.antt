@@ -1,6 +1,6 @@
 -- No public contract cites this.
 -- What a store keeps beside its slots, so that no change looks through them.
-use Rattle.std.specs.Prelude.{◌≡◌, ◌==◌, ◌+◌, ◌^◌, ◌<◌, ◌≤◌, ◌&&◌, ◌||◌, ℕ, suc, List, [], ◌∷◌, ◌++◌, map, length, Bool, true, false, not, Option, Some, None, option_map, slice_get, Result, MatchResult}
+use Rattle.std.specs.Prelude.{◌≡◌, ◌+◌, ◌^◌, ◌<◌, ◌≤◌, ◌&&◌, ◌||◌, ℕ, suc, List, [], ◌∷◌, ◌++◌, map, length, Bool, true, false, not, Option, Some, None, option_map, slice_get, Result, MatchResult}
 use Rattle.std.specs.List.{count_by, AllByRecursion}
 use Rattle.pref_core.specs.declared.store.version.Version.{Version}
 use Rattle.pref_core.specs.declared.store.places.Zone.{Zone}
@@ -13,7 +13,7 @@ use Rattle.pref_core.specs.Operations.{close, is_free}
 use Rattle.pref_core.specs.Bounds.{IsBounded}
 use Rattle.pref_core.specs.Places.{is_free_zone, free_at, zone_of}
 use Rattle.pref_core.specs.Links.{ids_of, id_at, AreIds, AreLinks}
-use Rattle.pref_core.specs.Indexes.{row_at, IsPlaceOf}
+use Rattle.pref_core.specs.Indexes.{row_at}
 
 -- A store's slots stand for a state, and each place is in the zone of its slot.
 pub record IsKept (contents : Contents) (zones : List Zone) : Type 0 where

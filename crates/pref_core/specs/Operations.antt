@@ -11,7 +11,7 @@ use Rattle.pref_core.specs.declared.fault.CoreFault.{CoreFault}
 use Rattle.pref_core.specs.declared.call.Op.{Op}
 use Rattle.pref_sky.specs.declared.entry.Entry.{Entry}
 use Rattle.pref_core.specs.Table.{among}
-use Rattle.pref_core.specs.State.{State, seat, with_seat, refusal_of, refusal, calls_of, ended, begun, begins_row, added, is_change, missing, granted, outcome_of, outcome, succeeds, after}
+use Rattle.pref_core.specs.State.{State, seat, with_seat, refusal_of, refusal, calls_of, ended, begun, begins_row, added, is_change, missing, granted, outcome_of, outcome, succeeds, after, is_formed}
 use Rattle.pref_core.specs.Slots.{Contents, StandsFor, visible, is_needed, stamps, born, caller_calls, caller_begun}
 
 -- how many slots can't be used again
@@ -73,9 +73,9 @@ abbrev pub same_number : Option ℕ → ℕ → Bool
 same_number None number = false
 same_number (Some calls) number = suc calls == number
 
--- whether the call, its number and its outcome are legal next
+-- whether the call, its number and its outcome are legal next, and the call's changes a commit
 abbrev pub is_next : Contents → Op → Bool
-is_next contents op = not (is_some (refusal_at contents op.client op.call)) && same_number (caller_calls contents op.client) op.number && same_outcome op.outcome (outcome_at contents op.call)
+is_next contents op = not (is_some (refusal_at contents op.client op.call)) && same_number (caller_calls contents op.client) op.number && same_outcome op.outcome (outcome_at contents op.call) && is_formed op.call
 
 -- the slots after a call with this outcome, its new rows in these slots; none where a slot doesn't fit
 abbrev pub placed : Contents → Call → List ℕ → Outcome → Option (List (Option Version))
@@ -118,6 +118,7 @@ pub record IsNext (capacity : ℕ) (state : State) (op : Op) : Type 0 where
   pub accepted : refusal state op.client op.call ≡ None
   pub number : same_number (calls_of state op.client) op.number ≡ true
   pub outcome : op.outcome ≡ outcome capacity state op.call
+  pub formed : is_formed op.call ≡ true
 
 -- the store after a list of operations
 abbrev pub ran : Contents → List Op → Contents

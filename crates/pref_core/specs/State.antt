@@ -3,7 +3,7 @@ use Rattle.std.specs.Prelude.{ℕ, zero, suc, ◌+◌, ◌^◌, List, [], ◌∷
 use Rattle.std.specs.List.{find}
 use Rattle.pref_core.specs.Rows.{Row}
 use Rattle.pref_core.specs.declared.call.Call.{Call}
-use Rattle.pref_core.specs.declared.call.Call.TheVariants.{Insert, Update, Delete, Begin, Finish, Abandon}
+use Rattle.pref_core.specs.declared.call.Call.TheVariants.{Insert, Update, Delete, Commit, Begin, Finish, Abandon}
 use Rattle.pref_core.specs.declared.changes.Change.{Change}
 use Rattle.pref_core.specs.declared.changes.Change.TheVariants.{Add, Set, Remove}
 use Rattle.pref_core.specs.declared.call.QueryState.{QueryState}
@@ -12,7 +12,7 @@ use Rattle.pref_core.specs.declared.call.Outcome.{Outcome}
 use Rattle.pref_core.specs.declared.call.Outcome.TheVariants.{Added, Done, NoSuchRow, Full}
 use Rattle.pref_core.specs.declared.fault.CoreFault.{CoreFault}
 use Rattle.pref_core.specs.declared.fault.CoreFault.TheVariants.{NoSuchClient, Spent, QueryOpen, NoQuery, NoSuchRow as MissingRow, Full as TooFull}
-use Rattle.pref_core.specs.Changes.{ended_by, begun_by, added_by, begins_any}
+use Rattle.pref_core.specs.Changes.{ended_by, begun_by, added_by, begins_any, is_commit}
 use Rattle.pref_core.specs.Table.{Line, Key, has, without, with_rows, keys, different}
 use Rattle.pref_sky.specs.declared.entry.Entry.{Entry}
 
@@ -91,6 +91,7 @@ abbrev pub changes_of : Call → List Change
 changes_of (Insert row) = Add row ∷ []
 changes_of (Update id row) = Set id row ∷ []
 changes_of (Delete id) = Remove id ∷ []
+changes_of (Commit changes) = changes
 changes_of call = []
 
 -- the ids whose rows a call ends
@@ -110,7 +111,13 @@ abbrev pub is_change : Call → Bool
 is_change (Insert row) = true
 is_change (Update id row) = true
 is_change (Delete id) = true
+is_change (Commit changes) = true
 is_change call = false
+
+-- whether the changes of a commit are one: one to eight on different ids
+abbrev pub is_formed : Call → Bool
+is_formed (Commit changes) = is_commit changes
+is_formed call = true
 
 -- one commit: all these rows out and all those in, with one number
 abbrev pub committed : Call → State → State

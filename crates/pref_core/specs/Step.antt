@@ -4,16 +4,19 @@ use Rattle.std.specs.Option.{option_map}
 use Rattle.pref_term.specs.Question.{Question}
 use Rattle.pref_sky.specs.Answers.{answer_of}
 use Rattle.pref_core.specs.declared.call.Call.{Call}
-use Rattle.pref_core.specs.declared.call.Call.TheVariants.{Insert as CallInsert, Update as CallUpdate, Delete as CallDelete}
+use Rattle.pref_core.specs.declared.call.Call.TheVariants.{Insert as CallInsert, Update as CallUpdate, Delete as CallDelete, Commit as CallCommit}
+use Rattle.pref_core.specs.declared.changes.Change.{Change}
 use Rattle.pref_core.specs.declared.call.Outcome.{Outcome}
 use Rattle.pref_core.specs.declared.call.Outcome.TheVariants.{Added, Done, NoSuchRow, Full}
+use Rattle.pref_core.specs.declared.event.Committed.{Committed}
 use Rattle.pref_core.specs.declared.event.Event.{Event}
 use Rattle.pref_core.specs.declared.event.Act.{Act}
-use Rattle.pref_core.specs.declared.event.Act.TheVariants.{Insert, Update, Delete, Begin, Scan, Finish, Abandon, Get, Room}
+use Rattle.pref_core.specs.declared.event.Act.TheVariants.{Insert, Update, Delete, Commit, Begin, Scan, Finish, Abandon, Get, Room}
 use Rattle.pref_core.specs.declared.event.Reply.{Reply}
-use Rattle.pref_core.specs.declared.event.Reply.TheVariants.{Inserted, Updated, Deleted, Begun, Left, Answer, Abandoned, Found, Room as RoomIs, Refused}
+use Rattle.pref_core.specs.declared.event.Reply.TheVariants.{Inserted, Updated, Deleted, Committed as CommittedIs, Begun, Left, Answer, Abandoned, Found, Room as RoomIs, Refused}
 use Rattle.pref_core.specs.declared.fault.CoreFault.{CoreFault}
 use Rattle.pref_core.specs.declared.fault.CoreFault.TheVariants.{NoSuchClient, Spent, QueryOpen, NoQuery, AllScanned, NotDone, NoSuchRow as MissingRow, Full as TooFull}
+use Rattle.pref_core.specs.Changes.{added_by}
 use Rattle.pref_core.specs.Rows.{Row}
 use Rattle.pref_core.specs.Limits.{Limits, blocks}
 use Rattle.pref_core.specs.Table.{Line, line_of, entries}
@@ -86,6 +89,10 @@ changed Done done call counted = record { reply = done; next = commit call count
 abbrev pub change : Limits → System → ℕ → Member → Call → Reply → Step
 change limits system client member call done = changed (outcome limits.capacity (state_of system) call) done call (counted_with member.query client member system)
 
+-- what is told of a commit that succeeds: how many changes it made, and the id of the first row that it added, 0 where it added none
+abbrev pub told_of_commit : ℕ → List Change → Committed
+told_of_commit next_id changes = record { changes = length changes; first = if nat_lt 0 (added_by changes) then next_id else 0 }
+
 -- a call that is numbered: a client makes 2^56 at most
 abbrev pub numbered : Member → System → Step → Step
 numbered member system step = if nat_lt member.calls (2 ^ 56) then step else refused Spent system
@@ -107,6 +114,7 @@ abbrev pub step_of : Limits → System → ℕ → Member → Act → Option Ope
 step_of limits system client member (Insert row) query = numbered member system (change limits system client member (CallInsert row) (Inserted system.next_id))
 step_of limits system client member (Update id row) query = numbered member system (change limits system client member (CallUpdate id row) (Updated id))
 step_of limits system client member (Delete id) query = numbered member system (change limits system client member (CallDelete id) (Deleted id))
+step_of limits system client member (Commit boxed) query = numbered member system (change limits system client member (CallCommit boxed.value) (CommittedIs (told_of_commit system.next_id boxed.value)))
 step_of limits system client member (Begin ask) None = numbered member system (record {
   reply = Begun (blocks limits);
   next = counted_with (Some (record { ask = ask; table = system.table; commits = system.commits; left = blocks limits })) client member system;

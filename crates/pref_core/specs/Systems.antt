@@ -1,15 +1,16 @@
 -- What runs, the system that it stands for, and a step of it. (this project)
-use Rattle.std.specs.Prelude.{◌≡◌, ℕ, List, length, Bool, true, false, Option, Some, None, Result, Ok, Err, MatchResult, ◌⊎◌}
+use Rattle.std.specs.Prelude.{◌≡◌, ℕ, nat_lt, List, length, Bool, true, false, Option, Some, None, Result, Ok, Err, MatchResult, ◌⊎◌}
 use Rattle.std.specs.declared.alloc.AllocError.{AllocError}
 use Rattle.pref_core.specs.declared.store.version.Version.{Version}
 use Rattle.pref_core.specs.declared.fault.CoreFault.{CoreFault}
 use Rattle.pref_core.specs.declared.fault.CoreFault.TheVariants.{OutOfMemory}
 use Rattle.pref_core.specs.declared.event.Act.{Act}
-use Rattle.pref_core.specs.declared.event.Act.TheVariants.{Insert as ActInsert, Scan as ActScan, Finish as ActFinish}
+use Rattle.pref_core.specs.declared.event.Act.TheVariants.{Insert as ActInsert, Commit as ActCommit, Scan as ActScan, Finish as ActFinish}
 use Rattle.pref_core.specs.declared.event.Event.{Event}
 use Rattle.pref_core.specs.declared.event.Reply.{Reply}
 use Rattle.pref_core.specs.declared.event.Reply.TheVariants.{Refused}
 use Rattle.pref_core.specs.declared.event.StepFault.{StepFault}
+use Rattle.pref_core.specs.Changes.{added_by}
 use Rattle.pref_core.specs.Limits.{Limits}
 use Rattle.pref_core.specs.State.{seat}
 use Rattle.pref_core.specs.Step.{Open, Member, System, Step, state_of, step}
@@ -53,6 +54,7 @@ pub record StandsForSystem (running : Running) (system : System) : Type 0 where
 -- whether an act may be answered out of memory
 abbrev pub may_want_memory : Act → Bool
 may_want_memory (ActInsert row) = true
+may_want_memory (ActCommit boxed) = nat_lt 0 (added_by boxed.value)
 may_want_memory ActScan = true
 may_want_memory ActFinish = true
 may_want_memory act = false

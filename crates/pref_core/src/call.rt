@@ -3,9 +3,9 @@
 //! Each client counts its calls of these kinds from 1 on, so that histories of many clients can be
 //! compared call by call. A call that is refused before its outcome is planned has no number.
 
-ghost use Rattle.std.specs.Prelude.{◌≡◌, ◌++◌, ◌∷◌, [], ◌<◌, ◌≤◌, ℕ, Some, is_some, length, slice_get};
+ghost use Rattle.std.specs.Prelude.{◌≡◌, ◌++◌, ◌∷◌, [], ◌<◌, ◌≤◌, ℕ, Some, true, is_some, length, slice_get};
 
-use crate::changes::Change;
+use crate::changes::{Change, Commit, added_by, begun_by, is_named};
 use crate::fault::CoreFault;
 use pref_table::Row;
 use std::marker::Model;
@@ -22,6 +22,8 @@ pub enum Call {
     Update(u64, Row),
     /// The row of this id goes.
     Delete(u64),
+    /// One to eight changes, in one commit.
+    Commit(Commit),
     /// A query begins. What it asks is the client's own affair.
     Begin,
     /// The open query ends with its answer.
@@ -32,7 +34,7 @@ pub enum Call {
 
 impl Call {
     ghost use Rattle.pref_core.specs.Table.{among};
-    ghost use Rattle.pref_core.specs.State.{refusal_of, is_open, changes_of, ended, begun, begins_row, added, is_change};
+    ghost use Rattle.pref_core.specs.State.{refusal_of, is_open, changes_of, ended, begun, begins_row, added, is_change, is_formed};
 
     /// Why the call gets no number, of a client that has made so many numbered calls and stands so with its query; `None`
     /// where it gets one.
@@ -45,20 +47,38 @@ impl Call {
         if calls >= MOST_CALLS {
             return Some(CoreFault::Spent);
         }
-        match (*self, query) {
+        match (self, query) {
             (Call::Begin, QueryState::Open) => Some(CoreFault::QueryOpen),
             (Call::Finish | Call::Abandon, QueryState::NotOpen) => Some(CoreFault::NoQuery),
             _ => None,
         }
     }
 
-    /// How many changes the call makes.
+    /// How many changes the call makes: at most eight, and on different ids.
     pub(crate) fn count(&self) -> usize
-        ensures { result ≡ length (changes_of self.now) }
+        ensures count { result ≡ length (changes_of self.now) }
+        ensures few { length (changes_of self.now) ≤ 8 }
+        ensures formed { is_formed self.now ≡ true }
     {
-        match *self {
+        match self {
             Call::Insert(_) | Call::Update(_, _) | Call::Delete(_) => 1,
+            Call::Commit(commit) => commit.as_slice().len(),
             Call::Begin | Call::Finish | Call::Abandon => 0,
+        }
+    }
+
+    /// The same call. Copies what its variant holds: for a single change no more than that change.
+    pub(crate) fn copied(&self) -> Call
+        ensures { result ≡ self.now }
+    {
+        match self {
+            Call::Insert(row) => Call::Insert(*row),
+            Call::Update(id, row) => Call::Update(*id, *row),
+            Call::Delete(id) => Call::Delete(*id),
+            Call::Commit(commit) => Call::Commit(*commit),
+            Call::Begin => Call::Begin,
+            Call::Finish => Call::Finish,
+            Call::Abandon => Call::Abandon,
         }
     }
 
@@ -67,10 +87,11 @@ impl Call {
         requires { at < length (changes_of self.now) }
         ensures { slice_get (changes_of self.now) at ≡ Some result }
     {
-        match *self {
-            Call::Insert(row) => Change::Add(row),
-            Call::Update(id, row) => Change::Set(id, row),
-            Call::Delete(id) => Change::Remove(id),
+        match self {
+            Call::Insert(row) => Change::Add(*row),
+            Call::Update(id, row) => Change::Set(*id, *row),
+            Call::Delete(id) => Change::Remove(*id),
+            Call::Commit(commit) => commit.as_slice()[at],
             Call::Begin | Call::Finish | Call::Abandon => unreachable!(),
         }
     }
@@ -79,9 +100,10 @@ impl Call {
     pub(crate) fn ends(&self, id: u64) -> bool
         ensures { result ≡ among (ended self.now) id }
     {
-        match *self {
-            Call::Update(other, _) | Call::Delete(other) => other == id,
-            _ => false,
+        match self {
+            Call::Update(other, _) | Call::Delete(other) => *other == id,
+            Call::Commit(commit) => is_named(commit.as_slice(), id),
+            Call::Insert(_) | Call::Begin | Call::Finish | Call::Abandon => false,
         }
     }
 
@@ -89,9 +111,10 @@ impl Call {
     pub(crate) fn begun(&self) -> usize
         ensures { (next_id : ℕ) → result ≡ length (begun next_id self.now) }
     {
-        match *self {
+        match self {
             Call::Insert(_) | Call::Update(_, _) => 1,
-            _ => 0,
+            Call::Commit(commit) => begun_by(commit.as_slice()),
+            Call::Delete(_) | Call::Begin | Call::Finish | Call::Abandon => 0,
         }
     }
 
@@ -99,16 +122,17 @@ impl Call {
     pub(crate) fn begins_row(&self) -> bool
         ensures { result ≡ begins_row self.now }
     {
-        matches!(*self, Call::Insert(_) | Call::Update(_, _))
+        self.begun() > 0
     }
 
     /// How many ids the call uses up.
     pub(crate) fn added(&self) -> u64
         ensures { result ≡ added self.now }
     {
-        match *self {
+        match self {
             Call::Insert(_) => 1,
-            _ => 0,
+            Call::Commit(commit) => added_by(commit.as_slice()),
+            Call::Update(_, _) | Call::Delete(_) | Call::Begin | Call::Finish | Call::Abandon => 0,
         }
     }
 
@@ -116,10 +140,10 @@ impl Call {
     pub(crate) fn is_change(&self) -> bool
         ensures { result ≡ is_change self.now }
     {
-        matches!(
-            *self,
-            Call::Insert(_) | Call::Update(_, _) | Call::Delete(_)
-        )
+        match self {
+            Call::Insert(_) | Call::Update(_, _) | Call::Delete(_) | Call::Commit(_) => true,
+            Call::Begin | Call::Finish | Call::Abandon => false,
+        }
     }
 }
 
@@ -149,7 +173,7 @@ impl QueryState {
 /// What becomes of a numbered call.
 #[derive(Clone, Copy, Debug, PartialEq, Eq)]
 pub enum Outcome {
-    /// The row was inserted, with this id.
+    /// Rows were added, the first of them with this id.
     Added(u64),
     /// The call did what it asked.
     Done,

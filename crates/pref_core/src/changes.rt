@@ -1,9 +1,9 @@
 //! Changes of rows, and commits of one to eight of them.
 
-ghost use Rattle.std.specs.Prelude.{◌≡◌, ◌<◌, ◌≤◌, ◌++◌, ◌-◌, [], ◌∷◌, true, length, take, replicate, slice_index_or};
+ghost use Rattle.std.specs.Prelude.{◌≡◌, ◌<◌, ◌≤◌, ◌++◌, ◌-◌, [], ◌∷◌, ℕ, true, length, take, replicate, slice_index_or};
 ghost use Rattle.std.specs.Option.{option_to_list};
 ghost use Rattle.pref_core.specs.Table.{among};
-ghost use Rattle.pref_core.specs.Changes.{ended_by, begun_by, added_by, names_again, twice, commit_of, is_commit};
+ghost use Rattle.pref_core.specs.Changes.{ended_by, begun_by, added_by, begins_any, names_again, twice, commit_of, is_commit};
 
 use crate::fault::CoreFault;
 use pref_sky::Entry;
@@ -54,6 +54,13 @@ impl Change {
             Change::Add(_) => 1,
             Change::Set(_, _) | Change::Remove(_) => 0,
         }
+    }
+
+    /// Whether it begins a row.
+    fn begins(&self) -> bool
+        ensures { result ≡ begins_any (self.now ∷ []) }
+    {
+        matches!(*self, Change::Add(_) | Change::Set(_, _))
     }
 }
 
@@ -112,7 +119,7 @@ impl Commit {
 }
 
 /// Whether one of the changes names the id.
-fn is_named(changes: &[Change], id: u64) -> bool
+pub(crate) fn is_named(changes: &[Change], id: u64) -> bool
     ensures { result ≡ among (ended_by changes.now) id }
 {
     for change in changes {
@@ -145,6 +152,31 @@ fn twice(changes: &[Change]) -> Option<u64>
         }
     }
     None
+}
+
+/// How many rows the changes begin.
+pub(crate) fn begun_by(changes: &[Change]) -> usize
+    ensures { (next_id : ℕ) → result ≡ length (begun_by next_id changes.now) }
+{
+    let mut begun = 0;
+    for change in changes {
+        if change.begins() {
+            begun += 1;
+        }
+    }
+    begun
+}
+
+/// How many rows the changes add.
+pub(crate) fn added_by(changes: &[Change]) -> u64
+    requires { length changes.now ≤ 8 }
+    ensures { result ≡ added_by changes.now }
+{
+    let mut added = 0;
+    for change in changes {
+        added += change.added();
+    }
+    added
 }
 
 /// The changes with removes of no row behind them.

@@ -2,6 +2,7 @@
 
 ghost use Rattle.std.specs.Prelude.{◌≡◌};
 
+use crate::changes::Commit;
 use crate::fault::CoreFault;
 use pref_sky::Ranked;
 use pref_table::Row;
@@ -17,6 +18,8 @@ pub enum Act {
     Update(u64, Row),
     /// Deletes the row of this id.
     Delete(u64),
+    /// Makes one to eight changes in one commit. In a box, so that other acts are no larger for it.
+    Commit(Box<Commit>),
     /// Begins a query of the table as it is now.
     Begin(Ask),
     /// Reads the next block for the open query.
@@ -78,6 +81,15 @@ impl RankedList {
     }
 }
 
+/// What is told of a commit that succeeds.
+#[derive(Clone, Copy, Debug, PartialEq, Eq)]
+pub struct Committed {
+    /// How many changes it made.
+    pub changes: u32,
+    /// The id of the first row that it added, 0 where it added none.
+    pub first: u64,
+}
+
 /// What a client is told.
 #[derive(Drop)]
 pub enum Reply {
@@ -87,6 +99,8 @@ pub enum Reply {
     Updated(u64),
     /// The row of this id is gone.
     Deleted(u64),
+    /// All changes of the commit are made.
+    Committed(Committed),
     /// A query has begun, and has so many blocks to scan.
     Begun(u32),
     /// A block was scanned, and so many are left.

@@ -5,12 +5,13 @@ mod seats;
 
 ghost use Rattle.std.specs.Prelude.{true, false, ◌≡◌, ◌<◌, length, Ok, Err, IfOk, IfErr, MatchResult, ◌⊎◌, ◌↔◌};
 ghost use Rattle.pref_core.specs.State.{is_change};
-ghost use Rattle.pref_core.specs.Step.{opened};
+ghost use Rattle.pref_core.specs.Step.{opened, told_of_commit};
 ghost use Rattle.pref_core.specs.Systems.{Replies, Running, StandsForSystem, Steps, is_refusal, without_event};
 ghost use Rattle.pref_core.specs.Parts.{Does, Changes, is_begin, told_of};
 
 use crate::call::{Call, Outcome};
-use crate::event::{Act, Event, RankedList, Reply, StepFault};
+use crate::changes::{Commit, added_by};
+use crate::event::{Act, Committed, Event, RankedList, Reply, StepFault};
 use crate::fault::CoreFault;
 use crate::index::Index;
 use crate::query::Query;
@@ -67,7 +68,7 @@ impl Machine {
 
     /// One event: its reply, and the next state, are those of the sequential table. A refused event is handed back.
     ///
-    /// `OutOfMemory` comes for a scan, a finish and an insert alone, and nothing has changed then; every other refusal is
+    /// `OutOfMemory` comes for a scan, a finish and a change that adds a row alone, and nothing has changed then; every other refusal is
     /// the sequential table's, and so is what it leaves. Cost: a change, a get, a room and a begin are constant in the
     /// slots, a scan reads its block, a finish and an abandon go over the ended versions that an open query needs.
     pub fn step(&mut self, alloc: Global, event: Event) -> Result<Reply, StepFault>
@@ -78,6 +79,7 @@ impl Machine {
             Act::Insert(row) => handed_back(self.insert(alloc, client, row), event),
             Act::Update(id, row) => handed_back(self.update(alloc, client, *id, row), event),
             Act::Delete(id) => handed_back(self.delete(alloc, client, *id), event),
+            Act::Commit(commit) => handed_back(self.commit(alloc, client, commit), event),
             Act::Begin(_) => self.begin(event),
             Act::Scan => handed_back(self.scan(alloc, client), event),
             Act::Finish => handed_back(self.finish(alloc, client), event),
@@ -89,7 +91,7 @@ impl Machine {
 
     /// The reply to one event, which may be a refusal: what [`Machine::step`] tells, with no event handed back.
     ///
-    /// `Err` is want of memory. It comes for a scan, a finish and an insert alone, and nothing has changed then.
+    /// `Err` is want of memory. It comes for a scan, a finish and a change that adds a row alone, and nothing has changed then.
     pub fn reply(&mut self, alloc: Global, event: Event) -> Result<Reply, AllocError>
         ensures { Replies self.old event result self.new }
     {
@@ -121,6 +123,18 @@ impl Machine {
         self.change(alloc, client, &Call::Delete(id), Reply::Deleted(id))
     }
 
+    fn commit(
+        &mut self,
+        alloc: Global,
+        client: u8,
+        commit: &Box<Commit>,
+    ) -> Result<Reply, CoreFault>
+        ensures { Does self.old client (Act.Commit commit.now) result self.new }
+    {
+        let done = Reply::Committed(told_of_commit(self.store.next_id(), commit));
+        self.change(alloc, client, &Call::Commit(**commit), done)
+    }
+
     /// A change, and the reply where it succeeds.
     fn change(
         &mut self,
@@ -133,7 +147,7 @@ impl Machine {
         requires quiet { is_refusal done ≡ false }
         ensures { Changes self.old client call.now done result self.new }
     {
-        let op = self.store.plan_at(&self.index, client, *call)?;
+        let op = self.store.plan_at(&self.index, client, call)?;
         self.index.prepare(alloc, &op)?;
         self.store.apply_at(&mut self.index, &op);
         told(op.outcome, done)
@@ -208,6 +222,18 @@ impl Machine {
             return Err(CoreFault::NoSuchClient);
         }
         Ok(Reply::Room(self.store.room()))
+    }
+}
+
+/// What is told of a commit that succeeds, by the id of the next row.
+fn told_of_commit(next_id: u64, commit: &Commit) -> Committed
+    ensures { result ≡ told_of_commit next_id commit.now }
+{
+    let changes = commit.as_slice();
+    let first = if added_by(changes) > 0 { next_id } else { 0 };
+    Committed {
+        changes: changes.len() as u32,
+        first,
     }
 }
 

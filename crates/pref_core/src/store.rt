@@ -193,16 +193,16 @@ impl Store {
         ensures state { (state : State) → StandsFor self.now state → PlansIn state self.now client call result }
     {
         let freed = reads::freed_places(&self.contents, &self.links, &call);
-        planning::plan(&self.contents, &self.places, &freed, client, call)
+        planning::plan(&self.contents, &self.places, &freed, client, &call)
     }
 
     /// The same by an index of this store: constant in the slots.
-    pub fn plan_at(&self, index: &Index, client: u8, call: Call) -> Result<Op, CoreFault>
+    pub fn plan_at(&self, index: &Index, client: u8, call: &Call) -> Result<Op, CoreFault>
         requires { IsIndexOf self.now index.now }
-        ensures exact { Plans self.now client call result }
-        ensures state { (state : State) → StandsFor self.now state → PlansIn state self.now client call result }
+        ensures exact { Plans self.now client call.now result }
+        ensures state { (state : State) → StandsFor self.now state → PlansIn state self.now client call.now result }
     {
-        let freed = indexing::indexed_freed_places(&self.contents, index, &call);
+        let freed = indexing::indexed_freed_places(&self.contents, index, call);
         planning::plan(&self.contents, &self.places, &freed, client, call)
     }
 

@@ -206,7 +206,7 @@ impl<J: Naming> Master<J> {
         ensures refused { IfErr result (λ fault. (refusal (state_at J.opening self.old) client call.now ≡ Some fault) ⊎ (nat_lt 0 (added call.now) ≡ true)) }
         ensures same { IfErr result (λ fault. self.new ≡ self.old) }
     {
-        let op = self.store.plan_at(&self.index, client, *call)?;
+        let op = self.store.plan_at(&self.index, client, call)?;
         self.index.prepare(alloc, &op)?;
         self.history.add(&op);
         let seen = self.history.whole();

@@ -1,13 +1,13 @@
 //! A planned call, done.
 
-ghost use Rattle.std.specs.Prelude.{map, true, false, length, [], ◌∷◌, is_some, Some, slice_set, ◌≡◌, ◌+◌, ◌^◌, ◌<◌, ◌≤◌};
+ghost use Rattle.std.specs.Prelude.{map, true, false, [], ◌∷◌, is_some, Some, slice_set, ◌≡◌, ◌+◌, ◌^◌, ◌<◌, ◌≤◌};
 ghost use Rattle.pref_core.specs.Kept.{IsKept, IsTracked, FindsFreed, AreFresh, with_slots, are_free};
 ghost use Rattle.pref_core.specs.Links.{ids_of, AreLinks};
 ghost use Rattle.pref_core.specs.Operations.{close, is_free, filled, is_next, slots_after, stepped, applied};
 ghost use Rattle.pref_core.specs.Places.{zone_of};
 ghost use Rattle.pref_core.specs.Slots.{stamps, begins, born, visible};
 ghost use Rattle.pref_core.specs.Stability.{is_end};
-ghost use Rattle.pref_core.specs.State.{changes_of, ended, begun, added, is_change, succeeds};
+ghost use Rattle.pref_core.specs.State.{ended, begun, added, is_change, is_formed, succeeds};
 ghost use Rattle.pref_core.specs.Table.{has};
 
 use crate::call::{Call, Op, QueryState, SlotList};
@@ -24,7 +24,7 @@ use pref_sky::Entry;
 fn is_next(contents: &Contents, places: &Places, freed: &Result<SlotList, u64>, op: &Op) -> bool
     requires kept { IsKept contents.now places.now }
     requires freed { FindsFreed contents.now (ended op.now.call) freed.now }
-    requires changes { length (changes_of op.now.call) ≤ 8 }
+    requires formed { is_formed op.now.call ≡ true }
     ensures { result ≡ is_next contents.now op.now }
 {
     let Some(caller) = caller_of(&contents.callers, op.client) else {
@@ -121,7 +121,6 @@ fn begin_rows(contents: &mut Contents, places: &mut Places, links: &mut Links, f
     requires tracked { IsTracked contents.old places.old links.old }
     requires fits { is_some (filled (stamps contents.old) contents.old.stamp op.now.slots (begun first op.now.call) contents.old.slots) ≡ true }
     requires fresh { AreFresh contents.old.next_id (visible contents.old.stamp contents.old.slots) (begun first op.now.call) }
-    requires changes { length (changes_of op.now.call) ≤ 8 }
     requires small { first < 2 ^ 63 }
     ensures slots { filled (stamps contents.old) contents.old.stamp op.now.slots (begun first op.now.call) contents.old.slots ≡ Some contents.new.slots }
     ensures rest { contents.new ≡ with_slots contents.new.slots contents.old }
@@ -214,7 +213,7 @@ pub(crate) fn apply(
 )
     requires kept { IsKept contents.old places.old }
     requires freed { FindsFreed contents.old (ended op.now.call) freed.now }
-    requires changes { length (changes_of op.now.call) ≤ 8 }
+    requires formed { is_formed op.now.call ≡ true }
     requires links { AreLinks (ids_of contents.old.stamp contents.old.slots) links.old }
     ensures done { contents.new ≡ applied contents.old op.now }
     ensures kept { IsKept contents.new places.new }

@@ -6,7 +6,7 @@ ghost use Rattle.pref_core.specs.Kept.{IsKept, FindsFreed};
 ghost use Rattle.pref_core.specs.Operations.{is_next};
 ghost use Rattle.pref_core.specs.Places.{zone_of};
 ghost use Rattle.pref_core.specs.Slots.{begins, visible};
-ghost use Rattle.pref_core.specs.State.{changes_of, ended};
+ghost use Rattle.pref_core.specs.State.{ended, is_formed};
 ghost use Rattle.pref_core.specs.Table.{has};
 
 use crate::call::{Call, Op, SlotList};
@@ -68,9 +68,9 @@ pub(crate) fn indexed_freed_places(
     call: &Call,
 ) -> Result<SlotList, u64>
     requires kept { IsKept contents.now (map (zone_of (begins contents.now.callers)) contents.now.slots) }
-    requires changes { length (changes_of call.now) ≤ 8 }
     requires index { IsIndexOf contents.now index.now }
-    ensures { FindsFreed contents.now (ended call.now) result }
+    ensures found { FindsFreed contents.now (ended call.now) result }
+    ensures formed { is_formed call.now ≡ true }
 {
     let mut freed = SlotList::NONE;
     for at in 0..call.count() {

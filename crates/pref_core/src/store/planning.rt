@@ -6,7 +6,7 @@ ghost use Rattle.std.specs.Prelude.{ℕ, length, map, true, false, is_some, IfSo
 ghost use Rattle.pref_core.specs.Kept.{IsKept, IsFreed, FindsFreed, is_open};
 ghost use Rattle.pref_core.specs.Operations.{close, used, grown, outcome_at, placed, Plans};
 ghost use Rattle.pref_core.specs.Table.{among};
-ghost use Rattle.pref_core.specs.State.{changes_of, ended, is_change, succeeds, granted};
+ghost use Rattle.pref_core.specs.State.{changes_of, ended, is_change, is_formed, succeeds, granted};
 
 use crate::call::{Call, Op, Outcome, QueryState, SlotList};
 use crate::fault::CoreFault;
@@ -93,7 +93,6 @@ fn choose(
 fn places_for(contents: &Contents, places: &Places, freed: &SlotList, call: &Call) -> SlotList
     requires kept { IsKept contents.now places.now }
     requires freed { IsFreed contents.now (ended call.now) freed.now }
-    requires changes { length (changes_of call.now) ≤ 8 }
     requires change { is_change call.now ≡ true }
     requires succeeds { succeeds (outcome_at contents.now call.now) ≡ true }
     ensures { is_some (placed contents.now call.now result (outcome_at contents.now call.now)) ≡ true }
@@ -119,12 +118,12 @@ pub(crate) fn plan(
     places: &Places,
     freed: &Result<SlotList, u64>,
     client: u8,
-    call: Call,
+    call: &Call,
 ) -> Result<Op, CoreFault>
     requires kept { IsKept contents.now places.now }
-    requires freed { FindsFreed contents.now (ended call) freed.now }
-    requires changes { length (changes_of call) ≤ 8 }
-    ensures { Plans contents.now client call result }
+    requires freed { FindsFreed contents.now (ended call.now) freed.now }
+    requires formed { is_formed call.now ≡ true }
+    ensures { Plans contents.now client call.now result }
 {
     let Some(caller) = caller_of(&contents.callers, client) else {
         return Err(CoreFault::NoSuchClient);
@@ -132,12 +131,12 @@ pub(crate) fn plan(
     if let Some(fault) = call.refusal(caller.calls, QueryState::of(&caller.begun)) {
         return Err(fault);
     }
-    let outcome = outcome(contents, places, freed, &call);
-    let slots = slots_for(contents, places, freed, &call, outcome);
+    let outcome = outcome(contents, places, freed, call);
+    let slots = slots_for(contents, places, freed, call, outcome);
     Ok(Op {
         client,
         number: caller.calls + 1,
-        call,
+        call: call.copied(),
         slots,
         outcome,
     })
@@ -153,7 +152,6 @@ fn slots_for(
 ) -> SlotList
     requires kept { IsKept contents.now places.now }
     requires freed { FindsFreed contents.now (ended call.now) freed.now }
-    requires changes { length (changes_of call.now) ≤ 8 }
     requires told { outcome ≡ outcome_at contents.now call.now }
     ensures { is_some (placed contents.now call.now result outcome) ≡ true }
 {

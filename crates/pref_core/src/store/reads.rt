@@ -1,12 +1,12 @@
 //! What slots show at a stamp.
 
-ghost use Rattle.std.specs.Prelude.{IfOk, length, map, ◌≡◌, ◌≤◌};
+ghost use Rattle.std.specs.Prelude.{IfOk, length, map, true, ◌≡◌, ◌≤◌};
 ghost use Rattle.pref_core.specs.Indexes.{is_row, row_at, IsPlaceOf};
 ghost use Rattle.pref_core.specs.Kept.{row_in, IsKept, FindsFreed};
 ghost use Rattle.pref_core.specs.Links.{ids_of, AreLinks};
 ghost use Rattle.pref_core.specs.Places.{zone_of};
 ghost use Rattle.pref_core.specs.Slots.{begins, visible, block_of};
-ghost use Rattle.pref_core.specs.State.{changes_of, ended};
+ghost use Rattle.pref_core.specs.State.{ended, is_formed};
 ghost use Rattle.pref_core.specs.Table.{entries};
 
 use crate::call::{Call, SlotList};
@@ -51,9 +51,9 @@ pub(crate) fn place_of(contents: &Contents, links: &Links, id: u64) -> Option<u3
 /// the chains of their homes.
 pub(crate) fn freed_places(contents: &Contents, links: &Links, call: &Call) -> Result<SlotList, u64>
     requires kept { IsKept contents.now (map (zone_of (begins contents.now.callers)) contents.now.slots) }
-    requires changes { length (changes_of call.now) ≤ 8 }
     requires links { AreLinks (ids_of contents.now.stamp contents.now.slots) links.now }
-    ensures { FindsFreed contents.now (ended call.now) result }
+    ensures found { FindsFreed contents.now (ended call.now) result }
+    ensures formed { is_formed call.now ≡ true }
 {
     let mut freed = SlotList::NONE;
     for at in 0..call.count() {

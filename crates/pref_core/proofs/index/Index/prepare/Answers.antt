@@ -1,4 +1,4 @@
-use Rattle.std.proofs.Common.{ap, sym, ◌∙◌}
+use Rattle.std.proofs.Common.{ap, ◌∙◌}
 use Rattle.pref_core.specs.Indexes.{slot_of, given, placed_from}
 use Rattle.pref_core.proofs.Reindexing.{taken_out, given_again, index_without}
 use Rattle.pref_core.proofs.index.Index.prepare.Goals as goal

@@ -1,10 +1,10 @@
-use Rattle.std.proofs.Common.{◌≡◌, ◌+◌, ◌≤◌, length, map, None, get_or, slice_get, ap, sym, ◌∙◌, arith}
+use Rattle.std.proofs.Common.{◌≡◌, ◌+◌, ◌≤◌, length, None, get_or, slice_get, ap, sym, ◌∙◌, arith}
 use Rattle.std.specs.Option.{option_map}
 use Rattle.std.proofs.lemmas.List.{length-map}
 use Rattle.std.proofs.lemmas.Option.{slice_get-get_or, slice_get-map}
 use Rattle.pref_core.specs.Indexes.{slot_of, given, placed_from}
 use Rattle.pref_core.proofs.Changing.{drop_all}
-use Rattle.pref_core.proofs.Reindexing.{Placed, taken_out, given_next, placed_at, length-placed_from}
+use Rattle.pref_core.proofs.Reindexing.{taken_out, given_next, placed_at, length-placed_from}
 use Rattle.pref_core.proofs.index.Index.take_all.Goals as goal
 
 pub loop-at-preserved : goal.loop-at-preserved

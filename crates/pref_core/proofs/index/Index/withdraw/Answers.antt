@@ -1,4 +1,4 @@
-use Rattle.std.proofs.Common.{ap, sym, ◌∙◌}
+use Rattle.std.proofs.Common.{ap, ◌∙◌}
 use Rattle.pref_core.specs.Indexes.{slot_of, given}
 use Rattle.pref_core.proofs.Reindexing.{taken_out, withdrawn}
 use Rattle.pref_core.proofs.index.Index.withdraw.Goals as goal

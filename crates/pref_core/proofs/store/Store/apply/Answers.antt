@@ -2,7 +2,6 @@ use Rattle.std.proofs.Common.{ap, sym, subst, ◌∙◌}
 use Rattle.pref_core.specs.Operations.{AppliesIn, applied}
 use Rattle.pref_core.proofs.Legal.{applies_in}
 use Rattle.pref_core.specs.Kept.{IsKept}
-use Rattle.pref_core.proofs.Changing.{few_changes}
 use Rattle.pref_core.proofs.store.Store.apply.Goals as goal
 
 pub returns-clause-exact : goal.returns-clause-exact
@@ -13,6 +12,3 @@ returns-clause-state c state h = subst (AppliesIn state c.args.self.now c.args.o
 
 pub freed_places-freed-requires-clause-kept : goal.freed_places-freed-requires-clause-kept
 freed_places-freed-requires-clause-kept c = subst (IsKept c.self.inside.contents) c.self.invariant.0.listed c.self.invariant.0
-
-pub freed_places-freed-requires-clause-changes : goal.freed_places-freed-requires-clause-changes
-freed_places-freed-requires-clause-changes c = few_changes c.args.op.now.call

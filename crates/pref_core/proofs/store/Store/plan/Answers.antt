@@ -2,7 +2,6 @@ use Rattle.std.proofs.Common.{subst}
 use Rattle.pref_core.specs.Operations.{Plans}
 use Rattle.pref_core.proofs.Legal.{plans_in}
 use Rattle.pref_core.specs.Kept.{IsKept}
-use Rattle.pref_core.proofs.Changing.{few_changes}
 use Rattle.pref_core.proofs.store.Store.plan.Goals as goal
 
 pub returns-clause-state : goal.returns-clause-state
@@ -11,6 +10,3 @@ returns-clause-state c state h =
 
 pub freed_places-freed-requires-clause-kept : goal.freed_places-freed-requires-clause-kept
 freed_places-freed-requires-clause-kept c = subst (IsKept c.self.inside.contents) c.self.invariant.0.listed c.self.invariant.0
-
-pub freed_places-freed-requires-clause-changes : goal.freed_places-freed-requires-clause-changes
-freed_places-freed-requires-clause-changes c = few_changes c.args.call

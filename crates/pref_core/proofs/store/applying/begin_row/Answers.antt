@@ -1,6 +1,6 @@
 use Rattle.std.proofs.Common.{◌≡◌, ◌<◌, ◌^◌, length, set, Some, None, sym, ap, ◌∙◌, subst, arith}
 use Rattle.std.proofs.lemmas.Grind.{common_steps}
-use Rattle.pref_core.specs.Kept.{IsTracked, with_slots}
+use Rattle.pref_core.specs.Kept.{IsTracked}
 use Rattle.pref_core.specs.Links.{ids_of, id_at, AreIds, AreLinks}
 use Rattle.pref_core.specs.Operations.{is_free}
 use Rattle.pref_core.specs.Slots.{Contents, begins, stamps, visible}

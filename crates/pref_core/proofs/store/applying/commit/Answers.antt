@@ -1,10 +1,10 @@
-use Rattle.std.proofs.Common.{◌≡◌, suc, ◌+◌, sym, ap, ap₂, ◌∙◌, subst, is_some, true, arith}
+use Rattle.std.proofs.Common.{◌≡◌, suc, ◌+◌, sym, ap, ap₂, ◌∙◌, subst, is_some, arith}
 use Rattle.pref_core.specs.Kept.{IsTracked, with_slots}
 use Rattle.pref_core.specs.Slots.{Contents}
 use Rattle.pref_core.specs.State.{added}
 use Rattle.pref_core.proofs.Bounds.{stamp-small, next_id-small, added-small}
-use Rattle.pref_core.proofs.Changing.{few_changes}
-use Rattle.pref_core.proofs.Filling.{begun_commit, commit_fresh, commit_filled}
+use Rattle.pref_core.proofs.Applied.{IsAllowed-from}
+use Rattle.pref_core.proofs.Filling.{commit_fresh, commit_filled}
 use Rattle.pref_core.proofs.Linked.{tracked_from}
 use Rattle.pref_core.proofs.store.applying.commit.Goals as goal
 
@@ -14,7 +14,7 @@ overflow_add-contents c = let small = stamp-small _ c.requires.kept.bounded in l
 pub overflow_add-contents-2 : goal.overflow_add-contents-2
 overflow_add-contents-2 c =
     let small = next_id-small _ c.requires.kept.bounded in
-    let few = added-small c.args.op.now.call in
+    let few = added-small c.args.op.now.call (IsAllowed-from c.args.contents.now c.args.op.now c.requires.next).formed in
     let same = ap (λ (s : Contents). s.next_id) c.contents.view_is in
     omega (arith, same)
 
@@ -46,9 +46,6 @@ begin_rows-requires-clause-fresh c =
     let next : c.contents.inside.next_id + c.added.result ≡ c.args.contents.now.next_id + added c.args.op.now.call = ap₂ (λ a b. a + b) first c.added.ensures in
     commit_fresh c.args.contents.now _ c.end_rows.new.contents c.requires.kept.state c.args.op.now c.contents.inside.next_id (λ i. record { slots = slots i; stamp = stamp i; next_id = next i; callers = callers i }) first c.end_rows.ensures.contents
     c.requires.kept.stands c.requires.next c.requires.change c.requires.succeeds
-
-pub begin_rows-requires-clause-changes : goal.begin_rows-requires-clause-changes
-begin_rows-requires-clause-changes c = few_changes c.args.op.now.call
 
 pub begin_rows-requires-clause-small : goal.begin_rows-requires-clause-small
 begin_rows-requires-clause-small c = let small = next_id-small _ c.requires.kept.bounded in let same = ap (λ (s : Contents). s.next_id) c.contents.view_is in omega (arith, same)

@@ -1,6 +1,6 @@
 use Rattle.std.proofs.Common.{◌≡◌, ◌+◌, ◌&&◌, Bool, nat_eq, length, true, false, refl, sym, ap, ◌∙◌, arith}
 use Rattle.std.proofs.lemmas.Bool.{ne_eqb}
-use Rattle.pref_core.specs.State.{begun, is_change, succeeds}
+use Rattle.pref_core.specs.State.{is_change, succeeds}
 use Rattle.pref_core.proofs.Filling.{fits_begun, fits_other, fits_quiet}
 use Rattle.pref_core.proofs.store.applying.fits.Goals as goal
 use Rattle.pref_core.proofs.store.applying.fits.Goals.{else-is_change-via-then-is_change+else-succeeds, else-is_change-via-else-is_change}

@@ -1,8 +1,8 @@
-use Rattle.std.proofs.Common.{◌≡◌, ◌+◌, ◌++◌, ◌≤◌, [], ◌∷◌, length, drop, sym, ap, ◌∙◌, subst, arith}
+use Rattle.std.proofs.Common.{◌+◌, ◌++◌, [], ◌∷◌, drop, sym, ap, ◌∙◌, subst, arith}
 use Rattle.std.specs.Option.{option_to_list}
 use Rattle.pref_core.specs.Changes.{begun_by, added_by}
 use Rattle.pref_core.specs.Slots.{Contents}
-use Rattle.pref_core.specs.State.{changes_of, begun}
+use Rattle.pref_core.specs.State.{changes_of}
 use Rattle.pref_core.proofs.Bounds.{next_id-small}
 use Rattle.pref_core.proofs.Changing.{begun_at, added_one, drop_all}
 use Rattle.pref_core.proofs.Choosing.{ChosenUpTo, none_chosen, chosen_few, choose_one, one_left, all_chosen}
@@ -21,7 +21,7 @@ pub push-requires : goal.push-requires
 push-requires c =
     let rest = begun_by (c.loop-at.next_id + added_by (c.change-change.result ∷ [])) (drop (c.loop-at.at + 1) (changes_of c.args.call.now)) in
     let is = begun_at c.loop-at.next_id (changes_of c.args.call.now) c.loop-at.at c.change-change.result c.change-change.ensures ∙ ap (λ l. l ++ rest) (sym c.in-Some.ensures) in
-    chosen_few c.args.contents.now c.args.call.now c.in-Some.entry rest c.loop-at.chosen c.requires.changes (subst (λ l. ChosenUpTo c.args.contents.now c.args.call.now l c.loop-at.chosen) is c.loop-at.invariant.chosen)
+    chosen_few c.args.contents.now c.args.call.now c.in-Some.entry rest c.loop-at.chosen c.count-at-end.ensures.few (subst (λ l. ChosenUpTo c.args.contents.now c.args.call.now l c.loop-at.chosen) is c.loop-at.invariant.chosen)
 
 pub unreachable-requires : goal.unreachable-requires
 unreachable-requires c =
