@@ -1,6 +1,6 @@
 -- Each part of a machine does its act.
 use Rattle.std.proofs.Common.{◌≡◌, ℕ, ◌-◌, true, false, List, length, Option, Some, None, is_some, Ok, Err, Result, IfErr, MatchResult, ⊎_elim, inr, nat_lt, ap, refl, sym, ◌∙◌, subst}
-use Rattle.std.specs.Global.{Box, Vec}
+use Rattle.std.specs.Global.{Vec}
 use Rattle.std.specs.Option.{option_map}
 use Rattle.pref_sky.specs.declared.entry.Ranked.{Ranked}
 use Rattle.pref_term.specs.Question.{Question}
@@ -93,11 +93,11 @@ update_does old client id row result new changes = record { limits = changes.lim
 pub delete_does : (old : Running) (client id : ℕ) (result : Result Reply CoreFault) (new : Running) → Changes old client (CallDelete id) (Deleted id) result new → Does old client (ActDelete id) result new
 delete_does old client id result new changes = record { limits = changes.limits; tells = λ system h. changes.tells system h (ActDelete id) (λ e. absurd (cc)) }
 
-pub commit_does : (old : Running) (client next_id : ℕ) (boxed : Box (List Change)) (result : Result Reply CoreFault) (new : Running) → next_id ≡ old.contents.next_id
-    → Changes old client (CallCommit boxed.value) (Committed (told_of_commit next_id boxed.value)) result new → Does old client (ActCommit boxed) result new
-commit_does old client next_id boxed result new is changes = record {
+pub commit_does : (old : Running) (client next_id : ℕ) (commit : List Change) (result : Result Reply CoreFault) (new : Running) → next_id ≡ old.contents.next_id
+    → Changes old client (CallCommit commit) (Committed (told_of_commit next_id commit)) result new → Does old client (ActCommit commit) result new
+commit_does old client next_id commit result new is changes = record {
   limits = changes.limits;
-  tells = λ system h. subst (λ n. Tells old (change_of old.limits system client (CallCommit boxed.value) (Committed (told_of_commit n boxed.value))) (ActCommit boxed) result new) (is ∙ h.store.next_id) (changes.tells system h (ActCommit boxed) (λ e. e));
+  tells = λ system h. subst (λ n. Tells old (change_of old.limits system client (CallCommit commit) (Committed (told_of_commit n commit))) (ActCommit commit) result new) (is ∙ h.store.next_id) (changes.tells system h (ActCommit commit) (λ e. e));
 }
 
 -- Queries.
@@ -147,7 +147,7 @@ IsBegin-from (ActBegin ask) h = record { ask = ask; is = refl }
 IsBegin-from (ActInsert row) h = absurd (cc)
 IsBegin-from (ActUpdate id row) h = absurd (cc)
 IsBegin-from (ActDelete id) h = absurd (cc)
-IsBegin-from (ActCommit boxed) h = absurd (cc)
+IsBegin-from (ActCommit commit) h = absurd (cc)
 IsBegin-from ActScan h = absurd (cc)
 IsBegin-from ActFinish h = absurd (cc)
 IsBegin-from ActAbandon h = absurd (cc)

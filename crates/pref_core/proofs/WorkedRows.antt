@@ -1,6 +1,5 @@
 -- Worked runs, computed from the definitions.
 use Rattle.std.proofs.Common.{false, ◌≡◌, ℕ, pos, List, [], ◌∷◌, map, refl, Err}
-use Rattle.std.specs.Global.{Box}
 use Rattle.pref_table.specs.Rows.{padded}
 use Rattle.pref_term.specs.Preference.{scored, low}
 use Rattle.pref_term.specs.Question.{Question}
@@ -72,30 +71,26 @@ pub two_updates_under_a_query : replies (setup 3 3) (map row (5 ∷ []))
 two_updates_under_a_query = refl
 
 abbrev two_levels : Question
-two_levels = record { preference = scored (low 0); group = []; mode = TopLevel 2 }
+two_levels = record { preference = scored (low 0); group = []; mode = TopLevel 2; distinct = false }
 
 abbrev levels_of : ℕ → ℕ → ℕ → ℕ → List Ranked
 levels_of id n other m = record { level = 1; id = id; row = row n } ∷ record { level = 2; id = other; row = row m } ∷ []
 
--- the changes in a box, whichever it is
-abbrev commit : Box (List Change) → List Change → Act
-commit box changes = Commit (record box { value = changes })
-
-pub a_commit_is_seen_wholly_or_not_at_all : (box : Box (List Change)) → replies (setup 4 4) (map row (5 ∷ 7 ∷ []))
-    (by 1 (Begin smallest) ∷ by 2 (commit box (Remove 1 ∷ Add (row 3) ∷ Set 2 (row 1) ∷ [])) ∷ by 1 Scan ∷ by 1 Finish ∷ by 2 (Begin two_levels) ∷ by 2 Scan ∷ by 2 Finish ∷ by 2 Room ∷ [])
+pub a_commit_is_seen_wholly_or_not_at_all : replies (setup 4 4) (map row (5 ∷ 7 ∷ []))
+    (by 1 (Begin smallest) ∷ by 2 (Commit (Remove 1 ∷ Add (row 3) ∷ Set 2 (row 1) ∷ [])) ∷ by 1 Scan ∷ by 1 Finish ∷ by 2 (Begin two_levels) ∷ by 2 Scan ∷ by 2 Finish ∷ by 2 Room ∷ [])
     ≡ Begun 1 ∷ Committed (record { changes = 3; first = 3 }) ∷ Left 0 ∷ Answer (best 1 5) ∷ Begun 1 ∷ Left 0 ∷ Answer (levels_of 2 1 3 3) ∷ RoomIs 2 ∷ []
-a_commit_is_seen_wholly_or_not_at_all box = refl
+a_commit_is_seen_wholly_or_not_at_all = refl
 
-pub a_full_table_takes_a_commit : (box : Box (List Change)) → replies (setup 2 2) (map row (1 ∷ 2 ∷ []))
-    (by 1 (commit box (Add (row 9) ∷ Remove 2 ∷ [])) ∷ by 1 (commit box (Set 1 (row 4) ∷ Set 2 (row 5) ∷ [])) ∷ by 1 (commit box (Add (row 6) ∷ Add (row 7) ∷ [])) ∷ by 1 (Get 1) ∷ by 1 Room ∷ [])
+pub a_full_table_takes_a_commit : replies (setup 2 2) (map row (1 ∷ 2 ∷ []))
+    (by 1 (Commit (Add (row 9) ∷ Remove 2 ∷ [])) ∷ by 1 (Commit (Set 1 (row 4) ∷ Set 2 (row 5) ∷ [])) ∷ by 1 (Commit (Add (row 6) ∷ Add (row 7) ∷ [])) ∷ by 1 (Get 1) ∷ by 1 Room ∷ [])
     ≡ Committed (record { changes = 2; first = 3 }) ∷ Refused (NoSuchRow 2) ∷ Refused (Full 4) ∷ Found 1 (row 1) ∷ RoomIs 0 ∷ []
-a_full_table_takes_a_commit box = refl
+a_full_table_takes_a_commit = refl
 
-pub an_id_that_a_commit_adds_is_not_there_yet : (box : Box (List Change)) → replies (setup 4 4) (map row (1 ∷ [])) (by 1 (commit box (Add (row 5) ∷ Set 2 (row 6) ∷ [])) ∷ by 1 (Insert (row 9)) ∷ []) ≡ Refused (NoSuchRow 2) ∷ Inserted 2 ∷ []
-an_id_that_a_commit_adds_is_not_there_yet box = refl
+pub an_id_that_a_commit_adds_is_not_there_yet : replies (setup 4 4) (map row (1 ∷ [])) (by 1 (Commit (Add (row 5) ∷ Set 2 (row 6) ∷ [])) ∷ by 1 (Insert (row 9)) ∷ []) ≡ Refused (NoSuchRow 2) ∷ Inserted 2 ∷ []
+an_id_that_a_commit_adds_is_not_there_yet = refl
 
-pub a_missing_row_is_told_before_a_full_table : (box : Box (List Change)) → replies (setup 2 2) (map row (1 ∷ 2 ∷ [])) (by 1 (commit box (Add (row 5) ∷ Remove 9 ∷ Remove 8 ∷ [])) ∷ []) ≡ Refused (NoSuchRow 9) ∷ []
-a_missing_row_is_told_before_a_full_table box = refl
+pub a_missing_row_is_told_before_a_full_table : replies (setup 2 2) (map row (1 ∷ 2 ∷ [])) (by 1 (Commit (Add (row 5) ∷ Remove 9 ∷ Remove 8 ∷ [])) ∷ []) ≡ Refused (NoSuchRow 9) ∷ []
+a_missing_row_is_told_before_a_full_table = refl
 
 pub the_second_naming_is_told : commit_of (Remove 1 ∷ Remove 1 ∷ []) ≡ Err (Twice 2)
 the_second_naming_is_told = refl

@@ -114,7 +114,7 @@ abbrev pub step_of : Limits → System → ℕ → Member → Act → Option Ope
 step_of limits system client member (Insert row) query = numbered member system (change limits system client member (CallInsert row) (Inserted system.next_id))
 step_of limits system client member (Update id row) query = numbered member system (change limits system client member (CallUpdate id row) (Updated id))
 step_of limits system client member (Delete id) query = numbered member system (change limits system client member (CallDelete id) (Deleted id))
-step_of limits system client member (Commit boxed) query = numbered member system (change limits system client member (CallCommit boxed.value) (CommittedIs (told_of_commit system.next_id boxed.value)))
+step_of limits system client member (Commit changes) query = numbered member system (change limits system client member (CallCommit changes) (CommittedIs (told_of_commit system.next_id changes)))
 step_of limits system client member (Begin ask) None = numbered member system (record {
   reply = Begun (blocks limits);
   next = counted_with (Some (record { ask = ask; table = system.table; commits = system.commits; left = blocks limits })) client member system;

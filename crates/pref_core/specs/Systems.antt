@@ -54,7 +54,7 @@ pub record StandsForSystem (running : Running) (system : System) : Type 0 where
 -- whether an act may be answered out of memory
 abbrev pub may_want_memory : Act → Bool
 may_want_memory (ActInsert row) = true
-may_want_memory (ActCommit boxed) = nat_lt 0 (added_by boxed.value)
+may_want_memory (ActCommit changes) = nat_lt 0 (added_by changes)
 may_want_memory ActScan = true
 may_want_memory ActFinish = true
 may_want_memory act = false

@@ -1,12 +1,13 @@
 //! What a client may do, and what it may be told.
 
-ghost use Rattle.std.specs.Prelude.{◌≡◌};
+ghost use Rattle.std.specs.Prelude.{◌≡◌, IfOk};
 
 use crate::changes::Commit;
 use crate::fault::CoreFault;
 use pref_sky::Ranked;
 use pref_table::Row;
 use pref_term::Ask;
+use std::alloc::{AllocError, Global};
 use std::marker::Model;
 
 /// What a client does.
@@ -18,8 +19,8 @@ pub enum Act {
     Update(u64, Row),
     /// Deletes the row of this id.
     Delete(u64),
-    /// Makes one to eight changes in one commit. In a box, so that other acts are no larger for it.
-    Commit(Box<Commit>),
+    /// Makes one to eight changes in one commit.
+    Commit(BoxedCommit),
     /// Begins a query of the table as it is now.
     Begin(Ask),
     /// Reads the next block for the open query.
@@ -32,6 +33,39 @@ pub enum Act {
     Get(u64),
     /// Asks how many more versions there is room for.
     Room,
+}
+
+/// A commit in a box, so that other acts are no larger for it. Contracts see the list of its changes.
+#[derive(Drop)]
+pub struct BoxedCommit {
+    commit: Box<Commit>,
+}
+
+impl Model for BoxedCommit {
+    ghost use Rattle.std.specs.Prelude.{List};
+    ghost use Rattle.pref_core.specs.declared.changes.Change.{Change};
+
+    ghost Value = { List Change };
+
+    ghost view = { λ boxed. boxed.commit.value };
+}
+
+impl BoxedCommit {
+    /// The commit in a box of its own.
+    pub fn new(alloc: Global, commit: Commit) -> Result<BoxedCommit, AllocError>
+        ensures { IfOk result (λ boxed. boxed ≡ commit) }
+    {
+        Ok(BoxedCommit {
+            commit: Box::new(alloc, commit)?,
+        })
+    }
+
+    /// The commit.
+    pub fn commit(&self) -> &Commit
+        ensures { result.now ≡ self.now }
+    {
+        &self.commit
+    }
 }
 
 /// One act of one client.

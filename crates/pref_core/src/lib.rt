@@ -22,7 +22,7 @@ mod store;
 
 pub use call::{Call, Op, Outcome, QueryState, SlotList};
 pub use changes::{Change, Commit};
-pub use event::{Act, Committed, Event, RankedList, Reply, StepFault};
+pub use event::{Act, BoxedCommit, Committed, Event, RankedList, Reply, StepFault};
 pub use fault::CoreFault;
 pub use index::Index;
 pub use machine::Machine;

@@ -11,7 +11,7 @@ ghost use Rattle.pref_core.specs.Parts.{Does, Changes, is_begin, told_of};
 
 use crate::call::{Call, Outcome};
 use crate::changes::{Commit, added_by};
-use crate::event::{Act, Committed, Event, RankedList, Reply, StepFault};
+use crate::event::{Act, BoxedCommit, Committed, Event, RankedList, Reply, StepFault};
 use crate::fault::CoreFault;
 use crate::index::Index;
 use crate::query::Query;
@@ -127,12 +127,13 @@ impl Machine {
         &mut self,
         alloc: Global,
         client: u8,
-        commit: &Box<Commit>,
+        commit: &BoxedCommit,
     ) -> Result<Reply, CoreFault>
         ensures { Does self.old client (Act.Commit commit.now) result self.new }
     {
+        let commit = commit.commit();
         let done = Reply::Committed(told_of_commit(self.store.next_id(), commit));
-        self.change(alloc, client, &Call::Commit(**commit), done)
+        self.change(alloc, client, &Call::Commit(*commit), done)
     }
 
     /// A change, and the reply where it succeeds.
