@@ -1,24 +1,27 @@
 -- What each act of a client is in the sequential table.
-use Rattle.std.proofs.Common.{◌≡◌, ℕ, suc, ◌-◌, ◌^◌, ◌<◌, Bool, true, false, cond, nat_lt, List, [], ◌∷◌, map, length, Option, Some, None, is_some, refl, sym, ap, ◌∙◌, subst, arith, inl, inr}
+use Rattle.std.proofs.Common.{◌≡◌, ℕ, suc, ◌-◌, ◌^◌, ◌<◌, Bool, true, false, cond, nat_lt, ◌&&◌, List, [], ◌∷◌, map, length, Option, Some, None, is_some, refl, sym, ap, ◌∙◌, subst, arith, inl, inr}
 use Rattle.std.specs.Option.{option_map}
 use Rattle.pref_term.specs.Question.{Question}
 use Rattle.pref_sky.specs.declared.entry.Ranked.{Ranked}
 use Rattle.pref_sky.specs.Answers.{answer_of}
 use Rattle.pref_core.specs.Rows.{Row}
+use Rattle.pref_core.specs.declared.changes.Change.{Change}
 use Rattle.pref_core.specs.declared.call.Call.{Call}
-use Rattle.pref_core.specs.declared.call.Call.TheVariants.{Insert as CallInsert, Update as CallUpdate, Delete as CallDelete, Begin as CallBegin, Finish as CallFinish, Abandon as CallAbandon}
+use Rattle.pref_core.specs.declared.call.Call.TheVariants.{Insert as CallInsert, Update as CallUpdate, Delete as CallDelete, Commit as CallCommit, Begin as CallBegin, Finish as CallFinish, Abandon as CallAbandon}
 use Rattle.pref_core.specs.declared.call.Outcome.{Outcome}
-use Rattle.pref_core.specs.declared.call.Outcome.TheVariants.{Added, Done, Full}
+use Rattle.pref_core.specs.declared.call.Outcome.TheVariants.{Added, Done, NoSuchRow, Full}
 use Rattle.pref_core.specs.declared.event.Act.{Act}
-use Rattle.pref_core.specs.declared.event.Act.TheVariants.{Insert, Update, Delete, Begin, Scan as ScanAct, Finish, Abandon, Get, Room}
+use Rattle.pref_core.specs.declared.event.Act.TheVariants.{Insert, Update, Delete, Commit, Begin, Scan as ScanAct, Finish, Abandon, Get, Room}
+use Rattle.pref_core.specs.declared.event.Committed.{Committed}
 use Rattle.pref_core.specs.declared.event.Reply.{Reply}
-use Rattle.pref_core.specs.declared.event.Reply.TheVariants.{Inserted, Updated, Deleted, Begun, Left, Answer, Abandoned, Found, Room as RoomIs, Refused as RefusedReply}
+use Rattle.pref_core.specs.declared.event.Reply.TheVariants.{Inserted, Updated, Deleted, Committed as CommittedIs, Begun, Left, Answer, Abandoned, Found, Room as RoomIs, Refused as RefusedReply}
 use Rattle.pref_core.specs.declared.fault.CoreFault.{CoreFault}
 use Rattle.pref_core.specs.declared.fault.CoreFault.TheVariants.{Spent, QueryOpen, NoQuery, AllScanned, NotDone, NoSuchRow as MissingRow}
 use Rattle.pref_core.specs.Limits.{Limits, blocks}
 use Rattle.pref_core.specs.Table.{Line, line_of, entries}
-use Rattle.pref_core.specs.State.{State, Snapshot, seat, with_seat, is_change, needed, outcome, after, begun_after, refusal_of, refusal_by_query}
-use Rattle.pref_core.specs.Step.{Open, Member, System, Step, snapshot, client_of, state_of, refused, counted_with, one_less, scanned_with, changed, change, numbered, step_of}
+use Rattle.pref_core.specs.Changes.{added_by}
+use Rattle.pref_core.specs.State.{State, Snapshot, seat, with_seat, is_change, begins_row, committed, ended, granted, missing, needed, outcome, outcome_of, after, begun_after, refusal_of, refusal_by_query}
+use Rattle.pref_core.specs.Step.{Open, Member, System, Step, snapshot, client_of, state_of, refused, counted_with, one_less, scanned_with, told_of_commit, changed, change, numbered, step_of}
 use Rattle.pref_core.proofs.Stability.{seat-with_seat_same}
 use Rattle.pref_core.proofs.Seats.{with_seat_self, with_seat-map}
 use Rattle.pref_core.proofs.Steps.{somebody_steps, let_in_steps}
@@ -26,7 +29,7 @@ use Rattle.pref_core.proofs.Scanning.{some_left, no_left}
 use Rattle.pref_core.proofs.Systems.{client_there, state_of-counted, after_quiet, state_of-changed, members-changed}
 use Rattle.pref_share.specs.Openings.{Opening, IsLegal, state_at}
 use Rattle.pref_share.specs.Standing.{Asking, Standing}
-use Rattle.pref_share.specs.Clients.{own_refusal, Joins, Changes, Sees, Begins, Finishes, HasLeft}
+use Rattle.pref_share.specs.Clients.{own_refusal, Joins, Changes, Commits, Sees, Begins, Finishes, HasLeft}
 use Rattle.pref_share.specs.Scanning.{Scanned, row_at, room_at}
 use Rattle.pref_share.specs.Runs.{open_of, member_of, call_of, step_by, IsStep, StepsTo}
 use Rattle.pref_share.proofs.Histories.{state_at-append}
@@ -97,10 +100,15 @@ never_delete : (b : Bool) (id : ℕ) → refusal_by_query b (CallDelete id) ≡ 
 never_delete true id = refl
 never_delete false id = refl
 
+never_commit : (b : Bool) (commit : List Change) → refusal_by_query b (CallCommit commit) ≡ None
+never_commit true commit = refl
+never_commit false commit = refl
+
 own_refused : (limits : Limits) (system : System) (client : ℕ) (member : Member) (act : Act) (call : Call) (fault : CoreFault) (q : Option Open) → call_of act ≡ Some call → refusal_of (Some member.calls) (is_some q) call ≡ Some fault → step_of limits system client member act q ≡ refused fault system
 own_refused limits system client member (Insert row) call fault q c e = spent_or member system _ (refusal_by_query (is_some q) (CallInsert row)) fault (λ f h. let never = never_insert (is_some q) row in absurd (cc (never, h))) (let same : call ≡ CallInsert row = cc in subst (λ k. refusal_of (Some member.calls) (is_some q) k ≡ Some fault) same e)
 own_refused limits system client member (Update id row) call fault q c e = spent_or member system _ (refusal_by_query (is_some q) (CallUpdate id row)) fault (λ f h. let never = never_update (is_some q) id row in absurd (cc (never, h))) (let same : call ≡ CallUpdate id row = cc in subst (λ k. refusal_of (Some member.calls) (is_some q) k ≡ Some fault) same e)
 own_refused limits system client member (Delete id) call fault q c e = spent_or member system _ (refusal_by_query (is_some q) (CallDelete id)) fault (λ f h. let never = never_delete (is_some q) id in absurd (cc (never, h))) (let same : call ≡ CallDelete id = cc in subst (λ k. refusal_of (Some member.calls) (is_some q) k ≡ Some fault) same e)
+own_refused limits system client member (Commit commit) call fault q c e = spent_or member system _ (refusal_by_query (is_some q) (CallCommit commit)) fault (λ f h. let never = never_commit (is_some q) commit in absurd (cc (never, h))) (let same : call ≡ CallCommit commit = cc in subst (λ k. refusal_of (Some member.calls) (is_some q) k ≡ Some fault) same e)
 own_refused limits system client member (Begin ask) call fault None c e = spent_or member system _ None fault (λ f h. absurd (cc)) (let same : call ≡ CallBegin = cc in subst (λ k. refusal_of (Some member.calls) false k ≡ Some fault) same e)
 own_refused limits system client member (Begin ask) call fault (Some query) c e = spent_or member system _ (Some QueryOpen) fault (λ f h. let f_is : QueryOpen ≡ f = cc in ap (λ x. refused x system) f_is) (let same : call ≡ CallBegin = cc in subst (λ k. refusal_of (Some member.calls) true k ≡ Some fault) same e)
 own_refused limits system client member ScanAct call fault q c e = absurd (cc)
@@ -201,11 +209,40 @@ updated o s t id row j = changes o s t (Update id row) (CallUpdate id row) Done 
 pub deleted : (o : Opening) (s t : Standing) (id : ℕ) → Changes o s (CallDelete id) Done t → StepsTo o s (Delete id) (Deleted id) t
 deleted o s t id j = changes o s t (Delete id) (CallDelete id) Done (λ system. Deleted id) (Deleted id) j refl refl (λ system. refl) (λ system x state. refl)
 
+-- the first id of a commit that is done, by the id of the next row at its place
+same_first : (capacity : ℕ) (begins : Bool) (lost : Option ℕ) (size next_id id : ℕ) (adds_any : Bool)
+    → cond adds_any (Added next_id) Done ≡ outcome_of capacity begins lost size (cond adds_any (Added id) Done) → cond adds_any id 0 ≡ cond adds_any next_id 0
+same_first capacity begins lost size next_id id false e = refl
+same_first capacity begins (Some missing_id) size next_id id true e = absurd (cc)
+same_first capacity begins None size next_id id true e = go (begins && nat_lt capacity size) e
+  where
+    go : (full : Bool) → Added next_id ≡ cond full (Full size) (Added id) → id ≡ next_id
+    go true h = absurd (cc)
+    go false h = cc
+
+granted_reply : (next_id : ℕ) (call : Call) (done : Reply) (x : System) (adds_any : Bool) → (changed (cond adds_any (Added next_id) Done) done call x).reply ≡ done
+granted_reply next_id call done x true = refl
+granted_reply next_id call done x false = refl
+
+pub commits : (o : Opening) (s t : Standing) (commit : List Change) (told : Committed) → Commits o s commit told t → StepsTo o s (Commit commit) (CommittedIs told) t
+commits o s t commit told j =
+    let call = CallCommit commit in
+    let adds_any = nat_lt 0 (added_by commit) in
+    let state = state_at o j.changes.0.before in
+    let first = same_first o.limits.capacity (begins_row call) (missing (ended call) state.table) (length (needed (committed call state))) j.next_id state.next_id adds_any j.changes.0.reply in
+    changes o s t (Commit commit) call (granted j.next_id call) (λ system. CommittedIs (told_of_commit system.next_id commit)) (CommittedIs told) j.changes refl refl (λ system. refl)
+    (λ system x here.
+    granted_reply j.next_id call (CommittedIs (told_of_commit system.next_id commit)) x adds_any
+    ∙ ap (λ (y : State). CommittedIs (told_of_commit y.next_id commit)) here
+    ∙ ap (λ (id : ℕ). CommittedIs (record { changes = length commit; first = id })) first
+    ∙ ap CommittedIs (sym j.told_is))
+
 -- .. and where they are refused with a number
 pub refused_change : (o : Opening) (s t : Standing) (act : Act) (call : Call) (told : Outcome) (fault : CoreFault) → Changes o s call told t → is_change call ≡ true → call_of act ≡ Some call → ((done : Reply) (x : System) → (changed told done call x).reply ≡ RefusedReply fault) → StepsTo o s act (RefusedReply fault) t
 refused_change o s t (Insert row) call told fault j c a r = changes o s t (Insert row) call told (λ system. Inserted system.next_id) (RefusedReply fault) j c a (λ system. let same : call ≡ CallInsert row = cc in ap (λ k. numbered (member_of o s) system (change o.limits system s.number (member_of o s) k (Inserted system.next_id))) (sym same)) (λ system x state. r (Inserted system.next_id) x)
 refused_change o s t (Update id row) call told fault j c a r = changes o s t (Update id row) call told (λ system. Updated id) (RefusedReply fault) j c a (λ system. let same : call ≡ CallUpdate id row = cc in ap (λ k. numbered (member_of o s) system (change o.limits system s.number (member_of o s) k (Updated id))) (sym same)) (λ system x state. r (Updated id) x)
 refused_change o s t (Delete id) call told fault j c a r = changes o s t (Delete id) call told (λ system. Deleted id) (RefusedReply fault) j c a (λ system. let same : call ≡ CallDelete id = cc in ap (λ k. numbered (member_of o s) system (change o.limits system s.number (member_of o s) k (Deleted id))) (sym same)) (λ system x state. r (Deleted id) x)
+refused_change o s t (Commit commit) call told fault j c a r = changes o s t (Commit commit) call told (λ system. CommittedIs (told_of_commit system.next_id commit)) (RefusedReply fault) j c a (λ system. let same : call ≡ CallCommit commit = cc in ap (λ k. numbered (member_of o s) system (change o.limits system s.number (member_of o s) k (CommittedIs (told_of_commit system.next_id commit)))) (sym same)) (λ system x state. r (CommittedIs (told_of_commit system.next_id commit)) x)
 refused_change o s t (Begin ask) call told fault j c a r = let same : call ≡ CallBegin = cc in absurd (cc (ap is_change same, c))
 refused_change o s t ScanAct call told fault j c a r = absurd (cc)
 refused_change o s t Finish call told fault j c a r = let same : call ≡ CallFinish = cc in absurd (cc (ap is_change same, c))

@@ -17,6 +17,7 @@ use Rattle.pref_term.specs.contracts.term.Term as term
 use Rattle.pref_sky.proofs.partial.Partial.TheSendSync as partials
 use Rattle.std.proofs.option.Option.TheSendSync as options
 use Rattle.left_right.proofs.reader.Reader.TheSendSync as readers
+use Rattle.pref_core.proofs.event.BoxedCommit.TheSendSync as boxed_commits
 use Rattle.pref_core.proofs.setup.Setup.TheSendSync as setups
 use Rattle.pref_share.proofs.history.Prefix.TheSendSync as prefixes
 use Rattle.pref_share.proofs.published.Published.TheSendSync as published
@@ -34,7 +35,7 @@ pub ask_send : IsSend ask.the_row
 ask_send = search (sendable, declared_send, as_row_send, term_send, options.the_send, factors.the_send, modes.the_send, vectors.the_send, heap.the_send, frees) depth 14
 
 pub act_send : IsSend act.the_row
-act_send = search (sendable, variants_send, as_row_send, ask_send, rows.the_send) depth 14
+act_send = search (sendable, variants_send, as_row_send, ask_send, rows.the_send, boxed_commits.the_send, heap.the_send, frees) depth 14
 
 pub query_send : IsSend query.the_row
 query_send = search (sendable, declared_send, as_row_send, ask_send, partials.the_send) depth 14

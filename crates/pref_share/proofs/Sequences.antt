@@ -1,18 +1,18 @@
 -- The sequential table along events: one event more, and the clients that an event leaves alone.
 use Rattle.std.proofs.Common.{◌≡◌, ℕ, zero, suc, ◌-◌, ◌^◌, ◌<◌, ◌≤◌, Bool, true, false, cond, nat_lt, List, [], ◌∷◌, ◌++◌, map, replicate, Option, Some, None, refl, ap, ◌∙◌, arith}
 use Rattle.pref_core.specs.declared.call.Call.{Call}
-use Rattle.pref_core.specs.declared.call.Call.TheVariants.{Insert as CallInsert, Update as CallUpdate, Delete as CallDelete}
+use Rattle.pref_core.specs.declared.call.Call.TheVariants.{Insert as CallInsert, Update as CallUpdate, Delete as CallDelete, Commit as CallCommit}
 use Rattle.pref_core.specs.declared.event.Act.{Act}
-use Rattle.pref_core.specs.declared.event.Act.TheVariants.{Insert, Update, Delete, Begin, Scan, Finish, Abandon, Get, Room}
+use Rattle.pref_core.specs.declared.event.Act.TheVariants.{Insert, Update, Delete, Commit, Begin, Scan, Finish, Abandon, Get, Room}
 use Rattle.pref_core.specs.declared.event.Event.{Event}
 use Rattle.pref_core.specs.declared.event.Reply.{Reply}
-use Rattle.pref_core.specs.declared.event.Reply.TheVariants.{Inserted, Updated, Deleted, Left, Answer}
+use Rattle.pref_core.specs.declared.event.Reply.TheVariants.{Inserted, Updated, Deleted, Committed as CommittedIs, Left, Answer}
 use Rattle.pref_core.specs.declared.fault.CoreFault.TheVariants.{NoSuchClient, Spent, AllScanned, NotDone}
 use Rattle.pref_core.specs.Limits.{Limits}
 use Rattle.pref_core.specs.Table.{entries}
 use Rattle.pref_sky.specs.Answers.{answer_of}
 use Rattle.pref_core.specs.State.{seat, outcome, idle_clients}
-use Rattle.pref_core.specs.Step.{Open, Member, System, Step, client_of, state_of, refused, counted_with, scanned_with, one_less, change, numbered, finish, scan, step_of, step, replies_from}
+use Rattle.pref_core.specs.Step.{Open, Member, System, Step, told_of_commit, client_of, state_of, refused, counted_with, scanned_with, one_less, change, numbered, finish, scan, step_of, step, replies_from}
 use Rattle.pref_core.proofs.Stability.{seat-with_seat_other}
 use Rattle.pref_core.proofs.Systems.{members-changed}
 
@@ -65,6 +65,7 @@ step_of_leaves : (limits : Limits) (system : System) (client other : ℕ) (membe
 step_of_leaves limits system client other member (Insert row) query apart = numbered_leaves other member system _ (change_leaves limits system client other member (CallInsert row) (Inserted system.next_id) apart)
 step_of_leaves limits system client other member (Update id row) query apart = numbered_leaves other member system _ (change_leaves limits system client other member (CallUpdate id row) (Updated id) apart)
 step_of_leaves limits system client other member (Delete id) query apart = numbered_leaves other member system _ (change_leaves limits system client other member (CallDelete id) (Deleted id) apart)
+step_of_leaves limits system client other member (Commit commit) query apart = numbered_leaves other member system _ (change_leaves limits system client other member (CallCommit commit) (CommittedIs (told_of_commit system.next_id commit)) apart)
 step_of_leaves limits system client other member (Begin ask) None apart = numbered_leaves other member system _ (counted_leaves other client member system _ apart)
 step_of_leaves limits system client other member (Begin ask) (Some query) apart = numbered_leaves other member system _ refl
 step_of_leaves limits system client other member Scan None apart = refl

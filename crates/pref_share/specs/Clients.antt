@@ -1,18 +1,21 @@
 -- What a client's numbered calls do. (this project)
-use Rattle.std.specs.Prelude.{◌≡◌, ℕ, suc, ◌<◌, Bool, true, false, List, [], ◌∷◌, ◌++◌, Option, Some, None, is_some}
+use Rattle.std.specs.Prelude.{◌≡◌, ℕ, suc, ◌<◌, nat_lt, Bool, true, List, [], ◌∷◌, ◌++◌, Option, Some, None, is_some}
 use mathlib.Core.List.{IsPrefix}
 use Rattle.pref_term.specs.Question.{Question}
 use Rattle.pref_sky.specs.declared.entry.Ranked.{Ranked}
 use Rattle.pref_sky.specs.Answers.{answer_of}
 use Rattle.pref_core.specs.declared.call.Op.{Op}
 use Rattle.pref_core.specs.declared.call.Call.{Call}
-use Rattle.pref_core.specs.declared.call.Call.TheVariants.{Insert, Begin, Finish}
+use Rattle.pref_core.specs.declared.call.Call.TheVariants.{Commit, Begin, Finish}
 use Rattle.pref_core.specs.declared.call.Outcome.{Outcome}
 use Rattle.pref_core.specs.declared.call.Outcome.TheVariants.{Done, NoSuchRow, Full}
 use Rattle.pref_core.specs.declared.fault.CoreFault.{CoreFault}
 use Rattle.pref_core.specs.declared.fault.CoreFault.TheVariants.{NotDone, NoSuchRow as MissingRow, Full as TooFull, OutOfMemory}
+use Rattle.pref_core.specs.declared.changes.Change.{Change}
+use Rattle.pref_core.specs.declared.event.Committed.{Committed}
 use Rattle.pref_core.specs.Table.{entries}
-use Rattle.pref_core.specs.State.{outcome, refusal_of}
+use Rattle.pref_core.specs.State.{added, granted, outcome, refusal_of}
+use Rattle.pref_core.specs.Step.{told_of_commit}
 use Rattle.pref_core.specs.History.{numbered_of}
 use Rattle.pref_core.specs.Scans.{begin}
 use Rattle.pref_core.specs.Limits.{blocks}
@@ -44,6 +47,12 @@ pub record Joins (o : Opening) (old : Standing) (call : Call) (told : Outcome) (
 abbrev pub Changes : Opening → Standing → Call → Outcome → Standing → Type 0
 Changes o old call told new = Joins o old call told new × (new.query ≡ old.query)
 
+-- The changes of a commit joined the history as one call: this is the id of the next row at its place, and this is told of it.
+pub record Commits (o : Opening) (old : Standing) (commit : List Change) (told : Committed) (new : Standing) : Type 0 where
+  pub next_id : ℕ
+  pub changes : Changes o old (Commit commit) (granted next_id (Commit commit)) new
+  pub told_is : told ≡ told_of_commit next_id commit
+
 -- no call was made, and no less was seen
 pub record Sees (o : Opening) (old new : Standing) : Type 0 where
   pub further : IsPrefix old.seen new.seen
@@ -58,10 +67,9 @@ pub record IsInUse (o : Opening) (old : Standing) (number : ℕ) (new : Standing
   pub holds : HasCall new.seen old.number number
   pub next : number ≡ suc old.counter
 
--- whether a call asks for memory: for a new row's place in the index (what a finish asks for is told below)
+-- whether a call asks for memory: for the places of new rows in the index (what a finish asks for is told below)
 abbrev pub asks_for_memory : Call → Bool
-asks_for_memory (Insert row) = true
-asks_for_memory call = false
+asks_for_memory call = nat_lt 0 (added call)
 
 -- what a refusal of a numbered call tells, where its outcome is no refusal of a change
 abbrev pub Refused : Opening → Standing → Call → CoreFault → Standing → Type 0

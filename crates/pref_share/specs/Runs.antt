@@ -5,9 +5,9 @@ use Rattle.std.specs.Global.{Vec}
 use mathlib.Core.List.{IsPrefix}
 use Rattle.pref_core.specs.declared.call.Op.{Op}
 use Rattle.pref_core.specs.declared.call.Call.{Call}
-use Rattle.pref_core.specs.declared.call.Call.TheVariants.{Insert as CallInsert, Update as CallUpdate, Delete as CallDelete, Begin as CallBegin, Finish as CallFinish, Abandon as CallAbandon}
+use Rattle.pref_core.specs.declared.call.Call.TheVariants.{Insert as CallInsert, Update as CallUpdate, Delete as CallDelete, Commit as CallCommit, Begin as CallBegin, Finish as CallFinish, Abandon as CallAbandon}
 use Rattle.pref_core.specs.declared.event.Act.{Act}
-use Rattle.pref_core.specs.declared.event.Act.TheVariants.{Insert, Update, Delete, Begin, Finish, Abandon}
+use Rattle.pref_core.specs.declared.event.Act.TheVariants.{Insert, Update, Delete, Commit, Begin, Finish, Abandon}
 use Rattle.pref_core.specs.declared.event.Reply.{Reply}
 use Rattle.pref_core.specs.declared.fault.CoreFault.TheVariants.{OutOfMemory}
 use Rattle.pref_core.specs.State.{seat}
@@ -31,6 +31,7 @@ abbrev pub call_of : Act → Option Call
 call_of (Insert row) = Some (CallInsert row)
 call_of (Update id row) = Some (CallUpdate id row)
 call_of (Delete id) = Some (CallDelete id)
+call_of (Commit commit) = Some (CallCommit commit)
 call_of (Begin ask) = Some CallBegin
 call_of Finish = Some CallFinish
 call_of Abandon = Some CallAbandon

@@ -192,8 +192,8 @@ impl<J: Naming> Master<J> {
         Ok(reader)
     }
 
-    /// A call joins the history, and is published, planned by the index. `Err` is why it gets no number, or that there is no memory for a
-    /// new row's place in the index, which only an insert meets; nothing has changed then.
+    /// A call joins the history, and is published, planned by the index. `Err` is why it gets no number, or that there is no memory for the
+    /// places of new rows in the index, which only a call that adds a row meets; nothing has changed then.
     pub(crate) fn join<R: Wait>(
         &mut self,
         rt: &R,

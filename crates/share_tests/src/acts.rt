@@ -1,11 +1,19 @@
 //! What clients do, over a table with the column x alone, and what they are told, as texts.
 
-use pref_core::{Act, Reply, Setup};
+use pref_core::{Act, BoxedCommit, Change, Commit, Reply, Setup};
 use pref_sky::Ranked;
 use pref_table::{Row, Schema};
 use pref_term::read_ask;
 use std::alloc::Global;
 use std::test::Fail;
+
+/// A change of a commit.
+#[derive(Clone, Copy, Debug)]
+pub enum Changes {
+    Adds(i64),
+    Sets(u64, i64),
+    Removes(u64),
+}
 
 /// What a client does. A query asks for the rows with the smallest x.
 #[derive(Clone, Copy, Debug)]
@@ -13,6 +21,7 @@ pub enum Does {
     Inserts(i64),
     Updates(u64, i64),
     Deletes(u64),
+    Commits(Changes, Changes),
     Begins,
     Scans,
     Finishes,
@@ -57,11 +66,28 @@ pub fn answer_text(alloc: Global, rows: &[Ranked]) -> Result<String, Fail> {
     Ok(text)
 }
 
+fn change(schema: &Schema, changes: Changes) -> Result<Change, Fail> {
+    Ok(match changes {
+        Changes::Adds(value) => Change::Add(row(schema, value)?),
+        Changes::Sets(id, value) => Change::Set(id, row(schema, value)?),
+        Changes::Removes(id) => Change::Remove(id),
+    })
+}
+
+/// The commit of two changes.
+pub fn commit(schema: &Schema, first: Changes, second: Changes) -> Result<Commit, Fail> {
+    let changes = [change(schema, first)?, change(schema, second)?];
+    Ok(Commit::of(&changes)?)
+}
+
 pub fn act(alloc: Global, schema: &Schema, does: Does) -> Result<Act, Fail> {
     Ok(match does {
         Does::Inserts(value) => Act::Insert(row(schema, value)?),
         Does::Updates(id, value) => Act::Update(id, row(schema, value)?),
         Does::Deletes(id) => Act::Delete(id),
+        Does::Commits(first, second) => {
+            Act::Commit(BoxedCommit::new(alloc, commit(schema, first, second)?)?)
+        }
         Does::Begins => Act::Begin(read_ask(alloc, schema, b"best low(x)")?),
         Does::Scans => Act::Scan,
         Does::Finishes => Act::Finish,
@@ -84,6 +110,11 @@ pub fn reply_text(alloc: Global, reply: &Reply) -> Result<String, Fail> {
         Reply::Inserted(id) => format!(in alloc; "inserted {id}")?,
         Reply::Updated(id) => format!(in alloc; "updated {id}")?,
         Reply::Deleted(id) => format!(in alloc; "deleted {id}")?,
+        Reply::Committed(told) => {
+            let changes = told.changes;
+            let first = told.first;
+            format!(in alloc; "committed {changes} first {first}")?
+        }
         Reply::Begun(blocks) => format!(in alloc; "begun {blocks}")?,
         Reply::Left(blocks) => format!(in alloc; "left {blocks}")?,
         Reply::Answer(list) => answer_text(alloc, list.as_slice())?,

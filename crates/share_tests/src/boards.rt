@@ -31,6 +31,19 @@ pub fn opened_for_two<J: Naming, R: Wait + Abort>(
     }
 }
 
+/// A gate that holds nobody up.
+pub struct Open;
+
+impl Gate for Open {
+    ghost may_hold = { λ gate client turn. ⊥ };
+
+    fn before(&self, _client: u8, _turn: usize) -> bool {
+        true
+    }
+
+    fn after(&self, _client: u8, _turn: usize) {}
+}
+
 /// Begins a query, and tells how many blocks it has.
 pub fn begin<J: Naming, R: Wait + Abort>(
     rt: &R,

@@ -10,6 +10,8 @@ mod boards;
 #[cfg(test)]
 mod calls;
 #[cfg(test)]
+mod pairs;
+#[cfg(test)]
 mod reads;
 #[cfg(test)]
 mod refusals;

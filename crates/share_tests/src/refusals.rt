@@ -3,11 +3,13 @@
 
 ghost use Rattle.std.specs.Prelude.{◌≡◌};
 
-use crate::acts::{Does, acts_of, answer_text, columns, lists_text, row, rows, setup};
-use crate::boards::{opened_for_two, replies_of_a_run};
+use crate::acts::{
+    Changes, Does, acts_of, answer_text, columns, commit, lists_text, row, rows, setup,
+};
+use crate::boards::{Open, opened_for_two, replies_of_a_run};
 use crate::same::assert_same;
-use pref_core::{Act, CoreFault, Setup};
-use pref_share::{BeginFault, Board, Client, Gate, Name, Naming, ShareFault, open_board};
+use pref_core::{Act, Commit, Committed, CoreFault, Setup};
+use pref_share::{BeginFault, Board, Client, Name, Naming, ShareFault, open_board};
 use pref_sky::Ranked;
 use pref_table::{Row, Schema};
 use pref_term::{Ask, read_ask};
@@ -162,6 +164,39 @@ fn changes_refused_then_again(rt: HostRuntime) -> Result<(), Fail> {
     changed_and_heard::<Brand, _>(&rt, alloc, Name::new(), setup, &opening, &changed)
 }
 
+fn committed<J: Naming, R: Wait + Abort>(
+    rt: &R,
+    alloc: Global,
+    name: Name,
+    setup: Setup,
+    rows: &[Row],
+    commit: Commit,
+) -> Result<Committed, Fail>
+    requires book { name.seen.book ≡ J.book }
+    requires opening { J.opening ≡ record { limits = setup; rows = rows.now } }
+{
+    let (board, mut client, _other) = opened_for_two::<J, R>(rt, alloc, name, setup, rows)?;
+    let told = in_the_end!(rt, &mut client, client.commit(rt, alloc, &board, commit));
+    board.close(rt);
+    Ok(told)
+}
+
+#[test]
+fn a_commit_refused_then_again(rt: HostRuntime) -> Result<(), Fail> {
+    let alloc = rt.alloc();
+    let schema = columns(alloc)?;
+    let opening = rows(alloc, &[5])?;
+    let commit = commit(&schema, Changes::Adds(3), Changes::Adds(4))?;
+    let setup = setup(2, 18, 6)?;
+    let told = committed::<Brand, _>(&rt, alloc, Name::new(), setup, &opening, commit)?;
+    let wanted = Committed {
+        changes: 2,
+        first: 2,
+    };
+    assert_same(&rt, "a commit", &told, &wanted);
+    Ok(())
+}
+
 /// Abandons a query of two blocks, and asks it again to its end.
 fn abandon_and_ask<J: Naming, R: Wait + Abort>(
     rt: &R,
@@ -211,19 +246,6 @@ fn a_query_refused_then_again(rt: HostRuntime) -> Result<(), Fail> {
     let text = answer_text(alloc, &ranked)?;
     assert_same(&rt, "an answer", &text.as_str(), &"answer level 1 id 2: 4");
     Ok(())
-}
-
-/// A gate that holds nobody up.
-struct Open;
-
-impl Gate for Open {
-    ghost may_hold = { λ gate client turn. ⊥ };
-
-    fn before(&self, _client: u8, _turn: usize) -> bool {
-        true
-    }
-
-    fn after(&self, _client: u8, _turn: usize) {}
 }
 
 /// The acts of one client.

@@ -5,7 +5,8 @@ ghost use Rattle.pref_core.specs.declared.call.Outcome.TheVariants.{Added, Done}
 ghost use Rattle.pref_core.specs.State.{added, is_change, granted};
 ghost use Rattle.pref_core.specs.Stability.{is_end};
 ghost use Rattle.pref_share.specs.declared.fault.ShareFault.TheVariants.{ClientInUse};
-ghost use Rattle.pref_share.specs.Clients.{own_refusal, Changes, Joins, Begins, Finishes, IsAnswer, Refused, Refuses, RefusesChange, RefusesBegin, RefusesFinish, IsInUse};
+ghost use Rattle.pref_core.specs.Step.{told_of_commit};
+ghost use Rattle.pref_share.specs.Clients.{own_refusal, Changes, Commits, Joins, Begins, Finishes, IsAnswer, Refused, Refuses, RefusesChange, RefusesBegin, RefusesFinish, IsInUse};
 ghost use Rattle.pref_share.specs.Following.{MayJoin, IsAhead, done_or_refused, GivesNone};
 
 use crate::board::Board;
@@ -13,7 +14,7 @@ use crate::book::Naming;
 use crate::client::{Asking, Client};
 use crate::fault::{BeginFault, ShareFault};
 use crate::history::Prefix;
-use pref_core::{Call, CoreFault, Outcome, Query, QueryState};
+use pref_core::{Call, Commit, Committed, CoreFault, Outcome, Query, QueryState};
 use pref_sky::Ranked;
 use pref_table::Row;
 use pref_term::Ask;
@@ -88,6 +89,24 @@ impl<J: Naming> Client<J> {
     {
         self.change(rt, alloc, board, &Call::Delete(id))?;
         Ok(())
+    }
+
+    /// Makes all changes of a commit at once: one call of the history, which is published once. Waits for the board.
+    ///
+    /// Refused `Spent`, `NoSuchRow` or `Full` (which are numbered, and no row has changed), or `OutOfMemory` where a row is added; and
+    /// `ClientInUse`.
+    pub fn commit<R: Wait>(
+        &mut self,
+        rt: &R,
+        alloc: Global,
+        board: &Board<J>,
+        commit: Commit,
+    ) -> Result<Committed, ShareFault>
+        ensures committed { IfOk result (λ told. Commits J.opening self.old commit told self.new) }
+        ensures refused { IfErr result (λ fault. RefusesChange J.opening self.old (Call.Commit commit) fault self.new) }
+    {
+        let outcome = self.change(rt, alloc, board, &Call::Commit(commit))?;
+        Ok(told_of_commit(&commit, outcome))
     }
 
     /// Begins a query of the table as it is now, and answers how many blocks it has to scan. Waits for the board, and copies
@@ -236,7 +255,7 @@ impl<J: Naming> Client<J> {
         }
     }
 
-    /// A call joins the history, unless the history is ahead of the client. Out of memory comes for an insert alone.
+    /// A call joins the history, unless the history is ahead of the client. Out of memory comes for a call that adds a row alone.
     fn join<R: Wait>(
         &self,
         rt: &R,
@@ -276,6 +295,20 @@ impl<J: Naming> Client<J> {
         ShareFault::ClientInUse {
             number: self.counter + 1,
         }
+    }
+}
+
+/// What is told of a commit that was done with this outcome.
+fn told_of_commit(commit: &Commit, outcome: Outcome) -> Committed
+    ensures { (next_id : ℕ) → outcome ≡ granted next_id (Call.Commit commit.now) → result ≡ told_of_commit next_id commit.now }
+{
+    let first = match outcome {
+        Outcome::Added(first) => first,
+        _ => 0,
+    };
+    Committed {
+        changes: commit.as_slice().len() as u32,
+        first,
     }
 }
 

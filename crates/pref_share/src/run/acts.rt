@@ -61,6 +61,10 @@ fn answer<J: Naming, R: Wait>(
             client.delete(rt, alloc, board, id)?;
             Ok(Reply::Deleted(id))
         }
+        Act::Commit(commit) => {
+            let told = client.commit(rt, alloc, board, *commit.commit())?;
+            Ok(Reply::Committed(told))
+        }
         Act::Begin(ask) => match client.begin(rt, alloc, board, ask) {
             Ok(blocks) => Ok(Reply::Begun(blocks)),
             Err(refusal) => Err(refusal.fault),

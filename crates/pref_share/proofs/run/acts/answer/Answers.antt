@@ -1,7 +1,7 @@
 use Rattle.std.proofs.Common.{refl}
-use Rattle.pref_core.specs.declared.call.Call.TheVariants.{Insert as CallInsert, Update as CallUpdate, Delete as CallDelete, Begin as CallBegin, Abandon as CallAbandon}
-use Rattle.pref_core.specs.declared.event.Act.TheVariants.{Insert, Update, Delete, Begin, Abandon}
-use Rattle.pref_share.proofs.Acting.{inserted, updated, deleted, begun, scanned_step, finished, abandoned, got, has_room}
+use Rattle.pref_core.specs.declared.call.Call.TheVariants.{Insert as CallInsert, Update as CallUpdate, Delete as CallDelete, Commit as CallCommit, Begin as CallBegin, Abandon as CallAbandon}
+use Rattle.pref_core.specs.declared.event.Act.TheVariants.{Insert, Update, Delete, Commit, Begin, Abandon}
+use Rattle.pref_share.proofs.Acting.{inserted, updated, deleted, commits, begun, scanned_step, finished, abandoned, got, has_room}
 use Rattle.pref_share.proofs.Refusing.{change_refused, quiet_refused, finish_refused, scan_refused, get_refused, passed_on}
 use Rattle.pref_share.proofs.run.acts.answer.Goals as goal
 
@@ -22,6 +22,12 @@ returns-in_ok-delete-in-Delete-clause-answered g c = rw (c.in-Delete.is) (delete
 
 pub returns-in_err-delete-in-Delete-clause-refused : goal.returns-in_err-delete-in-Delete-clause-refused
 returns-in_err-delete-in-Delete-clause-refused g c = rw (c.in-Delete.is) (passed_on c.from_residual-in_err-delete-in-Delete.result c.in_err-delete-in-Delete.field-0.0 _ c.from_residual-in_err-delete-in-Delete.ensures.1 (change_refused g.J.Naming.opening c.args.client.now _ (Delete c.in-Delete.id) (CallDelete c.in-Delete.id) c.in_err-delete-in-Delete.field-0.0 c.seen-seen.ensures.legal refl refl c.in_err-delete-in-Delete.ensures.refused))
+
+pub returns-in_ok-told-in-Commit-clause-answered : goal.returns-in_ok-told-in-Commit-clause-answered
+returns-in_ok-told-in-Commit-clause-answered g c = rw (c.in-Commit.is) (commits g.J.Naming.opening c.args.client.now _ c.in-Commit.commit _ (rw c.commit-in-Commit.ensures at c.in_ok-told-in-Commit.ensures.committed))
+
+pub returns-in_err-told-in-Commit-clause-refused : goal.returns-in_err-told-in-Commit-clause-refused
+returns-in_err-told-in-Commit-clause-refused g c = rw (c.in-Commit.is) (passed_on c.from_residual-in_err-told-in-Commit.result c.in_err-told-in-Commit.field-0.0 _ c.from_residual-in_err-told-in-Commit.ensures.1 (change_refused g.J.Naming.opening c.args.client.now _ (Commit c.in-Commit.commit) (CallCommit c.in-Commit.commit) c.in_err-told-in-Commit.field-0.0 c.seen-seen.ensures.legal refl refl (rw c.commit-in-Commit.ensures at c.in_err-told-in-Commit.ensures.refused)))
 
 pub returns-in-Ok-clause-answered : goal.returns-in-Ok-clause-answered
 returns-in-Ok-clause-answered g c = rw (c.in-Begin.is) (begun g.J.Naming.opening c.args.client.now _ c.in-Begin.ask c.in-Ok.blocks c.in-Ok.ensures.begun)

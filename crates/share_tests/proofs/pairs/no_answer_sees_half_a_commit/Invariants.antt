@@ -1,0 +1,5 @@
+use Rattle.share_tests.proofs.pairs.no_answer_sees_half_a_commit.Given as goal
+
+-- the board that is opened
+abbrev pub ghosts-replies_of_a_run : goal.ghosts-replies_of_a_run
+ghosts-replies_of_a_run g a = record { book = a.name.seen.book; opening = record { limits = a.setup; rows = a.rows.now } }
