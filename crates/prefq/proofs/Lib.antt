@@ -2,6 +2,7 @@ pub mod BytesFacts
 pub mod ScriptFacts
 pub mod WordsFacts
 pub mod CommandFacts
+pub mod CommitFacts
 pub mod TextFacts
 pub mod OutputFacts
 pub mod PlayFacts

@@ -2,20 +2,25 @@
 use Rattle.std.specs.Prelude.{ℕ, ◌+◌, List, [], ◌∷◌, ◌++◌, length, Option, Some, None, Result, Ok, Err, if◌then◌else◌}
 use Rattle.std.specs.List.{list_all}
 use Rattle.pref_table.specs.Number.{is_blank}
-use Rattle.pref_table.specs.Numbered.{◌>>=◌}
+use Rattle.pref_table.specs.Numbered.{◌>>=◌, all_from}
 use Rattle.pref_table.specs.Rows.{line_row}
 use Rattle.pref_table.specs.declared.fault.TableFault.{TableFault}
 use Rattle.pref_term.specs.Asked.{asked}
 use Rattle.pref_term.specs.declared.fault.TermFault.{TermFault}
+use Rattle.pref_core.specs.Changes.{commit_of}
+use Rattle.pref_core.specs.declared.changes.Change.{Change}
+use Rattle.pref_core.specs.declared.changes.Change.TheVariants.{Add, Set, Remove}
 use Rattle.pref_core.specs.declared.event.Act.{Act}
-use Rattle.pref_core.specs.declared.event.Act.TheVariants.{Insert, Update, Delete, Begin, Scan, Finish, Abandon, Get, Room}
+use Rattle.pref_core.specs.declared.event.Act.TheVariants.{Insert, Update, Delete, Commit, Begin, Scan, Finish, Abandon, Get, Room}
 use Rattle.pref_core.specs.declared.event.Event.{Event}
+use Rattle.pref_core.specs.declared.fault.CoreFault.{CoreFault}
+use Rattle.prefq.specs.Forms.{Said, changes, commits, begins, scans, finishes, abandons, gets, rooms, said_in}
+use Rattle.prefq.specs.Pieces.{ChangeSaid, inserts, updates, deletes, are_changes, piece_said, pieces_of}
 use Rattle.prefq.specs.Script.{line_of}
-use Rattle.prefq.specs.Words.{Said, inserts, updates, deletes, begins, scans, finishes, abandons, gets, rooms, said_in}
 use Rattle.prefq.specs.declared.command.Refusal.{Refusal}
-use Rattle.prefq.specs.declared.command.Refusal.TheVariants.{NotCommand, Values, Question}
+use Rattle.prefq.specs.declared.command.Refusal.TheVariants.{NotCommand, Values, Question, Changes}
 
--- what values or a question say, or a refusal for their fault
+-- what values, a question or changes say, or a refusal for their fault
 abbrev pub of_values : {A : Type 0} → Result A TableFault → Result A Refusal
 of_values (Ok row) = Ok row
 of_values (Err why) = Err (Values why)
@@ -24,15 +29,49 @@ abbrev pub of_question : {A : Type 0} → Result A TermFault → Result A Refusa
 of_question (Ok ask) = Ok ask
 of_question (Err why) = Err (Question why)
 
+abbrev pub of_changes : {A : Type 0} → Result A CoreFault → Result A Refusal
+of_changes (Ok commit) = Ok commit
+of_changes (Err why) = Err (Changes why)
+
+-- the change that is said, over the columns of these names
+unfoldable pub change_of : List (List ℕ) → ChangeSaid → Result Change Refusal
+change_of names (inserts values) = do
+  row ← of_values (line_row (length names) values)
+  Ok (Add row)
+change_of names (updates id values) = do
+  row ← of_values (line_row (length names) values)
+  Ok (Set id row)
+change_of names (deletes id) = Ok (Remove id)
+
+-- the change of a piece of a commit
+abbrev pub piece_change : List (List ℕ) → Option ChangeSaid → Result Change Refusal
+piece_change names None = Err NotCommand
+piece_change names (Some what) = change_of names what
+
+-- the commit of these pieces: the values of all of them are read from the left before their number and their ids are tested
+abbrev pub commit_from : List (List ℕ) → List (List ℕ) → Result (List Change) Refusal
+commit_from names pieces = do
+  all ← all_from (λ place piece. piece_change names (piece_said piece)) 1 pieces
+  of_changes (commit_of all)
+
+-- the commit of a text whose pieces stand between semicolons: the form of each is tested before any values are read
+unfoldable pub commit_said : List (List ℕ) → List ℕ → Result (List Change) Refusal
+commit_said names text = if are_changes text then commit_from names (pieces_of text) else Err NotCommand
+
+-- the act that makes one change
+abbrev pub act_by : Change → Act
+act_by (Add row) = Insert row
+act_by (Set id row) = Update id row
+act_by (Remove id) = Delete id
+
 -- the act that is said, over the columns of these names
 unfoldable pub act_of : List (List ℕ) → Said → Result Act Refusal
-act_of names (inserts values) = do
-  row ← of_values (line_row (length names) values)
-  Ok (Insert row)
-act_of names (updates id values) = do
-  row ← of_values (line_row (length names) values)
-  Ok (Update id row)
-act_of names (deletes id) = Ok (Delete id)
+act_of names (changes what) = do
+  change ← change_of names what
+  Ok (act_by change)
+act_of names (commits text) = do
+  commit ← commit_said names text
+  Ok (Commit commit)
 act_of names (begins question) = do
   ask ← of_question (asked names question)
   Ok (Begin ask)
@@ -42,7 +81,7 @@ act_of names abandons = Ok Abandon
 act_of names (gets id) = Ok (Get id)
 act_of names rooms = Ok Room
 
--- the event of what a line says: its form is tested first, then its values or its question
+-- the event of what a line says: its form is tested first, then its values, its pieces or its question
 abbrev pub event_said : List (List ℕ) → Option (ℕ × Said) → Result Event Refusal
 event_said names None = Err NotCommand
 event_said names (Some (client, what)) = do

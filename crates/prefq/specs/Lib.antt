@@ -3,6 +3,8 @@ pub mod Input
 pub mod Text
 pub mod Script
 pub mod Words
+pub mod Pieces
+pub mod Forms
 pub mod Commands
 pub mod Output
 pub mod Run

@@ -79,6 +79,7 @@ abbrev pub reply_lines : ℕ → ℕ → Reply → List ℕ
 reply_lines width client (reply.Inserted id) = decimal client <> codes " inserted " <> decimal id <> codes "\n"
 reply_lines width client (reply.Updated id) = decimal client <> codes " updated " <> decimal id <> codes "\n"
 reply_lines width client (reply.Deleted id) = decimal client <> codes " deleted " <> decimal id <> codes "\n"
+reply_lines width client (reply.Committed done) = decimal client <> codes " committed " <> decimal done.changes <> codes " first " <> decimal done.first <> codes "\n"
 reply_lines width client (reply.Begun blocks) = decimal client <> codes " begun " <> decimal blocks <> codes "\n"
 reply_lines width client (reply.Left blocks) = decimal client <> codes " left " <> decimal blocks <> codes "\n"
 reply_lines width client (reply.Answer rows) = decimal client <> codes " answer " <> decimal (length rows) <> codes "\n" <> level_lines width rows
@@ -92,6 +93,7 @@ abbrev pub refusal_text : Refusal → List ℕ
 refusal_text refusal.NotCommand = codes " refused: command"
 refusal_text (refusal.Values why) = codes " refused table " <> table_fault_text why
 refusal_text (refusal.Question why) = codes " refused term " <> term_fault_text why
+refusal_text (refusal.Changes why) = codes " refused commit " <> core_fault_text why
 
 -- the line of a refused line, by its number
 abbrev pub refused_line : ℕ → Refusal → List ℕ

@@ -1,13 +1,16 @@
 //! A command line as an event, or why it is refused.
-ghost use Rattle.std.specs.Prelude.{◌≡◌, length};
+ghost use Rattle.std.specs.Prelude.{◌≡◌, length, Ok};
 ghost use Rattle.pref_table.specs.Rows.{line_row};
 ghost use Rattle.pref_term.specs.Asked.{asked};
-ghost use Rattle.prefq.specs.Commands.{act_of, event_of, of_question, of_values};
+ghost use Rattle.prefq.specs.Commands.{act_by, act_of, change_of, event_of, of_question, of_values};
+ghost use Rattle.prefq.specs.Forms.{said};
+ghost use Rattle.prefq.specs.Pieces.{change_said};
 ghost use Rattle.prefq.specs.Reading.{Reads};
-ghost use Rattle.prefq.specs.Words.{said};
 
-use crate::words::{Form, read_form};
-use pref_core::{Act, Event};
+use crate::commits::read_commit;
+use crate::forms::{Form, read_form};
+use crate::pieces::ChangeForm;
+use pref_core::{Act, BoxedCommit, Change, Commit, CoreFault, Event};
 use pref_table::{Row, Schema, TableFault, read_row};
 use pref_term::{Ask, TermFault, read_ask};
 use std::alloc::Global;
@@ -21,9 +24,11 @@ pub enum Refusal {
     Values(TableFault),
     /// Its question is refused.
     Question(TermFault),
+    /// Its changes are no commit.
+    Changes(CoreFault),
 }
 
-/// Why reading a command line ended: it is refused, or there was no memory for its question.
+/// Why reading a command line ended: it is refused, or there was no memory for its question or its commit.
 #[derive(Debug, Drop)]
 pub enum Stop {
     Refused(Refusal),
@@ -49,15 +54,47 @@ fn read_question(alloc: Global, schema: &Schema, question: &[u8]) -> Result<Ask,
     }
 }
 
-/// The act that a form says, its values or its question read.
+/// The change that a form says, its values read.
+#[tactic(auto, unfolding(crate::specs::Commands::change_of))]
+pub fn read_change(schema: &Schema, form: ChangeForm<'_>) -> Result<Change, Stop>
+    ensures { Reads result (change_of schema.now (change_said form.entry)) }
+{
+    match form {
+        ChangeForm::Insert(values) => Ok(Change::Add(read_values(schema, values)?)),
+        ChangeForm::Update(id, values) => Ok(Change::Set(id, read_values(schema, values)?)),
+        ChangeForm::Delete(id) => Ok(Change::Remove(id)),
+    }
+}
+
+/// The act that makes one change.
+fn act_of(change: Change) -> Act
+    ensures { result ≡ act_by change }
+{
+    match change {
+        Change::Add(row) => Act::Insert(row),
+        Change::Set(id, row) => Act::Update(id, row),
+        Change::Remove(id) => Act::Delete(id),
+    }
+}
+
+/// The act that makes a commit.
+fn commit_act(alloc: Global, commit: Commit) -> Result<Act, Stop>
+    ensures { Reads result (Ok (Act.Commit commit)) }
+{
+    match BoxedCommit::new(alloc, commit) {
+        Ok(commit) => Ok(Act::Commit(commit)),
+        Err(_) => Err(Stop::OutOfMemory),
+    }
+}
+
+/// The act that a form says, its values, its pieces or its question read.
 #[tactic(auto, unfolding(crate::specs::Commands::act_of))]
 fn read_act(alloc: Global, schema: &Schema, form: Form<'_>) -> Result<Act, Stop>
     ensures { Reads result (act_of schema.now (said form.entry)) }
 {
     match form {
-        Form::Insert(values) => Ok(Act::Insert(read_values(schema, values)?)),
-        Form::Update(id, values) => Ok(Act::Update(id, read_values(schema, values)?)),
-        Form::Delete(id) => Ok(Act::Delete(id)),
+        Form::Change(change) => Ok(act_of(read_change(schema, change)?)),
+        Form::Commit(pieces) => commit_act(alloc, read_commit(schema, pieces)?),
         Form::Begin(question) => Ok(Act::Begin(read_question(alloc, schema, question)?)),
         Form::Scan => Ok(Act::Scan),
         Form::Finish => Ok(Act::Finish),
@@ -67,7 +104,7 @@ fn read_act(alloc: Global, schema: &Schema, form: Form<'_>) -> Result<Act, Stop>
     }
 }
 
-/// The event of a command line. Its form is tested first, then its values or its question.
+/// The event of a command line. Its form is tested first, then its values, its pieces or its question.
 pub fn read_event(alloc: Global, schema: &Schema, line: &[u8]) -> Result<Event, Stop>
     ensures { Reads result (event_of schema.now line.now) }
 {

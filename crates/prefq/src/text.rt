@@ -78,6 +78,10 @@ fn push_refusal(out: &mut String, why: &Refusal) -> Result<(), AllocError>
             write!(out, " refused term ")?;
             push_term_fault(out, fault)
         }
+        Refusal::Changes(fault) => {
+            write!(out, " refused commit ")?;
+            push_core_fault(out, *fault)
+        }
     }
 }
 
@@ -142,6 +146,11 @@ pub fn push_reply(
         Reply::Inserted(id) => write!(out, "{client} inserted {id}\n"),
         Reply::Updated(id) => write!(out, "{client} updated {id}\n"),
         Reply::Deleted(id) => write!(out, "{client} deleted {id}\n"),
+        Reply::Committed(done) => {
+            let changes = done.changes;
+            let first = done.first;
+            write!(out, "{client} committed {changes} first {first}\n")
+        }
         Reply::Begun(blocks) => write!(out, "{client} begun {blocks}\n"),
         Reply::Left(blocks) => write!(out, "{client} left {blocks}\n"),
         Reply::Answer(rows) => {

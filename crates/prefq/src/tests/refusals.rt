@@ -11,10 +11,10 @@ use std::test::Fail;
 
 /// A row is deleted and its slot is wanted while a query needs it.
 const SCRIPT: &[u8] =
-    b"table\nx\n5\n7\n9\nend\nas 1 begin best low(x)\nas 1 scan\nas 2 delete 1\nas 2 insert 1\nas 2 room\nas 1 scan\nas 1 finish\n";
+    b"table\nx\n5\n7\n9\nend\nas 1 begin best low(x)\nas 1 scan\nas 2 commit delete 1; insert 1\nas 2 room\nas 1 scan\nas 1 finish\n";
 
 const TOLD: &[u8] =
-    b"1 begun 2\n1 left 1\n2 deleted 1\n2 inserted 4\n2 room 0\n1 left 0\n1 answer 1\nlevel 1 id 1: 5\n";
+    b"1 begun 2\n1 left 1\n2 committed 2 first 4\n2 room 0\n1 left 0\n1 answer 1\nlevel 1 id 1: 5\n";
 
 /// A run whose writer asks for no memory.
 fn run_into(alloc: Global, setup: Setup, taken: Vec<u8>) -> Run {
@@ -92,10 +92,10 @@ fn a_refused_live_run_has_told_whole_lines_and_is_made_again(rt: HostRuntime) ->
 
 /// One client alone, so that its requests come in the same order in each run.
 const SCRIPT_OF_ONE: &[u8] =
-    b"table\nx\n5\nend\nas 1 insert 3\nas 7 room\nas 1 begin best low(x)\nas 1 scan\nas 1 scan\nas 1 finish\n";
+    b"table\nx\n5\nend\nas 1 commit insert 3\nas 7 room\nas 1 begin best low(x)\nas 1 scan\nas 1 scan\nas 1 finish\n";
 
 const TOLD_TO_ONE: &str =
-    "7 refused 1: no such client\n1 inserted 2\n1 begun 2\n1 left 1\n1 left 0\n1 answer 1\nlevel 1 id 2: 3\n";
+    "7 refused 1: no such client\n1 committed 1 first 2\n1 begun 2\n1 left 1\n1 left 0\n1 answer 1\nlevel 1 id 2: 3\n";
 
 #[test]
 fn a_refused_run_on_threads_is_made_again(rt: HostRuntime) -> Result<(), Fail> {
