@@ -17,12 +17,12 @@ import threading
 from typing import List, NamedTuple
 
 REFUSED = re.compile(r"(?:(?P<line>line) \d+ )?(?:(?P<who>\d+|table|opening|script) )?refused:? "
-                     r"(?:(?P<what>table|term) )?(?:(?P<number>\d+): )?(?P<text>.*)")
+                     r"(?:(?P<what>table|term|commit) )?(?:(?P<number>\d+): )?(?P<text>.*)")
 PLACE = re.compile(r" (?:at|col) (\d+)$")
 
 
 class Refused(Exception):
-    """The table refuses: `kind` is "table" (its text or a row's values), "term" (a question), "opening", "script", "command" or "client"
+    """The table refuses: `kind` is "table" (its text or a row's values), "term" (a question), "commit" (its changes), "opening", "script", "command" or "client"
     (what a client wants cannot be done now); `number` is the refusal's, `place` the byte of a question or the column of a value, where there is one."""
 
     def __init__(self, line):
@@ -88,6 +88,11 @@ class Table:
     def delete(self, id, client=1):
         self._ask(f"as {client} delete {int(id)}")
 
+    def commit(self, *changes, client=1):
+        """Makes one to eight changes at one moment, or none: each is ("insert", values), ("update", id, values) or ("delete", id).
+        Answers the id of the first new row, 0 where none is new; the others have the next ones."""
+        return int(self._ask(f"as {client} commit {'; '.join(_change(*change) for change in changes)}").split()[4])
+
     def get(self, id, client=1):
         """The values of a row."""
         return _values(self._ask(f"as {client} get {int(id)}"))
@@ -152,6 +157,11 @@ class Query:
         told = self._table._ask(f"as {self._client} finish").split("\n")[1:]
         self._open = False
         return [Row(int(words[1]), int(words[3][:-1]), _values(line)) for line in told for words in [line.split()]]
+
+
+def _change(verb, *what):
+    """A change as a piece of a commit has it."""
+    return " ".join([verb, *(str(part) if isinstance(part, int) else _numbers(part) for part in what)])
 
 
 def _numbers(values):
