@@ -1,0 +1,67 @@
+//! A table in one thread: client 2 inserts a hotel while a query of client 1 is open. That query answers the table as it was when it
+//! began, and the next one has the new hotel.
+#![tactic(auto)]
+
+use anyhow::{Context, Result, bail};
+use pref_core::{Act, Event, Machine, RankedList, Reply, Setup};
+use pref_table::{Row, Schema, read_table};
+use pref_term::read_ask;
+use std::alloc::Global;
+use std::io;
+
+const HOTELS: &[u8] = b"price,dist\n50,8\n60,5\n80,2\n70,6\n90,2\n100,1\n110,9\n";
+
+const QUESTION: &[u8] = b"best low(price) * low(dist)";
+
+/// The reply to an act of a client. A refusal is an error.
+fn reply(alloc: Global, table: &mut Machine, client: u8, act: Act) -> Result<Reply> {
+    match table.reply(alloc, Event { client, act })? {
+        Reply::Refused(fault) => Err(fault.into()),
+        reply => Ok(reply),
+    }
+}
+
+/// Begins a query of a client, and gives the number of blocks to scan.
+fn begin(alloc: Global, table: &mut Machine, schema: &Schema, client: u8) -> Result<u32> {
+    let ask = read_ask(alloc, schema, QUESTION)?;
+    match reply(alloc, table, client, Act::Begin(ask))? {
+        Reply::Begun(blocks) => Ok(blocks),
+        _ => bail!("a begin gives a number of blocks"),
+    }
+}
+
+/// Scans the blocks of the client's query, and gives its answer.
+fn answer(alloc: Global, table: &mut Machine, client: u8, blocks: u32) -> Result<RankedList> {
+    for _ in 0..blocks {
+        reply(alloc, table, client, Act::Scan)?;
+    }
+    match reply(alloc, table, client, Act::Finish)? {
+        Reply::Answer(answer) => Ok(answer),
+        _ => bail!("a finish gives an answer"),
+    }
+}
+
+fn print_answer(rt: &impl Print, client: u8, answer: &RankedList) -> io::Result<()> {
+    println!(rt; "client {client}:")?;
+    for best in answer.as_slice() {
+        let (price, dist) = (best.row.cell(0), best.row.cell(1));
+        println!(rt; "hotel {} at {price}, {dist} minutes away", best.id)?;
+    }
+    Ok(())
+}
+
+fn main(rt: HostRuntime) -> Result<()> {
+    let alloc = rt.alloc();
+    let (schema, hotels) = read_table(alloc, HOTELS)?;
+    let setup = Setup::new(2, 1024, 256, 64).context("a number outside the limits")?;
+    let mut table = Machine::new(alloc, setup, &hotels)?;
+
+    let blocks = begin(alloc, &mut table, &schema, 1)?;
+    let hotel = Row::of(&schema, &[55, 1])?;
+    reply(alloc, &mut table, 2, Act::Insert(hotel))?;
+    print_answer(&rt, 1, &answer(alloc, &mut table, 1, blocks)?)?;
+
+    let blocks = begin(alloc, &mut table, &schema, 2)?;
+    print_answer(&rt, 2, &answer(alloc, &mut table, 2, blocks)?)?;
+    Ok(())
+}
