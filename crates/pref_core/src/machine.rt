@@ -23,6 +23,11 @@ use std::alloc::{AllocError, Global};
 use std::marker::Model;
 
 /// A table with its clients. It always stands for a state of the sequential table.
+///
+/// ```text
+/// let mut table = Machine::new(alloc, setup, &rows)?;
+/// let reply = table.reply(alloc, Event { client: 1, act: Act::Begin(ask) })?;
+/// ```
 #[derive(Drop)]
 pub struct Machine {
     store: Store,

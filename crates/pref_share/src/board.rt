@@ -35,8 +35,11 @@ impl<J: Naming> Board<J> {
 /// no reader is given or somebody has opened a board under this name, which nobody can. Nothing is kept then. Cost: three
 /// stores of all slots, since readers take two copies in turn, and an index of the rows.
 ///
+/// The function that opens a board is generic over its name, and its caller picks one: `run_board::<Brand, _>(rt, Name::new(), setup, &rows)`.
+///
 /// ```text
-/// let (board, clients) = open_board::<J, R>(rt, alloc, Name::new(), setup, &rows)?;
+/// let (board, clients) = open_board::<J, R>(rt, alloc, name, setup, rows)?;
+/// let done = run_clients(rt, &board, clients);
 /// board.close(rt);
 /// ```
 pub fn open_board<J: Naming, R: Wait>(

@@ -22,6 +22,11 @@ use pref_core::{Query, Setup};
 use std::marker::Model;
 
 /// A beginning of the history, which one client hands to others. Contracts see its operations.
+///
+/// ```text
+/// let word = desk.word();
+/// guest.hear(word);
+/// ```
 #[derive(Drop)]
 pub struct Word<J: Naming> {
     seen: Prefix<J>,

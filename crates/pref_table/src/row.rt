@@ -30,6 +30,10 @@ impl Row {
     /// The row of these numbers, one for each column of the schema. Takes no memory.
     ///
     /// Refused `Width { row: 0 }` where there are more or fewer numbers than columns.
+    ///
+    /// ```text
+    /// let row = Row::of(&schema, &[55, 1])?;
+    /// ```
     pub fn of(schema: &Schema, numbers: &[i64]) -> Result<Row, TableFault>
         ensures { result ≡ numbers_row (length schema.now) numbers.now }
     {

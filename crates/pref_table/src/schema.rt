@@ -124,6 +124,11 @@ impl Schema {
     ///
     /// Refused `NoColumns` and `TooManyColumns` by their number, then for the first name from the left that is
     /// no name (`BadName`) or that an earlier column has (`SameName`), or `OutOfMemory`.
+    ///
+    /// ```text
+    /// let names = [b"price".as_slice(), b"dist"];
+    /// let schema = Schema::new(alloc, names.as_slice())?;
+    /// ```
     pub fn new(alloc: Global, names: &[&[u8]]) -> Result<Schema, TableFault>
         ensures { Gives (λ schema. schema) result (schema_of (map (λ name. name.now) names.now)) }
     {

@@ -24,6 +24,10 @@ const LONGEST: usize = 4096;
 /// `BadCount`; a skyline clause of DIFF columns alone is `NoMinOrMax`, told at the end. A place is a byte's, from 0.
 /// `OutOfMemory` comes wherever it is met. Reads each byte a fixed number of times, and keeps the term and,
 /// where it is a product of `low`, `high`, `around` and their converses alone, the list of its factors.
+///
+/// ```text
+/// let ask = read_ask(alloc, &schema, b"best low(price) * low(dist)")?;
+/// ```
 pub fn read_ask(alloc: Global, schema: &Schema, text: &[u8]) -> Result<Ask, TermFault>
     // The answer is the one that the text has, unless memory ran out.
     ensures exact { MatchResult result (λ a. asked schema.now text.now ≡ Ok a) (λ f. UnlessMemory f (asked schema.now text.now ≡ Err f)) }

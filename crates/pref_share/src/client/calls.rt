@@ -40,6 +40,10 @@ impl<J: Naming> Client<J> {
     /// Inserts a row, and answers its id. Waits for the board.
     ///
     /// Refused `Spent`, `Full` (which is numbered), or `OutOfMemory`; and `ClientInUse`.
+    ///
+    /// ```text
+    /// let id = client.insert(rt, alloc, &board, Row::of(&schema, &[55, 1])?)?;
+    /// ```
     pub fn insert<R: Wait>(
         &mut self,
         rt: &R,
