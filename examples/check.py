@@ -13,6 +13,10 @@ repository, a block `script` or `replies` is a part of these. In the documents b
 - over the last block `table`: a block `question` and the block `answer` after it
 - over the last block `table`: a table's line of a question, a meaning, and the ids of its answer, a `/` between two levels
 - over the last block `table`: a table's line of a refused command, what is printed behind `line N`, and the right command
+- a block `sh` of one command `crates/NAME/out/NAME` of another program, and the block `replies` after it. Where that program is not built, it is
+  compared with the crate's file `stdout`, as `rt ci` does
+
+A block `rust` or `text` with the name of a file behind that word is a part of that file.
 """
 import re
 import subprocess
@@ -26,7 +30,7 @@ BLOCK = r"^```(?P<kind>\w+)(?P<rest>[^\n]*)\n(?P<text>.*?)^```$"
 ASKED = r"^\| `(?P<question>[^`]+)` \|[^|\n]*\| (?P<ids>\d[\d, /]*) \|$"
 SLIP = r"^\| `(?P<slip>as [^`]+)` \| `(?P<says>refused[^`]+)` \| `(?P<right>as [^`]+)` \|"
 PART = re.compile(f"{BLOCK}|{ASKED}|{SLIP}", re.MULTILINE | re.DOTALL)
-COMMAND = re.compile(r"crates/prefq/out/prefq(?P<words>[^\n<]*?)(?: <<'END'\n(?P<script>.*)END)?\n", re.DOTALL)
+COMMAND = re.compile(r"crates/(?P<crate>\w+)/out/(?P=crate)(?P<words>[^\n<]*?)(?: <<'END'\n(?P<script>.*)END)?\n", re.DOTALL)
 
 
 @dataclass
@@ -38,11 +42,20 @@ class Run:
     script: str
     printed: str
     status: int = 0
+    crate: str = "prefq"
+
+    def ends(self, program):
+        """What the program prints, and its status; whatever stands on standard error counts as printed."""
+        if self.crate != "prefq":
+            program = TOP / f"crates/{self.crate}/out/{self.crate}"
+            if not program.is_file():
+                return (TOP / f"crates/{self.crate}/stdout").read_text(), 0
+        done = subprocess.run([program, *self.words], input=self.script.encode(), capture_output=True, timeout=60)
+        return (done.stdout + done.stderr).decode(), done.returncode
 
     def fault(self, program):
-        """Whether the program prints something else; whatever stands on standard error counts as printed."""
-        done = subprocess.run([program, *self.words], input=self.script.encode(), capture_output=True, timeout=60)
-        if ((done.stdout + done.stderr).decode(), done.returncode) != (self.printed, self.status):
+        """Whether the program prints something else."""
+        if self.ends(program) != (self.printed, self.status):
             return f"{self.name}: the program prints something else"
 
     def write(self, folder):
@@ -53,7 +66,7 @@ class Run:
 
 
 def blocks(path):
-    return [(part["kind"], part["text"]) for part in re.finditer(BLOCK, path.read_text(), re.MULTILINE | re.DOTALL)]
+    return [(part["kind"], part["rest"].strip(), part["text"]) for part in re.finditer(BLOCK, path.read_text(), re.MULTILINE | re.DOTALL)]
 
 
 def example(folder):
@@ -65,9 +78,16 @@ def strange_parts(folder, run):
     """What an example's document shows and its files do not have."""
     own = folder / "README.md"
     document = own if own.is_file() else TOP / "README.md"
-    for kind, text in blocks(document):
+    for kind, _, text in blocks(document):
         if kind in ("script", "replies") and text not in {"script": run.script, "replies": run.printed}[kind]:
             yield f"{run.name}: {document.parent.name}/README.md shows what {kind}.txt does not have: {text.splitlines()[0]}"
+
+
+def strange_quotes(document):
+    """What a document shows of a file and the file does not have."""
+    for kind, file, text in blocks(document):
+        if kind in ("rust", "text") and file and text not in (TOP / file).read_text():
+            yield f"{document.name} shows what {file} does not have: {text.splitlines()[0]}"
 
 
 def over(table, *commands):
@@ -95,30 +115,30 @@ def slip(name, table, part):
 
 
 def command(text):
-    """The words and the script of a command that a block shows."""
+    """The words and the script of a command that a block shows, and the crate of its program."""
     parts = COMMAND.fullmatch(text)
     if not parts:
         sys.exit(f"this is no command of the program: {text}")
-    return parts["words"].split(), parts["script"] or ""
+    return {"words": parts["words"].split(), "script": parts["script"] or "", "crate": parts["crate"]}
 
 
 def runs_of(document):
     """What a document shows, run by run."""
-    table, asked = [], None
+    table, asked = [], {}
     for number, part in enumerate(PART.finditer(document.read_text())):
         name, kind, text = f"{document.stem}-{number}", part["kind"], part["text"]
         if kind == "table":
             table = text.splitlines()
         elif kind == "script":
-            asked = (part["rest"].split(), text)
+            asked = {"words": part["rest"].split(), "script": text}
         elif kind == "sh":
             asked = command(text)
         elif kind == "question":
-            asked = ([], over(table, *scanned(text.strip())))
+            asked = {"words": [], "script": over(table, *scanned(text.strip()))}
         elif kind == "replies":
-            yield Run(name, *asked, text, int(part["rest"] or 0))
+            yield Run(name, **asked, printed=text, status=int(part["rest"] or 0))
         elif kind == "answer":
-            yield Run(name, *asked, f"1 begun 1\n1 left 0\n{text}")
+            yield Run(name, **asked, printed=f"1 begun 1\n1 left 0\n{text}")
         elif part["question"]:
             yield Run(name, [], over(table, *scanned(part["question"])), answer_of(table, part["ids"]))
         elif part["slip"]:
@@ -131,13 +151,15 @@ def main():
     runs = [*examples, *(run for document in DOCUMENTS for run in runs_of(document))]
     if sys.argv[1:2] == ["--cases"]:
         for run in runs:
-            run.write(Path(sys.argv[2]))
+            if run.crate == "prefq":
+                run.write(Path(sys.argv[2]))
         return
     program = Path(sys.argv[1] if len(sys.argv) > 1 else TOP / "crates/prefq/out/prefq").resolve()
     if not program.is_file():
         sys.exit(f"{program} is not there: build it first")
     wrong = [why for run in runs if (why := run.fault(program))]
     wrong += [why for folder, run in zip(folders, examples) for why in strange_parts(folder, run)]
+    wrong += [why for document in DOCUMENTS for why in strange_quotes(document)]
     print(*wrong, f"{len(runs)} runs checked, {len(wrong)} wrong", sep="\n")
     sys.exit(1 if wrong else 0)
 
