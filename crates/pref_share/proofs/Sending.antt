@@ -35,7 +35,7 @@ pub ask_send : IsSend ask.the_row
 ask_send = search (sendable, declared_send, as_row_send, term_send, options.the_send, factors.the_send, modes.the_send, vectors.the_send, heap.the_send, frees) depth 14
 
 pub act_send : IsSend act.the_row
-act_send = search (sendable, variants_send, as_row_send, ask_send, rows.the_send, boxed_commits.the_send, heap.the_send, frees) depth 14
+act_send = search (sendable, variants_send, as_row_send, ask_send, rows.the_send, boxed_commits.the_send) depth 14
 
 pub query_send : IsSend query.the_row
 query_send = search (sendable, declared_send, as_row_send, ask_send, partials.the_send) depth 14
