@@ -9,6 +9,7 @@ use Rattle.std.proofs.vec.Vec.TheSendSync as vectors
 use Rattle.std.specs.contracts.alloc.Global as global
 use Rattle.pref_table.proofs.row.Row.TheSendSync as rows
 use Rattle.pref_term.proofs.term.Term.TheLaws.TheKnot as knot
+use Rattle.pref_term.proofs.term.NumberSets.TheSendSync as number_sets
 use Rattle.pref_term.proofs.term.Numbers.TheSendSync as numbers
 use Rattle.pref_term.proofs.ask.Mode.TheSendSync as modes
 use Rattle.pref_term.proofs.factor.Factor.TheSendSync as factors
@@ -29,7 +30,7 @@ use Rattle.pref_share.specs.contracts.client.Client as client
 use Rattle.pref_core.specs.contracts.query.Query as query
 
 pub term_send : IsSend (term.the_field).row
-term_send = knot.send-Term (search sendable) (search sendable) numbers.the_send (λ h s. boxes.the_send h global.the_row _ s heap.the_send frees)
+term_send = knot.send-Term (search sendable) (search sendable) numbers.the_send number_sets.the_send (λ h s. boxes.the_send h global.the_row _ s heap.the_send frees)
 
 pub ask_send : IsSend ask.the_row
 ask_send = search (sendable, declared_send, as_row_send, term_send, options.the_send, factors.the_send, modes.the_send, vectors.the_send, heap.the_send, frees) depth 14

@@ -58,13 +58,6 @@ unfolding digits next_record records_from schema_of number_of all_from row_of ta
     act_of change_of commands_of events_of told after_word change_said_by change_verb_of said_by said_in verb_of word_number word_of texts asked
 nearest_to_a_range = refl
 
--- a value counts by the first set that holds it, and one in no set comes last
-first_set_counts : output (limits_of 1024 1024) (codes "table\nx,y\n7,1\n2,3\n5,2\n3,9\n8,0\nend\nas 1 begin top_level 2 layered(x, {2, 3}, {5}) & low(y)\nas 1 scan\nas 1 finish\nas 1 begin best layered(x, {})\n")
-    ≡ codes "1 begun 1\n1 left 0\n1 answer 2\nlevel 1 id 2: 2,3\nlevel 2 id 4: 3,9\nline 12 refused term 1: unexpected at 17\n"
-unfolding digits next_record records_from schema_of number_of all_from row_of table_of table_of_records without_marks script_of raw_lines
-    act_of commands_of events_of told after_word said_by said_in verb_of word_number word_of texts asked
-first_set_counts = refl
-
 -- questions that are refused, each with its number, its text and its place
 refused_questions : output (limits_of 1024 1024) (codes "table\nx\nend\nas 1 begin best low(z)\nas 1 begin best low(x\nas 1 begin at_least 0 low(x)\nas 1 begin skyline of x diff\nas 1 insert 1,2\nas 1 jump\nas 1 begin best low(x) +\n")
     ≡ codes "line 4 refused term 2: unknown column at 9\nline 5 refused term 1: unexpected at 10\nline 6 refused term 6: bad count at 9\nline 7 refused term 7: no min or max\nline 8 refused table 5: width row 0\nline 9 refused: command\nline 10 refused term 1: unexpected at 12\n"
