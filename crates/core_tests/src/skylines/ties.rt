@@ -109,7 +109,7 @@ fn one_of_many_equal_rows_by_any_window(rt: HostRuntime) -> Result<(), Fail> {
     let ask = ask_of(alloc, b"skyline of distinct x min, y max")?;
     let mut rows = Vec::with_capacity(alloc, 1000)?;
     for i in 0..1000_i64 {
-        let n = 7 * i % 100;
+        let n = i % 100;
         rows.push((n, n))?;
     }
     let entries = numbered(alloc, &rows)?;
