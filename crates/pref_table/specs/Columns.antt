@@ -1,4 +1,4 @@
--- Where a name stands among the names of a schema. (this project)
+-- The place of a name among the names of a schema. (this project)
 use Rattle.std.specs.Prelude.{ℕ, List, Option, position}
 use Rattle.std.specs.Str.{bytes_eq}
 

@@ -16,7 +16,7 @@ pub record IsPlainField (line : List ℕ) (number : ℤ) (size : ℕ) : Type 0 w
   pub reads : number_of (take size line) ≡ Ok number
   pub cut : IsCutInto line (take size line) (drop (size + 1) line)
 
--- the cell of a line's first field, which stands in this column of row 0, or its fault; and what follows the comma after it
+-- the cell of a line's first field, which is in this column of row 0, or its fault; and what follows the comma after it
 pub record FirstCell (line : List ℕ) (col : ℕ) (cell : Result ℤ TableFault) (after : List ℕ) : Type 0 where
   pub field : List ℕ
   pub is : cell ≡ cell_in 0 col field

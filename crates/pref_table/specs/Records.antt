@@ -12,7 +12,7 @@ use Rattle.csv.specs.declared.reader.Trim.TheVariants as trim
 abbrev pub BytesReader : Type 0
 BytesReader = Reader (Bor (List ℕ))
 
--- the reader, with the crate's defaults, has these records left: it stands between two records, before bytes that read so
+-- the reader, with the crate's defaults, has these records left: it is between two records, before bytes that read so
 pub record HasLeft (reader : BytesReader) (left : List (List (List ℕ))) : Type 0 where
   pub config : reader_config reader ≡ default_config
   pub trim : reader_trim reader ≡ trim.None

@@ -38,7 +38,7 @@ fn after_comma(line: &[u8], size: usize) -> &[u8]
     }
 }
 
-/// The cell of the first field of a line, which stands in this column of row 0, and what follows the comma after it.
+/// The cell of the first field of a line, which is in this column of row 0, and what follows the comma after it.
 fn first_cell(line: &[u8], col: u64) -> Result<(i64, &[u8]), TableFault>
     ensures { MatchResult result (λ cell. FirstCell line.now col (Ok cell.0) cell.1.now) (λ fault. (after : List ℕ) × FirstCell line.now col (Err fault) after) }
 {

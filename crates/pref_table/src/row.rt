@@ -47,6 +47,10 @@ impl Row {
     }
 
     /// The number in a column, which counts from 0.
+    ///
+    /// ```text
+    /// let (price, dist) = (best.row.cell(0), best.row.cell(1));
+    /// ```
     pub fn cell(&self, col: usize) -> i64
         requires { col < 16 }
         ensures value { result ≡ slice_index_or self.now col (pos 0) }
@@ -56,7 +60,7 @@ impl Row {
     }
 }
 
-/// The number of a field, which stands in this row and column.
+/// The number of a field, which is in this row and column.
 pub(crate) fn cell_at(row: u64, col: u64, field: &[u8]) -> Result<i64, TableFault>
     ensures { result ≡ cell_in row col field.now }
 {

@@ -143,7 +143,7 @@ impl Schema {
         ensures value { result ≡ length self.now }
         ensures some { 0 < result }
         ensures few { result ≤ 16 }
-        // What is so of each schema, as the laws of question texts want it.
+        // What holds of each schema, as the laws of question texts need it.
         ensures known { schema_of self.now ≡ Ok self.now }
     {
         self.names.len()

@@ -69,9 +69,13 @@ fn field_of(row: &ByteRecord, col: usize) -> &[u8]
     field
 }
 
+/// The schema of a header. A header may be all commas for megabytes, so its names are counted before they are listed.
 fn read_schema(alloc: Global, header: &ByteRecord) -> Result<Schema, TableFault>
     ensures { Gives (λ schema. schema) result (schema_of (map without_blanks (fields_of header.now))) }
 {
+    if header.len() > MAX_COLUMNS {
+        return Err(TableFault::TooManyColumns);
+    }
     let mut names: Vec<&[u8]> = Vec::new(alloc);
     for col in 0..header.len() {
         names.push(trim_blanks(field_of(header, col)))?;
@@ -120,8 +124,12 @@ fn read_rows(
 ///
 /// Records and fields are those that the crate `csv` reads with its defaults, after byte order marks at the very
 /// beginning. The faults come in the order of the text: those of the header as `Schema::new` orders them, then record by
-/// record `TooManyRows`, `Width`, and from the left `NotWhole` or `OutOfRange`; `OutOfMemory` wherever it is met.
+/// record `TooManyRows`, `Width`, and from the left `NotWhole` or `OutOfRange`; `OutOfMemory` as soon as memory runs out.
 /// Reads the text once, keeps one record at a time, and stops at the first fault and after 65,537 rows.
+///
+/// ```text
+/// let (schema, rows) = read_table(alloc, b"price,dist\n50,8\n60,5\n")?;
+/// ```
 pub fn read_table(alloc: Global, bytes: &[u8]) -> Result<(Schema, Vec<Row>), TableFault>
     ensures { Gives (λ table. (table.0, table.1.items)) result (table_of bytes.now) }
 {
