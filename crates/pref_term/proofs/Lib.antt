@@ -1,6 +1,8 @@
 pub mod Sizes
 pub mod WalkLaws
 pub mod FactorLaws
+pub mod SignatureWords
+pub mod SignatureLaws
 pub mod WorkedTerms
 pub mod Sound
 pub mod TokenLemmas

@@ -6,15 +6,15 @@ use Rattle.pref_term.specs.OrderLaws.{and_made, and_parts, over_not_self, over_o
 use Rattle.pref_term.specs.Question.{Question, IsAsk, alike, over, twins}
 use Rattle.pref_term.specs.TwinLaws.{clause_twins, twins_alike, twins_back, twins_have_twins, twins_on}
 
--- the order that an ask stands for
+-- the order of an ask
 abbrev pub order_of : Question → RowOrder
 order_of q = record { over = over q; twin = twins q }
 
--- no row is over itself, and over is transitive
+-- no row dominates itself, and dominance is transitive
 pub order_of_is_strict : (q : Question) → IsStrictOrder (order_of q).over
 order_of_is_strict q = record { irreflexive = over_not_self q; transitive = over_on q }
 
--- rows of one group that are the same stand alike
+-- rows of one group that are the same are alike in it
 pub order_of_alike : (q : Question) (a b : List ℤ) → alike q a b ≡ true → StandAlike (order_of q).over a b
 order_of_alike q a b h = record { above = λ c. alike_above q a b c h; below = λ c. alike_below q a b c h }
 
@@ -37,7 +37,7 @@ order_of_twins_alike q known a b h = go q.distinct refl
         (and_made q.distinct _ keeps (sym (clause_twins q a b (known.clause keeps).preference) ∙ h))
     go false all = record { above = λ c. rw all refl; below = λ c. rw all refl }
 
--- a row is over rows of its own group alone
+-- a row dominates rows of its own group alone
 pub order_of_stays_in_groups : (q : Question) (a b : List ℤ) → (order_of q).over a b ≡ true → in_same_group q.group a b ≡ true
 order_of_stays_in_groups q a b h = (and_parts (in_same_group q.group a b) (better q.preference a b) h).0
 

@@ -16,6 +16,11 @@ abbrev pub in_sense : Sense → Preference → Preference
 in_sense Direct p = p
 in_sense Reversed p = reverse p
 
+-- the other sense
+abbrev pub opposite : Sense → Sense
+opposite Direct = Reversed
+opposite Reversed = Direct
+
 -- what a factor prefers
 abbrev pub preference_of_factor : Factor → Preference
 preference_of_factor (Low col) = scored (low col)
@@ -27,7 +32,7 @@ preference_of_factor (Range col left right sense) = in_sense sense (scored (betw
 abbrev pub AreInRow : List Factor → Type 0
 AreInRow factors = All (λ factor. ReadsBelow 16 (preference_of_factor factor)) factors
 
--- how a first row stands to a second one by the product of these factors
+-- how a first row compares with a second one by the product of these factors
 abbrev pub by_factors : List Factor → List ℤ → List ℤ → Relation
 by_factors [] a b = Same
 by_factors (factor ∷ factors) a b = in_product (walked (preference_of_factor factor) a b) (by_factors factors a b)
@@ -37,7 +42,7 @@ pub record AreFactorsOf (p : Preference) (factors : List Factor) : Type 0 where
   pub in_row : AreInRow factors
   pub alike : (a b : List ℤ) → by_factors factors a b ≡ walked p a b
 
--- factors of the preference stand behind the shorter list
+-- factors of the preference follow the shorter list
 pub record EndsInFactorsOf (p : Preference) (shorter longer : List Factor) : Type 0 where
   pub more : List Factor
   pub appended : longer ≡ shorter ++ more

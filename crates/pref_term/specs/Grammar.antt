@@ -25,7 +25,7 @@ letters_of top_level_word = codes "top_level"
 letters_of at_least_word = codes "at_least"
 letters_of by_word = codes "by"
 
--- the words that may stand in any case, in lower case
+-- the words that may be in any case, in lower case
 abbrev pub cased_letters : CasedWord → List ℕ
 cased_letters skyline_word = codes "skyline"
 cased_letters of_word = codes "of"
@@ -42,7 +42,7 @@ cased_in lower =
 abbrev pub cased_of : List ℕ → Option CasedWord
 cased_of letters = cased_in (str_to_ascii_lowercase letters)
 
--- the words that stand around base terms, and those of base terms
+-- the words around base terms, and those of base terms
 abbrev pub outer_words : List Keyword
 outer_words = best_word ∷ reverse_word ∷ top_level_word ∷ at_least_word ∷ by_word ∷ []
 
@@ -67,7 +67,7 @@ pub record SetText : Type 0 where
   pub first : NumberText
   pub others : List NumberText
 
--- what stands in a column
+-- a base term as it is written
 pub data BaseText : Type 0 where
   low_text : (column : List ℕ) → BaseText
   high_text : (column : List ℕ) → BaseText
@@ -115,13 +115,13 @@ pub data AskText : Type 0 where
 pub data Leaf : Type 0 where
   name : (k : Keyword) → Leaf
   mark : (s : Sign) → Leaf
-  -- it opens a nesting, where so many are open
+  -- it opens a nesting, where this many are open
   opens : (depth : ℕ) (s : Sign) → Leaf
   column_name : (letters : List ℕ) → Leaf
   -- the digits of a number, and the number that it may not be less than, where there is one
   number_digits : (least : Option NumberText) (negative : Bool) (digits : List ℕ) → Leaf
   count_digits : (digits : List ℕ) → Leaf
-  -- a word that may stand in any case, as it is written
+  -- a word that may be in any case, as it is written
   cased : (k : CasedWord) (letters : List ℕ) → Leaf
   last : Leaf
 
@@ -136,7 +136,7 @@ token_of (count_digits ds) = digits ds
 token_of (cased k letters) = word letters
 token_of last = finish
 
--- a word that may stand in any case is that word
+-- a word that may be in any case is that word
 abbrev pub IsWritten : Leaf → Type 0
 IsWritten (cased k letters) = cased_letters k ≡ str_to_ascii_lowercase letters
 IsWritten _ = Unit {0}
@@ -185,7 +185,7 @@ base_leaves (pos_text column first others) =
 base_leaves (layered_text column first others) =
     name layered_word ∷ mark left ∷ column_name column ∷ mark comma ∷ set_leaves first ++ (more_sets others ++ mark right ∷ [])
 
--- the leaves, where so many nestings are open around them
+-- the leaves, where this many nestings are open around them
 abbrev mutual
   pub prior_leaves : PriorText → ℕ → List Leaf
   prior_leaves (one_product p) depth = product_leaves p depth
@@ -223,7 +223,7 @@ direction_word minimal = min_word
 direction_word maximal = max_word
 direction_word different = diff_word
 
--- what such a word says
+-- the direction that this word names
 abbrev pub direction_in : Option CasedWord → Option Direction
 direction_in (Some min_word) = Some minimal
 direction_in (Some max_word) = Some maximal
@@ -244,6 +244,6 @@ abbrev pub ask_leaves : AskText → List Leaf
 ask_leaves (rated head r group) = head_leaves head ++ (prior_leaves r 0 ++ (group_leaves group ++ last ∷ []))
 ask_leaves (skyline s o first others) = cased skyline_word s ∷ cased of_word o ∷ dim_leaves first ++ (more_dims others ++ last ∷ [])
 
--- the words of a text that may stand in any case are those words
+-- the words of a text that may be in any case are those words
 abbrev pub IsText : AskText → Type 0
 IsText tree = AllByRecursion IsWritten (ask_leaves tree)

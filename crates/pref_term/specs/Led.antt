@@ -1,5 +1,5 @@
 -- No public contract cites this.
--- What each part of the reader promises: where reading comes to, or the fault that it tells. (this project)
+-- What each part of the reader promises: where reading comes to, or the fault that it reports. (this project)
 use Rattle.std.specs.Prelude.{◌≡◌, ◌≢◌, ◌<◌, ◌+◌, ℕ, ℤ, List, [], ◌∷◌, ◌++◌, length, All, FitsSigned, IfSome, Bool, true, false, map, Ok, Err, Option, Some, None, int_lt}
 use Rattle.std.specs.Int.{w64}
 use Rattle.std.specs.Str.Parse.{digits_value}
@@ -21,16 +21,16 @@ use Rattle.pref_term.specs.declared.fault.TermFault.TheVariants.{Unexpected, Emp
 abbrev pub Goes : Names → State → List Placed → State → List Placed → Type 0
 Goes names s ts m us = (p : ℕ) → (q : ℕ) × (run names ts p s ≡ run names us q m)
 
--- reading tells the fault, unless memory ran out
+-- reading reports the fault, unless memory ran out
 abbrev pub Fails : Names → State → List Placed → TermFault → Type 0
 Fails names s ts f = UnlessMemory f ((p : ℕ) → run names ts p s ≡ Err f)
 
--- the first token isn't this one, and the fault is told at it
+-- the first token isn't this one, and the fault is reported at it
 abbrev pub IsOther : Token → List Placed → TermFault → Type 0
 IsOther t [] f = ⊥
 IsOther t (u ∷ us) f = (u.token ≢ t) × (f ≡ Unexpected u.place)
 
--- this token stands in front
+-- this token is in front
 abbrev pub Passes : Token → List Placed → List Placed → Type 0
 Passes t ts us = (at : ℕ) × (ts ≡ record { token = t; place = at } ∷ us)
 
@@ -44,7 +44,7 @@ abbrev pub IsNoWord : Token → Type 0
 IsNoWord (word letters) = ⊥
 IsNoWord _ = Unit {0}
 
--- the first token is no word, and the fault is told at it
+-- the first token is no word, and the fault is reported at it
 abbrev pub LacksWord : List Placed → TermFault → Type 0
 LacksWord [] f = ⊥
 LacksWord (u ∷ us) f = IsNoWord u.token × (f ≡ Unexpected u.place)
@@ -120,7 +120,7 @@ abbrev pub list_sign : (close : Sign) (more : Bool) → Sign
 list_sign close true = comma
 list_sign close false = close
 
--- where the next number of a list stands, behind some
+-- where the next number of a list is, behind some
 abbrev pub list_hole : NumberList → List NumberText → NumberHole
 list_hole l [] = first_of l
 list_hole l (first ∷ others) = next_of l first others
@@ -250,7 +250,7 @@ pub record ReadsGroup (names : Names) (inside : ℕ) (ts : List Placed) (p : Pre
   pub goes : (h : UnaryHole) → unary_depth h + 1 ≡ inside → Goes names (operand (first_factor (first_product (in_group h)))) ts (completed h (grouped tree)) us
   pub goes_reversed : (h : UnaryHole) → unary_depth h + 1 ≡ inside → Goes names (operand (first_factor (first_product (in_reverse h)))) ts (completed h (reversed tree)) us
 
--- what stands behind `reverse`
+-- what follows `reverse`
 pub record ReadsReverse (names : Names) (depth : ℕ) (ts : List Placed) (p : Preference) (us : List Placed) : Type 0 where
   pub tree : PriorText
   pub meaning : reverse (prior_meaning tree names) ≡ p
@@ -282,7 +282,7 @@ FailsPrior names depth ts f = (h : PriorHole) → prior_depth h ≡ depth → Fa
 abbrev pub Asks : Names → State → List Placed → Question → Type 0
 Asks names s ts q = (p : ℕ) → meant names false (run names ts p s) ≡ Ok q
 
--- reading tells the fault, unless memory ran out
+-- reading reports the fault, unless memory ran out
 abbrev pub AsksNothing : Names → State → List Placed → TermFault → Type 0
 AsksNothing names s ts f = UnlessMemory f ((p : ℕ) → meant names false (run names ts p s) ≡ Err f)
 
@@ -417,7 +417,7 @@ AsksWhole names ts q = meant names (says_distinct ts) (run names (plain ts) 0 st
 abbrev pub AsksWholeNothing : Names → List Placed → TermFault → Type 0
 AsksWholeNothing names ts f = UnlessMemory f (meant names (says_distinct ts) (run names (plain ts) 0 start) ≡ Err f)
 
--- behind the word `distinct` of a clause: there reading stands behind `of`
+-- behind the word `distinct` of a clause: there reading is behind `of`
 pub record IsBehindDistinct (ts us : List Placed) : Type 0 where
   pub said : says_distinct ts ≡ true
   pub skyline_is : List ℕ

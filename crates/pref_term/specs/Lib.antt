@@ -12,6 +12,8 @@ pub mod EqualLaws
 pub mod PreferenceCode
 pub mod Walk
 pub mod Factors
+pub mod Signatures
+pub mod Leading
 pub mod Token
 pub mod Grammar
 pub mod Distinct

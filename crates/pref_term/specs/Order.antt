@@ -3,22 +3,22 @@ use Rattle.std.specs.Prelude.{◌≡◌, Bool, true, false, List, ℤ}
 use Rattle.pref_term.specs.declared.relation.Relation.{Relation}
 use Rattle.pref_term.specs.declared.relation.Relation.TheVariants.{Better, Worse, Same, Neither}
 
--- nothing is over itself, and what is over something is over all that this is over
+-- nothing dominates itself, and what dominates something dominates all that this dominates
 pub record IsStrictOrder {E : Type 0} (over : E → E → Bool) : Type 0 where
   pub irreflexive : (a : E) → over a a ≡ false
   pub transitive : (a b c : E) → over a b ≡ true → over b c ≡ true → over a c ≡ true
 
--- what is over one of the two is over the other, and they are over the same
+-- what dominates one of the two dominates the other, and they dominate the same
 pub record StandAlike {E : Type 0} (over : E → E → Bool) (a b : E) : Type 0 where
   pub above : (c : E) → over c a ≡ over c b
   pub below : (c : E) → over a c ≡ over b c
 
--- what a question says of two rows: the first is over the second; the two are twins, of which one is kept
+-- what a question says of two rows: `over` that the first dominates the second; `twins` that they are twins, of which one is kept
 pub record RowOrder : Type 0 where
   pub over : List ℤ → List ℤ → Bool
   pub twin : List ℤ → List ℤ → Bool
 
--- over is a strict order, and twins stand alike in it; being twins goes both ways and on
+-- `over` is a strict order, and twins are alike in it; being twins is symmetric and transitive
 pub record IsRowOrder (order : RowOrder) : Type 0 where
   pub strict : IsStrictOrder order.over
   pub symmetric : (a b : List ℤ) → order.twin a b ≡ true → order.twin b a ≡ true

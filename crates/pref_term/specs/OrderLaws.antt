@@ -1,5 +1,5 @@
 -- No public contract cites this.
--- Each preference is a strict order, and rows that are the same to it stand alike in it. (this project)
+-- Each preference is a strict order, and rows that are the same to it are alike in it. (this project)
 use Rattle.std.proofs.Common.{◌≡◌, ℤ, ℕ, List, [], ◌∷◌, Bool, true, false, ◌⊎◌, inl, inr, sym, ap, ◌∙◌, refl, arith}
 use Rattle.std.specs.Prelude.{◌&&◌, ◌||◌, int_lt}
 use Rattle.std.specs.Ordering.{int_eq}
@@ -107,7 +107,7 @@ module _ {R : Type 0} {B S C T : R → R → Bool} (o : IsOrder B S) (u : IsOrde
         | inr x ↦ or_right (B a b && (C a b || T a b)) (C a b && (B a b || S a b)) (and_made (C a b) (B a b || S a b) x.0 x.1)
       ]
 
-  -- who beats is before or alike in both
+  -- who dominates is before or alike in both
   weak_parts : (a b : R) → Beats a b → ((B a b || S a b) ≡ true) × ((C a b || T a b) ≡ true)
   unfolding Beats
   weak_parts a b h =
@@ -214,7 +214,7 @@ and_false : (x : Bool) → (x && false) ≡ false
 and_false true = refl
 and_false false = refl
 
--- no row is over itself
+-- no row dominates itself
 pub over_not_self : (q : Question) (a : List ℤ) → over q a a ≡ false
 over_not_self q a = rw ((better_order q.preference).not_self a) (and_false (in_same_group q.group a a))
 
@@ -254,10 +254,10 @@ alike_over q a b c h k =
     let x = and_parts (in_same_group q.group b c) (better q.preference b c) k in
     and_made (in_same_group q.group a c) (better q.preference a c) (group_on q.group a b c t.0 x.0) ((better_order q.preference).alike_before a b c t.1 x.1)
 
--- what is over one of two rows of a group that are the same is over the other
+-- what dominates one of two rows of a group that are the same dominates the other
 pub alike_above : (q : Question) (a b c : List ℤ) → alike q a b ≡ true → over q c a ≡ over q c b
 alike_above q a b c h = same_test (over q c a) (over q c b) (over_alike q a b c h) (over_alike q b a c (alike_back q a b h))
 
--- and they are over the same rows
+-- and they dominate the same rows
 pub alike_below : (q : Question) (a b c : List ℤ) → alike q a b ≡ true → over q a c ≡ over q b c
 alike_below q a b c h = same_test (over q a c) (over q b c) (alike_over q b a c (alike_back q a b h)) (alike_over q a b c h)

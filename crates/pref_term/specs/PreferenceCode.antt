@@ -1,5 +1,5 @@
 -- No public contract cites this.
--- A code of preferences and of questions, by which proofs tell their values apart. It says nothing of what they mean. (this project)
+-- A code of preferences and of questions, by which proofs distinguish their values. It says nothing of what they mean. (this project)
 use Rattle.std.specs.Prelude.{◌≡◌, Bool, ℕ, ℤ, List, ◌⊎◌, refl}
 use Rattle.std.proofs.Common.{inl, inr, ap}
 use base.Stored.{Gv, gnum, gcons}

@@ -58,12 +58,12 @@ pub data BasePart : Type 0 where
   ranged : (column : List ℕ) (lower : NumberText) → BasePart
   range_ended : (column : List ℕ) (lower upper : NumberText) → BasePart
 
--- what stands before a set
+-- what comes before a set
 abbrev pub before_set : List SetText → List Leaf
 before_set [] = []
 before_set (s ∷ ss) = set_leaves s ++ (more_sets ss ++ mark comma ∷ [])
 
--- what stands before the first number of a list
+-- what comes before the first number of a list
 abbrev pub before_list : NumberList → List Leaf
 before_list (in_pos column) = name pos_word ∷ mark left ∷ column_name column ∷ mark comma ∷ []
 before_list (in_set column sets) = name layered_word ∷ mark left ∷ column_name column ∷ mark comma ∷ before_set sets ++ mark left_brace ∷ []
@@ -253,7 +253,7 @@ completed (first_factor h) u = after h (one_factor u)
 completed (next_factor h p) u = after h (then_factor p u)
 completed (in_minus h) u = completed h (negated u)
 
--- what the product stands in, and the prior that it ends
+-- the prior that the product is in, and the one that it ends
 abbrev pub outer : ProductHole → PriorHole
 outer (first_product h) = h
 outer (next_product h r) = h
@@ -367,7 +367,7 @@ abbrev pub led : Names → (before place : ℕ) → (State → Result AskText Te
 led names before place go None = Err (Unexpected place)
 led names before place go (Some (leaf, m)) = judged leaf before place (go m) (own_fault names leaf)
 
--- reads the tokens from a state; the token before them stands at `before`
+-- reads the tokens from a state; the token before them is at `before`
 abbrev pub run : Names → List Placed → (before : ℕ) → State → Result AskText TermFault
 run names [] before s = ended s before
 run names (t ∷ ts) before s = led names before t.place (run names ts t.place) (next s t.token)

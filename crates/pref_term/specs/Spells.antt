@@ -61,7 +61,7 @@ abbrev mutual
   unary_meaning (reversed r) names = reverse (prior_meaning r names)
   unary_meaning (based b) names = scored (base_meaning names b)
 
--- how many a head wants
+-- how many a head asks for
 abbrev pub mode_of : HeadText → Mode
 mode_of best_head = Best
 mode_of (top_level_head count) = TopLevel (digits_value 10 count)
@@ -128,12 +128,12 @@ own_fault names last = None
 abbrev pub IsGood : Names → Leaf → Type 0
 IsGood names leaf = own_fault names leaf ≡ None
 
--- where it is told: a number at its first token
+-- where it is reported: a number at its first token
 abbrev pub told_at : Leaf → (before place : ℕ) → ℕ
 told_at (number_digits least true ds) before place = before
 told_at _ before place = place
 
--- the fault that is told of it
+-- the fault that is reported of it
 abbrev pub told : OwnFault → ℕ → TermFault
 told unknown_column at = UnknownColumn at
 told number_range at = NumberRange at
@@ -169,7 +169,7 @@ pub record Starts (leaves : List Leaf) : Type 0 where
   pub rest : List Leaf
   pub whole : ask_leaves tree ≡ leaves ++ rest
 
--- the place of the last token, or what stood before where there is none
+-- the place of the last token, or what came before where there is none
 abbrev pub last_place : (before : ℕ) → List Placed → ℕ
 last_place before [] = before
 last_place before (t ∷ ts) = last_place t.place ts
@@ -214,7 +214,7 @@ Faults names text fault =
     ((4096 < length text) × (fault ≡ TooLong))
     ⊎ ((length text ≤ 4096) × (FirstFault names (plain (tokens_of text)) fault ⊎ (LacksOrder names (plain (tokens_of text)) × (fault ≡ NoMinOrMax))))
 
--- that, unless the fault is want of memory
+-- that, unless the fault is out of memory
 abbrev pub UnlessMemory : TermFault → Type 0 → Type 0
 UnlessMemory OutOfMemory P = Unit {0}
 UnlessMemory _ P = P

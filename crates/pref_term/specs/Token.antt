@@ -45,7 +45,7 @@ token_from b bs =
     else if is_ascii_digit b then digits (b ∷ take (more_bytes b bs) bs)
     else sign_or_other b
 
--- the tokens of the bytes, of which the first few belong to a token that was told before
+-- the tokens of the bytes, of which the first few belong to a token that was listed before
 abbrev pub tokens_from : (told place : ℕ) → List ℕ → List Placed
 tokens_from told place [] = record { token = finish; place = place } ∷ []
 tokens_from (suc told) place (b ∷ bs) = tokens_from told (place + 1) bs

@@ -5,6 +5,7 @@ ghost use Rattle.pref_term.specs.Better.{in_same_group};
 use crate::dominance::Dominance;
 use crate::factor::{Factor, compare_by_factors, factors_of};
 use crate::relation::Relation;
+use crate::signature::{Cuts, all_suit, cuts_for};
 use crate::term::Term;
 use crate::walk::compare;
 use pref_table::Row;
@@ -82,7 +83,7 @@ impl Ask {
     pub fn term(&self) -> &Term
         ensures term { preference_of result.now ≡ self.now.preference }
         ensures columns { FitsWidth 16 self.now }
-        // What is so of each ask, as the law of shown questions wants it.
+        // What holds of each ask, as the law of shown questions needs it.
         ensures known { IsAsk self.now }
     {
         &self.term
@@ -122,7 +123,7 @@ impl Ask {
         }
     }
 
-    /// Compares two rows by the term alone. A call of its own, so that the test of their groups before it is small and stands
+    /// Compares two rows by the term alone. A call of its own, so that the test of their groups before it is small enough to be inlined
     /// where rows are compared.
     #[inline(never)]
     fn compare_in_group(&self, a: &Row, b: &Row) -> Relation
@@ -215,5 +216,14 @@ impl Dominance for Ask {
         } else {
             Relation::Neither
         }
+    }
+
+    /// Whether each cut goes through the scores of a part that leads the term, or reads a column of the group. Takes no memory.
+    fn suits(&self, cuts: &Cuts) -> bool {
+        all_suit(cuts.as_slice(), &self.term, &self.group)
+    }
+
+    fn cuts(&self, alloc: Global, sample: &[Row]) -> Result<Cuts, AllocError> {
+        cuts_for(alloc, &self.term, &self.group, sample)
     }
 }

@@ -1,19 +1,22 @@
 //! Strict orders of rows.
 ghost use Rattle.std.specs.Prelude.{◌≡◌, true};
 ghost use Rattle.pref_term.specs.Order.{IsRowOrder, RowOrder, StandAlike, is_better, is_same, is_worse};
+ghost use Rattle.pref_term.specs.Signatures.{Suit};
 
 use crate::relation::Relation;
+use crate::signature::Cuts;
 use pref_table::Row;
+use std::alloc::{AllocError, Global};
 
 /// A strict order of rows, as the skyline operator needs it (Börzsönyi, Kossmann, Stocker 2001).
 ///
-/// No row is over itself; what is over a row is over all that this row is over. Of twins one is kept:
-/// the same rows are over both, and both are over the same rows. No call takes memory.
+/// No row dominates itself; what dominates a row dominates all that this row dominates. The code's word for that is
+/// `over`. Of twins one is kept: the same rows dominate both, and both dominate the same rows. No call but `cuts` takes memory.
 pub trait Dominance {
-    /// Which row is over which, and which rows are twins.
+    /// Which row dominates which, and which rows are twins.
     ghost order: { Self → RowOrder };
 
-    /// Whether the first row is over the second one.
+    /// Whether the first row dominates the second one.
     fn over(&self, a: &Row, b: &Row) -> bool
         ensures { result ≡ (order self.now).over a.now b.now };
 
@@ -22,13 +25,13 @@ pub trait Dominance {
     fn twin(&self, a: &Row, b: &Row) -> bool
         ensures { result ≡ (order self.now).twin a.now b.now };
 
-    /// How the first row stands to the second one: both questions in one answer. Rows that are told as
-    /// the same stand alike: what is over one is over the other, they are over the same rows, and they
-    /// have the same twins. Twins are told as the same.
+    /// How the first row compares with the second one: both questions in one answer. Rows that are answered
+    /// to be the same are alike: what dominates one dominates the other, they dominate the same rows, and they
+    /// have the same twins. Twins are the same.
     ///
-    /// An order that finds both at once should answer them at once, and tell rows that it scores alike as
-    /// the same, since such rows are compared less often. This body asks each question by itself, and
-    /// tells twins alone as the same.
+    /// An order that finds both at once should answer them at once, and answer `Same` for rows that it scores
+    /// alike, since such rows are compared less often. This body asks each question by itself, and answers
+    /// `Same` for twins alone.
     fn compare(&self, a: &Row, b: &Row) -> Relation
         ensures better { is_better result ≡ (order self.now).over a.now b.now }
         ensures worse { is_worse result ≡ (order self.now).over b.now a.now }
@@ -45,6 +48,20 @@ pub trait Dominance {
         } else {
             Relation::Neither
         }
+    }
+
+    /// Whether rows that are signed by these cuts can be distinguished by their signatures: a row that dominates
+    /// another, or is its twin, has no bit that the other lacks. This body says so of no cuts at all.
+    fn suits(&self, cuts: &Cuts) -> bool
+        ensures { result ≡ true → Suit (order self.now) cuts.now }
+    {
+        cuts.as_slice().is_empty()
+    }
+
+    /// Cuts for rows like these. Any are right where `suits` says so, and good ones distinguish most rows;
+    /// this body gives none. Takes memory for the list, and `Err` is out of memory.
+    fn cuts(&self, _alloc: Global, _sample: &[Row]) -> Result<Cuts, AllocError> {
+        Ok(Cuts::none())
     }
 
     ghost laws: { (d : Self) → IsRowOrder (order d) };

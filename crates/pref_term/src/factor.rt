@@ -3,7 +3,7 @@ ghost use Rattle.std.specs.Prelude.{◌≡◌, ◌-ℤ◌, ℤ, List, [], ◌∷
 ghost use Rattle.std.specs.Option.{IfSome};
 ghost use Rattle.pref_term.specs.Better.{outside};
 ghost use Rattle.pref_term.specs.Columns.{ReadsBelow};
-ghost use Rattle.pref_term.specs.Factors.{AreFactorsOf, AreInRow, EndsInFactorsOf, by_factors, in_sense, preference_of_factor, sides_in_sense};
+ghost use Rattle.pref_term.specs.Factors.{AreFactorsOf, AreInRow, EndsInFactorsOf, by_factors, in_sense, opposite, preference_of_factor, sides_in_sense};
 ghost use Rattle.pref_term.specs.Preference.{Preference, preference_of};
 ghost use Rattle.pref_term.specs.Walk.{by_scores, by_sides, walked};
 
@@ -47,8 +47,9 @@ pub(crate) enum Sense {
 
 impl Sense {
     /// The other sense.
-    fn opposite(self) -> Sense
-        ensures { (p : Preference) (a b : List ℤ) → walked (in_sense result p) a b ≡ walked (in_sense self p) b a }
+    pub(crate) fn opposite(self) -> Sense
+        ensures sense { result ≡ opposite self }
+        ensures turned { (p : Preference) (a b : List ℤ) → walked (in_sense result p) a b ≡ walked (in_sense self p) b a }
     {
         match self {
             Sense::Direct => Sense::Reversed,
@@ -97,7 +98,7 @@ impl Factor {
     }
 
     /// This factor, or its converse.
-    fn in_sense(self, sense: Sense) -> Factor
+    pub(crate) fn in_sense(self, sense: Sense) -> Factor
         requires { ReadsBelow 16 (preference_of_factor self) }
         ensures { AreFactorsOf (in_sense sense (preference_of_factor self)) (result ∷ []) }
     {
@@ -107,7 +108,7 @@ impl Factor {
         }
     }
 
-    /// How the first row stands to the second one by this factor.
+    /// How the first row compares with the second one by this factor.
     #[inline(always)]
     pub(crate) fn compare(self, a: &Row, b: &Row) -> Relation
         requires { ReadsBelow 16 (preference_of_factor self) }
@@ -163,7 +164,7 @@ fn sides_by_distance(a: i64, b: i64, centre: i64) -> (bool, bool)
 
 /// How far the value lies outside the range: at most 2^64 - 1, and nothing within it.
 #[inline(always)]
-fn outside(value: i64, left: i64, right: i64) -> u64
+pub(crate) fn outside(value: i64, left: i64, right: i64) -> u64
     ensures { pos result ≡ outside left right value }
 {
     if value < left {
@@ -248,7 +249,7 @@ fn with_factor(
     Ok(Some(factors))
 }
 
-/// How the first row stands to the second one by the product of these factors.
+/// How the first row compares with the second one by the product of these factors.
 ///
 /// One loop, which stops at the first factor after which neither row can be better. Takes no memory.
 #[inline]

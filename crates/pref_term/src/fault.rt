@@ -8,7 +8,7 @@ pub enum TermFault {
     /// No text of the grammar goes on like this; the place is the token's, and the text's length at its end.
     #[error("unexpected at {at}")]
     Unexpected { at: u64 },
-    /// A word that is no column's name, where a column stands.
+    /// A word that is no column's name, where a column must be.
     #[error("unknown column at {at}")]
     UnknownColumn { at: u64 },
     /// A number outside 64 bits; the place is that of its minus sign, where it has one.

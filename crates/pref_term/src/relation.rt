@@ -1,9 +1,9 @@
-//! How a row stands to another.
+//! How a row compares with another.
 ghost use Rattle.std.specs.Prelude.{◌≡◌};
 ghost use Rattle.pref_term.specs.Order.{is_better, is_same, is_worse};
 ghost use Rattle.pref_term.specs.Walk.{by_sides, in_product, is_neither};
 
-/// How a first row stands to a second one: the two questions "is it better" and "is it worse" in one answer.
+/// How a first row compares with a second one: the two questions "is it better" and "is it worse" in one answer.
 #[derive(Clone, Copy, Debug, PartialEq, Eq)]
 pub enum Relation {
     /// The first is better.

@@ -13,10 +13,10 @@ use std::alloc::{AllocError, Global};
 
 /// The canonical text of an ask, over the columns of the schema.
 ///
-/// A skyline clause is shown as the term and the group that it stands for: `skyline of x min, g diff` as
-/// `best low(x) by g`. Parentheses stand where the grammar needs them and nowhere else. `read_ask` reads the ask
+/// A skyline clause is shown as the term and the group that it means, `skyline of x min, g diff` as
+/// `best low(x) by g`, and one with `distinct` as a clause. Parentheses are where the grammar needs them and nowhere else. `read_ask` reads the ask
 /// again where the text has at most 4,096 bytes and 64 open nestings. One walk over the term; the only error is
-/// want of memory.
+/// out of memory.
 pub fn show(alloc: Global, schema: &Schema, ask: &Ask) -> Result<Vec<u8>, AllocError>
     // The ask is over columns of the schema.
     requires { FitsWidth (length schema.now) ask.now }

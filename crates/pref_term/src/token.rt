@@ -32,7 +32,7 @@ pub enum Keyword {
     By,
 }
 
-/// A word of the grammar that may stand in any case.
+/// A word of the grammar that may be in any case.
 #[derive(Clone, Copy, Debug, PartialEq, Eq)]
 pub enum CasedWord {
     Skyline,
@@ -60,7 +60,7 @@ pub(crate) fn word_of_grammar(letters: &[u8]) -> Option<Keyword>
     outer_word(letters).or(base_word(letters))
 }
 
-/// The word that stands around base terms with these letters.
+/// The word around base terms with these letters.
 fn outer_word(letters: &[u8]) -> Option<Keyword>
     ensures { result ≡ word_among outer_words letters.now }
 {

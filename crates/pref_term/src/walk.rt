@@ -13,7 +13,7 @@ use crate::relation::Relation;
 use crate::term::{NumberSets, Numbers, Term};
 use pref_table::Row;
 
-/// How the first row stands to the second one by a term.
+/// How the first row compares with the second one by a term.
 ///
 /// One walk: each base term's scores are compared at most once. A product stops at a part that decides
 /// for neither row, and a priority at its first part that sees a difference. Takes no memory.
@@ -135,7 +135,7 @@ fn by_layer(a: i64, b: i64, sets: &NumberSets) -> Relation
     Relation::by_sides(first < second, second < first)
 }
 
-/// How many sets stand before the first that holds the value; all, where none does.
+/// How many sets come before the first that holds the value; all, where none does.
 fn sets_before(sets: &[Numbers], value: i64) -> usize
     ensures { result ≡ better.sets_before sets.now value }
 {

@@ -1,5 +1,5 @@
-//! Reading whole questions: what stands around a term, and skyline clauses.
-ghost use Rattle.std.specs.Prelude.{◌≡◌, ◌≤◌, ◌<◌, ◌+◌, ℕ, List, [], ◌∷◌, ◌++◌, length, IfOk, IfErr, OnOk, OnErr, true, false, Some, None, MatchOption};
+//! Reading whole questions: what is around a term, and skyline clauses.
+ghost use Rattle.std.specs.Prelude.{◌≡◌, ◌≤◌, ◌<◌, ◌+◌, ℕ, List, [], ◌∷◌, ◌++◌, length, IfOk, IfErr, OnErr, true, false, Some, None, MatchOption};
 ghost use Rattle.std.specs.Option.{option_map};
 ghost use Rattle.pref_term.specs.Ahead.{ahead};
 ghost use Rattle.pref_term.specs.Token as tokens;
@@ -12,7 +12,7 @@ ghost use Rattle.pref_term.specs.Question.{FitsWidth, IsAsk, IsCount, cut_of};
 ghost use Rattle.pref_term.specs.Preference.{preference_of};
 ghost use Rattle.pref_term.specs.Preference as terms;
 
-use super::base_term::{Word, column, take_word};
+use super::base_term::{Word, column, push, take_word};
 use super::term::{pareto, prior};
 use crate::ask::{Ask, Mode};
 use crate::cursor::Cursor;
@@ -45,7 +45,7 @@ fn count<'a>(cursor: Cursor<'a>) -> Result<(u32, Cursor<'a>), TermFault>
     }
 }
 
-/// Takes a column of a group and what stands behind it, and says whether more columns follow.
+/// Takes a column of a group and what follows it, and says whether more columns follow.
 fn group_column<'a>(
     schema: &Schema,
     cursor: Cursor<'a>,
@@ -65,13 +65,6 @@ fn group_column<'a>(
             at: taken.at as u64,
         })
     }
-}
-
-fn push(columns: &mut Vec<usize>, col: usize) -> Result<(), TermFault>
-    ensures ok { OnOk result (columns.new.items ≡ columns.old.items ++ col ∷ []) }
-    ensures err { IfErr result (λ f. f ≡ TermFault.OutOfMemory) }
-{
-    columns.push(col).map_err(|_| TermFault::OutOfMemory)
 }
 
 /// Takes the columns of a group and the end behind them.
@@ -128,7 +121,7 @@ fn ask_of(
     Ask::new(alloc, term, group, mode, distinct).map_err(|_| TermFault::OutOfMemory)
 }
 
-/// Takes what stands behind the words that say how many are wanted.
+/// Takes what follows the words that say how many are wanted.
 fn rated<'a>(
     alloc: Global,
     schema: &Schema,
@@ -180,7 +173,7 @@ struct Dimension {
     direction: Direction,
 }
 
-/// Takes a dimension and what stands behind it, and says whether more follow.
+/// Takes a dimension and what follows it, and says whether more follow.
 fn listed_dimension<'a>(
     schema: &Schema,
     cursor: Cursor<'a>,
@@ -289,7 +282,7 @@ fn clause_ask<'a>(
     }
 }
 
-/// Takes what stands behind `skyline`.
+/// Takes what follows `skyline`.
 fn skyline<'a>(alloc: Global, schema: &Schema, cursor: Cursor<'a>) -> Result<Ask, TermFault>
     ensures ok { IfOk result (λ a. (s : List ℕ) → led.Asks schema.now (reading.skyline_named s) (ahead cursor.entry) a) }
     ensures known { IfOk result (λ a. FitsWidth (length schema.now) a) }
@@ -315,7 +308,7 @@ fn cased_ask<'a>(alloc: Global, schema: &Schema, word: Word<'a>) -> Result<Ask, 
     skyline(alloc, schema, word.next)
 }
 
-/// Takes a whole question, in which no word `distinct` stands as itself.
+/// Takes a whole question, in which no word `distinct` is a word of the clause.
 fn ask<'a>(alloc: Global, schema: &Schema, cursor: Cursor<'a>) -> Result<Ask, TermFault>
     ensures ok { IfOk result (λ a. led.Asks schema.now reading.start (ahead cursor.entry) a) }
     ensures known { IfOk result (λ a. FitsWidth (length schema.now) a) }

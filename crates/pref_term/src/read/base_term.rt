@@ -152,7 +152,8 @@ fn listed<'a>(cursor: Cursor<'a>, close: Sign) -> Result<(i64, bool, Cursor<'a>)
     Ok((value, more, rest))
 }
 
-fn push<T: Drop>(list: &mut Vec<T>, entry: T) -> Result<(), TermFault>
+/// Puts an entry behind a list.
+pub(super) fn push<T: Drop>(list: &mut Vec<T>, entry: T) -> Result<(), TermFault>
     ensures ok { OnOk result (list.new.items ≡ list.old.items ++ entry ∷ []) }
     ensures err { IfErr result (λ f. f ≡ TermFault.OutOfMemory) }
 {
@@ -181,7 +182,7 @@ fn numbers<'a>(
     }
 }
 
-/// Takes what stands behind `low`.
+/// Takes what follows `low`.
 pub(super) fn low<'a>(schema: &Schema, cursor: Cursor<'a>) -> Result<(Term, Cursor<'a>), TermFault>
     ensures ok { IfOk result (λ x. led.ReadsBase schema.now reading.low_kind (ahead cursor.entry) (preference_of x.0) (ahead x.1)) }
     ensures shorter { IfOk result (λ x. length (ahead x.1) < length (ahead cursor.entry)) }
@@ -192,7 +193,7 @@ pub(super) fn low<'a>(schema: &Schema, cursor: Cursor<'a>) -> Result<(Term, Curs
     Ok((Term::Low { col }, rest))
 }
 
-/// Takes what stands behind `high`.
+/// Takes what follows `high`.
 pub(super) fn high<'a>(schema: &Schema, cursor: Cursor<'a>) -> Result<(Term, Cursor<'a>), TermFault>
     ensures ok { IfOk result (λ x. led.ReadsBase schema.now reading.high_kind (ahead cursor.entry) (preference_of x.0) (ahead x.1)) }
     ensures shorter { IfOk result (λ x. length (ahead x.1) < length (ahead cursor.entry)) }
@@ -203,7 +204,7 @@ pub(super) fn high<'a>(schema: &Schema, cursor: Cursor<'a>) -> Result<(Term, Cur
     Ok((Term::High { col }, rest))
 }
 
-/// Takes what stands behind `around`.
+/// Takes what follows `around`.
 pub(super) fn around<'a>(
     schema: &Schema,
     cursor: Cursor<'a>,
@@ -235,7 +236,7 @@ fn range_end<'a>(left: i64, cursor: Cursor<'a>) -> Result<(i64, Cursor<'a>), Ter
     Ok((right, next))
 }
 
-/// Takes what stands behind `between`.
+/// Takes what follows `between`.
 pub(super) fn between<'a>(
     schema: &Schema,
     cursor: Cursor<'a>,
@@ -253,7 +254,7 @@ pub(super) fn between<'a>(
     Ok((Term::Between { col, left, right }, rest))
 }
 
-/// Takes what stands behind `pos`.
+/// Takes what follows `pos`.
 pub(super) fn pos<'a>(
     alloc: Global,
     schema: &Schema,
@@ -300,7 +301,7 @@ fn sets<'a>(alloc: Global, cursor: Cursor<'a>) -> Result<(Vec<Numbers>, Cursor<'
     }
 }
 
-/// Takes what stands behind `layered`.
+/// Takes what follows `layered`.
 pub(super) fn layered<'a>(
     alloc: Global,
     schema: &Schema,

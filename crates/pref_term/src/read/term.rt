@@ -33,7 +33,7 @@ fn deeper(depth: usize, at: usize) -> Result<usize, TermFault>
     }
 }
 
-/// Takes a factor, where so many nestings are open.
+/// Takes a factor, where this many nestings are open.
 #[cycle(term)]
 fn unary<'a>(
     alloc: Global,
@@ -80,7 +80,7 @@ fn unary<'a>(
     }
 }
 
-/// Takes what stands behind `reverse`.
+/// Takes what follows `reverse`.
 #[cycle(term)]
 fn reverse<'a>(
     alloc: Global,
@@ -104,7 +104,7 @@ fn reverse<'a>(
     Ok((reversed(alloc, part)?, next))
 }
 
-/// Takes a prior and the parenthesis behind it, where so many nestings are open within.
+/// Takes a prior and the parenthesis behind it, where this many nestings are open within.
 #[cycle(term)]
 fn group<'a>(
     alloc: Global,
@@ -122,7 +122,7 @@ fn group<'a>(
     Ok((term, rest))
 }
 
-/// Takes a product, where so many nestings are open.
+/// Takes a product, where this many nestings are open.
 #[cycle(term)]
 fn product<'a>(
     alloc: Global,
@@ -147,7 +147,7 @@ fn product<'a>(
     }
 }
 
-/// Takes a prior, where so many nestings are open.
+/// Takes a prior, where this many nestings are open.
 #[cycle(term)]
 pub(super) fn prior<'a>(
     alloc: Global,

@@ -1,0 +1,43 @@
+-- Signatures of rows: for each of some cuts one bit, whether the row reaches the cut. (this project)
+use Rattle.std.specs.Prelude.{◌≡◌, ◌^◌, ◌*◌, ◌%◌, ◌==◌, ℕ, ℤ, pos, int_lt, Bool, true, not, List, [], ◌∷◌, bit_and, bit_or}
+use Rattle.std.specs.Int.{bit_not, from_bool, w64}
+use Rattle.pref_term.specs.Better.{cell, outside}
+use Rattle.pref_term.specs.Order.{RowOrder}
+use Rattle.pref_term.specs.declared.signature.cut.Cut.{Cut}
+use Rattle.pref_term.specs.declared.signature.cut.Cut.TheVariants.{AtLeast, AtMost, Far, Near}
+
+-- the column that a cut reads
+abbrev pub column_of : Cut → ℕ
+column_of (AtLeast col value) = col
+column_of (AtMost col value) = col
+column_of (Far col left right distance) = col
+column_of (Near col left right distance) = col
+
+-- whether a row reaches a cut
+abbrev pub reaches : Cut → List ℤ → Bool
+reaches (AtLeast col value) row = not (int_lt (cell row col) value)
+reaches (AtMost col value) row = not (int_lt value (cell row col))
+reaches (Far col left right distance) row = not (int_lt (outside left right (cell row col)) (pos distance))
+reaches (Near col left right distance) row = not (int_lt (pos distance) (outside left right (cell row col)))
+
+-- a word with one bit more at its low end; of more than 64 bits the first ones fall out
+abbrev pub with_bit : ℕ → Bool → ℕ
+with_bit bits b = bit_or (bits * 2 ^ 1 % 2 ^ 64) (from_bool b)
+
+-- a word with the bits of these cuts behind it
+abbrev pub signed_onto : ℕ → List Cut → List ℤ → ℕ
+signed_onto bits [] row = bits
+signed_onto bits (cut ∷ cuts) row = signed_onto (with_bit bits (reaches cut row)) cuts row
+
+-- the signature of a row by these cuts
+abbrev pub signature : List Cut → List ℤ → ℕ
+signature cuts row = signed_onto 0 cuts row
+
+-- no bit of the first word is missing in the second
+abbrev pub is_within : ℕ → ℕ → Bool
+is_within a b = bit_and a (bit_not w64 b) == 0
+
+-- a row that dominates another, or is its twin, has no bit that the other lacks
+pub record Suit (order : RowOrder) (cuts : List Cut) : Type 0 where
+  pub over : (a b : List ℤ) → order.over a b ≡ true → is_within (signature cuts a) (signature cuts b) ≡ true
+  pub twin : (a b : List ℤ) → order.twin a b ≡ true → is_within (signature cuts a) (signature cuts b) ≡ true

@@ -1,0 +1,172 @@
+//! Cuts for an ask, from a sample of rows. Any cuts through leading parts are right, so nothing about their values is proved.
+ghost use Rattle.std.specs.Prelude.{◌<◌, All, IfOk, OnOk};
+ghost use Rattle.pref_term.specs.Columns.{ReadsBelow};
+ghost use Rattle.pref_term.specs.Factors.{AreInRow, preference_of_factor};
+ghost use Rattle.pref_term.specs.Preference.{preference_of};
+ghost use Rattle.pref_term.specs.Signatures.{column_of};
+
+use crate::factor::{Factor, Sense, outside};
+use crate::signature::cut::Cut;
+use crate::signature::cuts::Cuts;
+use crate::term::Term;
+use pref_table::Row;
+use std::alloc::{AllocError, Global};
+
+/// The bits of a signature.
+const BITS: usize = 64;
+
+/// Puts the factors of the base terms that lead the term, in this sense, behind these.
+fn push_leading(parts: &mut Vec<Factor>, term: &Term, sense: Sense) -> Result<(), AllocError>
+    requires term { ReadsBelow 16 (preference_of term.now) }
+    requires within { AreInRow parts.old.items }
+    ensures { OnOk result (AreInRow parts.new.items) }
+{
+    let factor = match term {
+        Term::Low { col } => Factor::Low { col: *col },
+        Term::High { col } => Factor::High { col: *col },
+        Term::Around { col, centre } => Factor::Distance {
+            col: *col,
+            centre: *centre,
+            sense: Sense::Direct,
+        },
+        Term::Between { col, left, right } => Factor::Range {
+            col: *col,
+            left: *left,
+            right: *right,
+            sense: Sense::Direct,
+        },
+        Term::Pos { .. } | Term::Layered { .. } => return Ok(()),
+        Term::Pareto(p, q) => {
+            push_leading(parts, p, sense)?;
+            return push_leading(parts, q, sense);
+        }
+        Term::Prior(p, _) => return push_leading(parts, p, sense),
+        Term::Reverse(p) => return push_leading(parts, p, sense.opposite()),
+    };
+    parts.push(factor.in_sense(sense))?;
+    Ok(())
+}
+
+/// The factors through whose scores cuts are made: those that lead the term, and both senses of each column of the group.
+fn parts_of(alloc: Global, term: &Term, group: &[usize]) -> Result<Vec<Factor>, AllocError>
+    requires term { ReadsBelow 16 (preference_of term.now) }
+    requires group { All (λ col. col < 16) group.now }
+    ensures { IfOk result (λ parts. AreInRow parts.items) }
+{
+    let mut parts = Vec::new(alloc);
+    push_leading(&mut parts, term, Sense::Direct)?;
+    for col in group {
+        parts.push(Factor::Low { col: *col })?;
+        parts.push(Factor::High { col: *col })?;
+    }
+    Ok(parts)
+}
+
+/// The cut through these distances that a row just reaches.
+fn cut_at_distance(col: usize, left: i64, right: i64, sense: Sense, row: &Row) -> Cut
+    requires { col < 16 }
+    ensures { column_of result < 16 }
+{
+    let distance = outside(row.cell(col), left, right);
+    match sense {
+        Sense::Direct => Cut::Far {
+            col,
+            left,
+            right,
+            distance,
+        },
+        Sense::Reversed => Cut::Near {
+            col,
+            left,
+            right,
+            distance,
+        },
+    }
+}
+
+/// The cut through a factor's scores that a row just reaches.
+fn cut_at(factor: Factor, row: &Row) -> Cut
+    requires { ReadsBelow 16 (preference_of_factor factor) }
+    ensures { column_of result < 16 }
+{
+    match factor {
+        Factor::Low { col } => Cut::AtLeast {
+            col,
+            value: row.cell(col),
+        },
+        Factor::High { col } => Cut::AtMost {
+            col,
+            value: row.cell(col),
+        },
+        Factor::Distance { col, centre, sense } => {
+            cut_at_distance(col, centre, centre, sense, row)
+        }
+        Factor::Range {
+            col,
+            left,
+            right,
+            sense,
+        } => cut_at_distance(col, left, right, sense, row),
+    }
+}
+
+/// Puts a cut through the factor's scores at each row of the sample behind these.
+fn push_cuts(cuts: &mut Vec<Cut>, factor: Factor, sample: &[Row]) -> Result<(), AllocError>
+    requires factor { ReadsBelow 16 (preference_of_factor factor) }
+    requires within { All (λ cut. column_of cut < 16) cuts.old.items }
+    ensures { OnOk result (All (λ cut. column_of cut < 16) cuts.new.items) }
+{
+    for row in sample {
+        cuts.push(cut_at(factor, row))?;
+    }
+    Ok(())
+}
+
+/// The different cuts through the factor's scores that the rows of the sample just reach, in order.
+fn marks_of(alloc: Global, factor: Factor, sample: &[Row]) -> Result<Vec<Cut>, AllocError>
+    requires { ReadsBelow 16 (preference_of_factor factor) }
+    ensures { IfOk result (λ marks. All (λ cut. column_of cut < 16) marks.items) }
+{
+    let mut marks = Vec::new(alloc);
+    push_cuts(&mut marks, factor, sample)?;
+    marks.sort_unstable();
+    marks.dedup();
+    Ok(marks)
+}
+
+/// Puts the cut in the middle of each of this many equal shares of the marks behind these; each mark where there are no more.
+fn push_shares(cuts: &mut Vec<Cut>, marks: &[Cut], shares: usize) -> Result<(), AllocError>
+    requires shares { 0 < shares }
+    requires marks { All (λ cut. column_of cut < 16) marks.now }
+    requires within { All (λ cut. column_of cut < 16) cuts.old.items }
+    ensures { OnOk result (All (λ cut. column_of cut < 16) cuts.new.items) }
+{
+    let share = marks.len().div_ceil(shares).max(1);
+    for (place, mark) in marks.iter().enumerate() {
+        if place % share == share / 2 {
+            cuts.push(*mark)?;
+        }
+    }
+    Ok(())
+}
+
+/// Cuts for a term and the columns of a group: the bits of a signature are dealt out evenly among its parts, and a part's cuts
+/// divide the sample into equal shares. Takes memory for the parts, a part's marks and the cuts.
+pub(crate) fn cuts_for(
+    alloc: Global,
+    term: &Term,
+    group: &[usize],
+    sample: &[Row],
+) -> Result<Cuts, AllocError>
+    requires term { ReadsBelow 16 (preference_of term.now) }
+    requires group { All (λ col. col < 16) group.now }
+{
+    let parts = parts_of(alloc, term, group)?;
+    let shares = (BITS / parts.len().max(1)).max(1);
+    let mut cuts = Vec::new(alloc);
+    for part in &parts {
+        let marks = marks_of(alloc, *part, sample)?;
+        push_shares(&mut cuts, &marks, shares)?;
+    }
+    Ok(Cuts::of(cuts))
+}

@@ -1,0 +1,140 @@
+//! Cuts through the scores of base terms.
+ghost use Rattle.std.specs.Prelude.{◌≡◌, ◌<◌};
+ghost use Rattle.pref_term.specs.Leading.{is_by_distance, is_by_value, leads, suits};
+ghost use Rattle.pref_term.specs.Preference.{preference_of};
+ghost use Rattle.pref_term.specs.Signatures.{column_of, reaches};
+
+use crate::factor::{Sense, outside};
+use crate::term::Term;
+use pref_table::Row;
+
+/// A cut through the scores of a base term, or of its converse: rows that score higher reach it too. A column counts from 0, and is below 16.
+///
+/// Cuts through the same scores are in order of the scores.
+#[derive(Clone, Copy, PartialEq, Eq, PartialOrd, Ord)]
+pub enum Cut {
+    /// Rows with this value or a larger one.
+    AtLeast {
+        col: usize,
+        value: i64,
+    },
+    /// Rows with this value or a smaller one.
+    AtMost {
+        col: usize,
+        value: i64,
+    },
+    /// Rows that lie this far outside the range, or farther.
+    Far {
+        col: usize,
+        left: i64,
+        right: i64,
+        distance: u64,
+    },
+    /// Rows that lie this far outside the range, or nearer.
+    Near {
+        col: usize,
+        left: i64,
+        right: i64,
+        distance: u64,
+    },
+}
+
+impl Cut {
+    /// The column that it reads.
+    fn column(self) -> usize
+        ensures { result ≡ column_of self }
+    {
+        match self {
+            Cut::AtLeast { col, .. }
+            | Cut::AtMost { col, .. }
+            | Cut::Far { col, .. }
+            | Cut::Near { col, .. } => col,
+        }
+    }
+
+    /// Whether a row reaches this cut.
+    #[inline(always)]
+    pub(super) fn reaches(self, row: &Row) -> bool
+        requires { column_of self < 16 }
+        ensures { result ≡ reaches self row.now }
+    {
+        match self {
+            Cut::AtLeast { col, value } => row.cell(col) >= value,
+            Cut::AtMost { col, value } => row.cell(col) <= value,
+            Cut::Far {
+                col,
+                left,
+                right,
+                distance,
+            } => outside(row.cell(col), left, right) >= distance,
+            Cut::Near {
+                col,
+                left,
+                right,
+                distance,
+            } => outside(row.cell(col), left, right) <= distance,
+        }
+    }
+
+    /// Whether it is a cut through the values of this column, where in this sense smaller ones are better.
+    fn is_by_value(self, column: usize, sense: Sense) -> bool
+        ensures { result ≡ is_by_value column sense self }
+    {
+        match (self, sense) {
+            (Cut::AtLeast { col, .. }, Sense::Direct)
+            | (Cut::AtMost { col, .. }, Sense::Reversed) => col == column,
+            _ => false,
+        }
+    }
+
+    /// Whether it is a cut through the distances of this column's values from the range, where in this sense smaller ones are better.
+    fn is_by_distance(self, column: usize, first: i64, last: i64, sense: Sense) -> bool
+        ensures { result ≡ is_by_distance column first last sense self }
+    {
+        match (self, sense) {
+            (
+                Cut::Far {
+                    col,
+                    left,
+                    right,
+                    ..
+                },
+                Sense::Direct,
+            )
+            | (
+                Cut::Near {
+                    col,
+                    left,
+                    right,
+                    ..
+                },
+                Sense::Reversed,
+            ) => col == column && left == first && right == last,
+            _ => false,
+        }
+    }
+
+    /// Whether it goes through the scores of a part that leads the term in this sense: no better row scores higher there.
+    /// Each part of a product leads it, and of a priority the first.
+    fn leads(self, term: &Term, sense: Sense) -> bool
+        ensures { result ≡ leads (preference_of term.now) sense self }
+    {
+        match term {
+            Term::Low { col } => self.is_by_value(*col, sense),
+            Term::High { col } => self.is_by_value(*col, sense.opposite()),
+            Term::Around { col, centre } => self.is_by_distance(*col, *centre, *centre, sense),
+            Term::Between { col, left, right } => self.is_by_distance(*col, *left, *right, sense),
+            Term::Pos { .. } | Term::Layered { .. } => false,
+            Term::Pareto(p, q) => self.leads(p, sense) || self.leads(q, sense),
+            Term::Prior(p, _) => self.leads(p, sense),
+            Term::Reverse(p) => self.leads(p, sense.opposite()),
+        }
+    }
+
+    /// Whether rows of one group of which the first is better or the same reach it no earlier: it reads a column of the group, or leads the term.
+    pub(super) fn suits(self, term: &Term, group: &[usize]) -> bool
+        ensures { result ≡ suits (preference_of term.now) group.now self }
+    {
+        group.contains(&self.column()) || self.leads(term, Sense::Direct)
+    }
+}
