@@ -1,7 +1,10 @@
 -- A held level, of which no entry is over another, and entries that come to it: the new level, and what goes down.
-use Rattle.std.proofs.Common.{◌≡◌, ◌≤◌, ◌+◌, Bool, true, false, cond, not, ◌&&◌, inl, inr, List, ◌++◌, sym, ◌∙◌, ap, arith, filter, eqb}
+use Rattle.std.proofs.Common.{◌≡◌, ℕ, ◌≤◌, ◌+◌, Bool, true, false, cond, not, ◌&&◌, inl, inr, List, ◌++◌, take, drop, refl, sym, ◌∙◌, ap, arith, filter, eqb}
 use Rattle.std.specs.List.{count_by, list_any}
 use Rattle.std.proofs.lemmas.Bool.{cases_Bool, both_ways, and_from, not-true, not_from_false, false_from_ne_true}
+use Rattle.std.specs.List.Sorted.{IsPermutation}
+use Rattle.std.proofs.lemmas.List.{take-append-drop}
+use Rattle.std.proofs.lemmas.List.Sorted.{IsPermutation-filter_both, sum_by-IsPermutation}
 use Rattle.std.proofs.lemmas.List.Sums.{sum_by-append}
 use Rattle.pref_term.specs.Order.{IsStrictOrder}
 use Rattle.pref_sky.specs.declared.entry.Entry.{Entry}
@@ -11,9 +14,7 @@ use Rattle.pref_sky.specs.Meetings.{let_in, displacing, turned_away}
 use Rattle.pref_sky.specs.Passes.{IsApart}
 use Rattle.pref_sky.proofs.Members.{Among, any_from, any_gives, in_filter, from_filter, in_left, in_right, in_either}
 use Rattle.pref_sky.proofs.Removals.{same_answer}
-use Rattle.pref_sky.proofs.Orders.{SameMembers, same_in_order, among_in_order, from_in_order}
-use Rattle.pref_sky.proofs.Merges.{different_filter, count_filter}
-use Rattle.pref_sky.proofs.Orders.{count_in_order}
+use Rattle.pref_sky.proofs.Orders.{SameMembers, among_in_order, from_in_order, count_in_order}
 
 -- what is beaten by more
 pub beaten_by_more : (over : Entry → Entry → Bool) (some all : List Entry) (e : Entry) → ((x : Entry) → Among x some → Among x all) → is_beaten over some e ≡ true → is_beaten over all e ≡ true
@@ -173,27 +174,31 @@ same_beside xs ys zs same =
       back = λ x m. elim (in_either ys zs x m) [ inl a ↦ in_left xs zs x (same.back x a) | inr b ↦ in_right xs zs x b ];
     }
 
--- what a level keeps of held and coming entries: no more of any kind
-pub level_count : (over : Entry → Entry → Bool) (held coming : List Entry) (p : Entry → Bool) → count_by p (staying over held coming ++ in_order_of_id (best over (let_in over held coming))) ≤ count_by p held + count_by p coming
-level_count over held coming p =
-    omega (
-      arith,
-      sum_by-append (λ y. cond (p y) 1 0) (staying over held coming) (in_order_of_id (best over (let_in over held coming))),
-      count_filter p (λ e. not (is_beaten over (displacing over held coming) e)) held,
-      count_in_order p (best over (let_in over held coming)),
-      count_filter p (λ e. not (is_beaten over (let_in over held coming) e)) (let_in over held coming),
-      count_filter p (λ e. not (is_beaten over held e)) coming,
-    )
+pub same_behind : (xs ys zs : List Entry) → SameMembers ys zs → SameMembers (xs ++ ys) (xs ++ zs)
+same_behind xs ys zs same =
+    record {
+      there = λ x m. elim (in_either xs ys x m) [ inl a ↦ in_left xs zs x a | inr b ↦ in_right xs zs x (same.there x b) ];
+      back = λ x m. elim (in_either xs zs x m) [ inl a ↦ in_left xs ys x a | inr b ↦ in_right xs ys x (same.back x b) ];
+    }
 
 pub different_by_count : (xs ys zs : List Entry) → HaveDifferentIds (xs ++ ys) → ((p : Entry → Bool) → count_by p zs ≤ count_by p xs + count_by p ys) → HaveDifferentIds zs
 different_by_count xs ys zs different fewer = record { once = λ id. omega (arith, different.once id, fewer (λ (e : Entry). eqb e.id id), sum_by-append (λ (e : Entry). cond (eqb e.id id) 1 0) xs ys) }
 
-pub level_differ : (over : Entry → Entry → Bool) (held coming : List Entry) → HaveDifferentIds (held ++ coming) → HaveDifferentIds (staying over held coming ++ in_order_of_id (best over (let_in over held coming)))
-level_differ over held coming different = different_by_count held coming (staying over held coming ++ in_order_of_id (best over (let_in over held coming))) different (level_count over held coming)
-
--- what stays and the best of what was let in, in order of id, are the level
-pub level_is : (over : Entry → Entry → Bool) → IsStrictOrder over → (held coming : List Entry) → IsApart over held → HaveDifferentIds (held ++ coming)
-    → in_order_of_id (staying over held coming ++ in_order_of_id (best over (let_in over held coming))) ≡ in_order_of_id (best over (held ++ coming))
-level_is over strict held coming apart different =
-    same_in_order (staying over held coming ++ in_order_of_id (best over (let_in over held coming))) (best over (held ++ coming)) (level_differ over held coming different)
-    (different_filter (λ e. not (is_beaten over (held ++ coming) e)) (held ++ coming) different) (level_members over strict held coming apart)
+-- no more of any kind stand on the level and go down than were held and came
+pub merged_count : (over : Entry → Entry → Bool) (p : Entry → Bool) (held coming now joining let_in away down : List Entry) (n : ℕ) → IsPermutation held now → joining ≡ in_order_of_id (best over let_in) → count_by p let_in + count_by p away ≤ count_by p coming
+    → count_by p down ≤ count_by p away + (count_by p (without_best over let_in) + count_by p (drop n now)) → count_by p (take n now ++ joining) + count_by p down ≤ count_by p held + count_by p coming
+merged_count over p held coming now joining let_in away down n moved joins fewer goes =
+    let one : Entry → ℕ = λ e. cond (p e) 1 0 in
+    omega (
+      arith,
+      fewer,
+      goes,
+      sum_by-append one (take n now) joining,
+      sum_by-append one (take n now) (drop n now),
+      ap (count_by p) (take-append-drop n now),
+      sum_by-IsPermutation one held now moved,
+      ap (count_by p) joins,
+      count_in_order p (best over let_in),
+      sum_by-IsPermutation one let_in (without_best over let_in ++ best over let_in) (IsPermutation-filter_both (is_beaten over let_in) (λ e. not (is_beaten over let_in e)) (λ x. refl) let_in),
+      sum_by-append one (without_best over let_in) (best over let_in),
+    )

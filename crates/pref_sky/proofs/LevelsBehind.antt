@@ -32,11 +32,11 @@ behind_same over all before n (suc k) da db same =
     ap (λ l. map (at_level (suc n)) l ++ levels_behind over all (suc n) k) level
     ∙ ap (λ l. map (at_level (suc n)) (in_order_of_id (best over (rest over before n))) ++ l) (behind_same over all before (suc n) k da db (without_of_same over (rest over all n) (rest over before n) same))
 
-level_goes_on : (n : ℕ) (xs : List Entry) (behind : List Ranked) → length_of_level n behind ≡ 0 → length_of_level n (map (at_level n) xs ++ behind) ≡ length xs
+pub level_goes_on : (n : ℕ) (xs : List Entry) (behind : List Ranked) → length_of_level n behind ≡ 0 → length_of_level n (map (at_level n) xs ++ behind) ≡ length xs
 level_goes_on n [] behind ends = ends
 level_goes_on n (x ∷ xs) behind ends = ap (λ b. cond b (suc (length_of_level n (map (at_level n) xs ++ behind))) 0) (eq-eqb n n refl) ∙ ap suc (level_goes_on n xs behind ends)
 
-level_of_higher : (m n : ℕ) → m ≤ n → (xs : List Entry) (behind : List Ranked) → length_of_level m behind ≡ 0 → length_of_level m (map (at_level (suc n)) xs ++ behind) ≡ 0
+pub level_of_higher : (m n : ℕ) → m ≤ n → (xs : List Entry) (behind : List Ranked) → length_of_level m behind ≡ 0 → length_of_level m (map (at_level (suc n)) xs ++ behind) ≡ 0
 level_of_higher m n le [] behind ends = ends
 level_of_higher m n le (x ∷ xs) behind ends = ap (λ b. cond b (suc (length_of_level m (map (at_level (suc n)) xs ++ behind))) 0) (ne_eqb (suc n) m (λ same. absurd (omega (arith, same))))
 

@@ -18,3 +18,11 @@ pub mod TwinsAmongBest
 pub mod LevelLaws
 pub mod Worked
 pub mod Sifting
+pub mod Staying
+pub mod Signings
+pub mod SetApart
+pub mod SignedLevels
+pub mod RankedLevels
+pub mod Planning
+pub mod Making
+pub mod Opening

@@ -135,16 +135,22 @@ rises_if_sorted (e ∷ others) sorted different = (
   rises_if_sorted others (λ i j d le l. sorted (suc i) (suc j) d (omega arith) (omega arith)) (different_tail e others different),
 )
 
+-- one list in another order
+pub same_if_permuted : (xs ys : List Entry) → IsPermutation xs ys → SameMembers xs ys
+same_if_permuted xs ys moved =
+    record {
+      there = λ x m. let w = Contains-permutation xs ys x moved (contains xs x m) in among_at ys x w.0 w.1 w.2;
+      back = λ x m. let w = Contains-permutation ys xs x (IsPermutation-sym xs ys moved) (contains ys x m) in among_at xs x w.0 w.1 w.2;
+    }
+
 -- what a sort by id leaves
 pub sorted_is : (xs ys : List Entry) → IsPermutation xs ys → IsNonDecreasingBy (λ (e : Entry). e.id) ys → HaveDifferentIds xs → ys ≡ in_order_of_id xs
 sorted_is xs ys moved sorted different =
+    let same = same_if_permuted xs ys moved in
     same_if_rise ys (in_order_of_id xs)
     (rises_if_sorted ys sorted (record { once = λ id. omega (arith, different.once id, sum_by-IsPermutation (λ (e : Entry). cond (eqb e.id id) 1 0) xs ys moved) }))
     (rises_in_order xs different)
-    (record {
-      there = λ x m. let w = Contains-permutation ys xs x (IsPermutation-sym xs ys moved) (contains ys x m) in among_in_order xs x (among_at xs x w.0 w.1 w.2);
-      back = λ x m. let w = Contains-permutation xs ys x moved (contains xs x (from_in_order xs x m)) in among_at ys x w.0 w.1 w.2;
-    })
+    (record { there = λ x m. among_in_order xs x (same.back x m); back = λ x m. same.there x (from_in_order xs x m) })
 
 -- how often a test is passed, in order of id
 pub count_put : (p : Entry → Bool) (e : Entry) (xs : List Entry) → count_by p (put_by_id e xs) ≡ cond (p e) 1 0 + count_by p xs

@@ -1,5 +1,5 @@
 -- One coming entry more, sifted by a held level whose entries are compared in an order of their own.
-use Rattle.std.proofs.Common.{◌≡◌, ◌∙◌, ◌+◌, ◌<◌, ◌≤◌, arith, ℕ, Bool, true, false, subst, cond, not, ◌&&◌, List, [], ◌∷◌, ◌++◌, length, take, filter, get_or, refl, sym, ap}
+use Rattle.std.proofs.Common.{◌≡◌, ◌∙◌, ◌+◌, ◌<◌, ◌≤◌, arith, ℕ, Bool, true, false, subst, cond, not, ◌&&◌, List, [], ◌∷◌, ◌++◌, length, map, take, filter, get_or, refl, sym, ap, append-nil}
 use Rattle.std.specs.List.{count_by, list_any}
 use Rattle.std.specs.List.Sorted.{IsPermutation}
 use Rattle.std.proofs.lemmas.Bool.{both_ways, false_from_ne_true}
@@ -15,6 +15,7 @@ use Rattle.pref_sky.specs.declared.meeting.Losers.{Losers}
 use Rattle.pref_sky.specs.Meetings.{Meets, is_above, is_kept, is_turned_away, with_if}
 use Rattle.pref_sky.specs.Passes.{IsApart}
 use Rattle.pref_sky.proofs.Searches.{among_place}
+use Rattle.pref_sky.proofs.Signings.{pushed_beside}
 use Rattle.pref_term.specs.Order.{StandAlike}
 use Rattle.pref_sky.proofs.Members.{Among, any_from, any_gives}
 
@@ -61,6 +62,12 @@ pub sifted_more : (p : Entry → Bool) (coming : List Entry) (place : ℕ) (e d 
 sifted_more p coming place e d test before after inside at passes so_far put =
     let more : filter p (take (place + 1) coming) ≡ filter p (take place coming) ++ cond (p e) (e ∷ []) [] = filter_more p coming place d inside ∙ ap (λ x. filter p (take place coming) ++ cond (p x) (x ∷ []) []) (sym at) in
     put ∙ ap (λ l. l ++ cond test (e ∷ []) []) so_far ∙ ap (λ b. filter p (take place coming) ++ cond b (e ∷ []) []) (sym passes) ∙ sym more
+
+-- an entry more or not, and its signature beside it
+pub put_beside : (rule : Entry → ℕ) (test : Bool) (before after : List Entry) (words words_after : List ℕ) (e : Entry) (word : ℕ) → word ≡ rule e → words ≡ map rule before
+    → after ≡ with_if test e before → words_after ≡ with_if test word words → words_after ≡ map rule after
+put_beside rule true before after words words_after e word own by put put_word = pushed_beside rule before after words words_after e word by own put put_word
+put_beside rule false before after words words_after e word own by put put_word = put_word ∙ (append-nil words ∙ (by ∙ ap (map rule) (sym (put ∙ append-nil before))))
 
 with_if_count : (p : Entry → Bool) (test : Bool) (e : Entry) (list : List Entry) → count_by p (with_if test e list) ≡ count_by p list + cond test (cond (p e) 1 0) 0
 with_if_count p true e list = omega (arith, sum_by-append (λ y. cond (p y) 1 0) list (e ∷ []), sum_by-cons (λ y. cond (p y) 1 0) e [])

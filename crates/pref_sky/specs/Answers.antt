@@ -1,4 +1,4 @@
--- What an ask selects: the best, the first levels, each within groups (the rPref manual), or the first levels that hold at least so many (this project).
+-- What an ask selects: the best, the first levels, each within groups (the rPref manual), or the first levels that hold at least a number of rows (this project).
 use Rattle.std.specs.Prelude.{Bool, ◌&&◌, nat_lt, nat_le, ℕ, List, filter, count_by, length}
 use Rattle.pref_table.specs.declared.row.Row.{Row}
 use Rattle.pref_term.specs.declared.ask.Mode.{Mode}
@@ -14,7 +14,7 @@ use Rattle.pref_sky.specs.Levels.{entry_order, levels}
 abbrev pub count_before : (Row → Row → Bool) → List Ranked → Ranked → ℕ
 count_before same all r = count_by (λ s. same s.row r.row && nat_lt s.level r.level) all
 
--- the entries below which fewer than k of their group stand
+-- the entries that have fewer than k of their group on the levels before
 abbrev pub at_least : (Row → Row → Bool) → ℕ → List Ranked → List Ranked
 at_least same k all = filter (λ r. nat_lt (count_before same all r) k) all
 

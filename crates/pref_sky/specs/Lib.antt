@@ -5,4 +5,6 @@ pub mod Twins
 pub mod Windows
 pub mod Answers
 pub mod Meetings
+pub mod Signatures
 pub mod Passes
+pub mod Partials

@@ -1,15 +1,15 @@
 //! The answer of an ask, from a partial result.
 
-ghost use Rattle.std.specs.Prelude.{◌≡◌, ◌<◌, ◌++◌, Bool, List, nat_lt, count_by, filter, IfOk, OnOk, All};
+ghost use Rattle.std.specs.Prelude.{◌≡◌, ◌<◌, ◌≤◌, ◌++◌, Bool, List, length, nat_lt, count_by, filter, IfOk, OnOk, All};
 ghost use Rattle.pref_term.specs.AskOrder.{order_of};
 ghost use Rattle.pref_term.specs.Better.{in_same_group};
 ghost use Rattle.pref_term.specs.Question.{cut_of};
 ghost use Rattle.pref_sky.specs.Answers.{answer_of, at_least};
 ghost use Rattle.pref_sky.specs.Levels.{entry_order, levels};
+ghost use Rattle.pref_sky.specs.Meetings.{length_of_level};
 ghost use Rattle.pref_sky.specs.declared.entry.Entry.{Entry};
 
 use crate::entry::Ranked;
-use crate::merge::length_of_level;
 use crate::partial::Partial;
 use pref_term::{Ask, Mode, in_same_group};
 use std::alloc::{AllocError, Global};
@@ -27,7 +27,7 @@ fn has_fewer(columns: &[usize], k: usize, before: &[Ranked], entry: &Ranked) -> 
         < k
 }
 
-/// Puts those entries of a level behind others before which fewer than `k` of their group stand.
+/// Appends those entries of a level that have fewer than `k` of their group before them.
 fn push_fewer(
     kept: &mut Vec<Ranked>,
     columns: &[usize],
@@ -45,6 +45,18 @@ fn push_fewer(
         }
     }
     Ok(())
+}
+
+/// How many entries from the front on are of a level.
+fn length_of_level(ranked: &[Ranked], level: u32) -> usize
+    ensures counted { result ≡ length_of_level level ranked.now }
+    ensures within { result ≤ length ranked.now }
+{
+    let mut count = 0;
+    'front: while count < ranked.len() && ranked[count].level == level {
+        count += 1;
+    }
+    count
 }
 
 /// In each group the first levels that hold `k` entries together, from the levels 1 to `k`.
@@ -72,15 +84,16 @@ fn at_least(
 /// The answer of an ask, in order of level, then id, from a partial result at [`Ask::cut`]: where this
 /// holds the levels up to the cut of some entries, it is the ask's selection from all of them.
 ///
-/// Cost: one copy of what is held. For "at least" each held entry is also compared by its group's
-/// columns with those on the levels before, until `k` of its group are found. Memory: the answer alone,
-/// taken once. `Err` is want of memory.
+/// Cost: that of [`Partial::ranked`]. For "at least" each held entry is also compared by its group's
+/// columns with those on the levels before, until `k` of its group are found. Memory: that of
+/// `Partial::ranked`, and for "at least" the answer beside it. `Err` is out of memory.
 pub fn answer(alloc: Global, ask: &Ask, partial: &Partial) -> Result<Vec<Ranked>, AllocError>
     ensures { (entries : List Entry) → partial.now ≡ levels (entry_order (order_of ask.now)) entries (cut_of ask.now.mode)
         → IfOk result (λ ranked. ranked.items ≡ answer_of ask.now entries) }
 {
+    let ranked = partial.ranked(alloc)?;
     match ask.mode() {
-        Mode::Best | Mode::TopLevel(_) => Vec::from_slice(alloc, partial.as_slice()),
-        Mode::AtLeast(k) => at_least(alloc, ask.group(), k, partial.as_slice()),
+        Mode::Best | Mode::TopLevel(_) => Ok(ranked),
+        Mode::AtLeast(k) => at_least(alloc, ask.group(), k, &ranked),
     }
 }

@@ -13,13 +13,19 @@ use std::cmp::Ordering;
 /// All lists that this crate is handed have different ids. An entry is 136 bytes, copied as they are.
 #[derive(Clone, Copy, Debug, PartialEq, Eq)]
 pub struct Entry {
-    /// The row's id, which tells it from every other row.
+    /// The row's id, which no other row has.
     pub id: u64,
     /// The row.
     pub row: Row,
 }
 
 /// An entry with its level.
+///
+/// ```text
+/// for best in answer.as_slice() {
+///     println!(rt; "level {}: row {}, {}", best.level, best.id, best.row.cell(0))?;
+/// }
+/// ```
 #[derive(Clone, Copy, Debug, PartialEq, Eq)]
 pub struct Ranked {
     /// The level, from 1 on: 1 is the best.
@@ -30,15 +36,15 @@ pub struct Ranked {
     pub row: Row,
 }
 
-/// Whether the first entry is over the second, by one comparison of their rows.
+/// Whether the first entry dominates the second, by one comparison of their rows.
 pub(crate) fn is_over<D: Dominance>(dominance: &D, a: &Entry, b: &Entry) -> bool
     ensures { result ≡ entry_order (D.order dominance.now) a.now b.now }
 {
     compare(dominance, a, b).is_better()
 }
 
-/// How entries whose rows are the same stand to each other: of twins the one with the smaller id is
-/// over the other.
+/// How entries whose rows are the same compare: of twins the one with the smaller id
+/// dominates the other.
 fn by_id<D: Dominance>(dominance: &D, a: &Entry, b: &Entry) -> Relation
     ensures better { is_better result ≡ (D.order dominance.now).twin a.now.row b.now.row && nat_lt a.now.id b.now.id }
     ensures worse { is_worse result ≡ (D.order dominance.now).twin b.now.row a.now.row && nat_lt b.now.id a.now.id }
@@ -54,7 +60,7 @@ fn by_id<D: Dominance>(dominance: &D, a: &Entry, b: &Entry) -> Relation
     }
 }
 
-/// How the first entry stands to the second: both questions in one comparison of their rows.
+/// How the first entry compares with the second: both questions in one comparison of their rows.
 pub(crate) fn compare<D: Dominance>(dominance: &D, a: &Entry, b: &Entry) -> Relation
     ensures better { is_better result ≡ entry_order (D.order dominance.now) a.now b.now }
     ensures worse { is_worse result ≡ entry_order (D.order dominance.now) b.now a.now }

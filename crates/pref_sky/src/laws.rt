@@ -22,7 +22,7 @@ pub fn cutting_does_not_matter()
         → held_after over cut [] pieces ≡ levels over (flat_map (λ piece. piece) pieces) cut }
 {}
 
-/// An answer depends on which entries there are, and not on the order in which they stand.
+/// An answer depends on which entries there are, and not on their order.
 #[tactic(auto, using(crate::proofs::LevelLaws::answer_of_same))]
 pub fn order_does_not_matter()
     ensures { (ask : Question) (xs ys : List Entry)
@@ -38,7 +38,7 @@ pub fn held_ids_differ()
         → HaveDifferentIds (map entry_of (levels over before cut) ++ new) }
 {}
 
-/// The best of a list are, of its entries, those that no entry is over and of which none with a smaller
+/// The best of a list are, of its entries, those that no entry dominates and of which none with a smaller
 /// id is a twin.
 pub fn best_keeps_the_first_of_twins()
     ensures first { (order : RowOrder) (all : List Entry) (e : Entry)
@@ -47,9 +47,9 @@ pub fn best_keeps_the_first_of_twins()
         → Among e all → IsFirstOfTwins order all e → Among e (best (entry_order order) all) }
 {}
 
-/// "At least k" gives in each group the levels 1 to m, where m is the least number whose levels 1 to m
+/// "At least k" gives in each group the levels 1 to m, where m is the smallest number whose levels 1 to m
 /// hold at least k entries of the group, or all its entries where there are fewer: an entry is kept
-/// just where no number below its level is such.
+/// exactly where no number below its level does.
 pub fn at_least_keeps_the_least_number_of_levels()
     ensures kept { (same : Row → Row → Bool) (k : ℕ) (all : List Ranked) (r : Ranked)
         → Among r (at_least same k all)

@@ -19,10 +19,12 @@ mod answers;
 mod best;
 mod entry;
 pub mod laws;
+mod level;
 mod meeting;
 mod merge;
 mod partial;
 mod ranking;
+mod signatures;
 mod window;
 
 pub use answers::answer;

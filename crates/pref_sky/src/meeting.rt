@@ -1,59 +1,69 @@
 //! An entry before a list, and coming entries before a held level: one comparison a pair.
 
-ghost use Rattle.std.specs.List.Sorted.{IsPermutation};
-ghost use Rattle.std.specs.Prelude.{◌≤◌, ◌≡◌, ◌+◌, ◌&&◌, Bool, filter, count_by, IfOk};
+ghost use Rattle.std.specs.Prelude.{◌≤◌, ◌≡◌, ◌+◌, ◌&&◌, ℕ, [], ◌∷◌, Bool, filter, count_by, length, map, IfOk};
 ghost use Rattle.pref_sky.specs.Best.{is_beaten};
 ghost use Rattle.pref_sky.specs.Levels.{entry_order};
 ghost use Rattle.pref_sky.specs.Meetings.{IsKnown, IsPlaced, Meets, let_in, displacing, is_kept};
 ghost use Rattle.pref_sky.specs.Passes.{IsApart};
+ghost use Rattle.pref_sky.specs.Signatures.{AreSigned, IsSiftedBy, Moved};
 ghost use Rattle.pref_sky.specs.declared.entry.Entry.{Entry};
 
 use crate::entry::{Entry, compare, is_over};
-use pref_term::{Dominance, Relation};
+use crate::level::Level;
+use crate::signatures::SignedEntries;
+use pref_term::{Dominance, Relation, is_within};
 use std::alloc::{AllocError, Global};
 
-/// Whether some entry of the list is over this one, by one comparison for each until the first.
+/// Whether some entry of the list dominates this one, by one comparison for each until the first.
 pub(crate) fn is_beaten<D: Dominance>(dominance: &D, entries: &[Entry], entry: &Entry) -> bool
     ensures { result ≡ is_beaten (entry_order (D.order dominance.now)) entries.now entry.now }
 {
     entries.iter().any(|other| is_over(dominance, other, entry))
 }
 
-/// How an entry stands to a list.
+/// How an entry compares with a list.
 #[derive(Clone, Copy, Debug, PartialEq, Eq)]
 pub(crate) enum Meeting {
-    /// Something of the list is over it: the entry at this place.
+    /// Something of the list dominates it: the entry at this place.
     Beaten { place: usize },
-    /// Nothing is, and it is over something.
+    /// Nothing does, and it dominates something.
     Above,
     /// Neither.
     Apart,
 }
 
-/// What is known of how the entries of a list stand to one another.
+/// What is known of how the entries of a list compare with one another.
 #[derive(Clone, Copy, Debug, PartialEq, Eq)]
 pub(crate) enum Known {
-    /// None of them is over another.
+    /// None of them dominates another.
     Apart,
-    /// Nothing: some may be over others.
+    /// Nothing: some may dominate others.
     Nothing,
 }
 
-/// How an entry stands to a list, by one comparison for each of the list until one is over it, or is
-/// the same as it where the list is known to be apart: then none is over the entry, and it is over none.
+/// How an entry compares with a list, by one comparison for each of the list whose signature leaves open
+/// that one of the two dominates the other, until one dominates the entry, or is the same as it where the
+/// list is known to be apart: then none dominates the entry, and it dominates none.
 pub(crate) fn meet<D: Dominance>(
     dominance: &D,
     entries: &[Entry],
+    signatures: &[u64],
     entry: &Entry,
+    signature: u64,
     known: Known,
 ) -> Meeting
+    requires { length signatures.now ≡ length entries.now }
     ensures placed { IsPlaced entries.now result }
     ensures meets { let over = entry_order (D.order dominance.now) in
-        IsKnown over entries.now known → Meets over entries.now entry.now result }
+        AreSigned over entries.now signatures.now (entry.now ∷ []) (signature ∷ [])
+        → IsKnown over entries.now known → Meets over entries.now entry.now result }
 {
     let mut above = false;
-    for (place, other) in entries.iter().enumerate() {
-        match compare(dominance, other, entry) {
+    for (place, other) in signatures.iter().enumerate() {
+        if !is_within(*other, signature) && !is_within(signature, *other) {
+            continue;
+        }
+        match compare(dominance, &entries[place], entry) {
             Relation::Neither => {}
             Relation::Better => return Meeting::Beaten { place },
             Relation::Worse => above = true,
@@ -96,83 +106,91 @@ impl Losers {
     }
 }
 
-/// The same for a list of which none is over another, and the entry that beat it goes half way to the
-/// front, since it may beat the next one too.
-fn meet_and_move<D: Dominance>(dominance: &D, entries: &mut Vec<Entry>, entry: &Entry) -> Meeting
-    ensures meets { let over = entry_order (D.order dominance.now) in
-        IsApart over entries.old.items → Meets over entries.old.items entry.now result }
-    ensures permutation { IsPermutation entries.old.items entries.new.items }
-{
-    let meeting = meet(dominance, entries, entry, Known::Apart);
-    if let Meeting::Beaten { place } = meeting {
-        entries.swap(place / 2, place);
-    }
-    meeting
-}
-
 /// Coming entries, sifted by a held level.
 #[derive(Drop)]
 pub(crate) struct Sifted {
-    /// Those that no held entry is over.
-    pub(crate) let_in: Vec<Entry>,
-    /// Those of them that are over a held entry.
-    pub(crate) displacing: Vec<Entry>,
+    /// Those that no held entry dominates.
+    pub(crate) let_in: SignedEntries,
+    /// Those of them that dominate a held entry.
+    pub(crate) displacing: SignedEntries,
     /// The others, where losers are kept.
-    pub(crate) turned_away: Vec<Entry>,
+    pub(crate) turned_away: SignedEntries,
 }
 
 impl Sifted {
-    ghost use Rattle.std.specs.Prelude.{OnOk};
+    ghost use Rattle.std.specs.Prelude.{◌≡◌, [], OnOk};
     ghost use Rattle.pref_sky.specs.Meetings.{Puts};
 
-    /// Puts an entry where what it met sends it.
-    fn put(&mut self, entry: &Entry, meeting: Meeting, losers: Losers) -> Result<(), AllocError>
-        ensures { OnOk result (Puts self.old self.new entry.now meeting losers) }
+    /// None yet. Takes no memory.
+    fn new(alloc: Global) -> Sifted
+        ensures let_in { result.let_in.entries.items ≡ [] }
+        ensures let_in_signatures { result.let_in.signatures.items ≡ [] }
+        ensures displacing { result.displacing.entries.items ≡ [] }
+        ensures displacing_signatures { result.displacing.signatures.items ≡ [] }
+        ensures turned_away { result.turned_away.entries.items ≡ [] }
+        ensures turned_away_signatures { result.turned_away.signatures.items ≡ [] }
+    {
+        Sifted {
+            let_in: SignedEntries::new(alloc),
+            displacing: SignedEntries::new(alloc),
+            turned_away: SignedEntries::new(alloc),
+        }
+    }
+
+    /// Puts an entry with its signature where what it met sends it.
+    fn put(
+        &mut self,
+        entry: &Entry,
+        signature: u64,
+        meeting: Meeting,
+        losers: Losers,
+    ) -> Result<(), AllocError>
+        ensures { OnOk result (Puts self.old self.new entry.now signature meeting losers) }
     {
         match (meeting, losers) {
-            (Meeting::Beaten { .. }, Losers::Kept) => self.turned_away.push(*entry)?,
+            (Meeting::Beaten { .. }, Losers::Kept) => self.turned_away.push(entry, signature)?,
             (Meeting::Beaten { .. }, Losers::Dropped) => {}
             (Meeting::Above, _) => {
-                self.let_in.push(*entry)?;
-                self.displacing.push(*entry)?;
+                self.let_in.push(entry, signature)?;
+                self.displacing.push(entry, signature)?;
             }
-            (Meeting::Apart, _) => self.let_in.push(*entry)?,
+            (Meeting::Apart, _) => self.let_in.push(entry, signature)?,
         }
         Ok(())
     }
 }
 
-/// Sifts coming entries by a held level, of which none is over another: at most one comparison for each
-/// pair of them, and for each coming entry none behind a held one that is the same. Those that beat
-/// often come to be compared early, in a copy of the level.
+/// Sifts coming entries by a held level: at most one comparison for each pair of them whose signatures leave
+/// open that one dominates the other, and for each coming entry none behind a held one that is the same. Those
+/// that dominate often come to be compared early.
 pub(crate) fn sift<D: Dominance>(
     alloc: Global,
     dominance: &D,
-    held: &[Entry],
+    held: &mut Level,
     coming: &[Entry],
+    signatures: &[u64],
     losers: Losers,
 ) -> Result<Sifted, AllocError>
+    requires signed { AreSigned (entry_order (D.order dominance.now)) held.old.entries.items held.old.signatures.items coming.now signatures.now }
+    ensures moved { Moved held.old held.new }
     ensures let_in { let over = entry_order (D.order dominance.now) in
-        IfOk result (λ s. IsApart over held.now → s.let_in.items ≡ let_in over held.now coming.now) }
+        IfOk result (λ s. IsApart over held.old.entries.items → s.let_in.entries.items ≡ let_in over held.old.entries.items coming.now) }
     ensures displacing { let over = entry_order (D.order dominance.now) in
-        IfOk result (λ s. IsApart over held.now → s.displacing.items ≡ displacing over held.now coming.now) }
+        IfOk result (λ s. IsApart over held.old.entries.items → s.displacing.entries.items ≡ displacing over held.old.entries.items coming.now) }
     ensures turned_away { let over = entry_order (D.order dominance.now) in
-        IfOk result (λ s. IsApart over held.now
-        → s.turned_away.items ≡ filter (λ e. is_kept losers && is_beaten over held.now e) coming.now) }
+        IfOk result (λ s. IsApart over held.old.entries.items
+        → s.turned_away.entries.items ≡ filter (λ e. is_kept losers && is_beaten over held.old.entries.items e) coming.now) }
 
     // Each entry is put into one of the two at most, whatever the held ones are.
     ensures counts { IfOk result (λ s. (p : Entry → Bool)
-        → count_by p s.let_in.items + count_by p s.turned_away.items ≤ count_by p coming.now) }
+        → count_by p s.let_in.entries.items + count_by p s.turned_away.entries.items ≤ count_by p coming.now) }
+    ensures signed { IfOk result (λ s. (rule : Entry → ℕ) → signatures.now ≡ map rule coming.now → IsSiftedBy rule s) }
 {
-    let mut order = Vec::from_slice(alloc, held)?;
-    let mut sifted = Sifted {
-        let_in: Vec::with_capacity(alloc, coming.len())?,
-        displacing: Vec::new(alloc),
-        turned_away: Vec::new(alloc),
-    };
-    for entry in coming {
-        let meeting = meet_and_move(dominance, &mut order, entry);
-        sifted.put(entry, meeting, losers)?;
+    let mut sifted = Sifted::new(alloc);
+    for (place, entry) in coming.iter().enumerate() {
+        let signature = signatures[place];
+        let meeting = held.meet(dominance, entry, signature);
+        sifted.put(entry, signature, meeting, losers)?;
     }
     Ok(sifted)
 }

@@ -1,50 +1,135 @@
 //! Partial results: the first levels of a list that is added piece by piece.
 
-ghost use Rattle.std.specs.Prelude.{◌≡◌, map, IfOk};
-ghost use Rattle.pref_sky.specs.Levels.{entry_of};
+ghost use Rattle.std.specs.List.{count_by};
+ghost use Rattle.std.specs.Prelude.{◌≡◌, ◌≤◌, ◌<◌, ◌+◌, ◌++◌, ◌^◌, Bool, List, length, map, vec_len, IfOk, OnOk, OnErr};
+ghost use Rattle.pref_sky.specs.Levels.{HaveDifferentIds, entry_of, entry_order, levels};
+ghost use Rattle.pref_sky.specs.Partials.{HoldTheSame, ranked_from};
+ghost use Rattle.pref_sky.specs.Signatures.{AreSignedBy, signature_by};
+ghost use Rattle.pref_sky.specs.declared.entry.Entry.{Entry};
+ghost use Rattle.pref_term.specs.Signatures.{Suit};
 
 use crate::entry::{Entry, Ranked};
-use crate::meeting::Losers;
-use crate::merge::{first_coming, length_of_level, merge_level};
+use crate::level::Level;
+use crate::merge::{make_all, plan};
 use crate::ranking::push_level;
-use pref_term::Dominance;
+use crate::signatures::{cuts_of, signatures_of};
+use pref_term::{Cuts, Dominance};
 use std::alloc::{AllocError, Global};
 use std::marker::Model;
 
 /// The entries of the levels 1 to a cut among all that were added, in order of level, then id.
 ///
 /// A contract sees the list of them. What it holds is by one order and one cut, so each `add` is made
-/// with the order and the cut of the first.
+/// with the order and the cut of the first. Each entry is in it once, 136 bytes and 8 for its
+/// signature.
 #[derive(Drop)]
 pub struct Partial {
-    ranked: Option<Vec<Ranked>>,
+    levels: Option<Vec<Level>>,
+    cuts: Cuts,
 }
 
 impl Model for Partial {
-    ghost use Rattle.std.specs.Prelude.{List, []};
+    ghost use Rattle.std.specs.Prelude.{◌<◌, ◌^◌, List, [], length, map};
     ghost use Rattle.std.specs.Option.{option_map_or};
     ghost use Rattle.pref_sky.specs.declared.entry.Ranked.{Ranked};
+    ghost use Rattle.pref_sky.specs.Levels.{HaveDifferentIds, entry_of};
+    ghost use Rattle.pref_sky.specs.Partials.{ranked_from};
+    ghost use Rattle.pref_sky.specs.Signatures.{AreSignedBy, signature_by};
 
     ghost Value = { List Ranked };
 
-    ghost view = { λ a. option_map_or (λ v. v.items) a.ranked [] };
+    ghost view = { λ a. option_map_or (λ v. ranked_from 1 v.items) a.levels [] };
+
+    ghost invariant = { λ a. record {
+      different : HaveDifferentIds (map entry_of (option_map_or (λ v. ranked_from 1 v.items) a.levels []));
+      bound : option_map_or (λ v. length v.items) a.levels 0 < 2 ^ 32;
+      signed : AreSignedBy (signature_by a.cuts) (option_map_or (λ v. v.items) a.levels []);
+    } };
 }
 
-/// The entries without their levels.
-pub(crate) fn entries_of(alloc: Global, ranked: &[Ranked]) -> Result<Vec<Entry>, AllocError>
-    ensures { IfOk result (λ entries. entries.items ≡ map entry_of ranked.now) }
+/// The entries of levels, in order of level, then id.
+fn ranked_of(alloc: Global, levels: &[Level]) -> Result<Vec<Ranked>, AllocError>
+    requires ids { HaveDifferentIds (map entry_of (ranked_from 1 levels.now)) }
+    requires bound { length levels.now < 2 ^ 32 }
+    ensures { IfOk result (λ ranked. ranked.items ≡ ranked_from 1 levels.now) }
 {
-    ranked
-        .iter()
-        .map(|entry| Entry {
-            id: entry.id,
-            row: entry.row,
-        })
-        .collect(alloc)
+    let mut ranked = Vec::new(alloc);
+    for (above, level) in levels.iter().enumerate() {
+        let mut entries = Vec::from_slice(alloc, &level.entries)?;
+        entries.sort_unstable_by_key(|entry| entry.id);
+        push_level(&mut ranked, above as u32 + 1, &entries)?;
+    }
+    Ok(ranked)
+}
+
+/// Signs the levels by these cuts in place of those before. Takes no memory.
+fn take_cuts(cuts: &mut Cuts, held: &mut Vec<Level>, new: Cuts)
+    requires { AreSignedBy (signature_by cuts.old) held.old.items }
+    ensures cuts { cuts.new ≡ new }
+    ensures signed { AreSignedBy (signature_by cuts.new) held.new.items }
+    ensures ranked { ranked_from 1 held.new.items ≡ ranked_from 1 held.old.items }
+    ensures len { vec_len held.new ≡ vec_len held.old }
+{
+    for place in 0..held.len() {
+        held[place].sign(&new);
+    }
+    *cuts = new;
+}
+
+/// Sees that the levels are signed by cuts that suit the order. Where theirs don't, or tell nothing, they
+/// get some for entries like these.
+fn renew_cuts<D: Dominance>(
+    alloc: Global,
+    dominance: &D,
+    cuts: &mut Cuts,
+    held: &mut Vec<Level>,
+    entries: &[Entry],
+) -> Result<(), AllocError>
+    requires { AreSignedBy (signature_by cuts.old) held.old.items }
+    ensures suit { OnOk result (Suit (D.order dominance.now) cuts.new) }
+    ensures signed { AreSignedBy (signature_by cuts.new) held.new.items }
+    ensures ranked { ranked_from 1 held.new.items ≡ ranked_from 1 held.old.items }
+    ensures len { vec_len held.new ≡ vec_len held.old }
+{
+    if !cuts.as_slice().is_empty() && dominance.suits(cuts) {
+        return Ok(());
+    }
+    let new = cuts_of(alloc, dominance, entries)?;
+    take_cuts(cuts, held, new);
+    Ok(())
+}
+
+/// Adds entries to levels that are signed by these cuts, as [`Partial::add`] does.
+fn add_to<D: Dominance>(
+    alloc: Global,
+    dominance: &D,
+    window: usize,
+    cut: u32,
+    cuts: &mut Cuts,
+    held: &mut Vec<Level>,
+    entries: &[Entry],
+) -> Result<(), AllocError>
+    requires window { 0 < window }
+    requires ids { HaveDifferentIds (map entry_of (ranked_from 1 held.old.items) ++ entries.now) }
+    requires signed { AreSignedBy (signature_by cuts.old) held.old.items }
+    ensures signed { AreSignedBy (signature_by cuts.new) held.new.items }
+    ensures bound { vec_len held.old < 2 ^ 32 → vec_len held.new < 2 ^ 32 }
+    ensures counts { (p : Entry → Bool) → count_by p (map entry_of (ranked_from 1 held.new.items))
+        ≤ count_by p (map entry_of (ranked_from 1 held.old.items)) + count_by p entries.now }
+    ensures ok { let over = entry_order (D.order dominance.now) in
+        (before : List Entry) → HaveDifferentIds (before ++ entries.now) → ranked_from 1 held.old.items ≡ levels over before cut
+        → OnOk result (ranked_from 1 held.new.items ≡ levels over (before ++ entries.now) cut) }
+    ensures err { OnErr result (ranked_from 1 held.new.items ≡ ranked_from 1 held.old.items) }
+{
+    renew_cuts(alloc, dominance, cuts, held, entries)?;
+    let signatures = signatures_of(alloc, cuts, entries)?;
+    let steps = plan(alloc, dominance, window, cut, held, entries, &signatures)?;
+    make_all(held, &steps, cuts);
+    Ok(())
 }
 
 impl Partial {
-    ghost use Rattle.std.specs.Prelude.{◌≡◌, ◌<◌, ◌++◌, [], ℕ, Bool, map, List, OnOk, OnErr};
+    ghost use Rattle.std.specs.Prelude.{◌≡◌, ◌<◌, ◌++◌, [], ℕ, Bool, map, List, IfOk, OnOk, OnErr};
     ghost use Rattle.pref_sky.specs.Levels.{HaveDifferentIds, entry_order, entry_of, levels};
     ghost use Rattle.pref_sky.specs.declared.entry.Entry.{Entry};
 
@@ -54,16 +139,22 @@ impl Partial {
         ensures nothing { result ≡ [] }
         ensures levels { (over : Entry → Entry → Bool) (cut : ℕ) → result ≡ levels over [] cut }
     {
-        Partial { ranked: None }
+        Partial {
+            levels: None,
+            cuts: Cuts::none(),
+        }
     }
 
-    /// The entries that are held, with their levels, in order of level, then id. Takes no memory.
-    pub fn as_slice(&self) -> &[Ranked]
-        ensures { result.now ≡ self.now }
+    /// The entries that are held, with their levels, in order of level, then id.
+    ///
+    /// Cost: one copy of them, and a sort of each level by id. Memory: the list, and beside it one as long
+    /// as a level. `Err` is out of memory.
+    pub fn ranked(&self, alloc: Global) -> Result<Vec<Ranked>, AllocError>
+        ensures { IfOk result (λ ranked. ranked.items ≡ self.now) }
     {
-        match &self.ranked {
-            None => &[],
-            Some(ranked) => ranked.as_slice(),
+        match &self.levels {
+            None => Ok(Vec::new(alloc)),
+            Some(levels) => ranked_of(alloc, levels),
         }
     }
 
@@ -72,11 +163,13 @@ impl Partial {
     ///
     /// Held entries of one level are never compared with each other again. Cost: for each level that
     /// something comes down to, one comparison for each pair of an entry held there and one that comes,
-    /// at most, and the best of those that none held there is over; where the cut is above 1, first one
-    /// comparison of each new entry with each held at the last level. Memory: a new list, beside the
-    /// one that is held, and lists as long as a level and what comes to it.
+    /// at most, and the best of those that none held there dominates; where the cut is above 1, first one
+    /// comparison of each new entry with each held at the last level. Signatures spare most of these: a new
+    /// entry is signed once, and once more where it joins a level. Copied are the new entries that join
+    /// a level, and those that go down one, once for each level; what stays at a level is not. Memory: lists
+    /// as long as what comes to a level, the signatures of the new entries, and room for what joins.
     ///
-    /// `Err` is want of memory; the partial result is then as it was.
+    /// `Err` is out of memory; the partial result is then as it was.
     pub fn add<D: Dominance>(
         &mut self,
         alloc: Global,
@@ -94,25 +187,15 @@ impl Partial {
             → OnOk result (self.new ≡ levels over (before ++ entries.now) cut) }
         ensures err { OnErr result (self.new ≡ self.old) }
     {
-        let mut tail = self.as_slice();
-        let mut coming = first_coming(alloc, dominance, cut, tail, entries)?;
-        if coming.is_empty() {
-            return Ok(());
-        }
-        let mut ranked = Vec::with_capacity(alloc, tail.len().saturating_add(coming.len()))?;
-        let mut above = 0;
-        'each_level: while above < cut && !coming.is_empty() {
-            above += 1;
-            let (level, behind) = tail.split_at(length_of_level(tail, above));
-            let held = entries_of(alloc, level)?;
-            let losers = Losers::of_level(above, cut);
-            let merged = merge_level(alloc, dominance, window, &held, &coming, losers)?;
-            push_level(&mut ranked, above, &merged.level)?;
-            coming = merged.down;
-            tail = behind;
-        }
-        ranked.extend_from_slice(tail)?;
-        self.ranked = Some(ranked);
-        Ok(())
+        let levels = self.levels.get_or_insert(Vec::new(alloc));
+        add_to(
+            alloc,
+            dominance,
+            window,
+            cut,
+            &mut self.cuts,
+            levels,
+            entries,
+        )
     }
 }

@@ -48,7 +48,7 @@ fn take_away(best: &[Entry], rest: &mut Vec<Entry>)
 ///
 /// Cost: for each level that of [`best_rows`](crate::best_rows) over what is left, and for each entry
 /// left a search by its id. Memory: a copy of the entries, the answer, and what `best_rows` takes.
-/// `Err` is want of memory.
+/// `Err` is out of memory.
 pub fn levels<D: Dominance>(
     alloc: Global,
     dominance: &D,

@@ -1,0 +1,66 @@
+-- No public contract cites this.
+-- What a partial result holds, level by level, and what the steps of an addition make of it.
+use Rattle.std.specs.Prelude.{⊤, ◌≡◌, ◌≤◌, ◌+◌, ℕ, zero, suc, List, [], ◌∷◌, ◌++◌, length, map, take, drop, vec_capacity}
+use Rattle.std.specs.List.Sorted.{IsPermutation}
+use Rattle.pref_sky.specs.declared.entry.Entry.{Entry}
+use Rattle.pref_sky.specs.declared.entry.Ranked.{Ranked}
+use Rattle.pref_sky.specs.declared.level.Level.{Level}
+use Rattle.pref_sky.specs.declared.level.Step.{Step}
+use Rattle.pref_sky.specs.Levels.{at_level, in_order_of_id}
+use Rattle.pref_sky.specs.Signatures.{AreSignedBy}
+
+-- the entries of levels of which the first is the n-th, in order of level, then id
+abbrev pub ranked_from : ℕ → List Level → List Ranked
+ranked_from n [] = []
+ranked_from n (level ∷ behind) = map (at_level n) (in_order_of_id level.entries.items) ++ ranked_from (suc n) behind
+
+-- a level after its step
+abbrev pub stepped : List Entry → Step → List Entry
+stepped entries step = take step.staying entries ++ step.joining.items
+
+-- the same entries after the steps of the first levels
+abbrev pub ranked_after : ℕ → List Level → List Step → List Ranked
+ranked_after n levels [] = ranked_from n levels
+ranked_after n [] (step ∷ steps) = []
+ranked_after n (level ∷ behind) (step ∷ steps) = map (at_level n) (in_order_of_id (stepped level.entries.items step)) ++ ranked_after (suc n) behind steps
+
+-- a level has room for so many entries with their signatures
+abbrev pub HasRoom : ℕ → Level → Type 0
+HasRoom many level = (many ≤ vec_capacity level.entries) × (many ≤ vec_capacity level.signatures)
+
+-- each of the first levels has room for its step
+abbrev pub HaveRoom : List Level → List Step → Type 0
+HaveRoom levels [] = ⊤
+HaveRoom [] (step ∷ steps) = ⊥
+HaveRoom (level ∷ behind) (step ∷ steps) = HasRoom (step.staying + length step.joining.items) level × HaveRoom behind steps
+
+-- the entries of the level behind the first n: none where there is no such level
+abbrev pub held_at : ℕ → List Level → List Entry
+held_at n [] = []
+held_at zero (level ∷ behind) = level.entries.items
+held_at (suc n) (level ∷ behind) = held_at n behind
+
+-- the level behind the first n is there, and has room for so many
+abbrev pub HasRoomAt : ℕ → ℕ → List Level → Type 0
+HasRoomAt many n [] = ⊥
+HasRoomAt many zero (level ∷ behind) = HasRoom many level
+HasRoomAt many (suc n) (level ∷ behind) = HasRoomAt many n behind
+
+-- the levels are the same but for the order within the one behind the first n, which may be new and empty
+pub record Reordered (n : ℕ) (old new : List Level) : Type 0 where
+  pub front : take n new ≡ take n old
+  pub here : IsPermutation (held_at n old) (held_at n new)
+  pub back : drop (suc n) new ≡ drop (suc n) old
+  pub signed : (rule : Entry → ℕ) → AreSignedBy rule old → AreSignedBy rule new
+
+-- the levels are the same, but that the one behind the first n may be new and empty
+pub record Opened (n : ℕ) (old new : List Level) : Type 0 where
+  pub front : take n new ≡ take n old
+  pub here : held_at n new ≡ held_at n old
+  pub back : drop (suc n) new ≡ drop (suc n) old
+  pub signed : (rule : Entry → ℕ) → AreSignedBy rule old → AreSignedBy rule new
+
+-- levels whose entries are the same but for their order within a level, each with its signature
+pub record HoldTheSame (old new : List Level) : Type 0 where
+  pub ranked : ranked_from 1 new ≡ ranked_from 1 old
+  pub signed : (rule : Entry → ℕ) → AreSignedBy rule old → AreSignedBy rule new

@@ -1,0 +1,54 @@
+-- No public contract cites this.
+-- Signatures beside entries: words of which most show that one entry does not dominate another.
+use Rattle.std.specs.Prelude.{⊤, ◌≡◌, true, ℕ, Bool, List, [], ◌∷◌, map}
+use Rattle.std.specs.List.Sorted.{IsPermutation}
+use Rattle.pref_term.specs.declared.signature.cut.Cut.{Cut}
+use Rattle.pref_term.specs.Signatures.{is_within, signature}
+use Rattle.pref_sky.specs.Windows.{Held}
+use Rattle.pref_sky.specs.declared.entry.Entry.{Entry}
+use Rattle.pref_sky.specs.declared.level.Level.{Level}
+use Rattle.pref_sky.specs.declared.meeting.Sifted.{Sifted}
+use Rattle.pref_sky.specs.declared.signatures.SignedEntries.{SignedEntries}
+
+-- the signature of an entry by some cuts
+abbrev pub signature_by : List Cut → Entry → ℕ
+signature_by cuts e = signature cuts e.row
+
+-- two lists with their signatures beside them, all by one rule: an entry that dominates another has no bit that the other lacks
+pub record AreSigned (over : Entry → Entry → Bool) (held : List Entry) (held_signatures : List ℕ) (coming : List Entry) (coming_signatures : List ℕ) : Type 0 where
+  pub rule : Entry → ℕ
+  pub tells : (a b : Entry) → over a b ≡ true → is_within (rule a) (rule b) ≡ true
+  pub held_by : held_signatures ≡ map rule held
+  pub coming_by : coming_signatures ≡ map rule coming
+
+-- a window, and the signatures beside the entries that it holds
+pub record SignedHeld : Type 0 where
+  pub window : Held
+  pub signatures : List ℕ
+
+-- each of the entries has its signature by the rule beside it
+abbrev pub IsSignedBy : (Entry → ℕ) → SignedEntries → Type 0
+IsSignedBy rule some = some.signatures.items ≡ map rule some.entries.items
+
+-- and so do all that were sifted
+pub record IsSiftedBy (rule : Entry → ℕ) (sifted : Sifted) : Type 0 where
+  pub let_in : IsSignedBy rule sifted.let_in
+  pub displacing : IsSignedBy rule sifted.displacing
+  pub turned_away : IsSignedBy rule sifted.turned_away
+
+-- and those of each level
+abbrev pub AreSignedBy : (Entry → ℕ) → List Level → Type 0
+AreSignedBy rule [] = ⊤
+AreSignedBy rule (level ∷ behind) = (level.signatures.items ≡ map rule level.entries.items) × AreSignedBy rule behind
+
+-- levels and coming entries with their signatures beside them, all by one rule as above
+pub record LevelsAreSigned (over : Entry → Entry → Bool) (levels : List Level) (coming : List Entry) (coming_signatures : List ℕ) : Type 0 where
+  pub rule : Entry → ℕ
+  pub tells : (a b : Entry) → over a b ≡ true → is_within (rule a) (rule b) ≡ true
+  pub levels_by : AreSignedBy rule levels
+  pub coming_by : coming_signatures ≡ map rule coming
+
+-- a level in another order, with the signatures beside its entries
+pub record Moved (old new : Level) : Type 0 where
+  pub permutation : IsPermutation old.entries.items new.entries.items
+  pub signed : (rule : Entry → ℕ) → old.signatures.items ≡ map rule old.entries.items → new.signatures.items ≡ map rule new.entries.items

@@ -1,0 +1,114 @@
+//! Signatures of entries, by which most pairs are decided without a comparison.
+
+ghost use Rattle.std.specs.Prelude.{◌≡◌, ◌≤◌, ◌+◌, ◌++◌, length, map, vec_len, vec_capacity, IfOk};
+ghost use Rattle.pref_term.specs.Signatures.{Suit};
+ghost use Rattle.pref_sky.specs.Signatures.{signature_by};
+
+use crate::entry::Entry;
+use pref_table::Row;
+use pref_term::{Cuts, Dominance};
+use std::alloc::{AllocError, Global};
+
+/// Entries, and beside each its signature.
+#[derive(Drop)]
+pub(crate) struct SignedEntries {
+    pub(crate) entries: Vec<Entry>,
+    pub(crate) signatures: Vec<u64>,
+}
+
+impl SignedEntries {
+    ghost use Rattle.std.specs.Prelude.{◌≡◌, ◌++◌, [], ◌∷◌, OnOk};
+
+    /// None. Takes no memory.
+    pub(crate) fn new(alloc: Global) -> SignedEntries
+        ensures entries { result.entries.items ≡ [] }
+        ensures signatures { result.signatures.items ≡ [] }
+    {
+        SignedEntries {
+            entries: Vec::new(alloc),
+            signatures: Vec::new(alloc),
+        }
+    }
+
+    /// Puts an entry with its signature behind the others.
+    pub(crate) fn push(&mut self, entry: &Entry, signature: u64) -> Result<(), AllocError>
+        ensures entries { OnOk result (self.new.entries.items ≡ self.old.entries.items ++ entry.now ∷ []) }
+        ensures signatures { OnOk result (self.new.signatures.items ≡ self.old.signatures.items ++ signature ∷ []) }
+    {
+        self.entries.push(*entry)?;
+        self.signatures.push(signature)?;
+        Ok(())
+    }
+
+    /// Puts entries with their signatures behind the others.
+    pub(crate) fn extend_from_slices(
+        &mut self,
+        entries: &[Entry],
+        signatures: &[u64],
+    ) -> Result<(), AllocError>
+        ensures entries { OnOk result (self.new.entries.items ≡ self.old.entries.items ++ entries.now) }
+        ensures signatures { OnOk result (self.new.signatures.items ≡ self.old.signatures.items ++ signatures.now) }
+    {
+        self.entries.extend_from_slice(entries)?;
+        self.signatures.extend_from_slice(signatures)?;
+        Ok(())
+    }
+}
+
+/// The fewest entries for which cuts are made: fewer are compared in less time.
+const FEWEST: usize = 16;
+
+/// How many rows a sample has at most: as many as a signature has bits.
+const SAMPLE: usize = 64;
+
+/// The rows of some of the entries, evenly spread.
+fn sample_of(alloc: Global, entries: &[Entry]) -> Result<Vec<Row>, AllocError> {
+    let mut sample = Vec::new(alloc);
+    for entry in entries.iter().step_by(entries.len() / SAMPLE + 1) {
+        sample.push(entry.row)?;
+    }
+    Ok(sample)
+}
+
+/// Cuts that suit the order, for entries like these; none where they are few.
+pub(crate) fn cuts_of<D: Dominance>(
+    alloc: Global,
+    dominance: &D,
+    entries: &[Entry],
+) -> Result<Cuts, AllocError>
+    ensures { IfOk result (λ cuts. Suit (D.order dominance.now) cuts) }
+{
+    if entries.len() < FEWEST {
+        return Ok(Cuts::none());
+    }
+    let sample = sample_of(alloc, entries)?;
+    let cuts = dominance.cuts(alloc, &sample)?;
+    if dominance.suits(&cuts) {
+        Ok(cuts)
+    } else {
+        Ok(Cuts::none())
+    }
+}
+
+/// Puts the signature of each entry behind others, for which there is room. Takes no memory.
+pub(crate) fn push_signatures(signatures: &mut Vec<u64>, cuts: &Cuts, entries: &[Entry])
+    requires { vec_len signatures.old + length entries.now ≤ vec_capacity signatures.old }
+    ensures { signatures.new.items ≡ signatures.old.items ++ map (signature_by cuts.now) entries.now }
+{
+    for entry in entries {
+        signatures.push(cuts.signature(&entry.row)).unwrap();
+    }
+}
+
+/// The signature of each entry, in order.
+pub(crate) fn signatures_of(
+    alloc: Global,
+    cuts: &Cuts,
+    entries: &[Entry],
+) -> Result<Vec<u64>, AllocError>
+    ensures { IfOk result (λ signatures. signatures.items ≡ map (signature_by cuts.now) entries.now) }
+{
+    let mut signatures = Vec::with_capacity(alloc, entries.len())?;
+    push_signatures(&mut signatures, cuts, entries);
+    Ok(signatures)
+}
