@@ -8,7 +8,7 @@ use Rattle.pref_core.specs.declared.changes.Change.{Change}
 use Rattle.pref_core.specs.declared.changes.Change.TheVariants.{Add, Set, Remove}
 use Rattle.pref_core.specs.declared.call.Call.{Call}
 use Rattle.pref_core.specs.declared.call.Call.TheVariants.{Insert, Update, Delete, Commit, Begin, Finish, Abandon}
-use Rattle.pref_core.specs.Changes.{ended_by, begun_by, added_by, twice_from, twice, is_count, is_commit}
+use Rattle.pref_core.specs.Changes.{ended_by, begun_by, added_by, twice_from, twice, is_change_count, is_commit}
 use Rattle.pref_core.specs.Table.{Line, among, has}
 use Rattle.pref_core.specs.State.{missing, ended, is_formed}
 use Rattle.pref_core.specs.Kept.{AreFresh}
@@ -24,7 +24,7 @@ none_is (Some x) e = absurd (cc)
 
 pub commit_length : (commit : List Change) → is_commit commit ≡ true → length commit ≤ 8
 commit_length commit h =
-    let count = (and_parts (is_count commit) (not (is_some (twice commit))) h).0 in
+    let count = (and_parts (is_change_count commit) (not (is_some (twice commit))) h).0 in
     leb-true _ _ (and_parts (nat_lt 0 (length commit)) (nat_le (length commit) 8) count).1
 
 -- no id comes twice
@@ -81,7 +81,7 @@ pub formed_apart : (call : Call) → is_formed call ≡ true → AreApart (ended
 formed_apart (Insert row) h = tt
 formed_apart (Update id row) h = (refl, tt)
 formed_apart (Delete id) h = (refl, tt)
-formed_apart (Commit changes) h = (once [] changes (none_is (twice changes) (and_parts (is_count changes) (not (is_some (twice changes))) h).1)).apart
+formed_apart (Commit changes) h = (once [] changes (none_is (twice changes) (and_parts (is_change_count changes) (not (is_some (twice changes))) h).1)).apart
 formed_apart Begin h = tt
 formed_apart Finish h = tt
 formed_apart Abandon h = tt

@@ -22,12 +22,12 @@ use Rattle.pref_core.specs.Table.{Line, line_of}
 use Rattle.pref_core.specs.State.{State, is_change, added, seat, with_seat, needed}
 use Rattle.pref_core.specs.Step.{System, Step, step, told_of_commit}
 use Rattle.pref_core.specs.Slots.{Contents, StandsFor}
-use Rattle.pref_core.specs.Indexes.{IsIndexOf}
+use Rattle.pref_core.specs.Indexes.{IsIndexOf, adds}
 use Rattle.pref_core.specs.Operations.{applied, IsPlan}
 use Rattle.pref_core.specs.Scans.{Scan, begin}
 use Rattle.pref_core.specs.Systems.{Running, StandsForSystem, may_want_memory, is_refusal, Tells, without_event, Steps}
 use Rattle.pref_core.specs.Parts.{IsInOrder, Does, Changes, change_of, told_of, NextIsNewAt, ScansAt, AnswersAt, is_begin}
-use Rattle.pref_core.proofs.Steps.{PlansAlways, running_of, change_tells, change_refused, begin_tells, begin_refused}
+use Rattle.pref_core.proofs.Steps.{PlansAlways, running_of, adding_not_refused, change_tells, change_refused, begin_tells, begin_refused}
 use Rattle.pref_core.proofs.Reindexing.{indexed_still}
 use Rattle.pref_core.proofs.Scanning.{next_is_new_at, told_scan, scan_tells}
 use Rattle.pref_core.proofs.Endings.{abandon_tells, abandon_refused, finish_tells, finish_refused, finish_not_done, told_get, get_tells, room_tells}
@@ -37,7 +37,7 @@ in_order_told : (before after : Running) (system : System) (right : Step) (act :
 in_order_told before after system right act (Ok told) index h says is = record { system = right.next; stands = says.2; indexed = is }
 in_order_told before after system right act (Err fault) index h says is =
     ⊎_elim (λ (s : (Refused fault ≡ right.reply) × StandsForSystem after right.next). record { system = right.next; stands = s.1; indexed = is })
-    (λ (s : (fault ≡ OutOfMemory) × (may_want_memory act ≡ true) × (after ≡ before)). record { system = system; stands = subst (λ r. StandsForSystem r system) (sym s.2) h; indexed = is })
+    (λ (s : (fault ≡ OutOfMemory) × (may_want_memory act ≡ true) × (is_refusal right.reply ≡ false) × (after ≡ before)). record { system = system; stands = subst (λ r. StandsForSystem r system) (sym s.3) h; indexed = is })
     says
 
 pub in_order_after : (before after : Running) (old index : List (ℕ × ℕ)) (client : ℕ) (act : Act) (result : Result Reply CoreFault) → IsInOrder before old → Does before client act result after → IsIndexOf after.contents index → IsInOrder after index
@@ -78,8 +78,8 @@ change_done old client call done op new c quiet plans is = record { limits = ref
 pub change_not : (old : Running) (client : ℕ) (call : Call) (done : Reply) (fault : CoreFault) → is_change call ≡ true → PlansAlways old.contents client call (Err fault) → Changes old client call done (Err fault) old
 change_not old client call done fault c plans = record { limits = refl; tells = λ system h act wants. change_refused old system client call done fault act c h plans }
 
-pub change_unmade : (old : Running) (client : ℕ) (call : Call) (done : Reply) → nat_lt 0 (added call) ≡ true → Changes old client call done (Err OutOfMemory) old
-change_unmade old client call done adds = record { limits = refl; tells = λ system h act wants. inr (refl, wants adds, refl) }
+pub change_unmade : (old : Running) (client : ℕ) (call : Call) (done : Reply) (op : Op) → is_refusal done ≡ false → adds op.outcome ≡ true → PlansAlways old.contents client call (Ok op) → nat_lt 0 (added call) ≡ true → Changes old client call done (Err OutOfMemory) old
+change_unmade old client call done op quiet adding plans some = record { limits = refl; tells = λ system h act wants. inr (refl, wants some, adding_not_refused old system client call done op quiet adding h plans, refl) }
 
 pub insert_does : (old : Running) (client id : ℕ) (row : Row) (result : Result Reply CoreFault) (new : Running) → id ≡ old.contents.next_id → Changes old client (CallInsert row) (Inserted id) result new → Does old client (ActInsert row) result new
 insert_does old client id row result new is changes = record {

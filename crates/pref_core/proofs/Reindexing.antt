@@ -16,7 +16,7 @@ use Rattle.pref_core.specs.Table.{among, has}
 use Rattle.pref_core.specs.State.{outcome_of, missing, granted, is_change, succeeds, added, begins_row, changes_of, ended, begun}
 use Rattle.pref_core.specs.Slots.{Contents, IsWithin, visible, begins, born}
 use Rattle.pref_core.specs.Operations.{close, is_free, filled, used, grown, slots_after, is_next, applied}
-use Rattle.pref_core.specs.Indexes.{slot_of, Points, given, added_slots, placed_from, placed_by, added_rows, moved, moved_rows, Withdraws, Follows, adds, IsPlaceOf, IsIndexOf, IsReady}
+use Rattle.pref_core.specs.Indexes.{slot_of, Points, given, added_slots, placed_from, placed_by, added_rows, moved, moved_rows, Withdraws, Moves, adds, IsPlaceOf, IsIndexOf, IsReady}
 use Rattle.pref_core.proofs.Applied.{IsAllowed-from}
 use Rattle.pref_core.proofs.Changing.{AreApart, formed_apart, found_all, drop_at}
 use Rattle.pref_core.proofs.Filling.{none_missing, slots_still}
@@ -321,7 +321,7 @@ module _ (contents : Contents) (within : AllByRecursion (IsWithin contents.next_
       go false e = closed_place contents.next_id contents.stamp id ids contents.slots found within e is
 
   -- An index that is ready for an op that is legal here is the store's after it, once it has followed.
-  pub indexed : (op : Op) (ready later : Pairs) → contents.next_id < 2 ^ 63 → is_next contents op ≡ true → is_some (slots_after contents op) ≡ true → IsReady contents op ready → Follows op ready later → IsIndexOf (applied contents op) later
+  pub indexed : (op : Op) (ready later : Pairs) → contents.next_id < 2 ^ 63 → is_next contents op ≡ true → is_some (slots_after contents op) ≡ true → IsReady contents op ready → Moves op ready later → IsIndexOf (applied contents op) later
   indexed op ready later small next fits is follows = go (is_change op.call && succeeds op.outcome) refl
     where
       found : (id : ℕ) → slot_of later id ≡ given (moved_rows op) id (given (added_rows op) id (slot_of is.before id))

@@ -17,6 +17,7 @@ use Rattle.pref_core.specs.Limits.{Limits, AreAllowed, blocks}
 use Rattle.pref_core.specs.State.{State, is_change, seat, with_seat, refusal, refusal_of, refusal_by_query, begun_after, outcome}
 use Rattle.pref_core.specs.Step.{Open, Member, System, Step, snapshot, state_of, refused, counted_with, changed, change, numbered, step_of, step}
 use Rattle.pref_core.specs.Slots.{Contents, StandsFor}
+use Rattle.pref_core.specs.Indexes.{adds}
 use Rattle.pref_core.specs.Operations.{PlansIn, applied}
 use Rattle.pref_core.specs.Scans.{Scan, begin}
 use Rattle.pref_core.specs.Systems.{Running, StandsForSystem, is_refusal, Tells}
@@ -59,14 +60,21 @@ numbered_refused system member call right fault open_ e = go (nat_lt member.call
     go true h = open_ fault h
     go false h = ap (λ f. refused f system) (the_fault Spent fault h)
 
--- Changes.
-pub change_tells : (running : Running) (system : System) (client : ℕ) (call : Call) (done : Reply) (op : Op) (new : Contents) (act : Act) → is_change call ≡ true → is_refusal done ≡ false → StandsForSystem running system → PlansAlways running.contents client call (Ok op) → new ≡ applied running.contents op
-    → Tells running (change_of running.limits system client call done) act (told_of op.outcome done) (running_of new running.limits running.scans)
-change_tells running system client call done op new act c quiet h plans is = subst (λ r. Tells running r act (told_of op.outcome done) after) (sym right) (tell op.outcome (sym outcome_is))
-  where
-    after : Running
-    after = record { contents = new; limits = running.limits; scans = running.scans }
+-- What comes of a planned change.
+record Comes (running : Running) (system : System) (client : ℕ) (call : Call) (done : Reply) (op : Op) : Type 0 where
+  who : Member
+  at : seat client system.members ≡ Some who
+  is : change_of running.limits system client call done ≡ changed op.outcome done call (counted_with who.query client who system)
 
+comes : (running : Running) (system : System) (client : ℕ) (call : Call) (done : Reply) (op : Op) → StandsForSystem running system → PlansAlways running.contents client call (Ok op) → Comes running system client call done op
+comes running system client call done op h plans = record {
+  who = there.who;
+  at = there.at;
+  is = ap (λ (o : Option Member). elim o as (λ x. Step) [ None ↦ refused NoSuchClient system | Some member ↦ numbered member system (change running.limits system client member call done) ]) there.at
+      ∙ let_in_steps there.who system _ (IsLetIn-from system client there.who call there.at accepted).unspent
+      ∙ ap (λ o. changed o done call (counted_with there.who.query client there.who system)) (sym outcome_is);
+}
+  where
     plan : PlansIn (state_of system) running.contents client call (Ok op)
     plan = plans (state_of system) h.store
 
@@ -76,34 +84,54 @@ change_tells running system client call done op new act c quiet h plans is = sub
     there : IsThere system client
     there = IsThere-from system client call accepted
 
-    counted_one : System
-    counted_one = counted_with there.who.query client there.who system
-
-    right : change_of running.limits system client call done ≡ changed (outcome running.limits.capacity (state_of system) call) done call (counted_with there.who.query client there.who system)
-    right = ap (λ (o : Option Member). elim o as (λ x. Step) [ None ↦ refused NoSuchClient system | Some member ↦ numbered member system (change running.limits system client member call done) ]) there.at
-        ∙ let_in_steps there.who system _ (IsLetIn-from system client there.who call there.at accepted).unspent
-
     outcome_is : op.outcome ≡ outcome running.limits.capacity (state_of system) call
     outcome_is = plan.2.next.outcome ∙ (λ i. outcome (h.capacity i) (state_of system) (plan.1 i))
 
-    stands : StandsForSystem (record { contents = new; limits = running.limits; scans = running.scans }) (changed (outcome running.limits.capacity (state_of system) call) done call (counted_with there.who.query client there.who system)).next
-    stands =
-        subst (λ s. StandsForSystem (running_of s running.limits running.scans) (changed (outcome running.limits.capacity (state_of system) call) done call (counted_with there.who.query client there.who system)).next) (sym is)
-        (subst (λ k. StandsForSystem (running_of (applied running.contents op) running.limits running.scans) (changed (outcome running.limits.capacity (state_of system) k) done k (counted_with there.who.query client there.who system)).next) plan.1
-        (subst (λ n. StandsForSystem (running_of (applied running.contents op) running.limits running.scans) (changed (outcome running.limits.capacity (state_of system) op.call) done op.call (counted_with there.who.query n there.who system)).next) plan.0
-        (changed_stands running system op there.who done (ap (λ n. seat n system.members) plan.0 ∙ there.at) h plan.2 (ap is_change plan.1 ∙ c))))
+-- A planned change that adds a row is not refused.
+pub adding_not_refused : (running : Running) (system : System) (client : ℕ) (call : Call) (done : Reply) (op : Op) → is_refusal done ≡ false → adds op.outcome ≡ true → StandsForSystem running system → PlansAlways running.contents client call (Ok op)
+    → is_refusal (change_of running.limits system client call done).reply ≡ false
+adding_not_refused running system client call done op quiet adding h plans = ap (λ (right : Step). is_refusal right.reply) change_comes.is ∙ go op.outcome adding
+  where
+    change_comes : Comes running system client call done op
+    change_comes = comes running system client call done op h plans
 
-    tell : (o : Outcome) → outcome running.limits.capacity (state_of system) call ≡ o
-        → Tells running (changed (outcome running.limits.capacity (state_of system) call) done call (counted_with there.who.query client there.who system)) act (told_of o done) (record { contents = new; limits = running.limits; scans = running.scans })
-    tell o e = subst (λ x. Tells running (changed x done call (counted_with there.who.query client there.who system)) act (told_of o done) (record { contents = new; limits = running.limits; scans = running.scans })) (sym e)
-        (one o (subst (λ x. StandsForSystem (record { contents = new; limits = running.limits; scans = running.scans }) (changed x done call (counted_with there.who.query client there.who system)).next) e stands))
-      where
-        one : (o : Outcome) → StandsForSystem (record { contents = new; limits = running.limits; scans = running.scans }) (changed o done call (counted_with there.who.query client there.who system)).next
-            → Tells running (changed o done call (counted_with there.who.query client there.who system)) act (told_of o done) (record { contents = new; limits = running.limits; scans = running.scans })
-        one (Added id) s = (refl, quiet, s)
-        one Done s = (refl, quiet, s)
-        one (NoSuchRow id) s = inl (refl, s)
-        one (Full size) s = inl (refl, s)
+    go : (o : Outcome) → adds o ≡ true → is_refusal (changed o done call (counted_with change_comes.who.query client change_comes.who system)).reply ≡ false
+    go (Added id) adding = quiet
+    go Done adding = absurd (cc)
+    go (NoSuchRow id) adding = absurd (cc)
+    go (Full size) adding = absurd (cc)
+
+-- Changes.
+pub change_tells : (running : Running) (system : System) (client : ℕ) (call : Call) (done : Reply) (op : Op) (new : Contents) (act : Act) → is_change call ≡ true → is_refusal done ≡ false → StandsForSystem running system → PlansAlways running.contents client call (Ok op) → new ≡ applied running.contents op
+    → Tells running (change_of running.limits system client call done) act (told_of op.outcome done) (running_of new running.limits running.scans)
+change_tells running system client call done op new act c quiet h plans is = subst (λ r. Tells running r act (told_of op.outcome done) after) (sym change_comes.is) (tell op.outcome stands)
+  where
+    after : Running
+    after = running_of new running.limits running.scans
+
+    change_comes : Comes running system client call done op
+    change_comes = comes running system client call done op h plans
+
+    plan : PlansIn (state_of system) running.contents client call (Ok op)
+    plan = plans (state_of system) h.store
+
+    outcome_is : op.outcome ≡ outcome running.limits.capacity (state_of system) op.call
+    outcome_is = plan.2.next.outcome ∙ ap (λ n. outcome n (state_of system) op.call) h.capacity
+
+    stands : StandsForSystem after (changed op.outcome done call (counted_with change_comes.who.query client change_comes.who system)).next
+    stands =
+        subst (λ s. StandsForSystem (running_of s running.limits running.scans) (changed op.outcome done call (counted_with change_comes.who.query client change_comes.who system)).next) (sym is)
+        (subst (λ k. StandsForSystem (running_of (applied running.contents op) running.limits running.scans) (changed op.outcome done k (counted_with change_comes.who.query client change_comes.who system)).next) plan.1
+        (subst (λ n. StandsForSystem (running_of (applied running.contents op) running.limits running.scans) (changed op.outcome done op.call (counted_with change_comes.who.query n change_comes.who system)).next) plan.0
+        (subst (λ o. StandsForSystem (running_of (applied running.contents op) running.limits running.scans) (changed o done op.call (counted_with change_comes.who.query op.client change_comes.who system)).next) (sym outcome_is)
+        (changed_stands running system op change_comes.who done (ap (λ n. seat n system.members) plan.0 ∙ change_comes.at) h plan.2 (ap is_change plan.1 ∙ c)))))
+
+    tell : (o : Outcome) → StandsForSystem after (changed o done call (counted_with change_comes.who.query client change_comes.who system)).next
+        → Tells running (changed o done call (counted_with change_comes.who.query client change_comes.who system)) act (told_of o done) after
+    tell (Added id) s = (refl, quiet, s)
+    tell Done s = (refl, quiet, s)
+    tell (NoSuchRow id) s = inl (refl, s)
+    tell (Full size) s = inl (refl, s)
 
 pub change_refused : (running : Running) (system : System) (client : ℕ) (call : Call) (done : Reply) (fault : CoreFault) (act : Act) → is_change call ≡ true → StandsForSystem running system → PlansAlways running.contents client call (Err fault)
     → Tells running (change_of running.limits system client call done) act (Err fault) running

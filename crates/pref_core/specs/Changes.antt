@@ -41,7 +41,7 @@ names_again earlier (Add row) = false
 names_again earlier (Set id row) = among (ended_by earlier) id
 names_again earlier (Remove id) = among (ended_by earlier) id
 
--- the place, from 1 on, of the first change that names an id which an earlier one names; these changes stand before
+-- the place, from 1 on, of the first change that names an id which an earlier one names; these changes come before
 abbrev pub twice_from : List Change → List Change → Option ℕ
 twice_from earlier [] = None
 twice_from earlier (change ∷ rest) = if names_again earlier change then Some (suc (length earlier)) else twice_from (earlier ++ change ∷ []) rest
@@ -50,13 +50,13 @@ abbrev pub twice : List Change → Option ℕ
 twice changes = twice_from [] changes
 
 -- one to eight changes
-abbrev pub is_count : List Change → Bool
-is_count changes = nat_lt 0 (length changes) && nat_le (length changes) 8
+abbrev pub is_change_count : List Change → Bool
+is_change_count changes = nat_lt 0 (length changes) && nat_le (length changes) 8
 
 -- whether the changes are a commit: one to eight, of which no two name one id
 abbrev pub is_commit : List Change → Bool
-is_commit changes = is_count changes && not (is_some (twice changes))
+is_commit changes = is_change_count changes && not (is_some (twice changes))
 
 -- the commit of these changes, or why there is none
 abbrev pub commit_of : List Change → Result (List Change) CoreFault
-commit_of changes = if is_count changes then (elim (twice changes) [ None ↦ Ok changes | Some place ↦ Err (Twice place) ]) else Err ChangeCount
+commit_of changes = if is_change_count changes then (elim (twice changes) [ None ↦ Ok changes | Some place ↦ Err (Twice place) ]) else Err ChangeCount

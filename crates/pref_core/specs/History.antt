@@ -40,7 +40,7 @@ abbrev pub AreLegalOps : State → Contents → List Op → Type 0
 AreLegalOps state contents [] = Unit {0}
 AreLegalOps state contents (op ∷ ops) = IsLegal state contents op × AreLegalOps (after (length contents.slots) state op.client op.call) (applied contents op) ops
 
--- Operations that are legal one after the other are, slots dropped, a legal history, and their fold stands for the state after it.
+-- Operations that are legal one after the other are, slots dropped, a legal history, and their fold represents the state after it.
 abbrev pub OpsAreHistory : Type 0
 OpsAreHistory = (contents : Contents) (state : State) (ops : List Op) → StandsFor contents state → AreLegalOps state contents ops
     → IsLegalHistory (length contents.slots) state (map numbered_of ops)

@@ -28,7 +28,7 @@ is_row stamp id (Some version) = (version.id == id) && is_visible stamp version
 abbrev pub row_at : ℕ → ℕ → List (Option Version) → ℕ → Bool
 row_at stamp id slots place = elim (slice_get slots place) [ None ↦ false | Some slot ↦ is_row stamp id slot ]
 
--- the place where the id's row stands, or that there is none
+-- the place of the id's row, or that there is none
 abbrev pub IsPlaceOf : ℕ → ℕ → List (Option Version) → Option ℕ → Type 0
 IsPlaceOf stamp id slots None = has (visible stamp slots) id ≡ false
 IsPlaceOf stamp id slots (Some place) = row_at stamp id slots place ≡ true
@@ -92,8 +92,8 @@ abbrev pub Withdraws : Op → List (ℕ × ℕ) → List (ℕ × ℕ) → Type 0
 Withdraws op old new = PointsAll old (map (λ placed. (placed.0, None)) (added_rows op)) new
 
 -- the index with the rows that an op moves
-abbrev pub Follows : Op → List (ℕ × ℕ) → List (ℕ × ℕ) → Type 0
-Follows op old new = PointsAll old (moved_rows op) new
+abbrev pub Moves : Op → List (ℕ × ℕ) → List (ℕ × ℕ) → Type 0
+Moves op old new = PointsAll old (moved_rows op) new
 
 -- An index is ready for an op where it is the store's, but that it gives the rows that the op adds.
 pub record IsReady (contents : Contents) (op : Op) (index : List (ℕ × ℕ)) : Type 0 where

@@ -15,7 +15,7 @@ use Rattle.pref_core.specs.Places.{is_free_zone, free_at, zone_of}
 use Rattle.pref_core.specs.Links.{ids_of, id_at, AreIds, AreLinks}
 use Rattle.pref_core.specs.Indexes.{row_at}
 
--- A store's slots stand for a state, and each place is in the zone of its slot.
+-- A store's slots represent a state, and each place is in the zone of its slot.
 pub record IsKept (contents : Contents) (zones : List Zone) : Type 0 where
   pub bounded : IsBounded contents
   pub state : State
@@ -34,7 +34,7 @@ pub record IsTracked (contents : Contents) (zones : List Zone) (links : List ℕ
 abbrev pub with_slots : List (Option Version) → Contents → Contents
 with_slots slots contents = record { slots = slots; stamp = contents.stamp; next_id = contents.next_id; callers = contents.callers }
 
--- the row at a place, where one stands there
+-- the row at a place, where there is one
 abbrev pub row_in : List (Option Version) → Option ℕ → Option Row
 row_in slots None = None
 row_in slots (Some place) = elim (slice_get slots place) [ None ↦ None | Some slot ↦ option_map (λ (version : Version). version.row) slot ]

@@ -20,11 +20,11 @@ EndsNeedNoMore = (state : State) (call : Call) → begins_row call ≡ false →
 abbrev pub NeededFits : Type 0
 NeededFits = (capacity : ℕ) (state : State) (history : List Numbered) → length (needed state) ≤ capacity → IsLegalHistory capacity state history → length (needed (state_after capacity state history)) ≤ capacity
 
--- .. and so it is in each state that slots stand for: room is never less than nothing.
+-- .. and so it is in each state that slots represent: room is never less than nothing.
 abbrev pub NeededFitsSlots : Type 0
 NeededFitsSlots = (contents : Contents) (state : State) → StandsFor contents state → length (needed state) ≤ length contents.slots
 
--- the first so many blocks, one after the other
+-- the first n blocks, one after the other
 abbrev pub first_blocks : ℕ → ℕ → List (Option Version) → List (Option Version)
 first_blocks zero size slots = []
 first_blocks (suc n) size slots = first_blocks n size slots ++ block_of n size slots

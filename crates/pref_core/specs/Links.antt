@@ -5,7 +5,7 @@ use Rattle.std.specs.List.{range_with_len}
 use Rattle.pref_core.specs.declared.store.version.Version.{Version}
 use Rattle.pref_core.specs.Slots.{is_visible}
 
--- the home of an id, among so many slots
+-- the home of an id, among this many slots
 abbrev pub home_of : ℕ → ℕ → ℕ
 home_of capacity id = (id - 1) % capacity
 
@@ -18,11 +18,11 @@ shown stamp (Some version) = if is_visible stamp version then Some version.id el
 abbrev pub ids_of : ℕ → List (Option Version) → List (Option ℕ)
 ids_of stamp slots = map (shown stamp) slots
 
--- the id at a place, where a row stands there
+-- the id at a place, where a row is there
 abbrev pub id_at : List (Option ℕ) → ℕ → Option ℕ
 id_at ids place = elim (slice_get ids place) [ None ↦ None | Some id ↦ id ]
 
--- whether a row of a greater id stands there
+-- whether a row of a greater id is there
 abbrev pub is_above : ℕ → Option ℕ → Bool
 is_above id None = false
 is_above id (Some other) = nat_lt id other
@@ -37,7 +37,7 @@ pub record IsEnd (capacity : ℕ) (homes : ℕ → ℕ) (ids : ℕ → Option �
   pub past : capacity ≤ link
   pub none : (place id : ℕ) → ids place ≡ Some id → homes id ≡ home → bound ≤ id
 
--- a link to a place: of the rows of the home whose ids are below the bound, the one with the greatest id stands there
+-- a link to a place: of the rows of the home whose ids are below the bound, the one with the greatest id is there
 pub record IsNext (homes : ℕ → ℕ) (ids : ℕ → Option ℕ) (home bound top : ℕ) : Type 0 where
   pub same : homes top ≡ home
   pub less : top < bound

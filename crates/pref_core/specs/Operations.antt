@@ -29,7 +29,7 @@ abbrev pub close : List ℕ → ℕ → Option Version → Option Version
 close ids stamp None = None
 close ids stamp (Some version) = Some (record { id = version.id; row = version.row; birth = version.birth; death = close_at stamp (among ids version.id) version.death })
 
--- the store after a change, had it always room: the new versions stand before the slots
+-- the store after a change, if there were always room: the new versions are put before the slots
 abbrev pub grown : Call → Contents → Contents
 grown call contents = record {
   slots = map (born (suc contents.stamp)) (begun contents.next_id call) ++ map (close (ended call) (suc contents.stamp)) contents.slots;
@@ -125,7 +125,7 @@ abbrev pub ran : Contents → List Op → Contents
 ran contents [] = contents
 ran contents (op ∷ ops) = ran (applied contents op) ops
 
--- an operation is legal at slots that stand for a state: its call is legal next, and it has a free slot for each row that it begins
+-- an operation is legal at slots that represent a state: its call is legal next, and it has a free slot for each row that it begins
 pub record IsLegal (state : State) (contents : Contents) (op : Op) : Type 0 where
   pub next : IsNext (length contents.slots) state op
   pub fits : is_some (slots_after contents op) ≡ true
@@ -137,17 +137,17 @@ pub record IsPlan (contents : Contents) (client : ℕ) (call : Call) (op : Op) :
   pub next : is_next contents op ≡ true
   pub fits : is_some (slots_after contents op) ≡ true
 
--- what planning answers
+-- what planning returns
 abbrev pub Plans : Contents → ℕ → Call → Result Op CoreFault → Type 0
 Plans contents client call result = MatchResult result (λ op. IsPlan contents client call op) (λ fault. refusal_at contents client call ≡ Some fault)
 
--- On slots that stand for a state, a plan is legal next in it or its refusal, ..
+-- On slots that represent a state, a plan is legal next in it or its refusal, ..
 abbrev pub PlansIn : State → Contents → ℕ → Call → Result Op CoreFault → Type 0
 PlansIn state contents client call result = MatchResult result
     (λ op. (op.client ≡ client) × (op.call ≡ call) × IsLegal state contents op)
     (λ fault. refusal state client call ≡ Some fault)
 
--- .. a legal op leaves slots that stand for the next state, and any other changes nothing.
+-- .. a legal op leaves slots that represent the next state, and any other changes nothing.
 abbrev pub AppliesIn : State → Contents → Op → Contents → Type 0
 AppliesIn state before op after_it =
     (IsLegal state before op → StandsFor after_it (after (length before.slots) state op.client op.call))

@@ -57,7 +57,7 @@ abbrev pub with_seat : {X : Type 0} → ℕ → X → List X → List X
 with_seat zero x xs = xs
 with_seat (suc k) x xs = slice_set xs k x
 
--- whether a client that stands so has a query open
+-- whether a client with this query has one open
 abbrev pub is_open : QueryState → Bool
 is_open Open = true
 is_open NotOpen = false

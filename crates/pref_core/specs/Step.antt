@@ -89,7 +89,7 @@ changed Done done call counted = record { reply = done; next = commit call count
 abbrev pub change : Limits → System → ℕ → Member → Call → Reply → Step
 change limits system client member call done = changed (outcome limits.capacity (state_of system) call) done call (counted_with member.query client member system)
 
--- what is told of a commit that succeeds: how many changes it made, and the id of the first row that it added, 0 where it added none
+-- what a commit that succeeds returns: how many changes it made, and the id of the first row that it added, 0 where it added none
 abbrev pub told_of_commit : ℕ → List Change → Committed
 told_of_commit next_id changes = record { changes = length changes; first = if nat_lt 0 (added_by changes) then next_id else 0 }
 

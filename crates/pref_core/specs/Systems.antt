@@ -1,4 +1,4 @@
--- What runs, the system that it stands for, and a step of it. (this project)
+-- What runs, the system that it represents, and a step of it. (this project)
 use Rattle.std.specs.Prelude.{◌≡◌, ℕ, nat_lt, List, length, Bool, true, false, Option, Some, None, Result, Ok, Err, MatchResult, ◌⊎◌}
 use Rattle.std.specs.declared.alloc.AllocError.{AllocError}
 use Rattle.pref_core.specs.declared.store.version.Version.{Version}
@@ -24,7 +24,7 @@ pub record Running : Type 0 where
   pub limits : Limits
   pub scans : List (Option Scan)
 
--- A query that stands for the client's open one.
+-- A query that represents the client's open one.
 pub record Follows (slots : List (Option Version)) (scan : Scan) (query : Open) : Type 0 where
   pub ask : scan.ask ≡ query.ask
   pub stamp : scan.stamp ≡ query.commits
@@ -45,13 +45,13 @@ StandsForMember slots (Some scan) (Some member) = StandsForQuery slots scan memb
 StandsForMember slots None (Some member) = ⊥
 StandsForMember slots (Some scan) None = ⊥
 
--- What runs stands for a system: its slots for the state, and its queries for the clients' open ones.
+-- What runs represents a system: its slots the state, and its queries the clients' open ones.
 pub record StandsForSystem (running : Running) (system : System) : Type 0 where
   pub store : StandsFor running.contents (state_of system)
   pub capacity : length running.contents.slots ≡ running.limits.capacity
   pub members : (client : ℕ) → StandsForMember running.contents.slots (seat client running.scans) (seat client system.members)
 
--- whether an act may be answered out of memory
+-- whether an act may run out of memory
 abbrev pub may_want_memory : Act → Bool
 may_want_memory (ActInsert row) = true
 may_want_memory (ActCommit changes) = nat_lt 0 (added_by changes)
@@ -64,26 +64,26 @@ abbrev pub is_refusal : Reply → Bool
 is_refusal (Refused fault) = true
 is_refusal reply = false
 
--- What is told is the system's reply, and what runs stands for the next system; or memory is wanting, and nothing has changed.
+-- What is returned is the system's reply, and what runs represents the next system; or it is out of memory where that reply is no refusal, and nothing has changed.
 abbrev pub Tells : Running → Step → Act → Result Reply CoreFault → Running → Type 0
 Tells before right act result after = MatchResult result
     (λ told. (told ≡ right.reply) × (is_refusal told ≡ false) × StandsForSystem after right.next)
     (λ fault. ((Refused fault ≡ right.reply) × StandsForSystem after right.next)
-    ⊎ ((fault ≡ OutOfMemory) × (may_want_memory act ≡ true) × (after ≡ before)))
+    ⊎ ((fault ≡ OutOfMemory) × (may_want_memory act ≡ true) × (is_refusal right.reply ≡ false) × (after ≡ before)))
 
 -- the fault alone
 abbrev pub without_event : Result Reply StepFault → Result Reply CoreFault
 without_event result = elim result [ Ok told ↦ Ok told | Err fault ↦ Err fault.fault ]
 
--- A step is the system's, in each system that what runs stands for, and a refusal hands the event back.
+-- A step is the system's, in each system that what runs represents, and a refusal hands the event back.
 pub record Steps (before : Running) (event : Event) (result : Result Reply StepFault) (after : Running) : Type 0 where
   pub limits : after.limits ≡ before.limits
   pub tells : (system : System) → StandsForSystem before system → Tells before (step before.limits system event) event.act (without_event result) after
   pub handed_back : MatchResult result (λ told. Unit {0}) (λ fault. fault.event ≡ event)
 
--- A reply is the system's, in each system that what runs stands for, refusals too; or memory is wanting, and nothing has changed.
+-- A reply is the system's, in each system that what runs represents, refusals too; or it is out of memory where that reply is no refusal, and nothing has changed.
 pub record Replies (before : Running) (event : Event) (result : Result Reply AllocError) (after : Running) : Type 0 where
   pub limits : after.limits ≡ before.limits
   pub tells : (system : System) → StandsForSystem before system → MatchResult result
       (λ reply. (reply ≡ (step before.limits system event).reply) × StandsForSystem after (step before.limits system event).next)
-      (λ _. (may_want_memory event.act ≡ true) × (after ≡ before))
+      (λ _. (may_want_memory event.act ≡ true) × (is_refusal (step before.limits system event).reply ≡ false) × (after ≡ before))

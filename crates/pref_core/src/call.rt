@@ -18,9 +18,9 @@ const MOST_CALLS: u64 = 1 << 56;
 pub enum Call {
     /// A new row, which gets the next id.
     Insert(Row),
-    /// The row of this id is another.
+    /// The row of this id becomes another.
     Update(u64, Row),
-    /// The row of this id goes.
+    /// The row of this id is deleted.
     Delete(u64),
     /// One to eight changes, in one commit.
     Commit(Commit),
@@ -36,7 +36,7 @@ impl Call {
     ghost use Rattle.pref_core.specs.Table.{among};
     ghost use Rattle.pref_core.specs.State.{refusal_of, is_open, changes_of, ended, begun, begins_row, added, is_change, is_formed};
 
-    /// Why the call gets no number, of a client that has made so many numbered calls and stands so with its query; `None`
+    /// Why the call gets no number, by how many numbered calls its client has made and whether that client has a query open; `None`
     /// where it gets one.
     ///
     /// `Spent` where the client has made all that it may; else `QueryOpen` for a begin beside an open query, and `NoQuery`
@@ -159,7 +159,7 @@ pub enum QueryState {
 impl QueryState {
     ghost use Rattle.pref_core.specs.State.{is_open};
 
-    /// How a client stands that keeps its open query here.
+    /// The state of a client that keeps its open query here.
     pub fn of<Q>(kept: &Option<Q>) -> QueryState
         ensures { is_open result ≡ is_some kept.now }
     {
@@ -179,7 +179,7 @@ pub enum Outcome {
     Done,
     /// The table has no row of this id. The call is counted, and no row has changed.
     NoSuchRow(u64),
-    /// So many versions would be needed. The call is counted, and no row has changed.
+    /// This many versions would be needed. The call is counted, and no row has changed.
     Full(u64),
 }
 

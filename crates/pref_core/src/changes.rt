@@ -14,13 +14,17 @@ use std::marker::Model;
 const MOST_CHANGES: usize = 8;
 
 /// One change of a commit.
+///
+/// ```text
+/// let changes = [Change::Add(hotel), Change::Set(2, cheaper), Change::Remove(3)];
+/// ```
 #[derive(Clone, Copy, Debug, PartialEq, Eq)]
 pub enum Change {
     /// A new row, which gets the next id.
     Add(Row),
-    /// The row of this id is another.
+    /// Another row for this id.
     Set(u64, Row),
-    /// The row of this id goes.
+    /// The row of this id is removed.
     Remove(u64),
 }
 
@@ -94,6 +98,10 @@ impl Commit {
     ///
     /// Refused `ChangeCount` for none or more than eight, then `Twice` for the first change that names an id which an
     /// earlier one names.
+    ///
+    /// ```text
+    /// let commit = Commit::of(&[Change::Set(1, hotel), Change::Remove(2)])?;
+    /// ```
     pub fn of(changes: &[Change]) -> Result<Commit, CoreFault>
         ensures { result ≡ commit_of changes.now }
     {
@@ -109,7 +117,7 @@ impl Commit {
         })
     }
 
-    /// The changes, as they stand.
+    /// The changes, in their order.
     pub fn as_slice(&self) -> &[Change]
         ensures same { result.now ≡ self.now }
         ensures commit { is_commit self.now ≡ true }

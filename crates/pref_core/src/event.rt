@@ -1,4 +1,4 @@
-//! What a client may do, and what it may be told.
+//! What a client may do, and the replies to it.
 
 ghost use Rattle.std.specs.Prelude.{◌≡◌, IfOk};
 
@@ -11,6 +11,11 @@ use std::alloc::{AllocError, Global};
 use std::marker::Model;
 
 /// What a client does.
+///
+/// ```text
+/// let hotel = Act::Insert(Row::of(&schema, &[55, 1])?);
+/// let question = Act::Begin(read_ask(alloc, &schema, b"best low(price) * low(dist)")?);
+/// ```
 #[derive(Drop)]
 pub enum Act {
     /// Inserts a row, which gets the next id.
@@ -36,6 +41,11 @@ pub enum Act {
 }
 
 /// A commit in a box, so that other acts are no larger for it. Contracts see the list of its changes.
+///
+/// ```text
+/// let commit = Commit::of(&[Change::Add(hotel), Change::Remove(3)])?;
+/// let act = Act::Commit(BoxedCommit::new(alloc, commit)?);
+/// ```
 #[derive(Drop)]
 pub struct BoxedCommit {
     commit: Box<Commit>,
@@ -69,6 +79,10 @@ impl BoxedCommit {
 }
 
 /// One act of one client.
+///
+/// ```text
+/// let event = Event { client: 2, act: Act::Insert(hotel) };
+/// ```
 #[derive(Drop)]
 pub struct Event {
     /// The client's number, from 1 on. An event of another number is refused `NoSuchClient`.
@@ -93,7 +107,7 @@ impl Model for RankedList {
 }
 
 impl RankedList {
-    /// The list of these rows, as they stand. Takes no memory.
+    /// The list of these rows, in their order. Takes no memory.
     pub fn of(rows: Vec<Ranked>) -> RankedList
         ensures { result ≡ rows.items }
     {
@@ -101,6 +115,12 @@ impl RankedList {
     }
 
     /// The rows.
+    ///
+    /// ```text
+    /// for best in answer.as_slice() {
+    ///     println!(rt; "row {}, {}", best.id, best.row.cell(0))?;
+    /// }
+    /// ```
     pub fn as_slice(&self) -> &[Ranked]
         ensures { result.now ≡ self.now }
     {
@@ -115,7 +135,7 @@ impl RankedList {
     }
 }
 
-/// What is told of a commit that succeeds.
+/// What a commit that succeeds returns.
 #[derive(Clone, Copy, Debug, PartialEq, Eq)]
 pub struct Committed {
     /// How many changes it made.
@@ -124,7 +144,15 @@ pub struct Committed {
     pub first: u64,
 }
 
-/// What a client is told.
+/// The reply to an act.
+///
+/// ```text
+/// match table.reply(alloc, Event { client: 1, act: Act::Finish })? {
+///     Reply::Answer(answer) => Ok(answer),
+///     Reply::Refused(fault) => Err(fault.into()),
+///     _ => bail!("a finish gives an answer"),
+/// }
+/// ```
 #[derive(Drop)]
 pub enum Reply {
     /// The row was inserted, with this id.
@@ -135,9 +163,9 @@ pub enum Reply {
     Deleted(u64),
     /// All changes of the commit are made.
     Committed(Committed),
-    /// A query has begun, and has so many blocks to scan.
+    /// A query has begun, and has this many blocks to scan.
     Begun(u32),
-    /// A block was scanned, and so many are left.
+    /// A block was scanned, and this many are left.
     Left(u32),
     /// The answer, by the table at the query's begin.
     Answer(RankedList),
@@ -145,7 +173,7 @@ pub enum Reply {
     Abandoned,
     /// The row of this id.
     Found(u64, Row),
-    /// So many more versions there is room for.
+    /// How many more versions there is room for.
     Room(u32),
     /// A refusal.
     Refused(CoreFault),

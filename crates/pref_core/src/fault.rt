@@ -46,7 +46,7 @@ pub enum CoreFault {
         /// How many would be needed.
         needed: u64,
     },
-    /// Memory was wanting.
+    /// An allocation was refused.
     #[error("out of memory")]
     OutOfMemory,
     /// A change names an id that an earlier change of its commit names.

@@ -54,7 +54,7 @@ impl Index {
         self.slots.get(&id).copied()
     }
 
-    /// Puts the slot of a new row. `Err` is want of memory, and leaves the index as it was.
+    /// Puts the slot of a new row. `Err` is out of memory, and leaves the index as it was.
     pub fn put(&mut self, alloc: Global, id: u64, slot: usize) -> Result<(), AllocError>
         ensures put { OnOk result (Points self.old id (Some slot) self.new) }
         ensures err { OnErr result (self.new ≡ self.old) }
@@ -85,7 +85,7 @@ impl Index {
     /// Puts the rows that a planned op adds, one after the other, before the op is done, so that [`Store::apply_at`] takes
     /// no memory.
     ///
-    /// `Err` is want of memory, comes only for an op that adds a row, and leaves none of these rows in the index: where it
+    /// `Err` is out of memory, comes only for an op that adds a row, and leaves none of these rows in the index: where it
     /// was that of a store which planned the op, it still is.
     pub fn prepare(&mut self, alloc: Global, op: &Op) -> Result<(), AllocError>
         ensures prepared { OnOk result (Prepares op.now self.old self.new) }

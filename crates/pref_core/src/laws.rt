@@ -13,12 +13,12 @@ pub fn blocks_stay()
 {}
 
 /// Operations that are legal one after the other are, slots left out, a legal history, and what they leave
-/// stands for the state after it.
+/// represents the state after it.
 pub fn ops_are_history()
     ensures { OpsAreHistory }
 {}
 
-/// A delete never makes the needed versions more, so it is never refused for want of room.
+/// A delete never makes the needed versions more, so it is never refused for lack of room.
 pub fn deletes_need_no_more()
     ensures { DeletesNeedNoMore }
 {}
@@ -33,7 +33,7 @@ pub fn needed_fits()
     ensures { NeededFits }
 {}
 
-/// The needed versions are never more than the slots that stand for the state.
+/// The needed versions are never more than the slots that represent the state.
 pub fn needed_fits_slots()
     ensures { NeededFitsSlots }
 {}

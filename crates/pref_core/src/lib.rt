@@ -5,7 +5,7 @@
 //! best levels of what it has read; [`Machine`] puts both together, a step for each [`Event`]; [`replay`] runs a
 //! whole list of events, and [`replay_part`] as much of it as there is memory for. The sequential table that says
 //! what each reply must be is a plain list of rows, copied whole at each begin (specs/State.antt, specs/Step.antt);
-//! the laws on which threads build stand in [`laws`].
+//! the laws on which threads build are in [`laws`].
 #![tactic(auto)]
 
 mod call;

@@ -22,7 +22,7 @@ use seats::{answer_at, is_client, no_queries, scan_at, set};
 use std::alloc::{AllocError, Global};
 use std::marker::Model;
 
-/// A table with its clients. It always stands for a state of the sequential table.
+/// A table with its clients. It always represents a state of the sequential table.
 ///
 /// ```text
 /// let mut table = Machine::new(alloc, setup, &rows)?;
@@ -54,7 +54,13 @@ impl Model for Machine {
 impl Machine {
     /// A table with these rows as commits 1, 2, .. with ids 1, 2, .., and no open query.
     ///
-    /// Refused `Full` where there are more rows than slots, else `OutOfMemory` where memory is wanting.
+    /// Refused `Full` where there are more rows than slots, else `OutOfMemory`.
+    ///
+    /// ```text
+    /// let (schema, hotels) = read_table(alloc, HOTELS)?;
+    /// let setup = Setup::new(2, 1024, 256, 64).context("a number outside the limits")?;
+    /// let mut table = Machine::new(alloc, setup, &hotels)?;
+    /// ```
     pub fn new(alloc: Global, setup: Setup, rows: &[Row]) -> Result<Machine, CoreFault>
         ensures opened { IfOk result (λ machine. (machine.limits ≡ setup) × StandsForSystem machine (opened setup rows.now)) }
         ensures full { result ≡ Err (CoreFault.Full (length rows.now)) ↔ (setup.capacity < length rows.now) }
@@ -73,9 +79,16 @@ impl Machine {
 
     /// One event: its reply, and the next state, are those of the sequential table. A refused event is handed back.
     ///
-    /// `OutOfMemory` comes for a scan, a finish and a change that adds a row alone, and nothing has changed then; every other refusal is
-    /// the sequential table's, and so is what it leaves. Cost: a change, a get, a room and a begin are constant in the
+    /// `OutOfMemory` comes for a scan, a finish and a change that adds a row alone, where the sequential table does not refuse it, and
+    /// nothing has changed then; every other refusal is the sequential table's, and so is what it leaves. Cost: a change, a get, a room and a begin are constant in the
     /// slots, a scan reads its block, a finish and an abandon go over the ended versions that an open query needs.
+    ///
+    /// ```text
+    /// match table.step(alloc, Event { client: 1, act: Act::Begin(ask) }) {
+    ///     Ok(reply) => Ok(reply),
+    ///     Err(refused) => Err(refused.fault.into()),
+    /// }
+    /// ```
     pub fn step(&mut self, alloc: Global, event: Event) -> Result<Reply, StepFault>
         ensures { Steps self.old event result self.new }
     {
@@ -94,9 +107,18 @@ impl Machine {
         }
     }
 
-    /// The reply to one event, which may be a refusal: what [`Machine::step`] tells, with no event handed back.
+    /// The reply to one event, which may be a refusal: what [`Machine::step`] returns, with no event handed back.
     ///
-    /// `Err` is want of memory. It comes for a scan, a finish and a change that adds a row alone, and nothing has changed then.
+    /// `Err` is out of memory. It comes for a scan, a finish and a change that adds a row alone, where the sequential table does not
+    /// refuse it, and nothing has changed then.
+    ///
+    /// ```text
+    /// match table.reply(alloc, Event { client: 2, act: Act::Insert(hotel) })? {
+    ///     Reply::Inserted(id) => Ok(id),
+    ///     Reply::Refused(fault) => Err(fault.into()),
+    ///     _ => bail!("an insert gives an id"),
+    /// }
+    /// ```
     pub fn reply(&mut self, alloc: Global, event: Event) -> Result<Reply, AllocError>
         ensures { Replies self.old event result self.new }
     {
@@ -231,7 +253,7 @@ impl Machine {
     }
 }
 
-/// What is told of a commit that succeeds, by the id of the next row.
+/// The reply to a commit that succeeds, by the id of the next row.
 fn told_of_commit(next_id: u64, commit: &Commit) -> Committed
     ensures { result ≡ told_of_commit next_id commit.now }
 {

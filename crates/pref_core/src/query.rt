@@ -68,10 +68,10 @@ impl Query {
         self.left
     }
 
-    /// Scans the next block, and answers how many are left. No id that the block shows may be held already,
-    /// nor come twice: so it is as long as the query lives ([`next_block_is_new`](crate::laws::next_block_is_new)).
+    /// Scans the next block, and returns how many are left. No id that the block shows may be held already,
+    /// nor come twice: this holds as long as the query lives ([`next_block_is_new`](crate::laws::next_block_is_new)).
     ///
-    /// Refused `AllScanned` where no block is left, else `OutOfMemory` where memory is wanting; the query is
+    /// Refused `AllScanned` where no block is left, else `OutOfMemory`; the query is
     /// then as it was. Cost: each slot of the block once, and then that of adding its rows to a
     /// [`Partial`](pref_sky::Partial).
     pub fn scan(&mut self, alloc: Global, store: &Store) -> Result<u32, CoreFault>
@@ -84,7 +84,7 @@ impl Query {
 
     /// What the next block shows, copied out of the store, so that [`add`](Query::add) needs no store.
     ///
-    /// Refused `AllScanned` where no block is left, else `OutOfMemory` where memory is wanting. Cost: each slot of the
+    /// Refused `AllScanned` where no block is left, else `OutOfMemory`. Cost: each slot of the
     /// block once.
     pub fn read(&self, alloc: Global, store: &Store) -> Result<Vec<Entry>, CoreFault>
         ensures { Reads self.now store.now.slots result }
@@ -95,9 +95,9 @@ impl Query {
         Ok(store.block(alloc, self.done, self.size, self.stamp)?)
     }
 
-    /// Adds what the next block shows, as [`read`](Query::read) copied it out, and answers how many blocks are left.
+    /// Adds what the next block shows, as [`read`](Query::read) copied it out, and returns how many blocks are left.
     ///
-    /// Refused `OutOfMemory` where memory is wanting; the query is then as it was.
+    /// Refused `OutOfMemory`; the query is then as it was.
     pub fn add(&mut self, alloc: Global, shown: &[Entry]) -> Result<u32, CoreFault>
         requires some { 0 < self.old.left }
         requires new { HaveDifferentIds (map entry_of self.old.partial ++ shown.now) }
@@ -113,7 +113,7 @@ impl Query {
 
     /// The answer, once all blocks are scanned: the question's selection from all that the blocks showed.
     ///
-    /// Refused `NotDone` where blocks are left, else `OutOfMemory` where memory is wanting; the query stays as it
+    /// Refused `NotDone` where blocks are left, else `OutOfMemory`; the query stays as it
     /// is either way.
     pub fn answer(&self, alloc: Global) -> Result<Vec<Ranked>, CoreFault>
         ensures { Answers self.now result }

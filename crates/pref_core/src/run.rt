@@ -11,19 +11,19 @@ use crate::setup::Setup;
 use pref_table::Row;
 use std::alloc::{AllocError, Global};
 
-/// What was replied before memory was wanting, or all of it.
+/// The replies up to the first event that ran out of memory, or all of them.
 #[derive(Drop)]
 pub struct Part {
     /// One reply to each of the first events, in their order.
     pub replies: Vec<Reply>,
-    /// Whether an event was left without a reply, because memory was wanting.
+    /// Whether an event was left without a reply, because memory ran out.
     pub stopped: bool,
 }
 
 /// The replies to the first events of a list, as many as memory is there for: those that the sequential table gives.
 ///
-/// It stops at the first event whose reply wants memory, keeps the replies before it, and says so. Refused `Full`
-/// where there are more opening rows than slots, else `OutOfMemory` where memory is wanting for the opening table,
+/// It stops at the first event that runs out of memory, keeps the replies before it, and says so. Refused `Full`
+/// where there are more opening rows than slots, else `OutOfMemory` where there is no memory for the opening table,
 /// before the first event. No reply is `OutOfMemory`. Cost: that of each event, and one list of replies.
 ///
 /// ```text
@@ -63,7 +63,7 @@ pub fn replay_part(
 /// The replies to a list of events, one to each: those that the sequential table gives, whatever changes, uses of
 /// slots and other queries fall between a query's begin and its end.
 ///
-/// Refused `Full` where there are more opening rows than slots, else `OutOfMemory` where memory is wanting; nothing
+/// Refused `Full` where there are more opening rows than slots, else `OutOfMemory`; nothing
 /// is kept then. No reply is `OutOfMemory`. Cost: that of each event, and one list of replies.
 ///
 /// ```text
@@ -86,7 +86,7 @@ pub fn replay(
     Ok(part.replies)
 }
 
-/// Adds a reply. Want of memory, for the reply or for the list, adds none.
+/// Adds a reply. Out of memory, for the reply or for the list, adds none.
 fn push_reply(told: &mut Vec<Reply>, reply: Result<Reply, AllocError>) -> Result<(), AllocError>
     ensures { AddsReply told.old.items reply result told.new.items }
 {

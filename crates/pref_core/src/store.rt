@@ -1,7 +1,7 @@
 //! The store: versions of rows in slots that were allocated once, and what is kept of each client.
 //!
 //! A commit never writes over what the table or an open query needs. It ends versions by a stamp and begins
-//! new ones in slots that nobody needs, so a query that began at a stamp reads that table for as long as it
+//! new ones in slots that no query needs, so a query that began at a stamp reads that table for as long as it
 //! is open, while others change rows. (The stamps are those of multiversion stores; when a slot may be used
 //! again, and that room is exact, is this project's own.)
 
@@ -40,7 +40,7 @@ use std::marker::Model;
 /// A table's slots, its counters, and what is kept of each client: how many calls it has made, and the stamp
 /// at its open query's begin. Contracts see them as they are, and not the lists beside them that spare a look at each slot.
 ///
-/// What a store stands for is said by `StandsFor`: a state of the sequential table. [`Store::plan`] tells what
+/// What a store represents, a state of the sequential table, is said by `StandsFor`. [`Store::plan`] finds what
 /// becomes of a call and [`Store::apply`] does it; [`ops_are_history`](crate::laws::ops_are_history) says that what was
 /// applied so is a legal history.
 #[derive(Drop)]
@@ -66,7 +66,7 @@ impl Store {
     /// A store with these rows as commits 1, 2, .. with ids 1, 2, .., in the slots 0, 1, .., and no call made. All
     /// slots are allocated here, and none later.
     ///
-    /// Refused `Full` where there are more rows than slots, else `OutOfMemory` where memory is wanting.
+    /// Refused `Full` where there are more rows than slots, else `OutOfMemory`.
     pub fn new(alloc: Global, setup: &Setup, rows: &[Row]) -> Result<Store, CoreFault>
         ensures opening { IfOk result (λ store. store ≡ opening_contents setup.now rows.now) }
         ensures state { IfOk result (λ store. StandsFor store (opening setup.now.clients rows.now) × (length store.slots ≡ setup.now.capacity)) }
@@ -96,7 +96,7 @@ impl Store {
         })
     }
 
-    /// Another store that holds the same. `Err` is want of memory. Cost: each slot is copied.
+    /// Another store that holds the same. `Err` is out of memory. Cost: each slot is copied.
     pub fn copy(&self, alloc: Global) -> Result<Store, AllocError>
         ensures { IfOk result (λ copy. copy ≡ self.now) }
     {
@@ -141,7 +141,7 @@ impl Store {
         reads::row_in(&self.contents, place)
     }
 
-    /// The same by an index of this store, which is asked where another row stands at the id's home.
+    /// The same by an index of this store, which is looked up where another row is at the id's home.
     pub fn get_at(&self, index: &Index, id: u64) -> Option<Row>
         requires { IsIndexOf self.now index.now }
         ensures { (state : State) → StandsFor self.now state → result ≡ option_map (λ line. line.row) (line_of state.table id) }
@@ -158,7 +158,7 @@ impl Store {
     }
 
     /// What the slots of a block show at a stamp: those from `block` times `size` up to before the next block's
-    /// or the last slot. Reads these slots alone. `Err` is want of memory.
+    /// or the last slot. Reads these slots alone. `Err` is out of memory.
     pub fn block(
         &self,
         alloc: Global,

@@ -28,7 +28,7 @@ impl Model for Contents {
 }
 
 impl Contents {
-    /// The same contents once more.
+    /// A copy of these contents.
     pub(crate) fn copy(&self, alloc: Global) -> Result<Contents, AllocError>
         ensures { IfOk result (λ copy. copy ≡ self.now) }
     {

@@ -1,7 +1,7 @@
-//! Where rows stand, by an index.
+//! Where rows are, by an index.
 
 ghost use Rattle.std.specs.Prelude.{ℕ, IfOk, Some, length, map, true, ◌≡◌, ◌≤◌};
-ghost use Rattle.pref_core.specs.Indexes.{slot_of, Points, IsPlaceOf, IsIndexOf, IsReady, Follows};
+ghost use Rattle.pref_core.specs.Indexes.{slot_of, Points, IsPlaceOf, IsIndexOf, IsReady, Moves};
 ghost use Rattle.pref_core.specs.Kept.{IsKept, FindsFreed};
 ghost use Rattle.pref_core.specs.Operations.{is_next};
 ghost use Rattle.pref_core.specs.Places.{zone_of};
@@ -41,7 +41,7 @@ pub(crate) fn index_rows(
     Ok(index)
 }
 
-/// The place of the row of this id in the table. Looks at the id's home, and asks the index where another row stands there.
+/// The place of the row of this id in the table. Looks at the id's home, and looks it up in the index where another row is there.
 pub(crate) fn indexed_place(contents: &Contents, index: &Index, id: u64) -> Option<u32>
     requires few { length contents.now.slots ≤ 65536 }
     requires index { IsPlaceOf contents.now.stamp id contents.now.slots (slot_of index.now id) }
@@ -91,7 +91,7 @@ pub(crate) fn follow(contents: &Contents, index: &mut Index, op: &Op)
     requires kept { IsKept contents.now (map (zone_of (begins contents.now.callers)) contents.now.slots) }
     requires next { is_next contents.now op.now ≡ true }
     requires ready { IsReady contents.now op.now index.old }
-    ensures { Follows op.now index.old index.new }
+    ensures { Moves op.now index.old index.new }
 {
     if !op.outcome.succeeds() {
         return;
@@ -111,7 +111,7 @@ pub(crate) fn follow(contents: &Contents, index: &mut Index, op: &Op)
     }
 }
 
-/// A row of the table gets this slot. Where it stands there already the index is left alone.
+/// A row of the table gets this slot. Where it is there already the index is left alone.
 fn move_row(contents: &Contents, index: &mut Index, id: u64, slot: u32)
     requires kept { IsKept contents.now (map (zone_of (begins contents.now.callers)) contents.now.slots) }
     requires there { has (visible contents.now.stamp contents.now.slots) id ≡ true }

@@ -9,7 +9,7 @@ use crate::store::version::Version;
 use std::alloc::{AllocError, Global};
 use std::marker::Model;
 
-/// The home of an id: the slot where opening rows stand, and new versions where it is free.
+/// The home of an id: the slot that an opening row has, and a new version where it is free.
 pub(crate) fn home_of(slots: &[Option<Version>], id: u64) -> u32
     requires some { 0 < length slots.now }
     requires few { length slots.now ≤ 65536 }
@@ -19,7 +19,7 @@ pub(crate) fn home_of(slots: &[Option<Version>], id: u64) -> u32
     (id.saturating_sub(1) % slots.len() as u64) as u32
 }
 
-/// The id of the row that stands at a place in the table at this stamp.
+/// The id of the row that is at a place in the table at this stamp.
 fn id_at(slots: &[Option<Version>], stamp: u64, place: u32) -> Option<u64>
     ensures { result ≡ id_at (ids_of stamp slots.now) place }
 {
@@ -29,7 +29,7 @@ fn id_at(slots: &[Option<Version>], stamp: u64, place: u32) -> Option<u64>
     }
 }
 
-/// Whether a row of a greater id stands there.
+/// Whether a row of a greater id is there.
 fn is_above(slots: &[Option<Version>], stamp: u64, place: u32, id: u64) -> bool
     ensures { result ≡ is_above id (id_at (ids_of stamp slots.now) place) }
 {
@@ -72,7 +72,7 @@ impl Links {
         Ok(Links { next })
     }
 
-    /// The same links once more.
+    /// A copy of these links.
     pub(crate) fn copy(&self, alloc: Global) -> Result<Links, AllocError>
         ensures { IfOk result (λ copy. copy ≡ self.now) }
     {
@@ -113,7 +113,7 @@ impl Links {
         self.next[node as usize] = place;
     }
 
-    /// The row of this id is about to end: takes it out of its chain, and answers where it stands.
+    /// The row of this id is about to end: takes it out of its chain, and returns its place.
     pub(crate) fn take(&mut self, slots: &[Option<Version>], stamp: u64, id: u64) -> Option<u32>
         requires few { length slots.now ≤ 65536 }
         requires links { AreLinks (ids_of stamp slots.now) self.old }

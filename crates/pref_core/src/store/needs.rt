@@ -58,7 +58,7 @@ pub(crate) fn zone_of(slot: Option<Version>, callers: &[Caller]) -> Zone
     }
 }
 
-/// Whether nobody needs the slot of this place once the rows that the call ends have ended.
+/// Whether the slot of this place is no longer needed once the rows that the call ends have ended.
 pub(crate) fn frees(contents: &Contents, place: u32, call: &Call) -> bool
     requires { contents.now.stamp < 2 ^ 63 }
     ensures { result ≡ frees_at (begins contents.now.callers) (ended call.now) (contents.now.stamp + 1) contents.now.slots place }

@@ -1,4 +1,4 @@
-//! Where each slot's place stands: the free ones first, so that each change takes or gives back a place in constant time.
+//! The places of slots, the free ones first, so that each change takes or gives back a place in constant time.
 
 ghost use Rattle.std.specs.List.{count_by, range_with_len, AllZip};
 ghost use Rattle.std.specs.Prelude.{◌≡◌, ◌-◌, ◌<◌, ◌≤◌, ◌++◌, ℕ, true, false, length, map, replicate, Some, slice_get, slice_set, IfOk, IfSome, IfNone};
@@ -34,7 +34,7 @@ impl Zone {
 
 /// All places in an order of their zones, and for each place its position there.
 ///
-/// The free places stand before position `free`, the ended ones from there up to `held`. Two lists that
+/// The free places come before position `free`, the ended ones from there up to `held`. Two lists that
 /// are each other's inverse are the sparse sets of (Briggs, Torczon 1993).
 #[derive(Drop)]
 pub(crate) struct Places {
@@ -74,7 +74,7 @@ impl Places {
         })
     }
 
-    /// The same places once more.
+    /// A copy of these places.
     pub(crate) fn copy(&self, alloc: Global) -> Result<Places, AllocError>
         ensures { IfOk result (λ copy. copy ≡ self.now) }
     {
@@ -88,7 +88,7 @@ impl Places {
         })
     }
 
-    /// After an open query went: each ended place that nobody needs is free.
+    /// After an open query went: each ended place that no query needs is free.
     pub(crate) fn sweep(&mut self, slots: &[Option<Version>], callers: &[Caller])
         requires { AllZip MayBecome self.old (map (zone_of (begins callers.now)) slots.now) }
         ensures { self.new ≡ map (zone_of (begins callers.now)) slots.now }
@@ -140,7 +140,7 @@ impl Places {
         self.held += 1;
     }
 
-    /// Nobody needs the ended version of a place any more.
+    /// No query needs the ended version of a place any more.
     fn release(&mut self, place: u32)
         requires { slice_get self.old place ≡ Some Zone.Ended }
         ensures { self.new ≡ slice_set self.old place Zone.Free }
@@ -165,7 +165,7 @@ impl Places {
         }
     }
 
-    /// A free place stands with the ended ones.
+    /// A free place joins the ended ones.
     fn hold(&mut self, place: u32)
         requires { slice_get self.old place ≡ Some Zone.Free }
         ensures { self.new ≡ slice_set self.old place Zone.Ended }
@@ -242,7 +242,7 @@ fn turned(alloc: Global, capacity: u32, first: u32) -> Result<Vec<u32>, AllocErr
     Ok(numbers)
 }
 
-/// Goes over the ended places, and moves those that nobody needs to the free ones.
+/// Goes over the ended places, and moves those that no query needs to the free ones.
 fn sweep(
     order: &mut [u32],
     positions: &mut [u32],

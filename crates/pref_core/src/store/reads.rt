@@ -28,7 +28,7 @@ fn shows(slot: Option<Version>, stamp: u64, id: u64) -> bool
     }
 }
 
-/// Whether the row of this id stands at the place in the table at this stamp.
+/// Whether the row of this id is at the place in the table at this stamp.
 pub(crate) fn stands_at(slots: &[Option<Version>], place: u32, stamp: u64, id: u64) -> bool
     ensures { result ≡ row_at stamp id slots.now place }
 {
@@ -69,7 +69,7 @@ pub(crate) fn freed_places(contents: &Contents, links: &Links, call: &Call) -> R
     Ok(freed)
 }
 
-/// The row at this place, where one stands there.
+/// The row at this place, where there is one.
 pub(crate) fn row_in(contents: &Contents, place: Option<u32>) -> Option<Row>
     ensures { result ≡ row_in contents.now.slots place }
 {

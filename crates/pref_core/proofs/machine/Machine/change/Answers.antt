@@ -34,7 +34,7 @@ returns-in_err-prepare c =
     subst (λ t. Changes c.args.self.now c.args.client c.args.call.now c.args.done t (running_of c.self.inside.store c.self.inside.setup c.self.inside.queries.items)) (sym is)
     (
     subst (λ r. Changes r c.args.client c.args.call.now c.args.done (Err OutOfMemory) (running_of c.self.inside.store c.self.inside.setup c.self.inside.queries.items)) c.self.view_is
-    (change_unmade (running_of c.self.inside.store c.self.inside.setup c.self.inside.queries.items) c.args.client c.args.call.now c.args.done adds)
+    (change_unmade (running_of c.self.inside.store c.self.inside.setup c.self.inside.queries.items) c.args.client c.args.call.now c.args.done c.in_ok-op.op c.requires.quiet c.in_err-prepare.ensures.refused c.in_ok-op.ensures.state adds)
     )
 
 pub invariant_of-self : goal.invariant_of-self
