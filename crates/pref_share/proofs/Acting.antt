@@ -27,10 +27,10 @@ use Rattle.pref_core.proofs.Seats.{with_seat_self, with_seat-map}
 use Rattle.pref_core.proofs.Steps.{somebody_steps, let_in_steps}
 use Rattle.pref_core.proofs.Scanning.{some_left, no_left}
 use Rattle.pref_core.proofs.Systems.{client_there, state_of-counted, after_quiet, state_of-changed, members-changed}
-use Rattle.pref_share.specs.Openings.{Opening, IsLegal, state_at}
+use Rattle.pref_share.specs.Openings.{Opening, IsLegalFrom, state_at}
 use Rattle.pref_share.specs.Standing.{Asking, Standing}
 use Rattle.pref_share.specs.Clients.{own_refusal, Joins, Changes, Commits, Sees, Begins, Finishes, HasLeft}
-use Rattle.pref_share.specs.Scanning.{Scanned, row_at, room_at}
+use Rattle.pref_share.specs.Scanning.{Scanned, row_after, room_at}
 use Rattle.pref_share.specs.Runs.{open_of, member_of, call_of, step_by, IsStep, StepsTo}
 use Rattle.pref_share.proofs.Histories.{state_at-append}
 use Rattle.pref_share.proofs.Prefixes.{prefix_self}
@@ -57,7 +57,7 @@ stays o s t act reply sees steps = record {
 }
 
 -- nothing was seen
-pub sees_same : (o : Opening) (s t : Standing) → IsLegal o s.seen → t ≡ s → Sees o s t
+pub sees_same : (o : Opening) (s t : Standing) → IsLegalFrom o s.seen → t ≡ s → Sees o s t
 sees_same o s t legal same = subst (λ (x : Standing). Sees o s x) (sym same) (record { further = prefix_self s.seen; legal = legal; counted = refl; same = refl; query = refl })
 
 found_row : (id : ℕ) (row : Row) (l : Option Line) → option_map (λ line. line.row) l ≡ Some row → elim l as (λ x. Reply) [ None ↦ RefusedReply (MissingRow id) | Some line ↦ Found id line.row ] ≡ Found id row
@@ -68,11 +68,11 @@ missing_row : (id : ℕ) (l : Option Line) → option_map (λ line. line.row) l 
 missing_row id None e = refl
 missing_row id (Some line) e = absurd (cc)
 
-pub got : (o : Opening) (s t : Standing) (id : ℕ) (row : Row) → Sees o s t → row_at o t.seen id ≡ Some row → StepsTo o s (Get id) (Found id row) t
+pub got : (o : Opening) (s t : Standing) (id : ℕ) (row : Row) → Sees o s t → row_after o t.seen id ≡ Some row → StepsTo o s (Get id) (Found id row) t
 got o s t id row sees is = stays o s t (Get id) (Found id row) sees
     (λ system state. λ i. record { reply = found_row id row (line_of system.table id) (ap (λ (x : State). option_map (λ line. line.row) (line_of x.table id)) state ∙ is) i; next = system })
 
-pub got_none : (o : Opening) (s t : Standing) (id : ℕ) → Sees o s t → row_at o t.seen id ≡ None → StepsTo o s (Get id) (RefusedReply (MissingRow id)) t
+pub got_none : (o : Opening) (s t : Standing) (id : ℕ) → Sees o s t → row_after o t.seen id ≡ None → StepsTo o s (Get id) (RefusedReply (MissingRow id)) t
 got_none o s t id sees is = stays o s t (Get id) (RefusedReply (MissingRow id)) sees
     (λ system state. λ i. record { reply = missing_row id (line_of system.table id) (ap (λ (x : State). option_map (λ line. line.row) (line_of x.table id)) state ∙ is) i; next = system })
 

@@ -6,13 +6,13 @@ use Rattle.pref_core.specs.declared.call.Op.{Op}
 use Rattle.pref_core.specs.declared.fault.CoreFault.{CoreFault}
 use Rattle.pref_core.specs.State.{State, after, refusal}
 use Rattle.pref_core.specs.Slots.{Contents, StandsFor}
-use Rattle.pref_core.specs.Operations.{IsLegal as IsLegalAt, PlansIn, applied, ran}
+use Rattle.pref_core.specs.Operations.{IsLegal, PlansIn, applied, ran}
 use Rattle.pref_core.specs.History.{IsLegalHistory, state_after, numbered_of, AreLegalOps}
 use Rattle.pref_core.proofs.Legal.{applied_stands, is_next-from, IsNext-from}
 use Rattle.pref_core.proofs.Shown.{length-applied, length-ran}
 use Rattle.pref_core.proofs.Histories.{ops_are_history}
 use Rattle.pref_core.proofs.Openings.{opened_stands}
-use Rattle.pref_share.specs.Openings.{Opening, IsLegal, MayFollow, LegalIsHistory, first_contents, first_state, history_of, contents_at, state_at}
+use Rattle.pref_share.specs.Openings.{Opening, IsLegalFrom, MayFollow, LegalIsHistory, first_contents, first_state, history_of, contents_at, state_at}
 use Rattle.pref_share.specs.Views.{AreLetIn}
 
 abbrev pub reached : Contents → State → List Op → State
@@ -40,7 +40,7 @@ legal_append contents state (x ∷ xs) ys stands legal more =
 pub legal_from_let_in : (contents : Contents) (state : State) (ops : List Op) → StandsFor contents state → AreLetIn contents ops → AreLegalOps state contents ops
 legal_from_let_in contents state [] stands let_in = tt
 legal_from_let_in contents state (op ∷ ops) stands let_in =
-    let legal : IsLegalAt state contents op = record { next = IsNext-from contents state op stands let_in.0; fits = let_in.1 } in
+    let legal : IsLegal state contents op = record { next = IsNext-from contents state op stands let_in.0; fits = let_in.1 } in
     (legal, legal_from_let_in (applied contents op) (after (length contents.slots) state op.client op.call) ops (applied_stands contents state op stands legal) let_in.2)
 
 -- .. and the other way round
@@ -56,23 +56,23 @@ opens o fits = opened_stands o.limits.clients o.limits.capacity o.rows (first_co
 pub state_at_is : (o : Opening) (ops : List Op) → length o.rows ≤ o.limits.capacity → reached (first_contents o) (first_state o) ops ≡ state_at o ops
 state_at_is o ops fits = ap (λ n. state_after n (first_state o) (history_of ops)) (opens o fits).1
 
-pub legal_stands : (o : Opening) (ops : List Op) → IsLegal o ops → StandsFor (contents_at o ops) (state_at o ops)
+pub legal_stands : (o : Opening) (ops : List Op) → IsLegalFrom o ops → StandsFor (contents_at o ops) (state_at o ops)
 legal_stands o ops legal =
     subst (StandsFor (contents_at o ops)) (state_at_is o ops legal.fits) (ops_are_history (first_contents o) (first_state o) ops (opens o legal.fits).0 legal.each).1
 
 -- the same of a store that is seen to be what the history leaves
-pub left_stands : (o : Opening) (ops : List Op) (store : Contents) → IsLegal o ops → store ≡ contents_at o ops → StandsFor store (state_at o ops)
+pub left_stands : (o : Opening) (ops : List Op) (store : Contents) → IsLegalFrom o ops → store ≡ contents_at o ops → StandsFor store (state_at o ops)
 left_stands o ops store legal is = subst (λ (s : Contents). StandsFor s (state_at o ops)) (sym is) (legal_stands o ops legal)
 
 -- A plan on the store that a legal history leaves may follow it, ..
-pub planned : (o : Opening) (ops : List Op) (store : Contents) (client : ℕ) (call : Call) (op : Op) → IsLegal o ops → store ≡ contents_at o ops
+pub planned : (o : Opening) (ops : List Op) (store : Contents) (client : ℕ) (call : Call) (op : Op) → IsLegalFrom o ops → store ≡ contents_at o ops
     → ((state : State) → StandsFor store state → PlansIn state store client call (Ok op)) → (op.client ≡ client) × (op.call ≡ call) × MayFollow o ops op
 planned o ops store client call op legal is plans =
-    subst (λ (x : Contents). (op.client ≡ client) × (op.call ≡ call) × IsLegalAt (state_at o ops) x op) is
+    subst (λ (x : Contents). (op.client ≡ client) × (op.call ≡ call) × IsLegal (state_at o ops) x op) is
     (plans (state_at o ops) (subst (λ (x : Contents). StandsFor x (state_at o ops)) (sym is) (legal_stands o ops legal)))
 
 -- .. and a refusal to plan is the sequential table's.
-pub unplanned : (o : Opening) (ops : List Op) (store : Contents) (client : ℕ) (call : Call) (fault : CoreFault) → IsLegal o ops → store ≡ contents_at o ops
+pub unplanned : (o : Opening) (ops : List Op) (store : Contents) (client : ℕ) (call : Call) (fault : CoreFault) → IsLegalFrom o ops → store ≡ contents_at o ops
     → ((state : State) → StandsFor store state → PlansIn state store client call (Err fault)) → refusal (state_at o ops) client call ≡ Some fault
 unplanned o ops store client call fault legal is plans =
     plans (state_at o ops) (subst (λ (x : Contents). StandsFor x (state_at o ops)) (sym is) (legal_stands o ops legal))
@@ -93,7 +93,7 @@ pub contents_at-append : (o : Opening) (xs ys : List Op) → contents_at o (xs +
 contents_at-append o xs ys = ran-append (first_contents o) xs ys
 
 -- a beginning of a legal history is legal, and what follows is legal there
-pub legal-prefix : (o : Opening) (xs ys : List Op) → IsPrefix xs ys → IsLegal o ys → IsLegal o xs
+pub legal-prefix : (o : Opening) (xs ys : List Op) → IsPrefix xs ys → IsLegalFrom o ys → IsLegalFrom o xs
 legal-prefix o xs ys p legal = record {
   allowed = legal.allowed;
   fits = legal.fits;
@@ -101,7 +101,7 @@ legal-prefix o xs ys p legal = record {
 }
 
 -- one more operation
-pub legal-more : (o : Opening) (xs : List Op) (op : Op) → IsLegal o xs → MayFollow o xs op → IsLegal o (xs ++ op ∷ [])
+pub legal-more : (o : Opening) (xs : List Op) (op : Op) → IsLegalFrom o xs → MayFollow o xs op → IsLegalFrom o (xs ++ op ∷ [])
 legal-more o xs op legal may = record {
   allowed = legal.allowed;
   fits = legal.fits;

@@ -9,13 +9,13 @@ use Rattle.pref_core.specs.declared.call.Op.{Op}
 use Rattle.pref_core.specs.Slots.{Contents}
 use Rattle.pref_core.specs.Operations.{applied, ran, is_next, slots_after}
 use Rattle.pref_core.proofs.Legal.{is_next-from}
-use Rattle.pref_share.specs.Openings.{Opening, IsLegal, MayFollow, first_contents, contents_at, state_at}
+use Rattle.pref_share.specs.Openings.{Opening, IsLegalFrom, MayFollow, first_contents, contents_at, state_at}
 use Rattle.pref_share.proofs.Histories.{ran-append, legal_stands}
 use Rattle.pref_share.specs.declared.published.Base.{Base}
 use Rattle.pref_share.specs.declared.published.View.{View}
 use Rattle.pref_share.specs.declared.published.Published.{Published}
 use Rattle.pref_share.specs.declared.published.Stamp.{Stamp}
-use Rattle.pref_share.specs.Views.{stamped, StandsFor, Fits, Kept, newcomer, Knows, Opens, Stays, Reads, AreLetIn}
+use Rattle.pref_share.specs.Views.{stamped, HoldsHistory, Fits, Kept, newcomer, Knows, Opens, Stays, Reads, AreLetIn}
 
 fits_newcomer : (opening : Contents) (book : Book) → Fits opening book newcomer
 fits_newcomer opening book = record { has_opening = (λ b e. absurd cc); has_book = (λ b e. absurd cc) }
@@ -56,12 +56,12 @@ opens seat v x y same views k at =
       (λ empty. record { at = base_of k.opening x; known = refl; has_opening = sym (k.stands.store ∙ ap (ran k.opening) empty); has_book = refl }),
     )
 
-pub stays : (seat : ℕ) (v : View) (x y : Published) (opening : Contents) (book : Book) → Knows opening book v → StandsFor opening book y → TurnsAt Kept seat v x y Stays
+pub stays : (seat : ℕ) (v : View) (x y : Published) (opening : Contents) (book : Book) → Knows opening book v → HoldsHistory opening book y → TurnsAt Kept seat v x y Stays
 stays seat v x y opening book knows stands views k at =
     let f = k.each seat v at in
     let o : opening ≡ k.opening = sym knows.has_opening ∙ f.has_opening knows.at knows.known in
     let b : book ≡ k.book = sym knows.has_book ∙ f.has_book knows.at knows.known in
-    let stands' : StandsFor k.opening k.book y = subst (λ (s : Contents). StandsFor s k.book y) o (subst (λ (t : Book). StandsFor opening t y) b stands) in (
+    let stands' : HoldsHistory k.opening k.book y = subst (λ (s : Contents). HoldsHistory s k.book y) o (subst (λ (t : Book). HoldsHistory opening t y) b stands) in (
       v,
       record { opening = k.opening; book = k.book; stands = stands'; each = set_fits k.opening k.book views seat v f k.each },
       refl,
@@ -77,7 +77,7 @@ reads seat v x views k at =
         (λ opening book knows.
             let o : k.opening ≡ opening = sym (f.has_opening knows.at knows.known) ∙ knows.has_opening in
             let b : k.book ≡ book = sym (f.has_book knows.at knows.known) ∙ knows.has_book in
-            subst (λ (s : Contents). StandsFor s book x) o (subst (λ (t : Book). StandsFor k.opening t x) b k.stands)),
+            subst (λ (s : Contents). HoldsHistory s book x) o (subst (λ (t : Book). HoldsHistory k.opening t x) b k.stands)),
       ),
     )
 
@@ -96,8 +96,8 @@ let_in_more contents [] op let_in next fits = (next, fits, tt)
 let_in_more contents (x ∷ xs) op let_in next fits = (let_in.0, let_in.1, let_in_more (applied contents x) xs op let_in.2 next fits)
 
 -- the copy after the stamp of the next operation stands for the history with it
-pub stamped_stands : (opening : Contents) (book : Book) (x : Published) (s : Stamp) → StandsFor opening book x → s.seen.log ≡ x.seen.log ++ s.op ∷ [] → is_next (ran opening x.seen.log) s.op ≡ true → is_some (slots_after (ran opening x.seen.log) s.op) ≡ true
-    → s.len ≡ length s.seen.log → s.seen.book ≡ book → StandsFor opening book (stamped x s)
+pub stamped_stands : (opening : Contents) (book : Book) (x : Published) (s : Stamp) → HoldsHistory opening book x → s.seen.log ≡ x.seen.log ++ s.op ∷ [] → is_next (ran opening x.seen.log) s.op ≡ true → is_some (slots_after (ran opening x.seen.log) s.op) ≡ true
+    → s.len ≡ length s.seen.log → s.seen.book ≡ book → HoldsHistory opening book (stamped x s)
 stamped_stands opening book x s stands ends next fits len in_book = record {
   legal = subst (AreLetIn opening) (sym ends) (let_in_more opening x.seen.log s.op stands.legal next fits);
   store = ap (λ (t : Contents). applied t s.op) stands.store ∙ (sym (ran-append opening x.seen.log (s.op ∷ [])) ∙ ap (ran opening) (sym ends));
@@ -106,8 +106,8 @@ stamped_stands opening book x s stands ends next fits len in_book = record {
 }
 
 -- the copy that a planned operation leaves
-pub published_next : (o : Opening) (book : Book) (x : Published) (s : Stamp) (history : List Op) → IsLegal o history → x.seen.log ≡ history → StandsFor (first_contents o) book x → MayFollow o history s.op → s.seen.log ≡ history ++ s.op ∷ [] → s.len ≡ length s.seen.log → s.seen.book ≡ book
-    → StandsFor (first_contents o) book (stamped x s)
+pub published_next : (o : Opening) (book : Book) (x : Published) (s : Stamp) (history : List Op) → IsLegalFrom o history → x.seen.log ≡ history → HoldsHistory (first_contents o) book x → MayFollow o history s.op → s.seen.log ≡ history ++ s.op ∷ [] → s.len ≡ length s.seen.log → s.seen.book ≡ book
+    → HoldsHistory (first_contents o) book (stamped x s)
 published_next o book x s history legal same stands may ends len in_book =
     let next : is_next (contents_at o history) s.op ≡ true = is_next-from (contents_at o history) (state_at o history) s.op (legal_stands o history legal) may.next in
     stamped_stands (first_contents o) book x s stands (ends ∙ ap (λ (l : List Op). l ++ s.op ∷ []) (sym same))

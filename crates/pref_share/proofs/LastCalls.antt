@@ -9,7 +9,7 @@ use Rattle.pref_core.specs.declared.event.Act.{Act}
 use Rattle.pref_core.specs.declared.event.Reply.{Reply}
 use Rattle.pref_core.specs.State.{State, Client, seat, with_seat, after, calls_of}
 use Rattle.pref_core.specs.History.{state_after}
-use Rattle.pref_share.specs.Openings.{Opening, IsLegal, history_of, first_state, state_at, calls_at}
+use Rattle.pref_share.specs.Openings.{Opening, IsLegalFrom, history_of, first_state, state_at, calls_at}
 use Rattle.pref_share.specs.Standing.{Standing, newcomer}
 use Rattle.pref_share.specs.Runs.{Looks, Adds, Runs, none, then}
 use Rattle.pref_share.proofs.Histories.{history_rest, legal_is_history, state_at-append}
@@ -32,17 +32,17 @@ same_last (z ∷ xs) [] x y e = absurd (omega (arith, ap length e, length-append
 same_last (w ∷ xs) (z ∷ ys) x y e = let rest = same_last xs ys x y (cc (e)) in (cc (e, rest.0), rest.1)
 
 -- who made the last call
-pub last_caller : (o : Opening) (before : List Op) (op : Op) → IsLegal o (before ++ op ∷ []) → IsCaller (state_at o before) op
+pub last_caller : (o : Opening) (before : List Op) (op : Op) → IsLegalFrom o (before ++ op ∷ []) → IsCaller (state_at o before) op
 last_caller o before op legal =
     caller o.limits.capacity (state_at o before) op (history_rest o.limits.capacity (first_state o) before (op ∷ []) (legal_is_history o (before ++ op ∷ []) legal)).0
 
 -- its client's count then, ..
-pub last_own : (o : Opening) (before : List Op) (op : Op) → IsLegal o (before ++ op ∷ []) → calls_at o (before ++ op ∷ []) op.client ≡ Some op.number
+pub last_own : (o : Opening) (before : List Op) (op : Op) → IsLegalFrom o (before ++ op ∷ []) → calls_at o (before ++ op ∷ []) op.client ≡ Some op.number
 last_own o before op legal =
     ap (λ s. calls_of s op.client) (state_at-append o before (op ∷ [])) ∙ calls_own o.limits.capacity (state_at o before) op (last_caller o before op legal)
 
 -- .. which is one more than before, ..
-pub last_number : (o : Opening) (before : List Op) (op : Op) (count : ℕ) → IsLegal o (before ++ op ∷ []) → calls_at o before op.client ≡ Some count → op.number ≡ suc count
+pub last_number : (o : Opening) (before : List Op) (op : Op) (count : ℕ) → IsLegalFrom o (before ++ op ∷ []) → calls_at o before op.client ≡ Some count → op.number ≡ suc count
 last_number o before op count legal is =
     let c = last_caller o before op legal in
     let same : Some c.who.calls ≡ Some count = ap (λ (found : Option Client). elim found as (λ x. Option ℕ) [ None ↦ None | Some who ↦ Some who.calls ]) (sym c.at) ∙ is in
@@ -77,7 +77,7 @@ seated clients (suc k) who e = let within = slice_get_within clients k who e in 
 abbrev pub IsOneOf : Opening → ℕ → Type 0
 IsOneOf o client = (0 < client) × (client ≤ o.limits.clients)
 
-pub last_one_of : (o : Opening) (before : List Op) (op : Op) → IsLegal o (before ++ op ∷ []) → IsOneOf o op.client
+pub last_one_of : (o : Opening) (before : List Op) (op : Op) → IsLegalFrom o (before ++ op ∷ []) → IsOneOf o op.client
 last_one_of o before op legal =
     let c = last_caller o before op legal in
     let within = seated (state_at o before).clients op.client c.who c.at in
@@ -85,9 +85,9 @@ last_one_of o before op legal =
     (within.0, omega (arith, within.1, all))
 
 -- a count only grows
-pub grown_further : (o : Opening) (xs ys : List Op) (client least : ℕ) → IsPrefix xs ys → IsLegal o ys → IsGrown (calls_at o xs client) least → IsGrown (calls_at o ys client) least
+pub grown_further : (o : Opening) (xs ys : List Op) (client least : ℕ) → IsPrefix xs ys → IsLegalFrom o ys → IsGrown (calls_at o xs client) least → IsGrown (calls_at o ys client) least
 grown_further o xs ys client least p legal h =
-    let rest = history_rest o.limits.capacity (first_state o) xs p.0 (legal_is_history o (xs ++ p.0) (subst (IsLegal o) (sym p.1) legal)) in
+    let rest = history_rest o.limits.capacity (first_state o) xs p.0 (legal_is_history o (xs ++ p.0) (subst (IsLegalFrom o) (sym p.1) legal)) in
     let more = calls_grow o.limits.capacity (state_at o xs) p.0 client h.count rest h.is in
     let some : least ≤ h.count = h.more in
     let most : h.count ≤ more.count = more.more in
@@ -108,16 +108,16 @@ counts_new o number one_of = record {
   };
 }
 
-counts_looked : (o : Opening) (number : ℕ) (s t : Standing) (at : List Op) → Counts o number s → t.number ≡ s.number → IsPrefix s.seen at → IsLegal o t.seen → Looks s t at → Counts o number t
+counts_looked : (o : Opening) (number : ℕ) (s t : Standing) (at : List Op) → Counts o number s → t.number ≡ s.number → IsPrefix s.seen at → IsLegalFrom o t.seen → Looks s t at → Counts o number t
 counts_looked o number s t at c same further legal looks = record {
   same = same ∙ c.same;
   grown = subst (λ n. IsGrown (calls_at o t.seen number) n) (sym looks.counted)
       (grown_further o s.seen t.seen number s.counter (subst (IsPrefix s.seen) (sym looks.seen) further) legal c.grown);
 }
 
-counts_added : (o : Opening) (number : ℕ) (s t : Standing) (at : List Op) (act : Act) → Counts o number s → t.number ≡ s.number → IsLegal o t.seen → Adds o s act t at → Counts o number t
+counts_added : (o : Opening) (number : ℕ) (s t : Standing) (at : List Op) (act : Act) → Counts o number s → t.number ≡ s.number → IsLegalFrom o t.seen → Adds o s act t at → Counts o number t
 counts_added o number s t at act c same legal adds =
-    let own = last_own o at adds.op (subst (IsLegal o) adds.seen legal) in
+    let own = last_own o at adds.op (subst (IsLegalFrom o) adds.seen legal) in
     let numbered : adds.op.number ≡ suc s.counter = adds.number in
     let counted : t.counter ≡ suc s.counter = adds.counted in
     record {

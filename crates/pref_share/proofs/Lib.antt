@@ -15,4 +15,4 @@ pub mod LastCalls
 pub mod Parts
 pub mod Reaching
 pub mod Interleavings
-pub mod Stopping
+pub mod Reporting

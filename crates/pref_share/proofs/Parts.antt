@@ -6,7 +6,7 @@ use mathlib.Core.List.{IsPrefix}
 use Rattle.pref_core.specs.declared.call.Op.{Op}
 use Rattle.pref_core.specs.declared.event.Act.{Act}
 use Rattle.pref_core.specs.declared.event.Reply.{Reply}
-use Rattle.pref_share.specs.Openings.{Opening, IsLegal, calls_at}
+use Rattle.pref_share.specs.Openings.{Opening, IsLegalFrom, calls_at}
 use Rattle.pref_share.specs.Standing.{Standing, newcomer}
 use Rattle.pref_share.specs.Runs.{StepsTo, Looks, Adds, Runs, none, then, RunsTo}
 use Rattle.pref_share.specs.Performing.{IsIn}
@@ -130,7 +130,7 @@ without_looks o history number Holds rest more _ _ _ _ (then acts told stands t 
     }))
 
 -- the client whose call the last one is has seen the whole history
-not_behind : (o : Opening) (before : List Op) (op : Op) (s : Standing) → IsLegal o (before ++ op ∷ []) → IsIn o (before ++ op ∷ []) s → Counts o op.client s → IsPrefix s.seen before → ⊥
+not_behind : (o : Opening) (before : List Op) (op : Op) (s : Standing) → IsLegalFrom o (before ++ op ∷ []) → IsIn o (before ++ op ∷ []) s → Counts o op.client s → IsPrefix s.seen before → ⊥
 not_behind o before op s legal h c inside =
     let least = grown_further o s.seen before op.client s.counter inside (legal-prefix o before (before ++ op ∷ []) (op ∷ [], refl) legal) c.grown in
     let counted : Some op.number ≡ Some s.counter = sym (last_own o before op legal) ∙ ap (calls_at o (before ++ op ∷ [])) (sym c.same) ∙ h.alone in
@@ -146,7 +146,7 @@ pub never_empty : (before : List Op) (op : Op) → before ++ op ∷ [] ≡ [] �
 never_empty before op e = omega (arith, ap length e, length-append before (op ∷ []))
 
 -- that call is its last act, ..
-pub made_last : (o : Opening) (before : List Op) (op : Op) (p : Part) → IsLegal o (before ++ op ∷ []) → IsPartAt o (before ++ op ∷ []) op.client p → LooksNoMore o (before ++ op ∷ []) op.client p → IsLast o (before ++ op ∷ []) op.client p
+pub made_last : (o : Opening) (before : List Op) (op : Op) (p : Part) → IsLegalFrom o (before ++ op ∷ []) → IsPartAt o (before ++ op ∷ []) op.client p → LooksNoMore o (before ++ op ∷ []) op.client p → IsLast o (before ++ op ∷ []) op.client p
 made_last o before op p legal h (behind l) =
     let c = counts o op.client (last_one_of o before op legal) p.acts p.told h.runs.stands p.last h.runs.runs in
     absurd (not_behind o before op p.last legal h.is_in c (shorter_before o before op p.last h.is_in l))
@@ -170,7 +170,7 @@ others_before o before op number p apart c h looks = record { inside = go looks;
         absurd (apart (sym (by ∙ same)))
 
 -- the parts before the last call
-pub parts_before : (o : Opening) (before : List Op) (op : Op) (parts : ℕ → Part) → IsLegal o (before ++ op ∷ []) → ArePartsAt o (before ++ op ∷ []) parts
+pub parts_before : (o : Opening) (before : List Op) (op : Op) (parts : ℕ → Part) → IsLegalFrom o (before ++ op ∷ []) → ArePartsAt o (before ++ op ∷ []) parts
     → NoneLooks o (before ++ op ∷ []) parts → (last : IsLast o (before ++ op ∷ []) op.client (parts op.client))
     → ArePartsAt o before (with_part op.client last.before parts)
 parts_before o before op parts legal h looks last = with_part-each (λ n x. IsOneOf o n → IsPartAt o before n x) op.client last.before parts

@@ -10,7 +10,7 @@ use Rattle.pref_core.specs.declared.event.Event.{Event}
 use Rattle.pref_core.specs.declared.event.Reply.{Reply}
 use Rattle.pref_core.specs.State.{seat}
 use Rattle.pref_core.specs.Step.{System, state_of, opened, step, replies, replies_from}
-use Rattle.pref_share.specs.Openings.{Opening, IsLegal, first_state, state_at}
+use Rattle.pref_share.specs.Openings.{Opening, IsLegalFrom, first_state, state_at}
 use Rattle.pref_share.specs.Standing.{Standing}
 use Rattle.pref_share.specs.Runs.{member_of, step_by, IsStep, StepsTo}
 use Rattle.pref_share.specs.Interleavings.{Answered, events_of, replies_of, acts_of, part_of}
@@ -123,10 +123,10 @@ was_idle o history number p empty (joined last) = absurd (never_empty last.step.
 
 -- the runs of all shorter histories
 abbrev Shorter : Opening → List Op → Type 0
-Shorter o history = (before : List Op) → length before < length history → IsLegal o before → (parts : ℕ → Part) → ArePartsAt o before parts → Reached o before parts
+Shorter o history = (before : List Op) → length before < length history → IsLegalFrom o before → (parts : ℕ → Part) → ArePartsAt o before parts → Reached o before parts
 
 -- the last call, put behind the run before it
-reached_last : (o : Opening) (before : List Op) (op : Op) (parts : ℕ → Part) → IsLegal o (before ++ op ∷ []) → ArePartsAt o (before ++ op ∷ []) parts
+reached_last : (o : Opening) (before : List Op) (op : Op) (parts : ℕ → Part) → IsLegalFrom o (before ++ op ∷ []) → ArePartsAt o (before ++ op ∷ []) parts
     → NoneLooks o (before ++ op ∷ []) parts → Shorter o (before ++ op ∷ []) → Reached o (before ++ op ∷ []) parts
 reached_last o before op parts legal h looks shorter =
     let one_of = last_one_of o before op legal in
@@ -140,14 +140,14 @@ reached_last o before op parts legal h looks shorter =
     (subst (λ l. Reached o l (with_part op.client (longer p last.act last.reply last.now) parts)) last.whole now)
 
 -- The parts of which no last act looks at the whole history.
-reached_calls : (o : Opening) (history : List Op) (parts : ℕ → Part) → IsLegal o history → ArePartsAt o history parts → NoneLooks o history parts → Shorter o history → Reached o history parts
+reached_calls : (o : Opening) (history : List Op) (parts : ℕ → Part) → IsLegalFrom o history → ArePartsAt o history parts → NoneLooks o history parts → Shorter o history → Reached o history parts
 reached_calls o history parts legal h looks shorter = go (last_of history)
   where
     go : (history ≡ []) ⊎ ((before : List Op) × (op : Op) × (before ++ op ∷ [] ≡ history)) → Reached o history parts
     go (inl empty) = reached_none o history parts empty (λ number one. was_idle o history number (parts number) empty (looks number one))
     go (inr (before, op, is)) =
         subst (λ l. Reached o l parts) is
-        (reached_last o before op parts (subst (IsLegal o) (sym is) legal) (subst (λ l. ArePartsAt o l parts) (sym is) h) (subst (λ l. NoneLooks o l parts) (sym is) looks) (subst (Shorter o) (sym is) shorter))
+        (reached_last o before op parts (subst (IsLegalFrom o) (sym is) legal) (subst (λ l. ArePartsAt o l parts) (sym is) h) (subst (λ l. NoneLooks o l parts) (sym is) looks) (subst (Shorter o) (sym is) shorter))
 
 -- the clients above this one look no more
 abbrev NoneAbove : Opening → List Op → ℕ → (ℕ → Part) → Type 0
@@ -181,16 +181,16 @@ reached_looks o history parts k within h none_above rest =
         subst (λ l. Reached o l (with_part (suc k) (longer p act reply u) parts)) looks.2 now
 
 -- the same for one client after the other, from the last one down
-reached_below : (o : Opening) (history : List Op) (low : ℕ) → low ≤ o.limits.clients → IsLegal o history → Shorter o history → (parts : ℕ → Part) → ArePartsAt o history parts → NoneAbove o history low parts → Reached o history parts
+reached_below : (o : Opening) (history : List Op) (low : ℕ) → low ≤ o.limits.clients → IsLegalFrom o history → Shorter o history → (parts : ℕ → Part) → ArePartsAt o history parts → NoneAbove o history low parts → Reached o history parts
 reached_below o history zero within legal shorter parts h none_above = reached_calls o history parts legal h (λ number one. none_above number one.0 one) shorter
 reached_below o history (suc k) within legal shorter parts h none_above = reached_looks o history parts k within h none_above (reached_below o history k (omega arith) legal shorter)
 
 -- the same for longer and longer histories
-reached_within : (o : Opening) (most : ℕ) (history : List Op) → length history < most → IsLegal o history → (parts : ℕ → Part) → ArePartsAt o history parts → Reached o history parts
+reached_within : (o : Opening) (most : ℕ) (history : List Op) → length history < most → IsLegalFrom o history → (parts : ℕ → Part) → ArePartsAt o history parts → Reached o history parts
 reached_within o zero history l legal parts h = absurd (omega arith)
 reached_within o (suc most) history l legal parts h =
     reached_below o history o.limits.clients (omega arith) legal (λ before less. reached_within o most before (omega (arith, less, l))) parts h (λ number above one. absurd (omega (arith, above, one.1)))
 
 -- The parts of all clients in a legal history are a run of the sequential table.
-pub reached : (o : Opening) (history : List Op) → IsLegal o history → (parts : ℕ → Part) → ArePartsAt o history parts → Reached o history parts
+pub reached : (o : Opening) (history : List Op) → IsLegalFrom o history → (parts : ℕ → Part) → ArePartsAt o history parts → Reached o history parts
 reached o history legal parts h = reached_within o (suc (length history)) history (omega arith) legal parts h

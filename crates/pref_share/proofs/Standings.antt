@@ -26,16 +26,16 @@ use Rattle.pref_core.proofs.Outcomes.{SameSeat, nobody, somebody, same_seat}
 use Rattle.pref_core.proofs.Shown.{begun_kept}
 use Rattle.pref_core.proofs.Systems.{begun_after-change}
 use Rattle.pref_core.proofs.Following.{stays_on_its_way, begun_on_its_way, next_is_new_on_its_way, scanned_on_its_way, answers_the_begin}
-use Rattle.pref_share.specs.Openings.{Opening, IsLegal, HasCall, MayFollow, history_of, contents_at, state_at, calls_at, first_state}
+use Rattle.pref_share.specs.Openings.{Opening, IsLegalFrom, HasCall, MayFollow, history_of, contents_at, state_at, calls_at, first_state}
 use Rattle.pref_share.specs.Standing.{Asking, Standing}
 use Rattle.pref_share.specs.Clients.{Sees, Joins, Changes, RefusesChange, IsAnswer, own_refusal}
-use Rattle.pref_share.specs.Following.{Follows, Asks, Stands, IsJoined, GivesNone, snapshot_at, done_or_refused}
+use Rattle.pref_share.specs.Following.{AsksOrNone, Asks, Stands, IsJoined, GivesNone, snapshot_at, done_or_refused}
 use Rattle.pref_share.proofs.Prefixes.{prefix_self, prefix_trans}
 use Rattle.pref_share.proofs.Histories.{legal-more, legal-prefix, legal_stands, legal_capacity, contents_at-append, state_at-append, history_rest, legal_is_history}
 use Rattle.pref_share.proofs.Counting.{IsGrown, caller, calls_own, begun_own, calls_grow, none_own, has_call, calls_few, idle_seat}
 
 -- what follows a beginning is a legal history there
-rest_history : (o : Opening) (xs ys : List Op) → IsLegal o (xs ++ ys) → IsLegalHistory o.limits.capacity (state_at o xs) (history_of ys)
+rest_history : (o : Opening) (xs ys : List Op) → IsLegalFrom o (xs ++ ys) → IsLegalHistory o.limits.capacity (state_at o xs) (history_of ys)
 rest_history o xs ys legal = history_rest o.limits.capacity (first_state o) xs ys (legal_is_history o (xs ++ ys) legal)
 
 none_ends : (client : ℕ) (ops : List Op) → AllByRecursion (λ op. (op.client == client) ≡ false) ops → AllByRecursion (λ op. ends_query client op ≡ false) ops
@@ -50,17 +50,17 @@ record Onward (o : Opening) (number counter : ℕ) (at longer : List Op) : Type 
   state : state_at o longer ≡ state_after o.limits.capacity (state_at o at) (history_of rest)
   contents : contents_at o longer ≡ ran (contents_at o at) rest
 
-onward : (o : Opening) (number counter : ℕ) (at longer : List Op) → IsPrefix at longer → IsLegal o longer → Onward o number counter at longer
+onward : (o : Opening) (number counter : ℕ) (at longer : List Op) → IsPrefix at longer → IsLegalFrom o longer → Onward o number counter at longer
 onward o number counter at longer p legal = record {
   rest = p.0;
   whole = p.1;
-  legal = rest_history o at p.0 (subst (IsLegal o) (sym p.1) legal);
+  legal = rest_history o at p.0 (subst (IsLegalFrom o) (sym p.1) legal);
   state = ap (state_at o) (sym p.1) ∙ state_at-append o at p.0;
   contents = ap (contents_at o) (sym p.1) ∙ contents_at-append o at p.0;
 }
 
 -- the client's query at a longer history that holds none of its calls beyond those that it counts
-followed : (o : Opening) (number counter : ℕ) (at longer : List Op) (query : Option Asking) → IsLegal o at → IsPrefix at longer → IsLegal o longer → calls_at o at number ≡ Some counter → calls_at o longer number ≡ Some counter → Follows o at number query → Follows o longer number query
+followed : (o : Opening) (number counter : ℕ) (at longer : List Op) (query : Option Asking) → IsLegalFrom o at → IsPrefix at longer → IsLegalFrom o longer → calls_at o at number ≡ Some counter → calls_at o longer number ≡ Some counter → AsksOrNone o at number query → AsksOrNone o longer number query
 followed o number counter at longer None legal p legal' was is h =
     let on = onward o number counter at longer p legal' in
     let none = none_own o.limits.capacity (state_at o at) on.rest number counter on.legal was (ap (λ s. calls_of s number) (sym on.state) ∙ is) in
@@ -77,12 +77,12 @@ followed o number counter at longer (Some asking) legal p legal' was is h =
           (stays_on_its_way (contents_at o at) number asking.scan (kept.0 ∙ ap Some (sym h.stamp)) (subst (λ n. n ≤ (contents_at o at).stamp) (sym h.stamp) kept.1) on.rest (none_ends number on.rest none.0) h.way);
     }
 
-pub moved_up : (o : Opening) (number counter : ℕ) (seen longer : List Op) (query : Option Asking) → Stands o number counter seen query → IsPrefix seen longer → IsLegal o longer → calls_at o longer number ≡ Some counter → Follows o longer number query
+pub moved_up : (o : Opening) (number counter : ℕ) (seen longer : List Op) (query : Option Asking) → Stands o number counter seen query → IsPrefix seen longer → IsLegalFrom o longer → calls_at o longer number ≡ Some counter → AsksOrNone o longer number query
 moved_up o number counter seen longer query h p legal is =
     followed o number counter h.at longer query (legal-prefix o h.at seen h.before h.legal) (prefix_trans h.at seen longer h.before p) legal h.count is h.follows
 
 -- a new client
-pub stands_new : (o : Opening) (number : ℕ) (seen : List Op) → IsLegal o seen → seen ≡ [] → (0 < number) × (number ≤ o.limits.clients) → Stands o number 0 seen None
+pub stands_new : (o : Opening) (number : ℕ) (seen : List Op) → IsLegalFrom o seen → seen ≡ [] → (0 < number) × (number ≤ o.limits.clients) → Stands o number 0 seen None
 stands_new o number seen legal none one_of =
     let at = idle_seat o.limits.clients number one_of.0 one_of.1 in
     record {
@@ -95,7 +95,7 @@ stands_new o number seen legal none one_of =
     }
 
 -- a client that has seen more
-pub stands_seen : (o : Opening) (number counter : ℕ) (seen longer : List Op) (query : Option Asking) → Stands o number counter seen query → IsPrefix seen longer → IsLegal o longer → Stands o number counter longer query
+pub stands_seen : (o : Opening) (number counter : ℕ) (seen longer : List Op) (query : Option Asking) → Stands o number counter seen query → IsPrefix seen longer → IsLegalFrom o longer → Stands o number counter longer query
 stands_seen o number counter seen longer query h p legal = record {
   legal = legal;
   one_of = h.one_of;
@@ -106,17 +106,17 @@ stands_seen o number counter seen longer query h p legal = record {
 }
 
 -- the same, of all that it has seen
-stands_whole : (o : Opening) (number counter : ℕ) (seen : List Op) (query : Option Asking) → IsLegal o seen → (0 < number) × (number ≤ o.limits.clients) → calls_at o seen number ≡ Some counter → Follows o seen number query → Stands o number counter seen query
+stands_whole : (o : Opening) (number counter : ℕ) (seen : List Op) (query : Option Asking) → IsLegalFrom o seen → (0 < number) × (number ≤ o.limits.clients) → calls_at o seen number ≡ Some counter → AsksOrNone o seen number query → Stands o number counter seen query
 stands_whole o number counter seen query legal one_of count follows = record { legal = legal; one_of = one_of; at = seen; before = prefix_self seen; count = count; follows = follows }
 
-grown : (o : Opening) (number counter : ℕ) (seen longer : List Op) (query : Option Asking) → Stands o number counter seen query → IsPrefix seen longer → IsLegal o longer → IsGrown (calls_at o longer number) counter
+grown : (o : Opening) (number counter : ℕ) (seen longer : List Op) (query : Option Asking) → Stands o number counter seen query → IsPrefix seen longer → IsLegalFrom o longer → IsGrown (calls_at o longer number) counter
 grown o number counter seen longer query h p legal =
     let on = onward o number counter h.at longer (prefix_trans h.at seen longer h.before p) legal in
     let g = calls_grow o.limits.capacity (state_at o h.at) on.rest number counter on.legal h.count in
     record { count = g.count; is = ap (λ s. calls_of s number) on.state ∙ g.is; more = g.more }
 
 -- where the whole history counts no more calls than the client, it holds just its calls, ..
-pub even : (o : Opening) (number counter last : ℕ) (seen whole : List Op) (query : Option Asking) → Stands o number counter seen query → IsPrefix seen whole → IsLegal o whole → last ≡ unwrap_or (calls_at o whole number) 0 → last ≤ counter → calls_at o whole number ≡ Some counter
+pub even : (o : Opening) (number counter last : ℕ) (seen whole : List Op) (query : Option Asking) → Stands o number counter seen query → IsPrefix seen whole → IsLegalFrom o whole → last ≡ unwrap_or (calls_at o whole number) 0 → last ≤ counter → calls_at o whole number ≡ Some counter
 even o number counter last seen whole query h p legal is le =
     let g = grown o number counter seen whole query h p legal in
     let more = g.more in
@@ -131,7 +131,7 @@ has_later (x ∷ xs) ys client number h =
     record { place = suc r.place; op = r.op; there = r.there; by = r.by; counted = r.counted }
 
 -- .. and else it holds the client's next call
-pub ahead : (o : Opening) (number counter last : ℕ) (seen whole : List Op) (query : Option Asking) → Stands o number counter seen query → IsPrefix seen whole → IsLegal o whole → last ≡ unwrap_or (calls_at o whole number) 0 → counter < last → HasCall whole number (suc counter)
+pub ahead : (o : Opening) (number counter last : ℕ) (seen whole : List Op) (query : Option Asking) → Stands o number counter seen query → IsPrefix seen whole → IsLegalFrom o whole → last ≡ unwrap_or (calls_at o whole number) 0 → counter < last → HasCall whole number (suc counter)
 ahead o number counter last seen whole query h p legal is more =
     let on = onward o number counter h.at whole (prefix_trans h.at seen whole h.before p) legal in
     let g = calls_grow o.limits.capacity (state_at o h.at) on.rest number counter on.legal h.count in
@@ -148,8 +148,8 @@ counter_small o number counter seen query h =
 
 -- a call that joined
 record IsAdded (o : Opening) (old : Standing) (call : Call) (before seen : List Op) : Type 0 where
-  legal : IsLegal o seen
-  legal_before : IsLegal o before
+  legal : IsLegalFrom o seen
+  legal_before : IsLegalFrom o before
   further : IsPrefix before seen
   state : state_at o seen ≡ after o.limits.capacity (state_at o before) old.number call
   count : calls_at o seen old.number ≡ Some (suc old.counter)
@@ -160,7 +160,7 @@ record IsAdded (o : Opening) (old : Standing) (call : Call) (before seen : List 
 
 is_added : (o : Opening) (old : Standing) (call : Call) (told : Outcome) (seen : List Op) (stamp : ℕ) → (j : IsJoined o old call told seen stamp) → IsAdded o old call j.before seen
 is_added o old call told seen stamp j =
-    let legal : IsLegal o (j.before ++ j.op ∷ []) = legal-more o j.before j.op j.legal j.may in
+    let legal : IsLegalFrom o (j.before ++ j.op ∷ []) = legal-more o j.before j.op j.legal j.may in
     let who = caller o.limits.capacity (state_at o j.before) j.op (rest_history o j.before (j.op ∷ []) legal).0 in
     let client : j.op.client ≡ old.number = ap (λ n. n.client) j.is in
     let number : j.op.number ≡ suc old.counter = ap (λ n. n.number) j.is in
@@ -168,7 +168,7 @@ is_added o old call told seen stamp j =
     let state : state_at o seen ≡ after o.limits.capacity (state_at o j.before) j.op.client j.op.call = ap (state_at o) j.ends ∙ state_at-append o j.before (j.op ∷ []) in
     let s = state_at o j.before in
     record {
-      legal = subst (IsLegal o) (sym j.ends) legal;
+      legal = subst (IsLegalFrom o) (sym j.ends) legal;
       legal_before = j.legal;
       further = (j.op ∷ [], sym j.ends);
       state = state ∙ (λ i. after o.limits.capacity s (client i) (called i));
@@ -188,7 +188,7 @@ and_false : (b : Bool) → b && false ≡ false
 and_false true = refl
 and_false false = refl
 
-changed_follows : (o : Opening) (old : Standing) (call : Call) (seen : List Op) (query : Option Asking) (before : List Op) (a : IsAdded o old call before seen) → is_change call ≡ true → Follows o before old.number query → Follows o seen old.number query
+changed_follows : (o : Opening) (old : Standing) (call : Call) (seen : List Op) (query : Option Asking) (before : List Op) (a : IsAdded o old call before seen) → is_change call ≡ true → AsksOrNone o before old.number query → AsksOrNone o seen old.number query
 changed_follows o old call seen None before a change h = a.begun ∙ sym (begun_after-change (state_at o before) call (begun_of (state_at o before) old.number) change) ∙ h
 changed_follows o old call seen (Some asking) before a change h =
     let kept = begun_kept (contents_at o before) (state_at o before) old.number (snapshot_at o asking.begun) (legal_stands o before a.legal_before) h.found in
@@ -247,7 +247,7 @@ joins o old new call told seen stamp accepted j same up number =
       is = j.is;
       alone = j.alone;
       reply = sym told_is ∙ j.may.next.outcome ∙ (λ i. outcome (legal_capacity o j.before j.legal.fits i) (state_at o j.before) (called i));
-      legal = subst (IsLegal o) (sym (same ∙ j.ends)) (legal-more o j.before j.op j.legal j.may);
+      legal = subst (IsLegalFrom o) (sym (same ∙ j.ends)) (legal-more o j.before j.op j.legal j.may);
       counted = up;
       same = number;
     }
@@ -268,7 +268,7 @@ shows_begun contents state client snapshot h is = go (same_seat contents.slots c
     go nobody e = absurd (cc)
     go (somebody caller found s) e = at caller.begun found.begun s.begun e
 
-asks_shows : (o : Opening) (at : List Op) (number : ℕ) (asking : Asking) → IsLegal o at → Asks o at number asking → Shows (contents_at o at).slots asking.scan.stamp (state_at o asking.begun).table
+asks_shows : (o : Opening) (at : List Op) (number : ℕ) (asking : Asking) → IsLegalFrom o at → Asks o at number asking → Shows (contents_at o at).slots asking.scan.stamp (state_at o asking.begun).table
 asks_shows o at number asking legal h =
     subst (λ n. Shows (contents_at o at).slots n (state_at o asking.begun).table) (sym h.stamp)
     (shows_begun (contents_at o at) (state_at o at) number (snapshot_at o asking.begun) (legal_stands o at legal) h.found)
@@ -289,13 +289,13 @@ answers o number counter seen asking (Err fault) h (inl t) =
 answers o number counter seen asking (Err fault) h (inr t) = subst (GivesNone (record { number = number; counter = counter; seen = seen; query = Some asking })) (sym t.0) (record { asking = asking; is_open = refl; done = t.1 })
 
 -- the next block is new to the open query, ..
-pub next_new : (o : Opening) (number counter : ℕ) (seen now : List Op) (asking : Asking) → Stands o number counter seen (Some asking) → IsPrefix seen now → IsLegal o now → calls_at o now number ≡ Some counter → NextIsNew asking.scan (contents_at o now).slots
+pub next_new : (o : Opening) (number counter : ℕ) (seen now : List Op) (asking : Asking) → Stands o number counter seen (Some asking) → IsPrefix seen now → IsLegalFrom o now → calls_at o now number ≡ Some counter → NextIsNew asking.scan (contents_at o now).slots
 next_new o number counter seen now asking h p legal is =
     let asks = moved_up o number counter seen now (Some asking) h p legal is in
     next_is_new_on_its_way (contents_at o now).slots asking.scan (state_at o asking.begun).table (asks_shows o now number asking legal asks) asks.way
 
 -- .. and a scan of it leaves the query on its way
-pub stands_scanned : (o : Opening) (number counter : ℕ) (seen now : List Op) (asking : Asking) (new : Scan) → Stands o number counter seen (Some asking) → IsPrefix seen now → IsLegal o now → calls_at o now number ≡ Some counter → IsScanned asking.scan (contents_at o now).slots new
+pub stands_scanned : (o : Opening) (number counter : ℕ) (seen now : List Op) (asking : Asking) (new : Scan) → Stands o number counter seen (Some asking) → IsPrefix seen now → IsLegalFrom o now → calls_at o now number ≡ Some counter → IsScanned asking.scan (contents_at o now).slots new
     → Stands o number counter now (Some (record { scan = new; begun = asking.begun }))
 stands_scanned o number counter seen now asking new h p legal is scanned =
     let asks = moved_up o number counter seen now (Some asking) h p legal is in
@@ -307,16 +307,16 @@ stands_scanned o number counter seen now asking new h p legal is scanned =
       way = scanned_on_its_way (contents_at o now).slots asking.scan new (state_at o asking.begun).table (asks_shows o now number asking legal asks) asks.way scanned;
     })
 
-open_alike : (o : Opening) (number : ℕ) (at : List Op) (query : Option Asking) → Follows o at number query → is_some (begun_of (state_at o at) number) ≡ is_some query
+open_alike : (o : Opening) (number : ℕ) (at : List Op) (query : Option Asking) → AsksOrNone o at number query → is_some (begun_of (state_at o at) number) ≡ is_some query
 open_alike o number at None h = ap is_some h
 open_alike o number at (Some asking) h = ap is_some h.found
 
 -- the table refuses a call as the client's own counter and query do
-pub same_refusal : (o : Opening) (old : Standing) (at : List Op) (call : Call) → calls_at o at old.number ≡ Some old.counter → Follows o at old.number old.query → refusal (state_at o at) old.number call ≡ own_refusal old call
+pub same_refusal : (o : Opening) (old : Standing) (at : List Op) (call : Call) → calls_at o at old.number ≡ Some old.counter → AsksOrNone o at old.number old.query → refusal (state_at o at) old.number call ≡ own_refusal old call
 same_refusal o old at call is h = λ i. refusal_of (is i) (open_alike o old.number at old.query h i) call
 
 -- a planned call that was added to the history
-pub joined : (o : Opening) (old : Standing) (call : Call) (history seen : List Op) (op : Op) (stamp : ℕ) → IsPrefix old.seen history → IsLegal o history → calls_at o history old.number ≡ Some old.counter
+pub joined : (o : Opening) (old : Standing) (call : Call) (history seen : List Op) (op : Op) (stamp : ℕ) → IsPrefix old.seen history → IsLegalFrom o history → calls_at o history old.number ≡ Some old.counter
     → (op.client ≡ old.number) × (op.call ≡ call) × MayFollow o history op → seen ≡ history ++ op ∷ [] → stamp ≡ (state_at o seen).commits → IsJoined o old call op.outcome seen stamp
 joined o old call history seen op stamp p legal is plan ends commits =
     let alike : calls_of (state_at o history) op.client ≡ Some old.counter = ap (calls_of (state_at o history)) plan.0 ∙ is in
@@ -344,11 +344,11 @@ change_told o old new call told result e j q = subst (λ (r : Result Outcome Sha
     go (NoSuchRow id) j = (tt, (j, q))
     go (Full needed) j = (tt, (j, q))
 
-pub sees : (o : Opening) (old new : Standing) → IsPrefix old.seen new.seen → IsLegal o new.seen → new.counter ≡ old.counter → new.number ≡ old.number → new.query ≡ old.query → Sees o old new
+pub sees : (o : Opening) (old new : Standing) → IsPrefix old.seen new.seen → IsLegalFrom o new.seen → new.counter ≡ old.counter → new.number ≡ old.number → new.query ≡ old.query → Sees o old new
 sees o old new further legal counted same query = record { further = further; legal = legal; counted = counted; same = same; query = query }
 
 pub scanned : (o : Opening) (old new : Standing) (asking : Asking) (after : Scan) (left : ℕ) → old.query ≡ Some asking → new.query ≡ Some (record { scan = after; begun = asking.begun }) → left ≡ after.left → IsScanned asking.scan (contents_at o new.seen).slots after
-    → IsPrefix old.seen new.seen → IsLegal o new.seen → calls_at o new.seen old.number ≡ Some old.counter → new.counter ≡ old.counter → new.number ≡ old.number → Scanned o old left new
+    → IsPrefix old.seen new.seen → IsLegalFrom o new.seen → calls_at o new.seen old.number ≡ Some old.counter → new.counter ≡ old.counter → new.number ≡ old.number → Scanned o old left new
 scanned o old new asking after left q query left_is scans further legal alone counted same = record {
   asking = asking;
   is_open = q;

@@ -1,4 +1,4 @@
--- The rule of the book of ops, and what a step tells. (this project)
+-- The rule of the book of ops, and what a step shows. (this project)
 use Rattle.std.specs.Prelude.{ℕ, ◌≡◌, ◌<◌, true, List, [], ◌∷◌, ◌++◌, map, length}
 use mathlib.Core.List.{IsPrefix}
 use Rattle.logbook.specs.Pages.{Cell, cell, Step, View, Book, Named, may_make}

@@ -22,7 +22,7 @@ use Rattle.pref_core.specs.Limits.{blocks}
 use Rattle.pref_share.specs.declared.fault.ShareFault.{ShareFault}
 use Rattle.pref_share.specs.declared.fault.ShareFault.TheVariants.{Core, ClientInUse, Held, Closed}
 use Rattle.pref_share.specs.declared.fault.BeginFault.{BeginFault}
-use Rattle.pref_share.specs.Openings.{Opening, IsLegal, HasCall, state_at, calls_at}
+use Rattle.pref_share.specs.Openings.{Opening, IsLegalFrom, HasCall, state_at, calls_at}
 use Rattle.pref_share.specs.Standing.{Asking, Standing}
 
 -- why the client's call gets no number, by its own counter and query
@@ -39,7 +39,7 @@ pub record Joins (o : Opening) (old : Standing) (call : Call) (told : Outcome) (
   pub is : numbered_of op ≡ record { client = old.number; number = suc old.counter; call = call; outcome = told }
   pub alone : calls_at o before old.number ≡ Some old.counter
   pub reply : told ≡ outcome o.limits.capacity (state_at o before) call
-  pub legal : IsLegal o new.seen
+  pub legal : IsLegalFrom o new.seen
   pub counted : new.counter ≡ suc old.counter
   pub same : new.number ≡ old.number
 
@@ -47,7 +47,7 @@ pub record Joins (o : Opening) (old : Standing) (call : Call) (told : Outcome) (
 abbrev pub Changes : Opening → Standing → Call → Outcome → Standing → Type 0
 Changes o old call told new = Joins o old call told new × (new.query ≡ old.query)
 
--- The changes of a commit joined the history as one call: this is the id of the next row at its place, and this is told of it.
+-- The changes of a commit joined the history as one call: this is the id of the next row at its place, and this is returned of it.
 pub record Commits (o : Opening) (old : Standing) (commit : List Change) (told : Committed) (new : Standing) : Type 0 where
   pub next_id : ℕ
   pub changes : Changes o old (Commit commit) (granted next_id (Commit commit)) new
@@ -56,7 +56,7 @@ pub record Commits (o : Opening) (old : Standing) (commit : List Change) (told :
 -- no call was made, and no less was seen
 pub record Sees (o : Opening) (old new : Standing) : Type 0 where
   pub further : IsPrefix old.seen new.seen
-  pub legal : IsLegal o new.seen
+  pub legal : IsLegalFrom o new.seen
   pub counted : new.counter ≡ old.counter
   pub same : new.number ≡ old.number
   pub query : new.query ≡ old.query
@@ -67,16 +67,16 @@ pub record IsInUse (o : Opening) (old : Standing) (number : ℕ) (new : Standing
   pub holds : HasCall new.seen old.number number
   pub next : number ≡ suc old.counter
 
--- whether a call asks for memory: for the places of new rows in the index (what a finish asks for is told below)
+-- whether a call asks for memory: for the places of new rows in the index (what a finish asks for is said below)
 abbrev pub asks_for_memory : Call → Bool
 asks_for_memory call = nat_lt 0 (added call)
 
--- what a refusal of a numbered call tells, where its outcome is no refusal of a change
+-- what a refusal of a numbered call says, where its outcome is no refusal of a change
 abbrev pub Refused : Opening → Standing → Call → CoreFault → Standing → Type 0
 Refused o old call OutOfMemory new = (asks_for_memory call ≡ true) × (own_refusal old call ≡ None) × (new ≡ old)
 Refused o old call fault new = (own_refusal old call ≡ Some fault) × (new ≡ old)
 
--- what a refusal of a change tells: a row that is missing, or a full table, is an outcome of a call that joined
+-- what a refusal of a change says: a row that is missing, or a full table, is an outcome of a call that joined
 abbrev pub RefusedChange : Opening → Standing → Call → CoreFault → Standing → Type 0
 RefusedChange o old call (MissingRow id) new = Changes o old call (NoSuchRow id) new
 RefusedChange o old call (TooFull needed) new = Changes o old call (Full needed) new
@@ -112,7 +112,7 @@ pub record HasNoneLeft (s : Standing) : Type 0 where
   pub is_open : s.query ≡ Some asking
   pub done : asking.scan.left ≡ 0
 
--- the open query has so many blocks left
+-- the open query has this many blocks left
 pub record HasLeft (s : Standing) (left : ℕ) : Type 0 where
   pub asking : Asking
   pub is_open : s.query ≡ Some asking
@@ -125,7 +125,7 @@ pub record Finishes (o : Opening) (old : Standing) (ranked : List Ranked) (new :
   pub query : new.query ≡ None
   pub answer : IsAnswer o old ranked
 
--- what a refusal of a finish tells: memory, and whether the client is in use, are met where no block is left
+-- what a refusal of a finish says: memory, and whether the client is in use, are met where no block is left
 abbrev pub RefusedFinish : Opening → Standing → CoreFault → Standing → Type 0
 RefusedFinish o old (NotDone left) new = (own_refusal old Finish ≡ None) × HasLeft old left × (new ≡ old)
 RefusedFinish o old OutOfMemory new = (own_refusal old Finish ≡ None) × HasNoneLeft old × (new ≡ old)

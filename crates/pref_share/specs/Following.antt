@@ -14,7 +14,7 @@ use Rattle.pref_share.specs.declared.client.calls.Joining.{Joining}
 use Rattle.pref_share.specs.declared.client.calls.Joining.TheVariants.{Joined, Ahead}
 use Rattle.pref_share.specs.declared.fault.ShareFault.{ShareFault}
 use Rattle.pref_share.specs.declared.fault.ShareFault.TheVariants.{Core}
-use Rattle.pref_share.specs.Openings.{Opening, IsLegal, MayFollow, HasCall, contents_at, state_at, calls_at}
+use Rattle.pref_share.specs.Openings.{Opening, IsLegalFrom, MayFollow, HasCall, contents_at, state_at, calls_at}
 use Rattle.pref_share.specs.Standing.{Asking, Standing}
 use Rattle.pref_share.specs.Clients.{HasLeft, HasNoneLeft}
 
@@ -30,25 +30,25 @@ pub record Asks (o : Opening) (at : List Op) (number : ℕ) (asking : Asking) : 
   pub way : IsOnItsWay (contents_at o at).slots asking.scan
 
 -- the same, or none is open
-abbrev pub Follows : Opening → List Op → ℕ → Option Asking → Type 0
-Follows o at number None = begun_of (state_at o at) number ≡ None
-Follows o at number (Some asking) = Asks o at number asking
+abbrev pub AsksOrNone : Opening → List Op → ℕ → Option Asking → Type 0
+AsksOrNone o at number None = begun_of (state_at o at) number ≡ None
+AsksOrNone o at number (Some asking) = Asks o at number asking
 
 -- Some beginning of what was seen holds just the calls that the client counts, and has its query.
 pub record Stands (o : Opening) (number counter : ℕ) (seen : List Op) (query : Option Asking) : Type 0 where
-  pub legal : IsLegal o seen
+  pub legal : IsLegalFrom o seen
   pub one_of : (0 < number) × (number ≤ o.limits.clients)
   pub at : List Op
   pub before : IsPrefix at seen
   pub count : calls_at o at number ≡ Some counter
-  pub follows : Follows o at number query
+  pub follows : AsksOrNone o at number query
 
--- A call of the client joined the history, which is this then, with so many commits.
+-- A call of the client joined the history, which is this then, with this many commits.
 pub record IsJoined (o : Opening) (old : Standing) (call : Call) (told : Outcome) (seen : List Op) (stamp : ℕ) : Type 0 where
   pub before : List Op
   pub op : Op
   pub further : IsPrefix old.seen before
-  pub legal : IsLegal o before
+  pub legal : IsLegalFrom o before
   pub may : MayFollow o before op
   pub ends : seen ≡ before ++ op ∷ []
   pub is : numbered_of op ≡ record { client = old.number; number = suc old.counter; call = call; outcome = told }
@@ -58,7 +58,7 @@ pub record IsJoined (o : Opening) (old : Standing) (call : Call) (told : Outcome
 -- the whole history holds the client's next call
 pub record IsAhead (o : Opening) (old : Standing) (whole : List Op) : Type 0 where
   pub further : IsPrefix old.seen whole
-  pub legal : IsLegal o whole
+  pub legal : IsLegalFrom o whole
   pub holds : HasCall whole old.number (suc old.counter)
 
 -- what becomes of a call that is let in to join

@@ -26,11 +26,11 @@ replies_of run = map (λ answered. answered.reply) run
 abbrev pub acts_of : ℕ → List Event → List Act
 acts_of client events = map (λ event. event.act) (filter (λ event. event.client == client) events)
 
--- what one client did in a run, and was told
+-- what one client did in a run, and the replies to it
 abbrev pub part_of : ℕ → List Answered → List Answered
 part_of client run = filter (λ answered. answered.event.client == client) run
 
--- The run has each act of each client once, in the client's order, with the reply that the client was told, and nothing else. The
+-- The run has each act of each client once, in the client's order, with the reply that the client got, and nothing else. The
 -- first lists are those of client 1.
 pub record IsInterleaving (acts : List (Vec Act)) (told : List (Vec Reply)) (run : List Answered) : Type 0 where
   pub acts_in_order : (place : ℕ) (list : Vec Act) → slice_get acts place ≡ Some list → acts_of (suc place) (events_of run) ≡ list.items

@@ -3,8 +3,10 @@ pub mod Standing
 pub mod Clients
 pub mod Scanning
 pub mod Runs
+pub mod Reports
 pub mod Interleavings
 pub mod Performing
+pub mod Settling
 pub mod Following
 pub mod Reached
 pub mod Book

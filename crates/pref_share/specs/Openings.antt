@@ -5,7 +5,7 @@ use Rattle.pref_core.specs.declared.call.Op.{Op}
 use Rattle.pref_core.specs.Limits.{Limits, AreAllowed}
 use Rattle.pref_core.specs.State.{State, opening, calls_of}
 use Rattle.pref_core.specs.Slots.{Contents, opening_contents}
-use Rattle.pref_core.specs.Operations.{ran, IsLegal as IsLegalAt}
+use Rattle.pref_core.specs.Operations.{ran, IsLegal}
 use Rattle.pref_core.specs.History.{Numbered, IsLegalHistory, state_after, numbered_of, AreLegalOps}
 
 -- how large the table is, and the rows that it opens with
@@ -33,14 +33,14 @@ abbrev pub state_at : Opening → List Op → State
 state_at o ops = state_after o.limits.capacity (first_state o) (history_of ops)
 
 -- The opening is within its limits, and each operation is legal after those before it.
-pub record IsLegal (o : Opening) (ops : List Op) : Type 0 where
+pub record IsLegalFrom (o : Opening) (ops : List Op) : Type 0 where
   pub allowed : AreAllowed o.limits
   pub fits : length o.rows ≤ o.limits.capacity
   pub each : AreLegalOps (first_state o) (first_contents o) ops
 
 -- the operation may come next
 abbrev pub MayFollow : Opening → List Op → Op → Type 0
-MayFollow o ops op = IsLegalAt (state_at o ops) (contents_at o ops) op
+MayFollow o ops op = IsLegal (state_at o ops) (contents_at o ops) op
 
 -- how many calls of this client there are
 abbrev pub calls_at : Opening → List Op → ℕ → Option ℕ
@@ -56,4 +56,4 @@ pub record HasCall (ops : List Op) (client number : ℕ) : Type 0 where
 
 -- The calls of legal operations are a legal history of the sequential table.
 abbrev pub LegalIsHistory : Type 0
-LegalIsHistory = (o : Opening) (ops : List Op) → IsLegal o ops → IsLegalHistory o.limits.capacity (first_state o) (history_of ops)
+LegalIsHistory = (o : Opening) (ops : List Op) → IsLegalFrom o ops → IsLegalHistory o.limits.capacity (first_state o) (history_of ops)

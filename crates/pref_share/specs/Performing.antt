@@ -1,6 +1,6 @@
 -- No public contract cites this.
 -- What the parts of a run do.
-use Rattle.std.specs.Prelude.{◌≡◌, ℕ, List, [], ◌∷◌, ◌++◌, map, Some, Result, Ok, Err, MatchResult, slice_get}
+use Rattle.std.specs.Prelude.{◌≡◌, ℕ, List, [], ◌∷◌, Some, Result, Ok, Err, MatchResult}
 use mathlib.Core.List.{IsPrefix}
 use Rattle.pref_core.specs.declared.call.Op.{Op}
 use Rattle.pref_core.specs.declared.event.Act.{Act}
@@ -12,11 +12,16 @@ use Rattle.pref_share.specs.declared.fault.ShareFault.{ShareFault}
 use Rattle.pref_share.specs.declared.fault.ShareFault.TheVariants.{Core}
 use Rattle.pref_share.specs.Openings.{Opening, calls_at}
 use Rattle.pref_share.specs.Standing.{Standing}
-use Rattle.pref_share.specs.Runs.{StepsTo, StopsAt, nobody}
+use Rattle.pref_share.specs.Clients.{Sees}
+use Rattle.pref_share.specs.Runs.{StepsTo, StopsAt}
 
--- an act, done
+-- where there is no gate
+abbrev pub nobody : ℕ → Type 0
+nobody client = ⊥
+
+-- an act, done, or why it stops the client
 abbrev pub Performs : Opening → Standing → Act → Result Reply ShareFault → Standing → Type 0
-Performs o old act result new = MatchResult result (λ reply. StepsTo o old act reply new) (StopsAt o nobody old (act ∷ []))
+Performs o old act result new = MatchResult result (λ reply. StepsTo o old act reply new) (λ fault. Sees o old new × StopsAt nobody new (act ∷ []) fault)
 
 -- the reply that a refusal of the table is; any other stops the client
 abbrev pub reply_or_stop_core : CoreFault → Result Reply ShareFault
@@ -31,16 +36,3 @@ reply_or_stop fault = Err fault
 pub record IsIn (o : Opening) (history : List Op) (s : Standing) : Type 0 where
   pub inside : IsPrefix s.seen history
   pub alone : calls_at o history s.number ≡ Some s.counter
-
--- one of these clients stops, with no acts left
-pub record OneStops (o : Opening) (clients : List Standing) (fault : ShareFault) : Type 0 where
-  pub place : ℕ
-  pub last : Standing
-  pub there : slice_get clients place ≡ Some last
-  pub why : StopsAt o nobody last [] fault
-
--- the first error of these
-pub record IsFirstErr {A E : Type 0} (results : List (Result A E)) (fault : E) : Type 0 where
-  pub before : List A
-  pub after : List (Result A E)
-  pub in_order : results ≡ map Ok before ++ Err fault ∷ after

@@ -1,5 +1,5 @@
 -- Acts of clients on threads, and when they with their replies are one run of the sequential table. (this project)
-use Rattle.std.specs.Prelude.{◌≡◌, ℕ, suc, ◌<◌, List, [], ◌∷◌, ◌++◌, length, slice_get, Option, Some, None, ◌⊎◌}
+use Rattle.std.specs.Prelude.{◌≡◌, ℕ, suc, ◌<◌, true, List, [], ◌∷◌, ◌++◌, length, slice_get, Option, Some, None, ◌⊎◌}
 use Rattle.std.specs.Option.{option_map}
 use Rattle.std.specs.Global.{Vec}
 use mathlib.Core.List.{IsPrefix}
@@ -12,11 +12,11 @@ use Rattle.pref_core.specs.declared.event.Reply.{Reply}
 use Rattle.pref_core.specs.declared.fault.CoreFault.TheVariants.{OutOfMemory}
 use Rattle.pref_core.specs.State.{seat}
 use Rattle.pref_core.specs.Step.{Open, Member, System, Step, state_of, step}
+use Rattle.pref_core.specs.Systems.{may_want_memory}
 use Rattle.pref_share.specs.declared.fault.ShareFault.{ShareFault}
 use Rattle.pref_share.specs.declared.fault.ShareFault.TheVariants.{Core, ClientInUse, Held, Closed}
-use Rattle.pref_share.specs.Openings.{Opening, IsLegal, state_at, calls_at}
-use Rattle.pref_share.specs.Standing.{Asking, Standing, newcomer}
-use Rattle.pref_share.specs.Clients.{IsInUse}
+use Rattle.pref_share.specs.Openings.{Opening, IsLegalFrom, HasCall, state_at, calls_at}
+use Rattle.pref_share.specs.Standing.{Asking, Standing}
 
 -- the open query of a client, as its own acts give it: the table at its begin is that of the history that it began at
 abbrev pub open_of : Opening → Asking → Open
@@ -68,18 +68,18 @@ pub record Adds (o : Opening) (s : Standing) (act : Act) (t : Standing) (at : Li
 pub record StepsTo (o : Opening) (s : Standing) (act : Act) (reply : Reply) (t : Standing) : Type 0 where
   pub at : List Op
   pub further : IsPrefix s.seen at
-  pub legal : IsLegal o t.seen
+  pub legal : IsLegalFrom o t.seen
   pub same : t.number ≡ s.number
   pub joins : Looks s t at ⊎ Adds o s act t at
   pub told : (system : System) → state_of system ≡ state_at o at → seat s.number system.members ≡ Some (member_of o s) → IsStep o s act reply t system
 
--- acts in order, with the reply to each, and how the client stands after each
+-- acts in order, with the reply to each, and the client after each
 pub data Runs (o : Opening) (s : Standing) : List Act → List Reply → List Standing → Standing → Type 0 where
   none : Runs o s [] [] [] s
   then : (acts : List Act) (replies : List Reply) (stands : List Standing) (t : Standing) (act : Act) (reply : Reply) (u : Standing) → Runs o s acts replies stands t → StepsTo o t act reply u
       → Runs o s (acts ++ act ∷ []) (replies ++ reply ∷ []) (stands ++ u ∷ []) u
 
--- some acts with their replies, from one standing to another
+-- some acts with their replies, from one state of the client to another
 pub record RunsTo (o : Opening) (s : Standing) (acts : List Act) (replies : List Reply) (t : Standing) : Type 0 where
   pub stands : List Standing
   pub runs : Runs o s acts replies stands t
@@ -95,55 +95,26 @@ pub record IsPart (o : Opening) (history : List Op) (s : Standing) (acts : List 
 -- Act lists with the replies to each, one list for each client, are a joint run: there is one legal history of which each is a part.
 pub record IsJointRun (o : Opening) (clients : List Standing) (acts : List (Vec Act)) (replies : List (Vec Reply)) : Type 0 where
   pub history : List Op
-  pub legal : IsLegal o history
+  pub legal : IsLegalFrom o history
   pub lists : length replies ≡ length clients
   pub each : (i : ℕ) (client : Standing) (list : Vec Act) → slice_get clients i ≡ Some client → slice_get acts i ≡ Some list
       → (told : Vec Reply) × (slice_get replies i ≡ Some told) × IsPart o history client list.items told.items
-
--- a client did all these acts
-pub record DidAll (o : Opening) (s : Standing) (acts : List Act) : Type 0 where
-  pub replies : List Reply
-  pub last : Standing
-  pub runs : RunsTo o s acts replies last
 
 -- the next of these acts is no numbered call: a scan, a get or a room
 abbrev pub ReadsNext : List Act → Type 0
 ReadsNext [] = ⊥
 ReadsNext (next ∷ more) = call_of next ≡ None
 
--- Why a client stops that stands so, with these acts left: for want of memory; in use, where a legal history that goes on from what it had seen
--- holds its next call, which has this number, though it has not made it; held before one of its acts, of which this is so by its number; or closed, where
--- the next of its acts is no numbered call.
-abbrev pub StopsAt : Opening → (ℕ → Type 0) → Standing → List Act → ShareFault → Type 0
-StopsAt o held s rest (Core fault) = fault ≡ OutOfMemory
-StopsAt o held s rest (ClientInUse number) = (seen : Standing) × IsInUse o s number seen
-StopsAt o held s rest (Held client) = (0 < length rest) × held client
-StopsAt o held s rest Closed = ReadsNext rest
+-- the next of these acts may ask for memory
+abbrev pub WantsMemoryNext : List Act → Type 0
+WantsMemoryNext [] = ⊥
+WantsMemoryNext (next ∷ more) = may_want_memory next ≡ true
 
--- A client stopped: it did the first of its acts, maybe all, and this is why it stopped as it stood then. Of the turn at which it was held
--- the gate tells this.
-pub record IsStopped (o : Opening) (may_hold : ℕ → ℕ → Type 0) (s : Standing) (acts : List Act) (fault : ShareFault) : Type 0 where
-  pub done : List Act
-  pub rest : List Act
-  pub in_order : acts ≡ done ++ rest
-  pub replies : List Reply
-  pub last : Standing
-  pub runs : RunsTo o s done replies last
-  pub why : StopsAt o (λ client. (client ≡ s.number) × may_hold client (length done)) last rest fault
-
--- One of the clients stopped, and each client of a less number did all its acts. The first list is that of client 1.
-pub record IsFirstStopped (o : Opening) (may_hold : ℕ → ℕ → Type 0) (lists : List (Vec Act)) (fault : ShareFault) : Type 0 where
-  pub place : ℕ
-  pub acts : Vec Act
-  pub there : slice_get lists place ≡ Some acts
-  pub stopped : IsStopped o may_hold (newcomer (suc place)) acts.items fault
-  pub before : (lower : ℕ) (others : Vec Act) → lower < place → slice_get lists lower ≡ Some others → DidAll o (newcomer (suc lower)) others.items
-
--- Why a run stops: no refusal of the table does but want of memory, and at any other fault one of the clients stopped.
-abbrev pub Stops : Opening → (ℕ → ℕ → Type 0) → List (Vec Act) → ShareFault → Type 0
-Stops o may_hold lists (Core fault) = fault ≡ OutOfMemory
-Stops o may_hold lists fault = IsFirstStopped o may_hold lists fault
-
--- where there is no gate
-abbrev pub nobody : ℕ → Type 0
-nobody client = ⊥
+-- Why a client stops that is so then, with these acts left: out of memory, at an act that may ask for it; in use, where what it has seen
+-- holds its next call, which has this number, though it has not made it; held before an act, of which the gate says this by the client's
+-- number; or closed, at an act that is no numbered call.
+abbrev pub StopsAt : (ℕ → Type 0) → Standing → List Act → ShareFault → Type 0
+StopsAt held s rest (Core fault) = (fault ≡ OutOfMemory) × WantsMemoryNext rest
+StopsAt held s rest (ClientInUse number) = (number ≡ suc s.counter) × HasCall s.seen s.number number
+StopsAt held s rest (Held client) = (client ≡ s.number) × (0 < length rest) × held client
+StopsAt held s rest Closed = ReadsNext rest

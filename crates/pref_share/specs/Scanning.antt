@@ -10,7 +10,7 @@ use Rattle.pref_core.specs.State.{needed}
 use Rattle.pref_core.specs.Scans.{Scan, IsScanned}
 use Rattle.pref_share.specs.declared.fault.ShareFault.{ShareFault}
 use Rattle.pref_share.specs.declared.fault.ShareFault.TheVariants.{Core, ClientInUse, Held, Closed}
-use Rattle.pref_share.specs.Openings.{Opening, IsLegal, contents_at, state_at, calls_at}
+use Rattle.pref_share.specs.Openings.{Opening, IsLegalFrom, contents_at, state_at, calls_at}
 use Rattle.pref_share.specs.Standing.{Asking, Standing}
 use Rattle.pref_share.specs.Clients.{Sees, IsInUse, HasLeft, HasNoneLeft}
 use mathlib.Core.List.{IsPrefix}
@@ -24,7 +24,7 @@ pub record Scanned (o : Opening) (old : Standing) (left : ℕ) (new : Standing) 
   pub left_is : left ≡ after.left
   pub scans : IsScanned asking.scan (contents_at o new.seen).slots after
   pub further : IsPrefix old.seen new.seen
-  pub legal : IsLegal o new.seen
+  pub legal : IsLegalFrom o new.seen
   pub alone : calls_at o new.seen old.number ≡ Some old.counter
   pub counted : new.counter ≡ old.counter
   pub same : new.number ≡ old.number
@@ -33,7 +33,7 @@ pub record Scanned (o : Opening) (old : Standing) (left : ℕ) (new : Standing) 
 abbrev pub HasMore : Standing → Type 0
 HasMore s = (left : ℕ) × HasLeft s left
 
--- what a refusal of a scan tells: nothing but the client's own query is met where there is no block to scan
+-- what a refusal of a scan says: nothing but the client's own query is met where there is no block to scan
 abbrev pub RefusedScan : Opening → Standing → CoreFault → Standing → Type 0
 RefusedScan o old NoQuery new = (old.query ≡ None) × (new ≡ old)
 RefusedScan o old AllScanned new = HasNoneLeft old × (new ≡ old)
@@ -47,16 +47,16 @@ RefusesScan o old (Held client) new = ⊥
 RefusesScan o old Closed new = HasMore old × (new ≡ old)
 
 -- the row of this id in the table that a history leaves
-abbrev pub row_at : Opening → List Op → ℕ → Option Row
-row_at o ops id = option_map (λ line. line.row) (line_of (state_at o ops).table id)
+abbrev pub row_after : Opening → List Op → ℕ → Option Row
+row_after o ops id = option_map (λ line. line.row) (line_of (state_at o ops).table id)
 
 -- how many more versions there is room for there
 abbrev pub room_at : Opening → List Op → ℕ
 room_at o ops = o.limits.capacity - length (needed (state_at o ops))
 
--- what a refusal of a read tells
+-- what a refusal of a read says
 abbrev pub RefusesGet : Opening → Standing → ℕ → ShareFault → Standing → Type 0
-RefusesGet o old id (Core fault) new = (fault ≡ NoSuchRow id) × Sees o old new × (row_at o new.seen id ≡ None)
+RefusesGet o old id (Core fault) new = (fault ≡ NoSuchRow id) × Sees o old new × (row_after o new.seen id ≡ None)
 RefusesGet o old id (ClientInUse number) new = ⊥
 RefusesGet o old id (Held client) new = ⊥
 RefusesGet o old id Closed new = new ≡ old

@@ -1,5 +1,5 @@
 -- No public contract cites this.
--- The rule of the published store, and what each step of the writer and of a reader tells. (this project)
+-- The rule of the published store, and what each step of the writer and of a reader shows. (this project)
 use Rattle.std.specs.Prelude.{◌≡◌, ℕ, List, [], ◌∷◌, length, Some, None, true, is_some}
 use mathlib.Core.Option.{some}
 use lib.ListN.{get_elem?}
@@ -22,7 +22,7 @@ AreLetIn contents [] = Unit {0}
 AreLetIn contents (op ∷ ops) = (is_next contents op ≡ true) × (is_some (slots_after contents op) ≡ true) × AreLetIn (applied contents op) ops
 
 -- the store is what its history leaves of this opening, in this book
-pub record StandsFor (opening : Contents) (book : Book) (x : Published) : Type 0 where
+pub record HoldsHistory (opening : Contents) (book : Book) (x : Published) : Type 0 where
   pub legal : AreLetIn opening x.seen.log
   pub store : x.store ≡ ran opening x.seen.log
   pub len : x.len ≡ length x.seen.log
@@ -33,11 +33,11 @@ pub record Fits (opening : Contents) (book : Book) (v : View) : Type 0 where
   pub has_opening : (b : Base) → v.base ≡ Some b → b.opening ≡ opening
   pub has_book : (b : Base) → v.base ≡ Some b → b.seen.book ≡ book
 
--- There is one opening and one book: the published store stands for its history there, and each view knows them or nothing.
+-- There is one opening and one book: the published store represents its history there, and each view knows them or nothing.
 pub record Kept (x : Published) (views : List View) : Type 0 where
   pub opening : Contents
   pub book : Book
-  pub stands : StandsFor opening book x
+  pub stands : HoldsHistory opening book x
   pub each : (seat : ℕ) (v : View) → get_elem? views seat ≡ some v → Fits opening book v
 
 abbrev pub newcomer : View
@@ -58,9 +58,9 @@ Opens v x y w = x.seen.log ≡ [] → Knows x.store x.seen.book w
 abbrev pub Stays : View → Published → Published → View → Type 0
 Stays v x y w = w ≡ v
 
--- the store stands for its history, and the view stays
+-- the store represents its history, and the view stays
 abbrev pub Reads : View → Published → Published → View → Type 0
-Reads v x y w = (w ≡ v) × ((opening : Contents) (book : Book) → Knows opening book v → StandsFor opening book y)
+Reads v x y w = (w ≡ v) × ((opening : Contents) (book : Book) → Knows opening book v → HoldsHistory opening book y)
 
 abbrev pub hearing : View → View → View
 hearing v note = note

@@ -2,7 +2,7 @@
 
 ghost use Rattle.std.specs.Prelude.{◌≡◌, ◌<◌, [], length, Err, IfOk, IfErr, ◌⊎◌, ◌↔◌};
 ghost use Rattle.pref_core.specs.declared.fault.CoreFault as fault;
-ghost use Rattle.pref_share.specs.Openings.{IsLegal};
+ghost use Rattle.pref_share.specs.Openings.{IsLegalFrom};
 ghost use Rattle.pref_share.specs.Standing.{newcomers};
 
 use crate::book::{Name, Naming};
@@ -17,6 +17,12 @@ use std::sync::{Mutex, Wait};
 
 /// What the clients of one table share. It is not `Drop`, since the writer to its readers is not: end it by
 /// [`close`](Board::close).
+///
+/// ```text
+/// let (board, clients) = open_board::<J, R>(rt, alloc, name, setup, rows)?;
+/// let done = run_clients(rt, &board, clients);
+/// board.close(rt);
+/// ```
 pub struct Board<J: Naming> {
     pub(crate) master: Mutex<Master<J>>,
 }
@@ -31,11 +37,11 @@ impl<J: Naming> Board<J> {
 
 /// Opens a table with these rows under a new name, and gives its clients, in order of number.
 ///
-/// Refused `Full` where there are more rows than slots, else `OutOfMemory`. `Closed` comes where
-/// no reader is given or somebody has opened a board under this name, which nobody can. Nothing is kept then. Cost: three
+/// Refused `Full` where there are more rows than slots, else `OutOfMemory`. `Closed` comes where no
+/// reader is given or a board was opened under this name before, which cannot be. Nothing is kept then. Cost: three
 /// stores of all slots, since readers take two copies in turn, and an index of the rows.
 ///
-/// The function that opens a board is generic over its name, and its caller picks one: `run_board::<Brand, _>(rt, Name::new(), setup, &rows)`.
+/// The function that opens a board is generic over its name, and its caller picks one: `run_board::<Brand, _>(&rt, Name::new(), setup, &schema, &hotels)`.
 ///
 /// ```text
 /// let (board, clients) = open_board::<J, R>(rt, alloc, name, setup, rows)?;

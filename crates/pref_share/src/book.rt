@@ -85,7 +85,7 @@ impl Token {
         self.seen.learn(&other.seen);
     }
 
-    /// Tells the same of entries.
+    /// Says the same of entries.
     pub(crate) fn teach(&self, seen: &mut Entries)
         requires { self.now.book ≡ seen.old.book }
         ensures book { seen.new.book ≡ seen.old.book }
@@ -181,6 +181,12 @@ pub(crate) fn new_pen(turn: &Turn, seen: &Entries) -> (Pen, bool)
 }
 
 /// Which board it is: the book of its history, and what it opens with. Whoever opens a board picks it.
+///
+/// ```text
+/// fn insert<J: Naming, R: Wait + AllocGlobal>(rt: &R, board: &Board<J>, desk: &mut Client<J>, hotel: Row) -> Result<u64, ShareFault> {
+///     desk.insert(rt, rt.alloc(), board, hotel)
+/// }
+/// ```
 pub trait Naming {
     ghost use Rattle.logbook.specs.Pages.{Book};
     ghost use Rattle.pref_share.specs.Openings.{Opening};
@@ -201,7 +207,7 @@ impl Naming for Brand {
 /// The name of a board: a book with an empty history. It takes no memory.
 ///
 /// ```text
-/// let (board, clients) = open_board::<J, R>(rt, alloc, Name::new(), setup, &rows)?;
+/// run_board::<Brand, _>(&rt, Name::new(), setup, &schema, &hotels)
 /// ```
 #[derive(Drop)]
 pub struct Name {

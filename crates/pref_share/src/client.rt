@@ -3,15 +3,15 @@
 mod calls;
 mod reads;
 
-ghost use Rattle.std.specs.Prelude.{◌≡◌, ◌<◌, ◌≤◌, [], length, IfErr, OnOk};
+ghost use Rattle.std.specs.Prelude.{◌≡◌, suc, ◌<◌, ◌≤◌, [], length, IfErr, OnOk};
 ghost use mathlib.Core.List.{IsPrefix};
 ghost use Rattle.left_right.specs.Sides.{view};
-ghost use Rattle.pref_share.specs.Openings.{IsLegal, first_contents};
+ghost use Rattle.pref_share.specs.Openings.{IsLegalFrom, first_contents};
 ghost use Rattle.pref_share.specs.Standing.{newcomer};
-ghost use Rattle.pref_share.specs.Clients.{Sees};
+ghost use Rattle.pref_share.specs.Clients.{Sees, IsInUse};
 ghost use Rattle.pref_share.specs.Performing.{IsIn};
-ghost use Rattle.pref_share.specs.Runs.{StopsAt, nobody};
 ghost use Rattle.pref_share.specs.Views.{Knows};
+ghost use Rattle.pref_share.specs.declared.fault.ShareFault.TheVariants.{ClientInUse};
 
 use crate::book::Naming;
 use crate::fault::ShareFault;
@@ -131,12 +131,17 @@ impl<J: Naming> Client<J> {
     /// How many numbered calls of all clients it has seen.
     pub fn seen(&self) -> u64
         ensures count { result ≡ length self.now.seen }
-        ensures legal { IsLegal J.opening self.now.seen }
+        ensures legal { IsLegalFrom J.opening self.now.seen }
     {
         self.seen.len()
     }
 
-    /// What it has seen, for other clients to hear. Takes no memory and waits for nobody.
+    /// What it has seen, for other clients to hear. Takes no memory and never waits.
+    ///
+    /// ```text
+    /// desk.insert(rt, alloc, &board, hotel)?;
+    /// Ok(desk.word())
+    /// ```
     pub fn word(&self) -> Word<J>
         ensures { result ≡ self.now.seen }
     {
@@ -146,7 +151,16 @@ impl<J: Naming> Client<J> {
     }
 
     /// Hears what another client had seen: from now on it has seen no less, so its later replies are at histories that hold every
-    /// numbered call that the speaker had made. Takes no memory and waits for nobody.
+    /// numbered call that the speaker had made. Takes no memory and never waits.
+    ///
+    /// ```text
+    /// let (word, answered) = thread::join(
+    ///     rt,
+    ///     move || insert(rt, board, desk, hotel),
+    ///     || answer(rt, board, guest, blocks),
+    /// );
+    /// guest.hear(word?);
+    /// ```
     pub fn hear(&mut self, word: Word<J>)
         ensures sees { Sees J.opening self.old self.new }
         ensures heard { IsPrefix word self.new.seen }
@@ -157,17 +171,15 @@ impl<J: Naming> Client<J> {
         }
     }
 
-    /// Whether the whole history holds just the calls that it made.
-    pub(crate) fn settle(&self, master: &mut Master<J>) -> Result<(), ShareFault>
+    /// Whether the whole history holds just the calls that it made. Where it does not, the client has seen all of it from now on.
+    pub(crate) fn settle(&mut self, master: &mut Master<J>) -> Result<(), ShareFault>
         ensures same { master.new ≡ master.old }
-        ensures settled { OnOk result (IsIn J.opening master.old self.now) }
-        ensures stops { IfErr result (StopsAt J.opening nobody self.now []) }
+        ensures settled { OnOk result (IsIn J.opening master.old self.new × (self.new ≡ self.old)) }
+        ensures in_use { IfErr result (λ fault. (fault ≡ ClientInUse (suc self.old.counter)) × IsInUse J.opening self.old (suc self.old.counter) self.new × (self.new.seen ≡ master.old)) }
     {
         master.check(&self.seen);
         if master.last(self.number) > self.counter {
-            return Err(ShareFault::ClientInUse {
-                number: self.counter + 1,
-            });
+            return Err(self.in_use(master.whole()));
         }
         Ok(())
     }

@@ -1,4 +1,4 @@
-//! What the book of a board is told of each operation.
+//! What the book of a board keeps of each operation.
 
 use pref_core::Op;
 

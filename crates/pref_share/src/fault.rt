@@ -13,25 +13,33 @@ use thiserror::Error;
 /// before the others of this type.
 ///
 /// After `OutOfMemory`, `ClientInUse` and `Closed` the client's counter and its query are as they were, so the call can be made again.
+///
+/// ```text
+/// match client.get(id) {
+///     Ok(row) => Ok(Some(row)),
+///     Err(ShareFault::Core(CoreFault::NoSuchRow { .. })) => Ok(None),
+///     Err(fault) => Err(fault),
+/// }
+/// ```
 #[derive(Clone, Copy, Debug, PartialEq, Eq, Error)]
 pub enum ShareFault {
     /// The table's refusal.
     #[error("{0}")]
     Core(CoreFault),
-    /// A history that goes on from what this client had seen holds a call of it that it has not made. No run is known to meet it.
+    /// A history that continues what this client had seen holds a call of it that it has not made. No run is known to meet it.
     #[error("client in use at {number}")]
     ClientInUse {
         /// The number of that call.
         number: u64,
     },
-    /// The gate answered false to this client, before an act; each client of a less number did all its acts.
+    /// The gate answered false to this client, before an act.
     #[error("held client {client}")]
     Held {
         /// The client's number.
         client: u8,
     },
     /// The published table gives no reader, or does not let one in: the board is closed. Also where what is published is older than
-    /// what the client has seen, and where somebody has begun the book of the name under which a board is opened; no run is known
+    /// what the client has seen, and where the book of the name under which a board is opened has been begun already; no run is known
     /// to meet these two.
     #[error("closed")]
     Closed,
@@ -54,6 +62,10 @@ impl From<AllocError> for ShareFault {
 }
 
 /// A refused begin, which hands its ask back.
+///
+/// ```text
+/// let blocks = client.begin(rt, alloc, &board, ask).map_err(|refused| refused.fault)?;
+/// ```
 #[derive(Drop)]
 pub struct BeginFault {
     /// Why it is refused.

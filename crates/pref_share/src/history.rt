@@ -3,7 +3,7 @@
 ghost use Rattle.std.specs.Prelude.{◌≡◌, ◌++◌, ◌∷◌, ◌≤◌, [], length, IfSome, MatchBool};
 ghost use mathlib.Core.List.{IsPrefix};
 ghost use Rattle.pref_core.specs.Limits.{AreAllowed};
-ghost use Rattle.pref_share.specs.Openings.{IsLegal, MayFollow};
+ghost use Rattle.pref_share.specs.Openings.{IsLegalFrom, MayFollow};
 
 use crate::book::{
     Add, Adding, Check, Entries, Law, NO_CALL, Name, Naming, Nothing, Token, Turn, new_pen,
@@ -28,21 +28,21 @@ impl<J: Naming> Model for History<J> {
     ghost use Rattle.logbook.specs.Pages.{may_write};
     ghost use Rattle.pref_core.specs.declared.call.Op.{Op};
     ghost use Rattle.pref_share.specs.Book.{word_of, ops_of, key_after};
-    ghost use Rattle.pref_share.specs.Openings.{IsLegal};
+    ghost use Rattle.pref_share.specs.Openings.{IsLegalFrom};
 
     ghost Value = { List Op };
 
     ghost view = { λ h. ops_of h.seen.log };
 
-    ghost invariant = { λ h. (h.turn ≡ word_of J.book) × (h.len ≡ length (ops_of h.seen.log)) × (h.seen.book ≡ J.book) × (h.pen.book ≡ J.book) × (h.pen.nib.right ≡ may_write) × (key_after h.seen.log ≡ h.pen.nib.key) × IsLegal J.opening (ops_of h.seen.log) };
+    ghost invariant = { λ h. (h.turn ≡ word_of J.book) × (h.len ≡ length (ops_of h.seen.log)) × (h.seen.book ≡ J.book) × (h.pen.book ≡ J.book) × (h.pen.nib.right ≡ may_write) × (key_after h.seen.log ≡ h.pen.nib.key) × IsLegalFrom J.opening (ops_of h.seen.log) };
 }
 
 impl Name {
-    /// The history, with the right to add to it, and the beginning that has seen nothing. Nobody else has begun this
-    /// book, so no run answers `None`.
+    /// The history, with the right to add to it, and the beginning that has seen nothing. This book has been begun by no one
+    /// else, so no run returns `None`.
     pub(crate) fn begin<J: Naming>(self) -> Option<(History<J>, Prefix<J>)>
         requires book { self.seen.book ≡ J.book }
-        requires legal { IsLegal J.opening [] }
+        requires legal { IsLegalFrom J.opening [] }
         ensures { IfSome result (λ r. (r.0 ≡ []) × (r.1 ≡ [])) }
     {
         let Name { turn, seen } = self;
@@ -70,7 +70,7 @@ impl<J: Naming> History<J> {
     /// All of it, as a beginning.
     pub(crate) fn whole(&self) -> Prefix<J>
         ensures same { result ≡ self.now }
-        ensures legal { IsLegal J.opening self.now }
+        ensures legal { IsLegalFrom J.opening self.now }
     {
         Prefix {
             len: self.len,
@@ -83,7 +83,7 @@ impl<J: Naming> History<J> {
     pub(crate) fn check(&mut self, prefix: &Prefix<J>)
         ensures same { self.new ≡ self.old }
         ensures begins { IsPrefix prefix.now self.old }
-        ensures legal { IsLegal J.opening self.old }
+        ensures legal { IsLegalFrom J.opening self.old }
     {
         let mut seen = self.seen.again();
         prefix.seen.teach(&mut seen);
@@ -123,13 +123,13 @@ pub(crate) struct Prefix<J: Naming> {
 impl<J: Naming> Model for Prefix<J> {
     ghost use Rattle.std.specs.Prelude.{◌≡◌, List, length};
     ghost use Rattle.pref_core.specs.declared.call.Op.{Op};
-    ghost use Rattle.pref_share.specs.Openings.{IsLegal};
+    ghost use Rattle.pref_share.specs.Openings.{IsLegalFrom};
 
     ghost Value = { List Op };
 
     ghost view = { λ p. p.seen.log };
 
-    ghost invariant = { λ p. (p.len ≡ length p.seen.log) × (p.seen.book ≡ J.book) × IsLegal J.opening p.seen.log };
+    ghost invariant = { λ p. (p.len ≡ length p.seen.log) × (p.seen.book ≡ J.book) × IsLegalFrom J.opening p.seen.log };
 }
 
 impl<J: Naming> Prefix<J> {
@@ -137,7 +137,7 @@ impl<J: Naming> Prefix<J> {
     pub(crate) fn of(len: u64, seen: &Token) -> Prefix<J>
         requires len { len ≡ length seen.now.log }
         requires book { seen.now.book ≡ J.book }
-        requires legal { IsLegal J.opening seen.now.log }
+        requires legal { IsLegalFrom J.opening seen.now.log }
         ensures { result ≡ seen.now.log }
     {
         Prefix {
@@ -158,7 +158,7 @@ impl<J: Naming> Prefix<J> {
     /// How many operations it has.
     pub(crate) fn len(&self) -> u64
         ensures length { result ≡ length self.now }
-        ensures legal { IsLegal J.opening self.now }
+        ensures legal { IsLegalFrom J.opening self.now }
     {
         self.len
     }
@@ -166,7 +166,7 @@ impl<J: Naming> Prefix<J> {
     /// A copy.
     pub(crate) fn again(&self) -> Prefix<J>
         ensures same { result ≡ self.now }
-        ensures legal { IsLegal J.opening self.now }
+        ensures legal { IsLegalFrom J.opening self.now }
     {
         Prefix {
             len: self.len,
@@ -178,7 +178,7 @@ impl<J: Naming> Prefix<J> {
     /// Whether it begins the other one. Of two beginnings of one history one does.
     pub(crate) fn begins(&self, other: &Prefix<J>) -> bool
         ensures cases { MatchBool result (IsPrefix self.now other.now) (IsPrefix other.now self.now) }
-        ensures legal { IsLegal J.opening self.now × IsLegal J.opening other.now }
+        ensures legal { IsLegalFrom J.opening self.now × IsLegalFrom J.opening other.now }
     {
         let mut both = self.seen.again();
         both.learn(&other.seen);

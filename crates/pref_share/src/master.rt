@@ -5,8 +5,8 @@ ghost use Rattle.std.specs.Option.{unwrap_or};
 ghost use mathlib.Core.List.{IsPrefix};
 ghost use Rattle.left_right.specs.Sides.{view};
 ghost use Rattle.pref_core.specs.State.{added, refusal};
-ghost use Rattle.pref_share.specs.Openings.{IsLegal, MayFollow, first_contents, contents_at, state_at, calls_at};
-ghost use Rattle.pref_share.specs.Views.{stamped, StandsFor, Knows};
+ghost use Rattle.pref_share.specs.Openings.{IsLegalFrom, MayFollow, first_contents, contents_at, state_at, calls_at};
+ghost use Rattle.pref_share.specs.Views.{stamped, HoldsHistory, Knows};
 
 use crate::book::{NO_CALL, Naming};
 use crate::history::{History, Prefix};
@@ -36,14 +36,14 @@ impl<J: Naming> Model for Master<J> {
     ghost use Rattle.left_right.specs.Sides.{view as view_of};
     ghost use Rattle.pref_core.specs.declared.call.Op.{Op};
     ghost use Rattle.pref_core.specs.Indexes.{IsIndexOf};
-    ghost use Rattle.pref_share.specs.Openings.{IsLegal, first_contents, contents_at};
-    ghost use Rattle.pref_share.specs.Views.{StandsFor, Knows};
+    ghost use Rattle.pref_share.specs.Openings.{IsLegalFrom, first_contents, contents_at};
+    ghost use Rattle.pref_share.specs.Views.{HoldsHistory, Knows};
 
     ghost Value = { List Op };
 
     ghost view = { λ m. m.history };
 
-    ghost invariant = { λ m. IsLegal J.opening m.history × (m.store ≡ contents_at J.opening m.history) × IsIndexOf m.store m.index × ((manually_drop_value m.writer).desk.shown.value.seen.log ≡ m.history) × StandsFor (first_contents J.opening) J.book (manually_drop_value m.writer).desk.shown.value × Knows (first_contents J.opening) J.book (view_of (manually_drop_value m.writer).desk.place) × (drop (manually_drop_value m.writer).behind (manually_drop_value m.writer).log.items ≡ []) };
+    ghost invariant = { λ m. IsLegalFrom J.opening m.history × (m.store ≡ contents_at J.opening m.history) × IsIndexOf m.store m.index × ((manually_drop_value m.writer).desk.shown.value.seen.log ≡ m.history) × HoldsHistory (first_contents J.opening) J.book (manually_drop_value m.writer).desk.shown.value × Knows (first_contents J.opening) J.book (view_of (manually_drop_value m.writer).desk.place) × (drop (manually_drop_value m.writer).behind (manually_drop_value m.writer).log.items ≡ []) };
 }
 
 /// Lets the writer know what the board opens with. What is pending changes nothing.
@@ -59,7 +59,7 @@ fn open_with<R: Wait>(rt: &R, writer: StoreWriter) -> StoreWriter
     writer
 }
 
-/// So many stamps are kept at most: those that one copy lacks, and the one of a call.
+/// This many stamps are kept at most: those that one copy lacks, and the one of a call.
 const KEPT: usize = 3;
 
 /// Makes room for the stamps of later calls, by stamps that change nothing. The room stays, so later calls need not grow it.
@@ -85,7 +85,7 @@ fn with_room(mut writer: StoreWriter) -> Result<StoreWriter, StoreWriter>
 /// Publishes what is pending.
 fn publish<J: Naming, R: Wait>(rt: &R, writer: StoreWriter) -> StoreWriter
     requires knows { Knows (first_contents J.opening) J.book (view writer.desk.place) }
-    requires stands { StandsFor (first_contents J.opening) J.book (fold stamped writer.desk.shown.value (drop writer.behind writer.log.items)) }
+    requires stands { HoldsHistory (first_contents J.opening) J.book (fold stamped writer.desk.shown.value (drop writer.behind writer.log.items)) }
     ensures view { view result.desk.place ≡ view writer.desk.place }
     ensures shown { result.desk.shown.value ≡ fold stamped writer.desk.shown.value (drop writer.behind writer.log.items) }
     ensures pending { drop result.behind result.log.items ≡ [] }
@@ -111,7 +111,7 @@ fn append<R: Wait>(rt: &R, writer: &mut StoreWriter, stamp: Stamp)
 }
 
 impl<J: Naming> Master<J> {
-    /// Publishes the store as it is opened, to so many readers.
+    /// Publishes the store as it is opened, to this many readers.
     pub(crate) fn open<R: Wait>(
         rt: &R,
         alloc: Global,
@@ -120,7 +120,7 @@ impl<J: Naming> Master<J> {
         readers: u8,
     ) -> Result<Master<J>, AllocError>
         requires opening { store ≡ first_contents J.opening }
-        requires legal { IsLegal J.opening [] }
+        requires legal { IsLegalFrom J.opening [] }
         requires history { history ≡ [] }
         requires readers { 0 < readers }
         ensures { IfOk result (λ m. m ≡ []) }
@@ -154,7 +154,7 @@ impl<J: Naming> Master<J> {
     /// The history.
     pub(crate) fn whole(&self) -> Prefix<J>
         ensures same { result ≡ self.now }
-        ensures legal { IsLegal J.opening self.now }
+        ensures legal { IsLegalFrom J.opening self.now }
     {
         self.history.whole()
     }
@@ -163,7 +163,7 @@ impl<J: Naming> Master<J> {
     pub(crate) fn check(&mut self, prefix: &Prefix<J>)
         ensures same { self.new ≡ self.old }
         ensures begins { IsPrefix prefix.now self.old }
-        ensures legal { IsLegal J.opening self.old }
+        ensures legal { IsLegalFrom J.opening self.old }
     {
         self.history.check(prefix);
     }
@@ -220,7 +220,7 @@ impl<J: Naming> Master<J> {
             &mut *self.writer,
             rt,
             |writer: StoreWriter, rt: &R| -> (StoreWriter, ())
-                requires { Knows (first_contents J.opening) J.book (view writer.desk.place) × StandsFor (first_contents J.opening) J.book (fold stamped writer.desk.shown.value (drop writer.behind writer.log.items)) }
+                requires { Knows (first_contents J.opening) J.book (view writer.desk.place) × HoldsHistory (first_contents J.opening) J.book (fold stamped writer.desk.shown.value (drop writer.behind writer.log.items)) }
                 ensures { (view result.0.desk.place ≡ view writer.desk.place) × (result.0.desk.shown.value ≡ fold stamped writer.desk.shown.value (drop writer.behind writer.log.items)) × (drop result.0.behind result.0.log.items ≡ []) }
             { (publish::<J, R>(rt, writer), ()) },
         );

@@ -1,6 +1,6 @@
-//! The store that readers take, with the history that it stands for, and the rule over it.
+//! The store that readers take, with the history that it represents, and the rule over it.
 //!
-//! The rule says that there is one opening and one book, over which the published store stands for its history. Each seat of
+//! The rule says that there is one opening and one book, over which the published store represents its history. Each seat of
 //! the writer or of a reader knows them from its first step on.
 
 use crate::book::Token;
@@ -95,7 +95,7 @@ impl Outcome<Published, View> for Reading {
     ghost then = { Reads };
 }
 
-/// What the writer tells a new reader: all that it knows.
+/// What the writer passes to a new reader: all that it knows.
 pub(crate) struct Telling;
 
 impl Split<View> for Telling {

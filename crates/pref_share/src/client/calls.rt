@@ -24,7 +24,7 @@ use std::sync::Wait;
 /// What becomes of a call that is let in to join, with all of the history as it is then.
 #[derive(Drop)]
 pub(super) enum Joining<H> {
-    /// The history ends with the call; so many commits there were.
+    /// The history ends with the call, which leaves this many commits.
     Joined {
         seen: H,
         outcome: Outcome,
@@ -37,7 +37,7 @@ pub(super) enum Joining<H> {
 }
 
 impl<J: Naming> Client<J> {
-    /// Inserts a row, and answers its id. Waits for the board.
+    /// Inserts a row, and returns its id. Waits for the board.
     ///
     /// Refused `Spent`, `Full` (which is numbered), or `OutOfMemory`; and `ClientInUse`.
     ///
@@ -63,6 +63,10 @@ impl<J: Naming> Client<J> {
     /// Puts another row in place of the one of this id, in one commit. Waits for the board.
     ///
     /// Refused `Spent`, or `NoSuchRow` or `Full` (which are numbered); and `ClientInUse`.
+    ///
+    /// ```text
+    /// client.update(rt, alloc, &board, id, Row::of(&schema, &[45, 1])?)?;
+    /// ```
     pub fn update<R: Wait>(
         &mut self,
         rt: &R,
@@ -81,6 +85,10 @@ impl<J: Naming> Client<J> {
     /// Deletes the row of this id. Waits for the board.
     ///
     /// Refused `Spent`, or `NoSuchRow` (which is numbered); and `ClientInUse`.
+    ///
+    /// ```text
+    /// client.delete(rt, alloc, &board, id)?;
+    /// ```
     pub fn delete<R: Wait>(
         &mut self,
         rt: &R,
@@ -99,6 +107,11 @@ impl<J: Naming> Client<J> {
     ///
     /// Refused `Spent`, `NoSuchRow` or `Full` (which are numbered, and no row has changed), or `OutOfMemory` where a row is added; and
     /// `ClientInUse`.
+    ///
+    /// ```text
+    /// let commit = Commit::of(&[Change::Add(hotel), Change::Remove(3)])?;
+    /// let committed = client.commit(rt, alloc, &board, commit)?;
+    /// ```
     pub fn commit<R: Wait>(
         &mut self,
         rt: &R,
@@ -113,10 +126,17 @@ impl<J: Naming> Client<J> {
         Ok(told_of_commit(&commit, outcome))
     }
 
-    /// Begins a query of the table as it is now, and answers how many blocks it has to scan. Waits for the board, and copies
+    /// Begins a query of the table as it is now, and returns how many blocks it has to scan. Waits for the board, and copies
     /// nothing.
     ///
     /// Refused `Spent` or `QueryOpen`; and `ClientInUse`. A refusal hands the ask back.
+    ///
+    /// ```text
+    /// match client.begin(rt, alloc, &board, ask) {
+    ///     Ok(blocks) => Ok(blocks),
+    ///     Err(refused) => Err(refused.fault),
+    /// }
+    /// ```
     pub fn begin<R: Wait>(
         &mut self,
         rt: &R,
@@ -156,6 +176,12 @@ impl<J: Naming> Client<J> {
     /// Ends the open query with its answer, by the table at its begin. Waits for the board; the answer is put together before.
     ///
     /// Refused `Spent`, `NoQuery` or `NotDone`, or `OutOfMemory`; and `ClientInUse`. The query stays open then.
+    ///
+    /// ```text
+    /// for best in &client.finish(rt, alloc, &board)? {
+    ///     println!(rt; "row {}, {}", best.id, best.row.cell(0))?;
+    /// }
+    /// ```
     pub fn finish<R: Wait>(
         &mut self,
         rt: &R,
@@ -176,6 +202,10 @@ impl<J: Naming> Client<J> {
     /// Ends the open query without an answer. Waits for the board.
     ///
     /// Refused `Spent` or `NoQuery`; and `ClientInUse`. The query stays open then.
+    ///
+    /// ```text
+    /// client.abandon(rt, alloc, &board)?;
+    /// ```
     pub fn abandon<R: Wait>(
         &mut self,
         rt: &R,
@@ -289,11 +319,12 @@ impl<J: Naming> Client<J> {
         }
     }
 
-    /// The refusal of a client whose next call stands in the history, which it has seen now.
+    /// The refusal of a client whose next call is in the history, which it has seen now.
     pub(super) fn in_use(&mut self, whole: Prefix<J>) -> ShareFault
         requires { IsAhead J.opening self.old whole }
         ensures fault { result ≡ ClientInUse (suc self.old.counter) }
         ensures sees { IsInUse J.opening self.old (suc self.old.counter) self.new }
+        ensures all { self.new.seen ≡ whole }
     {
         self.seen = whole;
         ShareFault::ClientInUse {
@@ -302,7 +333,7 @@ impl<J: Naming> Client<J> {
     }
 }
 
-/// What is told of a commit that was done with this outcome.
+/// What is returned of a commit that was done with this outcome.
 fn told_of_commit(commit: &Commit, outcome: Outcome) -> Committed
     ensures { (next_id : ℕ) → outcome ≡ granted next_id (Call.Commit commit.now) → result ≡ told_of_commit next_id commit.now }
 {

@@ -1,4 +1,4 @@
-//! What a client reads of the published table: it takes no lock and waits for nobody.
+//! What a client reads of the published table: it takes no lock and never waits.
 //!
 //! Each numbered call publishes before it lets the lock go, and a client has seen no more than was published. So no run meets a copy that
 //! is older than what its client has seen; where one did, the read would be refused and nothing changed.
@@ -9,13 +9,13 @@ ghost use Rattle.std.specs.Option.{unwrap_or, option_map};
 ghost use mathlib.Core.List.{IsPrefix};
 ghost use Rattle.left_right.specs.Sides.{view};
 ghost use Rattle.pref_core.specs.Scans.{Reads};
-ghost use Rattle.pref_core.specs.Slots.{StandsFor as StandsForState};
+ghost use Rattle.pref_core.specs.Slots.{StandsFor};
 ghost use Rattle.pref_core.specs.State.{State, calls_of, needed};
 ghost use Rattle.pref_core.specs.Table.{line_of};
-ghost use Rattle.pref_share.specs.Openings.{IsLegal, first_contents, contents_at, calls_at};
+ghost use Rattle.pref_share.specs.Openings.{IsLegalFrom, first_contents, contents_at, calls_at};
 ghost use Rattle.pref_share.specs.Clients.{Sees};
-ghost use Rattle.pref_share.specs.Scanning.{Scanned, HasMore, RefusedScan, RefusesScan, RefusesGet, room_at, row_at};
-ghost use Rattle.pref_share.specs.Views.{Knows, StandsFor};
+ghost use Rattle.pref_share.specs.Scanning.{Scanned, HasMore, RefusedScan, RefusesScan, RefusesGet, room_at, row_after};
+ghost use Rattle.pref_share.specs.Views.{Knows, HoldsHistory};
 ghost use Rattle.pref_share.specs.declared.fault.ShareFault.TheVariants.{Closed};
 
 use crate::book::Naming;
@@ -38,9 +38,9 @@ struct Block {
 
 /// The history of the published table, where it begins with what was seen.
 fn history_of<J: Naming>(published: &Published, seen: &Prefix<J>) -> Option<Prefix<J>>
-    requires stands { StandsFor (first_contents J.opening) J.book published.now }
-    requires legal { IsLegal J.opening seen.now }
-    ensures { IfSome result (λ now. IsPrefix seen.now now × IsLegal J.opening now × (published.now.store ≡ contents_at J.opening now)) }
+    requires stands { HoldsHistory (first_contents J.opening) J.book published.now }
+    requires legal { IsLegalFrom J.opening seen.now }
+    ensures { IfSome result (λ now. IsPrefix seen.now now × IsLegalFrom J.opening now × (published.now.store ≡ contents_at J.opening now)) }
 {
     let now = Prefix::of(published.len, &published.seen);
     if seen.begins(&now) { Some(now) } else { None }
@@ -53,8 +53,8 @@ fn entered<J: Naming>(
     seen: &Prefix<J>,
 ) -> Result<(StoreReading, Prefix<J>), StoreReader>
     requires knows { Knows (first_contents J.opening) J.book (view reader.place) }
-    requires legal { IsLegal J.opening seen.now }
-    ensures { MatchResult result (λ entered. (view entered.0.place ≡ view reader.place) × IsPrefix seen.now entered.1 × IsLegal J.opening entered.1 × (entered.0.part.value.store ≡ contents_at J.opening entered.1)) (λ back. view back.place ≡ view reader.place) }
+    requires legal { IsLegalFrom J.opening seen.now }
+    ensures { MatchResult result (λ entered. (view entered.0.place ≡ view reader.place) × IsPrefix seen.now entered.1 × IsLegalFrom J.opening entered.1 × (entered.0.part.value.store ≡ contents_at J.opening entered.1)) (λ back. view back.place ≡ view reader.place) }
 {
     let reading = reader.enter_as::<Reading>()?;
     match history_of(reading.get(), seen) {
@@ -71,17 +71,17 @@ fn read<J: Naming, T, F: FnOnce(&Store) -> T>(
     look: F,
 ) -> Option<(Prefix<J>, T)>
     requires knows { Knows (first_contents J.opening) J.book (view reader.old.place) }
-    requires legal { IsLegal J.opening seen.now }
+    requires legal { IsLegalFrom J.opening seen.now }
     requires look { F.IsAlwaysCallable look }
     ensures view { view reader.new.place ≡ view reader.old.place }
-    ensures found { IfSome result (λ found. IsPrefix seen.now found.0 × IsLegal J.opening found.0 × FnOnceReturnsAt F.FnOnce look (contents_at J.opening found.0) found.1) }
+    ensures found { IfSome result (λ found. IsPrefix seen.now found.0 × IsLegalFrom J.opening found.0 × FnOnceReturnsAt F.FnOnce look (contents_at J.opening found.0) found.1) }
 {
     replace_with(
         reader,
         look,
         |reader: StoreReader, look: F| -> (StoreReader, Option<(Prefix<J>, T)>)
-            requires { Knows (first_contents J.opening) J.book (view reader.place) × IsLegal J.opening seen.now × F.IsAlwaysCallable look }
-            ensures { (view result.0.place ≡ view reader.place) × IfSome result.1 (λ found. IsPrefix seen.entry.now found.0 × IsLegal J.opening found.0 × FnOnceReturnsAt F.FnOnce look (contents_at J.opening found.0) found.1) }
+            requires { Knows (first_contents J.opening) J.book (view reader.place) × IsLegalFrom J.opening seen.now × F.IsAlwaysCallable look }
+            ensures { (view result.0.place ≡ view reader.place) × IfSome result.1 (λ found. IsPrefix seen.entry.now found.0 × IsLegalFrom J.opening found.0 × FnOnceReturnsAt F.FnOnce look (contents_at J.opening found.0) found.1) }
         { looked(reader, seen, look) },
     )
 }
@@ -93,10 +93,10 @@ fn looked<J: Naming, T, F: FnOnce(&Store) -> T>(
     look: F,
 ) -> (StoreReader, Option<(Prefix<J>, T)>)
     requires knows { Knows (first_contents J.opening) J.book (view reader.place) }
-    requires legal { IsLegal J.opening seen.now }
+    requires legal { IsLegalFrom J.opening seen.now }
     requires look { F.IsAlwaysCallable look }
     ensures view { view result.0.place ≡ view reader.place }
-    ensures found { IfSome result.1 (λ found. IsPrefix seen.now found.0 × IsLegal J.opening found.0 × FnOnceReturnsAt F.FnOnce look (contents_at J.opening found.0) found.1) }
+    ensures found { IfSome result.1 (λ found. IsPrefix seen.now found.0 × IsLegalFrom J.opening found.0 × FnOnceReturnsAt F.FnOnce look (contents_at J.opening found.0) found.1) }
 {
     let (reading, now) = match entered(reader, seen) {
         Ok(entered) => entered,
@@ -107,18 +107,22 @@ fn looked<J: Naming, T, F: FnOnce(&Store) -> T>(
 }
 
 impl<J: Naming> Client<J> {
-    /// The row of this id in the table. Takes no lock, no memory, and waits for nobody.
+    /// The row of this id in the table. Takes no lock, no memory, and never waits.
     ///
     /// Refused `NoSuchRow`, or `Closed` where no reader is let in, and then nothing has changed.
+    ///
+    /// ```text
+    /// let price = client.get(id)?.cell(0);
+    /// ```
     pub fn get(&mut self, id: u64) -> Result<Row, ShareFault>
-        ensures row { IfOk result (λ row. Sees J.opening self.old self.new × (row_at J.opening self.new.seen id ≡ Some row)) }
+        ensures row { IfOk result (λ row. Sees J.opening self.old self.new × (row_after J.opening self.new.seen id ≡ Some row)) }
         ensures refused { IfErr result (λ fault. RefusesGet J.opening self.old id fault self.new) }
     {
         let found = read(
             &mut self.reader,
             &self.seen,
             |store: &Store| -> Option<Row>
-                ensures { (state : State) → StandsForState store.now state → result ≡ option_map (λ line. line.row) (line_of state.table id) }
+                ensures { (state : State) → StandsFor store.now state → result ≡ option_map (λ line. line.row) (line_of state.table id) }
             { store.get(id) },
         );
         let Some((now, row)) = found else {
@@ -131,9 +135,13 @@ impl<J: Naming> Client<J> {
         }
     }
 
-    /// How many more versions there is room for. Takes no lock, no memory, and waits for nobody.
+    /// How many more versions there is room for. Takes no lock, no memory, and never waits.
     ///
     /// Refused `Closed` where no reader is let in, and then nothing has changed.
+    ///
+    /// ```text
+    /// let is_full = client.room()? == 0;
+    /// ```
     pub fn room(&mut self) -> Result<u32, ShareFault>
         ensures room { IfOk result (λ room. Sees J.opening self.old self.new × (room ≡ room_at J.opening self.new.seen)) }
         ensures refused { IfErr result (λ fault. (fault ≡ Closed) × (self.new ≡ self.old)) }
@@ -142,7 +150,7 @@ impl<J: Naming> Client<J> {
             &mut self.reader,
             &self.seen,
             |store: &Store| -> u32
-                ensures { (state : State) → StandsForState store.now state → result ≡ length store.now.slots - length (needed state) }
+                ensures { (state : State) → StandsFor store.now state → result ≡ length store.now.slots - length (needed state) }
             { store.room() },
         );
         let Some((now, room)) = found else {
@@ -152,9 +160,15 @@ impl<J: Naming> Client<J> {
         Ok(room)
     }
 
-    /// Scans the next block for the open query, and answers how many are left. Takes no lock and waits for nobody.
+    /// Scans the next block for the open query, and returns how many are left. Takes no lock and never waits.
     ///
     /// Refused `NoQuery` or `AllScanned`, then `ClientInUse`, `OutOfMemory` or `Closed`; the query is as it was then.
+    ///
+    /// ```text
+    /// for _ in 0..blocks {
+    ///     client.scan(alloc)?;
+    /// }
+    /// ```
     pub fn scan(&mut self, alloc: Global) -> Result<u32, ShareFault>
         ensures scanned { IfOk result (λ left. Scanned J.opening self.old left self.new) }
         ensures refused { IfErr result (λ fault. RefusesScan J.opening self.old fault self.new) }
@@ -171,7 +185,7 @@ impl<J: Naming> Client<J> {
             &mut self.reader,
             &self.seen,
             |store: &Store| -> Block
-                ensures { ((state : State) → StandsForState store.now state → result.calls ≡ unwrap_or (calls_of state number) 0) × Reads query.entry.now store.now.slots result.shown }
+                ensures { ((state : State) → StandsFor store.now state → result.calls ≡ unwrap_or (calls_of state number) 0) × Reads query.entry.now store.now.slots result.shown }
             {
                 Block {
                     calls: store.last(number),

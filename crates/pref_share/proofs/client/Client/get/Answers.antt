@@ -1,6 +1,6 @@
 use Rattle.std.proofs.Common.{rules, refl, sym, ◌≡◌, ◌∙◌}
 use Rattle.pref_share.specs.Openings.{state_at}
-use Rattle.pref_share.specs.Scanning.{row_at}
+use Rattle.pref_share.specs.Scanning.{row_after}
 use Rattle.pref_share.proofs.Histories.{left_stands}
 use Rattle.pref_share.proofs.Standings.{sees}
 use Rattle.pref_share.proofs.client.Client.get.Goals.{Joined-row, in-Some-row, in-None}
@@ -8,7 +8,7 @@ use Rattle.pref_share.proofs.client.Client.get.Given.{Over}
 use Rattle.pref_share.proofs.client.Client.get.Goals as goal
 
 -- the row that was found is that of the history
-is_row : (g : Over) (c : Joined-row g) → c.in-Some.row ≡ row_at g.J.Naming.opening c.in-Some.now c.args.id
+is_row : (g : Over) (c : Joined-row g) → c.in-Some.row ≡ row_after g.J.Naming.opening c.in-Some.now c.args.id
 is_row g c =
     let o = g.J.Naming.opening in
     let read = c.in-Some.ensures.found in

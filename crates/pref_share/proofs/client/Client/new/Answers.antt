@@ -1,6 +1,6 @@
 use Rattle.std.proofs.Common.{ℕ, ◌≤◌, List, sym, subst, ap, ◌∙◌}
 use Rattle.pref_core.specs.declared.call.Op.{Op}
-use Rattle.pref_share.specs.Openings.{IsLegal}
+use Rattle.pref_share.specs.Openings.{IsLegalFrom}
 use Rattle.pref_share.proofs.Standings.{stands_new}
 use Rattle.pref_share.proofs.client.Client.new.Goals as goal
 
@@ -9,6 +9,6 @@ invariant_of-result g c =
     let o = g.J.Naming.opening in (
       c.requires.knows,
       c.requires.setup,
-      stands_new o c.args.number c.again-seen.result (subst (λ (l : List Op). IsLegal o l) (sym c.again-seen.ensures.same) c.again-seen.ensures.legal)
+      stands_new o c.args.number c.again-seen.result (subst (λ (l : List Op). IsLegalFrom o l) (sym c.again-seen.ensures.same) c.again-seen.ensures.legal)
           (c.again-seen.ensures.same ∙ c.requires.seen) (c.requires.number.0, subst (λ (n : ℕ). c.args.number ≤ n) (ap (λ l. l.clients) c.requires.setup) c.requires.number.1),
     )

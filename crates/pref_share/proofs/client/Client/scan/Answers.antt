@@ -7,7 +7,7 @@ use Rattle.pref_core.specs.declared.call.Op.{Op}
 use Rattle.pref_core.specs.declared.fault.CoreFault.{CoreFault}
 use Rattle.pref_core.specs.Scans.{Scan, Reads, next_block}
 use Rattle.pref_core.specs.Slots.{Contents}
-use Rattle.pref_share.specs.Openings.{Opening, IsLegal, calls_at, contents_at, state_at, first_contents}
+use Rattle.pref_share.specs.Openings.{Opening, IsLegalFrom, calls_at, contents_at, state_at, first_contents}
 use Rattle.pref_share.specs.Standing.{Asking, Standing}
 use Rattle.pref_share.specs.Clients.{IsInUse}
 use Rattle.pref_share.specs.Views.{Knows}
@@ -24,7 +24,7 @@ record IsReadFor (o : Opening) (s : Standing) (asking : Asking) (now : List Op) 
   query : s.query ≡ Some asking
   stands : Stands o s.number s.counter s.seen (Some asking)
   further : IsPrefix s.seen now
-  legal : IsLegal o now
+  legal : IsLegalFrom o now
   alone : calls_at o now s.number ≡ Some s.counter
   is : block ≡ next_block asking.scan (contents_at o now).slots
 

@@ -1,22 +1,22 @@
-use Rattle.std.proofs.Common.{◌≡◌, suc, ◌+◌, List, ◌∙◌, ap, arith}
+use Rattle.std.proofs.Common.{◌≡◌, List, ◌∙◌, ap, refl, sym, subst}
 use Rattle.std.specs.Option.{unwrap_or}
 use Rattle.pref_core.specs.declared.call.Op.{Op}
 use Rattle.pref_share.specs.Openings.{calls_at}
 use Rattle.pref_share.specs.Standing.{Standing}
+use Rattle.pref_share.specs.Following.{IsAhead}
 use Rattle.pref_share.proofs.Standings.{ahead, even}
-use Rattle.pref_share.proofs.Stopping.{in_use}
 use Rattle.pref_share.proofs.client.Client.settle.Goals as goal
 
-pub returns-then-last-self-clause-stops : goal.returns-then-last-self-clause-stops
-returns-then-last-self-clause-stops g c =
+pub in_use-requires : goal.in_use-requires
+in_use-requires g c =
     let o = g.J.Naming.opening in
     let s = c.self.inside in
     let history = c.args.master.now in
     let old : Standing = record { number = s.number; counter = s.counter; seen = s.seen; query = s.asking } in
     let last : c.last.result ≡ unwrap_or (calls_at o history s.number) 0 = c.last.ensures ∙ ap (λ (l : List Op). unwrap_or (calls_at o l s.number) 0) c.check.ensures.same in
-    let next : suc s.counter ≡ s.counter + 1 = omega arith in
     rw (← c.self.view_is)
-    (in_use o old history (s.counter + 1) next (record {
+    (subst (λ (h : List Op). IsAhead o old h) (sym (c.whole.ensures.same ∙ c.check.ensures.same))
+    (record {
       further = c.check.ensures.begins;
       legal = c.check.ensures.legal;
       holds = ahead o s.number s.counter c.last.result s.seen history s.asking c.self.invariant.2 c.check.ensures.begins c.check.ensures.legal last c.if-last-self.true;
@@ -28,8 +28,10 @@ returns-clause-settled g c =
     let history = c.args.master.now in
     let number = c.self.inside.number in
     let last : c.last.result ≡ unwrap_or (calls_at o history number) 0 = c.last.ensures ∙ ap (λ (l : List Op). unwrap_or (calls_at o l number) 0) c.check.ensures.same in
-    rw (← c.self.view_is)
-    (record {
-      inside = c.check.ensures.begins;
-      alone = even o number c.self.inside.counter c.last.result c.self.inside.seen history c.self.inside.asking c.self.invariant.2 c.check.ensures.begins c.check.ensures.legal last c.if-last-self.false;
-    })
+    rw (← c.self.view_is) (
+      record {
+        inside = c.check.ensures.begins;
+        alone = even o number c.self.inside.counter c.last.result c.self.inside.seen history c.self.inside.asking c.self.invariant.2 c.check.ensures.begins c.check.ensures.legal last c.if-last-self.false;
+      },
+      refl,
+    )

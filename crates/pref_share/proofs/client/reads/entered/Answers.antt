@@ -1,7 +1,7 @@
 use Rattle.std.proofs.Common.{sym, subst}
 use Rattle.pref_share.specs.declared.published.Published.{Published}
 use Rattle.pref_share.specs.Openings.{first_contents}
-use Rattle.pref_share.specs.Views.{StandsFor}
+use Rattle.pref_share.specs.Views.{HoldsHistory}
 use Rattle.pref_share.proofs.Keeps.{reads}
 use Rattle.pref_share.proofs.client.reads.entered.Goals as goal
 
@@ -10,4 +10,4 @@ enter_as-requires g c x = reads _ _ x
 
 pub history_of-requires-clause-stands : goal.history_of-requires-clause-stands
 history_of-requires-clause-stands g c =
-    subst (λ (y : Published). StandsFor (first_contents g.J.Naming.opening) g.J.Naming.book y) (sym c.get.ensures) (c.in_ok-reading.ensures.1.1 (first_contents g.J.Naming.opening) g.J.Naming.book c.requires.knows)
+    subst (λ (y : Published). HoldsHistory (first_contents g.J.Naming.opening) g.J.Naming.book y) (sym c.get.ensures) (c.in_ok-reading.ensures.1.1 (first_contents g.J.Naming.opening) g.J.Naming.book c.requires.knows)

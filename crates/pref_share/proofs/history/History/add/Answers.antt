@@ -1,6 +1,6 @@
 use Rattle.std.proofs.Common.{◌≡◌, ◌+◌, ◌++◌, ◌∷◌, [], length, sym, subst, ◌∙◌, ap, refl, arith}
 use Rattle.std.proofs.lemmas.List.{append-nil, length-append}
-use Rattle.pref_share.specs.Openings.{IsLegal, MayFollow}
+use Rattle.pref_share.specs.Openings.{IsLegalFrom, MayFollow}
 use Rattle.pref_share.specs.Book.{ops_of}
 use Rattle.pref_share.proofs.Adding.{adds_moves, entry_added}
 use Rattle.pref_share.proofs.Histories.{legal-more, legal_is_history}
@@ -34,7 +34,7 @@ invariant_of-self g c =
       c.new_pen-next.ensures.book ∙ c.self.invariant.2,
       c.new_pen-next.ensures.right,
       more.1,
-      subst (IsLegal opening) (sym more.0) (legal-more opening (ops_of old) c.args.op.now c.self.invariant.6 next),
+      subst (IsLegalFrom opening) (sym more.0) (legal-more opening (ops_of old) c.args.op.now c.self.invariant.6 next),
     )
 
 pub overflow_add-self : goal.overflow_add-self

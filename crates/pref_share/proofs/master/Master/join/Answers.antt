@@ -8,7 +8,7 @@ use Rattle.pref_core.specs.Slots.{Contents}
 use Rattle.pref_share.specs.Openings.{MayFollow, first_contents, contents_at, state_at}
 use Rattle.pref_share.specs.declared.published.Published.{Published}
 use Rattle.pref_share.specs.declared.published.Stamp.{Stamp}
-use Rattle.pref_share.specs.Views.{stamped, StandsFor}
+use Rattle.pref_share.specs.Views.{stamped, HoldsHistory}
 use Rattle.pref_share.proofs.Histories.{contents_at-append, left_stands, planned, unplanned}
 use Rattle.pref_share.proofs.Keeps.{published_next}
 use Rattle.pref_share.proofs.master.Master.join.Goals as goal
@@ -42,7 +42,7 @@ replace_with-requires g c =
     let ends : stamp.seen.log ≡ c.self.inside.history ++ op ∷ [] = c.token.ensures.log ∙ c.whole-seen.ensures.same ∙ c.add.ensures in
     let may : MayFollow o c.self.inside.history op =
     (planned o c.self.inside.history c.self.inside.store c.args.client c.args.call.now op c.self.invariant.0 c.self.invariant.1 c.in_ok-op.ensures.state).2 in
-    let stands : StandsFor (first_contents o) g.J.Naming.book (stamped x stamp) =
+    let stands : HoldsHistory (first_contents o) g.J.Naming.book (stamped x stamp) =
     published_next o g.J.Naming.book x stamp c.self.inside.history c.self.invariant.0 c.self.invariant.3 c.self.invariant.4 may ends (c.len.ensures.length ∙ ap length (sym c.token.ensures.log)) c.token.ensures.book in
     rw (c.deref_mut-2.ensures.value, c.append.ensures.desk, c.append.ensures.pending, c.deref_mut.ensures.value, c.self.invariant.6) (c.self.invariant.5, stands)
 
@@ -55,7 +55,7 @@ invariant_of-self-2 g c =
     let log : stamp.seen.log ≡ c.add.new.self = c.token.ensures.log ∙ c.whole-seen.ensures.same in
     let may : MayFollow o c.self.inside.history op =
     (planned o c.self.inside.history c.self.inside.store c.args.client c.args.call.now op c.self.invariant.0 c.self.invariant.1 c.in_ok-op.ensures.state).2 in
-    let stands : StandsFor (first_contents o) g.J.Naming.book (stamped x stamp) =
+    let stands : HoldsHistory (first_contents o) g.J.Naming.book (stamped x stamp) =
     published_next o g.J.Naming.book x stamp c.self.inside.history c.self.invariant.0 c.self.invariant.3 c.self.invariant.4 may (log ∙ c.add.ensures) (c.len.ensures.length ∙ ap length (sym c.token.ensures.log)) c.token.ensures.book in
     let folded : fold stamped c.deref_mut-2.result.now.desk.shown.value (drop c.deref_mut-2.result.now.behind c.deref_mut-2.result.now.log.items) ≡ stamped x stamp =
     rw (c.deref_mut-2.ensures.value, c.append.ensures.desk, c.append.ensures.pending, c.deref_mut.ensures.value, c.self.invariant.6) refl in
@@ -66,7 +66,7 @@ invariant_of-self-2 g c =
       store,
       c.apply_at.ensures.index,
       ap (λ (p : Published). p.seen.log) shown ∙ log,
-      subst (StandsFor (first_contents o) g.J.Naming.book) (sym shown) stands,
+      subst (HoldsHistory (first_contents o) g.J.Naming.book) (sym shown) stands,
       rw (c.replace_with.ensures.0, c.deref_mut-2.ensures.value, c.append.ensures.desk, c.deref_mut.ensures.value) c.self.invariant.5,
       c.replace_with.ensures.2,
     )

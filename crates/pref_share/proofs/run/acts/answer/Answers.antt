@@ -2,7 +2,7 @@ use Rattle.std.proofs.Common.{refl}
 use Rattle.pref_core.specs.declared.call.Call.TheVariants.{Insert as CallInsert, Update as CallUpdate, Delete as CallDelete, Commit as CallCommit, Begin as CallBegin, Abandon as CallAbandon}
 use Rattle.pref_core.specs.declared.event.Act.TheVariants.{Insert, Update, Delete, Commit, Begin, Abandon}
 use Rattle.pref_share.proofs.Acting.{inserted, updated, deleted, commits, begun, scanned_step, finished, abandoned, got, has_room}
-use Rattle.pref_share.proofs.Refusing.{change_refused, quiet_refused, finish_refused, scan_refused, get_refused, passed_on}
+use Rattle.pref_share.proofs.Refusing.{change_refused, quiet_refused, finish_refused, scan_refused, get_refused, room_refused, passed_on}
 use Rattle.pref_share.proofs.run.acts.answer.Goals as goal
 
 pub returns-in_ok-insert-in-Insert-clause-answered : goal.returns-in_ok-insert-in-Insert-clause-answered
@@ -57,7 +57,10 @@ pub returns-in_ok-get-in-Get-clause-answered : goal.returns-in_ok-get-in-Get-cla
 returns-in_ok-get-in-Get-clause-answered g c = rw (c.in-Get.is) (got g.J.Naming.opening c.args.client.now _ c.in-Get.id _ c.in_ok-get-in-Get.ensures.row.0 c.in_ok-get-in-Get.ensures.row.1)
 
 pub returns-in_err-get-in-Get-clause-refused : goal.returns-in_err-get-in-Get-clause-refused
-returns-in_err-get-in-Get-clause-refused g c = rw (c.in-Get.is) (passed_on c.from_residual-in_err-get-in-Get.result c.in_err-get-in-Get.field-0.0 _ c.from_residual-in_err-get-in-Get.ensures.1 (get_refused g.J.Naming.opening c.args.client.now _ c.in-Get.id c.in_err-get-in-Get.field-0.0 c.in_err-get-in-Get.ensures.refused))
+returns-in_err-get-in-Get-clause-refused g c = rw (c.in-Get.is) (passed_on c.from_residual-in_err-get-in-Get.result c.in_err-get-in-Get.field-0.0 _ c.from_residual-in_err-get-in-Get.ensures.1 (get_refused g.J.Naming.opening c.args.client.now _ c.in-Get.id c.in_err-get-in-Get.field-0.0 c.seen-seen.ensures.legal c.in_err-get-in-Get.ensures.refused))
 
 pub returns-in_ok-room-in-Room-clause-answered : goal.returns-in_ok-room-in-Room-clause-answered
 returns-in_ok-room-in-Room-clause-answered g c = rw (c.in-Room.is) (has_room g.J.Naming.opening c.args.client.now _ _ c.in_ok-room-in-Room.ensures.room.0 c.in_ok-room-in-Room.ensures.room.1)
+
+pub returns-in_err-room-in-Room-clause-refused : goal.returns-in_err-room-in-Room-clause-refused
+returns-in_err-room-in-Room-clause-refused g c = rw (c.in-Room.is) (passed_on c.from_residual-in_err-room-in-Room.result c.in_err-room-in-Room.field-0.0 _ c.from_residual-in_err-room-in-Room.ensures.1 (room_refused g.J.Naming.opening c.args.client.now _ c.in_err-room-in-Room.field-0.0 c.seen-seen.ensures.legal c.in_err-room-in-Room.ensures.refused))
