@@ -10,7 +10,8 @@ mod replies;
 
 use crate::same::{assert_same, assert_same_text};
 use pref_core::{
-    Act, Committed, CoreFault, Event, Machine, RankedList, Reply, Setup, Store, replay, replay_part,
+    Act, BoxedCommit, Commit, Committed, CoreFault, Event, Machine, RankedList, Reply, Setup,
+    Store, replay, replay_part,
 };
 use pref_table::{Row, Schema};
 use pref_term::read_ask;
@@ -18,13 +19,16 @@ use std::alloc::Global;
 use std::process::Abort;
 use std::test::Fail;
 
-/// What a client does, over a table with the column x alone. A query asks for the rows with the smallest x.
+/// What a client does, over a table with the column x alone. A query asks for the rows with the smallest x, or for those and
+/// the next.
 #[derive(Clone, Copy)]
 enum Does {
     Inserts(i64),
     Updates(u64, i64),
     Deletes(u64),
+    Commits(Commit),
     Begins,
+    BeginsTwoLevels,
     Scans,
     Finishes,
     Abandons,
@@ -56,7 +60,9 @@ fn act(alloc: Global, schema: &Schema, does: Does) -> Result<Act, Fail> {
         Does::Inserts(value) => Act::Insert(row(schema, value)?),
         Does::Updates(id, value) => Act::Update(id, row(schema, value)?),
         Does::Deletes(id) => Act::Delete(id),
+        Does::Commits(commit) => Act::Commit(BoxedCommit::new(alloc, commit)?),
         Does::Begins => Act::Begin(read_ask(alloc, schema, b"best low(x)")?),
+        Does::BeginsTwoLevels => Act::Begin(read_ask(alloc, schema, b"top_level 2 low(x)")?),
         Does::Scans => Act::Scan,
         Does::Finishes => Act::Finish,
         Does::Abandons => Act::Abandon,
@@ -338,7 +344,7 @@ fn run_at_eight_stamps(alloc: Global) -> Result<Vec<(u8, Does)>, Fail> {
     Ok(run)
 }
 
-/// Client K begins after K - 1 updates of the one row, and is told the row as it was then, while the slots of
+/// Client K begins after K - 1 updates of the one row, and is answered with the row as it was then, while the slots of
 /// the others are needed and used.
 #[test]
 fn eight_clients_ask_at_eight_stamps(rt: HostRuntime) -> Result<(), Fail> {
@@ -351,7 +357,7 @@ fn eight_clients_ask_at_eight_stamps(rt: HostRuntime) -> Result<(), Fail> {
     check_told(&rt, alloc, 9, 9, &[0], run.as_slice(), told.as_str())
 }
 
-/// So many events in which client 1 asks for room.
+/// This many events in which client 1 asks for room.
 fn asks_for_room(alloc: Global, count: u32) -> Result<Vec<Event>, Fail> {
     let mut events = Vec::new(alloc);
     for _event in 0..count {
@@ -363,7 +369,7 @@ fn asks_for_room(alloc: Global, count: u32) -> Result<Vec<Event>, Fail> {
     Ok(events)
 }
 
-/// So many replies, each of which tells room for one row.
+/// This many replies, each of which says that there is room for one row.
 fn check_all_room(rt: &impl Abort, replies: &[Reply], count: usize) {
     assert_same(rt, "replies", &replies.len(), &count);
     let all = replies.iter().all(|reply| matches!(reply, Reply::Room(1)));

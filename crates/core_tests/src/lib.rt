@@ -1,6 +1,6 @@
 //! The tests of pref_table, pref_term, pref_sky and pref_core, through their public items.
 //!
-//! They stand in a crate of their own because a crate that holds tests is proved twice.
+//! They are in a crate of their own because a crate that holds tests is proved twice.
 #![tactic(auto)]
 
 #[cfg(test)]

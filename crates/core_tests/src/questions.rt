@@ -5,6 +5,7 @@ mod products;
 mod ranges;
 mod refusals;
 mod showing;
+mod signatures;
 
 use crate::same::{assert_same, assert_same_list, assert_same_text};
 use pref_table::{Row, Schema};
@@ -25,7 +26,7 @@ fn fault(alloc: Global, text: &[u8]) -> Option<TermFault> {
     }
 }
 
-/// How two rows over the columns x, y and z stand to one another by a question.
+/// How two rows over the columns x, y and z compare by a question.
 fn standing(alloc: Global, text: &[u8], a: &[i64; 3], b: &[i64; 3]) -> Result<Relation, Fail> {
     let names = [b"x".as_slice(), b"y".as_slice(), b"z".as_slice()];
     let schema = Schema::new(alloc, names.as_slice())?;
@@ -35,7 +36,7 @@ fn standing(alloc: Global, text: &[u8], a: &[i64; 3], b: &[i64; 3]) -> Result<Re
     Ok(ask.compare(&first, &second))
 }
 
-/// Questions, of each two rows, and how the first stands to the second.
+/// Questions, of each two rows, and how the first compares with the second.
 fn check_standings(
     rt: &impl Abort,
     alloc: Global,
@@ -48,7 +49,7 @@ fn check_standings(
     Ok(())
 }
 
-/// `best `, so many minus signs, `low(x)`.
+/// `best `, this many minus signs, `low(x)`.
 fn negated(alloc: Global, times: usize) -> Result<Vec<u8>, Fail> {
     let mut text = b"best ".to_vec(alloc)?;
     for _ in 0..times {
@@ -62,6 +63,7 @@ fn negated(alloc: Global, times: usize) -> Result<Vec<u8>, Fail> {
 fn refused_at_their_token(rt: HostRuntime) {
     let cases = [
         ("best low(z)", TermFault::UnknownColumn { at: 9 }),
+        ("best low(z", TermFault::UnknownColumn { at: 9 }),
         ("best low(x", TermFault::Unexpected { at: 10 }),
         ("at_least 0 low(x)", TermFault::BadCount { at: 9 }),
         ("top_level 1001 low(x)", TermFault::BadCount { at: 10 }),
@@ -232,20 +234,57 @@ fn rows_stand_by_the_question(rt: HostRuntime) -> Result<(), Fail> {
     check_standings(&rt, rt.alloc(), &cases)
 }
 
+/// Of two rows: whether the first is better, worse and the same by the term, and whether it dominates the second by the question.
 #[test]
-fn better_and_same_read_off_one_walk(rt: HostRuntime) -> Result<(), Fail> {
+fn better_same_and_over_read_off_one_walk(rt: HostRuntime) -> Result<(), Fail> {
     let alloc = rt.alloc();
     let names = [b"x".as_slice(), b"y".as_slice()];
     let schema = Schema::new(alloc, names.as_slice())?;
-    let ask = read_ask(alloc, &schema, b"best low(x) & high(y)")?;
-    let first = Row::of(&schema, [1, 2].as_slice())?;
-    let second = Row::of(&schema, [1, 1].as_slice())?;
-    let term = ask.term();
-    assert_same(&rt, "better", &better(term, &first, &second), &true);
-    assert_same(&rt, "worse", &better(term, &second, &first), &false);
-    assert_same(&rt, "not the same", &same(term, &first, &second), &false);
-    assert_same(&rt, "the same", &same(term, &first, &first), &true);
-    assert_same(&rt, "over", &ask.over(&first, &second), &true);
+    let cases = [
+        (
+            "best low(x) & high(y)",
+            [1, 2],
+            [1, 1],
+            (true, false, false, true),
+        ),
+        (
+            "best low(x) & high(y)",
+            [1, 2],
+            [1, 2],
+            (false, false, true, false),
+        ),
+        (
+            "best low(x) * low(y)",
+            [1, 2],
+            [2, 1],
+            (false, false, false, false),
+        ),
+        (
+            "best low(x) by y",
+            [1, 2],
+            [2, 2],
+            (true, false, false, true),
+        ),
+        (
+            "best low(x) by y",
+            [1, 2],
+            [2, 1],
+            (true, false, false, false),
+        ),
+    ];
+    for (text, first, second, wanted) in cases {
+        let ask = read_ask(alloc, &schema, text.as_bytes())?;
+        let a = Row::of(&schema, &first)?;
+        let b = Row::of(&schema, &second)?;
+        let term = ask.term();
+        let found = (
+            better(term, &a, &b),
+            better(term, &b, &a),
+            same(term, &a, &b),
+            ask.over(&a, &b),
+        );
+        assert_same(&rt, (text, first, second), &found, &wanted);
+    }
     Ok(())
 }
 

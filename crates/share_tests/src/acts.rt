@@ -1,4 +1,4 @@
-//! What clients do, over a table with the column x alone, and what they are told, as texts.
+//! What clients do, over a table with the column x alone, and the replies to them, as texts.
 
 use pref_core::{Act, BoxedCommit, Change, Commit, Reply, Setup};
 use pref_sky::Ranked;
@@ -130,7 +130,7 @@ fn found_text(alloc: Global, id: u64, row: &Row) -> Result<String, Fail> {
     Ok(format!(in alloc; "row {id}: {value}")?)
 }
 
-/// What a client was told, reply after reply.
+/// The replies to a client, one after another.
 pub fn replies_text(alloc: Global, replies: &[Reply]) -> Result<String, Fail> {
     let mut text = String::new(alloc);
     for reply in replies {
@@ -140,7 +140,7 @@ pub fn replies_text(alloc: Global, replies: &[Reply]) -> Result<String, Fail> {
     Ok(text)
 }
 
-/// What all clients were told, client after client.
+/// The replies to all clients, client after client.
 pub fn lists_text(alloc: Global, lists: &[Vec<Reply>]) -> Result<String, Fail> {
     let mut text = String::new(alloc);
     for replies in lists {

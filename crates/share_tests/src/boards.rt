@@ -31,7 +31,7 @@ pub fn opened_for_two<J: Naming, R: Wait + Abort>(
     }
 }
 
-/// A gate that holds nobody up.
+/// A gate that holds no client up.
 pub struct Open;
 
 impl Gate for Open {
@@ -44,7 +44,7 @@ impl Gate for Open {
     fn after(&self, _client: u8, _turn: usize) {}
 }
 
-/// Begins a query, and tells how many blocks it has.
+/// Begins a query, and returns how many blocks it has.
 pub fn begin<J: Naming, R: Wait + Abort>(
     rt: &R,
     alloc: Global,
@@ -58,7 +58,7 @@ pub fn begin<J: Naming, R: Wait + Abort>(
     }
 }
 
-/// What all clients of a new board are told, each on a thread of its own.
+/// The replies to all clients of a new board, each on a thread of its own.
 pub fn replies_of_a_run<J: Naming + Send + Sync, R: Threads + Wait + Abort + Sync, G: Gate + Sync>(
     rt: &R,
     alloc: Global,

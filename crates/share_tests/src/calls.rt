@@ -51,7 +51,7 @@ fn reply_to<J: Naming, R: Wait>(
     })
 }
 
-/// What the clients of a board are told, one call after the other.
+/// The replies to the clients of a board, one call after the other.
 fn told<J: Naming, R: Wait>(
     rt: &R,
     alloc: Global,
@@ -74,7 +74,7 @@ fn told<J: Naming, R: Wait>(
     Ok(text)
 }
 
-/// What the clients of a new board are told. The clients count from 0 here.
+/// The replies to the clients of a new board. The clients count from 0 here.
 fn played<J: Naming, R: Wait + Abort>(
     rt: &R,
     alloc: Global,
@@ -94,7 +94,7 @@ fn played<J: Naming, R: Wait + Abort>(
     text
 }
 
-/// Asserts what the clients of a new board are told, whose table has these opening rows.
+/// Asserts the replies to the clients of a new board, whose table has these opening rows.
 fn check_told(
     rt: &(impl Wait + Abort + AllocGlobal),
     opening: &[i64],
@@ -233,7 +233,7 @@ fn a_commit_beside_an_open_query(rt: HostRuntime) -> Result<(), Fail> {
     check_told(&rt, &opening, setup, &run, wanted)
 }
 
-/// How many blocks the first client of a new board is told at its begin, and what the second is told once the first was dropped.
+/// How many blocks the begin of the first client of a new board returns, and the reply to the second once the first was dropped.
 fn told_after_a_drop<J: Naming, R: Wait + Abort>(
     rt: &R,
     alloc: Global,
@@ -254,7 +254,7 @@ fn told_after_a_drop<J: Naming, R: Wait + Abort>(
     Ok((blocks, text?))
 }
 
-/// What the sequential table tells its clients, who count from 1.
+/// The replies of the sequential table to its clients, who count from 1.
 fn replayed(alloc: Global, setup: Setup, rows: &[Row], run: &[(u8, Does)]) -> Result<String, Fail> {
     let schema = columns(alloc)?;
     let mut events = Vec::new(alloc);

@@ -1,6 +1,6 @@
 //! The tests of pref_share, through its public items.
 //!
-//! They stand in a crate of their own because a crate that holds tests is proved twice.
+//! They are in a crate of their own because a crate that holds tests is proved twice.
 #![tactic(auto)]
 
 #[cfg(test)]
@@ -15,6 +15,8 @@ mod pairs;
 mod reads;
 #[cfg(test)]
 mod refusals;
+#[cfg(test)]
+mod reports;
 #[cfg(test)]
 mod rounds;
 #[cfg(test)]

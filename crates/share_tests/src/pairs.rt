@@ -14,40 +14,37 @@ use std::alloc::Global;
 use std::marker::Brand;
 use std::test::Fail;
 
-/// Commits that set the rows of a pair to 1 and -1, then to 2 and -2, and so on.
-fn changes_of_a_pair(alloc: Global, schema: &Schema, pair: (u64, u64)) -> Result<Vec<Act>, Fail> {
-    let mut acts = Vec::new(alloc);
-    for value in 1..101u8 {
-        let value = i64::from(value);
-        let first = Changes::Sets(pair.0, value);
-        let second = Changes::Sets(pair.1, -value);
-        acts.push(act(alloc, schema, Does::Commits(first, second))?)?;
+/// A query of the whole table.
+fn push_query(alloc: Global, schema: &Schema, acts: &mut Vec<Act>) -> Result<(), Fail> {
+    let ask = read_ask(alloc, schema, b"top_level 16 low(x)")?;
+    acts.push(Act::Begin(ask))?;
+    for step in acts_of(alloc, schema, &[Does::Scans, Does::Scans, Does::Finishes])? {
+        acts.push(step)?;
     }
-    Ok(acts)
+    Ok(())
 }
 
-/// Queries of the whole table.
-fn readings(alloc: Global, schema: &Schema) -> Result<Vec<Act>, Fail> {
+/// Commits that set the rows of a pair to 1 and -1, then to 2 and -2, and so on, with a query behind every fourth.
+fn acts_of_a_pair(alloc: Global, schema: &Schema, first: u64) -> Result<Vec<Act>, Fail> {
     let mut acts = Vec::new(alloc);
-    for _ in 0..30 {
-        let ask = read_ask(alloc, schema, b"top_level 8 low(x)")?;
-        acts.push(Act::Begin(ask))?;
-        for step in acts_of(alloc, schema, &[Does::Scans, Does::Scans, Does::Finishes])? {
-            acts.push(step)?;
+    for turn in 1..101u8 {
+        let value = i64::from(turn);
+        let one = Changes::Sets(first, value);
+        let other = Changes::Sets(first.wrapping_add(1), -value);
+        acts.push(act(alloc, schema, Does::Commits(one, other))?)?;
+        if turn % 4 == 0 {
+            push_query(alloc, schema, &mut acts)?;
         }
     }
     Ok(acts)
 }
 
-/// What four clients do that each change a pair of rows, and four that read all pairs.
-fn changes_and_readings(alloc: Global) -> Result<Vec<Vec<Act>>, Fail> {
+/// What eight clients do, each of whom changes a pair of rows and reads all pairs.
+fn acts_of_all(alloc: Global) -> Result<Vec<Vec<Act>>, Fail> {
     let schema = columns(alloc)?;
     let mut lists = Vec::new(alloc);
-    for pair in [(1, 2), (3, 4), (5, 6), (7, 8)] {
-        lists.push(changes_of_a_pair(alloc, &schema, pair)?)?;
-    }
-    for _ in 0..4 {
-        lists.push(readings(alloc, &schema)?)?;
+    for first in [1, 3, 5, 7, 9, 11, 13, 15] {
+        lists.push(acts_of_a_pair(alloc, &schema, first)?)?;
     }
     Ok(lists)
 }
@@ -70,7 +67,7 @@ fn has_whole_pairs(answer: &[Ranked]) -> bool {
             return false;
         }
     }
-    answer.len() == 8
+    answer.len() == 16
 }
 
 /// How many commits a client made, and how many answers with whole pairs it was given.
@@ -104,9 +101,9 @@ fn counts(lists: &[Vec<Reply>]) -> (usize, usize) {
 #[test]
 fn no_answer_sees_half_a_commit(rt: HostRuntime) -> Result<(), Fail> {
     let alloc = rt.alloc();
-    let opening = rows(alloc, &[0, 0, 0, 0, 0, 0, 0, 0])?;
-    let setup = setup(8, 64, 32)?;
-    let acts = changes_and_readings(alloc)?;
+    let opening = rows(alloc, &[0; 16])?;
+    let setup = setup(8, 256, 128)?;
+    let acts = acts_of_all(alloc)?;
     let lists = replies_of_a_run::<Brand, _, _>(
         &rt,
         alloc,
@@ -116,6 +113,6 @@ fn no_answer_sees_half_a_commit(rt: HostRuntime) -> Result<(), Fail> {
         acts,
         &Open,
     )?;
-    assert_same(&rt, "pairs", &counts(&lists), &(400, 120));
+    assert_same(&rt, "pairs", &counts(&lists), &(800, 200));
     Ok(())
 }

@@ -15,15 +15,15 @@ use std::process::Abort;
 use std::sync::Wait;
 use std::test::Fail;
 
-/// What three reads are told.
+/// What three reads return.
 type Reads = (
     Result<Row, ShareFault>,
     Result<u32, ShareFault>,
     Result<u32, ShareFault>,
 );
 
-/// The row of id 1, the room, and the blocks that are left after a scan. There is no handle here that may wait, as taking a lock
-/// wants one, so reads that took a lock would not compile.
+/// The row of id 1, the room, and the blocks that are left after a scan. There is no handle here that may wait, and taking a lock
+/// needs one, so reads that took a lock would not compile.
 fn read<J: Naming>(alloc: Global, client: &mut Client<J>) -> Reads {
     (client.get(1), client.room(), client.scan(alloc))
 }

@@ -66,7 +66,7 @@ fn check_refusal<J: Naming>(
     assert_same(rt, "a call", &(fault, client.seen()), &wanted);
 }
 
-/// Makes a call of a client, once more where memory was refused.
+/// Makes a call of a client, again where memory was refused.
 macro_rules! in_the_end {
     ($rt:expr, $client:expr, $call:expr) => {{
         let before = $client.seen();
@@ -80,7 +80,7 @@ macro_rules! in_the_end {
     }};
 }
 
-/// Begins a query, once more where memory was refused, with the ask that was handed back.
+/// Begins a query, again where memory was refused, with the ask that was handed back.
 fn begin_in_the_end<J: Naming, R: Wait + Abort>(
     rt: &R,
     alloc: Global,

@@ -1,5 +1,5 @@
-//! Rounds of begin and abandon, each call told by a line once it is answered. `tests/count_begin_and_abandon.sh` counts the requests
-//! for memory from line to line, so what is told beforehand is no part of a call's.
+//! Rounds of begin and abandon, each call reported by a line once it is answered. `tests/count_begin_and_abandon.sh` counts the requests
+//! for memory from line to line, so what is printed beforehand is no part of a call's.
 
 ghost use Rattle.std.specs.Prelude.{◌≡◌};
 

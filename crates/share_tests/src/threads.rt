@@ -17,7 +17,7 @@ use std::test::Fail;
 use std::thread;
 use std::thread::Threads;
 
-/// Whether so many acts are answered, after some waiting.
+/// Whether this many acts are answered, after some waiting.
 fn is_reached(answered: &AtomicU64, wanted: u64) -> bool {
     for _ in 0..100_000_000 {
         if answered.load(Ordering::SeqCst) >= wanted {
@@ -111,7 +111,7 @@ impl Gate for HoldsScans {
     }
 }
 
-/// What all clients of a new board are told, or what stopped them.
+/// The replies to all clients of a new board, or what stopped them.
 fn run<J: Naming + Send + Sync, R: Threads + Wait + Abort + Sync, G: Gate + Sync>(
     rt: &R,
     alloc: Global,
@@ -178,7 +178,7 @@ fn with_updates(alloc: Global, text: String, id: u64) -> Result<String, Fail> {
     Ok(text)
 }
 
-/// What the clients are told of a query among updates.
+/// The replies to the clients of a query among updates.
 fn answer_and_updates(alloc: Global) -> Result<String, Fail> {
     let mut text = format!(in alloc;
         "begun 4 / left 3 / left 2 / left 1 / left 0 / answer level 1 id 1: 1 / room 9 / row 7: -160 / "

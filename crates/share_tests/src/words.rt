@@ -1,4 +1,4 @@
-//! Words that a client tells and another hears.
+//! Words that a client speaks and another hears.
 
 ghost use Rattle.std.specs.Prelude.{◌≡◌};
 

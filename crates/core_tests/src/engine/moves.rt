@@ -48,7 +48,7 @@ fn a_moved_row_is_deleted(rt: HostRuntime) -> Result<(), Fail> {
     })
 }
 
-/// Updates the moved row once its query went: it stands at its home then.
+/// Updates the moved row once its query went: it is at its home then.
 fn brings_a_moved_row_home(
     rt: &impl Abort,
     schema: &Schema,

@@ -2,7 +2,7 @@
 
 use super::{row, with_store};
 use crate::same::{assert_same, assert_same_list};
-use pref_core::{Call, CoreFault, Op, Outcome, QueryState, Store};
+use pref_core::{Call, Change, Commit, CoreFault, Op, Outcome, QueryState, Store};
 use pref_table::Schema;
 use std::alloc::Global;
 use std::process::Abort;
@@ -89,20 +89,28 @@ fn a_plan_tells_what_becomes_of_a_call(rt: HostRuntime) -> Result<(), Fail> {
     })
 }
 
-fn is_one_commit(rt: &impl Abort, schema: &Schema, store: &mut Store) -> Result<(), Fail> {
-    let op = store.plan(1, Call::Update(2, row(schema, 5)?))?;
-    store.apply(&op);
-    assert_same(rt, "outcome", &op.outcome, &Outcome::Done);
-    assert_same(rt, "stamp", &store.stamp(), &3);
-    assert_same(rt, "row", &store.get(2), &Some(row(schema, 5)?));
+/// An update, and a commit of three changes: each is one commit.
+fn take_one_stamp_each(rt: &impl Abort, schema: &Schema, store: &mut Store) -> Result<(), Fail> {
+    let new = row(schema, 5)?;
+    let changes = [Change::Remove(1), Change::Add(new), Change::Set(2, new)];
+    let calls = [
+        (Call::Update(2, new), Outcome::Done, 3),
+        (Call::Commit(Commit::of(&changes)?), Outcome::Added(3), 4),
+    ];
+    for (call, outcome, stamp) in calls {
+        let op = store.plan(1, call)?;
+        store.apply(&op);
+        let found = (op.outcome, store.stamp(), store.get(2));
+        assert_same(rt, stamp, &found, &(outcome, stamp, Some(new)));
+    }
     assert_same(rt, "room", &store.room(), &1);
     Ok(())
 }
 
 #[test]
-fn an_update_is_one_commit(rt: HostRuntime) -> Result<(), Fail> {
+fn a_change_is_one_commit(rt: HostRuntime) -> Result<(), Fail> {
     with_store(rt.alloc(), &[4, 6], |schema, store| {
-        is_one_commit(&rt, schema, store)
+        take_one_stamp_each(&rt, schema, store)
     })
 }
 

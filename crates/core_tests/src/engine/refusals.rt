@@ -2,11 +2,11 @@
 //! and refuses it; where none is refused they show that the calls succeed.
 ghost use Rattle.pref_core.specs.Scans.{NextIsNew};
 
-use super::{Does, act, answer_text, columns, events_of, reply_text, rows, with_machine};
+use super::{Does, act, answer_text, columns, events_of, reply_text, row, rows, with_machine};
 use crate::same::{assert_same, assert_same_text};
 use pref_core::{
-    Act, CoreFault, Event, Machine, Part, Query, RankedList, Reply, Setup, StepFault, Store,
-    replay_part,
+    Act, Call, Change, Commit, CoreFault, Event, Index, Machine, Op, Part, Query, RankedList,
+    Reply, Setup, StepFault, Store, replay_part,
 };
 use pref_sky::Ranked;
 use pref_table::{Row, Schema};
@@ -15,7 +15,7 @@ use std::alloc::Global;
 use std::process::Abort;
 use std::test::Fail;
 
-/// What a step tells in the end: a step that memory is refused to hands its event back, and is made again.
+/// What a step returns in the end: a step that memory is refused to hands its event back, and is made again.
 fn told_in_the_end(rt: &impl Abort, alloc: Global, machine: &mut Machine, event: Event) -> Reply {
     let event = match machine.step(alloc, event) {
         Ok(reply) => return reply,
@@ -35,7 +35,7 @@ fn told_in_the_end(rt: &impl Abort, alloc: Global, machine: &mut Machine, event:
     }
 }
 
-/// Each act of a run, once more where memory was refused: what it tells in the end.
+/// Each act of a run, again where memory was refused: what it returns in the end.
 fn go_through_a_run(
     rt: &impl Abort,
     alloc: Global,
@@ -76,7 +76,47 @@ fn each_act_changes_nothing_where_refused_and_is_made_again(rt: HostRuntime) -> 
     })
 }
 
-/// Scans a block, once more where memory was refused: until then as many blocks are left as before.
+fn check_slots(rt: &impl Abort, index: &Index, slots: [Option<usize>; 8]) {
+    for (id, slot) in (1..9).zip(slots) {
+        assert_same(rt, id, &index.slot(id), &slot);
+    }
+}
+
+/// Puts the eight rows that an op adds, again where memory was refused: until then the index has none of them.
+fn prepare_in_the_end(rt: &impl Abort, alloc: Global, index: &mut Index, op: &Op) {
+    if index.prepare(alloc, op).is_err() {
+        check_slots(rt, index, [None; 8]);
+        index.prepare(alloc, op).expect(rt, "memory");
+    }
+}
+
+/// An index with room for one row grows while it takes eight.
+#[test]
+fn an_index_has_all_rows_of_a_commit_or_none(rt: HostRuntime) -> Result<(), Fail> {
+    let alloc = rt.alloc();
+    let schema = columns(alloc)?;
+    let narrow = Setup::new(1, 1, 1, 1).ok_or("setup")?;
+    let setup = Setup::new(1, 8, 8, 1).ok_or("setup")?;
+    let mut index = Index::new(alloc, &Store::new(alloc, &narrow, &[])?)?;
+    let store = Store::new(alloc, &setup, &[])?;
+    let commit = Commit::of(&[Change::Add(row(&schema, 5)?); 8])?;
+    let op = store.plan(1, Call::Commit(commit))?;
+    prepare_in_the_end(&rt, alloc, &mut index, &op);
+    let slots = [
+        Some(0),
+        Some(1),
+        Some(2),
+        Some(3),
+        Some(4),
+        Some(5),
+        Some(6),
+        Some(7),
+    ];
+    check_slots(&rt, &index, slots);
+    Ok(())
+}
+
+/// Scans a block, again where memory was refused: until then as many blocks are left as before.
 fn scan_in_the_end(rt: &impl Abort, alloc: Global, query: &mut Query, store: &Store) -> u32
     requires { NextIsNew query.old store.now.slots }
 {
@@ -91,7 +131,7 @@ fn scan_in_the_end(rt: &impl Abort, alloc: Global, query: &mut Query, store: &St
     }
 }
 
-/// The answer, asked for once more where memory was refused.
+/// The answer, asked for again where memory was refused.
 fn answer_in_the_end(rt: &impl Abort, alloc: Global, query: &Query) -> Vec<Ranked> {
     match query.answer(alloc) {
         Ok(ranked) => ranked,
@@ -166,7 +206,7 @@ fn is_whole(
     Ok(!part.stopped)
 }
 
-/// Plays a run, once more where it was stopped.
+/// Plays a run, again where it was stopped.
 fn check_run<E: Fn() -> Result<Vec<Event>, Fail>>(
     rt: &impl Abort,
     alloc: Global,

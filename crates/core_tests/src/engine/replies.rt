@@ -37,7 +37,7 @@ fn a_refusal_is_a_reply(rt: HostRuntime) -> Result<(), Fail> {
     })
 }
 
-/// How many levels the ask of a begin that is handed back wants, or none.
+/// How many levels the ask of a begin that is handed back asks for, or none.
 fn cut_handed_back(event: &Event) -> Option<u32> {
     match &event.act {
         Act::Begin(ask) => Some(ask.cut()),

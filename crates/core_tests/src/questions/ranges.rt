@@ -4,7 +4,7 @@ use crate::same::assert_same;
 use pref_term::{Relation, TermFault};
 use std::test::Fail;
 
-/// Told at the right end, when its digits are read; a number out of range is told before.
+/// Reported at the right end, when its digits are read; a number out of range is reported before.
 #[test]
 fn an_empty_range_is_told_at_its_right_end(rt: HostRuntime) {
     let cases = [

@@ -12,7 +12,7 @@ fn columns(alloc: Global) -> Result<Schema, Fail> {
     Ok(Schema::new(alloc, names.as_slice())?)
 }
 
-/// A question that is read, once more where memory was refused.
+/// A question that is read, again where memory was refused.
 fn read_in_the_end(rt: &impl Abort, alloc: Global, schema: &Schema, question: &[u8]) -> Ask {
     match read_ask(alloc, schema, question) {
         Ok(ask) => ask,

@@ -2,6 +2,7 @@
 ghost use Rattle.std.specs.Prelude.{◌≡◌, ◌++◌, IfOk};
 ghost use Rattle.pref_sky.specs.Levels.{HaveDifferentIds, entry_order, levels};
 
+use super::answers::ask_of;
 use super::fixtures::{LowBoth, LowInGroup, LowOnce, PAIRS, falling, numbered, places_of};
 use super::plain::add_plainly;
 use crate::same::assert_same_list;
@@ -45,9 +46,9 @@ fn check_every_cutting<D: Dominance>(
     for at in 0..=entries.len() {
         let (front, back) = entries.split_at(at);
         let (partial, plain) = added_in_two(alloc, dominance, cut, front, back)?;
-        let held = partial.as_slice();
-        assert_same_list(rt, ("plain, cut at", at), held, plain.as_slice());
-        assert_same_list(rt, ("whole, cut at", at), held, whole.as_slice());
+        let held = partial.ranked(alloc)?;
+        assert_same_list(rt, ("plain, cut at", at), &held, plain.as_slice());
+        assert_same_list(rt, ("whole, cut at", at), &held, whole.as_slice());
     }
     Ok(())
 }
@@ -94,4 +95,42 @@ fn of_twins_the_one_with_the_least_id_stays(rt: HostRuntime) -> Result<(), Fail>
     check_every_cutting(&rt, alloc, &LowOnce, 1, &entries, &[(1, 1)])?;
     let places = [(1, 1), (2, 2), (3, 4), (4, 3), (5, 5)];
     check_every_cutting(&rt, alloc, &LowOnce, 5, &entries, &places)
+}
+
+/// Enough rows for signatures: each of twenty comes twice, and more than half are on the three levels.
+#[test]
+fn three_levels_of_forty_rows(rt: HostRuntime) -> Result<(), Fail> {
+    let alloc = rt.alloc();
+    let mut rows = Vec::with_capacity(alloc, 40)?;
+    for i in 0..40_u32 {
+        let twin = i % 20;
+        rows.push((i64::from(twin * 7 % 19), i64::from((twin * 3 + 3) % 17)))?;
+    }
+    let entries = numbered(alloc, &rows)?;
+    let ask = ask_of(alloc, b"top_level 3 low(x) * low(y)")?;
+    let places = [
+        (1, 1),
+        (1, 6),
+        (1, 12),
+        (1, 17),
+        (1, 21),
+        (1, 26),
+        (1, 32),
+        (1, 37),
+        (2, 7),
+        (2, 18),
+        (2, 20),
+        (2, 27),
+        (2, 38),
+        (2, 40),
+        (3, 2),
+        (3, 4),
+        (3, 13),
+        (3, 15),
+        (3, 22),
+        (3, 24),
+        (3, 33),
+        (3, 35),
+    ];
+    check_every_cutting(&rt, alloc, &ask, 3, &entries, &places)
 }

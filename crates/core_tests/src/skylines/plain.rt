@@ -10,7 +10,7 @@ use pref_sky::{Entry, Partial, Ranked, levels};
 use pref_term::Dominance;
 use std::alloc::{AllocError, Global};
 
-/// Whether some entry of the list is over this one, or its twin with a smaller id.
+/// Whether some entry of the list dominates this one, or is its twin with a smaller id.
 fn is_beaten<D: Dominance>(dominance: &D, entries: &[Entry], entry: &Entry) -> bool
     ensures { result ≡ is_beaten (entry_order (D.order dominance.now)) entries.now entry.now }
 {
@@ -67,7 +67,8 @@ pub(crate) fn add_plainly<D: Dominance>(
         (before : List Entry) → HaveDifferentIds (before ++ entries.now) → partial.now ≡ levels over before cut
         → ranked.items ≡ levels over (before ++ entries.now) cut) }
 {
-    let mut all = without_levels(alloc, partial.as_slice())?;
+    let held = partial.ranked(alloc)?;
+    let mut all = without_levels(alloc, &held)?;
     all.extend_from_slice(entries)?;
     levels(alloc, dominance, window, cut, &all)
 }

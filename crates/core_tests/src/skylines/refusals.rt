@@ -6,7 +6,7 @@ ghost use Rattle.pref_sky.specs.declared.entry.Entry.{Entry};
 
 use super::answers::ask_of;
 use super::cuttings::added_in_two;
-use super::fixtures::{LowBoth, PAIRS, numbered, places_of};
+use super::fixtures::{LowBoth, LowOnce, PAIRS, falling, numbered, places_of};
 use crate::same::{assert_same, assert_same_list};
 use pref_sky::{Entry, Partial, Ranked, answer, levels};
 use pref_term::Dominance;
@@ -14,7 +14,28 @@ use std::alloc::Global;
 use std::process::Abort;
 use std::test::Fail;
 
-/// Adds entries, once more where it was refused: until then what is held must be as before.
+/// Adds entries that were refused before, when what is held must have stayed: now they are not.
+fn add_again<D: Dominance>(
+    rt: &impl Abort,
+    alloc: Global,
+    dominance: &D,
+    partial: &mut Partial,
+    held: &[Ranked],
+    entries: &[Entry],
+) -> Result<(), Fail>
+    requires { HaveDifferentIds (map entry_of partial.old ++ entries.now) }
+    ensures { OnOk result ((before : List Entry) → HaveDifferentIds (before ++ entries.now)
+        → partial.old ≡ levels (entry_order (D.order dominance.now)) before 2
+        → partial.new ≡ levels (entry_order (D.order dominance.now)) (before ++ entries.now) 2) }
+{
+    assert_same_list(rt, "refused", &partial.ranked(alloc)?, held);
+    let again = partial.add(alloc, dominance, 1, 2, entries);
+    assert_same(rt, "again", &again.is_ok(), &true);
+    again?;
+    Ok(())
+}
+
+/// Adds entries, again where it was refused: until then what is held must be as before.
 fn add_in_the_end<D: Dominance>(
     rt: &impl Abort,
     alloc: Global,
@@ -28,22 +49,21 @@ fn add_in_the_end<D: Dominance>(
         → partial.old ≡ levels (entry_order (D.order dominance.now)) before 2
         → partial.new ≡ levels (entry_order (D.order dominance.now)) (before ++ entries.now) 2) }
 {
-    assert_same_list(rt, "before", partial.as_slice(), held);
-    if partial.add(alloc, dominance, 1, 2, entries).is_err() {
-        assert_same_list(rt, "refused", partial.as_slice(), held);
-        let again = partial.add(alloc, dominance, 1, 2, entries);
-        assert_same(rt, "again", &again.is_ok(), &true);
-        again?;
+    assert_same_list(rt, "before", &partial.ranked(alloc)?, held);
+    match partial.add(alloc, dominance, 1, 2, entries) {
+        Ok(()) => Ok(()),
+        Err(_) => add_again(rt, alloc, dominance, partial, held, entries),
     }
-    Ok(())
 }
 
+/// Adds entries in two pieces, each again where it was refused: then it holds the first two levels of all.
 fn check_refused<D: Dominance>(
     rt: &impl Abort,
     alloc: Global,
     dominance: &D,
     front: &[Entry],
     back: &[Entry],
+    both: &[Ranked],
 ) -> Result<(), Fail>
     requires { HaveDifferentIds (front.now ++ back.now) }
 {
@@ -51,7 +71,7 @@ fn check_refused<D: Dominance>(
     let mut partial = Partial::empty();
     add_in_the_end(rt, alloc, dominance, &mut partial, &[], front)?;
     add_in_the_end(rt, alloc, dominance, &mut partial, &first, back)?;
-    assert_same(rt, "both", &partial.as_slice().len(), &4);
+    assert_same_list(rt, "both", &partial.ranked(alloc)?, both);
     Ok(())
 }
 
@@ -60,8 +80,20 @@ fn a_refused_add_changes_nothing_and_is_made_again(rt: HostRuntime) -> Result<()
     let alloc = rt.alloc();
     let rows = [(5, 5), (9, 1), (7, 7), (8, 8), (1, 9), (4, 5), (9, 9)];
     let entries = numbered(alloc, &rows)?;
+    let both = levels(alloc, &LowBoth, 1, 2, &entries)?;
     let (front, back) = entries.as_slice().split_at(entries.len().min(4));
-    check_refused(&rt, alloc, &LowBoth, front, back)
+    check_refused(&rt, alloc, &LowBoth, front, back, &both)
+}
+
+/// The twin that stays comes in the second piece.
+#[test]
+fn a_refused_add_of_twins_changes_nothing_and_is_made_again(rt: HostRuntime) -> Result<(), Fail> {
+    let alloc = rt.alloc();
+    let rows = [(5, 1), (7, 1), (5, 2), (7, 2), (5, 3), (7, 3)];
+    let entries = falling(alloc, &rows)?;
+    let both = levels(alloc, &LowOnce, 1, 2, &entries)?;
+    let (front, back) = entries.as_slice().split_at(entries.len().min(3));
+    check_refused(&rt, alloc, &LowOnce, front, back, &both)
 }
 
 #[test]
@@ -71,11 +103,11 @@ fn a_refused_answer_changes_nothing_and_is_made_again(rt: HostRuntime) -> Result
     let entries = numbered(alloc, &PAIRS)?;
     let (front, back) = entries.as_slice().split_at(entries.len().min(4));
     let (partial, _) = added_in_two(alloc, &ask, ask.cut(), front, back)?;
-    let held = Vec::from_slice(alloc, partial.as_slice())?;
+    let held = partial.ranked(alloc)?;
     let ranked = match answer(alloc, &ask, &partial) {
         Ok(ranked) => ranked,
         Err(_) => {
-            assert_same_list(&rt, "refused", partial.as_slice(), held.as_slice());
+            assert_same_list(&rt, "refused", &partial.ranked(alloc)?, &held);
             answer(alloc, &ask, &partial).expect(&rt, "memory")
         }
     };

@@ -82,7 +82,7 @@ fn many_ties_by_windows_of_every_size(rt: HostRuntime) -> Result<(), Fail> {
     Ok(())
 }
 
-/// By y all three are the same, so the window takes the first two, of which the second is over the first by x.
+/// By y all three are the same, so the window takes the first two, of which the second dominates the first by x.
 #[test]
 fn an_offer_by_another_order(rt: HostRuntime) -> Result<(), Fail> {
     let alloc = rt.alloc();

@@ -1,0 +1,5 @@
+use Rattle.share_tests.proofs.reports.a_query_goes_on_in_another_run.Given as goal
+
+-- the board that is opened
+abbrev pub ghosts-two_runs : goal.ghosts-two_runs
+ghosts-two_runs g a = record { book = a.name.seen.book; opening = record { limits = a.setup; rows = a.rows.now } }

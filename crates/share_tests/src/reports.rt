@@ -1,0 +1,167 @@
+//! Clients that stopped or did all their acts, and went on in another run of the same board.
+
+ghost use Rattle.std.specs.Prelude.{◌≡◌};
+
+use crate::acts::{Does, acts_of, columns, replies_text, rows, setup};
+use crate::boards::Open;
+use crate::same::assert_same;
+use pref_core::{Act, Setup};
+use pref_share::{Board, Client, Gate, Name, Naming, Report, open_board, run_each};
+use pref_table::Row;
+use std::alloc::Global;
+use std::marker::Brand;
+use std::process::Abort;
+use std::sync::Wait;
+use std::test::Fail;
+use std::thread::Threads;
+
+/// Holds one client at one turn.
+#[derive(Drop)]
+struct HoldsAt {
+    held: u8,
+    at: usize,
+}
+
+impl Gate for HoldsAt {
+    ghost use Rattle.std.specs.Prelude.{◌≡◌};
+
+    ghost may_hold = { λ gate client turn. (client ≡ gate.held) × (turn ≡ gate.at) };
+
+    fn before(&self, client: u8, turn: usize) -> bool {
+        client != self.held || turn != self.at
+    }
+
+    fn after(&self, _client: u8, _turn: usize) {}
+}
+
+/// Adds the replies of a report to a text, and why its client stopped; gives the client.
+fn client_of<J: Naming>(
+    alloc: Global,
+    text: &mut String,
+    report: Report<J>,
+) -> Result<Client<J>, Fail> {
+    let Report {
+        client,
+        replies,
+        stopped,
+    } = report;
+    text.push_str(replies_text(alloc, &replies)?.as_str())?;
+    if let Some(fault) = stopped {
+        text.push_str(format!(in alloc; "{fault} / ")?.as_str())?;
+    }
+    Ok(client)
+}
+
+/// Runs acts of clients, adds what is reported to a text, and gives the clients.
+fn run<J: Naming + Send + Sync, R: Threads + Wait + Abort + Sync, G: Gate + Sync>(
+    rt: &R,
+    alloc: Global,
+    board: &Board<J>,
+    clients: Vec<Client<J>>,
+    acts: Vec<Vec<Act>>,
+    gate: &G,
+    text: &mut String,
+) -> Result<Vec<Client<J>>, Fail> {
+    if acts.len() != clients.len() {
+        panic!(rt; "there is a list for each");
+    }
+    let mut back = Vec::new(alloc);
+    for report in run_each(rt, alloc, board, clients, acts, gate)? {
+        back.push(client_of(alloc, text, report)?)?;
+    }
+    Ok(back)
+}
+
+/// What is reported of a run, and of a second one of the same clients, which no gate holds.
+fn run_twice<J: Naming + Send + Sync, R: Threads + Wait + Abort + Sync, G: Gate + Sync>(
+    rt: &R,
+    alloc: Global,
+    board: &Board<J>,
+    clients: Vec<Client<J>>,
+    first: Vec<Vec<Act>>,
+    second: Vec<Vec<Act>>,
+    gate: &G,
+) -> Result<String, Fail> {
+    let mut text = String::new(alloc);
+    let clients = run(rt, alloc, board, clients, first, gate, &mut text)?;
+    run(rt, alloc, board, clients, second, &Open, &mut text)?;
+    Ok(text)
+}
+
+/// The same on a new board.
+fn two_runs<J: Naming + Send + Sync, R: Threads + Wait + Abort + Sync, G: Gate + Sync>(
+    rt: &R,
+    alloc: Global,
+    name: Name,
+    setup: Setup,
+    rows: &[Row],
+    first: Vec<Vec<Act>>,
+    second: Vec<Vec<Act>>,
+    gate: &G,
+) -> Result<String, Fail>
+    requires book { name.seen.book ≡ J.book }
+    requires opening { J.opening ≡ record { limits = setup; rows = rows.now } }
+{
+    let (board, clients) = open_board::<J, R>(rt, alloc, name, setup, rows)?;
+    let text = run_twice(rt, alloc, &board, clients, first, second, gate);
+    board.close(rt);
+    text
+}
+
+fn lists_of(alloc: Global, first: &[Does], second: &[Does]) -> Result<Vec<Vec<Act>>, Fail> {
+    let schema = columns(alloc)?;
+    let mut lists = Vec::new(alloc);
+    lists.push(acts_of(alloc, &schema, first)?)?;
+    lists.push(acts_of(alloc, &schema, second)?)?;
+    Ok(lists)
+}
+
+#[test]
+fn held_clients_come_back(rt: HostRuntime) -> Result<(), Fail> {
+    let alloc = rt.alloc();
+    let opening = rows(alloc, &[3])?;
+    let setup = setup(2, 4, 4)?;
+    let first = lists_of(
+        alloc,
+        &[Does::Updates(1, 5)],
+        &[Does::AsksRoom, Does::Gets(1)],
+    )?;
+    let second = lists_of(alloc, &[], &[Does::Gets(1), Does::Deletes(1)])?;
+    let gate = HoldsAt { held: 2, at: 1 };
+    let text = two_runs::<Brand, _, _>(
+        &rt,
+        alloc,
+        Name::new(),
+        setup,
+        &opening,
+        first,
+        second,
+        &gate,
+    )?;
+    let wanted = "updated 1 / room 3 / held client 2 / row 1: 5 / deleted 1 / ";
+    assert_same(&rt, "client 2 is held", &text.as_str(), &wanted);
+    Ok(())
+}
+
+#[test]
+fn a_query_goes_on_in_another_run(rt: HostRuntime) -> Result<(), Fail> {
+    let alloc = rt.alloc();
+    let opening = rows(alloc, &[3])?;
+    let setup = setup(2, 4, 4)?;
+    let first = lists_of(alloc, &[Does::Begins, Does::Scans], &[Does::Gets(2)])?;
+    let second = lists_of(alloc, &[Does::Finishes], &[Does::Updates(1, 5)])?;
+    let text = two_runs::<Brand, _, _>(
+        &rt,
+        alloc,
+        Name::new(),
+        setup,
+        &opening,
+        first,
+        second,
+        &Open,
+    )?;
+    let wanted =
+        "begun 1 / left 0 / refused: no such row 2 / answer level 1 id 1: 3 / updated 1 / ";
+    assert_same(&rt, "client 1 asks", &text.as_str(), &wanted);
+    Ok(())
+}
