@@ -7,8 +7,8 @@ use borrow.Author.Count.{below_more}
 use Rattle.std.specs.List.{concat, position_or_len}
 use Rattle.prefq.specs.Hearing.{IsBlock}
 use Rattle.prefq.specs.Live.{EndsWithLine}
-use Rattle.prefq.specs.ReadAhead.{IsLineAt, ReadBehind, between, has_ended, unread}
-use Rattle.prefq.specs.Script.{is_end, is_table, parts_of, raw_lines}
+use Rattle.prefq.specs.ReadAhead.{IsLineAt, ReadBehind, between, is_at_end, unread}
+use Rattle.prefq.specs.Script.{is_end_line, is_table_line, parts_of, raw_lines}
 use Rattle.prefq.specs.declared.fault.RunFault.TheVariants.{NoEnd, NoTable}
 use Rattle.prefq.specs.declared.read_ahead.ReadAhead.{ReadAhead}
 use Rattle.prefq.proofs.LineFacts.{ends_more, front_is, front_more, line_at, same_front}
@@ -19,13 +19,13 @@ pub record BlockLines (text : List ℕ) (start count : ℕ) : Type 0 where
   pub first : List ℕ
   pub rest : List (List ℕ)
   pub lines : raw_lines text ≡ first ∷ rest
-  pub is_first : is_table first ≡ true
-  pub others : (k : ℕ) → k < length rest → is_end (get_or rest k []) ≡ false
+  pub is_first : is_table_line first ≡ true
+  pub others : (k : ℕ) → k < length rest → is_end_line (get_or rest k []) ≡ false
   pub counted : length rest ≡ count
   pub text_is : text ≡ first ++ concat rest
   pub front : length first ≡ start
 
-block_first : (line : List ℕ) (start : ℕ) → length line ≡ start → raw_lines line ≡ line ∷ [] → is_table line ≡ true → BlockLines line start 0
+block_first : (line : List ℕ) (start : ℕ) → length line ≡ start → raw_lines line ≡ line ∷ [] → is_table_line line ≡ true → BlockLines line start 0
 block_first line start size one is = record {
   first = line;
   rest = [];
@@ -42,12 +42,12 @@ last_of : (lines : List (List ℕ)) (line : List ℕ) → get_or (lines ++ line 
 last_of [] line = refl
 last_of (first ∷ rest) line = last_of rest line
 
-block_more : (text line : List ℕ) (start count : ℕ) → BlockLines text start count → EndsWithLine text → raw_lines line ≡ line ∷ [] → is_end line ≡ false → BlockLines (text ++ line) start (count + 1)
+block_more : (text line : List ℕ) (start count : ℕ) → BlockLines text start count → EndsWithLine text → raw_lines line ≡ line ∷ [] → is_end_line line ≡ false → BlockLines (text ++ line) start (count + 1)
 block_more text line start count block ends one other =
     let rest = block.rest ++ line ∷ [] in
     let size : length rest ≡ length block.rest + 1 = length-append block.rest (line ∷ []) in
-    let below : (k : ℕ) → k < length block.rest + 1 → is_end (get_or rest k []) ≡ false =
-    below_more (λ (k : ℕ). is_end (get_or rest k []) ≡ false) (length block.rest) (λ k h. ap is_end (get_or_append_left block.rest (line ∷ []) [] k h) ∙ block.others k h) (ap is_end (last_of block.rest line) ∙ other) in
+    let below : (k : ℕ) → k < length block.rest + 1 → is_end_line (get_or rest k []) ≡ false =
+    below_more (λ (k : ℕ). is_end_line (get_or rest k []) ≡ false) (length block.rest) (λ k h. ap is_end_line (get_or_append_left block.rest (line ∷ []) [] k h) ∙ block.others k h) (ap is_end_line (last_of block.rest line) ∙ other) in
     record {
       first = block.first;
       rest = rest;
@@ -60,14 +60,14 @@ block_more text line start count block ends one other =
     }
 
 -- the table text of a block, whose line `end` comes now
-block_found : (text line : List ℕ) (start count : ℕ) → BlockLines text start count → EndsWithLine text → raw_lines line ≡ line ∷ [] → is_end line ≡ true
+block_found : (text line : List ℕ) (start count : ℕ) → BlockLines text start count → EndsWithLine text → raw_lines line ≡ line ∷ [] → is_end_line line ≡ true
     → parts_of (raw_lines (text ++ line)) ≡ Ok (record { table = drop start text; commands = []; first = count + 3 })
 block_found text line start count block ends one is_last =
     let rest = block.rest ++ line ∷ [] in
     let all : raw_lines (text ++ line) ≡ block.first ∷ rest = ends line ∙ ap (λ (t : List (List ℕ)). t ++ raw_lines line) block.lines ∙ ap (λ (t : List (List ℕ)). (block.first ∷ block.rest) ++ t) one in
     let size : length rest ≡ length block.rest + 1 = length-append block.rest (line ∷ []) in
-    let place : position_or_len is_end rest ≡ length block.rest =
-    position_or_len_is is_end rest (length block.rest) [] (omega (arith, size)) (λ k h. ap is_end (get_or_append_left block.rest (line ∷ []) [] k h) ∙ block.others k h) (λ h. ap is_end (last_of block.rest line) ∙ is_last) in
+    let place : position_or_len is_end_line rest ≡ length block.rest =
+    position_or_len_is is_end_line rest (length block.rest) [] (omega (arith, size)) (λ k h. ap is_end_line (get_or_append_left block.rest (line ∷ []) [] k h) ∙ block.others k h) (λ h. ap is_end_line (last_of block.rest line) ∙ is_last) in
     let inside = lt-ltb (length block.rest) (length rest) (omega (arith, size)) in
     let before : take (length block.rest) rest ≡ block.rest = take-append-le (length block.rest) block.rest (line ∷ []) (omega arith) ∙ take_all (length block.rest) block.rest (omega arith) in
     let after : drop (length block.rest + 1) rest ≡ [] = drop_all (length block.rest + 1) rest (omega (arith, size)) in
@@ -79,12 +79,12 @@ block_found text line start count block ends one is_last =
 -- a text without a line `end`
 block_none : (text : List ℕ) (start count : ℕ) → BlockLines text start count → parts_of (raw_lines text) ≡ Err NoEnd
 block_none text start count block =
-    let place : position_or_len is_end block.rest ≡ length block.rest = position_or_len_is is_end block.rest (length block.rest) [] (omega arith) block.others (λ h. absurd (omega (arith, h))) in
+    let place : position_or_len is_end_line block.rest ≡ length block.rest = position_or_len_is is_end_line block.rest (length block.rest) [] (omega arith) block.others (λ h. absurd (omega (arith, h))) in
     let over = le-ltb (length block.rest) (length block.rest) (omega arith) in
     ap parts_of block.lines ∙ rw (block.is_first, place, over) refl
 
 -- a text without a line `table`
-no_table : (text line : List ℕ) (more : List (List ℕ)) → raw_lines text ≡ line ∷ more → is_table line ≡ false → parts_of (raw_lines text) ≡ Err NoTable
+no_table : (text line : List ℕ) (more : List (List ℕ)) → raw_lines text ≡ line ∷ more → is_table_line line ≡ false → parts_of (raw_lines text) ≡ Err NoTable
 no_table text line more first other = ap parts_of first ∙ rw other refl
 
 -- up to a place of what was read stands the beginning of a table block
@@ -93,9 +93,9 @@ pub record BlockAt (ahead : ReadAhead) (start stop count : ℕ) : Type 0 where
   pub few : start + count ≤ stop
   pub most : stop ≤ 16777216
   pub block : BlockLines (take stop (unread ahead)) start count
-  pub lines : EndsWithLine (take stop (unread ahead)) ⊎ (has_ended ahead ≡ true) × (stop ≡ length (unread ahead))
+  pub lines : EndsWithLine (take stop (unread ahead)) ⊎ (is_at_end ahead ≡ true) × (stop ≡ length (unread ahead))
 
-pub block_open : (ahead : ReadAhead) (start : ℕ) → 0 < start → start ≤ length (unread ahead) → start ≤ 16777216 → IsLineAt 0 start ahead → is_table (take start (unread ahead)) ≡ true → BlockAt ahead start start 0
+pub block_open : (ahead : ReadAhead) (start : ℕ) → 0 < start → start ≤ length (unread ahead) → start ≤ 16777216 → IsLineAt 0 start ahead → is_table_line (take start (unread ahead)) ≡ true → BlockAt ahead start start 0
 block_open ahead start some inside most line is =
     let at = rw (front_is start (unread ahead)) at (line_at ahead 0 start line some) in
     record {
@@ -107,7 +107,7 @@ block_open ahead start some inside most line is =
     }
 
 -- the input has no line `table`
-pub table_missing : (ahead : ReadAhead) (start : ℕ) → start ≤ length (unread ahead) → IsLineAt 0 start ahead → is_table (take start (unread ahead)) ≡ false → parts_of (raw_lines (unread ahead)) ≡ Err NoTable
+pub table_missing : (ahead : ReadAhead) (start : ℕ) → start ≤ length (unread ahead) → IsLineAt 0 start ahead → is_table_line (take start (unread ahead)) ≡ false → parts_of (raw_lines (unread ahead)) ≡ Err NoTable
 table_missing ahead start inside (inl (some, whole)) other =
     let first = rw (front_is start (unread ahead)) at whole in
     no_table (unread ahead) (take start (unread ahead)) (raw_lines (drop start (unread ahead))) (ap raw_lines (sym (take-append-drop start (unread ahead))) ∙ first (drop start (unread ahead))) other
@@ -120,7 +120,7 @@ table_missing ahead start inside (inr (ended, all, last)) other =
     by (x ∷ xs) some =
         let whole : between 0 start (unread ahead) ≡ unread ahead = front_is start (unread ahead) ∙ take_all start (unread ahead) (omega (arith, all)) in
         let here = rw whole at (last (omega (arith, all, ap length some))) in
-        no_table (unread ahead) (unread ahead) [] here (ap is_table (sym (take_all start (unread ahead) (omega (arith, all)))) ∙ other)
+        no_table (unread ahead) (unread ahead) [] here (ap is_table_line (sym (take_all start (unread ahead) (omega (arith, all)))) ∙ other)
 
 pub input_missing : (ahead : ReadAhead) → IsLineAt 0 0 ahead → parts_of (raw_lines (unread ahead)) ≡ Err NoTable
 input_missing ahead (inl (some, whole)) = absurd (omega arith)
@@ -133,14 +133,14 @@ ends_before had left old new start stop count end so_far read some inside = elim
   | inr last ↦ absurd (over last)
 ]
   where
-    over : (has_ended old ≡ true) × (stop ≡ length (unread old)) → ⊥
+    over : (is_at_end old ≡ true) × (stop ≡ length (unread old)) → ⊥
     over (ended, all) =
         let (none, still) = read.no_more ended in
         let same : unread new ≡ unread old = read.behind ∙ ap (λ (t : List ℕ). unread old ++ t) none ∙ append-nil (unread old) in
         omega (arith, some, inside, all, ap length same)
 
 pub block_next : (had left : Option (List ℕ)) (old new : ReadAhead) (start stop count end : ℕ) → BlockAt old start stop count → ReadBehind had left old new → IsLineAt stop end new → stop < end → end ≤ length (unread new) → end ≤ 16777216
-    → is_end (between stop end (unread new)) ≡ false → BlockAt new start end (count + 1)
+    → is_end_line (between stop end (unread new)) ≡ false → BlockAt new start end (count + 1)
 block_next had left old new start stop count end so_far read line some inside most other =
     let text = take stop (unread new) in
     let ends = ends_before had left old new start stop count end so_far read some inside in
@@ -157,7 +157,7 @@ block_next had left old new start stop count end so_far read line some inside mo
 
 -- the line `end` is met
 pub block_end : (had left : Option (List ℕ)) (old new : ReadAhead) (start stop count end : ℕ) → BlockAt old start stop count → ReadBehind had left old new → IsLineAt stop end new → stop < end → end ≤ length (unread new)
-    → is_end (between stop end (unread new)) ≡ true → IsBlock (record { start = start; stop = stop; end = end; first = count + 3 }) new
+    → is_end_line (between stop end (unread new)) ≡ true → IsBlock (record { start = start; stop = stop; end = end; first = count + 3 }) new
 block_end had left old new start stop count end so_far read line some inside is_last =
     let text = take stop (unread new) in
     let ends = ends_before had left old new start stop count end so_far read some inside in

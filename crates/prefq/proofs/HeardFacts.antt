@@ -10,15 +10,15 @@ use Rattle.std.specs.List.{position_or_len}
 use Rattle.std.specs.Prelude.{IsOk}
 use Rattle.pref_core.specs.Limits.{Limits}
 use Rattle.pref_core.specs.Step.{opened}
-use Rattle.prefq.specs.Commands.{Command, commands_in, commands_of, events_of}
+use Rattle.prefq.specs.Commands.{Command, accepted_events, commands_in, commands_of}
 use Rattle.prefq.specs.Hearing.{HeardScript, Hears}
 use Rattle.prefq.specs.Live.{EndsWithLine, NoneLeft, RanLive, StopsEarly, TellsNext}
-use Rattle.prefq.specs.LiveTable.{Tells, names_of, number_of}
-use Rattle.prefq.specs.Output.{output, output_of, script_of, told}
+use Rattle.prefq.specs.LiveTable.{TellsLine, names_of, next_number}
+use Rattle.prefq.specs.Output.{command_lines, output, output_of, script_of}
 use Rattle.prefq.specs.Playing.{told_from}
-use Rattle.prefq.specs.ReadAhead.{ReadSome, between, has_ended, unread}
+use Rattle.prefq.specs.ReadAhead.{ReadSome, between, is_at_end, unread}
 use Rattle.prefq.specs.Run.{Sink, Source, WroteAll, WroteBeginning}
-use Rattle.prefq.specs.Script.{Parts, is_end, is_table, line_of, parts_of, raw_lines}
+use Rattle.prefq.specs.Script.{Parts, is_end_line, is_table_line, parts_of, raw_lines, without_line_end}
 use Rattle.prefq.specs.declared.fault.RunFault.{RunFault}
 use Rattle.prefq.specs.declared.fault.RunFault.TheVariants as fault
 use Rattle.prefq.specs.declared.live_table.LiveTable.{LiveTable}
@@ -33,47 +33,47 @@ with_lines more parts = Ok (record { table = parts.table; commands = parts.comma
 pub parts_more : (lines more : List (List ℕ)) (parts : Parts) → parts_of lines ≡ Ok parts → parts_of (lines ++ more) ≡ Ok (record { table = parts.table; commands = parts.commands ++ more; first = parts.first })
 unfolding with_lines
 parts_more [] more parts h = absurd (cc)
-parts_more (first ∷ rest) more parts h = by (is_table first) (nat_lt (position_or_len is_end rest) (length rest)) refl refl
+parts_more (first ∷ rest) more parts h = by (is_table_line first) (nat_lt (position_or_len is_end_line rest) (length rest)) refl refl
   where
-    by : (table end : Bool) → is_table first ≡ table → nat_lt (position_or_len is_end rest) (length rest) ≡ end
+    by : (table end : Bool) → is_table_line first ≡ table → nat_lt (position_or_len is_end_line rest) (length rest) ≡ end
         → parts_of (first ∷ (rest ++ more)) ≡ Ok (record { table = parts.table; commands = parts.commands ++ more; first = parts.first })
     by false end t e = absurd (let no = rw t at h in cc)
     by true false t e = absurd (let no = rw (t, e) at h in cc)
     by true true t e =
         let is = rw (t, e) at h in
-        let place = position_or_len is_end rest in
+        let place = position_or_len is_end_line rest in
         let inside : place < length rest = ltb-true place (length rest) e in
-        let same : position_or_len is_end (rest ++ more) ≡ place = position_or_len_is is_end (rest ++ more) place [] (omega (arith, inside, length-append rest more))
-        (λ k before. ap is_end (get_or_append_left rest more [] k (omega (arith, before, inside))) ∙ fails_before_first is_end rest k [] before)
-        (λ there. ap is_end (get_or_append_left rest more [] place inside) ∙ passes_at_first is_end rest [] inside) in
+        let same : position_or_len is_end_line (rest ++ more) ≡ place = position_or_len_is is_end_line (rest ++ more) place [] (omega (arith, inside, length-append rest more))
+        (λ k before. ap is_end_line (get_or_append_left rest more [] k (omega (arith, before, inside))) ∙ fails_before_first is_end_line rest k [] before)
+        (λ there. ap is_end_line (get_or_append_left rest more [] place inside) ∙ passes_at_first is_end_line rest [] inside) in
         let longer = lt-ltb place (length (rest ++ more)) (omega (arith, inside, length-append rest more)) in
         let before : take place (rest ++ more) ≡ take place rest = take-append-le place rest more (omega (arith, inside)) in
         let after : drop (place + 1) (rest ++ more) ≡ drop (place + 1) rest ++ more = drop-append-le (place + 1) rest more (omega (arith, inside)) in
         rw (t, same, longer, before, after) (ap (with_lines more) (let e : _ ≡ parts = cc in e))
 
 -- the commands of some lines, and of one line more
-pub commands_more : (names : List (List ℕ)) (number : ℕ) (lines : List (List ℕ)) (line : List ℕ) → commands_of names number (lines ++ line ∷ []) ≡ commands_of names number lines ++ commands_in names (number + length lines) (line_of line)
+pub commands_more : (names : List (List ℕ)) (number : ℕ) (lines : List (List ℕ)) (line : List ℕ) → commands_of names number (lines ++ line ∷ []) ≡ commands_of names number lines ++ commands_in names (number + length lines) (without_line_end line)
 unfolding commands_of
-commands_more names number [] line = append-nil (commands_in names number (line_of line)) ∙ ap (λ (n : ℕ). commands_in names n (line_of line)) (sym (add-zero number))
+commands_more names number [] line = append-nil (commands_in names number (without_line_end line)) ∙ ap (λ (n : ℕ). commands_in names n (without_line_end line)) (sym (add-zero number))
 commands_more names number (x ∷ xs) line =
     let next : number + 1 + length xs ≡ number + suc (length xs) = omega arith in
-    ap (λ (t : List Command). commands_in names number (line_of x) ++ t) (commands_more names (number + 1) xs line)
-    ∙ sym (append_assoc (commands_in names number (line_of x)) (commands_of names (number + 1) xs) (commands_in names (number + 1 + length xs) (line_of line)))
-    ∙ ap (λ (n : ℕ). (commands_in names number (line_of x) ++ commands_of names (number + 1) xs) ++ commands_in names n (line_of line)) next
+    ap (λ (t : List Command). commands_in names number (without_line_end x) ++ t) (commands_more names (number + 1) xs line)
+    ∙ sym (append_assoc (commands_in names number (without_line_end x)) (commands_of names (number + 1) xs) (commands_in names (number + 1 + length xs) (without_line_end line)))
+    ∙ ap (λ (n : ℕ). (commands_in names number (without_line_end x) ++ commands_of names (number + 1) xs) ++ commands_in names n (without_line_end line)) next
 
 -- one line more was told
 pub heard_more : (limits : Limits) (heard line : List ℕ) (live after : LiveTable) (text new : List ℕ) → HeardScript limits heard live text → raw_lines (heard ++ line) ≡ raw_lines heard ++ line ∷ []
-    → Tells live (line_of line) [] new after → HeardScript limits (heard ++ line) after (text ++ new)
+    → TellsLine live (without_line_end line) [] new after → HeardScript limits (heard ++ line) after (text ++ new)
 heard_more limits heard line live after text new so_far lines tells =
     let names = names_of live in
     let width = length names in
     let first = so_far.parts.first in
     let table = so_far.parts.commands in
-    let said = commands_in names (number_of live) (line_of line) in
+    let said = commands_in names (next_number live) (without_line_end line) in
     let commands = commands_of names first table in
     let one = tells.plays.plays so_far.next so_far.stands in
     let all : commands_of names first (table ++ line ∷ []) ≡ commands ++ said =
-    commands_more names first table line ∙ ap (λ (n : ℕ). commands ++ commands_in names n (line_of line)) (sym so_far.number) in
+    commands_more names first table line ∙ ap (λ (n : ℕ). commands ++ commands_in names n (without_line_end line)) (sym so_far.number) in
     let goes_on : (more : List Command) → (text ++ new) ++ told_from limits width one.next more ≡ told_from limits width (opened limits so_far.rows) (commands_of names first (table ++ line ∷ []) ++ more) = λ more.
     let step = subst (λ (l : Limits). new ++ told_from l width one.next more ≡ told_from l width so_far.next (said ++ more)) so_far.bounds (one.goes_on more) in
     append_assoc text new (told_from limits width one.next more) ∙ ap (λ (t : List ℕ). text ++ t) step ∙ so_far.goes_on (said ++ more)
@@ -93,7 +93,7 @@ heard_more limits heard line live after text new so_far lines tells =
 
 -- what was told is the output of what was heard
 pub heard_output : (limits : Limits) (heard : List ℕ) (live : LiveTable) (text : List ℕ) → HeardScript limits heard live text → IsOk (script_of limits heard) × (output limits heard ≡ text)
-unfolding told events_of
+unfolding command_lines accepted_events
 heard_output limits heard live text so_far =
     let said = script-ok limits heard so_far.parts (names_of live, so_far.rows) so_far.cut so_far.table so_far.room in
     let commands = commands_of (names_of live) so_far.parts.first so_far.parts.commands in
@@ -120,7 +120,7 @@ hears_more limits had source old new before after text more so_far next =
       script = heard_more limits so_far.heard line before after text more so_far.script (ends line ∙ ap (λ (t : List (List ℕ)). raw_lines so_far.heard ++ t) at.0) next.tells;
     }
   where
-    nothing_more : (has_ended old ≡ true) × (unread old ≡ []) → ⊥
+    nothing_more : (is_at_end old ≡ true) × (unread old ≡ []) → ⊥
     nothing_more (ended, none) =
         let (no_bytes, still) = next.read.no_more ended in
         let empty : length (unread next.mid) ≡ 0 = ap length next.read.behind ∙ ap length (ap (λ (t : List ℕ). t ++ next.read.bytes) none ∙ no_bytes) in
@@ -157,7 +157,7 @@ stops_early limits had source sink ahead live text so_far some wrote =
       subst (WroteAll sink) (sym is) wrote,
     )
   where
-    ended : (has_ended ahead ≡ true) × (unread ahead ≡ []) → (unread ahead ++ some.bytes ≡ []) × IsAtEnd source.left
+    ended : (is_at_end ahead ≡ true) × (unread ahead ≡ []) → (unread ahead ++ some.bytes ≡ []) × IsAtEnd source.left
     ended (at, none) = let (no_bytes, still) = some.no_more at in (ap (λ (t : List ℕ). t ++ some.bytes) none ∙ no_bytes, still (so_far.at_end at))
 
 -- of what the last line was told a beginning was written

@@ -7,7 +7,7 @@ use Rattle.std.proofs.lemmas.Bool.{cases_lt}
 use Rattle.std.specs.Prelude.{IfOk}
 use Rattle.memchr.specs.Find.{IsFirstByte, is_byte}
 use Rattle.prefq.specs.Live.{EndsWithLine}
-use Rattle.prefq.specs.ReadAhead.{IsLineAt, IsWhole, ReadBehind, ReadSome, between, has_ended, unread}
+use Rattle.prefq.specs.ReadAhead.{IsLineAt, IsWhole, ReadBehind, ReadSome, between, is_at_end, unread}
 use Rattle.prefq.specs.Script.{raw_lines}
 use Rattle.prefq.specs.declared.read_ahead.ReadAhead.{ReadAhead}
 use Rattle.prefq.specs.declared.fault.RunFault.{RunFault}
@@ -73,7 +73,7 @@ whole_at a from place found =
     inl (omega arith, subst (λ (n : ℕ). IsWhole (take n (drop from (unread a)))) (sym count) (line_first (drop from (unread a)) place found))
 
 -- the last line
-pub last_at : (a : ReadAhead) (from : ℕ) → from ≤ length (unread a) → IsFirstByte (is_byte 10) (drop from (unread a)) None → has_ended a ≡ true → IsLineAt from (length (unread a)) a
+pub last_at : (a : ReadAhead) (from : ℕ) → from ≤ length (unread a) → IsFirstByte (is_byte 10) (drop from (unread a)) None → is_at_end a ≡ true → IsLineAt from (length (unread a)) a
 last_at a from inside none ended =
     let all : between from (length (unread a)) (unread a) ≡ drop from (unread a) = take_all (length (unread a) - from) (drop from (unread a)) (omega (arith, length-drop from (unread a))) in
     inr (ended, refl, λ some. subst (λ (t : List ℕ). raw_lines t ≡ t ∷ []) (sym all) (rw lines_none at (lines_last (drop from (unread a)) (omega (arith, some, length-drop from (unread a))) none)))
@@ -85,7 +85,7 @@ line_some a from place (Ok end) found (is, few) = rw is (whole_at a from place f
 line_some a from place (Err why) found h = tt
 
 pub line_none : (a : ReadAhead) (from : ℕ) (result : Result ℕ RunFault) → from ≤ length (unread a) → IsFirstByte (is_byte 10) (drop from (unread a)) None
-    → IfOk result (λ end. (has_ended a ≡ true) × (end ≡ length (unread a)) × (end ≤ 16777216)) → IfOk result (λ end. IsLineAt from end a)
+    → IfOk result (λ end. (is_at_end a ≡ true) × (end ≡ length (unread a)) × (end ≤ 16777216)) → IfOk result (λ end. IsLineAt from end a)
 line_none a from (Ok end) inside none (ended, is, few) = rw is (last_at a from inside none ended)
 line_none a from (Err why) inside none h = tt
 
@@ -97,7 +97,7 @@ inside_some a from place (Ok end) found (is, few) =
 inside_some a from place (Err why) found h = tt
 
 pub inside_none : (a : ReadAhead) (from : ℕ) (result : Result ℕ RunFault) → from ≤ length (unread a)
-    → IfOk result (λ end. (has_ended a ≡ true) × (end ≡ length (unread a)) × (end ≤ 16777216)) → IfOk result (λ end. (from ≤ end) × (end ≤ length (unread a)))
+    → IfOk result (λ end. (is_at_end a ≡ true) × (end ≡ length (unread a)) × (end ≤ 16777216)) → IfOk result (λ end. (from ≤ end) × (end ≤ length (unread a)))
 inside_none a from (Ok end) inside (ended, is, few) = rw is (inside, omega arith)
 inside_none a from (Err why) inside h = tt
 
@@ -129,7 +129,7 @@ front_more stop end text inside =
     ap (λ (n : ℕ). take n text) sum ∙ take-add stop (end - stop) text
 
 -- what stands at a line: one line, which is whole or the last
-pub line_at : (a : ReadAhead) (from end : ℕ) → IsLineAt from end a → from < end → (raw_lines (between from end (unread a)) ≡ between from end (unread a) ∷ []) × (EndsWithLine (between from end (unread a)) ⊎ (has_ended a ≡ true) × (end ≡ length (unread a)))
+pub line_at : (a : ReadAhead) (from end : ℕ) → IsLineAt from end a → from < end → (raw_lines (between from end (unread a)) ≡ between from end (unread a) ∷ []) × (EndsWithLine (between from end (unread a)) ⊎ (is_at_end a ≡ true) × (end ≡ length (unread a)))
 line_at a from end (inl (some, whole)) inside = (one_line (between from end (unread a)) whole, inl (ends_whole (between from end (unread a)) whole))
 line_at a from end (inr (ended, all, last)) inside = (last inside, inr (ended, all))
 

@@ -8,9 +8,9 @@ use Rattle.pref_core.specs.Step.{opened}
 use Rattle.prefq.specs.Commands.{commands_of}
 use Rattle.prefq.specs.Hearing.{Consumed, Hears, IsBlock, OpensLive, ReadsBlock}
 use Rattle.prefq.specs.Live.{RanLive, StopsEarly, TellsNext, Turns}
-use Rattle.prefq.specs.LiveTable.{IsOpened, OpeningFault, number_of}
+use Rattle.prefq.specs.LiveTable.{IsOpened, OpeningFault, next_number}
 use Rattle.prefq.specs.Output.{ScriptFault, fault_text, output, output_of, script_of}
-use Rattle.prefq.specs.ReadAhead.{LineFault, ReadBehind, ReadSome, between, has_ended, unread}
+use Rattle.prefq.specs.ReadAhead.{LineFault, ReadBehind, ReadSome, between, is_at_end, unread}
 use Rattle.prefq.specs.Run.{NothingWritten, Sink, Source, WroteAll, WroteBeginning, Wrote}
 use Rattle.prefq.specs.Script.{Parts, parts_of, raw_lines}
 use Rattle.prefq.specs.declared.fault.RunFault.{RunFault}
@@ -85,8 +85,8 @@ refused_table limits source old new block why none read is refused =
     opening_refused limits source new why (unread new) (all_read source.had source.left old new none read) (refused (unread new) parts cut table)
 
 -- the table of the block was opened
-pub opened_live : (limits : Limits) (had left : Option (List ℕ)) (old mid new : ReadAhead) (block : TableBlock) (live : LiveTable) → unread old ≡ [] → has_ended old ≡ false → ReadBehind had left old mid → IsBlock block mid
-    → IsOpened limits (between block.start block.stop (unread mid)) block.first live → unread new ≡ drop block.end (unread mid) → has_ended new ≡ has_ended mid → Hears limits had left new live [] × (number_of live ≤ 16777219)
+pub opened_live : (limits : Limits) (had left : Option (List ℕ)) (old mid new : ReadAhead) (block : TableBlock) (live : LiveTable) → unread old ≡ [] → is_at_end old ≡ false → ReadBehind had left old mid → IsBlock block mid
+    → IsOpened limits (between block.start block.stop (unread mid)) block.first live → unread new ≡ drop block.end (unread mid) → is_at_end new ≡ is_at_end mid → Hears limits had left new live [] × (next_number live ≤ 16777219)
 unfolding commands_of
 opened_live limits had left old mid new block live none fresh read is opens taken ended = (
   record {

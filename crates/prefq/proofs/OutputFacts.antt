@@ -12,16 +12,16 @@ use Rattle.pref_core.specs.declared.fault.CoreFault.TheVariants as core
 use Rattle.pref_core.specs.declared.fault.CoreFault.{CoreFault}
 use Rattle.prefq.specs.Output.{Script, ScriptFault, TellsOutput, in_bytes, output_of, script_of, script_with}
 use Rattle.prefq.specs.Reading.{core_fault, table_fault}
-use Rattle.prefq.specs.Script.{Parts, is_end, is_table, parts_of, raw_lines}
+use Rattle.prefq.specs.Script.{Parts, is_end_line, is_table_line, parts_of, raw_lines}
 use Rattle.prefq.specs.declared.fault.RunFault.{RunFault}
 use Rattle.prefq.specs.declared.fault.RunFault.TheVariants as fault
 
 -- a script's parts fail in two ways
 parts-faults : (raws : List (List ℕ)) (why : RunFault) → parts_of raws ≡ Err why → (why ≡ fault.NoTable) ⊎ (why ≡ fault.NoEnd)
 parts-faults [] why h = inl (cc h)
-parts-faults (first ∷ rest) why h = by (is_table first) (nat_lt (position_or_len is_end rest) (length rest)) refl refl h
+parts-faults (first ∷ rest) why h = by (is_table_line first) (nat_lt (position_or_len is_end_line rest) (length rest)) refl refl h
   where
-    by : (table end : Bool) → is_table first ≡ table → nat_lt (position_or_len is_end rest) (length rest) ≡ end → parts_of (first ∷ rest) ≡ Err why
+    by : (table end : Bool) → is_table_line first ≡ table → nat_lt (position_or_len is_end_line rest) (length rest) ≡ end → parts_of (first ∷ rest) ≡ Err why
         → (why ≡ fault.NoTable) ⊎ (why ≡ fault.NoEnd)
     by false end e f h = inl (cc (rw e at h))
     by true false e f h = inr (cc (rw (e, f) at h))

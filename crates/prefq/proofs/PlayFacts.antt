@@ -6,10 +6,10 @@ use Rattle.pref_core.specs.Step.{System, opened, replies, step}
 use Rattle.pref_core.specs.Systems.{Replies, Running, StandsForSystem}
 use Rattle.pref_core.specs.declared.event.Event.{Event}
 use Rattle.pref_core.specs.declared.event.Reply.{Reply}
-use Rattle.prefq.specs.Commands.{Command, refused, runs, commands_in, commands_of, events_of}
-use Rattle.prefq.specs.Output.{told}
+use Rattle.prefq.specs.Commands.{Command, refused, runs, commands_in, commands_of, accepted_events}
+use Rattle.prefq.specs.Output.{command_lines}
 use Rattle.prefq.specs.Playing.{Plays, TellsAll, told_from}
-use Rattle.prefq.specs.Script.{line_of, raw_lines}
+use Rattle.prefq.specs.Script.{raw_lines, without_line_end}
 use Rattle.prefq.specs.Text.{refused_line, reply_lines}
 use Rattle.prefq.specs.declared.command.Refusal.{Refusal}
 use Rattle.prefq.proofs.ScriptFacts.{lines_none}
@@ -23,7 +23,7 @@ plays_none width running text = record {
 
 -- a refused line
 pub plays_refused : (width : ℕ) (running : Running) (number : ℕ) (why : Refusal) (old new : List ℕ) → new ≡ old ++ refused_line number why → Plays width running (refused number why ∷ []) old new running
-unfolding told events_of
+unfolding command_lines accepted_events
 plays_refused width running number why old new added = record {
   limits = refl;
   plays = λ system h. record { next = system; stands = h; goes_on = λ more. rw added (append_assoc old (refused_line number why) (told_from running.limits width system more)) };
@@ -32,7 +32,7 @@ plays_refused width running number why old new added = record {
 -- an event
 pub plays_event : (width : ℕ) (before after : Running) (event : Event) (reply : Reply) (old new : List ℕ) → Replies before event (Ok reply) after → new ≡ old ++ reply_lines width event.client reply
     → Plays width before (runs event ∷ []) old new after
-unfolding told events_of
+unfolding command_lines accepted_events
 plays_event width before after event reply old new answers added = record {
   limits = answers.limits;
   plays = λ system h.
@@ -75,22 +75,22 @@ playing_more width first now after all commands rest text new playing plays = re
 -- a line more
 pub playing_line : (width : ℕ) (names : List (List ℕ)) (first now after : Running) (all : List Command) (number : ℕ) (left raw tail text new : List ℕ)
     → Playing width first all text now (commands_of names number (raw_lines left)) → raw_lines left ≡ raw ∷ raw_lines tail
-    → Plays width now (commands_in names number (line_of raw)) text new after → Playing width first all new after (commands_of names (number + 1) (raw_lines tail))
+    → Plays width now (commands_in names number (without_line_end raw)) text new after → Playing width first all new after (commands_of names (number + 1) (raw_lines tail))
 unfolding commands_of
 playing_line width names first now after all number left raw tail text new playing cut plays =
-    playing_more width first now after all (commands_in names number (line_of raw)) (commands_of names (number + 1) (raw_lines tail)) text new (rw cut at playing) plays
+    playing_more width first now after all (commands_in names number (without_line_end raw)) (commands_of names (number + 1) (raw_lines tail)) text new (rw cut at playing) plays
 
 -- no line is left
 pub playing_all : (width : ℕ) (names : List (List ℕ)) (first now : Running) (all : List Command) (number : ℕ) (left text : List ℕ)
     → Playing width first all text now (commands_of names number (raw_lines left)) → length left ≡ 0 → TellsAll width first all text
-unfolding commands_of told
+unfolding commands_of command_lines
 playing_all width names first now all number [] text playing none = λ system h. sym (append-nil text) ∙ (rw lines_none at (playing.from system h).whole)
 playing_all width names first now all number (x ∷ xs) text playing none = absurd (omega arith)
 
 -- all that the commands of a script are told
 pub tells_output : (limits : Limits) (rows : List (List ℤ)) (names : List (List ℕ)) (number first : ℕ) (lines : List (List ℕ)) (running : Running) (text : List ℕ)
     → running.limits ≡ limits → StandsForSystem running (opened limits rows) → TellsAll (length names) running (commands_of names number lines) text → number ≡ first
-    → text ≡ told (length names) (commands_of names first lines) (replies limits rows (events_of (commands_of names first lines)))
+    → text ≡ command_lines (length names) (commands_of names first lines) (replies limits rows (accepted_events (commands_of names first lines)))
 tells_output limits rows names number first lines running text same stands tells is =
     subst (λ (l : Limits). text ≡ told_from l (length names) (opened limits rows) (commands_of names first lines)) same
     (subst (λ (n : ℕ). text ≡ told_from running.limits (length names) (opened limits rows) (commands_of names n lines)) is (tells (opened limits rows) stands))

@@ -14,7 +14,7 @@ use Rattle.prefq.specs.Commands.{commands_of}
 use Rattle.prefq.specs.Output.{Script, ScriptFault, script_of, script_with}
 use Rattle.prefq.specs.Reading.{IsReadOf, share_fault, unowned_text}
 use Rattle.prefq.specs.Text.{texts}
-use Rattle.prefq.specs.Threads.{AreActs, ClosesOrStops, TellsOnThreads, StopsClients, WereStopped, clients_lines, opening_of, unowned_lines}
+use Rattle.prefq.specs.Threads.{AreActs, ClosesOrStops, TellsOnThreads, StopsClients, WereStopped, clients_lines, unowned_lines}
 use Rattle.prefq.specs.declared.commands.Line.{Line}
 use Rattle.prefq.specs.declared.fault.RunFault.{RunFault}
 use Rattle.prefq.specs.declared.fault.RunFault.TheVariants as fault
@@ -27,13 +27,9 @@ pub tells-fault : (limits : Limits) (may_hold : ℕ → ℕ → Type 0) (bytes :
 tells-fault limits may_hold bytes (fault.Threads why) h = absurd h
 tells-fault limits may_hold bytes why h = h
 
--- what stops clients with these acts, on a board that opens with these rows
-abbrev StopsActs : Limits → (ℕ → ℕ → Type 0) → List (List ℤ) → List (Vec Act) → ShareFault → Type 0
-StopsActs limits may_hold rows acts why = ClosesOrStops (record { limits = limits; rows = rows }) may_hold acts why
-
 -- the clients were stopped
 tells-stopped : (limits : Limits) (may_hold : ℕ → ℕ → Type 0) (bytes : List ℕ) (r : Read) → IsReadOf bytes r → (limits.capacity < length r.rows.items → ⊥) → (acts : List (Vec Act)) → AreActs limits.clients r.commands.events.items acts
-    → (why : ShareFault) → StopsActs limits may_hold r.rows.items acts why → TellsOnThreads limits may_hold bytes (Err (share_fault why))
+    → (why : ShareFault) → ClosesOrStops may_hold acts why → TellsOnThreads limits may_hold bytes (Err (share_fault why))
 tells-stopped limits may_hold bytes r read room acts owned why stops = by why stops
   where
     script : Script
@@ -42,20 +38,20 @@ tells-stopped limits may_hold bytes r read room acts owned why stops = by why st
     is_script : script_of limits bytes ≡ Ok script
     is_script = script-ok limits bytes read.parts (r.schema, r.rows.items) read.cut read.table room
 
-    stopped : (why : ShareFault) → StopsClients (opening_of limits script) may_hold acts why → WereStopped limits may_hold script why
+    stopped : (why : ShareFault) → StopsClients may_hold acts why → WereStopped limits may_hold script why
     stopped why stops = record { acts = acts; of_script = rw read.events at owned; stops = stops }
 
-    by : (why : ShareFault) → StopsActs limits may_hold r.rows.items acts why → TellsOnThreads limits may_hold bytes (Err (share_fault why))
+    by : (why : ShareFault) → ClosesOrStops may_hold acts why → TellsOnThreads limits may_hold bytes (Err (share_fault why))
     by (share.Core core) stops = rw stops tt
     by why stops = (script, is_script, stopped why stops)
 
 -- the board was not opened, or the clients were stopped
 pub tells-refused : (limits : Limits) (may_hold : ℕ → ℕ → Type 0) (bytes : List ℕ) (r : Read) → IsReadOf bytes r → (rows : List (List ℤ)) → rows ≡ r.rows.items → (acts : List (Vec Act)) → AreActs limits.clients r.commands.events.items acts → (why : ShareFault)
-    → ((limits.capacity < length rows) × (why ≡ share.Core (core.Full (length rows)))) ⊎ ((limits.capacity < length rows → ⊥) × StopsActs limits may_hold rows acts why)
+    → ((limits.capacity < length rows) × (why ≡ share.Core (core.Full (length rows)))) ⊎ ((limits.capacity < length rows → ⊥) × ClosesOrStops may_hold acts why)
     → TellsOnThreads limits may_hold bytes (Err (share_fault why))
 tells-refused limits may_hold bytes r read rows same acts owned why refused = by (rw same at refused)
   where
-    by : ((limits.capacity < length r.rows.items) × (why ≡ share.Core (core.Full (length r.rows.items)))) ⊎ ((limits.capacity < length r.rows.items → ⊥) × StopsActs limits may_hold r.rows.items acts why)
+    by : ((limits.capacity < length r.rows.items) × (why ≡ share.Core (core.Full (length r.rows.items)))) ⊎ ((limits.capacity < length r.rows.items → ⊥) × ClosesOrStops may_hold acts why)
         → TellsOnThreads limits may_hold bytes (Err (share_fault why))
     by (inl (many, full)) = rw full (script-core-fault limits bytes read.parts (r.schema, r.rows.items) (core.Full (length r.rows.items)) read.cut read.table (λ _. refl) (inr many))
     by (inr (room, stops)) = tells-stopped limits may_hold bytes r read room acts owned why stops

@@ -16,7 +16,7 @@ use Rattle.pref_core.specs.declared.event.Event.{Event}
 use Rattle.pref_core.specs.declared.fault.CoreFault.{CoreFault}
 use Rattle.prefq.specs.Forms.{Said, changes, commits, begins, scans, finishes, abandons, gets, rooms, said_in}
 use Rattle.prefq.specs.Pieces.{ChangeSaid, inserts, updates, deletes, are_changes, piece_said, pieces_of}
-use Rattle.prefq.specs.Script.{line_of}
+use Rattle.prefq.specs.Script.{without_line_end}
 use Rattle.prefq.specs.declared.command.Refusal.{Refusal}
 use Rattle.prefq.specs.declared.command.Refusal.TheVariants.{NotCommand, Values, Question, Changes}
 
@@ -54,7 +54,7 @@ commit_from names pieces = do
   all ← all_from (λ place piece. piece_change names (piece_said piece)) 1 pieces
   of_changes (commit_of all)
 
--- the commit of a text whose pieces stand between semicolons: the form of each is tested before any values are read
+-- the commit of a text whose pieces are between semicolons: the form of each is tested before any values are read
 unfoldable pub commit_said : List (List ℕ) → List ℕ → Result (List Change) Refusal
 commit_said names text = if are_changes text then commit_from names (pieces_of text) else Err NotCommand
 
@@ -108,10 +108,10 @@ commands_in names number line = if list_all is_blank line then [] else command_o
 -- the commands of lines, of which the first has this number
 unfoldable pub commands_of : List (List ℕ) → ℕ → List (List ℕ) → List Command
 commands_of names number [] = []
-commands_of names number (raw ∷ more) = commands_in names number (line_of raw) ++ commands_of names (number + 1) more
+commands_of names number (raw ∷ more) = commands_in names number (without_line_end raw) ++ commands_of names (number + 1) more
 
 -- the events of commands
-unfoldable pub events_of : List Command → List Event
-events_of [] = []
-events_of (refused number why ∷ more) = events_of more
-events_of (runs event ∷ more) = event ∷ events_of more
+unfoldable pub accepted_events : List Command → List Event
+accepted_events [] = []
+accepted_events (refused number why ∷ more) = accepted_events more
+accepted_events (runs event ∷ more) = event ∷ accepted_events more

@@ -1,12 +1,12 @@
--- What a run reads and writes that tells each line of a script as it comes. (this project)
+-- What a run reads and writes that replies to each line of a script as it comes. (this project)
 use Rattle.std.specs.Prelude.{ℕ, ◌≡◌, ◌≤◌, ◌<◌, ◌⊎◌, true, List, [], ◌++◌, length, take, drop, Result, Ok, Err, IsOk}
 use Rattle.std.specs.Io.KnownBytes.{Consumes, IsAtEnd}
 use Rattle.pref_core.specs.Limits.{Limits}
-use Rattle.prefq.specs.LiveTable.{Tells}
+use Rattle.prefq.specs.LiveTable.{TellsLine}
 use Rattle.prefq.specs.Output.{fault_text, output, script_of}
-use Rattle.prefq.specs.ReadAhead.{IsLineAt, ReadBehind, ReadSome, has_ended, unread}
+use Rattle.prefq.specs.ReadAhead.{IsLineAt, ReadBehind, ReadSome, is_at_end, unread}
 use Rattle.prefq.specs.Run.{NothingWritten, Sink, Source, WroteAll, WroteBeginning}
-use Rattle.prefq.specs.Script.{line_of, raw_lines}
+use Rattle.prefq.specs.Script.{raw_lines, without_line_end}
 use Rattle.prefq.specs.declared.fault.RunFault.{RunFault}
 use Rattle.prefq.specs.declared.fault.RunFault.TheVariants as fault
 use Rattle.prefq.specs.declared.live.Turn.{Turn}
@@ -14,7 +14,7 @@ use Rattle.prefq.specs.declared.live.Turn.TheVariants as turn
 use Rattle.prefq.specs.declared.live_table.LiveTable.{LiveTable}
 use Rattle.prefq.specs.declared.read_ahead.ReadAhead.{ReadAhead}
 
--- one line was read, and the live table was told it: this text
+-- one line was read and given to the live table, which printed this text
 pub record TellsNext (source : Source) (old new : ReadAhead) (before after : LiveTable) (text : List ℕ) : Type 0 where
   pub mid : ReadAhead
   pub end : ℕ
@@ -22,14 +22,14 @@ pub record TellsNext (source : Source) (old new : ReadAhead) (before after : Liv
   pub some : 0 < end
   pub inside : end ≤ length (unread mid)
   pub line : IsLineAt 0 end mid
-  pub tells : Tells before (line_of (take end (unread mid))) [] text after
+  pub tells : TellsLine before (without_line_end (take end (unread mid))) [] text after
   pub taken : unread new ≡ drop end (unread mid)
-  pub ended : has_ended new ≡ has_ended mid
+  pub ended : is_at_end new ≡ is_at_end mid
 
 -- no line was left
 pub record NoneLeft (source : Source) (old new : ReadAhead) : Type 0 where
   pub read : ReadBehind source.had source.left old new
-  pub ended : has_ended new ≡ true
+  pub ended : is_at_end new ≡ true
   pub none : unread new ≡ []
 
 -- what a turn reads and writes, by how it ends

@@ -8,7 +8,7 @@ use Rattle.pref_core.specs.Limits.{Limits}
 use Rattle.pref_core.specs.Step.{replies}
 use Rattle.pref_core.specs.declared.fault.CoreFault.TheVariants.{Full}
 use Rattle.pref_core.specs.declared.event.Reply.{Reply}
-use Rattle.prefq.specs.Commands.{Command, refused, runs, commands_of, events_of}
+use Rattle.prefq.specs.Commands.{Command, refused, runs, commands_of, accepted_events}
 use Rattle.prefq.specs.Script.{Parts, parts_of, raw_lines}
 use Rattle.prefq.specs.Text.{◌<>◌, core_fault_text, refused_line, reply_lines, table_fault_text}
 use Rattle.prefq.specs.declared.fault.RunFault.{RunFault}
@@ -52,15 +52,15 @@ script_of limits bytes = do
   opening ← with_room limits table
   Ok (script_with parts opening)
 
--- the lines of commands: each event takes the next reply, and refused lines stand between
-unfoldable pub told : ℕ → List Command → List Reply → List ℕ
-told width [] replies = []
-told width (refused number why ∷ more) replies = refused_line number why <> told width more replies
-told width (runs event ∷ more) [] = told width more []
-told width (runs event ∷ more) (reply ∷ rest) = reply_lines width event.client reply <> told width more rest
+-- the lines of commands: each event takes the next reply, and refused lines come between
+unfoldable pub command_lines : ℕ → List Command → List Reply → List ℕ
+command_lines width [] replies = []
+command_lines width (refused number why ∷ more) replies = refused_line number why <> command_lines width more replies
+command_lines width (runs event ∷ more) [] = command_lines width more []
+command_lines width (runs event ∷ more) (reply ∷ rest) = reply_lines width event.client reply <> command_lines width more rest
 
 abbrev pub output_of : Limits → Result Script RunFault → List ℕ
-output_of limits (Ok script) = told (length script.names) script.commands (replies limits script.rows (events_of script.commands))
+output_of limits (Ok script) = command_lines (length script.names) script.commands (replies limits script.rows (accepted_events script.commands))
 output_of limits (Err why) = fault_text why
 
 -- the whole output of a script
@@ -79,17 +79,17 @@ ScriptFault fault.Write said = ⊥
 ScriptFault fault.TooLarge said = ⊥
 ScriptFault (fault.Threads why) said = ⊥
 
--- what an input is told: its output, which is the replies to a script without a fault, or the fault
+-- what an input gives: its output, which is the replies to a script without a fault, or the fault
 abbrev pub TellsOutput : Limits → List ℕ → Result (List ℕ) RunFault → Type 0
 TellsOutput limits bytes (Ok text) = IsOk (script_of limits bytes) × (text ≡ output limits bytes)
 TellsOutput limits bytes (Err why) = ScriptFault why (script_of limits bytes)
 
--- what is written of what was told: the text, or the fault's line
+-- what is written of a text or a fault: the text, or the fault's line
 abbrev pub text_of : Result (List ℕ) RunFault → List ℕ
 text_of (Ok text) = text
 text_of (Err why) = fault_text why
 
--- what was told, by its bytes
+-- a text or a fault, by its bytes
 abbrev pub in_bytes : Result (String Global) RunFault → Result (List ℕ) RunFault
 in_bytes (Ok text) = Ok (string_bytes text)
 in_bytes (Err why) = Err why

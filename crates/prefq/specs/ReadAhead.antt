@@ -11,35 +11,35 @@ abbrev pub unread : ReadAhead → List ℕ
 unread ahead = drop ahead.start ahead.bytes.items
 
 -- whether the reader has come to its end
-abbrev pub has_ended : ReadAhead → Bool
-has_ended ahead = ahead.ended
+abbrev pub is_at_end : ReadAhead → Bool
+is_at_end ahead = ahead.ended
 
--- what was read stands behind what was there; nothing is read after the end, and at the end nothing is left
+-- what was read comes behind what was there; nothing is read after the end, and at the end nothing is left
 pub record ReadBehind (had left : Option (List ℕ)) (old new : ReadAhead) : Type 0 where
   pub bytes : List ℕ
   pub consumed : Consumes had left bytes
   pub behind : unread new ≡ unread old ++ bytes
-  pub no_more : has_ended old ≡ true → (bytes ≡ []) × (has_ended new ≡ true)
-  pub at_end : (has_ended old ≡ true → IsAtEnd had) → has_ended new ≡ true → IsAtEnd left
+  pub no_more : is_at_end old ≡ true → (bytes ≡ []) × (is_at_end new ≡ true)
+  pub at_end : (is_at_end old ≡ true → IsAtEnd had) → is_at_end new ≡ true → IsAtEnd left
 
 -- some bytes were read, and none after the end
 pub record ReadSome (had left : Option (List ℕ)) (old : ReadAhead) : Type 0 where
   pub bytes : List ℕ
   pub consumed : Consumes had left bytes
-  pub no_more : has_ended old ≡ true → (bytes ≡ []) × (IsAtEnd had → IsAtEnd left)
+  pub no_more : is_at_end old ≡ true → (bytes ≡ []) × (IsAtEnd had → IsAtEnd left)
 
 -- a whole line: whatever follows it, it is the first line
 abbrev pub IsWhole : List ℕ → Type 0
 IsWhole line = (more : List ℕ) → raw_lines (line ++ more) ≡ line ∷ raw_lines more
 
--- what stands between two places of a text
+-- what is between two places of a text
 abbrev pub between : ℕ → ℕ → List ℕ → List ℕ
 between from end text = take (end - from) (drop from text)
 
--- between two places stands the next line, which is whole; or the input has ended, and this is its last line, or nothing
+-- between two places is the next line, which is whole; or the input has ended, and this is its last line, or nothing
 abbrev pub IsLineAt : ℕ → ℕ → ReadAhead → Type 0
 IsLineAt from end ahead = let line = between from end (unread ahead) in
-    (from < end) × IsWhole line ⊎ (has_ended ahead ≡ true) × (end ≡ length (unread ahead)) × (from < end → raw_lines line ≡ line ∷ [])
+    (from < end) × IsWhole line ⊎ (is_at_end ahead ≡ true) × (end ≡ length (unread ahead)) × (from < end → raw_lines line ≡ line ∷ [])
 
 -- why no line was read
 abbrev pub LineFault : Bool → RunFault → Type 0

@@ -15,7 +15,7 @@ use Rattle.pref_share.specs.declared.fault.ShareFault.{ShareFault}
 use Rattle.pref_share.specs.declared.fault.ShareFault.TheVariants as share
 use Rattle.pref_share.specs.Interleavings.{acts_of}
 use Rattle.prefq.specs.Threads.{is_client}
-use Rattle.prefq.specs.Commands.{Command, refused, runs, commands_of, events_of}
+use Rattle.prefq.specs.Commands.{Command, refused, runs, commands_of, accepted_events}
 use Rattle.prefq.specs.Script.{Parts, parts_of, raw_lines}
 use Rattle.prefq.specs.Text.{refused_line, reply_lines}
 use Rattle.prefq.specs.declared.command.Refusal.{Refusal}
@@ -40,10 +40,10 @@ abbrev pub line_for : Command → Line
 line_for (refused number why) = LineRefused number why
 line_for (runs event) = LineAnswered event.client
 
--- the lines and events of commands are added to those that stand
+-- the lines and events of commands are added to those that are there
 pub record Adds (old new : Commands) (commands : List Command) : Type 0 where
   pub lines : new.lines.items ≡ old.lines.items ++ map line_for commands
-  pub events : new.events.items ≡ old.events.items ++ events_of commands
+  pub events : new.events.items ≡ old.events.items ++ accepted_events commands
 
 -- a table's fault as one of the run
 abbrev pub table_fault : TableFault → RunFault
@@ -74,14 +74,14 @@ pub record IsReadOf (bytes : List ℕ) (read : Read) : Type 0 where
   pub cut : parts_of (raw_lines bytes) ≡ Ok parts
   pub table : table_of parts.table ≡ Ok (read.schema, read.rows.items)
   pub lines : read.commands.lines.items ≡ map line_for (commands_of read.schema parts.first parts.commands)
-  pub events : read.commands.events.items ≡ events_of (commands_of read.schema parts.first parts.commands)
+  pub events : read.commands.events.items ≡ accepted_events (commands_of read.schema parts.first parts.commands)
 
--- what is told of a line that belongs to no client, as the code holds it
+-- what is printed for a line that belongs to no client, as the code holds it
 abbrev pub unowned_text : ℕ → ℕ → Line → List ℕ
 unowned_text clients width (LineRefused number why) = refused_line number why
 unowned_text clients width (LineAnswered client) = if is_client clients client then [] else reply_lines width client (NotThere NoSuchClient)
 
--- an event more: its act stands behind those of its client
+-- an event more: its act comes behind those of its client
 pub record AddsAct (event : Event) (old new : List (Vec Act)) : Type 0 where
   pub lists : length new ≡ length old
   pub each : (place : ℕ) (d : Vec Act) → place < length old → (slice_index_or new place d).items ≡ (slice_index_or old place d).items ++ acts_of (suc place) (event ∷ [])

@@ -37,7 +37,7 @@ WroteAll sink text = Appends sink.held sink.holds text
 abbrev pub WroteBeginning : Sink → List ℕ → Type 0
 WroteBeginning sink text = (count : ℕ) × Appends sink.held sink.holds (take count text)
 
--- what was written of a text, or of a fault, that was told, by how the run ended
+-- what was written of a text, or of a fault, by how the run ended
 abbrev pub Wrote : Sink → Result (List ℕ) RunFault → Result (Unit {0}) RunFault → Type 0
 Wrote sink told (Ok done) = IsOk told × WroteAll sink (text_of told)
 Wrote sink told (Err fault.Write) = (sink.failed ≡ true) × WroteBeginning sink (text_of told)
@@ -48,7 +48,7 @@ Wrote sink told (Err why) = (told ≡ Err why) × WroteAll sink (text_of told)
 abbrev pub ReadAll : Source → (List ℕ → Type 0) → Type 0
 ReadAll source P = (bytes : List ℕ) × Consumes source.had source.left bytes × IsAtEnd source.left × (length bytes ≤ 16777216) × P bytes
 
--- what a run read and wrote, by how it ended, where Tells says which text or which fault an input may be told
+-- what a run read and wrote, by how it ended, where Tells says which text or which fault an input may give
 abbrev pub Ran : (List ℕ → Result (List ℕ) RunFault → Type 0) → Source → Sink → Result (Unit {0}) RunFault → Type 0
 Ran Tells source sink (Err fault.Read) = (source.failed ≡ true) × NothingWritten sink
 Ran Tells source sink (Err fault.TooLarge) = HadTooMany source.had × NothingWritten sink

@@ -88,7 +88,7 @@ reply_lines width client (reply.Found id row) = decimal client <> codes " row " 
 reply_lines width client (reply.Room room) = decimal client <> codes " room " <> decimal room <> codes "\n"
 reply_lines width client (reply.Refused why) = decimal client <> codes " refused " <> core_fault_text why <> codes "\n"
 
--- what a refused line is told after its number
+-- what is printed for a refused line after its number
 abbrev pub refusal_text : Refusal → List ℕ
 refusal_text refusal.NotCommand = codes " refused: command"
 refusal_text (refusal.Values why) = codes " refused table " <> table_fault_text why

@@ -6,7 +6,7 @@ ghost use Rattle.prefq.specs.Reading.{AddsAct};
 use pref_core::{Act, Event};
 use std::alloc::{AllocError, Global};
 
-/// So many clients without an act.
+/// This many clients without an act.
 fn no_acts(alloc: Global, clients: u8) -> Result<Vec<Vec<Act>>, AllocError>
     ensures { IfOk result (λ lists. AreActs clients [] lists.items) }
 {
@@ -29,7 +29,7 @@ fn add_act(lists: &mut [Vec<Act>], event: Event) -> Result<(), AllocError>
     Ok(())
 }
 
-/// The acts of each client, in order of the events. Those of clients that there are not are dropped.
+/// The acts of each client, in order of the events. Those of clients that do not exist are dropped.
 pub fn acts_by_client(
     alloc: Global,
     clients: u8,

@@ -38,7 +38,7 @@ pub enum ArgsFault {
 /// What `--version` prints after the name.
 const VERSION: &str = "0.1.0";
 
-/// What stands behind the help of the program: the options, an example, and where more is said.
+/// What follows the help of the program: the options, an example, and where more is said.
 const AFTER_HELP: &str = "\
 With no arguments it runs play. These options stand after play, live or threads:
 

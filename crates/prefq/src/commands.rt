@@ -2,7 +2,7 @@
 ghost use Rattle.std.specs.Prelude.{◌≡◌, ◌+◌, ◌<◌, ◌^◌, length, map, IfOk, IfErr, OnOk};
 ghost use Rattle.std.specs.List.{list_all};
 ghost use Rattle.pref_table.specs.Number.{is_blank};
-ghost use Rattle.prefq.specs.Commands.{commands_in, commands_of, events_of};
+ghost use Rattle.prefq.specs.Commands.{accepted_events, commands_in, commands_of};
 ghost use Rattle.prefq.specs.Reading.{Adds, line_for};
 ghost use Rattle.prefq.specs.Script.{raw_lines};
 
@@ -13,7 +13,7 @@ use pref_core::Event;
 use pref_table::Schema;
 use std::alloc::Global;
 
-/// A command line: refused, by its number, or an event of this client, whose reply stands in its place.
+/// A command line: refused, by its number, or an event of this client, whose reply takes its place.
 #[derive(Debug, Drop)]
 pub enum Line {
     Refused(u64, Refusal),
@@ -27,7 +27,7 @@ pub struct Commands {
     pub events: Vec<Event>,
 }
 
-/// Whether a line says nothing.
+/// Whether a line is blank.
 pub fn is_blank_line(line: &[u8]) -> bool
     ensures { result ≡ list_all is_blank line.now }
 {
@@ -70,7 +70,7 @@ pub fn read_commands(
 ) -> Result<Commands, RunFault>
     requires { script.first + length script.commands.now < 2 ^ 64 }
     ensures read { IfOk result (λ commands. let said = commands_of schema.now script.entry.first (raw_lines script.entry.commands.now) in
-        (commands.lines.items ≡ map line_for said) × (commands.events.items ≡ events_of said)) }
+        (commands.lines.items ≡ map line_for said) × (commands.events.items ≡ accepted_events said)) }
     ensures memory { IfErr result (λ fault. fault ≡ RunFault.Memory) }
 {
     let mut commands = Commands {

@@ -22,7 +22,7 @@ fn read_piece(schema: &Schema, piece: &[u8]) -> Result<Change, Stop>
     }
 }
 
-/// The commit of a text whose pieces stand between semicolons. Takes no memory, however many there are.
+/// The commit of a text whose pieces are between semicolons. Takes no memory, however many there are.
 ///
 /// The form of each piece is tested before any values are read, and these before the number of the changes and their ids.
 #[tactic(auto, unfolding(crate::specs::Commands::commit_said))]

@@ -18,7 +18,7 @@ pub enum RunFault {
     /// The writer failed, or took no byte. A beginning of the output was written.
     #[error("write")]
     Write,
-    /// The input has more than 16,777,216 bytes; of a run that tells each line as it comes, its table block or a line.
+    /// The input has more than 16,777,216 bytes; of a run that replies to each line as it comes, its table block or a line.
     #[error("too large")]
     TooLarge,
     /// There was no memory.
@@ -36,7 +36,7 @@ pub enum RunFault {
     /// The engine refuses the opening rows.
     #[error("opening: {0}")]
     Opening(CoreFault),
-    /// The clients on threads were stopped: by the gate, which in the program holds nobody, by a client in use or by a closed board.
+    /// The clients on threads were stopped: by the gate, which in the program is always open, by a client in use or by a closed board.
     /// Nothing was written.
     #[error("threads: {0}")]
     Threads(ShareFault),

@@ -15,7 +15,7 @@ const MAX_INPUT: usize = 16_777_216;
 /// How many bytes are read at a time.
 const CHUNK: usize = 8192;
 
-/// How many bytes the next read takes at most, after so many.
+/// How many bytes the next read takes at most, after this many.
 fn room_after(len: usize) -> usize
     requires { len ≤ 16777216 }
     ensures some { 0 < result }

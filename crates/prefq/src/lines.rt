@@ -1,6 +1,6 @@
 //! Lines as they come: what a reader gives is kept until its line is taken.
 ghost use Rattle.std.specs.Prelude.{◌≡◌, ◌≤◌, ◌<◌, ◌+◌, ◌++◌, [], true, false, length, take, drop, vec_len, IfOk, IfErr, OnOk};
-ghost use Rattle.prefq.specs.ReadAhead.{IsLineAt, LineFault, ReadBehind, ReadSome, has_ended, unread};
+ghost use Rattle.prefq.specs.ReadAhead.{IsLineAt, LineFault, ReadBehind, ReadSome, is_at_end, unread};
 ghost use Rattle.prefq.specs.Watched.{has_failed, inside};
 
 use crate::fault::RunFault;
@@ -20,7 +20,7 @@ impl ReadAhead {
     /// Nothing was read yet.
     pub fn new(alloc: Global) -> ReadAhead
         ensures unread { unread result ≡ [] }
-        ensures ended { has_ended result ≡ false }
+        ensures ended { is_at_end result ≡ false }
     {
         ReadAhead {
             bytes: Vec::new(alloc),
@@ -38,11 +38,11 @@ impl ReadAhead {
         &all[start..]
     }
 
-    /// Takes so many bytes from the front.
+    /// Takes this many bytes from the front.
     pub fn take(&mut self, count: usize)
         requires { count ≤ length (unread self.old) }
         ensures unread { unread self.new ≡ drop count (unread self.old) }
-        ensures ended { has_ended self.new ≡ has_ended self.old }
+        ensures ended { is_at_end self.new ≡ is_at_end self.old }
     {
         self.start += count;
     }
@@ -50,7 +50,7 @@ impl ReadAhead {
     /// Puts bytes behind those that are there. What was taken is let go.
     fn put(&mut self, alloc: Global, part: &[u8]) -> Result<(), AllocError>
         ensures ok { OnOk result (unread self.new ≡ unread self.old ++ part.now) }
-        ensures ended { has_ended self.new ≡ has_ended self.old }
+        ensures ended { is_at_end self.new ≡ is_at_end self.old }
     {
         if self.start == 0 {
             return self.bytes.extend_from_slice(part);
@@ -65,7 +65,7 @@ impl ReadAhead {
 
     fn end(&mut self)
         ensures unread { unread self.new ≡ unread self.old }
-        ensures ended { has_ended self.new ≡ true }
+        ensures ended { is_at_end self.new ≡ true }
     {
         self.ended = true;
     }
@@ -73,7 +73,7 @@ impl ReadAhead {
     /// Reads some bytes more, as many as one read gives, unless the reader has come to its end.
     fn read_more<R: Read>(&mut self, alloc: Global, reader: &mut Watched<R>) -> Result<(), RunFault>
         ensures ok { OnOk result (ReadBehind (R.remaining (inside reader.old)) (R.remaining (inside reader.new)) self.old self.new) }
-        ensures grows { OnOk result (has_ended self.new ≡ false → length (unread self.old) < length (unread self.new)) }
+        ensures grows { OnOk result (is_at_end self.new ≡ false → length (unread self.old) < length (unread self.new)) }
         ensures few { OnOk result (length (unread self.new) ≤ length (unread self.old) + 8192) }
         ensures fault { IfErr result (λ fault. LineFault (has_failed reader.new) fault) }
         ensures read { ReadSome (R.remaining (inside reader.old)) (R.remaining (inside reader.new)) self.old }
@@ -93,7 +93,7 @@ impl ReadAhead {
         Ok(())
     }
 
-    /// Reads on until a line feed stands behind so many bytes, or the input ends, or more bytes are there than a line has.
+    /// Reads on until there is a line feed behind this many bytes, or the input ends, or more bytes are there than a line has.
     fn read_on<R: Read>(
         &mut self,
         alloc: Global,
@@ -119,7 +119,7 @@ impl ReadAhead {
         Ok(())
     }
 
-    /// Where the line ends that begins behind so many bytes: after its line feed, or where the input ends.
+    /// Where the line ends that begins behind this many bytes: after its line feed, or where the input ends.
     ///
     /// No byte is read where the line is there already, and none after the read that brought its end.
     /// Refused `TooLarge` where the line ends behind 16,777,216 bytes.
@@ -146,7 +146,7 @@ impl ReadAhead {
 
     /// Where the input ends, if it has.
     fn last_end(&self) -> Result<usize, RunFault>
-        ensures ok { IfOk result (λ end. (has_ended self.now ≡ true) × (end ≡ length (unread self.now)) × (end ≤ 16777216)) }
+        ensures ok { IfOk result (λ end. (is_at_end self.now ≡ true) × (end ≡ length (unread self.now)) × (end ≤ 16777216)) }
         ensures fault { IfErr result (λ fault. fault ≡ RunFault.TooLarge) }
     {
         if self.ended {

@@ -1,10 +1,10 @@
-//! A script whose lines are told as they come.
+//! A script whose lines are replied to as they come.
 ghost use Rattle.std.specs.Prelude.{◌≡◌, ◌≤◌, ◌<◌, ◌+◌, ◌^◌, [], List, ℕ, Option, false};
 ghost use Rattle.pref_core.specs.Limits.{Limits};
 ghost use Rattle.prefq.specs.Hearing.{Hears, OpensLive, ReadsBlock};
 ghost use Rattle.prefq.specs.Live.{RanLive, Turns};
-ghost use Rattle.prefq.specs.LiveTable.{number_of};
-ghost use Rattle.prefq.specs.ReadAhead.{has_ended, unread};
+ghost use Rattle.prefq.specs.LiveTable.{next_number};
+ghost use Rattle.prefq.specs.ReadAhead.{is_at_end, unread};
 ghost use Rattle.prefq.specs.Run.{sink_of, source_of};
 ghost use Rattle.prefq.specs.Watched.{has_failed, inside};
 
@@ -24,7 +24,7 @@ const MAX_LINES: u64 = 1 << 63;
 /// How a turn ends.
 #[derive(Clone, Copy)]
 pub enum Turn {
-    /// A line was told.
+    /// A line was read, and its replies were written.
     Told,
     /// There was no line.
     End,
@@ -89,7 +89,7 @@ fn open_live<R: Read>(
     setup: Setup,
 ) -> Result<LiveTable, RunFault>
     requires empty { unread ahead.old ≡ [] }
-    requires fresh { has_ended ahead.old ≡ false }
+    requires fresh { is_at_end ahead.old ≡ false }
     ensures { OpensLive setup (source_of R.remaining reader.old reader.new) ahead.new result }
 {
     let block = read_block(alloc, reader, ahead)?;
@@ -99,7 +99,7 @@ fn open_live<R: Read>(
     Ok(live)
 }
 
-/// One turn: reads one line, tells it to the table, and writes what it was told and flushes before it returns.
+/// One turn: reads one line, plays it on the table, and writes its replies and flushes before it returns.
 fn take_turn<R: Read, W: Write>(
     alloc: Global,
     reader: &mut Watched<R>,
@@ -107,7 +107,7 @@ fn take_turn<R: Read, W: Write>(
     ahead: &mut ReadAhead,
     live: &mut LiveTable,
 ) -> Result<Turn, RunFault>
-    requires { number_of live.old + 1 < 2 ^ 64 }
+    requires { next_number live.old + 1 < 2 ^ 64 }
     ensures { Turns (source_of R.remaining reader.old reader.new) (sink_of W.contents writer.old writer.new) ahead.old ahead.new live.old live.new result }
 {
     let end = ahead.read_line(alloc, reader, 0)?;
@@ -121,7 +121,7 @@ fn take_turn<R: Read, W: Write>(
     Ok(Turn::Told)
 }
 
-/// Tells the table all lines that come.
+/// Plays all lines that come.
 fn tell_all<R: Read, W: Write>(
     alloc: Global,
     reader: &mut Watched<R>,
@@ -129,7 +129,7 @@ fn tell_all<R: Read, W: Write>(
     ahead: &mut ReadAhead,
     live: &mut LiveTable,
 ) -> Result<(), RunFault>
-    requires { number_of live.old ≤ 16777219 }
+    requires { next_number live.old ≤ 16777219 }
     ensures { (limits : Limits) (had : Option (List ℕ)) → Hears limits had (R.remaining (inside reader.old)) ahead.old live.old []
         → RanLive limits (record { had = had; left = R.remaining (inside reader.new); failed = has_failed reader.new }) (sink_of W.contents writer.old writer.new) result }
 {
@@ -142,12 +142,12 @@ fn tell_all<R: Read, W: Write>(
     Err(RunFault::TooLarge)
 }
 
-/// Reads a script, runs it under a setup, and tells each of its lines as it comes: what a line is told is written and flushed before
+/// Reads a script, runs it under a setup, and replies to each of its lines as it comes: a line's replies are written and flushed before
 /// the next line is waited for. The input has no bound; the table block has 16,777,216 bytes at most, and so has each line after it
 /// with its end.
 ///
 /// Refused `NoTable`, `NoEnd`, `Table` or `Opening` as soon as the table block shows it; its one line was written then. After `Read`, `TooLarge` and
-/// `Memory` all was written that the lines before were told, and after `Write` a beginning of it.
+/// `Memory` the replies to the lines before were written, and after `Write` a beginning of the output.
 pub fn run_live<R: Read, W: Write>(
     alloc: Global,
     reader: &mut Watched<R>,

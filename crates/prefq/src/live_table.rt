@@ -1,6 +1,6 @@
-//! A table with its clients that is told its lines one at a time.
+//! A table with its clients that is given its lines one at a time.
 ghost use Rattle.std.specs.Prelude.{◌≡◌, ◌<◌, ◌+◌, ◌^◌, string_bytes, OnOk, IfOk, IfErr};
-ghost use Rattle.prefq.specs.LiveTable.{IsOpened, OpeningFault, Tells, number_of};
+ghost use Rattle.prefq.specs.LiveTable.{IsOpened, OpeningFault, TellsLine, next_number};
 
 use crate::fault::RunFault;
 use crate::playing::play_line;
@@ -8,7 +8,7 @@ use pref_core::{Machine, Setup};
 use pref_table::{Schema, read_table};
 use std::alloc::Global;
 
-/// A table with its clients and their open queries, and the number of the line that it is told next.
+/// A table with its clients and their open queries, and the number of the line that comes next.
 #[derive(Drop)]
 pub struct LiveTable {
     schema: Schema,
@@ -17,9 +17,9 @@ pub struct LiveTable {
 }
 
 impl LiveTable {
-    /// Opens the table of a text, which stands between the lines `table` and `end` of a script. The next line has this number.
+    /// Opens the table of a text, which is between the lines `table` and `end` of a script. The next line has this number.
     ///
-    /// Refused `Table` or `Opening`, in this order, and `Memory` wherever it is met.
+    /// Refused `Table` or `Opening`, in this order, and `Memory` as soon as memory runs out.
     pub fn open(
         alloc: Global,
         setup: Setup,
@@ -38,12 +38,12 @@ impl LiveTable {
         })
     }
 
-    /// Appends what a line is told, which stands without its end: nothing where it is blank.
+    /// Appends the replies to a line, which is given without its end: nothing where it is blank.
     ///
-    /// Refused `Memory` alone. The line may have been done then, and the text may have a part of its replies, so the table is to be told no more.
+    /// Refused `Memory` alone. The line may have been done then, and the text may have a part of its replies, so the table is to be given no more lines.
     pub fn tell(&mut self, alloc: Global, line: &[u8], text: &mut String) -> Result<(), RunFault>
-        requires { number_of self.old + 1 < 2 ^ 64 }
-        ensures told { OnOk result (Tells self.old line.now (string_bytes text.old) (string_bytes text.new) self.new) }
+        requires { next_number self.old + 1 < 2 ^ 64 }
+        ensures told { OnOk result (TellsLine self.old line.now (string_bytes text.old) (string_bytes text.new) self.new) }
         ensures memory { IfErr result (λ fault. fault ≡ RunFault.Memory) }
     {
         play_line(

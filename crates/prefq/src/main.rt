@@ -42,7 +42,7 @@ use watched::Watched;
 /// The status of refused arguments.
 const REFUSED: u8 = 2;
 
-/// The status of a want of memory.
+/// The status of a run that is out of memory.
 const OUT_OF_MEMORY: u8 = 1;
 
 /// The words after the program's name.

@@ -59,7 +59,7 @@ pub fn fault_line(alloc: Global, fault: &RunFault) -> Result<String, AllocError>
     Ok(line)
 }
 
-/// Writes the text that was told, or the line of the fault that was told, which is handed on then.
+/// Writes a text, or the line of a fault, which is handed on then.
 ///
 /// Refused `Write` as [`write_output`] is, and `Memory` where there is none for the line: nothing was written then.
 pub fn write_told<W: Write>(

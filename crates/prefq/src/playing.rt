@@ -1,4 +1,4 @@
-//! A command line, played over one table: it is told what becomes of it.
+//! A command line, played on one table, and the replies to it.
 ghost use Rattle.std.specs.Prelude.{◌≡◌, ◌≤◌, ◌∷◌, [], length, string_bytes, IfErr, OnOk};
 ghost use Rattle.prefq.specs.Commands.{commands_in, runs};
 ghost use Rattle.prefq.specs.Playing.{Plays};
@@ -28,7 +28,7 @@ fn play_event(
     Ok(())
 }
 
-/// Appends what a command line is told, by its number, if it isn't blank.
+/// Appends the replies to a command line, by its number, if it isn't blank.
 pub fn play_line(
     alloc: Global,
     schema: &Schema,

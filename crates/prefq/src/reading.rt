@@ -28,7 +28,7 @@ pub struct Script {
 
 /// Reads a script up to its commands. Whether there is room for its opening rows is not tested.
 ///
-/// Refused `NoTable`, `NoEnd` or `Table`, in this order, and `Memory` wherever it is met.
+/// Refused `NoTable`, `NoEnd` or `Table`, in this order, and `Memory` as soon as memory runs out.
 pub fn read_opening(alloc: Global, bytes: &[u8]) -> Result<Opening<'_>, RunFault>
     requires { length bytes.now + 3 < 2 ^ 64 }
     ensures read { IfOk result (λ opening. IsOpeningOf bytes.now opening) }

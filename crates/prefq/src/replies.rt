@@ -9,14 +9,14 @@ use crate::text::{push_refused, push_reply};
 use pref_core::{CoreFault, Reply};
 use std::alloc::AllocError;
 
-/// Whether one of so many clients has this number.
+/// Whether one of this many clients has this number.
 fn is_client(clients: u8, number: u8) -> bool
     ensures { result ≡ is_client clients number }
 {
     0 < number && number <= clients
 }
 
-/// Appends what is printed for a line that belongs to none of so many clients: its refusal, or that there is no such client.
+/// Appends what is printed for a line that belongs to none of this many clients: its refusal, or that there is no such client.
 fn push_if_unowned(
     out: &mut String,
     width: usize,
@@ -42,7 +42,7 @@ fn push_if_unowned(
     }
 }
 
-/// Appends the lines that belong to none of so many clients.
+/// Appends the lines that belong to none of this many clients.
 pub fn push_unowned(
     out: &mut String,
     width: usize,

@@ -2,7 +2,7 @@
 ghost use Rattle.std.specs.Prelude.{◌≡◌, ◌≤◌, ◌<◌, ◌+◌, ◌^◌, ℕ, List, false, length, string_bytes, IfErr, IfOk};
 ghost use Rattle.std.specs.Io.KnownBytes.{Consumes};
 ghost use Rattle.prefq.specs.Commands.{commands_of};
-ghost use Rattle.prefq.specs.LiveTable.{names_of, number_of, running_of};
+ghost use Rattle.prefq.specs.LiveTable.{names_of, next_number, running_of};
 ghost use Rattle.prefq.specs.Output.{TellsOutput, in_bytes};
 ghost use Rattle.prefq.specs.Playing.{TellsAll};
 ghost use Rattle.prefq.specs.Run.{Ran, sink_of, source_of};
@@ -19,10 +19,10 @@ use pref_core::Setup;
 use std::alloc::Global;
 use std::io::{Read, Write};
 
-/// What lines are told by a live table, in one pass over them. Refused `Memory` alone.
+/// The replies of a live table to some lines, in one pass over them. Refused `Memory` alone.
 fn tell_lines(alloc: Global, live: &mut LiveTable, lines: &[u8]) -> Result<String, RunFault>
-    requires { number_of live.old + length lines.now < 2 ^ 64 }
-    ensures told { IfOk result (λ text. TellsAll (length (names_of live.old)) (running_of live.old) (commands_of (names_of live.old) (number_of live.old) (raw_lines lines.now)) (string_bytes text)) }
+    requires { next_number live.old + length lines.now < 2 ^ 64 }
+    ensures told { IfOk result (λ text. TellsAll (length (names_of live.old)) (running_of live.old) (commands_of (names_of live.old) (next_number live.old) (raw_lines lines.now)) (string_bytes text)) }
     ensures memory { IfErr result (λ fault. fault ≡ RunFault.Memory) }
 {
     let mut text = String::new(alloc);
@@ -52,7 +52,7 @@ fn reply_text(alloc: Global, setup: Setup, bytes: &[u8]) -> Result<String, RunFa
 ///
 /// After `Read`, `TooLarge` and `Memory` nothing was written, and after `Write` a beginning of the output. Each other
 /// fault is the script's own, and its one line is the output. The faults are tested in the order `Read`, `TooLarge`,
-/// `NoTable`, `NoEnd`, `Table`, `Opening`; `Memory` comes wherever it is met.
+/// `NoTable`, `NoEnd`, `Table`, `Opening`; `Memory` comes as soon as memory runs out.
 pub fn run_script<R: Read, W: Write>(
     alloc: Global,
     reader: &mut Watched<R>,

@@ -1,7 +1,7 @@
 //! The lines of a script, and its parts.
 ghost use Rattle.std.specs.Prelude.{◌≡◌, ◌≤◌, ◌<◌, ◌+◌, ◌∷◌, ◌++◌, length, take, drop, IfOk, MatchOption, MatchResult, Ok, Err};
 ghost use Rattle.std.specs.List.{concat, position_or_len};
-ghost use Rattle.prefq.specs.Script.{is_end, is_table, line_of, parts_of, raw_lines, without_last};
+ghost use Rattle.prefq.specs.Script.{is_end_line, is_table_line, parts_of, raw_lines, without_last, without_line_end};
 
 use crate::fault::RunFault;
 use memchr::memchr;
@@ -30,21 +30,21 @@ fn drop_last(byte: u8, text: &[u8]) -> &[u8]
 
 /// What a line says, without its end.
 pub fn line_text(raw: &[u8]) -> &[u8]
-    ensures { result.now ≡ line_of raw.now }
+    ensures { result.now ≡ without_line_end raw.now }
 {
     drop_last(b'\r', drop_last(b'\n', raw))
 }
 
 /// Whether a line is the one that a script begins with.
 pub fn is_table_line(raw: &[u8]) -> bool
-    ensures { result ≡ is_table raw.now }
+    ensures { result ≡ is_table_line raw.now }
 {
     line_text(raw) == b"table".as_slice()
 }
 
 /// Whether a line ends the table text.
 pub fn is_end_line(raw: &[u8]) -> bool
-    ensures { result ≡ is_end raw.now }
+    ensures { result ≡ is_end_line raw.now }
 {
     line_text(raw) == b"end".as_slice()
 }
@@ -59,7 +59,7 @@ pub struct ScriptText<'a> {
 
 /// Cuts what follows the line `table` at its first line `end`.
 fn cut_at_end(rest: &[u8]) -> Option<ScriptText<'_>>
-    ensures { let lines = raw_lines rest.now in let count = position_or_len is_end lines in
+    ensures { let lines = raw_lines rest.now in let count = position_or_len is_end_line lines in
         MatchOption result (length lines ≤ count)
         (λ script. (count < length lines) × (script.table.now ≡ concat (take count lines)) × (raw_lines script.commands.now ≡ drop (count + 1) lines)
         × (script.first ≡ count + 3) × (script.first + length script.commands.now ≤ length rest.now + 3)) }

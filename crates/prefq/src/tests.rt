@@ -132,7 +132,7 @@ fn run_through(alloc: Global, reader: Trickle<'_>, writer: Narrow, setup: Setup)
     ended(result, reader, writer)
 }
 
-/// A reader that gives so many bytes at a time and never fails.
+/// A reader that gives this many bytes at a time and never fails.
 fn in_steps(text: &[u8], step: usize) -> Trickle<'_> {
     Trickle {
         text,
@@ -142,7 +142,7 @@ fn in_steps(text: &[u8], step: usize) -> Trickle<'_> {
     }
 }
 
-/// A writer that takes so many bytes at a time and never fails.
+/// A writer that takes this many bytes at a time and never fails.
 fn roomy(alloc: Global, step: usize) -> Narrow {
     Narrow {
         taken: Vec::new(alloc),

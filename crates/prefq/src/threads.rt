@@ -26,7 +26,7 @@ use std::marker::Brand;
 use std::sync::Wait;
 use std::thread::Threads;
 
-/// A gate that holds nobody.
+/// A gate that is always open.
 pub struct OpenGate;
 
 impl Gate for OpenGate {
@@ -56,7 +56,7 @@ fn joint_replies<J: Naming + Send + Sync, R: Threads + Wait + Sync, G: Gate + Sy
     ensures sequential { IfOk result (λ replies. IsSequential (record { limits = setup; rows = rows.now }) acts.items replies.items) }
     ensures room { IfOk result (λ replies. setup.capacity < length rows.now → ⊥) }
     ensures stops { IfErr result (λ why. (setup.capacity < length rows.now) × (why ≡ ShareFault.Core (core.Full (length rows.now)))
-        ⊎ (setup.capacity < length rows.now → ⊥) × ClosesOrStops (record { limits = setup; rows = rows.now }) (G.may_hold gate.now) acts.items why) }
+        ⊎ (setup.capacity < length rows.now → ⊥) × ClosesOrStops (G.may_hold gate.now) acts.items why) }
 {
     let (board, clients) = open_board::<J, R>(rt, alloc, name, setup, rows)?;
     let replies = run_all(rt, alloc, &board, clients, acts, gate);
@@ -65,11 +65,11 @@ fn joint_replies<J: Naming + Send + Sync, R: Threads + Wait + Sync, G: Gate + Sy
 }
 
 /// Runs a script under a setup, each client's events on a thread of its own with the gate's calls round each, and gives the
-/// output: first the lines that belong to no client, then the lines of each client, each in order of the script.
+/// output: first the lines that belong to no client, then the lines of each client, each in the order of the script.
 ///
 /// The replies are those of one legal history, and of the sequential table for one interleaving of the clients' acts; which
-/// one is open. Refused `NoTable`, `NoEnd`, `Table`, `Opening`, in this
-/// order, `Memory` wherever it is met, and `Threads` where a client was stopped: by the gate (`Held`, which an [`OpenGate`]
+/// one is not said. Refused `NoTable`, `NoEnd`, `Table`, `Opening`, in this
+/// order, `Memory` as soon as memory runs out, and `Threads` where a client was stopped: by the gate (`Held`, which an [`OpenGate`]
 /// never does), or by `ClientInUse` or `Closed`, which no run of a script is known to meet.
 ///
 /// ```text

@@ -3,7 +3,7 @@ use super::assert_same;
 use crate::args::{ArgsFault, Mode, read_args};
 use std::alloc::Global;
 
-/// The mode, then clients, slots and slots of a block; or what the words are told.
+/// The mode, then clients, slots and slots of a block; or what is printed for the words.
 type Told = Result<(Mode, u8, u32, u32), &'static str>;
 
 fn read(alloc: Global, words: &[&str]) -> Told {

@@ -7,7 +7,7 @@ use std::io;
 use std::io::Read;
 use std::test::Fail;
 
-/// Scripts with what they are told. The commands of the first need no question; it has line ends of both kinds, blank lines and a last
+/// Scripts with what is printed for them. The commands of the first need no question; it has line ends of both kinds, blank lines and a last
 /// line without an end. The second is the one that the program is stored with.
 const SCRIPTS: [(&[u8], &[u8]); 2] = [
     (
@@ -22,13 +22,16 @@ level 1 id 2: 10\n",
     ),
 ];
 
-/// A reader without an end.
+/// A reader without an end, which counts the bytes that it gave.
 #[derive(Drop)]
-struct Endless;
+struct Endless {
+    given: usize,
+}
 
 impl Read for Endless {
     fn read(&mut self, buf: &mut [u8]) -> io::Result<usize> {
         buf.fill(b'x');
+        self.given = self.given.wrapping_add(buf.len());
         Ok(buf.len())
     }
 }
@@ -112,15 +115,12 @@ fn a_line_of_a_fault_that_cannot_be_written_is_a_write_fault(rt: HostRuntime) ->
 #[test]
 fn a_reader_without_an_end_is_too_large(rt: HostRuntime) -> Result<(), Fail> {
     let alloc = rt.alloc();
-    let mut reader = Watched::new(Endless);
+    let mut reader = Watched::new(Endless { given: 0 });
     let mut writer = Watched::new(Vec::new(alloc));
     let result = run_script(alloc, &mut reader, &mut writer, defaults()?);
-    let found = (result, reader.failed(), writer.into_inner().len());
-    assert_same(
-        &rt,
-        &"endless",
-        &found,
-        &(Err(RunFault::TooLarge), false, 0),
-    );
+    let failed = reader.failed();
+    let moved = (reader.into_inner().given, writer.into_inner().len());
+    let wanted = (Err(RunFault::TooLarge), false, (16_777_217, 0));
+    assert_same(&rt, &"endless", &(result, failed, moved), &wanted);
     Ok(())
 }

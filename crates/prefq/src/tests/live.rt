@@ -1,4 +1,4 @@
-//! Runs that tell each line as it comes. What a terminal and pipes show is in tests/live.py, at the top of the repository.
+//! Runs that reply to each line as it comes. What a terminal and pipes show is in tests/live.py, at the top of the repository.
 use super::{Full, Narrow, Seen, Trickle, assert_same, defaults, ended, in_steps, roomy};
 use crate::fault::RunFault;
 use crate::live::run_live;

@@ -17,7 +17,7 @@ use std::thread::Threads;
 /// How often a gate looks whether the other client was answered.
 const MOST_TURNS: u64 = 100_000_000;
 
-/// Holds the calls of one client until one of another client is answered, or for so many turns.
+/// Holds the calls of one client until one of another client is answered, or for this many turns.
 #[derive(Drop)]
 struct HoldsUntil {
     held: u8,
@@ -65,7 +65,7 @@ impl Gate for StopsAt {
     fn after(&self, _client: u8, _turn: usize) {}
 }
 
-/// What a run has told, or its fault.
+/// What a run has returned, or its fault.
 fn told(output: &Result<String, RunFault>) -> Result<&str, RunFault> {
     match output {
         Ok(text) => Ok(text.as_str()),
