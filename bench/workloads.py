@@ -4,7 +4,7 @@
     workloads.py list                     the names
     workloads.py write FOLDER [NAME..]    writes NAME.txt, and NAME.options with the options of `play`
 
-The data sets are those of the skyline operator (Börzsönyi, Kossmann, Stocker 2001) (independent, correlated, anticorrelated),
+The data sets are those of the skyline operator (Börzsönyi, Kossmann, Stocker 2001): independent, correlated, anticorrelated,
 as whole numbers from 0 to 999,999. Each script is below 16 MiB and each table has at most 65,536 rows."""
 import os
 import random
@@ -171,11 +171,103 @@ def deep(n, repeat):
 
 
 def rated(n, ask):
-    """Hotels: stars from 1 to 5, an id that is the row's own, a price: many rows score alike."""
+    """Hotels: stars from 1 to 5, an id that is the row's own, a price. Many rows score alike, or each is its own group."""
     r = random.Random("rated")
     lines = table(["stars", "id", "price"], [[r.randrange(1, 6), i, r.randrange(SCALE)] for i in range(n)])
     return lines + query(1, ask, -(-n // 1024)), options(n)
 
+
+def wide(n):
+    """A product of all 16 columns: nearly each row is best."""
+    return skyline("ind", 16, n, 64, 1)
+
+
+def one_by_one(n):
+    """Blocks of one row, and each row is best: what a block costs beside its rows."""
+    lines = table(["x", "y"], [[i * 7919 % n, -(i * 7919 % n)] for i in range(n)])
+    return lines + query(1, "best low(x) * low(y)", n), options(n, block=1)
+
+
+def opposed(n):
+    """Two columns, the smaller one the larger the other: each row is best."""
+    rows = list(range(n))
+    random.Random("opposed").shuffle(rows)
+    return table(["x", "y"], [[x, -x] for x in rows]) + query(1, "best low(x) * low(y)", -(-n // 1024)), options(n)
+
+
+def many_factors(n, factors):
+    """The same behind so many factors that see no difference: each row is best, and each comparison looks at all factors."""
+    rows = list(range(n))
+    random.Random("opposed").shuffle(rows)
+    ask = "best " + "".join(f"around(c, {i}) * " for i in range(factors)) + "low(x) * low(y)"
+    return table(["x", "y", "c"], [[x, -x, 0] for x in rows]) + query(1, ask, -(-n // 1024)), options(n)
+
+
+def churn(commands, cap):
+    """A table seven eighths full where rows come and go at random: ids run far past the capacity."""
+    r = random.Random("churn")
+    ids = list(range(1, cap * 7 // 8 + 1))
+    next_id = len(ids) + 1
+    lines = table(["x"], [[i % 1000] for i in ids])
+    for _ in range(commands // 2):
+        i = r.randrange(len(ids))
+        lines += [f"as 1 delete {ids[i]}", f"as 1 insert {r.randrange(1000)}"]
+        ids[i] = next_id
+        next_id += 1
+    return lines, options(cap)
+
+
+def gets(kind, count, rows=20_000, cap=30_000):
+    """Gets of random rows of one kind. Of the rows, every second one was updated under an open query, so it had to move to another
+    slot; every fourth one was deleted; and ids above those of the rows were never given. All these ids have five digits."""
+    r = random.Random("gets")
+    at_home = [i for i in range(10_000, rows + 1) if i % 4 == 1]
+    kinds = {"home": at_home, "moved": [i for i in range(10_000, rows + 1) if i % 2 == 0],
+             "deleted": [i + 2 for i in at_home if i + 2 <= rows], "never": range(rows + 1, 2 * rows)}
+    lines = table(["x"], [[i % 1000] for i in range(rows)]) + ["as 1 begin best low(x)"]
+    lines += [f"as 1 update {i} {i % 1000}" for i in range(2, rows + 1, 2)] + ["as 1 abandon"]
+    lines += [f"as 1 delete {i}" for i in range(3, rows + 1, 4)]
+    return lines + [f"as 1 get {r.choice(kinds[kind])}" for _ in range(count)], options(cap)
+
+
+# what grows, by the number of rows; changes, live and churn have as many commands as slots
+GROWING = {
+    "load": load,
+    "changes": lambda n: changes(n * 5 // 8, n, n),
+    "live": lambda n: live(n * 5 // 8, n, n),
+    "churn": lambda n: churn(n, n),
+    "sky-ind-d2": lambda n: skyline("ind", 2, n, 64, 1),
+    "sky-ind-d4": lambda n: skyline("ind", 4, n, 64, 1),
+    "sky-ind-d6": lambda n: skyline("ind", 6, n, 64, 1),
+    "sky-cor-d4": lambda n: skyline("cor", 4, n, 64, 1),
+    "sky-anti-d2": lambda n: skyline("anti", 2, n, 64, 1),
+    "sky-anti-d4": lambda n: skyline("anti", 4, n, 64, 1),
+    "sky-anti-d6": lambda n: skyline("anti", 6, n, 64, 1),
+    "top10": lambda n: levels("top_level 10", "ind", 3, n, 1),
+    "atleast100": lambda n: levels("at_least 100", "ind", 3, n, 1),
+    "alllevels-d2-ind": lambda n: levels("top_level 1000", "ind", 2, n, 1),
+    "alllevels-d2-anti": lambda n: levels("top_level 1000", "anti", 2, n, 1),
+    "grouped": lambda n: grouped(n, 3, 100, 1),
+    "deep": lambda n: deep(n, 1),
+    "alike": lambda n: rated(n, "best high(stars)"),
+    "alike-all": lambda n: rated(n, "best pos(stars, 9)"),
+    "own-groups": lambda n: rated(n, "best low(price) by id"),
+    "wide": wide,
+    "one-by-one": one_by_one,
+}
+SIZES = [1 << k for k in range(10, 17)]
+AGES = [0, 100_000, 400_000, 800_000]
+SAMPLE = 100_000
+GETS = 20_000
+
+# where the choice of --block and --window shows, each with its number of slots
+CHOICES = {
+    "two": (65_536, lambda: skyline("ind", 2, 65_536, 64, 1)),
+    "six": (65_536, lambda: skyline("ind", 6, 65_536, 64, 1)),
+    "opposed": (16_384, lambda: opposed(16_384)),
+    "alike": (65_536, lambda: rated(65_536, "best pos(stars, 9)")),
+    "factors": (4_096, lambda: many_factors(4_096, 240)),
+}
 
 FULL = {"load": lambda: load(65_536)}
 for _kind, _d, _window, _repeat in [("ind", 2, 64, 24), ("ind", 2, 1024, 24), ("ind", 4, 64, 6), ("ind", 4, 1024, 6), ("ind", 6, 64, 1), ("ind", 6, 1024, 1),
@@ -192,6 +284,12 @@ FULL |= {
     "deep": lambda: deep(20_000, 2),
     "alike": lambda: rated(65_536, "best high(stars)"),
     "alike-all": lambda: rated(65_536, "best pos(stars, 9)"),
+    "own-groups": lambda: rated(65_536, "best low(price) by id"),
+    "wide": lambda: wide(16_384),
+    "one-by-one": lambda: one_by_one(16_384),
+    "alllevels-d2-ind": lambda: levels("top_level 1000", "ind", 2, 10_000, 1),
+    "alllevels-d2-anti": lambda: levels("top_level 1000", "anti", 2, 10_000, 1),
+    "churn": lambda: churn(240_000, 30_000),
 }
 
 QUICK = {
@@ -209,9 +307,20 @@ QUICK = {
     "quick-deep": lambda: deep(4_096, 3),
     "quick-alike": lambda: rated(8_192, "best high(stars)"),
     "quick-alike-all": lambda: rated(2_048, "best pos(stars, 9)"),
+    "quick-own-groups": lambda: rated(4_096, "best low(price) by id"),
+    "quick-wide": lambda: wide(2_048),
+    "quick-one-by-one": lambda: one_by_one(1_024),
+    "quick-alllevels-d2-ind": lambda: levels("top_level 1000", "ind", 2, 2_048, 1),
+    "quick-alllevels-d2-anti": lambda: levels("top_level 1000", "anti", 2, 2_048, 1),
+    "quick-churn": lambda: churn(60_000, 7_500),
 }
 
 ALL = FULL | QUICK
+ALL |= {f"{name}-{n}": lambda make=make, n=n: make(n) for name, make in GROWING.items() for n in SIZES}
+ALL |= {f"churn-after-{changes}": lambda c=changes: churn(c, 30_000) for age in AGES for changes in (age, age + SAMPLE)}
+ALL |= {f"gets-{kind}": lambda k=kind: gets(k, GETS) for kind in ("home", "moved", "deleted", "never")}
+ALL["gets-none"] = lambda: gets("home", 0)
+ALL |= {f"choice-{name}": make for name, (_, make) in CHOICES.items()}
 
 
 def write(folder, name):
