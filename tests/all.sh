@@ -43,6 +43,7 @@ echo "== rt ci took $((SECONDS / 60)) minutes"
 
 check python3 examples/check.py
 check python3 tests/scripts.py
+check python3 tests/model/compare.py
 check python3 tests/live.py
 check python3 examples/parts/parts.py crates/prefq/out/prefq --check 120000
 check tests/faults_of_the_program.sh

@@ -14,7 +14,7 @@ from pathlib import Path
 TOP = Path(__file__).resolve().parent.parent
 DOCUMENT = TOP / "docs/DEFINITIONS.md"
 CRATES = ["pref_table", "pref_term", "pref_sky", "pref_core", "pref_share", "prefq"]
-PROGRAM = {"run_script", "run_script_on_threads", "run_threads", "read_input", "write_told", "fault_line", "status", "Watched"}
+PROGRAM = {"run_script", "run_script_on_threads", "run_live", "run_threads", "read_input", "write_told", "fault_line", "status", "LiveTable", "Watched"}
 
 HEAD = re.compile(r"(?:(?:abbrev|unfoldable|pub|record|data)\s+)+([^\s:(]+)")
 IMPORT = re.compile(r"use Rattle\.(\w+)\.specs\.([\w.]+?)(?:\.\{([^}]*)\}| as (\w+))(?=[\s;]|$)")

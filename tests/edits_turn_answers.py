@@ -2,7 +2,7 @@
 """Shows that each must-fail edit makes the mistake in its name: applies it to a copy, runs the test there without a proof that docs/EDITS.md
 names beside it, and sees it fail.
 
-    python3 tests/edits_turn_answers.py [CRATE..]
+    python3 tests/edits_turn_answers.py [CRATE | CRATE/EDIT ..]
 
 A line whose third column begins with `TESTS::NAME` names the test NAME of the crate TESTS, one that begins with `tests/scripts/NAME` that script;
 of other lines it tells what stands there. One edit takes about half a minute: for a release, and for the crates that a change touches. Needs the Rattle kit and Python 3.9.
@@ -81,7 +81,7 @@ def main():
     told, wrong = set(), 0
     for crate, edit, shown in lines():
         told.add((crate, edit))
-        if wanted and crate not in wanted:
+        if wanted and not wanted & {crate, f"{crate}/{edit}"}:
             continue
         failed = fails(crate, edit, shown)
         wrong += failed is False

@@ -141,6 +141,7 @@ def named_ends(program):
         ("a line without an end", [script, b"a" * (LARGEST + 1)], (told + b"fault: too large\n", 1)),
         ("a table block that is too large", [b"table\nx\n", b"1\n" * (LARGEST // 2)], (b"fault: too large\n", 1)),
         ("the writer closes within the table", [b"table\nx\n1"], (b"script refused: no end\n", 2)),
+        ("commands where no end was given", [b"table\nx\n1\nas 1 room\n"], (b"script refused: no end\n", 2)),
         ("the writer closes at once", [], (b"script refused: no table\n", 2)),
     ]:
         if fed(program, parts) != wanted:
@@ -150,6 +151,12 @@ def named_ends(program):
         process.stdin.write(part)
         if process.stdout.readline() != line or process.wait(10) != 2:
             yield f"{name} is not refused before the input ends"
+    process = start(program)
+    process.stdin.write(b"table\nx\n1\nas 1 room\n")
+    if select.select([process.stdout], [], [], 0.5)[0]:
+        yield "something is said before the table has its end"
+    process.kill()
+    process.wait()
     process = start(program)
     exchange(process, HEAD + b"as 1 room\n")
     process.stdout.close()
