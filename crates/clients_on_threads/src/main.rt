@@ -104,7 +104,7 @@ fn run_clients<J: Naming + Send + Sync, R: Threads + Wait + Print + AllocGlobal 
     Ok(print_answer(rt, "after it", &after)?)
 }
 
-/// Runs the clients of a new board. A board is closed and never dropped, so no `?` may stand between.
+/// Runs the clients of a new board. A board is closed and never dropped, so no `?` may come between.
 fn run_board<J: Naming + Send + Sync, R: Threads + Wait + Print + AllocGlobal + Sync>(
     rt: &R,
     name: Name,

@@ -9,19 +9,19 @@ use pref_table::{Row, Schema};
 use std::sync::Wait;
 use std::time::{Clock, Instant};
 
-/// So many slots the table has.
+/// How many slots the table has.
 pub const SLOTS: u32 = 30_000;
 
-/// So many rows it holds all the time.
+/// How many rows it holds all the time.
 pub const ROWS: usize = 20_000;
 
-/// Times are taken over so many changes, or gets.
+/// How many changes, or gets, a time is taken over.
 const SAMPLE: u64 = 100_000;
 
 /// An id that no row ever had.
 const NEVER: u64 = 1 << 63;
 
-/// Nanoseconds that each took, of a table that had so many changes.
+/// Nanoseconds that each took, of a table that had this many changes.
 #[derive(Clone, Copy)]
 pub struct Age {
     pub changes: u64,
@@ -32,7 +32,7 @@ pub struct Age {
     pub get_of_unknown: u64,
 }
 
-/// Gets are timed in so many rounds of all rows.
+/// How many rounds of all rows gets are timed in.
 const ROUNDS: u64 = 10;
 
 /// A client alone on a board, with the ids of the rows and of the row before each.
@@ -48,7 +48,7 @@ struct Table<'a, J: Naming, R> {
     deleted: Vec<u64>,
 }
 
-/// Nanoseconds from then until now for each of so many.
+/// Nanoseconds from then until now for each of this many.
 fn nanoseconds(rt: &impl Clock, start: Instant, times: u64) -> anyhow::Result<u64> {
     let nanoseconds = start.elapsed(rt)?.as_nanos() / u128::from(times.max(1));
     Ok(u64::try_from(nanoseconds)?)
@@ -99,7 +99,7 @@ impl<'a, J: Naming, R: Wait + Clock + AllocGlobal> Table<'a, J, R> {
         Ok(())
     }
 
-    /// Nanoseconds of a change, over so many, if any.
+    /// Nanoseconds of a change, over this many, if any.
     fn change(&mut self, changes: u64) -> anyhow::Result<Option<u64>> {
         if changes == 0 {
             return Ok(None);
@@ -111,7 +111,7 @@ impl<'a, J: Naming, R: Wait + Clock + AllocGlobal> Table<'a, J, R> {
         Ok(Some(nanoseconds(self.rt, start, changes)?))
     }
 
-    /// The table, aged by so many changes: the last [`SAMPLE`] of them are timed.
+    /// The table, aged by this many changes: the last [`SAMPLE`] of them are timed.
     fn age(&mut self, changes: u64, unknown: &[u64]) -> anyhow::Result<Age> {
         self.change(changes.saturating_sub(self.changes).saturating_sub(SAMPLE))?;
         let change = self.change(changes.saturating_sub(self.changes).min(SAMPLE))?;

@@ -4,7 +4,7 @@ ghost use Rattle.std.specs.Prelude.{◌≤◌};
 
 use pref_table::{Row, Schema, TableFault};
 
-/// So many rows a table opens with.
+/// How many rows a table opens with.
 pub const ROWS: u64 = 40_000;
 
 /// What the next number is made of.

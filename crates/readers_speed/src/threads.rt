@@ -53,7 +53,7 @@ pub struct Tally {
     pub times: u64,
 }
 
-/// So many gets are made between two looks at the clock.
+/// How many gets are made between two looks at the clock.
 const GETS: u64 = 256;
 
 /// The sum of all numbers of a row, which are 0 and up.
