@@ -252,6 +252,15 @@ joins o old new call told seen stamp accepted j same up number =
       same = number;
     }
 
+end_is_done : (capacity : ℕ) (state : State) (call : Call) → is_end call ≡ true → outcome capacity state call ≡ Done
+end_is_done capacity state Finish h = refl
+end_is_done capacity state Abandon h = refl
+end_is_done capacity state call h = absurd (cc)
+
+-- the end of a query is done
+pub joins_as_done : (o : Opening) (old new : Standing) (call : Call) (told : Outcome) → is_end call ≡ true → Joins o old call told new → Joins o old call Done new
+joins_as_done o old new call told ends j = subst (λ (t : Outcome). Joins o old call t new) (j.reply ∙ end_is_done o.limits.capacity (state_at o j.before) call ends) j
+
 -- the table at an open query's begin is what the slots show there
 shows_begun : (contents : Contents) (state : State) (client : ℕ) (snapshot : Snapshot) → StandsFor contents state → begun_of state client ≡ Some snapshot → Shows contents.slots snapshot.commits snapshot.table
 shows_begun contents state client snapshot h is = go (same_seat contents.slots contents.stamp contents.callers state.clients client h.clients) is
