@@ -1,11 +1,11 @@
 -- The slots of the rows that a call begins, chosen one after the other.
-use Rattle.std.proofs.Common.{◌≡◌, ℕ, suc, ◌+◌, ◌<◌, ◌≤◌, Bool, true, false, ◌&&◌, cond, List, [], ◌∷◌, ◌++◌, map, length, Option, Some, None, is_some, slice_set, refl, sym, ap, ◌∙◌, arith}
+use Rattle.std.proofs.Common.{◌≡◌, ℕ, suc, ◌+◌, ◌<◌, ◌≤◌, Bool, true, false, ◌&&◌, cond, List, [], ◌∷◌, ◌++◌, map, length, Option, Some, None, Result, Ok, Err, is_some, slice_set, refl, sym, ap, ◌∙◌, arith}
 use Rattle.std.specs.List.{count_by}
 use Rattle.std.proofs.lemmas.List.{length-map, length-append, append-nil, append_assoc}
 use Rattle.std.proofs.lemmas.Bool.{lt-ltb, le-ltb}
 use Rattle.pref_core.specs.declared.store.version.Version.{Version}
-use Rattle.pref_core.specs.declared.store.places.Zone.{Zone}
 use Rattle.pref_core.specs.declared.call.Call.{Call}
+use Rattle.pref_core.specs.declared.call.Op.{Op}
 use Rattle.pref_core.specs.declared.call.Outcome.{Outcome}
 use Rattle.pref_core.specs.declared.call.Outcome.TheVariants.{NoSuchRow, Full}
 use Rattle.pref_sky.specs.declared.entry.Entry.{Entry}
@@ -16,8 +16,8 @@ use Rattle.pref_core.specs.Table.{among}
 use Rattle.pref_core.specs.State.{changes_of, ended, begun, begins_row, is_change, missing, granted, succeeds}
 use Rattle.pref_core.specs.Slots.{Contents, begins, born, visible}
 use Rattle.pref_core.specs.Operations.{close, filled, placed, used, grown, is_free, outcome_at}
-use Rattle.pref_core.specs.Places.{is_free_zone, zone_of}
-use Rattle.pref_core.specs.Kept.{IsFreed, is_open}
+use Rattle.pref_core.specs.Places.{is_free_zone}
+use Rattle.pref_core.specs.Kept.{IsFreed, FindsFreed, is_open, zones_of}
 use Rattle.pref_core.proofs.Changing.{begun_few}
 use Rattle.pref_core.proofs.Plans.{succeeds-fits}
 use Rattle.pref_core.proofs.Several.{count_grown, filled_snoc, free_still, some_left}
@@ -29,23 +29,28 @@ abbrev pub stamps_next : Contents → List ℕ
 stamps_next contents = suc contents.stamp ∷ begins contents.callers
 
 -- The size that code computes.
-pub size_is : (contents : Contents) (call : Call) (zones : List Zone) (freed : List ℕ) (size free begun_rows : ℕ) → IsFreed contents (ended call) freed → zones ≡ map (zone_of (begins contents.callers)) contents.slots
-    → begun_rows ≡ length (begun contents.next_id call) → free ≡ count_by is_free_zone zones + length freed → size + free ≡ length contents.slots + begun_rows → size ≡ used (grown call contents)
-size_is contents call zones freed size free begun_rows h listed rows is told =
+pub size_is : (contents : Contents) (call : Call) (freed : List ℕ) (size free begun_rows : ℕ) → IsFreed contents (ended call) freed
+    → begun_rows ≡ length (begun contents.next_id call) → free ≡ count_by is_free_zone (zones_of contents) + length freed → size + free ≡ length contents.slots + begun_rows → size ≡ used (grown call contents)
+size_is contents call freed size free begun_rows h rows is told =
     let more = count_grown (suc contents.stamp) (begins contents.callers) (begun contents.next_id call) (closed_slots contents (ended call)) in
     let all = h.counted in
-    let same = ap (count_by is_free_zone) listed in
     omega arith
 
-pub freed_less : (contents : Contents) (ids freed : List ℕ) (zones : List Zone) → IsFreed contents ids freed → zones ≡ map (zone_of (begins contents.callers)) contents.slots → count_by is_free_zone zones + length freed ≤ length contents.slots
-freed_less contents ids freed zones h listed =
-    let all = h.counted in
-    let same = ap (count_by is_free_zone) listed in
-    omega arith
+pub freed_less : (contents : Contents) (ids freed : List ℕ) → IsFreed contents ids freed → count_by is_free_zone (zones_of contents) + length freed ≤ length contents.slots
+freed_less contents ids freed h = let all = h.counted in omega arith
 
 -- The outcome of a change that misses no row.
 pub outcome_missing : (contents : Contents) (call : Call) (id : ℕ) → is_change call ≡ true → missing (ended call) (visible contents.stamp contents.slots) ≡ Some id → NoSuchRow id ≡ outcome_at contents call
 outcome_missing contents call id c none = rw (c, none) refl
+
+-- A call that misses a row does nothing.
+pub missing_quiet : (contents : Contents) (op : Op) (freed : Result (List ℕ) ℕ) → FindsFreed contents (ended op.call) freed → ((places : List ℕ) → freed ≡ Ok places → ⊥) → op.outcome ≡ outcome_at contents op.call → (is_change op.call && succeeds op.outcome) ≡ false
+missing_quiet contents op (Ok places) finds not told = absurd (not places refl)
+missing_quiet contents op (Err id) finds not told = go (is_change op.call) refl
+  where
+    go : (b : Bool) → is_change op.call ≡ b → (is_change op.call && succeeds op.outcome) ≡ false
+    go false c = ap (λ b. b && succeeds op.outcome) c
+    go true c = ap (λ b. b && succeeds op.outcome) c ∙ ap succeeds (told ∙ sym (outcome_missing contents op.call id c finds))
 
 pub outcome_full : (contents : Contents) (call : Call) (size : ℕ) → is_change call ≡ true → missing (ended call) (visible contents.stamp contents.slots) ≡ None → begins_row call ≡ true → size ≡ used (grown call contents) → length contents.slots < size → Full size ≡ outcome_at contents call
 outcome_full contents call size c none row is large =
@@ -98,27 +103,27 @@ chosen_few contents call fresh rest chosen few h =
     omega arith
 
 -- one more
-pub choose_one : (contents : Contents) (call : Call) (fresh : Entry) (rest : List Entry) (chosen : List ℕ) (place : ℕ) (zones : List Zone) (freed : List ℕ) → IsFreed contents (ended call) freed → zones ≡ map (zone_of (begins contents.callers)) contents.slots
-    → is_open zones freed place ≡ true → among chosen place ≡ false → ChosenUpTo contents call (fresh ∷ rest) chosen → ChosenUpTo contents call rest (chosen ++ place ∷ [])
-choose_one contents call fresh rest chosen place zones freed finds listed opens new h = record {
+pub choose_one : (contents : Contents) (call : Call) (fresh : Entry) (rest : List Entry) (chosen : List ℕ) (place : ℕ) (freed : List ℕ) → IsFreed contents (ended call) freed
+    → is_open (zones_of contents) freed place ≡ true → among chosen place ≡ false → ChosenUpTo contents call (fresh ∷ rest) chosen → ChosenUpTo contents call rest (chosen ++ place ∷ [])
+choose_one contents call fresh rest chosen place freed finds opens new h = record {
   done = h.done ++ fresh ∷ [];
   all = h.all ∙ sym (append_assoc h.done (fresh ∷ []) rest);
   now = _;
   fills = filled_snoc (stamps_next contents) (suc contents.stamp) chosen h.done (closed_slots contents (ended call)) h.now place fresh h.fills
-      (free_still (stamps_next contents) (suc contents.stamp) chosen h.done (closed_slots contents (ended call)) h.now place h.fills new ∙ finds.opens place ∙ ap (λ z. is_open z freed place) (sym listed) ∙ opens);
+      (free_still (stamps_next contents) (suc contents.stamp) chosen h.done (closed_slots contents (ended call)) h.now place h.fills new ∙ finds.opens place ∙ opens);
 }
 
 -- there is one
-pub one_left : (contents : Contents) (call : Call) (fresh : Entry) (rest : List Entry) (chosen : List ℕ) (zones : List Zone) (freed : List ℕ) → IsFreed contents (ended call) freed → zones ≡ map (zone_of (begins contents.callers)) contents.slots
-    → is_change call ≡ true → succeeds (outcome_at contents call) ≡ true → ((place : ℕ) → is_open zones freed place ≡ true → among chosen place ≡ true) → ChosenUpTo contents call (fresh ∷ rest) chosen → ⊥
-one_left contents call fresh rest chosen zones freed finds listed c ok taken h =
+pub one_left : (contents : Contents) (call : Call) (fresh : Entry) (rest : List Entry) (chosen freed : List ℕ) → IsFreed contents (ended call) freed
+    → is_change call ≡ true → succeeds (outcome_at contents call) ≡ true → ((place : ℕ) → is_open (zones_of contents) freed place ≡ true → among chosen place ≡ true) → ChosenUpTo contents call (fresh ∷ rest) chosen → ⊥
+one_left contents call fresh rest chosen freed finds c ok taken h =
     some_left (suc contents.stamp) (begins contents.callers) chosen h.done (closed_slots contents (ended call)) h.now h.fills
     (let size = succeeds-fits (length contents.slots) (missing (ended call) (visible contents.stamp contents.slots)) (used (grown call contents)) (granted contents.next_id call) (rw (c, begins_one) at ok) in
     let more = count_grown (suc contents.stamp) (begins contents.callers) (begun contents.next_id call) (closed_slots contents (ended call)) in
     let long = length-map contents.slots (close (ended call) (suc contents.stamp)) in
     let all = ap length h.all ∙ length-append h.done (fresh ∷ rest) in
     omega arith)
-    (λ place f. taken place (ap (λ z. is_open z freed place) listed ∙ sym (finds.opens place) ∙ f))
+    (λ place f. taken place (sym (finds.opens place) ∙ f))
   where
     begins_one : begins_row call ≡ true
     begins_one = begins_where (changes_of call) contents.next_id h.done fresh rest h.all

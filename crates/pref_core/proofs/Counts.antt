@@ -5,11 +5,8 @@ use Rattle.std.proofs.lemmas.Bool.{lt-ltb}
 use Rattle.std.proofs.lemmas.List.{take-append-drop}
 use Rattle.pref_core.specs.declared.changes.Change.{Change}
 use Rattle.pref_core.specs.declared.changes.Change.TheVariants.{Add, Set, Remove}
-use Rattle.pref_core.specs.declared.call.Call.{Call}
-use Rattle.pref_core.specs.declared.call.Call.TheVariants.{Insert, Update, Delete, Commit, Begin, Finish, Abandon}
 use Rattle.pref_core.specs.Changes.{ended_by, begun_by, added_by, begins_any}
-use Rattle.pref_core.specs.State.{changes_of, is_formed}
-use Rattle.pref_core.proofs.Changing.{commit_length, ended_by-append, drop_at}
+use Rattle.pref_core.proofs.Changing.{ended_by-append, drop_at}
 
 pub drop_item : {X : Type 0} (xs : List X) (at : ℕ) (x other : X) → x ≡ get_or xs at other → at < length xs → drop at xs ≡ x ∷ drop (at + 1) xs
 drop_item xs at x other is inside = drop-cons xs at other inside ∙ ap (λ y. y ∷ drop (suc at) xs) (sym is) ∙ ap (λ n. x ∷ drop n xs) (sym (add-one at))
@@ -74,13 +71,3 @@ added_by-length [] = omega arith
 added_by-length (Add row ∷ rest) = let more = added_by-length rest in omega arith
 added_by-length (Set id row ∷ rest) = let more = added_by-length rest in omega arith
 added_by-length (Remove id ∷ rest) = let more = added_by-length rest in omega arith
-
--- a call makes a few changes
-pub few_changes : (call : Call) → is_formed call ≡ true → length (changes_of call) ≤ 8
-few_changes (Insert row) h = omega arith
-few_changes (Update id row) h = omega arith
-few_changes (Delete id) h = omega arith
-few_changes (Commit changes) h = commit_length changes h
-few_changes Begin h = omega arith
-few_changes Finish h = omega arith
-few_changes Abandon h = omega arith

@@ -13,12 +13,12 @@ use Rattle.pref_core.specs.declared.call.Op.{Op}
 use Rattle.pref_core.specs.Rows.{Row}
 use Rattle.pref_core.specs.State.{seat, is_change, refusal_of, after}
 use Rattle.pref_core.specs.Slots.{Contents, seen, is_needed, begins, StandsFor, IsWithin, EndsBy, opening_slots}
-use Rattle.pref_core.specs.Operations.{begin_after, callers_after, refusal_at, is_next, slots_after, stepped}
+use Rattle.pref_core.specs.Operations.{begin_after, callers_after, refusal_at, is_next, slots_after, stepped, applied}
 use Rattle.pref_core.specs.Stability.{is_end}
 use Rattle.pref_core.specs.Places.{zone_of, MayBecome}
 use Rattle.pref_core.specs.Bounds.{IsBounded}
-use Rattle.pref_core.specs.Kept.{IsKept}
-use Rattle.pref_core.proofs.Applied.{IsAllowed-from, stepped_stands}
+use Rattle.pref_core.specs.Kept.{IsKept, zones_of}
+use Rattle.pref_core.proofs.Applied.{stepped_stands}
 use Rattle.pref_core.proofs.Bounds.{IsBounded-stepped}
 
 -- whether a begin sees the slot
@@ -120,22 +120,21 @@ begun_zones next now callers (suc k) slots r h = go (slice_get callers k) refl r
     go (Some found) at r = zones_begun next now callers k found _ slots at (begin_closed found.calls found.begun r) refl h
 
 -- Every call that doesn't end a query leaves the zones.
-pub zones_kept : (contents : Contents) (op : Op) (slots : List (Option Version)) → is_next contents op ≡ true → is_end op.call ≡ false → (is_change op.call ≡ false → AllByRecursion (IsWithin contents.next_id contents.stamp) slots)
-    → map (zone_of (begins (callers_after contents.stamp contents.callers op.client op.call))) slots ≡ map (zone_of (begins contents.callers)) slots
-zones_kept contents op slots next stays within = go op.call stays within (IsAllowed-from contents op next).accepted
+pub zones_kept : (contents : Contents) (client : ℕ) (call : Call) → refusal_at contents client call ≡ None → is_end call ≡ false → AllByRecursion (IsWithin contents.next_id contents.stamp) contents.slots
+    → map (zone_of (begins (callers_after contents.stamp contents.callers client call))) contents.slots ≡ zones_of contents
+zones_kept contents client call accepted stays within = go call accepted stays
   where
-    change : (call : Call) → is_change call ≡ true → map (zone_of (begins (callers_after contents.stamp contents.callers op.client call))) slots ≡ map (zone_of (begins contents.callers)) slots
-    change call c = ap (λ ns. map (zone_of ns) slots) (begins_change contents.stamp contents.callers op.client call c)
+    change : (call : Call) → is_change call ≡ true → map (zone_of (begins (callers_after contents.stamp contents.callers client call))) contents.slots ≡ zones_of contents
+    change call c = ap (λ ns. map (zone_of ns) contents.slots) (begins_change contents.stamp contents.callers client call c)
 
-    go : (call : Call) → is_end call ≡ false → (is_change call ≡ false → AllByRecursion (IsWithin contents.next_id contents.stamp) slots) → refusal_at contents op.client call ≡ None
-        → map (zone_of (begins (callers_after contents.stamp contents.callers op.client call))) slots ≡ map (zone_of (begins contents.callers)) slots
-    go (Insert row) e w r = change (Insert row) refl
-    go (Update id row) e w r = change (Update id row) refl
-    go (Delete id) e w r = change (Delete id) refl
-    go (Commit changes) e w r = change (Commit changes) refl
-    go Begin e w r = begun_zones contents.next_id contents.stamp contents.callers op.client slots r (w refl)
-    go Finish e w r = absurd (cc)
-    go Abandon e w r = absurd (cc)
+    go : (call : Call) → refusal_at contents client call ≡ None → is_end call ≡ false → map (zone_of (begins (callers_after contents.stamp contents.callers client call))) contents.slots ≡ zones_of contents
+    go (Insert row) r e = change (Insert row) refl
+    go (Update id row) r e = change (Update id row) refl
+    go (Delete id) r e = change (Delete id) refl
+    go (Commit changes) r e = change (Commit changes) refl
+    go Begin r e = begun_zones contents.next_id contents.stamp contents.callers client contents.slots r within
+    go Finish r e = absurd (cc)
+    go Abandon r e = absurd (cc)
 
 -- Where a query ends, ended places may become free.
 may_be_less : (a b : Bool) → (b ≡ true → a ≡ true) → MayBecome (cond a Ended Free) (cond b Ended Free)
@@ -177,14 +176,16 @@ zones_end now callers client call slots e = zones_less _ _ slots (less client)
         go None h = h
         go (Some found) h = needed_less callers k _ slot (gone call found.begun e) h
 
--- What a legal op leaves is kept.
-pub kept_stepped : (contents : Contents) (op : Op) (slots : List (Option Version)) (zones : List Zone) (new : Contents) (new_zones : List Zone) → IsKept contents zones → is_next contents op ≡ true → slots_after contents op ≡ Some slots → new ≡ stepped contents op slots
-    → new_zones ≡ map (zone_of (begins new.callers)) new.slots → IsKept new new_zones
-kept_stepped contents op slots zones new new_zones h next fits is listed = record {
+-- What a legal op leaves is what applying it makes, ..
+pub stepped_is : (contents : Contents) (op : Op) (slots : List (Option Version)) (new : Contents) → is_next contents op ≡ true → slots_after contents op ≡ Some slots → new ≡ stepped contents op slots → new ≡ applied contents op
+stepped_is contents op slots new next fits is = rw (next, fits) is
+
+-- .. and is kept.
+pub kept_stepped : (contents : Contents) (op : Op) (slots : List (Option Version)) (new : Contents) → IsKept contents → is_next contents op ≡ true → slots_after contents op ≡ Some slots → new ≡ stepped contents op slots → IsKept new
+kept_stepped contents op slots new h next fits is = record {
   bounded = subst IsBounded (sym is) (IsBounded-stepped contents op slots h.bounded next fits);
   state = after (length contents.slots) h.state op.client op.call;
   stands = subst (λ s. StandsFor s (after (length contents.slots) h.state op.client op.call)) (sym is) (stepped_stands contents h.state op slots h.stands next fits);
-  listed = listed;
 }
 
 -- The zones as a store is opened.

@@ -161,9 +161,8 @@ fills_end limit stamp ns [] slots all h = sym h.fills
 fills_end limit stamp ns (place ∷ places) slots all h = absurd (true≢false (sym h.some ∙ ap is_some (sym h.fills)))
 
 -- The rows that ended so far, ..
-pub record EndedUpTo (start now : Contents) (ids : List ℕ) (zones : List Zone) (links : List ℕ) : Type 0 where
-  pub contents : now ≡ with_slots (map (close ids start.stamp) start.slots) start
-  pub tracked : IsTracked now zones links
+abbrev pub EndedUpTo : Contents → Contents → List ℕ → Type 0
+EndedUpTo start now ids = now ≡ with_slots (map (close ids start.stamp) start.slots) start
 
 close_more : (xs ys : List ℕ) (made : ℕ) (slots : List (Option Version)) → map (close ys made) (map (close xs made) slots) ≡ map (close (xs ++ ys) made) slots
 close_more xs ys made [] = refl
@@ -185,19 +184,15 @@ close_more xs ys made (Some version ∷ slots) = ap₂ ◌∷◌ (ap (λ d. Some
         or_assoc true b c d e = refl
         or_assoc false b c d e = e
 
-pub ended_none : (start : Contents) (zones : List Zone) (links : List ℕ) → IsTracked start zones links → EndedUpTo start start [] zones links
-ended_none start zones links h = record { contents = ap (λ l. with_slots l start) (sym (close_none start.stamp start.slots)); tracked = h }
+pub ended_none : (start : Contents) → EndedUpTo start start []
+ended_none start = ap (λ l. with_slots l start) (sym (close_none start.stamp start.slots))
 
-pub ended_more : (start now new : Contents) (done ids : List ℕ) (zones zones_new : List Zone) (links links_new : List ℕ) → EndedUpTo start now done zones links → new ≡ with_slots (map (close ids now.stamp) now.slots) now → IsTracked new zones_new links_new → EndedUpTo start new (done ++ ids) zones_new links_new
-ended_more start now new done ids zones zones_new links links_new h is tracked = record {
-  contents = is ∙ ap (λ (s : Contents). with_slots (map (close ids s.stamp) s.slots) s) h.contents ∙ ap (λ l. with_slots l start) (close_more done ids start.stamp start.slots);
-  tracked = tracked;
-}
+pub ended_more : (start now new : Contents) (done ids : List ℕ) → EndedUpTo start now done → new ≡ with_slots (map (close ids now.stamp) now.slots) now → EndedUpTo start new (done ++ ids)
+ended_more start now new done ids h is = is ∙ ap (λ (s : Contents). with_slots (map (close ids s.stamp) s.slots) s) h ∙ ap (λ l. with_slots l start) (close_more done ids start.stamp start.slots)
 
 -- .. and those that began.
-pub record BegunUpTo (start now : Contents) (zones : List Zone) (links places : List ℕ) (rest : List Entry) (all : Option (List (Option Version))) : Type 0 where
+pub record BegunUpTo (start now : Contents) (places : List ℕ) (rest : List Entry) (all : Option (List (Option Version))) : Type 0 where
   pub contents : now ≡ with_slots now.slots start
-  pub tracked : IsTracked now zones links
   pub fills : FillsRest start.next_id start.stamp (begins start.callers) places rest now.slots all
 
 -- What is known as the next row begins, ..
@@ -208,9 +203,9 @@ pub record BeginsNext (start now : Contents) (places : List ℕ) (used : ℕ) (f
   pub low : first.id < now.next_id
   pub next : FillsRest start.next_id start.stamp (begins start.callers) (drop (used + 1) places) rest (set now.slots (get_or places used 0) (born start.stamp first)) all
 
-pub begins_next : (start now : Contents) (zones : List Zone) (links places : List ℕ) (used : ℕ) (first : Entry) (rest : List Entry) (all : Option (List (Option Version))) → BegunUpTo start now zones links (drop used places) (first ∷ rest) all
+pub begins_next : (start now : Contents) (places : List ℕ) (used : ℕ) (first : Entry) (rest : List Entry) (all : Option (List (Option Version))) → BegunUpTo start now (drop used places) (first ∷ rest) all
     → BeginsNext start now places used first rest all
-begins_next start now zones links places used first rest all h = record {
+begins_next start now places used first rest all h = record {
   inside = inside;
   free = ap (λ (s : Contents). is_free (stamps s) now.slots (get_or places used 0)) h.contents ∙ subst (λ place. is_free (start.stamp ∷ begins start.callers) now.slots place ≡ true) here filled_next.free;
   absent = ap (λ (s : Contents). has (visible s.stamp now.slots) first.id) h.contents ∙ h.fills.fresh.1;
@@ -235,13 +230,12 @@ begins_next start now zones links places used first rest all h = record {
     later = cc same
 
 -- .. and once it has begun.
-pub begun_one : (start now new : Contents) (zones zones_new : List Zone) (links links_new places : List ℕ) (used : ℕ) (first : Entry) (rest : List Entry) (all : Option (List (Option Version))) → BegunUpTo start now zones links (drop used places) (first ∷ rest) all
-    → new ≡ with_slots (set now.slots (get_or places used 0) (born now.stamp first)) now → IsTracked new zones_new links_new → BegunUpTo start new zones_new links_new (drop (used + 1) places) rest all
-begun_one start now new zones zones_new links links_new places used first rest all h is tracked = record {
+pub begun_one : (start now new : Contents) (places : List ℕ) (used : ℕ) (first : Entry) (rest : List Entry) (all : Option (List (Option Version))) → BegunUpTo start now (drop used places) (first ∷ rest) all
+    → new ≡ with_slots (set now.slots (get_or places used 0) (born now.stamp first)) now → BegunUpTo start new (drop (used + 1) places) rest all
+begun_one start now new places used first rest all h is = record {
   contents = is ∙ ap (with_slots slots) h.contents ∙ ap (λ l. with_slots l start) (sym same);
-  tracked = tracked;
   fills = subst (λ l. FillsRest start.next_id start.stamp (begins start.callers) (drop (used + 1) places) rest l all) (sym (same ∙ ap (λ (s : Contents). set now.slots (get_or places used 0) (born s.stamp first)) h.contents))
-      (begins_next start now zones links places used first rest all h).next;
+      (begins_next start now places used first rest all h).next;
 }
   where
     slots : List (Option Version)
@@ -249,17 +243,6 @@ begun_one start now new zones zones_new links links_new places used first rest a
 
     same : new.slots ≡ slots
     same = ap (λ (s : Contents). s.slots) is
-
--- the same, of values that are the same
-pub begun_same : (start a b : Contents) (zones_a zones_b : List Zone) (links_a links_b places : List ℕ) (used_a used_b : ℕ) (rest : List Entry) (all : Option (List (Option Version))) → b ≡ a → zones_b ≡ zones_a → links_b ≡ links_a → used_b ≡ used_a
-    → BegunUpTo start a zones_a links_a (drop used_a places) rest all → BegunUpTo start b zones_b links_b (drop used_b places) rest all
-begun_same start a b zones_a zones_b links_a links_b places used_a used_b rest all contents zones links used h =
-    subst (λ s. BegunUpTo start s zones_b links_b (drop used_b places) rest all) (sym contents) (subst (λ z. BegunUpTo start a z links_b (drop used_b places) rest all) (sym zones)
-    (subst (λ l. BegunUpTo start a zones_a l (drop used_b places) rest all) (sym links) (subst (λ n. BegunUpTo start a zones_a links_a (drop n places) rest all) (sym used) h)))
-
-pub ended_moved : (start a b : Contents) (ids : List ℕ) (zones_a zones_b : List Zone) (links_a links_b : List ℕ) → b ≡ a → zones_b ≡ zones_a → links_b ≡ links_a → EndedUpTo start a ids zones_a links_a → EndedUpTo start b ids zones_b links_b
-ended_moved start a b ids zones_a zones_b links_a links_b contents zones links h =
-    subst (λ s. EndedUpTo start s ids zones_b links_b) (sym contents) (subst (λ z. EndedUpTo start a ids z links_b) (sym zones) (subst (λ l. EndedUpTo start a ids zones_a l) (sym links) h))
 
 -- One row ends, ..
 pub end_none : (contents : Contents) (zones : List Zone) (links : List ℕ) (id : ℕ) → IsTracked contents zones links → IsPlaceOf contents.stamp id contents.slots None → contents ≡ with_slots (map (close (id ∷ []) contents.stamp) contents.slots) contents
@@ -318,11 +301,10 @@ begin_tracked contents zones links entry place row zones_new links_new h free ab
 }
 
 -- Whether an op's slots fit.
-pub fits_begun : (contents : Contents) (op : Op) (made : ℕ) → made ≡ suc contents.stamp → is_change op.call ≡ true → succeeds op.outcome ≡ true → length op.slots ≡ length (begun contents.next_id op.call)
-    → are_free (made ∷ begins contents.callers) (map (close (ended op.call) made) contents.slots) [] op.slots ≡ is_some (slots_after contents op)
-fits_begun contents op made next c s long =
-    ap (λ m. are_free (m ∷ begins contents.callers) (map (close (ended op.call) m) contents.slots) [] op.slots) next
-    ∙ fills_free (suc contents.stamp) (begins contents.callers) (map (close (ended op.call) (suc contents.stamp)) contents.slots) op.slots (begun contents.next_id op.call) long
+pub fits_begun : (contents : Contents) (op : Op) → is_change op.call ≡ true → succeeds op.outcome ≡ true → length op.slots ≡ length (begun contents.next_id op.call)
+    → are_free (suc contents.stamp ∷ begins contents.callers) (map (close (ended op.call) (suc contents.stamp)) contents.slots) [] op.slots ≡ is_some (slots_after contents op)
+fits_begun contents op c s long =
+    fills_free (suc contents.stamp) (begins contents.callers) (map (close (ended op.call) (suc contents.stamp)) contents.slots) op.slots (begun contents.next_id op.call) long
     ∙ sym (by_change contents op c s)
   where
     by_change : (contents : Contents) (op : Op) → is_change op.call ≡ true → succeeds op.outcome ≡ true → is_some (slots_after contents op) ≡ is_some (filled (suc contents.stamp ∷ begins contents.callers) (suc contents.stamp) op.slots (begun contents.next_id op.call) (map (close (ended op.call) (suc contents.stamp)) contents.slots))

@@ -17,7 +17,6 @@ pub mod Zones
 pub mod Outcomes
 pub mod Applied
 pub mod Stability
-pub mod Scans
 pub mod Bounds
 pub mod Plans
 pub mod Legal

@@ -10,21 +10,22 @@ use Rattle.pref_core.specs.declared.call.Call.{Call}
 use Rattle.pref_sky.specs.declared.entry.Entry.{Entry}
 use Rattle.pref_core.specs.Table.{has}
 use Rattle.pref_core.specs.State.{State, changes_of, ended, begun, added, missing, is_formed}
-use Rattle.pref_core.specs.Slots.{Contents, StandsFor, IsWithin, EndsBy, is_visible, is_needed, visible, begins, born}
+use Rattle.pref_core.specs.Slots.{Contents, StandsFor, IsWithin, EndsBy, is_visible, is_needed, visible, born}
 use Rattle.pref_core.specs.Operations.{close, is_free}
-use Rattle.pref_core.specs.Places.{zone_of}
 use Rattle.pref_core.specs.Bounds.{IsBounded}
+use Rattle.pref_core.specs.Indexes.{row_at, IsPlaceOf}
 use Rattle.pref_core.specs.Links.{shown, ids_of, id_at, AreIds, AreLinks}
 use Rattle.pref_core.specs.Kept.{IsTracked, AreFresh}
 use Rattle.pref_core.proofs.Bounds.{next_id-small}
 use Rattle.pref_core.proofs.Changing.{begun_fresh, found_all, formed_apart}
 use Rattle.pref_core.proofs.Indexing.{ended_place}
 use Rattle.pref_core.proofs.Keys.{within-close, within-more}
-use Rattle.pref_core.proofs.Linking.{none_some, some_same, shows_row}
+use Rattle.pref_core.proofs.Linking.{none_some, some_same, shows_row, row_shown}
 use Rattle.pref_core.proofs.Lookups.{one_place, one_line}
 use Rattle.pref_core.proofs.Permutations.{IsPermutation-filter}
 use Rattle.pref_core.proofs.Plans.{close_none}
 use Rattle.pref_core.proofs.Tables.{has_visible-new}
+use Rattle.pref_core.proofs.Zones.{has_row_at}
 
 id_below : (next now stamp : ℕ) (slots : List (Option Version)) (place id : ℕ) → AllByRecursion (IsWithin next now) slots → id_at (ids_of stamp slots) place ≡ Some id → id < next
 id_below next now stamp [] place id h at = absurd (cc)
@@ -45,6 +46,11 @@ known_ids contents state bounded stands = record {
       one_place contents.stamp id p q contents.slots (omega arith) (shows_row contents.stamp id contents.slots p at) (shows_row contents.stamp id contents.slots q also);
   small = λ place id at. let below = id_below contents.next_id contents.stamp contents.stamp contents.slots place id stands.within at in let less = next_id-small contents bounded in omega arith;
 }
+
+-- Where an id's row stands at a place, that is what an index of the slots has for it.
+pub place_known : (stamp id place : ℕ) (slots : List (Option Version)) (found : Option ℕ) → AreIds (2 ^ 64) (id_at (ids_of stamp slots)) → row_at stamp id slots place ≡ true → IsPlaceOf stamp id slots found → found ≡ Some place
+place_known stamp id place slots None known at is = absurd (true≢false (sym (has_row_at stamp id slots place at) ∙ is))
+place_known stamp id place slots (Some found) known at is = ap Some (known.once found place id (row_shown stamp id slots found is) (row_shown stamp id slots place at))
 
 -- At the next stamp the slots show the same, before a slot is written.
 shown_next : (next now : ℕ) (slot : Option Version) → IsWithin next now slot → shown (suc now) slot ≡ shown now slot
@@ -73,16 +79,16 @@ free_shows_none made ns (Some version ∷ slots) zero h = go (is_visible made ve
     go false e f = rw e refl
 free_shows_none made ns (slot ∷ slots) (suc place) h = free_shows_none made ns slots place h
 
--- As a commit begins, nothing is ahead of it, and the lists beside the slots are as before.
-pub tracked_from : (contents : Contents) (state : State) (zones : List Zone) (links : List ℕ) (more : ℕ) → IsBounded contents → StandsFor contents state → zones ≡ map (zone_of (begins contents.callers)) contents.slots → AreLinks (ids_of contents.stamp contents.slots) links
+-- .. and they are known as a commit begins: nothing is ahead of it, and the lists beside the slots are as before.
+pub tracked_next : (contents : Contents) (zones : List Zone) (links : List ℕ) (more : ℕ) → IsTracked contents zones links
     → IsTracked (record { slots = contents.slots; stamp = suc contents.stamp; next_id = contents.next_id + more; callers = contents.callers }) zones links
-tracked_from contents state zones links more bounded stands listed linked = record {
-  few = bounded.slots;
+tracked_next contents zones links more h = record {
+  few = h.few;
   within = within-more contents.next_id (contents.next_id + more) (suc contents.stamp) contents.slots (omega arith)
-      (subst (AllByRecursion (IsWithin contents.next_id (suc contents.stamp))) (close_none (suc contents.stamp) contents.slots) (within-close [] contents.next_id contents.stamp contents.slots stands.within));
-  listed = listed;
-  linked = subst (λ ids. AreLinks ids links) (sym (ids_next contents.next_id contents.stamp contents.slots stands.within)) linked;
-  ids = subst (λ ids. AreIds (2 ^ 64) (id_at ids)) (sym (ids_next contents.next_id contents.stamp contents.slots stands.within)) (known_ids contents state bounded stands);
+      (subst (AllByRecursion (IsWithin contents.next_id (suc contents.stamp))) (close_none (suc contents.stamp) contents.slots) (within-close [] contents.next_id contents.stamp contents.slots h.within));
+  listed = h.listed;
+  linked = subst (λ ids. AreLinks ids links) (sym (ids_next contents.next_id contents.stamp contents.slots h.within)) h.linked;
+  ids = subst (λ ids. AreIds (2 ^ 64) (id_at ids)) (sym (ids_next contents.next_id contents.stamp contents.slots h.within)) h.ids;
 }
 
 -- The rows that it begins are new, once it has ended what it ends.

@@ -10,7 +10,6 @@ use Rattle.pref_core.specs.declared.event.Act.{Act}
 use Rattle.pref_core.specs.declared.event.Act.TheVariants.{Insert, Update, Delete, Commit, Begin, Scan, Finish, Abandon, Get, Room}
 use Rattle.pref_core.specs.declared.event.Reply.TheVariants.{Inserted, Updated, Deleted, Committed, Begun, Left, Answer, Abandoned, Found, Room as RoomIs, Refused}
 use Rattle.pref_core.specs.declared.fault.CoreFault.TheVariants.{NoSuchClient, QueryOpen, NoQuery, AllScanned, NotDone, NoSuchRow, Full, Twice, ChangeCount}
-use Rattle.pref_core.specs.declared.changes.Change.{Change}
 use Rattle.pref_core.specs.declared.changes.Change.TheVariants.{Add, Set, Remove}
 use Rattle.pref_core.specs.Changes.{commit_of}
 use Rattle.pref_core.specs.Rows.{Row}

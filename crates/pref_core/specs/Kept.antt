@@ -15,18 +15,21 @@ use Rattle.pref_core.specs.Places.{is_free_zone, free_at, zone_of}
 use Rattle.pref_core.specs.Links.{ids_of, id_at, AreIds, AreLinks}
 use Rattle.pref_core.specs.Indexes.{row_at}
 
--- A store's slots represent a state, and each place is in the zone of its slot.
-pub record IsKept (contents : Contents) (zones : List Zone) : Type 0 where
+-- A store's contents represent a state.
+pub record IsKept (contents : Contents) : Type 0 where
   pub bounded : IsBounded contents
   pub state : State
   pub stands : StandsFor contents state
-  pub listed : zones ≡ map (zone_of (begins contents.callers)) contents.slots
 
--- While a commit is made: no version is ahead, and the lists beside the slots go along with them.
+-- the zones that its slots belong to
+abbrev pub zones_of : Contents → List Zone
+zones_of contents = map (zone_of (begins contents.callers)) contents.slots
+
+-- At each step of a commit no version is ahead, and the lists beside the slots go along with them.
 pub record IsTracked (contents : Contents) (zones : List Zone) (links : List ℕ) : Type 0 where
   pub few : length contents.slots ≤ 65536
   pub within : AllByRecursion (IsWithin contents.next_id contents.stamp) contents.slots
-  pub listed : zones ≡ map (zone_of (begins contents.callers)) contents.slots
+  pub listed : zones ≡ zones_of contents
   pub linked : AreLinks (ids_of contents.stamp contents.slots) links
   pub ids : AreIds (2 ^ 64) (id_at (ids_of contents.stamp contents.slots))
 
@@ -57,8 +60,8 @@ is_open zones freed place = free_at zones place || among freed place
 -- The rows of these ids are there, and these slots are left free when they end.
 pub record IsFreed (contents : Contents) (ids freed : List ℕ) : Type 0 where
   pub there : missing ids (visible contents.stamp contents.slots) ≡ None
-  pub opens : (place : ℕ) → is_free (suc contents.stamp ∷ begins contents.callers) (map (close ids (suc contents.stamp)) contents.slots) place ≡ is_open (map (zone_of (begins contents.callers)) contents.slots) freed place
-  pub counted : count_by is_free_zone (map (zone_of (begins contents.callers)) contents.slots) + length freed + count_by (is_needed (suc contents.stamp ∷ begins contents.callers)) (map (close ids (suc contents.stamp)) contents.slots) ≡ length contents.slots
+  pub opens : (place : ℕ) → is_free (suc contents.stamp ∷ begins contents.callers) (map (close ids (suc contents.stamp)) contents.slots) place ≡ is_open (zones_of contents) freed place
+  pub counted : count_by is_free_zone (zones_of contents) + length freed + count_by (is_needed (suc contents.stamp ∷ begins contents.callers)) (map (close ids (suc contents.stamp)) contents.slots) ≡ length contents.slots
 
 -- what a look for the slots that they leave free answers: these, or the first id that the table lacks
 abbrev pub FindsFreed : Contents → List ℕ → Result (List ℕ) ℕ → Type 0

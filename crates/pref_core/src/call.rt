@@ -109,7 +109,8 @@ impl Call {
 
     /// How many rows the call begins.
     pub(crate) fn begun(&self) -> usize
-        ensures { (next_id : ℕ) → result ≡ length (begun next_id self.now) }
+        ensures count { (next_id : ℕ) → result ≡ length (begun next_id self.now) }
+        ensures few { result ≤ 8 }
     {
         match self {
             Call::Insert(_) | Call::Update(_, _) => 1,

@@ -8,7 +8,6 @@
 pub(crate) mod applying;
 pub(crate) mod caller;
 pub(crate) mod contents;
-pub(crate) mod indexing;
 pub(crate) mod links;
 pub(crate) mod needs;
 pub(crate) mod opening;
@@ -30,8 +29,6 @@ use crate::fault::CoreFault;
 use crate::index::Index;
 use crate::setup::Setup;
 use contents::Contents;
-use links::Links;
-use places::Places;
 use pref_sky::Entry;
 use pref_table::Row;
 use std::alloc::{AllocError, Global};
@@ -46,20 +43,17 @@ use std::marker::Model;
 #[derive(Drop)]
 pub struct Store {
     contents: Contents,
-    places: Places,
-    links: Links,
 }
 
 impl Model for Store {
     ghost use Rattle.pref_core.specs.Slots as specs;
     ghost use Rattle.pref_core.specs.Kept.{IsKept};
-    ghost use Rattle.pref_core.specs.Links.{ids_of, AreLinks};
 
     ghost Value = { specs.Contents };
 
     ghost view = { λ s. s.contents };
 
-    ghost invariant = { λ s. IsKept s.contents s.places × AreLinks (ids_of s.contents.stamp s.contents.slots) s.links };
+    ghost invariant = { λ s. IsKept s.contents };
 }
 
 impl Store {
@@ -73,27 +67,13 @@ impl Store {
         ensures full { result ≡ Err (CoreFault.Full (length rows.now)) ↔ (setup.now.capacity < length rows.now) }
         ensures other { IfErr result (λ fault. (fault ≡ CoreFault.OutOfMemory) ⊎ (setup.now.capacity < length rows.now)) }
     {
-        let capacity = setup.capacity();
-        if rows.len() > capacity as usize {
+        if rows.len() > setup.capacity() as usize {
             return Err(CoreFault::Full {
                 needed: rows.len() as u64,
             });
         }
-        let slots = opening::opening(alloc, capacity, rows)?;
-        let callers = caller::idle(alloc, setup.clients())?;
-        let places = Places::new(alloc, capacity, rows.len() as u32)?;
-        let links = Links::new(alloc, capacity, rows.len() as u32)?;
-        let contents = Contents {
-            slots,
-            stamp: rows.len() as u64,
-            next_id: rows.len() as u64 + 1,
-            callers,
-        };
-        Ok(Store {
-            contents,
-            places,
-            links,
-        })
+        let contents = Contents::new(alloc, setup, rows)?;
+        Ok(Store { contents })
     }
 
     /// Another store that holds the same. `Err` is out of memory. Cost: each slot is copied.
@@ -101,13 +81,7 @@ impl Store {
         ensures { IfOk result (λ copy. copy ≡ self.now) }
     {
         let contents = self.contents.copy(alloc)?;
-        let places = self.places.copy(alloc)?;
-        let links = self.links.copy(alloc)?;
-        Ok(Store {
-            contents,
-            places,
-            links,
-        })
+        Ok(Store { contents })
     }
 
     /// How many commits there were, the opening rows among them.
@@ -137,8 +111,7 @@ impl Store {
     pub fn get(&self, id: u64) -> Option<Row>
         ensures { (state : State) → StandsFor self.now state → result ≡ option_map (λ line. line.row) (line_of state.table id) }
     {
-        let place = reads::place_of(&self.contents, &self.links, id);
-        reads::row_in(&self.contents, place)
+        self.contents.row_in(self.contents.place_of(None, id))
     }
 
     /// The same by an index of this store, which is looked up where another row is at the id's home.
@@ -146,15 +119,15 @@ impl Store {
         requires { IsIndexOf self.now index.now }
         ensures { (state : State) → StandsFor self.now state → result ≡ option_map (λ line. line.row) (line_of state.table id) }
     {
-        let place = indexing::indexed_place(&self.contents, index, id);
-        reads::row_in(&self.contents, place)
+        self.contents
+            .row_in(self.contents.place_of(Some(index), id))
     }
 
     /// The index of this store.
     pub(crate) fn index(&self, alloc: Global) -> Result<Index, AllocError>
         ensures { IfOk result (λ index. IsIndexOf self.now index) }
     {
-        indexing::index_rows(alloc, &self.contents.slots, self.contents.stamp)
+        reads::index_rows(alloc, &self.contents.slots, self.contents.stamp)
     }
 
     /// What the slots of a block show at a stamp: those from `block` times `size` up to before the next block's
@@ -180,7 +153,7 @@ impl Store {
     pub fn room(&self) -> u32
         ensures { (state : State) → StandsFor self.now state → result ≡ length self.now.slots - length (needed state) }
     {
-        self.places.free()
+        self.contents.free()
     }
 
     /// What becomes of a call, and where its new rows go. Changes nothing.
@@ -192,8 +165,7 @@ impl Store {
         ensures exact { Plans self.now client call result }
         ensures state { (state : State) → StandsFor self.now state → PlansIn state self.now client call result }
     {
-        let freed = reads::freed_places(&self.contents, &self.links, &call);
-        planning::plan(&self.contents, &self.places, &freed, client, &call)
+        self.plan_by(None, client, &call)
     }
 
     /// The same by an index of this store: constant in the slots.
@@ -202,8 +174,7 @@ impl Store {
         ensures exact { Plans self.now client call.now result }
         ensures state { (state : State) → StandsFor self.now state → PlansIn state self.now client call.now result }
     {
-        let freed = indexing::indexed_freed_places(&self.contents, index, call);
-        planning::plan(&self.contents, &self.places, &freed, client, call)
+        self.plan_by(Some(index), client, call)
     }
 
     /// Does a planned call. One that is not legal here changes nothing: so an operation is done once, and in its
@@ -213,14 +184,10 @@ impl Store {
         ensures exact { self.new ≡ applied self.old op.now }
         ensures state { (state : State) → StandsFor self.old state → AppliesIn state self.old op.now self.new }
     {
-        let freed = reads::freed_places(&self.contents, &self.links, &op.call);
-        applying::apply(
-            &mut self.contents,
-            &mut self.places,
-            &mut self.links,
-            &freed,
-            op,
-        );
+        let freed = self.freed_places(None, &op.call);
+        if self.contents.is_next(&freed, op) && self.contents.fits(&freed, op) {
+            self.contents.step(op);
+        }
     }
 
     /// Does an op that was planned here, by an index that is ready for it ([`Index::prepare`]); the index then is this
@@ -233,7 +200,7 @@ impl Store {
         ensures index { IsIndexOf self.new index.new }
         ensures state { (state : State) → StandsFor self.old state → AppliesIn state self.old op.now self.new }
     {
-        indexing::follow(&self.contents, index, op);
-        applying::carry_out(&mut self.contents, &mut self.places, &mut self.links, op);
+        self.follow(index, op);
+        self.contents.step(op);
     }
 }

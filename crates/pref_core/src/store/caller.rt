@@ -2,8 +2,8 @@
 
 ghost use Rattle.std.specs.List.{list_any};
 ghost use Rattle.std.specs.Option.{option_to_list, unwrap_or};
-ghost use Rattle.std.specs.Prelude.{suc, IfOk, None, option_map, replicate, ◌≡◌, ◌^◌, ◌<◌};
-ghost use Rattle.pref_core.specs.Operations.{begin_after};
+ghost use Rattle.std.specs.Prelude.{suc, IfOk, IfSome, None, option_map, replicate, ◌≡◌, ◌^◌, ◌<◌};
+ghost use Rattle.pref_core.specs.Operations.{begin_after, callers_after};
 ghost use Rattle.pref_core.specs.Slots.{is_visible};
 ghost use Rattle.pref_core.specs.State.{seat, begun};
 
@@ -49,8 +49,19 @@ pub(crate) fn calls_of(callers: &[Caller], client: u8) -> u64
     }
 }
 
+/// The client has made one call more.
+pub(crate) fn count(callers: &mut [Caller], client: u8, call: &Call, stamp: u64)
+    requires { IfSome (seat client callers.old) (λ caller. caller.calls < 2 ^ 56) }
+    ensures { callers.new ≡ callers_after stamp callers.old client call.now }
+{
+    let seat = client as usize;
+    if 0 < seat && seat <= callers.len() {
+        callers[seat - 1] = counted(callers[seat - 1], call, stamp);
+    }
+}
+
 /// What is kept of a client that has made one call more.
-pub(crate) fn counted(caller: Caller, call: &Call, stamp: u64) -> Caller
+fn counted(caller: Caller, call: &Call, stamp: u64) -> Caller
     requires { caller.calls < 2 ^ 56 }
     ensures { result ≡ record { calls = suc caller.calls; begun = begin_after stamp call.now caller.begun } }
 {

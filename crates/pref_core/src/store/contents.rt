@@ -1,55 +1,309 @@
-//! What a store holds, without the lists that spare a look at each slot.
+//! What a store holds: versions of rows in slots, and the lists beside them that spare a look at each slot.
 
-ghost use Rattle.std.specs.Prelude.{IfOk, IfSome, ◌≡◌, ◌^◌, ◌<◌};
-ghost use Rattle.pref_core.specs.Operations.{callers_after};
-ghost use Rattle.pref_core.specs.State.{seat};
+ghost use Rattle.std.specs.List.{count_by};
+ghost use Rattle.std.specs.Prelude.{ℕ, map, length, true, false, is_some, [], ◌∷◌, Some, None, slice_set, IfOk, IfSome, IfNone, ◌≡◌, ◌+◌, ◌^◌, ◌<◌, ◌≤◌};
+ghost use Rattle.pref_core.specs.Indexes.{slot_of, Points, IsPlaceOf, IsIndexOf};
+ghost use Rattle.pref_core.specs.Kept.{IsKept, IsFreed, AreFresh, row_in, frees_at, is_open, with_slots, zones_of};
+ghost use Rattle.pref_core.specs.Operations.{close, is_free, filled, is_next, refusal_at, slots_after, stepped, callers_after, used, grown};
+ghost use Rattle.pref_core.specs.Places.{is_free_zone};
+ghost use Rattle.pref_core.specs.Slots.{stamps, begins, born, visible, opening_contents};
+ghost use Rattle.pref_core.specs.Stability.{is_end};
+ghost use Rattle.pref_core.specs.State.{ended, begun, added, is_change, succeeds};
+ghost use Rattle.pref_core.specs.Table.{among, has};
 
-use crate::call::Call;
-use crate::store::caller::{Caller, counted};
-use crate::store::version::Version;
+use crate::call::{Call, Op, SlotList};
+use crate::index::Index;
+use crate::setup::Setup;
+use crate::store::caller::{Caller, count, idle};
+use crate::store::links::{Links, home_of};
+use crate::store::needs::zone_of;
+use crate::store::opening::opening;
+use crate::store::places::{Places, any_but};
+use crate::store::reads::stands_at;
+use crate::store::version::{Version, born, closed, ended};
+use pref_sky::Entry;
+use pref_table::Row;
 use std::alloc::{AllocError, Global};
 use std::marker::Model;
 
-/// A table's slots, its counters, and what is kept of each client. Contracts see them as they are.
+/// A table's slots, its counters, what is kept of each client, and two lists that go along with the slots at each step of
+/// a commit: which places are free, and where rows are found. Contracts see it without the lists.
 #[derive(Drop)]
 pub(crate) struct Contents {
     pub(crate) slots: Vec<Option<Version>>,
     pub(crate) stamp: u64,
     pub(crate) next_id: u64,
     pub(crate) callers: Vec<Caller>,
+    places: Places,
+    links: Links,
 }
 
 impl Model for Contents {
     ghost use Rattle.pref_core.specs.Slots as specs;
+    ghost use Rattle.pref_core.specs.Kept.{IsTracked};
 
     ghost Value = { specs.Contents };
 
     ghost view = { λ s. record { slots = s.slots.items; stamp = s.stamp; next_id = s.next_id; callers = s.callers.items } };
+
+    ghost invariant = { λ s. IsTracked (record { slots = s.slots.items; stamp = s.stamp; next_id = s.next_id; callers = s.callers.items }) s.places s.links };
 }
 
 impl Contents {
+    /// The opening rows, as commits 1, 2, .. with ids 1, 2, .., in the slots 0, 1, .., and no call made.
+    pub(crate) fn new(alloc: Global, setup: &Setup, rows: &[Row]) -> Result<Contents, AllocError>
+        requires { length rows.now ≤ setup.now.capacity }
+        ensures opening { IfOk result (λ contents. contents ≡ opening_contents setup.now rows.now) }
+        ensures kept { IfOk result IsKept }
+    {
+        let capacity = setup.capacity();
+        let slots = opening(alloc, capacity, rows)?;
+        let callers = idle(alloc, setup.clients())?;
+        let places = Places::new(alloc, capacity, rows.len() as u32)?;
+        let links = Links::new(alloc, capacity, rows.len() as u32)?;
+        Ok(Contents {
+            slots,
+            stamp: rows.len() as u64,
+            next_id: rows.len() as u64 + 1,
+            callers,
+            places,
+            links,
+        })
+    }
+
     /// A copy of these contents.
     pub(crate) fn copy(&self, alloc: Global) -> Result<Contents, AllocError>
         ensures { IfOk result (λ copy. copy ≡ self.now) }
     {
         let slots = Vec::from_slice(alloc, &self.slots)?;
         let callers = Vec::from_slice(alloc, &self.callers)?;
+        let places = self.places.copy(alloc)?;
+        let links = self.links.copy(alloc)?;
         Ok(Contents {
             slots,
             stamp: self.stamp,
             next_id: self.next_id,
             callers,
+            places,
+            links,
         })
     }
 
-    /// The client has made one call more.
-    pub(crate) fn count(&mut self, client: u8, call: &Call)
-        requires { IfSome (seat client self.old.callers) (λ caller. caller.calls < 2 ^ 56) }
+    /// The place of the row of this id in the table: by an index where there is one, else by the chain of its home.
+    pub(crate) fn place_of(&self, index: Option<&Index>, id: u64) -> Option<u32>
+        requires { IfSome index (λ index. IsIndexOf self.now index.now) }
+        ensures { IsPlaceOf self.now.stamp id self.now.slots result }
+    {
+        match index {
+            Some(index) => self.indexed_place(index, id),
+            None => self.links.find(&self.slots, self.stamp, id),
+        }
+    }
+
+    /// The same by an index. Looks at the id's home, and looks it up in the index where another row is there.
+    fn indexed_place(&self, index: &Index, id: u64) -> Option<u32>
+        requires { IsPlaceOf self.now.stamp id self.now.slots (slot_of index.now id) }
+        ensures { IsPlaceOf self.now.stamp id self.now.slots result }
+    {
+        if !self.slots.is_empty() {
+            let home = home_of(&self.slots, id);
+            if stands_at(&self.slots, home, self.stamp, id) {
+                return Some(home);
+            }
+        }
+        match index.slot(id) {
+            Some(place) => Some(place as u32),
+            None => None,
+        }
+    }
+
+    /// A row of the table gets this slot in an index. Where it is there already the index is left alone.
+    pub(crate) fn move_row(&self, index: &mut Index, id: u64, slot: u32)
+        requires there { has (visible self.now.stamp self.now.slots) id ≡ true }
+        requires index { IsPlaceOf self.now.stamp id self.now.slots (slot_of index.old id) }
+        ensures { Points index.old id (Some slot) index.new }
+    {
+        if !stands_at(&self.slots, slot, self.stamp, id) {
+            index.set(id, slot as usize);
+        }
+    }
+
+    /// The row at this place, where there is one.
+    pub(crate) fn row_in(&self, place: Option<u32>) -> Option<Row>
+        ensures { result ≡ row_in self.now.slots place }
+    {
+        match self.slots.get(place? as usize) {
+            Some(Some(version)) => Some(version.row),
+            _ => None,
+        }
+    }
+
+    /// How many places are free.
+    pub(crate) fn free(&self) -> u32
+        ensures value { result ≡ count_by is_free_zone (zones_of self.now) }
+        ensures few { result ≤ length self.now.slots }
+    {
+        self.places.free()
+    }
+
+    /// Whether the slot of this place is no longer needed once the rows that the call ends have ended.
+    pub(crate) fn frees(&self, place: u32, call: &Call) -> bool
+        requires { self.now.stamp < 2 ^ 63 }
+        ensures { result ≡ frees_at (begins self.now.callers) (ended call.now) (self.now.stamp + 1) self.now.slots place }
+    {
+        match self.slots.get(place as usize) {
+            Some(slot) => {
+                let slot = closed(*slot, call, self.stamp + 1);
+                zone_of(slot, &self.callers).is_free()
+            }
+            None => false,
+        }
+    }
+
+    /// How many versions are needed after a call that ends rows, by the slots that they leave free.
+    pub(crate) fn size_after(&self, freed: &SlotList, call: &Call) -> usize
+        requires { IsFreed self.now (ended call.now) freed.now }
+        ensures { result ≡ used (grown call.now self.now) }
+    {
+        let free = self.free() as usize + freed.as_slice().len();
+        self.slots.len() + call.begun() - free
+    }
+
+    /// Whether a place can be used once rows ended that leave these slots free.
+    pub(crate) fn is_open(&self, freed: &SlotList, place: u32) -> bool
+        ensures { result ≡ is_open (zones_of self.now) freed.now place }
+    {
+        self.places.is_free(place) || freed.has(place)
+    }
+
+    /// A slot for a row of this id, beside those that were chosen: its home where that can be used, so that a row that had to
+    /// move comes home, else one that an ended row leaves free, else any.
+    pub(crate) fn choose(&self, freed: &SlotList, chosen: &SlotList, id: u64) -> Option<u32>
+        ensures found { IfSome result (λ place. (is_open (zones_of self.now) freed.now place ≡ true) × (among chosen.now place ≡ false)) }
+        ensures none { IfNone result ((place : ℕ) → is_open (zones_of self.now) freed.now place ≡ true → among chosen.now place ≡ true) }
+    {
+        if !self.slots.is_empty() {
+            let home = home_of(&self.slots, id);
+            if self.is_open(freed, home) && !chosen.has(home) {
+                return Some(home);
+            }
+        }
+        if let Some(place) = any_but(freed.as_slice(), chosen) {
+            return Some(place);
+        }
+        self.places.any_free_but(chosen)
+    }
+
+    /// A legal op, done.
+    pub(crate) fn step(&mut self, op: &Op)
+        requires kept { IsKept self.old }
+        requires next { is_next self.old op.now ≡ true }
+        requires fits { is_some (slots_after self.old op.now) ≡ true }
+        ensures slots { slots_after self.old op.now ≡ Some self.new.slots }
+        ensures rest { self.new ≡ stepped self.old op.now self.new.slots }
+    {
+        if op.call.is_change() && op.outcome.succeeds() {
+            self.commit(op);
+        }
+        self.count(op.client, &op.call);
+    }
+
+    /// A commit: all rows end that are to end, and then others begin in the slots that are free.
+    fn commit(&mut self, op: &Op)
+        requires kept { IsKept self.old }
+        requires next { is_next self.old op.now ≡ true }
+        requires fits { is_some (slots_after self.old op.now) ≡ true }
+        requires change { is_change op.now.call ≡ true }
+        requires succeeds { succeeds op.now.outcome ≡ true }
+        ensures slots { slots_after self.old op.now ≡ Some self.new.slots }
+        ensures rest { self.new ≡ record { slots = self.new.slots; stamp = self.old.stamp + 1; next_id = self.old.next_id + added op.now.call; callers = self.old.callers } }
+    {
+        let first = self.next_id;
+        self.stamp += 1;
+        self.next_id += op.call.added();
+        self.end_rows(&op.call);
+        self.begin_rows(first, op);
+    }
+
+    /// Ends all rows that the call ends.
+    fn end_rows(&mut self, call: &Call)
+        ensures { self.new ≡ with_slots (map (close (ended call.now) self.old.stamp) self.old.slots) self.old }
+    {
+        for at in 0..call.count() {
+            if let Some(id) = call.change(at).ended() {
+                self.end_row(id);
+            }
+        }
+    }
+
+    /// Ends the row of this id, where there is one.
+    fn end_row(&mut self, id: u64)
+        ensures { self.new ≡ with_slots (map (close (id ∷ []) self.old.stamp) self.old.slots) self.old }
+    {
+        let stamp = self.stamp;
+        let Some(place) = self.links.take(&self.slots, stamp, id) else {
+            return;
+        };
+        let Some(version) = self.slots[place as usize] else {
+            unreachable!()
+        };
+        self.slots[place as usize] = ended(version, stamp);
+        let zone = zone_of(self.slots[place as usize], &self.callers);
+        self.places.close(place, zone);
+    }
+
+    /// Begins all rows that the op's call begins, each in its slot; added ones get the ids from this one on.
+    fn begin_rows(&mut self, first: u64, op: &Op)
+        requires fits { is_some (filled (stamps self.old) self.old.stamp op.now.slots (begun first op.now.call) self.old.slots) ≡ true }
+        requires fresh { AreFresh self.old.next_id (visible self.old.stamp self.old.slots) (begun first op.now.call) }
+        requires small { first < 2 ^ 63 }
+        ensures slots { filled (stamps self.old) self.old.stamp op.now.slots (begun first op.now.call) self.old.slots ≡ Some self.new.slots }
+        ensures rest { self.new ≡ with_slots self.new.slots self.old }
+    {
+        let slots = op.slots.as_slice();
+        let mut next_id = first;
+        let mut used = 0;
+        for at in 0..op.call.count() {
+            let change = op.call.change(at);
+            if let Some(entry) = change.begun(next_id) {
+                self.begin_row(entry, slots[used]);
+                used += 1;
+            }
+            next_id += change.added();
+        }
+    }
+
+    /// Begins a row at a free place.
+    fn begin_row(&mut self, entry: Entry, place: u32)
+        requires free { is_free (stamps self.old) self.old.slots place ≡ true }
+        requires absent { has (visible self.old.stamp self.old.slots) entry.id ≡ false }
+        requires low { entry.id < self.old.next_id }
+        ensures { self.new ≡ with_slots (slice_set self.old.slots place (born self.old.stamp entry)) self.old }
+    {
+        let stamp = self.stamp;
+        self.links.add(&self.slots, stamp, entry.id, place);
+        self.slots[place as usize] = born(entry, stamp);
+        self.places.take(place);
+    }
+
+    /// The client has made one call more. Where it ends a query, the ended versions that no query needs any more are free.
+    fn count(&mut self, client: u8, call: &Call)
+        requires { refusal_at self.old client call.now ≡ None }
         ensures { self.new ≡ record { slots = self.old.slots; stamp = self.old.stamp; next_id = self.old.next_id; callers = callers_after self.old.stamp self.old.callers client call.now } }
     {
-        let seat = client as usize;
-        if 0 < seat && seat <= self.callers.len() {
-            self.callers[seat - 1] = counted(self.callers[seat - 1], call, self.stamp);
+        count(&mut self.callers, client, call, self.stamp);
+        if ends_query(call) {
+            self.places.sweep(&self.slots, &self.callers);
         }
+    }
+}
+
+/// Whether the call ends its client's open query.
+fn ends_query(call: &Call) -> bool
+    ensures { result ≡ is_end call.now }
+{
+    match *call {
+        Call::Finish | Call::Abandon => true,
+        _ => false,
     }
 }

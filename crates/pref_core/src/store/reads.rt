@@ -1,21 +1,13 @@
 //! What slots show at a stamp.
 
-ghost use Rattle.std.specs.Prelude.{IfOk, length, map, true, ◌≡◌, ◌≤◌};
-ghost use Rattle.pref_core.specs.Indexes.{is_row, row_at, IsPlaceOf};
-ghost use Rattle.pref_core.specs.Kept.{row_in, IsKept, FindsFreed};
-ghost use Rattle.pref_core.specs.Links.{ids_of, AreLinks};
-ghost use Rattle.pref_core.specs.Places.{zone_of};
-ghost use Rattle.pref_core.specs.Slots.{begins, visible, block_of};
-ghost use Rattle.pref_core.specs.State.{ended, is_formed};
+ghost use Rattle.std.specs.Prelude.{ℕ, IfOk, ◌≡◌};
+ghost use Rattle.pref_core.specs.Indexes.{slot_of, is_row, row_at, IsPlaceOf};
+ghost use Rattle.pref_core.specs.Slots.{visible, block_of};
 ghost use Rattle.pref_core.specs.Table.{entries};
 
-use crate::call::{Call, SlotList};
-use crate::store::contents::Contents;
-use crate::store::links::Links;
-use crate::store::needs::frees;
+use crate::index::Index;
 use crate::store::version::Version;
 use pref_sky::Entry;
-use pref_table::Row;
 use std::alloc::{AllocError, Global};
 
 /// Whether the slot shows the row of this id at the stamp.
@@ -35,47 +27,6 @@ pub(crate) fn stands_at(slots: &[Option<Version>], place: u32, stamp: u64, id: u
     match slots.get(place as usize) {
         Some(slot) => shows(*slot, stamp, id),
         None => false,
-    }
-}
-
-/// The place of the row of this id in the table, by the chain of its home.
-pub(crate) fn place_of(contents: &Contents, links: &Links, id: u64) -> Option<u32>
-    requires few { length contents.now.slots ≤ 65536 }
-    requires links { AreLinks (ids_of contents.now.stamp contents.now.slots) links.now }
-    ensures { IsPlaceOf contents.now.stamp id contents.now.slots result }
-{
-    links.find(&contents.slots, contents.stamp, id)
-}
-
-/// The slots that the rows which a call ends leave free, or the first id that it ends and the table lacks. Rows are found by
-/// the chains of their homes.
-pub(crate) fn freed_places(contents: &Contents, links: &Links, call: &Call) -> Result<SlotList, u64>
-    requires kept { IsKept contents.now (map (zone_of (begins contents.now.callers)) contents.now.slots) }
-    requires links { AreLinks (ids_of contents.now.stamp contents.now.slots) links.now }
-    ensures found { FindsFreed contents.now (ended call.now) result }
-    ensures formed { is_formed call.now ≡ true }
-{
-    let mut freed = SlotList::NONE;
-    for at in 0..call.count() {
-        if let Some(id) = call.change(at).ended() {
-            let Some(place) = place_of(contents, links, id) else {
-                return Err(id);
-            };
-            if frees(contents, place, call) {
-                freed.push(place);
-            }
-        }
-    }
-    Ok(freed)
-}
-
-/// The row at this place, where there is one.
-pub(crate) fn row_in(contents: &Contents, place: Option<u32>) -> Option<Row>
-    ensures { result ≡ row_in contents.now.slots place }
-{
-    match contents.slots.get(place? as usize) {
-        Some(Some(version)) => Some(version.row),
-        _ => None,
     }
 }
 
@@ -108,4 +59,26 @@ pub(crate) fn block(slots: &[Option<Version>], block: u32, size: u32) -> &[Optio
     let start = (block as usize * size as usize).min(slots.len());
     let end = (start + size as usize).min(slots.len());
     &slots[start..end]
+}
+
+/// The index of the rows that the slots show at a stamp.
+pub(crate) fn index_rows(
+    alloc: Global,
+    slots: &[Option<Version>],
+    stamp: u64,
+) -> Result<Index, AllocError>
+    ensures { IfOk result (λ index. (id : ℕ) → IsPlaceOf stamp id slots.now (slot_of index id)) }
+{
+    let mut index = Index::with_room(alloc, slots.len())?;
+    for place in 0..slots.len() {
+        match slots[place] {
+            Some(version) => {
+                if version.is_visible_at(stamp) {
+                    index.put(alloc, version.id, place)?;
+                }
+            }
+            None => {}
+        }
+    }
+    Ok(index)
 }

@@ -4,4 +4,4 @@ use Rattle.pref_core.proofs.Counts.{begins_some}
 use Rattle.pref_core.proofs.call.Call.begins_row.Goals as goal
 
 pub returns : goal.returns
-returns c = ap (nat_lt 0) (c.begun.ensures 0) ∙ begins_some 0 (changes_of c.args.self.now)
+returns c = ap (nat_lt 0) (c.begun.ensures.count 0) ∙ begins_some 0 (changes_of c.args.self.now)

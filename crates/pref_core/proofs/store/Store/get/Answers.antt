@@ -8,6 +8,6 @@ use Rattle.pref_core.proofs.store.Store.get.Goals as goal
 pub returns : goal.returns
 returns c state h =
     let now = c.args.self.now in
-    let place = c.place_of-place.result in
+    let place = c.place_of.result in
     c.row_in.ensures ∙ ap (λ (s : Contents). row_in s.slots place) c.self.view_is
-    ∙ row_of_place now.slots now.stamp state.table c.args.id place h.table (subst (λ (s : Contents). IsPlaceOf s.stamp c.args.id s.slots place) c.self.view_is c.place_of-place.ensures)
+    ∙ row_of_place now.slots now.stamp state.table c.args.id place h.table (subst (λ (s : Contents). IsPlaceOf s.stamp c.args.id s.slots place) c.self.view_is c.place_of.ensures)

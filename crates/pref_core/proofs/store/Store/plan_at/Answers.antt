@@ -1,12 +1,5 @@
-use Rattle.std.proofs.Common.{subst}
-use Rattle.pref_core.specs.Operations.{Plans}
 use Rattle.pref_core.proofs.Legal.{plans_in}
-use Rattle.pref_core.specs.Kept.{IsKept}
 use Rattle.pref_core.proofs.store.Store.plan_at.Goals as goal
 
 pub returns-clause-state : goal.returns-clause-state
-returns-clause-state c state h =
-    plans_in c.args.self.now state c.args.client c.args.call.now c.plan.result h (subst (λ s. Plans s c.args.client c.args.call.now c.plan.result) c.self.view_is c.plan.ensures)
-
-pub indexed_freed_places-freed-requires-clause-kept : goal.indexed_freed_places-freed-requires-clause-kept
-indexed_freed_places-freed-requires-clause-kept c = subst (IsKept c.self.inside.contents) c.self.invariant.0.listed c.self.invariant.0
+returns-clause-state c state h = plans_in c.args.self.now state c.args.client c.args.call.now c.plan_by.result h c.plan_by.ensures

@@ -1,0 +1,11 @@
+use Rattle.std.proofs.Common.{◌+◌, ◌≤◌, drop}
+use Rattle.pref_core.specs.Changes.{begun_by}
+use Rattle.pref_core.specs.State.{changes_of}
+use Rattle.pref_core.proofs.Choosing.{ChosenUpTo}
+use Rattle.pref_core.proofs.store.Store.places_for.Given as goal
+
+abbrev pub invariant-loop-at : goal.invariant-loop-at
+invariant-loop-at l = record {
+  chosen : ChosenUpTo l.self l.call (begun_by l.next_id (drop l.at (changes_of l.call))) l.chosen;
+  few : l.next_id ≤ l.self.next_id + l.at;
+}

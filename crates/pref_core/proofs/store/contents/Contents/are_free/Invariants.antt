@@ -1,0 +1,12 @@
+use Rattle.std.proofs.Common.{◌≡◌, ◌≤◌, suc, ◌∷◌, [], map, length, drop}
+use Rattle.pref_core.specs.Kept.{are_free}
+use Rattle.pref_core.specs.Operations.{close}
+use Rattle.pref_core.specs.Slots.{begins}
+use Rattle.pref_core.specs.State.{ended}
+use Rattle.pref_core.proofs.store.contents.Contents.are_free.Given as goal
+
+abbrev pub invariant-loop-place : goal.invariant-loop-place
+invariant-loop-place l = record {
+  rest : are_free (suc l.self.stamp ∷ begins l.self.callers) (map (close (ended l.op.call) (suc l.self.stamp)) l.self.slots) l.earlier (drop l.place-index l.place-items) ≡ are_free (suc l.self.stamp ∷ begins l.self.callers) (map (close (ended l.op.call) (suc l.self.stamp)) l.self.slots) [] l.op.slots;
+  few : length l.earlier ≤ l.place-index;
+}

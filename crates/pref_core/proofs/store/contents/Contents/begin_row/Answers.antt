@@ -1,0 +1,17 @@
+use Rattle.std.proofs.Common.{◌<◌, set, Some, sym, ap, ◌∙◌, subst, arith}
+use Rattle.pref_core.specs.Links.{ids_of, AreLinks}
+use Rattle.pref_core.specs.Operations.{is_free}
+use Rattle.pref_core.specs.Slots.{Contents, stamps, visible}
+use Rattle.pref_core.specs.Table.{has}
+use Rattle.pref_core.proofs.Filling.{begin_tracked}
+use Rattle.pref_core.proofs.store.contents.Contents.begin_row.Goals as goal
+
+pub invariant_of-self : goal.invariant_of-self
+invariant_of-self c =
+    let now = c.self.inside in
+    let contents : Contents = record { slots = now.slots.items; stamp = now.stamp; next_id = now.next_id; callers = now.callers.items } in
+    let free = ap (λ (s : Contents). is_free (stamps s) s.slots c.args.place) c.self.view_is ∙ c.requires.free in
+    let absent = ap (λ (s : Contents). has (visible s.stamp s.slots) c.args.entry.id) c.self.view_is ∙ c.requires.absent in
+    let low = subst (λ (s : Contents). c.args.entry.id < s.next_id) (sym c.self.view_is) c.requires.low in
+    begin_tracked contents now.places now.links c.args.entry c.args.place c.born.result c.take.new.self c.add.new.self c.self.invariant free absent low (omega arith) c.born.ensures c.take.ensures
+    (subst (λ slots. AreLinks (set (ids_of now.stamp slots) c.args.place (Some c.args.entry.id)) c.add.new.self) c.deref.ensures.value c.add.ensures)

@@ -1,0 +1,78 @@
+use Rattle.std.proofs.Common.{◌+◌, ◌++◌, [], ◌∷◌, List, Option, drop, sym, ap, ◌∙◌, subst, arith}
+use Rattle.std.specs.Option.{option_to_list}
+use Rattle.pref_core.specs.declared.store.version.Version.{Version}
+use Rattle.pref_sky.specs.declared.entry.Entry.{Entry}
+use Rattle.pref_core.specs.Changes.{begun_by, added_by}
+use Rattle.pref_core.specs.Operations.{filled}
+use Rattle.pref_core.specs.Slots.{begins, stamps}
+use Rattle.pref_core.specs.State.{changes_of, begun}
+use Rattle.pref_core.proofs.Changing.{added_one, begun_at, drop_all}
+use Rattle.pref_core.proofs.Filling.{BegunUpTo, FillsRest, BeginsNext, begins_next, begun_one, fills_end}
+use Rattle.pref_core.proofs.store.contents.Contents.begin_rows.Goals as goal
+use Rattle.pref_core.proofs.store.contents.Contents.begin_rows.Goals.{In-Some, in-Some, in_default}
+
+-- the rows behind the one that begins
+abbrev rest : In-Some → List Entry
+rest c = begun_by (c.loop-at.next_id + added_by (c.change-change.result ∷ [])) (drop (c.loop-at.at + 1) (changes_of c.args.op.now.call))
+
+abbrev all : In-Some → Option (List (Option Version))
+all c = filled (stamps c.args.self.now) c.args.self.now.stamp c.args.op.now.slots (begun c.args.first c.args.op.now.call) c.args.self.now.slots
+
+next : (c : In-Some) → BeginsNext c.args.self.now c.loop-at.self c.as_slice-slots.result.now c.loop-at.used c.in-Some.entry (rest c) (all c)
+next c =
+    let is = begun_at c.loop-at.next_id (changes_of c.args.op.now.call) c.loop-at.at c.change-change.result c.change-change.ensures ∙ ap (λ l. l ++ rest c) (sym c.in-Some.ensures) in
+    begins_next c.args.self.now c.loop-at.self c.as_slice-slots.result.now c.loop-at.used c.in-Some.entry (rest c) (all c)
+    (subst (λ l. BegunUpTo c.args.self.now c.loop-at.self (drop c.loop-at.used c.as_slice-slots.result.now) l (all c)) is c.loop-at.invariant.begun)
+
+pub bounds-slots-used : goal.bounds-slots-used
+bounds-slots-used c = (next (goal.at.bounds-slots-used c).In-Some).inside
+
+pub begin_row-requires-clause-free : goal.begin_row-requires-clause-free
+begin_row-requires-clause-free c = (next (goal.at.begin_row-requires-clause-free c).In-Some).free
+
+pub begin_row-requires-clause-absent : goal.begin_row-requires-clause-absent
+begin_row-requires-clause-absent c = (next (goal.at.begin_row-requires-clause-absent c).In-Some).absent
+
+pub begin_row-requires-clause-low : goal.begin_row-requires-clause-low
+begin_row-requires-clause-low c = (next (goal.at.begin_row-requires-clause-low c).In-Some).low
+
+pub loop-at-preserved : goal.loop-at-preserved
+loop-at-preserved c =
+    let start = c.args.self.now in
+    let changes = changes_of c.args.op.now.call in
+    let rest = begun_by (c.loop-at.next_id + added_by (c.change-change.result ∷ [])) (drop (c.loop-at.at + 1) changes) in
+    let all = filled (stamps start) start.stamp c.args.op.now.slots (begun c.args.first c.args.op.now.call) start.slots in
+    let slots = c.as_slice-slots.result.now in
+    let used = c.loop-at.used in
+    let from = begun_at c.loop-at.next_id changes c.loop-at.at c.change-change.result c.change-change.ensures in
+    let one = added_one c.change-change.result in
+    let told = c.added-next_id.ensures in
+    let few = c.loop-at.invariant.few in
+    let before = c.loop-at.invariant.used in
+    record {
+      begun = subst (λ n. BegunUpTo start c.match-begun.self (drop c.match-begun.used slots) (begun_by (c.loop-at.next_id + n) (drop (c.loop-at.at + 1) changes)) all) (sym told)
+          (elim c.match-begun.branch [
+            | in-Some w ↦
+                let is = from ∙ ap (λ l. l ++ rest) (sym w.in-Some.ensures) in
+                subst (λ s. BegunUpTo start s (drop c.match-begun.used slots) rest all) (sym w.self-is) (subst (λ n. BegunUpTo start w.begin_row.new.self (drop n slots) rest all) (sym w.used-is)
+                (begun_one start c.loop-at.self w.begin_row.new.self slots used w.in-Some.entry rest all
+                (subst (λ l. BegunUpTo start c.loop-at.self (drop used slots) l all) is c.loop-at.invariant.begun) w.begin_row.ensures))
+            | in_default w ↦
+                let is = from ∙ ap (λ l. l ++ rest) (sym c.begun.ensures ∙ ap option_to_list w.in_default.is) in
+                subst (λ s. BegunUpTo start s (drop c.match-begun.used slots) rest all) (sym w.self-is) (subst (λ n. BegunUpTo start c.loop-at.self (drop n slots) rest all) (sym w.used-is)
+                (subst (λ l. BegunUpTo start c.loop-at.self (drop used slots) l all) is c.loop-at.invariant.begun))
+          ]);
+      few = omega arith;
+      used = elim c.match-begun.branch [
+        | in-Some w ↦ let more = w.used-is in omega arith
+        | in_default w ↦ let same = w.used-is in omega arith
+      ];
+    }
+
+pub returns-clause-slots : goal.returns-clause-slots
+returns-clause-slots c =
+    let now = c.args.self.now in
+    let left = drop c.loop-at.used c.as_slice-slots.result.now in
+    let all = filled (stamps now) now.stamp c.args.op.now.slots (begun c.args.first c.args.op.now.call) now.slots in
+    fills_end now.next_id now.stamp (begins now.callers) left c.loop-at.self.slots all
+    (subst (λ l. FillsRest now.next_id now.stamp (begins now.callers) left (begun_by c.loop-at.next_id l) c.loop-at.self.slots all) (drop_all (changes_of c.args.op.now.call) c.loop-at.at (omega arith)) c.loop-at.invariant.begun.fills)

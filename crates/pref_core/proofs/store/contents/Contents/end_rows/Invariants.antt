@@ -1,0 +1,8 @@
+use Rattle.std.proofs.Common.{take}
+use Rattle.pref_core.specs.Changes.{ended_by}
+use Rattle.pref_core.specs.State.{changes_of}
+use Rattle.pref_core.proofs.Filling.{EndedUpTo}
+use Rattle.pref_core.proofs.store.contents.Contents.end_rows.Given as goal
+
+abbrev pub invariant-loop-at : goal.invariant-loop-at
+invariant-loop-at l = EndedUpTo l.initial.self l.self (ended_by (take l.at (changes_of l.call)))

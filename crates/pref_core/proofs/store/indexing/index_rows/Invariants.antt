@@ -1,7 +1,0 @@
-use Rattle.std.proofs.Common.{ℕ}
-use Rattle.pref_core.specs.Indexes.{slot_of}
-use Rattle.pref_core.proofs.Indexing.{IsPlaceUpTo}
-use Rattle.pref_core.proofs.store.indexing.index_rows.Given as goal
-
-abbrev pub invariant-loop-place : goal.invariant-loop-place
-invariant-loop-place l = (id : ℕ) → IsPlaceUpTo l.stamp id l.slots l.place (slot_of l.index id)

@@ -1,0 +1,28 @@
+use Rattle.std.proofs.Common.{◌+◌, Some, ap, sym, subst, ◌∙◌, arith}
+use Rattle.std.proofs.lemmas.Option.{slice_get-get_or}
+use Rattle.pref_core.specs.Indexes.{slot_of}
+use Rattle.pref_core.proofs.Indexing.{IsPlaceUpTo, place_at_end, place_past, place_put, row_at-hidden, row_at-empty}
+use Rattle.pref_core.proofs.store.reads.index_rows.Goals as goal
+use Rattle.pref_core.proofs.store.reads.index_rows.Goals.{in-Some+then-is_visible_at+in_ok-put-in-Some, in-Some+else-is_visible_at, in-None}
+
+pub loop-place-init : goal.loop-place-init
+loop-place-init c id = subst (λ index. IsPlaceUpTo c.args.stamp id c.args.slots.now 0 (slot_of index id)) (sym c.in_ok-index.ensures) (λ k l. absurd (omega arith))
+
+pub loop-place-preserved : goal.loop-place-preserved
+loop-place-preserved c id = elim c.match-slots-place.branch [
+  | in-Some+then-is_visible_at+in_ok-put-in-Some w ↦
+      let at = slice_get-get_or c.args.slots.now c.loop-place.place _ c.loop-place-test.true ∙ ap Some w.in-Some.is in
+      subst (λ index. IsPlaceUpTo c.args.stamp id c.args.slots.now (c.loop-place.place + 1) (slot_of index id)) (sym w.index-is)
+      (place_put c.args.stamp id c.args.slots.now c.loop-place.place w.in-Some.version c.loop-place.index w.put.new.self at (sym w.is_visible_at.ensures ∙ w.if-is_visible_at.true) w.in_ok-put-in-Some.ensures.put (c.loop-place.invariant id))
+  | in-Some+else-is_visible_at w ↦
+      let at = slice_get-get_or c.args.slots.now c.loop-place.place _ c.loop-place-test.true ∙ ap Some w.in-Some.is in
+      subst (λ index. IsPlaceUpTo c.args.stamp id c.args.slots.now (c.loop-place.place + 1) (slot_of index id)) (sym w.index-is)
+      (place_past c.args.stamp id c.args.slots.now c.loop-place.place (slot_of c.loop-place.index id) (row_at-hidden c.args.stamp id c.args.slots.now c.loop-place.place w.in-Some.version at (sym w.is_visible_at.ensures ∙ w.if-is_visible_at.false)) (c.loop-place.invariant id))
+  | in-None w ↦
+      let at = slice_get-get_or c.args.slots.now c.loop-place.place _ c.loop-place-test.true ∙ ap Some w.in-None.is in
+      subst (λ index. IsPlaceUpTo c.args.stamp id c.args.slots.now (c.loop-place.place + 1) (slot_of index id)) (sym w.index-is)
+      (place_past c.args.stamp id c.args.slots.now c.loop-place.place (slot_of c.loop-place.index id) (row_at-empty c.args.stamp id c.args.slots.now c.loop-place.place at) (c.loop-place.invariant id))
+]
+
+pub returns : goal.returns
+returns c id = place_at_end c.args.stamp id c.args.slots.now c.loop-place.place (slot_of c.loop-place.index id) c.loop-place-test.false (c.loop-place.invariant id)
