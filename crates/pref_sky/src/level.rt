@@ -13,7 +13,7 @@ ghost use Rattle.pref_sky.specs.declared.entry.Entry.{Entry};
 
 use crate::entry::Entry;
 use crate::meeting::{Known, Meeting, is_beaten, meet};
-use crate::signatures::push_signatures;
+use crate::signatures::{SignedEntries, push_signatures};
 use pref_term::{Cuts, Dominance};
 use std::alloc::{AllocError, Global};
 
@@ -38,20 +38,22 @@ pub(crate) struct Step {
 /// returns how many stay.
 fn move_back<D: Dominance>(
     dominance: &D,
-    others: &[Entry],
+    others: &SignedEntries,
     entries: &mut [Entry],
     signatures: &mut [u64],
 ) -> usize
-    requires { length signatures.old ≡ length entries.old }
+    requires { AreSigned (entry_order (D.order dominance.now)) entries.old signatures.old others.now.entries.items others.now.signatures.items }
     ensures permutation { IsPermutation entries.old entries.new }
     ensures within { result ≤ length entries.new }
-    ensures stay { (e : Entry) → Among e (take result entries.new) → is_beaten (entry_order (D.order dominance.now)) others.now e ≡ false }
-    ensures go { (e : Entry) → Among e (drop result entries.new) → is_beaten (entry_order (D.order dominance.now)) others.now e ≡ true }
+    ensures stay { (e : Entry) → Among e (take result entries.new)
+        → is_beaten (entry_order (D.order dominance.now)) others.now.entries.items e ≡ false }
+    ensures go { (e : Entry) → Among e (drop result entries.new)
+        → is_beaten (entry_order (D.order dominance.now)) others.now.entries.items e ≡ true }
     ensures signed { (rule : Entry → ℕ) → signatures.old ≡ map rule entries.old → signatures.new ≡ map rule entries.new }
 {
     let mut staying = 0;
     for place in 0..entries.len() {
-        if !is_beaten(dominance, others, &entries[place]) {
+        if !is_beaten(dominance, others, &entries[place], signatures[place]) {
             entries.swap(staying, place);
             signatures.swap(staying, place);
             staying += 1;
@@ -111,17 +113,17 @@ impl Level {
     }
 
     /// Moves the entries that one of `others` dominates behind those that stay, and returns how many stay: at
-    /// most one comparison for each pair.
-    pub(crate) fn set_apart<D: Dominance>(&mut self, dominance: &D, others: &[Entry]) -> usize
-        requires { vec_len self.old.signatures ≡ vec_len self.old.entries }
+    /// most one comparison for each pair whose signatures leave open that the other dominates the held one.
+    pub(crate) fn set_apart<D: Dominance>(&mut self, dominance: &D, others: &SignedEntries) -> usize
+        requires { AreSigned (entry_order (D.order dominance.now)) self.old.entries.items self.old.signatures.items others.now.entries.items others.now.signatures.items }
         ensures moved { Moved self.old self.new }
         ensures within { result ≤ vec_len self.new.entries }
         ensures stay { (e : Entry) → Among e (take result self.new.entries.items)
-            → is_beaten (entry_order (D.order dominance.now)) others.now e ≡ false }
+            → is_beaten (entry_order (D.order dominance.now)) others.now.entries.items e ≡ false }
         ensures go { (e : Entry) → Among e (drop result self.new.entries.items)
-            → is_beaten (entry_order (D.order dominance.now)) others.now e ≡ true }
+            → is_beaten (entry_order (D.order dominance.now)) others.now.entries.items e ≡ true }
     {
-        if others.is_empty() {
+        if others.entries.is_empty() {
             return self.entries.len();
         }
         move_back(dominance, others, &mut self.entries, &mut self.signatures)

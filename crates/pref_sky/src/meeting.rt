@@ -14,11 +14,23 @@ use crate::signatures::SignedEntries;
 use pref_term::{Dominance, Relation, is_within};
 use std::alloc::{AllocError, Global};
 
-/// Whether some entry of the list dominates this one, by one comparison for each until the first.
-pub(crate) fn is_beaten<D: Dominance>(dominance: &D, entries: &[Entry], entry: &Entry) -> bool
-    ensures { result ≡ is_beaten (entry_order (D.order dominance.now)) entries.now entry.now }
+/// Whether some entry of the list dominates this one, by one comparison for each whose signature leaves it
+/// open, until the first that does.
+pub(crate) fn is_beaten<D: Dominance>(
+    dominance: &D,
+    others: &SignedEntries,
+    entry: &Entry,
+    signature: u64,
+) -> bool
+    requires { AreSigned (entry_order (D.order dominance.now)) others.now.entries.items others.now.signatures.items (entry.now ∷ []) (signature ∷ []) }
+    ensures { result ≡ is_beaten (entry_order (D.order dominance.now)) others.now.entries.items entry.now }
 {
-    entries.iter().any(|other| is_over(dominance, other, entry))
+    for (place, other) in others.signatures.iter().enumerate() {
+        if is_within(*other, signature) && is_over(dominance, &others.entries[place], entry) {
+            return true;
+        }
+    }
+    false
 }
 
 /// How an entry compares with a list.

@@ -53,8 +53,8 @@ struct Merged {
 /// Plans a level's step as entries come to it, and makes room for it. The level itself keeps its entries.
 ///
 /// Cost: one comparison at most for each pair of a held and a coming entry whose signatures leave it open,
-/// the best of those that are let in, and for each held entry one comparison with each entry that displaces
-/// some.
+/// the best of those that are let in, and one comparison more at most for each pair of a held entry and one
+/// that displaces some whose signatures leave open that the latter dominates the former.
 fn merge_level<D: Dominance>(
     alloc: Global,
     dominance: &D,
@@ -87,7 +87,7 @@ fn merge_level<D: Dominance>(
         &sifted.let_in.signatures,
     )?;
     let joining = best.0;
-    let staying = held.set_apart(dominance, &sifted.displacing.entries);
+    let staying = held.set_apart(dominance, &sifted.displacing);
     let mut down = sifted.turned_away;
     if let Losers::Kept = losers {
         push_lost(

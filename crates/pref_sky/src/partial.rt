@@ -163,11 +163,12 @@ impl Partial {
     ///
     /// Held entries of one level are never compared with each other again. Cost: for each level that
     /// something comes down to, one comparison for each pair of an entry held there and one that comes,
-    /// at most, and the best of those that none held there dominates; where the cut is above 1, first one
-    /// comparison of each new entry with each held at the last level. Signatures spare most of these: a new
-    /// entry is signed once, and once more where it joins a level. Copied are the new entries that join
-    /// a level, and those that go down one, once for each level; what stays at a level is not. Memory: lists
-    /// as long as what comes to a level, the signatures of the new entries, and room for what joins.
+    /// at most, one more where the latter dominates something held there, and the best of those that none
+    /// held there dominates; where the cut is above 1, first one comparison of each new entry with each held
+    /// at the last level. Signatures spare most of these: a new entry is signed once, and once more where it
+    /// joins a level. Copied are the new entries that join a level, and those that go down one, once for each
+    /// level; what stays at a level is not. Memory: lists as long as what comes to a level, the signatures of
+    /// the new entries, and room for what joins.
     ///
     /// `Err` is out of memory; the partial result is then as it was.
     pub fn add<D: Dominance>(

@@ -13,7 +13,7 @@ use Rattle.pref_sky.proofs.level.move_back.Goals.{then-not-is_beaten, else-not-i
 
 pub loop-place-preserved : goal.loop-place-preserved
 loop-place-preserved g c =
-    let beaten = is_beaten (entry_order (g.D.Dominance.order c.args.dominance.now)) c.args.others.now in
+    let beaten = is_beaten (entry_order (g.D.Dominance.order c.args.dominance.now)) c.args.others.now.entries.items in
     let xs = c.loop-place.entries in
     let ys = c.if-not-is_beaten.entries in
     let staying = c.loop-place.staying in
@@ -53,10 +53,10 @@ loop-place-preserved g c =
 
 pub returns-clause-stay : goal.returns-clause-stay
 returns-clause-stay g c e m =
-    let beaten = is_beaten (entry_order (g.D.Dominance.order c.args.dominance.now)) c.args.others.now in
+    let beaten = is_beaten (entry_order (g.D.Dominance.order c.args.dominance.now)) c.args.others.now.entries.items in
     each_in_front beaten false c.loop-place.entries c.loop-place.staying c.loop-place.invariant.stay e m
 
 pub returns-clause-go : goal.returns-clause-go
 returns-clause-go g c e m =
-    let beaten = is_beaten (entry_order (g.D.Dominance.order c.args.dominance.now)) c.args.others.now in
+    let beaten = is_beaten (entry_order (g.D.Dominance.order c.args.dominance.now)) c.args.others.now.entries.items in
     each_behind beaten true c.loop-place.entries c.loop-place.staying (λ k d past inside. c.loop-place.invariant.go k d past (omega (arith, c.loop-place-test.false, c.loop-place.auto.entries, inside))) e m

@@ -8,7 +8,7 @@ use Rattle.pref_sky.proofs.level.move_back.Given as goal
 -- of the entries so far, those that stay are in front
 abbrev pub invariant-loop-place : goal.invariant-loop-place
 invariant-loop-place g l =
-    let beaten = is_beaten (entry_order (g.D.Dominance.order l.dominance)) l.others in
+    let beaten = is_beaten (entry_order (g.D.Dominance.order l.dominance)) l.others.entries.items in
     record {
       within : l.staying ≤ l.place;
       permutation : IsPermutation l.initial.entries l.entries;

@@ -66,7 +66,7 @@ returns-clause-level g c apart =
     let joining = c.in_ok-best.best.0.items in
     let left : c.deref.result.now ≡ let_in over held coming = c.deref.ensures.value ∙ c.in_ok-sifted.ensures.let_in apart in
     let found : joining ≡ in_order_of_id (best over (let_in over held coming)) = c.in_ok-best.ensures.best ∙ ap (λ l. in_order_of_id (best over l)) left in
-    let above : c.deref-3.result.now ≡ displacing over held coming = c.deref-3.ensures.value ∙ c.in_ok-sifted.ensures.displacing apart in
+    let above : c.in_ok-sifted.sifted.displacing.entries.items ≡ displacing over held coming = c.in_ok-sifted.ensures.displacing apart in
     let moved : IsPermutation held now = IsPermutation-trans _ _ _ c.sift.ensures.moved.permutation c.set_apart-staying.ensures.moved.permutation in
     let parts : SameMembers (take n now) (staying over held coming) =
     those_that_stay (is_beaten over (displacing over held coming)) held now n moved (λ e m. ap (λ d. is_beaten over d e) (sym above) ∙ c.set_apart-staying.ensures.stay e m) (λ e m. ap (λ d. is_beaten over d e) (sym above) ∙ c.set_apart-staying.ensures.go e m) in
@@ -109,7 +109,7 @@ returns-clause-down g c apart further =
     let left_is : left ≡ let_in over held coming = c.in_ok-sifted.ensures.let_in apart in
     let away_is : sifted.turned_away.entries.items ≡ turned_away over held coming = c.in_ok-sifted.ensures.turned_away apart ∙ ap (λ b. filter (λ e. b && is_beaten over held e) coming) further in
     let top : c.in_ok-best.best.0.items ≡ in_order_of_id (best over left) = c.in_ok-best.ensures.best ∙ ap (λ l. in_order_of_id (best over l)) c.deref.ensures.value in
-    let above : c.deref-3.result.now ≡ displacing over held coming = c.deref-3.ensures.value ∙ c.in_ok-sifted.ensures.displacing apart in
+    let above : c.in_ok-sifted.sifted.displacing.entries.items ≡ displacing over held coming = c.in_ok-sifted.ensures.displacing apart in
     let moved : IsPermutation held now = IsPermutation-trans _ _ _ c.sift.ensures.moved.permutation c.set_apart-staying.ensures.moved.permutation in
     let parts : SameMembers (drop n now) (displaced over held coming) =
     those_that_go (is_beaten over (displacing over held coming)) held now n moved (λ e m. ap (λ d. is_beaten over d e) (sym above) ∙ c.set_apart-staying.ensures.stay e m) (λ e m. ap (λ d. is_beaten over d e) (sym above) ∙ c.set_apart-staying.ensures.go e m) in
