@@ -76,8 +76,38 @@ fn take_cuts(cuts: &mut Cuts, held: &mut Vec<Level>, new: Cuts)
     *cuts = new;
 }
 
+/// The fewest held entries beside which what comes is signed. Beside fewer most of what comes is dominated after
+/// a few comparisons, and to sign an entry takes as long as some fifty.
+const MANY: usize = 256;
+
+/// Whether signatures are worth their cost: the entries that are held, with one in 64 of those that come,
+/// are many. Any answer is right.
+fn are_many(held: &[Level], coming: &[Entry]) -> bool {
+    let mut missing = MANY.saturating_sub(coming.len() / 64);
+    for level in held {
+        missing = missing.saturating_sub(level.entries.len());
+    }
+    missing == 0
+}
+
+/// Cuts that suit the order, for entries like these; none where few are held.
+fn cuts_beside<D: Dominance>(
+    alloc: Global,
+    dominance: &D,
+    held: &[Level],
+    entries: &[Entry],
+) -> Result<Cuts, AllocError>
+    ensures { IfOk result (λ cuts. Suit (D.order dominance.now) cuts) }
+{
+    if are_many(held, entries) {
+        cuts_of(alloc, dominance, entries)
+    } else {
+        Ok(Cuts::none())
+    }
+}
+
 /// Sees that the levels are signed by cuts that suit the order. Where theirs don't, or tell nothing, they
-/// get some for entries like these.
+/// get some for entries like these, once many are held.
 fn renew_cuts<D: Dominance>(
     alloc: Global,
     dominance: &D,
@@ -94,7 +124,7 @@ fn renew_cuts<D: Dominance>(
     if !cuts.as_slice().is_empty() && dominance.suits(cuts) {
         return Ok(());
     }
-    let new = cuts_of(alloc, dominance, entries)?;
+    let new = cuts_beside(alloc, dominance, held, entries)?;
     take_cuts(cuts, held, new);
     Ok(())
 }
@@ -165,8 +195,8 @@ impl Partial {
     /// something comes down to, one comparison for each pair of an entry held there and one that comes,
     /// at most, one more where the latter dominates something held there, and the best of those that none
     /// held there dominates; where the cut is above 1, first one comparison of each new entry with each held
-    /// at the last level. Signatures spare most of these: a new entry is signed once, and once more where it
-    /// joins a level. Copied are the new entries that join a level, and those that go down one, once for each
+    /// at the last level. Once 256 entries are held, signatures spare most of these: a new entry is signed then,
+    /// and once more where it joins a level. Copied are the new entries that join a level, and those that go down one, once for each
     /// level; what stays at a level is not. Memory: lists as long as what comes to a level, the signatures of
     /// the new entries, and room for what joins.
     ///

@@ -5,7 +5,7 @@ ghost use Rattle.pref_sky.specs.Levels.{HaveDifferentIds, entry_order, levels};
 use super::answers::ask_of;
 use super::fixtures::{LowBoth, LowInGroup, LowOnce, PAIRS, falling, numbered, places_of};
 use super::plain::add_plainly;
-use crate::same::assert_same_list;
+use crate::same::{assert_same, assert_same_list};
 use pref_sky::{Entry, Partial, Ranked, levels};
 use pref_term::Dominance;
 use std::alloc::{AllocError, Global};
@@ -30,6 +30,26 @@ pub(super) fn added_in_two<D: Dominance>(
     Ok((partial, plain))
 }
 
+/// Cut there, the two pieces make the levels of the whole.
+fn check_cutting<D: Dominance>(
+    rt: &impl Abort,
+    alloc: Global,
+    dominance: &D,
+    cut: u32,
+    entries: &[Entry],
+    whole: &[Ranked],
+    at: usize,
+) -> Result<(), Fail>
+    requires { HaveDifferentIds entries.now }
+{
+    let (front, back) = entries.split_at(at.min(entries.len()));
+    let (partial, plain) = added_in_two(alloc, dominance, cut, front, back)?;
+    let held = partial.ranked(alloc)?;
+    assert_same_list(rt, ("plain, cut at", at), &held, plain.as_slice());
+    assert_same_list(rt, ("whole, cut at", at), &held, whole);
+    Ok(())
+}
+
 fn check_every_cutting<D: Dominance>(
     rt: &impl Abort,
     alloc: Global,
@@ -44,11 +64,7 @@ fn check_every_cutting<D: Dominance>(
     let found = places_of(alloc, &whole)?;
     assert_same_list(rt, "uncut", found.as_slice(), places);
     for at in 0..=entries.len() {
-        let (front, back) = entries.split_at(at);
-        let (partial, plain) = added_in_two(alloc, dominance, cut, front, back)?;
-        let held = partial.ranked(alloc)?;
-        assert_same_list(rt, ("plain, cut at", at), &held, plain.as_slice());
-        assert_same_list(rt, ("whole, cut at", at), &held, whole.as_slice());
+        check_cutting(rt, alloc, dominance, cut, entries, &whole, at)?;
     }
     Ok(())
 }
@@ -97,40 +113,28 @@ fn of_twins_the_one_with_the_least_id_stays(rt: HostRuntime) -> Result<(), Fail>
     check_every_cutting(&rt, alloc, &LowOnce, 5, &entries, &places)
 }
 
-/// Enough rows for signatures: each of twenty comes twice, and more than half are on the three levels.
-#[test]
-fn three_levels_of_forty_rows(rt: HostRuntime) -> Result<(), Fail> {
-    let alloc = rt.alloc();
-    let mut rows = Vec::with_capacity(alloc, 40)?;
-    for i in 0..40_u32 {
-        let twin = i % 20;
-        rows.push((i64::from(twin * 7 % 19), i64::from((twin * 3 + 3) % 17)))?;
+/// Three levels of a hundred rows, and behind them twenty rows that move each of these down one.
+fn levelled(alloc: Global) -> Result<Vec<(i64, i64)>, AllocError> {
+    let mut rows = Vec::with_capacity(alloc, 320)?;
+    for i in 0..300_u32 {
+        let step = i % 100;
+        rows.push((i64::from(step), i64::from(320 + i / 100 - 3 * step)))?;
     }
+    for i in 0..20_u32 {
+        rows.push((i64::from(5 * i), i64::from(300 - 15 * i)))?;
+    }
+    Ok(rows)
+}
+
+/// So many held rows that those which come are signed.
+#[test]
+fn three_levels_of_a_hundred_rows(rt: HostRuntime) -> Result<(), Fail> {
+    let alloc = rt.alloc();
+    let rows = levelled(alloc)?;
     let entries = numbered(alloc, &rows)?;
     let ask = ask_of(alloc, b"top_level 3 low(x) * low(y)")?;
-    let places = [
-        (1, 1),
-        (1, 6),
-        (1, 12),
-        (1, 17),
-        (1, 21),
-        (1, 26),
-        (1, 32),
-        (1, 37),
-        (2, 7),
-        (2, 18),
-        (2, 20),
-        (2, 27),
-        (2, 38),
-        (2, 40),
-        (3, 2),
-        (3, 4),
-        (3, 13),
-        (3, 15),
-        (3, 22),
-        (3, 24),
-        (3, 33),
-        (3, 35),
-    ];
-    check_every_cutting(&rt, alloc, &ask, 3, &entries, &places)
+    let whole = levels(alloc, &ask, 64, 3, &entries)?;
+    assert_same(&rt, "rows of three levels", &whole.len(), &220);
+    check_cutting(&rt, alloc, &ask, 3, &entries, &whole, 300)?;
+    check_cutting(&rt, alloc, &ask, 3, &entries, &whole, 310)
 }
