@@ -12,7 +12,8 @@ use thiserror::Error;
 /// A refusal. Those of the table are tested in their order; `Spent`, `QueryOpen`, `NoQuery`, `AllScanned` and `NotDone`
 /// before the others of this type.
 ///
-/// After `OutOfMemory`, `ClientInUse` and `Closed` the client's counter and its query are as they were, so the call can be made again.
+/// After `OutOfMemory`, `ClientInUse` and `Closed` the client's counter and its query are as they were. A call refused `OutOfMemory`
+/// or `Closed` can be made again.
 ///
 /// ```text
 /// match client.get(id) {
