@@ -1,4 +1,5 @@
 //! Table texts with the results that the format names.
+mod numbers;
 mod refusals;
 
 use crate::same::{assert_same, assert_same_list, assert_same_text};

@@ -1,18 +1,19 @@
--- A field of digits alone, read in the pass that finds its comma.
-use Rattle.std.proofs.Common.{◌≡◌, ◌∙◌, ℕ, ◌+◌, ◌-◌, ◌<◌, ◌≤◌, ◌*◌, ◌^◌, Bool, true, false, List, [], ◌∷◌, length, take, get_or, sym, ap, refl, arith, suc, Ok, pos, inl, inr}
-use Rattle.std.specs.Prelude.{nat_lt}
+-- A field of digits, perhaps behind a sign, read in the pass that finds its end.
+use Rattle.std.proofs.Common.{◌≡◌, ◌∙◌, ℕ, ◌+◌, ◌-◌, ◌<◌, ◌≤◌, ◌*◌, ◌^◌, Bool, true, false, List, [], ◌∷◌, length, take, get_or, sym, ap, refl, arith, add-one, zero, suc, Ok, ℤ, pos}
+use Rattle.std.specs.Prelude.{nat_lt, ◌==◌}
 use Rattle.std.specs.List.{prefix_len, suffix_len}
 use Rattle.std.specs.Char.{is_ascii_digit}
 use Rattle.std.specs.Str.{all_ascii_digits}
 use Rattle.std.specs.Str.Parse.{digits_value, starts_with_minus, without_leading_sign}
-use Rattle.std.proofs.lemmas.Bool.{le-leb, lt-ltb, ltb-true, ltb-false, ne_eqb}
+use Rattle.std.proofs.Math.Nat.{pow-le-pow_right, pow-suc}
+use Rattle.std.proofs.lemmas.Bool.{eqb-true, le-leb, lt-ltb, ltb-true, ltb-false, ne_eqb}
 use Rattle.std.proofs.lemmas.Int.Digits.{digits_value_more}
 use Rattle.std.proofs.lemmas.List.{get_or-take, length-take-le, take_all}
 use Rattle.std.proofs.lemmas.List.Sums.{prefix_len-drop_no, suffix_len-take_no}
 use Rattle.std.proofs.lemmas.Str.Parse.{without_leading_plus_none}
 use Rattle.pref_table.specs.Capped.{IsCapped}
-use Rattle.pref_table.specs.Fields.{IsPlainField}
-use Rattle.pref_table.specs.Number.{is_blank, number_of, without_blanks}
+use Rattle.pref_table.specs.Fields.{AreLeadingDigits, IsPlainField}
+use Rattle.pref_table.specs.Number.{fits_cell, is_blank, number_of, signed_by, without_blanks}
 use Rattle.pref_table.specs.Rows.{is_comma}
 use Rattle.pref_table.proofs.NumberFacts.{digit_value-of, number-fits}
 use Rattle.pref_table.proofs.RowsFacts.{cut_at, cut_none}
@@ -20,77 +21,143 @@ use Rattle.pref_table.proofs.RowsFacts.{cut_at, cut_none}
 abbrev pub IsDigit : ℕ → Type 0
 IsDigit byte = (48 ≤ byte) × (byte < 58)
 
+abbrev pub AreDigits : List ℕ → ℕ → Type 0
+AreDigits text count = (k : ℕ) → k < count → IsDigit (get_or text k 0)
+
 is_digit : (byte : ℕ) → IsDigit byte → is_ascii_digit byte ≡ true
 is_digit byte (low, high) = rw (le-leb 48 byte low, le-leb byte 57 (omega arith)) refl
 
-all_digits : (ds : List ℕ) → ((k : ℕ) → k < length ds → IsDigit (get_or ds k 0)) → all_ascii_digits ds ≡ true
+all_digits : (ds : List ℕ) → AreDigits ds (length ds) → all_ascii_digits ds ≡ true
 all_digits [] h = refl
 all_digits (d ∷ ds) h = rw (is_digit d (h 0 (omega arith)), all_digits ds (λ k b. h (suc k) (omega arith))) refl
 
-not_blank : (byte : ℕ) → IsDigit byte → is_blank byte ≡ false
-not_blank byte (low, high) = rw (ne_eqb byte 32 (λ e. absurd (omega arith)), ne_eqb byte 9 (λ e. absurd (omega arith))) refl
+-- a sign or a digit
+abbrev IsSigned : ℕ → Type 0
+IsSigned byte = (43 ≤ byte) × (byte < 58) × (byte ≡ 44 → ⊥)
 
-not_comma : (byte : ℕ) → IsDigit byte → is_comma byte ≡ false
-not_comma byte (low, high) = ne_eqb byte 44 (λ e. absurd (omega arith))
+not_blank : (byte : ℕ) → IsSigned byte → is_blank byte ≡ false
+not_blank byte (low, high, _) = rw (ne_eqb byte 32 (λ e. absurd (omega arith)), ne_eqb byte 9 (λ e. absurd (omega arith))) refl
 
--- a text of digits has neither blanks nor a sign
-module _ (text : List ℕ) (some : 0 < length text) (digits : (k : ℕ) → k < length text → IsDigit (get_or text k 0)) where
-  no_blanks : text ≡ without_blanks text
-  no_blanks =
-      let front : prefix_len is_blank text ≡ 0 = prefix_len-drop_no is_blank text 0 0 some (not_blank _ (digits 0 some)) in
-      let all : take (length text) text ≡ text = take_all (length text) text (omega arith) in
-      let last = not_blank _ (digits (length text - 1) (omega arith)) in
-      let back : suffix_len is_blank text ≡ 0 = ap (suffix_len is_blank) (sym all) ∙ suffix_len-take_no is_blank text (length text) 0 some (omega arith) last in
-      rw (front, back) (sym (take_all (length text - 0) text (omega arith)))
+not_comma : (byte : ℕ) → IsSigned byte → is_comma byte ≡ false
+not_comma byte (low, high, other) = ne_eqb byte 44 other
 
-  no_minus : starts_with_minus text ≡ false
-  no_minus = ne_eqb (get_or text 0 0) 45 (λ e. absurd (omega (arith, digits 0 some)))
+digit_signed : (byte : ℕ) → IsDigit byte → IsSigned byte
+digit_signed byte (low, high) = (omega arith, high, λ e. absurd (omega arith))
 
-  no_sign : text ≡ without_leading_sign text
-  no_sign = rw no_minus (sym (without_leading_plus_none text (λ e. absurd (omega (arith, digits 0 some)))))
+-- one digit more, at the end of those so far
+pub room_below : (place most value : ℕ) → place ≤ most → value < 10 ^ place → value < 10 ^ most
+room_below place most value h small = omega (arith, pow-le-pow_right {n = 10} (omega arith) h)
 
-  pub digits_read : (value : ℕ) → value ≡ digits_value 10 text → value < 10 ^ 18 → number_of text ≡ Ok (pos value)
-  digits_read value e small =
-      let capped : IsCapped value (digits_value 10 text) = record { same = λ _. e; more = λ h. absurd (omega arith) } in
-      number-fits text text text no_blanks no_sign (ne_eqb (length text) 0 (λ z. absurd (omega arith))) (all_digits text digits) value capped (pos value)
-      (rw no_minus (lt-ltb value (2 ^ 63) (omega arith))) (rw no_minus refl)
+pub value_more : (place value digit new : ℕ) → value < 10 ^ place → digit < 10 → new ≡ 10 * value + digit → new < 10 ^ (place + 1)
+value_more place value digit new small few e =
+    let next : 10 ^ (place + 1) ≡ 10 ^ place * 10 = rw add-one (pow-suc 10 place) in
+    omega (arith, next)
 
-module _ (line : List ℕ) (place value : ℕ) (inside : place ≤ length line)
-    (digits : (k : ℕ) → k < place → IsDigit (get_or line k 0)) (e : value ≡ digits_value 10 (take place line)) (small : value < 10 ^ 18) where
-  field_digits : (k : ℕ) → k < length (take place line) → IsDigit (get_or (take place line) k 0)
-  field_digits k h =
-      let within : k < place = omega (arith, length-take-le place line inside) in
-      rw (get_or-take place line k 0 within) (digits k within)
+pub digit_more : (text : List ℕ) (place value : ℕ) → place < length text → IsDigit (get_or text place 0) → value ≡ digits_value 10 (take place text)
+    → (new : ℕ) → new ≡ 10 * value + (get_or text place 0 - 48) → new ≡ digits_value 10 (take (place + 1) text)
+digit_more text place value inside digit so_far new here =
+    let last = digits_value_more 10 text place inside in
+    let one = digit_value-of (get_or text place 0) digit.0 digit.1 in
+    omega (arith, last, one)
 
-  before : (k : ℕ) → k < place → is_comma (get_or line k 0) ≡ false
-  before k h = not_comma _ (digits k h)
+pub digits_more : (text : List ℕ) (place : ℕ) → AreDigits text place → IsDigit (get_or text place 0) → AreDigits text (place + 1)
+digits_more text place so_far digit k h = by (nat_lt k place) refl
+  where
+    by : (earlier : Bool) → nat_lt k place ≡ earlier → IsDigit (get_or text k 0)
+    by true b = so_far k (ltb-true k place b)
+    by false b =
+        let same : k ≡ place = omega (arith, ltb-false k place b) in
+        rw same digit
 
-  -- the field ends at its comma, or with the line
-  pub plain_to_comma : 0 < place → place < length line → get_or line place 0 ≡ 44 → IsPlainField line (pos value) place
-  plain_to_comma some more here = record {
-    inside = inside;
-    reads = digits_read (take place line) (omega (arith, length-take-le place line inside)) field_digits value e small;
-    cut = inl (cut_at line place more before here);
-  }
+-- a field that neither begins nor ends with a blank
+no_blanks : (field : List ℕ) → 0 < length field → is_blank (get_or field 0 0) ≡ false → is_blank (get_or field (length field - 1) 0) ≡ false → field ≡ without_blanks field
+no_blanks field some first last =
+    let front : prefix_len is_blank field ≡ 0 = prefix_len-drop_no is_blank field 0 0 some first in
+    let all : take (length field) field ≡ field = take_all (length field) field (omega arith) in
+    let back : suffix_len is_blank field ≡ 0 = ap (suffix_len is_blank) (sym all) ∙ suffix_len-take_no is_blank field (length field) 0 some (omega arith) last in
+    rw (front, back) (sym (take_all (length field - 0) field (omega arith)))
 
-  pub plain_to_end : 0 < place → place ≡ length line → IsPlainField line (pos value) place
-  plain_to_end some last = record {
-    inside = inside;
-    reads = digits_read (take place line) (omega (arith, length-take-le place line inside)) field_digits value e small;
-    cut = inr (cut_none line (λ k h. before k (omega arith)) ∙ ap (λ t. t ∷ []) (sym (take_all place line (omega arith))));
-  }
+pub small-fits : (negative : Bool) (value : ℕ) → value < 10 ^ 18 → fits_cell (signed_by negative value) ≡ true
+small-fits false value h = lt-ltb value (2 ^ 63) (omega arith)
+small-fits true zero h = refl
+small-fits true (suc n) h = lt-ltb n (2 ^ 63) (omega arith)
 
-  pub digit_more : place < length line → IsDigit (get_or line place 0) → (new : ℕ) → new ≡ 10 * value + (get_or line place 0 - 48) → new ≡ digits_value 10 (take (place + 1) line)
-  digit_more more digit new here =
-      let last = digits_value_more 10 line place more in
-      let one = digit_value-of (get_or line place 0) digit.0 digit.1 in
-      omega (arith, last, one)
+-- what a field of an optional sign and digits reads as
+field_reads : (field digits : List ℕ) (value : ℕ) → digits ≡ without_leading_sign field → 0 < length digits → AreDigits digits (length digits)
+    → field ≡ without_blanks field → value ≡ digits_value 10 digits → value < 10 ^ 18 → number_of field ≡ Ok (signed_by (starts_with_minus field) value)
+field_reads field digits value d some are blanks e small =
+    let capped : IsCapped value (digits_value 10 digits) = record { same = λ _. e; more = λ h. absurd (omega arith) } in
+    number-fits field field digits blanks d (ne_eqb (length digits) 0 (λ z. absurd (omega arith))) (all_digits digits are) value capped
+    (signed_by (starts_with_minus field) value) (small-fits (starts_with_minus field) value small) refl
 
-  pub digits_more : place < length line → IsDigit (get_or line place 0) → (k : ℕ) → k < place + 1 → IsDigit (get_or line k 0)
-  digits_more more digit k h = by (nat_lt k place) refl
-    where
-      by : (earlier : Bool) → nat_lt k place ≡ earlier → IsDigit (get_or line k 0)
-      by true b = digits k (ltb-true k place b)
-      by false b =
-          let same : k ≡ place = omega (arith, ltb-false k place b) in
-          rw same digit
+-- a first field ends at its comma, or with the line
+field_ends : (line : List ℕ) (number : ℤ) (size : ℕ) → size ≤ length line → number_of (take size line) ≡ Ok number
+    → ((k : ℕ) → k < size → IsSigned (get_or line k 0)) → (size < length line → get_or line size 0 ≡ 44) → IsPlainField line number size
+field_ends line number size inside reads signed comma = record {
+  inside = inside;
+  reads = reads;
+  cut = λ more. cut_at line size more (λ k h. not_comma _ (signed k h)) (comma more);
+  last = λ whole. cut_none line (λ k h. not_comma _ (signed k (omega arith)));
+}
+
+last_not_blank : (digits : List ℕ) (sign : ℕ) → 0 < length digits → AreDigits digits (length digits) → is_blank (get_or (sign ∷ digits) (length digits) 0) ≡ false
+last_not_blank [] sign some are = absurd (omega arith)
+last_not_blank (d ∷ ds) sign some are = not_blank _ (digit_signed _ (are (length ds) (omega arith)))
+
+each_signed : (sign : ℕ) (line : List ℕ) (count : ℕ) → IsSigned sign → AreDigits line count → (k : ℕ) → k < suc count → IsSigned (get_or (sign ∷ line) k 0)
+each_signed sign line count signed are zero h = signed
+each_signed sign line count signed are (suc k) h = digit_signed _ (are k (omega arith))
+
+module _ (line : List ℕ) (value count : ℕ) (some : 0 < count) where
+  -- digits alone
+  unsigned_field : AreLeadingDigits line value count → (count < length line → get_or line count 0 ≡ 44) → IsPlainField line (pos value) count
+  unsigned_field led comma =
+      let field = take count line in
+      let size = length-take-le count line led.inside in
+      let are : AreDigits field (length field) = λ k h. rw (get_or-take count line k 0 (omega (arith, size))) (led.digits k (omega (arith, size))) in
+      let first = are 0 (omega (arith, size)) in
+      let blanks = no_blanks field (omega (arith, size)) (not_blank _ (digit_signed _ first)) (not_blank _ (digit_signed _ (are (length field - 1) (omega (arith, size))))) in
+      let minus : starts_with_minus field ≡ false = ne_eqb (get_or field 0 0) 45 (λ e. absurd (omega (arith, first))) in
+      let sign : field ≡ without_leading_sign field = rw minus (sym (without_leading_plus_none field (λ e. absurd (omega (arith, first))))) in
+      let reads = field_reads field field value sign (omega (arith, size)) are blanks led.reads led.small in
+      field_ends line (pos value) count led.inside (rw minus at reads) (λ k h. digit_signed _ (led.digits k h)) comma
+
+  -- digits behind a sign
+  signed_field : (sign : ℕ) (negative : Bool) → (sign == 45) ≡ negative → IsSigned sign → without_leading_sign (sign ∷ take count line) ≡ take count line
+      → AreLeadingDigits line value count → (count < length line → get_or line count 0 ≡ 44) → IsPlainField (sign ∷ line) (signed_by negative value) (suc count)
+  signed_field sign negative minus signed rest led comma =
+      let digits = take count line in
+      let size = length-take-le count line led.inside in
+      let are : AreDigits digits (length digits) = λ k h. rw (get_or-take count line k 0 (omega (arith, size))) (led.digits k (omega (arith, size))) in
+      let end : length (sign ∷ digits) - 1 ≡ length digits = omega arith in
+      let blanks = no_blanks (sign ∷ digits) (omega arith) (not_blank sign signed) (rw end (last_not_blank digits sign (omega (arith, size)) are)) in
+      let reads = field_reads (sign ∷ digits) digits value (sym rest) (omega (arith, size)) are blanks led.reads led.small in
+      field_ends (sign ∷ line) (signed_by negative value) (suc count) (omega (arith, led.inside)) (rw minus at reads) (each_signed sign line count signed led.digits) (λ h. comma (omega arith))
+
+-- a line that begins with so many digits behind an optional sign, and then ends or goes on with a comma
+pub plain_is : (line : List ℕ) (value count size : ℕ) → 0 < count → AreLeadingDigits (without_leading_sign line) value count
+    → size ≡ length line - length (without_leading_sign line) + count → (size < length line → get_or line size 0 ≡ 44)
+    → IsPlainField line (signed_by (starts_with_minus line) value) size
+plain_is [] value count size some = λ led s comma. absurd (omega (arith, led.inside))
+plain_is (c ∷ cs) value count size some = by (c == 45) (c == 43) refl refl
+  where
+    by : (minus plus : Bool) → (c == 45) ≡ minus → (c == 43) ≡ plus → AreLeadingDigits (without_leading_sign (c ∷ cs)) value count
+        → size ≡ length (c ∷ cs) - length (without_leading_sign (c ∷ cs)) + count → (size < length (c ∷ cs) → get_or (c ∷ cs) size 0 ≡ 44)
+        → IsPlainField (c ∷ cs) (signed_by (starts_with_minus (c ∷ cs)) value) size
+    by true plus e f led s comma =
+        let behind = rw e at s in
+        let at : size ≡ suc count = omega (arith, behind) in
+        let is : c ≡ 45 = eqb-true c 45 e in
+        let more = rw at at comma in
+        rw (at, e) (signed_field cs value count some c true e (omega arith, omega arith, λ comma. absurd (omega arith)) (rw e refl) (rw e at led) (λ h. more (omega arith)))
+    by false true e f led s comma =
+        let behind = rw (e, f) at s in
+        let at : size ≡ suc count = omega (arith, behind) in
+        let is : c ≡ 43 = eqb-true c 43 f in
+        let more = rw at at comma in
+        rw (at, e) (signed_field cs value count some c false e (omega arith, omega arith, λ comma. absurd (omega arith)) (rw (e, f) refl) (rw (e, f) at led) (λ h. more (omega arith)))
+    by false false e f led s comma =
+        let behind = rw (e, f) at s in
+        let at : size ≡ count = omega (arith, behind) in
+        let more = rw at at comma in
+        rw (at, e) (unsigned_field (c ∷ cs) value count some (rw (e, f) at led) more)

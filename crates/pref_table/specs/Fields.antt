@@ -1,6 +1,7 @@
 -- No public contract cites this.
 -- The fields of a line, one after the other. (this project)
-use Rattle.std.specs.Prelude.{◌≡◌, ◌⊎◌, ◌≤◌, ◌+◌, ℕ, ℤ, List, [], ◌∷◌, length, take, drop, Result, Ok}
+use Rattle.std.specs.Prelude.{◌≡◌, ◌⊎◌, ◌≤◌, ◌<◌, ◌+◌, ◌^◌, ℕ, ℤ, List, [], ◌∷◌, length, slice_index, take, drop, Result, Ok}
+use Rattle.std.specs.Str.Parse.{digits_value}
 use Rattle.std.specs.List.{slice_split}
 use Rattle.pref_table.specs.Number.{number_of}
 use Rattle.pref_table.specs.Rows.{cell_in, is_comma}
@@ -10,11 +11,19 @@ use Rattle.pref_table.specs.declared.fault.TableFault.{TableFault}
 abbrev pub IsCutInto : (line field after : List ℕ) → Type 0
 IsCutInto line field after = (slice_split is_comma line ≡ field ∷ slice_split is_comma after) ⊎ (slice_split is_comma line ≡ field ∷ [])
 
+-- a text begins with so many digits, 18 at most, which have this value
+pub record AreLeadingDigits (text : List ℕ) (value count : ℕ) : Type 0 where
+  pub inside : count ≤ length text
+  pub digits : (k : ℕ) → k < count → (48 ≤ slice_index text k) × (slice_index text k < 58)
+  pub reads : value ≡ digits_value 10 (take count text)
+  pub small : value < 10 ^ 18
+
 -- the first size bytes of a line are its first field, and read as this number
 pub record IsPlainField (line : List ℕ) (number : ℤ) (size : ℕ) : Type 0 where
   pub inside : size ≤ length line
   pub reads : number_of (take size line) ≡ Ok number
-  pub cut : IsCutInto line (take size line) (drop (size + 1) line)
+  pub cut : size < length line → slice_split is_comma line ≡ take size line ∷ slice_split is_comma (drop (size + 1) line)
+  pub last : size ≡ length line → slice_split is_comma line ≡ line ∷ []
 
 -- the cell of a line's first field, which is in this column of row 0, or its fault; and what follows the comma after it
 pub record FirstCell (line : List ℕ) (col : ℕ) (cell : Result ℤ TableFault) (after : List ℕ) : Type 0 where

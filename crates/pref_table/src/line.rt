@@ -1,5 +1,5 @@
 //! A row from a line of text.
-ghost use Rattle.std.specs.Prelude.{◌≡◌, ◌==◌, ◌+◌, ◌≤◌, ℕ, length, drop, count_by, List, MatchResult, Ok, Err};
+ghost use Rattle.std.specs.Prelude.{◌≡◌, ◌==◌, ◌+◌, ◌<◌, ℕ, length, drop, count_by, List, MatchResult, Ok, Err};
 ghost use Rattle.pref_table.specs.Fields.{FirstCell, IsCutInto};
 ghost use Rattle.pref_table.specs.Rows.{line_row};
 
@@ -26,34 +26,25 @@ fn cut_field(line: &[u8]) -> (&[u8], &[u8])
     (line, &line[line.len()..])
 }
 
-/// What follows a first field of this size and the comma after it.
+/// What follows the comma after a first field of this size.
 fn after_comma(line: &[u8], size: usize) -> &[u8]
-    requires { size ≤ length line.now }
+    requires { size < length line.now }
     ensures { result.now ≡ drop (size + 1) line.now }
 {
-    if size < line.len() {
-        &line[size + 1..]
-    } else {
-        &line[line.len()..]
-    }
+    &line[size + 1..]
 }
 
 /// The cell of the first field of a line, which is in this column of row 0, and what follows the comma after it.
 fn first_cell(line: &[u8], col: u64) -> Result<(i64, &[u8]), TableFault>
     ensures { MatchResult result (λ cell. FirstCell line.now col (Ok cell.0) cell.1.now) (λ fault. (after : List ℕ) × FirstCell line.now col (Err fault) after) }
 {
-    if let Some((number, size)) = plain_field(line) {
-        return Ok((number, after_comma(line, size)));
-    }
     let (field, tail) = cut_field(line);
     Ok((cell_at(0, col, field)?, tail))
 }
 
-/// The row of a line of text, whose fields are cut at each comma; there are no quotes. Takes no memory.
-///
-/// A field is a whole number with spaces and tabs around it. Refused with the first of these faults, with row 0: `Width`,
-/// then field by field `NotWhole` or `OutOfRange`. An empty line is one empty field.
-pub fn read_row(schema: &Schema, line: &[u8]) -> Result<Row, TableFault>
+/// The row of a line of text. Its fields are counted before any is read.
+#[inline(never)]
+fn cut_row(schema: &Schema, line: &[u8]) -> Result<Row, TableFault>
     ensures { result ≡ line_row (length schema.now) line.now }
 {
     let width = schema.width();
@@ -67,5 +58,33 @@ pub fn read_row(schema: &Schema, line: &[u8]) -> Result<Row, TableFault>
         cells[col] = number;
         rest = tail;
     }
-    Row::of(schema, &cells[..width])
+    Ok(Row::of_cells(cells))
+}
+
+/// The row of a line of text, whose fields are cut at each comma; there are no quotes. Takes no memory.
+///
+/// A field is a whole number with spaces and tabs around it. Refused with the first of these faults, with row 0: `Width`,
+/// then field by field `NotWhole` or `OutOfRange`. An empty line is one empty field.
+///
+/// Where each field is plain digits, perhaps behind a sign, the line is read in one pass.
+pub fn read_row(schema: &Schema, line: &[u8]) -> Result<Row, TableFault>
+    ensures { result ≡ line_row (length schema.now) line.now }
+{
+    let width = schema.width();
+    let mut cells = [0; MAX_COLUMNS];
+    let mut rest = line;
+    for col in 0..width {
+        let Some((number, size)) = plain_field(rest) else {
+            break;
+        };
+        cells[col] = number;
+        if size < rest.len() {
+            rest = after_comma(rest, size);
+        } else if col + 1 == width {
+            return Ok(Row::of_cells(cells));
+        } else {
+            break;
+        }
+    }
+    cut_row(schema, line)
 }

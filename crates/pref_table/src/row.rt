@@ -46,6 +46,13 @@ impl Row {
         Ok(Row { cells })
     }
 
+    /// The row of these 16 cells.
+    pub(crate) fn of_cells(cells: [i64; MAX_COLUMNS]) -> Row
+        ensures { result ≡ cells }
+    {
+        Row { cells }
+    }
+
     /// The number in a column, which counts from 0.
     ///
     /// ```text

@@ -94,7 +94,7 @@ fn record_row(schema: &Schema, row: u64, cells_text: &ByteRecord) -> Result<Row,
     for col in 0..width {
         cells[col] = cell_at(row, col as u64 + 1, field_of(cells_text, col))?;
     }
-    Row::of(schema, &cells[..width])
+    Ok(Row::of_cells(cells))
 }
 
 /// Reads the rows under a header, up to the end of the text.

@@ -1,36 +1,27 @@
-use Rattle.std.proofs.Common.{◌≡◌, ◌<◌, ◌≤◌, get_or, length, arith}
-use Rattle.std.proofs.lemmas.Option.{IfSome_then}
-use Rattle.pref_table.proofs.FieldsFacts.{digit_more, digits_more, plain_to_comma, plain_to_end}
+use Rattle.std.proofs.Common.{◌≡◌, ◌∙◌, ◌<◌, ◌+◌, ◌-◌, get_or, length, ap, sym, subst, arith, w64}
+use Rattle.std.specs.Str.Parse.{starts_with_minus, without_leading_sign}
+use Rattle.std.proofs.lemmas.Bool.{eqb-true, not-false}
+use Rattle.std.proofs.lemmas.Int.{to_z-of_z}
+use Rattle.pref_table.specs.Fields.{AreLeadingDigits}
+use Rattle.pref_table.specs.Number.{fits_cell, signed_by}
+use Rattle.pref_table.proofs.FieldsFacts.{plain_is, small-fits}
+use Rattle.pref_table.proofs.NumberFacts.{cell-fits}
 use Rattle.pref_table.proofs.number.plain_field.Goals as goal
-
-pub returns-then-byte-eq44 : goal.returns-then-byte-eq44
-returns-then-byte-eq44 c =
-    let line = c.args.line.now in
-    let kept = c.loop-place.invariant in
-    let inside = c.loop-place-test.true in
-    IfSome_then c.plain.result c.plain.ensures
-    (λ plain h. rw (h.1, h.2) (plain_to_comma line c.loop-place.place c.loop-place.value (omega arith) kept.digits kept.value kept.small h.0 inside c.if-byte-eq44.true))
-
-pub loop-place-preserved : goal.loop-place-preserved
-loop-place-preserved c =
-    let line = c.args.line.now in
-    let place = c.loop-place.place in
-    let value = c.loop-place.value in
-    let kept = c.loop-place.invariant in
-    let inside = c.loop-place-test.true in
-    let digit = c.if-not-is_ascii_digit.ensures in
-    let low : 48 ≤ get_or line place 0 = digit.cases.0 in
-    let high : get_or line place 0 < 58 = omega (arith, digit.cases.1) in
-    record {
-      digits = digits_more line place value (omega arith) kept.digits kept.value kept.small inside (low, high);
-      value = digit_more line place value (omega arith) kept.digits kept.value kept.small inside (low, high) _ (omega (arith, c.from.ensures));
-      small = omega (arith, c.from.ensures, high, c.if-value-ge-ROOM_FOR_A_PLAIN_DIGIT.false);
-    }
+use Rattle.pref_table.proofs.number.plain_field.Goals.{then-size-line, else-size-line}
 
 pub returns : goal.returns
 returns c =
     let line = c.args.line.now in
-    let kept = c.loop-place.invariant in
-    let last : c.loop-place.place ≡ length line = omega arith in
-    IfSome_then c.plain-2.result c.plain-2.ensures
-    (λ plain h. rw (h.1, h.2, ← last) (plain_to_end line c.loop-place.place c.loop-place.value (omega arith) kept.digits kept.value kept.small (omega (arith, h.0)) last))
+    let digits = c.without_sign-digits.result.now in
+    let value = c.leading_digits-magnitude.result.0 in
+    let count = c.leading_digits-magnitude.result.1 in
+    let size = length line - length digits + count in
+    let led = subst (λ ds. AreLeadingDigits ds value count) c.without_sign-digits.ensures c.leading_digits-magnitude.ensures in
+    let behind : size ≡ length line - length (without_leading_sign line) + count = ap (λ ds. length line - length ds + count) c.without_sign-digits.ensures in
+    let comma : size < length line → get_or line size 0 ≡ 44 = λ h. elim c.if-size-line.branch [
+      | then-size-line w ↦ eqb-true _ 44 (not-false _ (sym w.value-is ∙ c.if-line-size-ne44.false))
+      | else-size-line w ↦ absurd (omega (arith, w.if-size-line.false))
+    ] in
+    let number : c.plain_signed.result ≡ signed_by (starts_with_minus line) value = c.plain_signed.ensures ∙ ap (λ n. signed_by n value) c.is_negative.ensures in
+    let fits = to_z-of_z w64 c.plain_signed.result (cell-fits _ (ap fits_cell number ∙ small-fits (starts_with_minus line) value led.small)) in
+    rw (fits, number) (plain_is line value count size (omega arith) led behind comma)

@@ -1,11 +1,11 @@
 use Rattle.std.proofs.Common.{◌≡◌, ◌<◌, ◌≤◌, ◌^◌, ℕ, get_or, take}
 use Rattle.std.specs.Str.Parse.{digits_value}
-use Rattle.pref_table.proofs.number.plain_field.Given as goal
+use Rattle.pref_table.proofs.number.leading_digits.Given as goal
 
 -- the bytes so far are digits, and the value is theirs
 abbrev pub invariant-loop-place : goal.invariant-loop-place
 invariant-loop-place l = record {
-  digits : (k : ℕ) → k < l.place → (48 ≤ get_or l.line k 0) × (get_or l.line k 0 < 58);
-  value : l.value ≡ digits_value 10 (take l.place l.line);
-  small : l.value < 10 ^ 18;
+  digits : (k : ℕ) → k < l.place → (48 ≤ get_or l.text k 0) × (get_or l.text k 0 < 58);
+  reads : l.value ≡ digits_value 10 (take l.place l.text);
+  small : l.value < 10 ^ l.place;
 }
