@@ -1,6 +1,6 @@
 -- Of two rows of which the first is over the second, or its twin, the first reaches no cut that the second does not reach.
 use Rattle.std.proofs.Common.{◌≡◌, ℕ, ℤ, List, [], ◌∷◌, Bool, true, false, not, inl, inr, refl, sym, ap, ◌∙◌, subst, arith, eqb-true, pos}
-use Rattle.std.specs.Prelude.{int_lt, neg_ℤ, ◌-ℤ◌, unsigned_abs, ◌&&◌, ◌||◌, ◌==◌, if◌then◌else◌}
+use Rattle.std.specs.Prelude.{bit_and, int_lt, neg_ℤ, ◌-ℤ◌, unsigned_abs, ◌&&◌, ◌||◌, ◌==◌, if◌then◌else◌}
 use Rattle.std.specs.List.{list_all, list_any}
 use Rattle.std.specs.Ordering.{int_eq}
 use Rattle.std.proofs.lemmas.Bool.{false≢true}
@@ -13,12 +13,12 @@ use Rattle.pref_term.specs.Leading.{cuts_base, is_by_distance, is_by_value, lead
 use Rattle.pref_term.specs.OrderLaws.{and_parts, better_order, or_parts}
 use Rattle.pref_term.specs.Preference.{Base, low, high, around, between, one_of, layered, Preference, scored, pareto, prior, reverse}
 use Rattle.pref_term.specs.Question.{Question}
-use Rattle.pref_term.specs.Signatures.{Suit, column_of, reaches}
+use Rattle.pref_term.specs.Signatures.{Suit, column_of, hash, reaches}
 use Rattle.pref_term.specs.TwinLaws.{twins_alike}
 use Rattle.pref_term.specs.declared.factor.Sense.{Sense}
 use Rattle.pref_term.specs.declared.factor.Sense.TheVariants.{Direct, Reversed}
 use Rattle.pref_term.specs.declared.signature.cut.Cut.{Cut}
-use Rattle.pref_term.specs.declared.signature.cut.Cut.TheVariants.{AtLeast, AtMost, Far, Near}
+use Rattle.pref_term.specs.declared.signature.cut.Cut.TheVariants.{AtLeast, AtMost, Far, Near, Hashed}
 use Rattle.pref_term.proofs.SignatureWords.{signed_within}
 
 -- the row that reaches the cut with the other: in this sense the second with the first, in the other sense the first with the second
@@ -56,9 +56,11 @@ by_value Reversed col (AtMost c v) a b is above = λ h.
 by_value Direct col (AtMost c v) a b is above = absurd (false≢true is)
 by_value Direct col (Far c l r d) a b is above = absurd (false≢true is)
 by_value Direct col (Near c l r d) a b is above = absurd (false≢true is)
+by_value Direct col (Hashed c m k) a b is above = absurd (false≢true is)
 by_value Reversed col (AtLeast c v) a b is above = absurd (false≢true is)
 by_value Reversed col (Far c l r d) a b is above = absurd (false≢true is)
 by_value Reversed col (Near c l r d) a b is above = absurd (false≢true is)
+by_value Reversed col (Hashed c m k) a b is above = absurd (false≢true is)
 
 -- the same range, and the same column
 same_range : (c col : ℕ) (l left r right : ℤ) (a b : List ℤ) → ((c == col) && (int_eq l left && int_eq r right)) ≡ true → int_lt (outside left right (cell b col)) (outside left right (cell a col)) ≡ false → int_lt (outside l r (cell b c)) (outside l r (cell a c)) ≡ false
@@ -79,9 +81,11 @@ by_distance Reversed col left right (Near c l r d) a b is above = λ h.
 by_distance Direct col left right (AtLeast c v) a b is above = absurd (false≢true is)
 by_distance Direct col left right (AtMost c v) a b is above = absurd (false≢true is)
 by_distance Direct col left right (Near c l r d) a b is above = absurd (false≢true is)
+by_distance Direct col left right (Hashed c m k) a b is above = absurd (false≢true is)
 by_distance Reversed col left right (AtLeast c v) a b is above = absurd (false≢true is)
 by_distance Reversed col left right (AtMost c v) a b is above = absurd (false≢true is)
 by_distance Reversed col left right (Far c l r d) a b is above = absurd (false≢true is)
+by_distance Reversed col left right (Hashed c m k) a b is above = absurd (false≢true is)
 
 turned : (x y : ℤ) → int_lt (neg_ℤ y) (neg_ℤ x) ≡ false → int_lt x y ≡ false
 turned x y h = grind (arith, ints)
@@ -169,6 +173,7 @@ reaches_as (AtLeast c v) a b e = ap (λ x. not (int_lt x v)) e
 reaches_as (AtMost c v) a b e = ap (λ x. not (int_lt v x)) e
 reaches_as (Far c l r d) a b e = ap (λ x. not (int_lt (outside l r x) (pos d))) e
 reaches_as (Near c l r d) a b e = ap (λ x. not (int_lt (pos d) (outside l r x))) e
+reaches_as (Hashed c m k) a b e = ap (λ x. bit_and (hash x) m == k) e
 
 -- a cut of a group's column, or that leads the preference: by which way the first row is not worse does not matter
 suiting_keeps : (q : Question) (cut : Cut) (a b : List ℤ) → (leads q.preference Direct cut ≡ true → reaches cut a ≡ true → reaches cut b ≡ true) → in_same_group q.group a b ≡ true → suits q.preference q.group cut ≡ true → reaches cut a ≡ true → reaches cut b ≡ true

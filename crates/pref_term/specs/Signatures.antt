@@ -1,10 +1,10 @@
 -- Signatures of rows: for each of some cuts one bit, whether the row reaches the cut. (this project)
 use Rattle.std.specs.Prelude.{◌≡◌, ◌^◌, ◌*◌, ◌%◌, ◌==◌, ℕ, ℤ, pos, int_lt, Bool, true, not, List, [], ◌∷◌, bit_and, bit_or}
-use Rattle.std.specs.Int.{bit_not, from_bool, w64}
+use Rattle.std.specs.Int.{bit_not, cast_unsigned, from_bool, w64}
 use Rattle.pref_term.specs.Better.{cell, outside}
 use Rattle.pref_term.specs.Order.{RowOrder}
 use Rattle.pref_term.specs.declared.signature.cut.Cut.{Cut}
-use Rattle.pref_term.specs.declared.signature.cut.Cut.TheVariants.{AtLeast, AtMost, Far, Near}
+use Rattle.pref_term.specs.declared.signature.cut.Cut.TheVariants.{AtLeast, AtMost, Far, Near, Hashed}
 
 -- the column that a cut reads
 abbrev pub column_of : Cut → ℕ
@@ -12,6 +12,11 @@ column_of (AtLeast col value) = col
 column_of (AtMost col value) = col
 column_of (Far col left right distance) = col
 column_of (Near col left right distance) = col
+column_of (Hashed col mask bits) = col
+
+-- the hash of a cell: its bits as a number, times an odd one near 2^64 over the golden ratio (this project)
+abbrev pub hash : ℤ → ℕ
+hash value = cast_unsigned w64 value * 0x9E37_79B9_7F4A_7C15 % 2 ^ 64
 
 -- whether a row reaches a cut
 abbrev pub reaches : Cut → List ℤ → Bool
@@ -19,6 +24,7 @@ reaches (AtLeast col value) row = not (int_lt (cell row col) value)
 reaches (AtMost col value) row = not (int_lt value (cell row col))
 reaches (Far col left right distance) row = not (int_lt (outside left right (cell row col)) (pos distance))
 reaches (Near col left right distance) row = not (int_lt (pos distance) (outside left right (cell row col)))
+reaches (Hashed col mask bits) row = bit_and (hash (cell row col)) mask == bits
 
 -- a word with one bit more at its low end; of more than 64 bits the first ones fall out
 abbrev pub with_bit : ℕ → Bool → ℕ

@@ -1,7 +1,8 @@
 //! Signatures of rows: a word for each row, by which most pairs are distinguished without a comparison.
 //!
-//! Each bit says whether the row reaches a cut through the scores of a base term. A row that dominates another reaches no cut
-//! that the other does not reach, whatever the cuts are: so where a bit of the first is missing in the second, the first does not dominate the second.
+//! Each bit says whether the row reaches a cut, through the scores of a base term or by the hash of a cell of its group. A row that
+//! dominates another reaches no cut that the other does not reach, whatever the cuts are: so where a bit of the first is missing in
+//! the second, the first does not dominate the second.
 ghost use Rattle.std.specs.Prelude.{◌≡◌};
 ghost use Rattle.pref_term.specs.Signatures.{is_within};
 

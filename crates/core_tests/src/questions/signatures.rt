@@ -78,6 +78,8 @@ fn cuts_of_other_questions(rt: HostRuntime) -> Result<(), Fail> {
         ("best between(x, 1, 1)", "best around(x, 1)", true),
         ("best around(x, 1)", "best around(x, 2)", false),
         ("best low(x) by y", "best -low(y)", true),
+        ("best low(x) by x, y", "best low(y) by x", true),
+        ("best low(x) by y", "best low(x) by x", false),
         ("best low(x)", "best low(x) by y", false),
         ("best low(x)", "best pos(x, 1)", true),
     ];
@@ -85,6 +87,29 @@ fn cuts_of_other_questions(rt: HostRuntime) -> Result<(), Fail> {
         let ask = read_ask(alloc, &schema, text.as_bytes())?;
         let cuts = read_ask(alloc, &schema, other.as_bytes())?.cuts(alloc, &rows)?;
         assert_same(&rt, (text, other), &ask.suits(&cuts), &wanted);
+    }
+    Ok(())
+}
+
+/// Rows of different groups are distinguished both ways, also by cuts from rows of few groups; those of one group by the term.
+#[test]
+fn groups_are_told_apart(rt: HostRuntime) -> Result<(), Fail> {
+    let alloc = rt.alloc();
+    let schema = two_columns(alloc)?;
+    let mut rows = Vec::new(alloc);
+    for place in 0..80 {
+        rows.push(Row::of(&schema, [place % 2, place / 2].as_slice())?)?;
+    }
+    let ask = read_ask(alloc, &schema, b"best low(x) by y")?;
+    let cuts = ask.cuts(alloc, &small_rows(alloc, &schema)?)?;
+    assert_same(&rt, "suits", &ask.suits(&cuts), &true);
+    for first in &rows {
+        for second in &rows {
+            let within = is_within(cuts.signature(first), cuts.signature(second));
+            let relation = ask.compare(first, second);
+            let wanted = matches!(relation, Relation::Better | Relation::Same);
+            assert_same(&rt, (first, second), &within, &wanted);
+        }
     }
     Ok(())
 }

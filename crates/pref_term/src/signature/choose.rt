@@ -1,4 +1,4 @@
-//! Cuts for an ask, from a sample of rows. Any cuts through leading parts are right, so nothing about their values is proved.
+//! Cuts for an ask, from a sample of rows. Any cuts through leading parts or columns of the group are right, so nothing about their values is proved.
 ghost use Rattle.std.specs.Prelude.{◌<◌, All, IfOk, OnOk};
 ghost use Rattle.pref_term.specs.Columns.{ReadsBelow};
 ghost use Rattle.pref_term.specs.Factors.{AreInRow, preference_of_factor};
@@ -14,6 +14,16 @@ use std::alloc::{AllocError, Global};
 
 /// The bits of a signature.
 const BITS: usize = 64;
+
+/// How many bits of hashes the columns of a group share, about. Each takes two cuts, and leaves half of the pairs of different groups to
+/// be compared: an eighth one would spare no more than it costs where a row meets three hundred others.
+const HASH_BITS: usize = 7;
+
+/// The bit of a hash that distinguishes values best.
+const FIRST_BIT: u64 = 1 << 63;
+
+/// In fewer than twice as many groups, cuts through scores are worth all the bits that the group leaves.
+const FEW_GROUPS: usize = 8;
 
 /// Puts the factors of the base terms that lead the term, in this sense, behind these.
 fn push_leading(parts: &mut Vec<Factor>, term: &Term, sense: Sense) -> Result<(), AllocError>
@@ -45,21 +55,6 @@ fn push_leading(parts: &mut Vec<Factor>, term: &Term, sense: Sense) -> Result<()
     };
     parts.push(factor.in_sense(sense))?;
     Ok(())
-}
-
-/// The factors through whose scores cuts are made: those that lead the term, and both senses of each column of the group.
-fn parts_of(alloc: Global, term: &Term, group: &[usize]) -> Result<Vec<Factor>, AllocError>
-    requires term { ReadsBelow 16 (preference_of term.now) }
-    requires group { All (λ col. col < 16) group.now }
-    ensures { IfOk result (λ parts. AreInRow parts.items) }
-{
-    let mut parts = Vec::new(alloc);
-    push_leading(&mut parts, term, Sense::Direct)?;
-    for col in group {
-        parts.push(Factor::Low { col: *col })?;
-        parts.push(Factor::High { col: *col })?;
-    }
-    Ok(parts)
 }
 
 /// The cut through these distances that a row just reaches.
@@ -150,8 +145,54 @@ fn push_shares(cuts: &mut Vec<Cut>, marks: &[Cut], shares: usize) -> Result<(), 
     Ok(())
 }
 
-/// Cuts for a term and the columns of a group: the bits of a signature are dealt out evenly among its parts, and a part's cuts
-/// divide the sample into equal shares. Takes memory for the parts, a part's marks and the cuts.
+/// Puts cuts by the first bits of this column's hashes behind these, one for each answer: where two hashes differ in a bit, neither
+/// signature is within the other.
+fn push_hashed(cuts: &mut Vec<Cut>, col: usize, bits: usize) -> Result<(), AllocError>
+    requires col { col < 16 }
+    requires within { All (λ cut. column_of cut < 16) cuts.old.items }
+    ensures { OnOk result (All (λ cut. column_of cut < 16) cuts.new.items) }
+{
+    let mut mask = FIRST_BIT;
+    for _ in 0..bits {
+        cuts.push(Cut::Hashed {
+            col,
+            mask,
+            bits: mask,
+        })?;
+        cuts.push(Cut::Hashed { col, mask, bits: 0 })?;
+        mask >>= 1;
+    }
+    Ok(())
+}
+
+/// Puts cuts by hashes for each column of a group behind these.
+fn push_group(cuts: &mut Vec<Cut>, group: &[usize]) -> Result<(), AllocError>
+    requires group { All (λ col. col < 16) group.now }
+    requires within { All (λ cut. column_of cut < 16) cuts.old.items }
+    ensures { OnOk result (All (λ cut. column_of cut < 16) cuts.new.items) }
+{
+    let bits = HASH_BITS.div_ceil(group.len().max(1));
+    for col in group {
+        push_hashed(cuts, *col, bits)?;
+    }
+    Ok(())
+}
+
+/// How many groups the rows of the sample are in at least: as many as a column of the group has different values.
+fn groups_in(alloc: Global, group: &[usize], sample: &[Row]) -> Result<usize, AllocError>
+    requires { All (λ col. col < 16) group.now }
+{
+    let mut groups = 1;
+    for col in group {
+        let values = marks_of(alloc, Factor::Low { col: *col }, sample)?;
+        groups = groups.max(values.len());
+    }
+    Ok(groups)
+}
+
+/// Cuts for a term and the columns of a group. The bits of a signature that the group leaves are dealt out evenly among the parts that lead
+/// the term, and a part's cuts divide the sample into equal shares. In many groups few pairs are left to these, so they are fewer.
+/// Takes memory for the parts, a part's marks and the cuts.
 pub(crate) fn cuts_for(
     alloc: Global,
     term: &Term,
@@ -161,12 +202,17 @@ pub(crate) fn cuts_for(
     requires term { ReadsBelow 16 (preference_of term.now) }
     requires group { All (λ col. col < 16) group.now }
 {
-    let parts = parts_of(alloc, term, group)?;
-    let shares = (BITS / parts.len().max(1)).max(1);
+    let mut by_group = Vec::new(alloc);
+    push_group(&mut by_group, group)?;
+    let mut parts = Vec::new(alloc);
+    push_leading(&mut parts, term, Sense::Direct)?;
+    let thinning = (groups_in(alloc, group, sample)? / FEW_GROUPS).max(1);
+    let shares = BITS.saturating_sub(by_group.len()) / thinning / parts.len().max(1);
     let mut cuts = Vec::new(alloc);
     for part in &parts {
         let marks = marks_of(alloc, *part, sample)?;
-        push_shares(&mut cuts, &marks, shares)?;
+        push_shares(&mut cuts, &marks, shares.max(1))?;
     }
+    cuts.extend_from_slice(&by_group)?;
     Ok(Cuts::of(cuts))
 }

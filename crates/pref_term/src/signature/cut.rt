@@ -1,14 +1,15 @@
-//! Cuts through the scores of base terms.
+//! Cuts through the scores of base terms, and by the hashes of cells.
 ghost use Rattle.std.specs.Prelude.{◌≡◌, ◌<◌};
 ghost use Rattle.pref_term.specs.Leading.{is_by_distance, is_by_value, leads, suits};
 ghost use Rattle.pref_term.specs.Preference.{preference_of};
-ghost use Rattle.pref_term.specs.Signatures.{column_of, reaches};
+ghost use Rattle.pref_term.specs.Signatures.{column_of, hash, reaches};
 
 use crate::factor::{Sense, outside};
 use crate::term::Term;
 use pref_table::Row;
 
-/// A cut through the scores of a base term, or of its converse: rows that score higher reach it too. A column counts from 0, and is below 16.
+/// A cut through the scores of a base term, or of its converse: rows that score higher reach it too. Or one by the hash of a cell, which goes
+/// through no scores: it serves for a column of the group, where equal cells reach the same cuts. A column counts from 0, and is below 16.
 ///
 /// Cuts through the same scores are in order of the scores.
 #[derive(Clone, Copy, PartialEq, Eq, PartialOrd, Ord)]
@@ -37,6 +38,23 @@ pub enum Cut {
         right: i64,
         distance: u64,
     },
+    /// Rows whose value's hash has these bits under the mask.
+    Hashed {
+        col: usize,
+        mask: u64,
+        bits: u64,
+    },
+}
+
+/// The multiplier of [`hash`]: 2^64 divided by the golden ratio, to the nearest odd number.
+const GOLDEN: u64 = 0x9E37_79B9_7F4A_7C15;
+
+/// A number whose upper bits distinguish values: those of values that follow one another are far apart.
+#[inline(always)]
+fn hash(value: i64) -> u64
+    ensures { result ≡ hash value }
+{
+    value.cast_unsigned().wrapping_mul(GOLDEN)
 }
 
 impl Cut {
@@ -48,31 +66,33 @@ impl Cut {
             Cut::AtLeast { col, .. }
             | Cut::AtMost { col, .. }
             | Cut::Far { col, .. }
-            | Cut::Near { col, .. } => col,
+            | Cut::Near { col, .. }
+            | Cut::Hashed { col, .. } => col,
         }
     }
 
-    /// Whether a row reaches this cut.
+    /// Whether a row reaches this cut. By reference, so that no more of it is read than its kind needs.
     #[inline(always)]
-    pub(super) fn reaches(self, row: &Row) -> bool
-        requires { column_of self < 16 }
-        ensures { result ≡ reaches self row.now }
+    pub(super) fn reaches(&self, row: &Row) -> bool
+        requires { column_of self.now < 16 }
+        ensures { result ≡ reaches self.now row.now }
     {
         match self {
-            Cut::AtLeast { col, value } => row.cell(col) >= value,
-            Cut::AtMost { col, value } => row.cell(col) <= value,
+            Cut::AtLeast { col, value } => row.cell(*col) >= *value,
+            Cut::AtMost { col, value } => row.cell(*col) <= *value,
             Cut::Far {
                 col,
                 left,
                 right,
                 distance,
-            } => outside(row.cell(col), left, right) >= distance,
+            } => outside(row.cell(*col), *left, *right) >= *distance,
             Cut::Near {
                 col,
                 left,
                 right,
                 distance,
-            } => outside(row.cell(col), left, right) <= distance,
+            } => outside(row.cell(*col), *left, *right) <= *distance,
+            Cut::Hashed { col, mask, bits } => hash(row.cell(*col)) & *mask == *bits,
         }
     }
 
