@@ -19,3 +19,4 @@ pub mod Parts
 pub mod Places
 pub mod Kept
 pub mod Links
+pub mod Planned

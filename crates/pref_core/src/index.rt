@@ -3,11 +3,12 @@
 ghost use Rattle.std.specs.Prelude.{◌≡◌, ◌^◌, ◌<◌, ℕ, [], map, length, true, false, is_some, None, Some, IfOk, OnOk, OnErr};
 ghost use Rattle.pref_core.specs.Indexes.{slot_of, Points, PointsAll, placed_from, added_slots, added_rows, Prepares, Withdraws, adds, IsIndexOf, IsReady};
 ghost use Rattle.pref_core.specs.Operations.{IsPlan};
+ghost use Rattle.pref_core.specs.Planned.{op_of};
 ghost use Rattle.pref_core.specs.Slots.{Contents, StandsFor};
 ghost use Rattle.pref_core.specs.State.{State, changes_of};
 ghost use Rattle.pref_core.specs.Table.{among};
 
-use crate::call::{Op, Outcome, SlotList};
+use crate::call::{Op, Outcome, Planned, SlotList};
 use crate::changes::Change;
 use crate::store::Store;
 use indexmap::IndexMap;
@@ -93,6 +94,16 @@ impl Index {
         ensures index { OnErr result ((contents : Contents) (state : State) → StandsFor contents state → IsPlan contents op.now.client op.now.call op.now → IsIndexOf contents self.old → IsIndexOf contents self.new) }
         ensures refused { OnErr result (adds op.now.outcome ≡ true) }
     {
+        self.make_ready(alloc, &op.lent())
+    }
+
+    /// The same for an op whose call is lent.
+    pub(crate) fn make_ready(&mut self, alloc: Global, op: &Planned<'_>) -> Result<(), AllocError>
+        ensures prepared { OnOk result (Prepares (op_of op.now) self.old self.new) }
+        ensures err { OnErr result (Withdraws (op_of op.now) self.old self.new) }
+        ensures index { OnErr result ((contents : Contents) (state : State) → StandsFor contents state → IsPlan contents op.now.client op.now.call.now (op_of op.now) → IsIndexOf contents self.old → IsIndexOf contents self.new) }
+        ensures refused { OnErr result (adds op.now.outcome ≡ true) }
+    {
         let added = AddedRows::of(op);
         match self.put_all(alloc, &added) {
             Ok(()) => Ok(()),
@@ -108,7 +119,7 @@ impl Index {
         ensures out { Withdraws op.now self.old self.new }
         ensures index { (contents : Contents) (state : State) → StandsFor contents state → IsPlan contents op.now.client op.now.call op.now → IsReady contents op.now self.old → IsIndexOf contents self.new }
     {
-        self.take_all(&AddedRows::of(op));
+        self.take_all(&AddedRows::of(&op.lent()));
     }
 
     /// Puts the slots of new rows. `Err` leaves other rows as they were.
@@ -150,8 +161,8 @@ impl AddedRows {
     const END_OF_IDS: u64 = 1 << 63;
 
     /// The rows that this op adds.
-    fn of(op: &Op) -> AddedRows
-        ensures rows { placed_from result.first result.slots ≡ added_rows op.now }
+    fn of(op: &Planned<'_>) -> AddedRows
+        ensures rows { placed_from result.first result.slots ≡ added_rows (op_of op.now) }
         ensures small { result.first < 2 ^ 63 }
         ensures adds { 0 < length result.slots → adds op.now.outcome ≡ true }
     {
@@ -169,8 +180,8 @@ impl AddedRows {
 }
 
 /// The slots of the rows that the op's changes add, of the slots of all rows that they begin.
-fn added_slots(op: &Op) -> SlotList
-    ensures { result ≡ added_slots (changes_of op.now.call) op.now.slots }
+fn added_slots(op: &Planned<'_>) -> SlotList
+    ensures { result ≡ added_slots (changes_of op.now.call.now) op.now.slots }
 {
     let slots = op.slots.as_slice();
     let mut added = SlotList::NONE;

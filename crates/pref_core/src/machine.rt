@@ -7,7 +7,7 @@ ghost use Rattle.std.specs.Prelude.{true, false, ◌≡◌, ◌<◌, length, Ok,
 ghost use Rattle.pref_core.specs.State.{is_change};
 ghost use Rattle.pref_core.specs.Step.{opened, told_of_commit};
 ghost use Rattle.pref_core.specs.Systems.{Replies, Running, StandsForSystem, Steps, is_refusal, without_event};
-ghost use Rattle.pref_core.specs.Parts.{Does, Changes, is_begin, told_of};
+ghost use Rattle.pref_core.specs.Parts.{Does, Changes, is_begin, replied, told_of};
 
 use crate::call::{Call, Outcome};
 use crate::changes::{Commit, added_by};
@@ -92,18 +92,9 @@ impl Machine {
     pub fn step(&mut self, alloc: Global, event: Event) -> Result<Reply, StepFault>
         ensures { Steps self.old event result self.new }
     {
-        let client = event.client;
         match &event.act {
-            Act::Insert(row) => handed_back(self.insert(alloc, client, row), event),
-            Act::Update(id, row) => handed_back(self.update(alloc, client, *id, row), event),
-            Act::Delete(id) => handed_back(self.delete(alloc, client, *id), event),
-            Act::Commit(commit) => handed_back(self.commit(alloc, client, commit), event),
             Act::Begin(_) => self.begin(event),
-            Act::Scan => handed_back(self.scan(alloc, client), event),
-            Act::Finish => handed_back(self.finish(alloc, client), event),
-            Act::Abandon => handed_back(self.abandon(client), event),
-            Act::Get(id) => handed_back(self.get(client, *id), event),
-            Act::Room => handed_back(self.room(client), event),
+            act => handed_back(self.act(alloc, event.client, act), event),
         }
     }
 
@@ -119,15 +110,32 @@ impl Machine {
     ///     _ => bail!("an insert gives an id"),
     /// }
     /// ```
+    #[tactic(auto, using(crate::proofs::Replies::does_replies, crate::proofs::Replies::steps_replies))]
     pub fn reply(&mut self, alloc: Global, event: Event) -> Result<Reply, AllocError>
         ensures { Replies self.old event result self.new }
     {
-        match self.step(alloc, event) {
-            Ok(reply) => Ok(reply),
-            Err(refused) => match refused.fault {
-                CoreFault::OutOfMemory => Err(AllocError),
-                fault => Ok(Reply::Refused(fault)),
-            },
+        match &event.act {
+            Act::Begin(_) => replied(without_event(self.begin(event))),
+            act => replied(self.act(alloc, event.client, act)),
+        }
+    }
+
+    /// An act that begins no query, which it reads where it is: no change is copied here.
+    fn act(&mut self, alloc: Global, client: u8, act: &Act) -> Result<Reply, CoreFault>
+        requires { is_begin act.now ≡ false }
+        ensures { Does self.old client act.now result self.new }
+    {
+        match act {
+            Act::Insert(row) => self.insert(alloc, client, row),
+            Act::Update(id, row) => self.update(alloc, client, *id, row),
+            Act::Delete(id) => self.delete(alloc, client, *id),
+            Act::Commit(commit) => self.commit(alloc, client, commit),
+            Act::Begin(_) => unreachable!(),
+            Act::Scan => self.scan(alloc, client),
+            Act::Finish => self.finish(alloc, client),
+            Act::Abandon => self.abandon(client),
+            Act::Get(id) => self.get(client, *id),
+            Act::Room => self.room(client),
         }
     }
 
@@ -175,9 +183,12 @@ impl Machine {
         requires quiet { is_refusal done ≡ false }
         ensures { Changes self.old client call.now done result self.new }
     {
-        let op = self.store.plan_at(&self.index, client, call)?;
-        self.index.prepare(alloc, &op)?;
-        self.store.apply_at(&mut self.index, &op);
+        let op = match self.store.plan_by(Some(&self.index), client, call) {
+            Ok(op) => op,
+            Err(fault) => return Err(fault),
+        };
+        self.index.make_ready(alloc, &op)?;
+        self.store.carry_out(&mut self.index, &op);
         told(op.outcome, done)
     }
 
@@ -272,6 +283,28 @@ fn told(outcome: Outcome, done: Reply) -> Result<Reply, CoreFault>
     match outcome.refusal() {
         Some(fault) => Err(fault),
         None => Ok(done),
+    }
+}
+
+/// The reply to an act by what it returns: a refusal is one, and want of memory is none.
+#[tactic(auto, using(crate::proofs::Replies::replied_refused))]
+fn replied(told: Result<Reply, CoreFault>) -> Result<Reply, AllocError>
+    ensures { result ≡ replied told }
+{
+    match told {
+        Ok(reply) => Ok(reply),
+        Err(CoreFault::OutOfMemory) => Err(AllocError),
+        Err(fault) => Ok(Reply::Refused(fault)),
+    }
+}
+
+/// A refusal without its event.
+fn without_event(told: Result<Reply, StepFault>) -> Result<Reply, CoreFault>
+    ensures { result ≡ without_event told }
+{
+    match told {
+        Ok(reply) => Ok(reply),
+        Err(refused) => Err(refused.fault),
     }
 }
 

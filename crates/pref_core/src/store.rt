@@ -23,8 +23,9 @@ ghost use Rattle.pref_core.specs.State.{State, opening, calls_of, needed};
 ghost use Rattle.pref_core.specs.Slots.{StandsFor, caller_calls, visible, block_of, opening_contents};
 ghost use Rattle.pref_core.specs.Indexes.{IsIndexOf, IsReady};
 ghost use Rattle.pref_core.specs.Operations.{applied, IsPlan, Plans, PlansIn, AppliesIn};
+ghost use Rattle.pref_core.specs.Planned.{op_of};
 
-use crate::call::{Call, Op};
+use crate::call::{Call, Op, Planned};
 use crate::fault::CoreFault;
 use crate::index::Index;
 use crate::setup::Setup;
@@ -165,7 +166,7 @@ impl Store {
         ensures exact { Plans self.now client call result }
         ensures state { (state : State) → StandsFor self.now state → PlansIn state self.now client call result }
     {
-        self.plan_by(None, client, &call)
+        self.op_by(None, client, &call)
     }
 
     /// The same by an index of this store: constant in the slots.
@@ -174,7 +175,7 @@ impl Store {
         ensures exact { Plans self.now client call.now result }
         ensures state { (state : State) → StandsFor self.now state → PlansIn state self.now client call.now result }
     {
-        self.plan_by(Some(index), client, call)
+        self.op_by(Some(index), client, call)
     }
 
     /// Does a planned call. One that is not legal here changes nothing: so an operation is done once, and in its
@@ -184,9 +185,10 @@ impl Store {
         ensures exact { self.new ≡ applied self.old op.now }
         ensures state { (state : State) → StandsFor self.old state → AppliesIn state self.old op.now self.new }
     {
-        let freed = self.freed_places(None, &op.call);
-        if self.contents.is_next(&freed, op) && self.contents.fits(&freed, op) {
-            self.contents.step(op);
+        let lent = op.lent();
+        let freed = self.freed_places(None, lent.call);
+        if self.contents.is_next(&freed, &lent) && self.contents.fits(&freed, &lent) {
+            self.contents.step(&lent);
         }
     }
 
@@ -199,6 +201,16 @@ impl Store {
         ensures exact { self.new ≡ applied self.old op.now }
         ensures index { IsIndexOf self.new index.new }
         ensures state { (state : State) → StandsFor self.old state → AppliesIn state self.old op.now self.new }
+    {
+        self.carry_out(index, &op.lent());
+    }
+
+    /// The same of an op whose call is lent.
+    pub(crate) fn carry_out(&mut self, index: &mut Index, op: &Planned<'_>)
+        requires plan { IsPlan self.old op.now.client op.now.call.now (op_of op.now) }
+        requires ready { IsReady self.old (op_of op.now) index.old }
+        ensures exact { self.new ≡ applied self.old (op_of op.now) }
+        ensures index { IsIndexOf self.new index.new }
     {
         self.follow(index, op);
         self.contents.step(op);

@@ -4,10 +4,11 @@ ghost use Rattle.std.specs.Prelude.{map, true, [], ◌∷◌, suc, is_some, ◌�
 ghost use Rattle.pref_core.specs.Indexes.{IsReady, Moves};
 ghost use Rattle.pref_core.specs.Kept.{IsFreed, FindsFreed, are_free};
 ghost use Rattle.pref_core.specs.Operations.{close, is_next, slots_after};
+ghost use Rattle.pref_core.specs.Planned.{op_of};
 ghost use Rattle.pref_core.specs.Slots.{begins};
 ghost use Rattle.pref_core.specs.State.{ended, is_formed};
 
-use crate::call::{Op, QueryState, SlotList};
+use crate::call::{Planned, QueryState, SlotList};
 use crate::changes::Change;
 use crate::index::Index;
 use crate::store::Store;
@@ -17,10 +18,10 @@ use crate::store::contents::Contents;
 impl Store {
     /// Goes along with a planned op before it is done: in an index each row that it sets gets its new slot, and each that it
     /// removes goes out.
-    pub(crate) fn follow(&self, index: &mut Index, op: &Op)
-        requires next { is_next self.now op.now ≡ true }
-        requires ready { IsReady self.now op.now index.old }
-        ensures { Moves op.now index.old index.new }
+    pub(crate) fn follow(&self, index: &mut Index, op: &Planned<'_>)
+        requires next { is_next self.now (op_of op.now) ≡ true }
+        requires ready { IsReady self.now (op_of op.now) index.old }
+        ensures { Moves (op_of op.now) index.old index.new }
     {
         if !op.outcome.succeeds() {
             return;
@@ -43,10 +44,10 @@ impl Store {
 
 impl Contents {
     /// Whether the call, its number and its outcome are legal next.
-    pub(crate) fn is_next(&self, freed: &Result<SlotList, u64>, op: &Op) -> bool
-        requires freed { FindsFreed self.now (ended op.now.call) freed.now }
-        requires formed { is_formed op.now.call ≡ true }
-        ensures { result ≡ is_next self.now op.now }
+    pub(crate) fn is_next(&self, freed: &Result<SlotList, u64>, op: &Planned<'_>) -> bool
+        requires freed { FindsFreed self.now (ended op.now.call.now) freed.now }
+        requires formed { is_formed op.now.call.now ≡ true }
+        ensures { result ≡ is_next self.now (op_of op.now) }
     {
         let Some(caller) = caller_of(&self.callers, op.client) else {
             return false;
@@ -55,14 +56,14 @@ impl Contents {
         if refusal.is_some() || op.number != caller.calls + 1 {
             return false;
         }
-        op.outcome == self.outcome(freed, &op.call)
+        op.outcome == self.outcome(freed, op.call)
     }
 
     /// Whether the op's slots fit its call: one for each row that begins, each free once the old rows ended, and none twice.
-    pub(crate) fn fits(&self, freed: &Result<SlotList, u64>, op: &Op) -> bool
-        requires freed { FindsFreed self.now (ended op.now.call) freed.now }
-        requires next { is_next self.now op.now ≡ true }
-        ensures { result ≡ is_some (slots_after self.now op.now) }
+    pub(crate) fn fits(&self, freed: &Result<SlotList, u64>, op: &Planned<'_>) -> bool
+        requires freed { FindsFreed self.now (ended op.now.call.now) freed.now }
+        requires next { is_next self.now (op_of op.now) ≡ true }
+        ensures { result ≡ is_some (slots_after self.now (op_of op.now)) }
     {
         match freed {
             Ok(freed) if op.call.is_change() && op.outcome.succeeds() => {
@@ -73,9 +74,9 @@ impl Contents {
     }
 
     /// Whether each slot of the op is free once the old rows ended, and none comes twice.
-    fn are_free(&self, freed: &SlotList, op: &Op) -> bool
-        requires { IsFreed self.now (ended op.now.call) freed.now }
-        ensures { result ≡ are_free (suc self.now.stamp ∷ begins self.now.callers) (map (close (ended op.now.call) (suc self.now.stamp)) self.now.slots) [] op.now.slots }
+    fn are_free(&self, freed: &SlotList, op: &Planned<'_>) -> bool
+        requires { IsFreed self.now (ended op.now.call.now) freed.now }
+        ensures { result ≡ are_free (suc self.now.stamp ∷ begins self.now.callers) (map (close (ended op.now.call.now) (suc self.now.stamp)) self.now.slots) [] op.now.slots }
     {
         let mut earlier = SlotList::NONE;
         for place in op.slots.as_slice() {

@@ -6,12 +6,13 @@ ghost use Rattle.pref_core.specs.Indexes.{slot_of, Points, IsPlaceOf, IsIndexOf}
 ghost use Rattle.pref_core.specs.Kept.{IsKept, IsFreed, AreFresh, row_in, frees_at, is_open, with_slots, zones_of};
 ghost use Rattle.pref_core.specs.Operations.{close, is_free, filled, is_next, refusal_at, slots_after, stepped, callers_after, used, grown};
 ghost use Rattle.pref_core.specs.Places.{is_free_zone};
+ghost use Rattle.pref_core.specs.Planned.{op_of};
 ghost use Rattle.pref_core.specs.Slots.{stamps, begins, born, visible, opening_contents};
 ghost use Rattle.pref_core.specs.Stability.{is_end};
 ghost use Rattle.pref_core.specs.State.{ended, begun, added, is_change, succeeds};
 ghost use Rattle.pref_core.specs.Table.{among, has};
 
-use crate::call::{Call, Op, SlotList};
+use crate::call::{Call, Planned, SlotList};
 use crate::index::Index;
 use crate::setup::Setup;
 use crate::store::caller::{Caller, count, idle};
@@ -195,33 +196,33 @@ impl Contents {
     }
 
     /// A legal op, done.
-    pub(crate) fn step(&mut self, op: &Op)
+    pub(crate) fn step(&mut self, op: &Planned<'_>)
         requires kept { IsKept self.old }
-        requires next { is_next self.old op.now ≡ true }
-        requires fits { is_some (slots_after self.old op.now) ≡ true }
-        ensures slots { slots_after self.old op.now ≡ Some self.new.slots }
-        ensures rest { self.new ≡ stepped self.old op.now self.new.slots }
+        requires next { is_next self.old (op_of op.now) ≡ true }
+        requires fits { is_some (slots_after self.old (op_of op.now)) ≡ true }
+        ensures slots { slots_after self.old (op_of op.now) ≡ Some self.new.slots }
+        ensures rest { self.new ≡ stepped self.old (op_of op.now) self.new.slots }
     {
         if op.call.is_change() && op.outcome.succeeds() {
             self.commit(op);
         }
-        self.count(op.client, &op.call);
+        self.count(op.client, op.call);
     }
 
     /// A commit: all rows end that are to end, and then others begin in the slots that are free.
-    fn commit(&mut self, op: &Op)
+    fn commit(&mut self, op: &Planned<'_>)
         requires kept { IsKept self.old }
-        requires next { is_next self.old op.now ≡ true }
-        requires fits { is_some (slots_after self.old op.now) ≡ true }
-        requires change { is_change op.now.call ≡ true }
+        requires next { is_next self.old (op_of op.now) ≡ true }
+        requires fits { is_some (slots_after self.old (op_of op.now)) ≡ true }
+        requires change { is_change op.now.call.now ≡ true }
         requires succeeds { succeeds op.now.outcome ≡ true }
-        ensures slots { slots_after self.old op.now ≡ Some self.new.slots }
-        ensures rest { self.new ≡ record { slots = self.new.slots; stamp = self.old.stamp + 1; next_id = self.old.next_id + added op.now.call; callers = self.old.callers } }
+        ensures slots { slots_after self.old (op_of op.now) ≡ Some self.new.slots }
+        ensures rest { self.new ≡ record { slots = self.new.slots; stamp = self.old.stamp + 1; next_id = self.old.next_id + added op.now.call.now; callers = self.old.callers } }
     {
         let first = self.next_id;
         self.stamp += 1;
         self.next_id += op.call.added();
-        self.end_rows(&op.call);
+        self.end_rows(op.call);
         self.begin_rows(first, op);
     }
 
@@ -253,11 +254,11 @@ impl Contents {
     }
 
     /// Begins all rows that the op's call begins, each in its slot; added ones get the ids from this one on.
-    fn begin_rows(&mut self, first: u64, op: &Op)
-        requires fits { is_some (filled (stamps self.old) self.old.stamp op.now.slots (begun first op.now.call) self.old.slots) ≡ true }
-        requires fresh { AreFresh self.old.next_id (visible self.old.stamp self.old.slots) (begun first op.now.call) }
+    fn begin_rows(&mut self, first: u64, op: &Planned<'_>)
+        requires fits { is_some (filled (stamps self.old) self.old.stamp op.now.slots (begun first op.now.call.now) self.old.slots) ≡ true }
+        requires fresh { AreFresh self.old.next_id (visible self.old.stamp self.old.slots) (begun first op.now.call.now) }
         requires small { first < 2 ^ 63 }
-        ensures slots { filled (stamps self.old) self.old.stamp op.now.slots (begun first op.now.call) self.old.slots ≡ Some self.new.slots }
+        ensures slots { filled (stamps self.old) self.old.stamp op.now.slots (begun first op.now.call.now) self.old.slots ≡ Some self.new.slots }
         ensures rest { self.new ≡ with_slots self.new.slots self.old }
     {
         let slots = op.slots.as_slice();

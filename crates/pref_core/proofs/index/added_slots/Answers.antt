@@ -11,13 +11,13 @@ use Rattle.pref_core.proofs.index.added_slots.Goals.{in-Add+in-Some, in-Set, in-
 
 pub returns-in_default : goal.returns-in_default
 returns-in_default c =
-    let here = drop_at (changes_of c.args.op.now.call) c.loop-at.at (Add c.in-Add.field-0) c.in-Add.ensures in
+    let here = drop_at (changes_of c.args.op.now.call.now) c.loop-at.at (Add c.in-Add.field-0) c.in-Add.ensures in
     let none = drop_all c.as_slice-slots.result.now c.loop-at.used (ltb-false _ _ (sym c.in_default.ensures.lookup.0)) in
     sym (append-nil c.loop-at.added) ∙ ap (λ l. c.loop-at.added ++ l) (sym (ap₂ added_slots here none)) ∙ c.loop-at.invariant.all
 
 pub loop-at-preserved : goal.loop-at-preserved
 loop-at-preserved c =
-    let changes = changes_of c.args.op.now.call in
+    let changes = changes_of c.args.op.now.call.now in
     let slots = c.as_slice-slots.result.now in
     let at = c.loop-at.at in
     let used = c.loop-at.used in

@@ -1,6 +1,6 @@
-use Rattle.pref_core.specs.declared.event.Act.TheVariants.{Get}
+use Rattle.std.proofs.Common.{refl}
 use Rattle.pref_core.proofs.Doing.{steps_does}
 use Rattle.pref_core.proofs.machine.Machine.step.Goals as goal
 
-pub returns-in-Get : goal.returns-in-Get
-returns-in-Get c = steps_does c.args.self.now c.args.self.now c.args.event (Get c.in-Get.id) c.get.result c.handed_back-in-Get.result c.in-Get.is c.get.ensures c.handed_back-in-Get.ensures.alike c.handed_back-in-Get.ensures.event
+pub returns-in_default : goal.returns-in_default
+returns-in_default c = steps_does c.args.self.now c.act.new.self c.args.event c.args.event.act c.act.result c.handed_back.result refl c.act.ensures c.handed_back.ensures.alike c.handed_back.ensures.event

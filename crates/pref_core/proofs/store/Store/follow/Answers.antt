@@ -10,12 +10,13 @@ use Rattle.pref_core.specs.Table.{among, has}
 use Rattle.pref_core.proofs.Changing.{drop_at, drop_all}
 use Rattle.pref_core.proofs.Counts.{drop_item, drop_more}
 use Rattle.pref_core.proofs.Reindexing.{AreThere, FollowsRest, follows_one, ready_there}
+use Rattle.pref_core.specs.Planned.{op_of}
 use Rattle.pref_core.proofs.store.Store.follow.Goals as goal
 use Rattle.pref_core.proofs.store.Store.follow.Goals.{in-Add, in-Set+in-Some, in-Remove}
 
 pub loop-at-init : goal.loop-at-init
 loop-at-init c =
-    let op = c.args.op.now in
+    let op = (op_of c.args.op.now) in
     record {
       rest = record {
         gives = λ id. ap (λ l. given (moved (changes_of op.call) l) id (slot_of c.args.index.now id)) c.as_slice-slots.ensures.same;
@@ -26,7 +27,7 @@ loop-at-init c =
 
 pub returns-in_default : goal.returns-in_default
 returns-in_default c id =
-    let op = c.args.op.now in
+    let op = (op_of c.args.op.now) in
     let here = drop_at (changes_of op.call) c.loop-at.at (Set c.in-Set.id c.in-Set.field-1) c.in-Set.ensures in
     let none = drop_all c.as_slice-slots.result.now c.loop-at.used (ltb-false _ _ (sym c.in_default.ensures.lookup.0)) in
     sym (ap (λ rows. given rows id (slot_of c.loop-at.index id)) (ap₂ moved here none)) ∙ c.loop-at.invariant.rest.gives id
@@ -34,16 +35,16 @@ returns-in_default c id =
 
 pub move_row-requires-clause-there : goal.move_row-requires-clause-there
 move_row-requires-clause-there c =
-    let rest = drop (c.loop-at.at + 1) (changes_of c.args.op.now.call) in
-    let here = drop_at (changes_of c.args.op.now.call) c.loop-at.at (Set c.in-Set.id c.in-Set.field-1) c.in-Set.ensures in
+    let rest = drop (c.loop-at.at + 1) (changes_of c.args.op.now.call.now) in
+    let here = drop_at (changes_of c.args.op.now.call.now) c.loop-at.at (Set c.in-Set.id c.in-Set.field-1) c.in-Set.ensures in
     let olds = subst (λ l. AreThere c.args.self.now (ended_by l) c.loop-at.index) here c.loop-at.invariant.rest.olds in
     ap (λ (s : Contents). has (visible s.stamp s.slots) c.in-Set.id) c.self.view_is
     ∙ olds.there c.in-Set.id (ap (λ b. b || among (ended_by rest) c.in-Set.id) (eq-eqb c.in-Set.id c.in-Set.id refl))
 
 pub move_row-requires-clause-index : goal.move_row-requires-clause-index
 move_row-requires-clause-index c =
-    let rest = drop (c.loop-at.at + 1) (changes_of c.args.op.now.call) in
-    let here = drop_at (changes_of c.args.op.now.call) c.loop-at.at (Set c.in-Set.id c.in-Set.field-1) c.in-Set.ensures in
+    let rest = drop (c.loop-at.at + 1) (changes_of c.args.op.now.call.now) in
+    let here = drop_at (changes_of c.args.op.now.call.now) c.loop-at.at (Set c.in-Set.id c.in-Set.field-1) c.in-Set.ensures in
     let olds = subst (λ l. AreThere c.args.self.now (ended_by l) c.loop-at.index) here c.loop-at.invariant.rest.olds in
     subst (λ (s : Contents). IsPlaceOf s.stamp c.in-Set.id s.slots (slot_of c.loop-at.index c.in-Set.id)) (sym c.self.view_is)
     (olds.placed c.in-Set.id (ap (λ b. b || among (ended_by rest) c.in-Set.id) (eq-eqb c.in-Set.id c.in-Set.id refl)))
@@ -51,7 +52,7 @@ move_row-requires-clause-index c =
 pub loop-at-preserved : goal.loop-at-preserved
 loop-at-preserved c =
     let now = c.args.self.now in
-    let op = c.args.op.now in
+    let op = (op_of c.args.op.now) in
     let changes = changes_of op.call in
     let slots = c.as_slice-slots.result.now in
     let used = c.loop-at.used in

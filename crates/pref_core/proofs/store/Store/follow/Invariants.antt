@@ -6,6 +6,6 @@ use Rattle.pref_core.proofs.store.Store.follow.Given as goal
 
 abbrev pub invariant-loop-at : goal.invariant-loop-at
 invariant-loop-at l = record {
-  rest : FollowsRest l.self (drop l.at (changes_of l.op.call)) (drop l.used l.slots) l.index (λ id. given (moved (changes_of l.op.call) l.op.slots) id (slot_of l.initial.index id));
+  rest : FollowsRest l.self (drop l.at (changes_of l.op.call.now)) (drop l.used l.slots) l.index (λ id. given (moved (changes_of l.op.call.now) l.op.slots) id (slot_of l.initial.index id));
   used : l.used ≤ l.at;
 }

@@ -20,5 +20,4 @@ returns c =
     let at : seat c.args.client now.callers ≡ Some caller = ap (seat c.args.client) (sym callers) ∙ sym c.caller_of.ensures ∙ c.in-Some.is in
     let accepted = ap (λ b. refusal_of (Some caller.calls) b call) (sym c.of.ensures) ∙ sym c.refusal.ensures ∙ c.in_default-refusal.is in
     let told = c.outcome-outcome.ensures ∙ ap (λ s. outcome_at s call) c.self.view_is in
-    subst (λ l. IsPlan now c.args.client call (record { client = c.args.client; number = caller.calls + 1; call = l; slots = c.slots_for-slots.result; outcome = c.outcome-outcome.result })) (sym c.copied.ensures)
-    (record { by = refl; what = refl; next = is_next-planned now op caller at accepted (omega arith) told c.freed_places-freed.ensures.formed; fits = c.slots_for-slots.ensures })
+    record { by = refl; what = refl; next = is_next-planned now op caller at accepted (omega arith) told c.freed_places-freed.ensures.formed; fits = c.slots_for-slots.ensures }

@@ -13,14 +13,14 @@ use Rattle.pref_core.proofs.store.contents.Contents.begin_rows.Goals.{In-Some, i
 
 -- the rows behind the one that begins
 abbrev rest : In-Some → List Entry
-rest c = begun_by (c.loop-at.next_id + added_by (c.change-change.result ∷ [])) (drop (c.loop-at.at + 1) (changes_of c.args.op.now.call))
+rest c = begun_by (c.loop-at.next_id + added_by (c.change-change.result ∷ [])) (drop (c.loop-at.at + 1) (changes_of c.args.op.now.call.now))
 
 abbrev all : In-Some → Option (List (Option Version))
-all c = filled (stamps c.args.self.now) c.args.self.now.stamp c.args.op.now.slots (begun c.args.first c.args.op.now.call) c.args.self.now.slots
+all c = filled (stamps c.args.self.now) c.args.self.now.stamp c.args.op.now.slots (begun c.args.first c.args.op.now.call.now) c.args.self.now.slots
 
 next : (c : In-Some) → BeginsNext c.args.self.now c.loop-at.self c.as_slice-slots.result.now c.loop-at.used c.in-Some.entry (rest c) (all c)
 next c =
-    let is = begun_at c.loop-at.next_id (changes_of c.args.op.now.call) c.loop-at.at c.change-change.result c.change-change.ensures ∙ ap (λ l. l ++ rest c) (sym c.in-Some.ensures) in
+    let is = begun_at c.loop-at.next_id (changes_of c.args.op.now.call.now) c.loop-at.at c.change-change.result c.change-change.ensures ∙ ap (λ l. l ++ rest c) (sym c.in-Some.ensures) in
     begins_next c.args.self.now c.loop-at.self c.as_slice-slots.result.now c.loop-at.used c.in-Some.entry (rest c) (all c)
     (subst (λ l. BegunUpTo c.args.self.now c.loop-at.self (drop c.loop-at.used c.as_slice-slots.result.now) l (all c)) is c.loop-at.invariant.begun)
 
@@ -39,9 +39,9 @@ begin_row-requires-clause-low c = (next (goal.at.begin_row-requires-clause-low c
 pub loop-at-preserved : goal.loop-at-preserved
 loop-at-preserved c =
     let start = c.args.self.now in
-    let changes = changes_of c.args.op.now.call in
+    let changes = changes_of c.args.op.now.call.now in
     let rest = begun_by (c.loop-at.next_id + added_by (c.change-change.result ∷ [])) (drop (c.loop-at.at + 1) changes) in
-    let all = filled (stamps start) start.stamp c.args.op.now.slots (begun c.args.first c.args.op.now.call) start.slots in
+    let all = filled (stamps start) start.stamp c.args.op.now.slots (begun c.args.first c.args.op.now.call.now) start.slots in
     let slots = c.as_slice-slots.result.now in
     let used = c.loop-at.used in
     let from = begun_at c.loop-at.next_id changes c.loop-at.at c.change-change.result c.change-change.ensures in
@@ -73,6 +73,6 @@ pub returns-clause-slots : goal.returns-clause-slots
 returns-clause-slots c =
     let now = c.args.self.now in
     let left = drop c.loop-at.used c.as_slice-slots.result.now in
-    let all = filled (stamps now) now.stamp c.args.op.now.slots (begun c.args.first c.args.op.now.call) now.slots in
+    let all = filled (stamps now) now.stamp c.args.op.now.slots (begun c.args.first c.args.op.now.call.now) now.slots in
     fills_end now.next_id now.stamp (begins now.callers) left c.loop-at.self.slots all
-    (subst (λ l. FillsRest now.next_id now.stamp (begins now.callers) left (begun_by c.loop-at.next_id l) c.loop-at.self.slots all) (drop_all (changes_of c.args.op.now.call) c.loop-at.at (omega arith)) c.loop-at.invariant.begun.fills)
+    (subst (λ l. FillsRest now.next_id now.stamp (begins now.callers) left (begun_by c.loop-at.next_id l) c.loop-at.self.slots all) (drop_all (changes_of c.args.op.now.call.now) c.loop-at.at (omega arith)) c.loop-at.invariant.begun.fills)

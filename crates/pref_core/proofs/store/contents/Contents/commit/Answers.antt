@@ -6,6 +6,7 @@ use Rattle.pref_core.proofs.Bounds.{stamp-small, next_id-small, added-small}
 use Rattle.pref_core.proofs.Applied.{IsAllowed-from}
 use Rattle.pref_core.proofs.Filling.{commit_fresh, commit_filled}
 use Rattle.pref_core.proofs.Linked.{tracked_next}
+use Rattle.pref_core.specs.Planned.{op_of}
 use Rattle.pref_core.proofs.store.contents.Contents.commit.Goals as goal
 
 pub overflow_add-self : goal.overflow_add-self
@@ -14,7 +15,7 @@ overflow_add-self c = let small = stamp-small _ c.requires.kept.bounded in let s
 pub overflow_add-self-2 : goal.overflow_add-self-2
 overflow_add-self-2 c =
     let small = next_id-small _ c.requires.kept.bounded in
-    let few = added-small c.args.op.now.call (IsAllowed-from c.args.self.now c.args.op.now c.requires.next).formed in
+    let few = added-small c.args.op.now.call.now (IsAllowed-from c.args.self.now (op_of c.args.op.now) c.requires.next).formed in
     let same = ap (λ (s : Contents). s.next_id) c.self.view_is in
     omega (arith, same)
 
@@ -24,7 +25,7 @@ invariant_of-self c =
     let contents : Contents = record { slots = now.slots.items; stamp = now.stamp; next_id = now.next_id; callers = now.callers.items } in
     let stamp : suc now.stamp ≡ now.stamp + 1 = omega arith in
     subst (λ s. IsTracked s now.places now.links) (λ i. record { slots = now.slots.items; stamp = stamp i; next_id = now.next_id + sym c.added.ensures i; callers = now.callers.items })
-    (tracked_next contents now.places now.links (added c.args.op.now.call) c.self.invariant)
+    (tracked_next contents now.places now.links (added c.args.op.now.call.now) c.self.invariant)
 
 pub begin_rows-requires-clause-fits : goal.begin_rows-requires-clause-fits
 begin_rows-requires-clause-fits c =
@@ -32,8 +33,8 @@ begin_rows-requires-clause-fits c =
     let callers = ap (λ (s : Contents). s.callers) c.self.view_is in
     let stamp : c.self.inside.stamp + 1 ≡ suc c.args.self.now.stamp = let same = ap (λ (s : Contents). s.stamp) c.self.view_is in omega (arith, same) in
     let first = ap (λ (s : Contents). s.next_id) c.self.view_is in
-    let next : c.self.inside.next_id + c.added.result ≡ c.args.self.now.next_id + added c.args.op.now.call = ap₂ (λ a b. a + b) first c.added.ensures in
-    ap is_some (commit_filled c.args.self.now _ c.end_rows.new.self c.args.op.now c.self.inside.next_id (λ i. record { slots = slots i; stamp = stamp i; next_id = next i; callers = callers i }) first c.end_rows.ensures c.requires.change c.requires.succeeds)
+    let next : c.self.inside.next_id + c.added.result ≡ c.args.self.now.next_id + added c.args.op.now.call.now = ap₂ (λ a b. a + b) first c.added.ensures in
+    ap is_some (commit_filled c.args.self.now _ c.end_rows.new.self (op_of c.args.op.now) c.self.inside.next_id (λ i. record { slots = slots i; stamp = stamp i; next_id = next i; callers = callers i }) first c.end_rows.ensures c.requires.change c.requires.succeeds)
     ∙ c.requires.fits
 
 pub begin_rows-requires-clause-fresh : goal.begin_rows-requires-clause-fresh
@@ -42,8 +43,8 @@ begin_rows-requires-clause-fresh c =
     let callers = ap (λ (s : Contents). s.callers) c.self.view_is in
     let stamp : c.self.inside.stamp + 1 ≡ suc c.args.self.now.stamp = let same = ap (λ (s : Contents). s.stamp) c.self.view_is in omega (arith, same) in
     let first = ap (λ (s : Contents). s.next_id) c.self.view_is in
-    let next : c.self.inside.next_id + c.added.result ≡ c.args.self.now.next_id + added c.args.op.now.call = ap₂ (λ a b. a + b) first c.added.ensures in
-    commit_fresh c.args.self.now _ c.end_rows.new.self c.requires.kept.state c.args.op.now c.self.inside.next_id (λ i. record { slots = slots i; stamp = stamp i; next_id = next i; callers = callers i }) first c.end_rows.ensures
+    let next : c.self.inside.next_id + c.added.result ≡ c.args.self.now.next_id + added c.args.op.now.call.now = ap₂ (λ a b. a + b) first c.added.ensures in
+    commit_fresh c.args.self.now _ c.end_rows.new.self c.requires.kept.state (op_of c.args.op.now) c.self.inside.next_id (λ i. record { slots = slots i; stamp = stamp i; next_id = next i; callers = callers i }) first c.end_rows.ensures
     c.requires.kept.stands c.requires.next c.requires.change c.requires.succeeds
 
 pub begin_rows-requires-clause-small : goal.begin_rows-requires-clause-small
@@ -55,14 +56,14 @@ returns-clause-slots c =
     let callers = ap (λ (s : Contents). s.callers) c.self.view_is in
     let stamp : c.self.inside.stamp + 1 ≡ suc c.args.self.now.stamp = let same = ap (λ (s : Contents). s.stamp) c.self.view_is in omega (arith, same) in
     let first = ap (λ (s : Contents). s.next_id) c.self.view_is in
-    let next : c.self.inside.next_id + c.added.result ≡ c.args.self.now.next_id + added c.args.op.now.call = ap₂ (λ a b. a + b) first c.added.ensures in
-    sym (commit_filled c.args.self.now _ c.end_rows.new.self c.args.op.now c.self.inside.next_id (λ i. record { slots = slots i; stamp = stamp i; next_id = next i; callers = callers i }) first c.end_rows.ensures c.requires.change c.requires.succeeds)
+    let next : c.self.inside.next_id + c.added.result ≡ c.args.self.now.next_id + added c.args.op.now.call.now = ap₂ (λ a b. a + b) first c.added.ensures in
+    sym (commit_filled c.args.self.now _ c.end_rows.new.self (op_of c.args.op.now) c.self.inside.next_id (λ i. record { slots = slots i; stamp = stamp i; next_id = next i; callers = callers i }) first c.end_rows.ensures c.requires.change c.requires.succeeds)
     ∙ c.begin_rows.ensures.slots
 
 pub returns-clause-rest : goal.returns-clause-rest
 returns-clause-rest c =
     let callers = ap (λ (s : Contents). s.callers) c.self.view_is in
     let stamp : c.self.inside.stamp + 1 ≡ c.args.self.now.stamp + 1 = ap (λ (s : Contents). s.stamp + 1) c.self.view_is in
-    let next : c.self.inside.next_id + c.added.result ≡ c.args.self.now.next_id + added c.args.op.now.call = ap₂ (λ a b. a + b) (ap (λ (s : Contents). s.next_id) c.self.view_is) c.added.ensures in
+    let next : c.self.inside.next_id + c.added.result ≡ c.args.self.now.next_id + added c.args.op.now.call.now = ap₂ (λ a b. a + b) (ap (λ (s : Contents). s.next_id) c.self.view_is) c.added.ensures in
     c.begin_rows.ensures.rest ∙ ap (λ e. with_slots c.begin_rows.new.self.slots e) c.end_rows.ensures
     ∙ (λ i. record { slots = c.begin_rows.new.self.slots; stamp = stamp i; next_id = next i; callers = callers i })

@@ -2,6 +2,7 @@ use Rattle.std.proofs.Common.{◌≡◌, ◌&&◌, Bool, Some, true, false, refl
 use Rattle.pref_core.specs.Slots.{Contents}
 use Rattle.pref_core.specs.State.{is_change, succeeds}
 use Rattle.pref_core.proofs.Filling.{slots_still}
+use Rattle.pref_core.specs.Planned.{op_of}
 use Rattle.pref_core.proofs.store.contents.Contents.step.Goals as goal
 use Rattle.pref_core.proofs.store.contents.Contents.step.Goals.{then-is_change+then-succeeds, else-is_change, else-is_change-via-then-is_change+else-succeeds, else-is_change-via-else-is_change}
 
@@ -13,9 +14,9 @@ pub returns-clause-slots : goal.returns-clause-slots
 returns-clause-slots c = elim c.if-is_change.branch [
   | then-is_change+then-succeeds w ↦ w.commit.ensures.slots ∙ ap (λ (s : Contents). Some s.slots) (sym w.self-is)
   | else-is_change w ↦
-      slots_still c.args.self.now c.args.op.now
+      slots_still c.args.self.now (op_of c.args.op.now)
       (elim w.else-is_change.branch [
-        | else-is_change-via-then-is_change+else-succeeds v ↦ none (is_change c.args.op.now.call) (succeeds c.args.op.now.outcome) (sym v.succeeds.ensures ∙ v.if-succeeds.false)
+        | else-is_change-via-then-is_change+else-succeeds v ↦ none (is_change c.args.op.now.call.now) (succeeds c.args.op.now.outcome) (sym v.succeeds.ensures ∙ v.if-succeeds.false)
         | else-is_change-via-else-is_change v ↦ ap (λ b. b && succeeds c.args.op.now.outcome) (sym c.is_change.ensures ∙ v.if-is_change.false)
       ]) c.requires.fits ∙ ap (λ (s : Contents). Some s.slots) (sym w.self-is)
 ] ∙ ap (λ (s : Contents). Some s.slots) (sym c.count.ensures)
