@@ -83,6 +83,7 @@ impl Call {
     }
 
     /// The change at this place, from 0 on.
+    #[inline(always)]
     pub(crate) fn change(&self, at: usize) -> Change
         requires { at < length (changes_of self.now) }
         ensures { slice_get (changes_of self.now) at ≡ Some result }

@@ -30,6 +30,7 @@ pub enum Change {
 
 impl Change {
     /// The id of the row that it ends.
+    #[inline(always)]
     pub(crate) fn ended(&self) -> Option<u64>
         ensures { option_to_list result ≡ ended_by (self.now ∷ []) }
     {
@@ -40,6 +41,7 @@ impl Change {
     }
 
     /// The row that it begins, by the next id.
+    #[inline(always)]
     pub(crate) fn begun(&self, next_id: u64) -> Option<Entry>
         ensures { option_to_list result ≡ begun_by next_id (self.now ∷ []) }
     {
@@ -51,6 +53,7 @@ impl Change {
     }
 
     /// How many rows it adds.
+    #[inline(always)]
     pub(crate) fn added(&self) -> u64
         ensures { result ≡ added_by (self.now ∷ []) }
     {

@@ -21,6 +21,7 @@ fn is_seen(version: &Version, callers: &[Caller]) -> bool
 }
 
 /// What a slot is used for.
+#[inline(always)]
 pub(crate) fn zone_of(slot: Option<Version>, callers: &[Caller]) -> Zone
     ensures { result ≡ zone_of (begins callers.now) slot }
 {

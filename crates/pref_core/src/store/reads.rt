@@ -11,6 +11,7 @@ use pref_sky::Entry;
 use std::alloc::{AllocError, Global};
 
 /// Whether the slot shows the row of this id at the stamp.
+#[inline(always)]
 fn shows(slot: Option<Version>, stamp: u64, id: u64) -> bool
     ensures { result ≡ is_row stamp id slot }
 {

@@ -27,6 +27,7 @@ impl Version {
 }
 
 /// The slot after a commit by this call.
+#[inline(always)]
 pub(crate) fn closed(slot: Option<Version>, call: &Call, stamp: u64) -> Option<Version>
     ensures { result ≡ close (ended call.now) stamp slot }
 {
@@ -37,6 +38,7 @@ pub(crate) fn closed(slot: Option<Version>, call: &Call, stamp: u64) -> Option<V
 }
 
 /// A version that ends.
+#[inline(always)]
 pub(crate) fn ended(version: Version, stamp: u64) -> Option<Version>
     ensures { result ≡ Some (record version { death = Some stamp }) }
 {
@@ -47,6 +49,7 @@ pub(crate) fn ended(version: Version, stamp: u64) -> Option<Version>
 }
 
 /// A version that begins.
+#[inline(always)]
 pub(crate) fn born(entry: Entry, stamp: u64) -> Option<Version>
     ensures { result ≡ born stamp entry }
 {
