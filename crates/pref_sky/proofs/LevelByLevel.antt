@@ -1,17 +1,18 @@
 -- The merge law level by level: the new level is the best of the held level and the entries that come down to it, and the others of both come down further.
-use Rattle.std.proofs.Common.{◌≡◌, ℕ, suc, ◌≤◌, ◌<◌, ◌+◌, ◌-◌, Bool, true, not, ◌⊎◌, inl, inr, List, [], ◌∷◌, ◌++◌, map, drop, refl, sym, ◌∙◌, ap, subst, arith}
+use Rattle.std.proofs.Common.{◌≡◌, ℕ, zero, suc, ◌≤◌, ◌<◌, ◌+◌, ◌-◌, Bool, true, not, ◌⊎◌, inl, inr, List, [], ◌∷◌, ◌++◌, map, drop, refl, sym, ◌∙◌, ap, subst, arith}
 use Rattle.std.proofs.lemmas.Bool.{cases_Bool, cases_lt, both_ways, not-true, not_from_false, false_from_ne_true}
 use Rattle.pref_term.specs.Order.{IsStrictOrder}
 use Rattle.pref_sky.specs.declared.entry.Entry.{Entry}
 use Rattle.pref_sky.specs.declared.entry.Ranked.{Ranked}
 use Rattle.pref_sky.specs.Best.{best, rest, is_beaten, without_best}
 use Rattle.pref_sky.specs.Levels.{HaveDifferentIds, in_order_of_id, at_level, levels}
-use Rattle.pref_sky.proofs.Members.{any_from, any_gives, in_filter, from_filter, in_left, in_right, in_either}
-use Rattle.pref_sky.proofs.Removals.{same_answer, unbeaten_over}
+use Rattle.pref_sky.proofs.Members.{Among, any_from, any_gives, in_filter, from_filter, in_left, in_right, in_either}
+use Rattle.pref_sky.proofs.Removals.{comes_after, comes_after_upto, same_answer, unbeaten_over}
 use Rattle.pref_sky.proofs.Orders.{SameMembers, same_in_order, among_in_order, from_in_order}
 use Rattle.pref_sky.proofs.Merges.{different_filter, different_best}
-use Rattle.pref_sky.proofs.HeldLevels.{beaten_by_more, best_of_same, without_of_same, same_sym, same_then, same_beside, different_by_count}
-use Rattle.pref_sky.proofs.LevelsBehind.{levels_behind, levels_then_behind, behind_same}
+use Rattle.pref_sky.proofs.HeldLevels.{beaten_by_more, best_of_same, best_without, left_without, without_of_same, same_sym, same_then, same_beside, different_by_count}
+use Rattle.pref_sky.proofs.Halves.{beaten_by_rest}
+use Rattle.pref_sky.proofs.LevelsBehind.{levels_behind, levels_then_behind}
 
 -- where something of the list is over an entry, one of its best is
 beaten_by_top : (over : Entry → Entry → Bool) → IsStrictOrder over → (coming left : List Entry) (e : Entry) → is_beaten over (coming ++ left) e ≡ is_beaten over (in_order_of_id (best over left) ++ coming) e
@@ -144,21 +145,39 @@ merging_more over strict before new cut n told more coming tail behind held leve
           append_same (map (at_level (suc n)) held) behind (levels_behind over before (suc n) (cut - suc n)) whole;
     }
 
--- the end: after the last level, or where nothing comes down any more, what is held behind stays
-pub merging_ends : (over : Entry → Entry → Bool) (before new : List Entry) (cut n : ℕ) (ranked : List Ranked) (coming : List Entry) (behind : List Ranked) → n ≤ cut → (cut ≤ n) ⊎ (coming ≡ []) → HaveDifferentIds (before ++ new)
-    → Merging over before new cut n ranked coming behind → ranked ++ behind ≡ levels over (before ++ new) cut
-merging_ends over before new cut n ranked coming behind within ended da m =
+-- where what is left of a list and of a shorter one differ by entries alone that the levels up to a cut are over, the levels up to it are the same
+behind_lower : (over : Entry → Entry → Bool) → IsStrictOrder over → (all before coming : List Entry) (n k : ℕ) → HaveDifferentIds all → HaveDifferentIds before → SameMembers (rest over all n) (coming ++ rest over before n)
+    → ((x : Entry) → Among x coming → comes_after over before (n + k) x ≡ true) → levels_behind over all n k ≡ levels_behind over before n k
+behind_lower over strict all before coming n zero da db same lower = refl
+behind_lower over strict all before coming n (suc k) da db same lower =
+    let left = rest over before n in
+    let low : (x : Entry) → Among x coming → is_beaten over left x ≡ true =
+    λ x m. beaten_by_rest over before n x ∙ comes_after_upto over before (suc n) (n + suc k) x (omega arith) (lower x m) in
+    let level : in_order_of_id (best over (rest over all n)) ≡ in_order_of_id (best over left) =
+    same_in_order (best over (rest over all n)) (best over left) (different_best over all n da) (different_best over before n db)
+    (same_then (best over (rest over all n)) (best over (coming ++ left)) (best over left) (best_of_same over (rest over all n) (coming ++ left) same) (best_without over strict coming left low)) in
+    let further : SameMembers (rest over all (suc n)) (coming ++ rest over before (suc n)) =
+    same_then (without_best over (rest over all n)) (without_best over (coming ++ left)) (coming ++ without_best over left) (without_of_same over (rest over all n) (coming ++ left) same) (left_without over strict coming left low) in
+    let next : n + suc k ≡ suc n + k = omega arith in
+    ap (λ l. map (at_level (suc n)) l ++ levels_behind over all (suc n) k) level
+    ∙ ap (λ l. map (at_level (suc n)) (in_order_of_id (best over left)) ++ l)
+    (behind_lower over strict all before coming (suc n) k da db further (λ x m. subst (λ j. comes_after over before j x ≡ true) next (lower x m)))
+
+-- the end: after the last level, or where the levels up to the cut are over all that comes, what is held behind stays
+pub merging_ends : (over : Entry → Entry → Bool) → IsStrictOrder over → (before new : List Entry) (cut n : ℕ) (ranked : List Ranked) (coming : List Entry) (behind : List Ranked) → n ≤ cut
+    → (cut ≤ n) ⊎ ((x : Entry) → Among x coming → comes_after over before cut x ≡ true) → HaveDifferentIds (before ++ new) → Merging over before new cut n ranked coming behind → ranked ++ behind ≡ levels over (before ++ new) cut
+merging_ends over strict before new cut n ranked coming behind within ended da m =
     let all = before ++ new in
     let db = different_by_count before new before da (λ p. omega arith) in
+    let steps : n + (cut - n) ≡ cut = omega (arith, within) in
     let last : cut ≤ n → levels_behind over before n (cut - n) ≡ levels_behind over all n (cut - n) =
     λ past. let none : cut - n ≡ 0 = omega (arith, past) in ap (levels_behind over before n) none ∙ ap (levels_behind over all n) (sym none) in
     let same : levels_behind over before n (cut - n) ≡ levels_behind over all n (cut - n) =
     elim ended [
       | inl past ↦ last past
-      | inr nothing ↦ elim (cases_lt n cut) [
-        | inl further ↦ sym (behind_same over all before n (cut - n) da db (subst (λ l. SameMembers (rest over all n) (l ++ rest over before n)) nothing (m.left further)))
+      | inr low ↦ elim (cases_lt n cut) [
+        | inl further ↦ sym (behind_lower over strict all before coming n (cut - n) da db (m.left further) (λ x in_it. subst (λ j. comes_after over before j x ≡ true) (sym steps) (low x in_it)))
         | inr past ↦ last past
       ]
     ] in
-    let steps : n + (cut - n) ≡ cut = omega (arith, within) in
     ap (λ l. l ++ behind) m.told ∙ (ap (λ l. levels over all n ++ l) (m.tail ∙ same) ∙ (levels_then_behind over all (cut - n) n ∙ ap (levels over all) steps))

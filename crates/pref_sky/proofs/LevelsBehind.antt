@@ -4,13 +4,10 @@ use Rattle.std.proofs.lemmas.Bool.{ne_eqb}
 use Rattle.pref_sky.specs.declared.entry.Entry.{Entry}
 use Rattle.pref_sky.specs.declared.entry.Ranked.{Ranked}
 use Rattle.pref_sky.specs.Best.{best, rest}
-use Rattle.pref_sky.specs.Levels.{HaveDifferentIds, in_order_of_id, at_level, levels}
+use Rattle.pref_sky.specs.Levels.{in_order_of_id, at_level, levels}
 use Rattle.pref_sky.specs.Meetings.{length_of_level}
-use Rattle.pref_sky.proofs.Orders.{SameMembers, same_in_order}
 use Rattle.std.proofs.lemmas.List.{length-map}
 use Rattle.pref_sky.proofs.Splits.{cut_at}
-use Rattle.pref_sky.proofs.Merges.{different_best}
-use Rattle.pref_sky.proofs.HeldLevels.{best_of_same, without_of_same}
 
 -- the entries of the k levels behind the first n
 abbrev pub levels_behind : (Entry → Entry → Bool) → List Entry → ℕ → ℕ → List Ranked
@@ -22,15 +19,6 @@ levels_then_behind over all zero n = let same : n ≡ n + 0 = omega arith in app
 levels_then_behind over all (suc k) n =
     sym (append_assoc (levels over all n) (map (at_level (suc n)) (in_order_of_id (best over (rest over all n)))) (levels_behind over all (suc n) k))
     ∙ (let same : suc n + k ≡ n + suc k = omega arith in levels_then_behind over all k (suc n) ∙ ap (levels over all) same)
-
--- where two lists leave the same after n removals, the levels behind are the same
-pub behind_same : (over : Entry → Entry → Bool) (all before : List Entry) (n k : ℕ) → HaveDifferentIds all → HaveDifferentIds before → SameMembers (rest over all n) (rest over before n) → levels_behind over all n k ≡ levels_behind over before n k
-behind_same over all before n zero da db same = refl
-behind_same over all before n (suc k) da db same =
-    let level : in_order_of_id (best over (rest over all n)) ≡ in_order_of_id (best over (rest over before n)) =
-    same_in_order (best over (rest over all n)) (best over (rest over before n)) (different_best over all n da) (different_best over before n db) (best_of_same over (rest over all n) (rest over before n) same) in
-    ap (λ l. map (at_level (suc n)) l ++ levels_behind over all (suc n) k) level
-    ∙ ap (λ l. map (at_level (suc n)) (in_order_of_id (best over (rest over before n))) ++ l) (behind_same over all before (suc n) k da db (without_of_same over (rest over all n) (rest over before n) same))
 
 pub level_goes_on : (n : ℕ) (xs : List Entry) (behind : List Ranked) → length_of_level n behind ≡ 0 → length_of_level n (map (at_level n) xs ++ behind) ≡ length xs
 level_goes_on n [] behind ends = ends

@@ -12,7 +12,7 @@ pub mod Searches
 pub mod HeldLevels
 pub mod LevelsBehind
 pub mod LevelByLevel
-pub mod EarlyDrop
+pub mod Halves
 pub mod Selections
 pub mod TwinsAmongBest
 pub mod LevelLaws
@@ -26,3 +26,4 @@ pub mod RankedLevels
 pub mod Planning
 pub mod Making
 pub mod Opening
+pub mod Starting

@@ -36,7 +36,7 @@ module _ (first held : List Level) (steps : List Step) (place : ℕ) (step : Ste
     both : HaveRoom (level ∷ drop (suc place) held) (step ∷ drop (suc place) steps)
     both = subst (λ l. HaveRoom l (step ∷ drop (suc place) steps)) levels_are (subst (HaveRoom (drop place held)) steps_are making.room)
 
-    pub room_here : HasRoom (step.staying + length step.joining.items) level
+    pub room_here : HasRoom step level
     room_here = both.0
 
     pub making_more : (new : Level) (after : List Level) → after ≡ set held place new → new.entries.items ≡ stepped level.entries.items step → Making first after steps (place + 1)

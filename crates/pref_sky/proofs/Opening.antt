@@ -5,6 +5,7 @@ use Rattle.std.proofs.lemmas.List.{take-set, drop-set-lt}
 use Rattle.std.proofs.lemmas.List.Sorted.{IsPermutation-refl}
 use Rattle.std.proofs.Math.Seq.{take-length, take-append_seam}
 use Rattle.pref_sky.specs.declared.level.Level.{Level}
+use Rattle.pref_sky.specs.declared.level.Step.{Step}
 use Rattle.pref_sky.specs.Partials.{HasRoom, HasRoomAt, held_at, Reordered, Opened}
 use Rattle.pref_sky.specs.Signatures.{Moved}
 use Rattle.pref_sky.proofs.SignedLevels.{signed_level, signed_push, signed_set}
@@ -16,7 +17,7 @@ held_new : (held : List Level) (level : Level) → held_at (length held) (held +
 held_new [] level = refl
 held_new (first ∷ behind) level = held_new behind level
 
-held_nowhere : (held : List Level) → held_at (length held) held ≡ []
+pub held_nowhere : (held : List Level) → held_at (length held) held ≡ []
 held_nowhere [] = refl
 held_nowhere (first ∷ behind) = held_nowhere behind
 
@@ -46,10 +47,10 @@ held_at_set n [] new there = absurd (omega (arith, there))
 held_at_set zero (first ∷ behind) new there = refl
 held_at_set (suc n) (first ∷ behind) new there = held_at_set n behind new (omega (arith, there))
 
-room_at_set : (many n : ℕ) (held : List Level) (new : Level) → n < length held → HasRoom many new → HasRoomAt many n (set held n new)
-room_at_set many n [] new there room = absurd (omega (arith, there))
-room_at_set many zero (first ∷ behind) new there room = room
-room_at_set many (suc n) (first ∷ behind) new there room = room_at_set many n behind new (omega (arith, there)) room
+room_at_set : (step : Step) (n : ℕ) (held : List Level) (new : Level) → n < length held → HasRoom step new → HasRoomAt step n (set held n new)
+room_at_set step n [] new there room = absurd (omega (arith, there))
+room_at_set step zero (first ∷ behind) new there room = room
+room_at_set step (suc n) (first ∷ behind) new there room = room_at_set step n behind new (omega (arith, there)) room
 
 -- the level is taken for another
 module _ (n : ℕ) (old opened : List Level) (o : Opened n old opened) (there : n < length opened) (level : Level) (at : level ≡ get_or opened n level) where
@@ -60,8 +61,8 @@ module _ (n : ℕ) (old opened : List Level) (o : Opened n old opened) (there : 
     pub held_now : held_at n (set opened n new) ≡ new.entries.items
     held_now = held_at_set n opened new there
 
-    pub room_now : (many : ℕ) → HasRoom many new → HasRoomAt many n (set opened n new)
-    room_now many = room_at_set many n opened new there
+    pub room_now : (step : Step) → HasRoom step new → HasRoomAt step n (set opened n new)
+    room_now step = room_at_set step n opened new there
 
     pub now_reordered : Moved level new → Reordered n old (set opened n new)
     now_reordered moved =

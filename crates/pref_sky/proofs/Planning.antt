@@ -1,6 +1,7 @@
 -- An addition level by level: what is planned so far, where nothing that is held has changed yet.
-use Rattle.std.proofs.Common.{◌≡◌, ℕ, zero, suc, ◌≤◌, ◌<◌, ◌+◌, ◌-◌, Bool, cond, not, ◌⊎◌, inl, inr, List, [], ◌∷◌, ◌++◌, length, map, take, drop, refl, sym, ◌∙◌, ap, subst, arith, ◌==◌, length-append}
+use Rattle.std.proofs.Common.{◌≡◌, ℕ, zero, suc, ◌≤◌, ◌<◌, ◌+◌, ◌-◌, Bool, true, cond, not, ◌⊎◌, inl, inr, List, [], ◌∷◌, ◌++◌, length, map, take, drop, refl, sym, ◌∙◌, ap, subst, arith, ◌==◌, length-append}
 use Rattle.std.specs.List.{count_by}
+use Rattle.std.proofs.lemmas.Bool.{cases_lt}
 use Rattle.std.proofs.lemmas.List.{length-map}
 use Rattle.std.proofs.lemmas.List.Sums.{sum_by-append}
 use Rattle.pref_term.specs.Order.{IsStrictOrder}
@@ -14,10 +15,12 @@ use Rattle.pref_sky.specs.Meetings.{length_of_level}
 use Rattle.pref_sky.specs.Partials.{ranked_from, ranked_after, stepped, HasRoomAt, HaveRoom, HoldTheSame, held_at, Reordered}
 use Rattle.pref_sky.specs.Passes.{IsApart}
 use Rattle.pref_sky.proofs.Members.{Among, in_left, in_right, in_either, from_map}
+use Rattle.pref_sky.proofs.Removals.{comes_after}
 use Rattle.pref_sky.proofs.Orders.{SameMembers, among_in_order, from_in_order, same_in_order, count_in_order}
 use Rattle.pref_sky.proofs.Splits.{cut_at}
 use Rattle.pref_sky.proofs.Merges.{different_filter, entries_at_level}
-use Rattle.pref_sky.proofs.HeldLevels.{best_apart, best_of_same, without_of_same, same_then, same_beside, different_by_count}
+use Rattle.pref_sky.proofs.HeldLevels.{best_apart, best_of_same, same_beaten, without_of_same, same_then, same_beside, different_by_count}
+use Rattle.pref_sky.proofs.Halves.{beaten_by_level}
 use Rattle.pref_sky.proofs.LevelsBehind.{levels_behind, level_goes_on, level_of_higher, level_cut}
 use Rattle.pref_sky.proofs.LevelByLevel.{Merging, merging_begins, merging_more, merging_ends}
 use Rattle.pref_sky.proofs.RankedLevels.{one_level, ranked_level, ranked_parts, count_joined, count_level, reordered_hold, hold_then, after_cut, after_more, room_more}
@@ -48,6 +51,52 @@ held_is_best over before cut n held is x m =
     let whole : Among (at_level (suc n) x) (ranked_from 1 held) =
     subst (Among (at_level (suc n) x)) (sym (ranked_parts n held)) (in_right (ranked_from 1 (take n held)) (level ++ behind) (at_level (suc n) x) (in_left level behind (at_level (suc n) x) here)) in
     of_level over before cut n (at_level (suc n) x) (subst (Among (at_level (suc n) x)) is whole) refl
+
+level_from : (k : ℕ) (held : List Level) (r : Ranked) → Among r (ranked_from k held) → k ≤ r.level
+level_from k [] r m = absurd m
+level_from k (level ∷ behind) r m =
+    elim (in_either (one_level k level.entries.items) (ranked_from (suc k) behind) r m) [
+      | inl here ↦ let w = from_map (at_level k) (in_order_of_id level.entries.items) r here in let at = ap (λ (s : Ranked). s.level) w.2 in omega (arith, at)
+      | inr later ↦ let above = level_from (suc k) behind r later in omega (arith, above)
+    ]
+
+ranked_at : (k m : ℕ) (held : List Level) (r : Ranked) → Among r (ranked_from k held) → r.level ≡ k + m → Among (entry_of r) (held_at m held)
+ranked_at k m [] r among is = absurd among
+ranked_at k zero (level ∷ behind) r among is =
+    elim (in_either (one_level k level.entries.items) (ranked_from (suc k) behind) r among) [
+      | inl here ↦
+          let w = from_map (at_level k) (in_order_of_id level.entries.items) r here in
+          from_in_order level.entries.items (entry_of r) (subst (λ e. Among e (in_order_of_id level.entries.items)) (sym (ap entry_of w.2)) w.1)
+      | inr later ↦ let above = level_from (suc k) behind r later in absurd (omega (arith, above, is))
+    ]
+ranked_at k (suc m) (level ∷ behind) r among is =
+    elim (in_either (one_level k level.entries.items) (ranked_from (suc k) behind) r among) [
+      | inl here ↦ let w = from_map (at_level k) (in_order_of_id level.entries.items) r here in let at = ap (λ (s : Ranked). s.level) w.2 in absurd (omega (arith, at, is))
+      | inr later ↦ ranked_at (suc k) m behind r later (omega (arith, is))
+    ]
+
+in_levels : (over : Entry → Entry → Bool) (all : List Entry) (n cut : ℕ) (x : Entry) → n < cut → Among x (best over (rest over all n)) → Among (at_level (suc n) x) (levels over all cut)
+in_levels over all n zero x below m = absurd (omega (arith, below))
+in_levels over all n (suc cut) x below m =
+    elim (cases_lt n cut) [
+      | inl before ↦ in_left (levels over all cut) (one_level (suc cut) (best over (rest over all cut))) (at_level (suc n) x) (in_levels over all n cut x before m)
+      | inr past ↦
+          let same : n ≡ cut = omega (arith, past, below) in
+          in_right (levels over all cut) (one_level (suc cut) (best over (rest over all cut))) (at_level (suc n) x)
+          (subst (λ k. Among (at_level (suc n) x) (one_level (suc k) (best over (rest over all k)))) same (in_map (suc n) (in_order_of_id (best over (rest over all n))) x (among_in_order (best over (rest over all n)) x m)))
+    ]
+
+-- what is held at a level is over an entry just where a chain that is one longer stands over it
+pub beaten_here : (over : Entry → Entry → Bool) → IsStrictOrder over → (before : List Entry) (cut n : ℕ) (held : List Level) → ranked_from 1 held ≡ levels over before cut → n < cut → (x : Entry)
+    → is_beaten over (held_at n held) x ≡ comes_after over before (suc n) x
+beaten_here over strict before cut n held is further x =
+    let level = best over (rest over before n) in
+    same_beaten over (held_at n held) (in_order_of_id level)
+    (record {
+      there = λ y m. among_in_order level y (held_is_best over before cut n held is y m);
+      back = λ y m. ranked_at 1 n held (at_level (suc n) y) (subst (Among (at_level (suc n) y)) (sym is) (in_levels over before n cut y further (from_in_order level y m))) (omega arith);
+    }) x
+    ∙ beaten_by_level over strict before n x
 
 pub held_is_apart : (over : Entry → Entry → Bool) (before : List Entry) (cut n : ℕ) (held : List Level) → ranked_from 1 held ≡ levels over before cut → IsApart over (held_at n held)
 held_is_apart over before cut n held is x y mx my =
@@ -124,9 +173,9 @@ module _ (over : Entry → Entry → Bool) (cut n : ℕ) (first held : List Leve
 
 -- one level more has its step
 pub planning_more : (over : Entry → Entry → Bool) → IsStrictOrder over → (cut n : ℕ) (first held after : List Level) (entries coming down : List Entry) (steps : List Step) (step : Step) → n < cut → HaveDifferentIds (map entry_of (ranked_from 1 first) ++ entries)
-    → Reordered n held after → n < length after → HasRoomAt (step.staying + length step.joining.items) n after
-    → (IsApart over (held_at n held) → SameMembers (stepped (held_at n after) step) (best over (held_at n held ++ coming)))
-    → (IsApart over (held_at n held) → suc n < cut → SameMembers down (without_best over (held_at n held ++ coming)))
+    → Reordered n held after → n < length after → HasRoomAt step n after
+    → ((before : List Entry) → HaveDifferentIds (before ++ entries) → ranked_from 1 first ≡ levels over before cut → SameMembers (stepped (held_at n after) step) (best over (held_at n held ++ coming)))
+    → ((before : List Entry) → HaveDifferentIds (before ++ entries) → ranked_from 1 first ≡ levels over before cut → suc n < cut → SameMembers down (without_best over (held_at n held ++ coming)))
     → ((p : Entry → Bool) → count_by p (stepped (held_at n after) step) + count_by p down ≤ count_by p (held_at n held) + count_by p coming)
     → Planning over cut n first held entries coming steps → Planning over cut (suc n) first after entries down (steps ++ step ∷ [])
 planning_more over strict cut n first held after entries coming down steps step further different r there fits level_is down_is fewer plan =
@@ -166,20 +215,18 @@ planning_more over strict cut n first held after entries coming down steps step 
           let deep : cut - n ≡ suc (cut - suc n) = omega (arith, further) in
           let front = in_order_of_id here in
           let front_is : front ≡ in_order_of_id (best over (rest over before n)) = level_held over before n (cut - suc n) held (m.tail ∙ ap (levels_behind over before n) deep) in
-          let apart : IsApart over front = subst (IsApart over) (sym front_is) (best_apart over (rest over before n)) in
-          let apart_here : IsApart over here = λ x y mx my. apart x y (among_in_order here x mx) (among_in_order here y my) in
           let in_order : SameMembers (here ++ coming) (front ++ coming) = same_beside here front coming (record { there = among_in_order here; back = from_in_order here }) in
           let front_differs = different_by_count here coming (front ++ coming) differ (λ p. omega (arith, sum_by-append (λ e. cond (p e) 1 0) front coming, count_in_order p here)) in
-          let members : SameMembers now (best over (front ++ coming)) = same_then now (best over (here ++ coming)) (best over (front ++ coming)) (level_is apart_here) (best_of_same over (here ++ coming) (front ++ coming) in_order) in
+          let members : SameMembers now (best over (front ++ coming)) = same_then now (best over (here ++ coming)) (best over (front ++ coming)) (level_is before apart_ids is) (best_of_same over (here ++ coming) (front ++ coming) in_order) in
           let level : in_order_of_id now ≡ in_order_of_id (best over (front ++ coming)) =
           same_in_order now (best over (front ++ coming)) now_differs (different_filter (λ e. not (is_beaten over (front ++ coming) e)) (front ++ coming) front_differs) members in
           subst (Merging over before entries cut (suc n) (ranked_after 1 (take (suc n) after) (steps ++ step ∷ [])) down) (sym back)
           (merging_more over strict before entries cut n told (ranked_after 1 (take (suc n) after) (steps ++ step ∷ [])) coming tail behind front (in_order_of_id now) down further apart_ids front_differs front_is split level
-          (λ deeper. same_then down (without_best over (here ++ coming)) (without_best over (front ++ coming)) (down_is apart_here deeper) (without_of_same over (here ++ coming) (front ++ coming) in_order)) more m);
+          (λ deeper. same_then down (without_best over (here ++ coming)) (without_best over (front ++ coming)) (down_is before apart_ids is deeper) (without_of_same over (here ++ coming) (front ++ coming) in_order)) more m);
     }
 
--- the end: after the last level, or where nothing comes down any more
-module _ (over : Entry → Entry → Bool) (cut n : ℕ) (first held : List Level) (entries coming : List Entry) (steps : List Step) (plan : Planning over cut n first held entries coming steps) where
+-- the end: after the last level, or where the levels up to the cut are over all that comes
+module _ (over : Entry → Entry → Bool) (strict : IsStrictOrder over) (cut n : ℕ) (first held : List Level) (entries coming : List Entry) (steps : List Step) (plan : Planning over cut n first held entries coming steps) where
   whole : ranked_after 1 held steps ≡ ranked_after 1 (take n held) steps ++ ranked_from (suc n) (drop n held)
   whole = let next : suc n ≡ 1 + n = omega arith in after_cut 1 n (suc n) held steps plan.long plan.within next
 
@@ -187,6 +234,7 @@ module _ (over : Entry → Entry → Bool) (cut n : ℕ) (first held : List Leve
   planned_counts p =
       omega (arith, plan.counts p, ap (λ l. count_by p (map entry_of l)) whole, count_joined p (ranked_after 1 (take n held) steps) (ranked_from (suc n) (drop n held)))
 
-  pub planned_levels : (cut ≤ n) ⊎ (coming ≡ []) → (before : List Entry) → HaveDifferentIds (before ++ entries) → ranked_from 1 first ≡ levels over before cut → ranked_after 1 held steps ≡ levels over (before ++ entries) cut
-  planned_levels ended before different is =
-      whole ∙ merging_ends over before entries cut n (ranked_after 1 (take n held) steps) coming (ranked_from (suc n) (drop n held)) plan.upto ended different (plan.merging before different is)
+  pub planned_levels : (before : List Entry) → (cut ≤ n) ⊎ ((x : Entry) → Among x coming → comes_after over before cut x ≡ true) → HaveDifferentIds (before ++ entries) → ranked_from 1 first ≡ levels over before cut
+      → ranked_after 1 held steps ≡ levels over (before ++ entries) cut
+  planned_levels before ended different is =
+      whole ∙ merging_ends over strict before entries cut n (ranked_after 1 (take n held) steps) coming (ranked_from (suc n) (drop n held)) plan.upto ended different (plan.merging before different is)

@@ -99,7 +99,7 @@ after_more k (suc n) m (level ∷ behind) (other ∷ steps) step long within at 
     ∙ sym (append_assoc one (ranked_after (suc k) (take n behind) steps) (one_level m (stepped (held_at n behind) step)))
 
 pub room_more : (n : ℕ) (held : List Level) (steps : List Step) (step : Step) → length steps ≡ n → n < length held → HaveRoom (take n held) steps
-    → HasRoomAt (step.staying + length step.joining.items) n held → HaveRoom (take (suc n) held) (steps ++ step ∷ [])
+    → HasRoomAt step n held → HaveRoom (take (suc n) held) (steps ++ step ∷ [])
 room_more n [] steps step long within room fits = absurd (omega (arith, within))
 room_more zero (level ∷ behind) [] step long within room fits = (fits, tt)
 room_more zero (level ∷ behind) (other ∷ steps) step long within room fits = absurd (omega (arith, long))

@@ -8,3 +8,4 @@ pub mod Meetings
 pub mod Signatures
 pub mod Passes
 pub mod Partials
+pub mod Starts

@@ -7,7 +7,7 @@ use Rattle.pref_sky.specs.declared.entry.Ranked.{Ranked}
 use Rattle.pref_sky.specs.declared.level.Level.{Level}
 use Rattle.pref_sky.specs.declared.level.Step.{Step}
 use Rattle.pref_sky.specs.Levels.{at_level, in_order_of_id}
-use Rattle.pref_sky.specs.Signatures.{AreSignedBy}
+use Rattle.pref_sky.specs.Signatures.{AreSignedBy, Moved}
 
 -- the entries of levels of which the first is the n-th, in order of level, then id
 abbrev pub ranked_from : ℕ → List Level → List Ranked
@@ -16,7 +16,7 @@ ranked_from n (level ∷ behind) = map (at_level n) (in_order_of_id level.entrie
 
 -- a level after its step
 abbrev pub stepped : List Entry → Step → List Entry
-stepped entries step = take step.staying entries ++ step.joining.items
+stepped entries step = take step.staying entries ++ step.joining.entries.items
 
 -- the same entries after the steps of the first levels
 abbrev pub ranked_after : ℕ → List Level → List Step → List Ranked
@@ -24,15 +24,17 @@ ranked_after n levels [] = ranked_from n levels
 ranked_after n [] (step ∷ steps) = []
 ranked_after n (level ∷ behind) (step ∷ steps) = map (at_level n) (in_order_of_id (stepped level.entries.items step)) ++ ranked_after (suc n) behind steps
 
--- a level has room for so many entries with their signatures
-abbrev pub HasRoom : ℕ → Level → Type 0
-HasRoom many level = (many ≤ vec_capacity level.entries) × (many ≤ vec_capacity level.signatures)
+-- a level has room for its step
+abbrev pub HasRoom : Step → Level → Type 0
+HasRoom step level =
+    (step.staying + length step.joining.entries.items ≤ vec_capacity level.entries)
+    × (step.staying + length step.joining.signatures.items ≤ vec_capacity level.signatures)
 
 -- each of the first levels has room for its step
 abbrev pub HaveRoom : List Level → List Step → Type 0
 HaveRoom levels [] = ⊤
 HaveRoom [] (step ∷ steps) = ⊥
-HaveRoom (level ∷ behind) (step ∷ steps) = HasRoom (step.staying + length step.joining.items) level × HaveRoom behind steps
+HaveRoom (level ∷ behind) (step ∷ steps) = HasRoom step level × HaveRoom behind steps
 
 -- the entries of the level behind the first n: none where there is no such level
 abbrev pub held_at : ℕ → List Level → List Entry
@@ -40,11 +42,18 @@ held_at n [] = []
 held_at zero (level ∷ behind) = level.entries.items
 held_at (suc n) (level ∷ behind) = held_at n behind
 
--- the level behind the first n is there, and has room for so many
-abbrev pub HasRoomAt : ℕ → ℕ → List Level → Type 0
-HasRoomAt many n [] = ⊥
-HasRoomAt many zero (level ∷ behind) = HasRoom many level
-HasRoomAt many (suc n) (level ∷ behind) = HasRoomAt many n behind
+-- the level behind the first n is there, and has room for a step
+abbrev pub HasRoomAt : Step → ℕ → List Level → Type 0
+HasRoomAt step n [] = ⊥
+HasRoomAt step zero (level ∷ behind) = HasRoom step level
+HasRoomAt step (suc n) (level ∷ behind) = HasRoomAt step n behind
+
+-- the same levels, each in another order
+abbrev pub AreMoved : List Level → List Level → Type 0
+AreMoved [] [] = ⊤
+AreMoved [] (new ∷ news) = ⊥
+AreMoved (old ∷ olds) [] = ⊥
+AreMoved (old ∷ olds) (new ∷ news) = Moved old new × AreMoved olds news
 
 -- the levels are the same but for the order within the one behind the first n, which may be new and empty
 pub record Reordered (n : ℕ) (old new : List Level) : Type 0 where

@@ -7,7 +7,7 @@ use Rattle.pref_term.specs.Signatures.{is_within, signature}
 use Rattle.pref_sky.specs.Windows.{Held}
 use Rattle.pref_sky.specs.declared.entry.Entry.{Entry}
 use Rattle.pref_sky.specs.declared.level.Level.{Level}
-use Rattle.pref_sky.specs.declared.meeting.Sifted.{Sifted}
+use Rattle.pref_sky.specs.declared.level.Step.{Step}
 use Rattle.pref_sky.specs.declared.signatures.SignedEntries.{SignedEntries}
 
 -- the signature of an entry by some cuts
@@ -30,16 +30,15 @@ pub record SignedHeld : Type 0 where
 abbrev pub IsSignedBy : (Entry → ℕ) → SignedEntries → Type 0
 IsSignedBy rule some = some.signatures.items ≡ map rule some.entries.items
 
--- and so do all that were sifted
-pub record IsSiftedBy (rule : Entry → ℕ) (sifted : Sifted) : Type 0 where
-  pub let_in : IsSignedBy rule sifted.let_in
-  pub displacing : IsSignedBy rule sifted.displacing
-  pub turned_away : IsSignedBy rule sifted.turned_away
-
 -- and those of each level
 abbrev pub AreSignedBy : (Entry → ℕ) → List Level → Type 0
 AreSignedBy rule [] = ⊤
 AreSignedBy rule (level ∷ behind) = (level.signatures.items ≡ map rule level.entries.items) × AreSignedBy rule behind
+
+-- and those of what joins by each step
+abbrev pub StepsAreSignedBy : (Entry → ℕ) → List Step → Type 0
+StepsAreSignedBy rule [] = ⊤
+StepsAreSignedBy rule (step ∷ steps) = IsSignedBy rule step.joining × StepsAreSignedBy rule steps
 
 -- levels and coming entries with their signatures beside them, all by one rule as above
 pub record LevelsAreSigned (over : Entry → Entry → Bool) (levels : List Level) (coming : List Entry) (coming_signatures : List ℕ) : Type 0 where

@@ -4,7 +4,7 @@ ghost use Rattle.std.specs.Prelude.{◌≡◌, ◌<◌, ◌≤◌, ◌+◌, ℕ,
 ghost use Rattle.pref_sky.specs.Best.{best};
 ghost use Rattle.pref_sky.specs.Levels.{HaveDifferentIds, entry_order, in_order_of_id};
 ghost use Rattle.pref_sky.specs.Passes.{IsApart, Passing, Telling};
-ghost use Rattle.pref_sky.specs.Signatures.{AreSigned};
+ghost use Rattle.pref_sky.specs.Signatures.{AreSigned, IsSignedBy};
 ghost use Rattle.pref_sky.specs.Windows.{window_at_begin, window_entries};
 ghost use Rattle.pref_sky.specs.declared.entry.Entry.{Entry};
 
@@ -51,43 +51,45 @@ fn pass<D: Dominance>(
     window: &mut SignedWindow,
     input: &[Entry],
     signatures: &[u64],
-    told: &mut Vec<Entry>,
+    told: &mut SignedEntries,
 ) -> Result<SignedEntries, AllocError>
     requires positive { 0 < window.old.window.size }
     requires fresh { window.old.window ≡ window_at_begin window.old.window.size window.old.window.early }
     requires apart { IsApart (entry_order (D.order dominance.now)) window.old.window.early }
     requires signed { AreSigned (entry_order (D.order dominance.now)) window.old.window.early window.old.signatures input.now signatures.now }
     ensures told { IfOk result (λ overflow. (all : List Entry)
-        → Telling (entry_order (D.order dominance.now)) all told.old.items window.old.window.early input.now
-        → Telling (entry_order (D.order dominance.now)) all told.new.items window.new.window.early overflow.entries.items) }
+        → Telling (entry_order (D.order dominance.now)) all told.old.entries.items window.old.window.early input.now
+        → Telling (entry_order (D.order dominance.now)) all told.new.entries.items window.new.window.early overflow.entries.items) }
     ensures falls { IfOk result (λ overflow. 0 < length input.now
         → length window.new.window.early + length overflow.entries.items < length window.old.window.early + length input.now) }
     ensures apart { OnOk result (IsApart (entry_order (D.order dominance.now)) window.new.window.early) }
     ensures fresh { OnOk result (window.new.window ≡ window_at_begin window.old.window.size window.new.window.early) }
-    ensures signed { IfOk result (λ overflow. AreSigned (entry_order (D.order dominance.now))
-        window.new.window.early window.new.signatures overflow.entries.items overflow.signatures.items) }
+    ensures signed { IfOk result (λ overflow. (rule : Entry → ℕ)
+        → window.old.signatures ≡ map rule window.old.window.early → signatures.now ≡ map rule input.now → IsSignedBy rule told.old
+        → (window.new.signatures ≡ map rule window.new.window.early) × IsSignedBy rule overflow × IsSignedBy rule told.new) }
 {
     let overflow = offered(alloc, dominance, window, input, signatures)?;
     window.settle(told)?;
     Ok(overflow)
 }
 
-/// The same as [`best_rows_passes`], of entries with their signatures beside them: those that show that
-/// neither of two entries dominates the other spare their comparison.
+/// The same as [`best_rows_passes`], of entries with their signatures beside them, which spare most
+/// comparisons: the best, in no order, with their signatures.
 pub(crate) fn best_of_signed<D: Dominance>(
     alloc: Global,
     dominance: &D,
     window: usize,
     entries: &[Entry],
     signatures: &[u64],
-) -> Result<(Vec<Entry>, u64), AllocError>
+) -> Result<(SignedEntries, u64), AllocError>
     requires window { 0 < window }
     requires ids { HaveDifferentIds entries.now }
     requires signed { AreSigned (entry_order (D.order dominance.now)) [] [] entries.now signatures.now }
-    ensures best { IfOk result (λ found. found.0.items ≡ in_order_of_id (best (entry_order (D.order dominance.now)) entries.now)) }
+    ensures best { IfOk result (λ found. in_order_of_id found.0.entries.items ≡ in_order_of_id (best (entry_order (D.order dominance.now)) entries.now)) }
     ensures passes { IfOk result (λ found. found.1 ≤ length entries.now) }
+    ensures signed { IfOk result (λ found. (rule : Entry → ℕ) → signatures.now ≡ map rule entries.now → IsSignedBy rule found.0) }
 {
-    let mut found = Vec::new(alloc);
+    let mut found = SignedEntries::new(alloc);
     if entries.is_empty() {
         return Ok((found, 0));
     }
@@ -112,7 +114,6 @@ pub(crate) fn best_of_signed<D: Dominance>(
         )?;
         passes += 1;
     }
-    found.sort_unstable_by_key(|entry| entry.id);
     Ok((found, passes))
 }
 
@@ -139,7 +140,10 @@ pub fn best_rows_passes<D: Dominance>(
 {
     let cuts = cuts_of(alloc, dominance, entries)?;
     let signatures = signatures_of(alloc, &cuts, entries)?;
-    best_of_signed(alloc, dominance, window, entries, &signatures)
+    let (found, passes) = best_of_signed(alloc, dominance, window, entries, &signatures)?;
+    let mut best = found.entries;
+    best.sort_unstable_by_key(|entry| entry.id);
+    Ok((best, passes))
 }
 
 /// The entries that no entry dominates, in order of id: the list of [`best_rows_passes`], at its cost.

@@ -1,18 +1,18 @@
 //! One level of a partial result, and what an addition makes of it.
 
+ghost use Rattle.std.specs.List.{swap};
 ghost use Rattle.std.specs.List.Sorted.{IsPermutation};
-ghost use Rattle.std.specs.Prelude.{◌≡◌, ◌≤◌, ◌+◌, ℕ, [], ◌∷◌, true, false, length, map, take, drop, vec_len, OnOk};
+ghost use Rattle.std.specs.Prelude.{◌≡◌, ◌≤◌, ◌<◌, ◌+◌, ℕ, [], ◌∷◌, true, false, length, map, take, drop, vec_len, OnOk};
 ghost use Rattle.pref_sky.specs.Best.{is_beaten};
 ghost use Rattle.pref_sky.specs.Levels.{entry_order};
-ghost use Rattle.pref_sky.specs.Meetings.{Meets};
 ghost use Rattle.pref_sky.specs.Members.{Among};
 ghost use Rattle.pref_sky.specs.Passes.{IsApart};
 ghost use Rattle.pref_sky.specs.Partials.{HasRoom, stepped};
-ghost use Rattle.pref_sky.specs.Signatures.{AreSigned, Moved, signature_by};
+ghost use Rattle.pref_sky.specs.Signatures.{AreSigned, IsSignedBy, Moved, signature_by};
 ghost use Rattle.pref_sky.specs.declared.entry.Entry.{Entry};
 
 use crate::entry::Entry;
-use crate::meeting::{Known, Meeting, is_beaten, meet};
+use crate::meeting::find_over;
 use crate::signatures::{SignedEntries, push_signatures};
 use pref_term::{Cuts, Dominance};
 use std::alloc::{AllocError, Global};
@@ -31,7 +31,21 @@ pub(crate) struct Step {
     /// How many of its entries stay: the first ones.
     pub(crate) staying: usize,
     /// The entries that join it.
-    pub(crate) joining: Vec<Entry>,
+    pub(crate) joining: SignedEntries,
+}
+
+/// Makes the entries at two places change places, and their signatures.
+fn exchange(entries: &mut [Entry], signatures: &mut [u64], first: usize, second: usize)
+    requires first { first ≤ second }
+    requires second { second < length entries.old }
+    requires long { length signatures.old ≡ length entries.old }
+    ensures entries { entries.new ≡ swap entries.old first second }
+    ensures signatures { signatures.new ≡ swap signatures.old first second }
+{
+    if first < second {
+        entries.swap(first, second);
+        signatures.swap(first, second);
+    }
 }
 
 /// Moves the entries that one of `others` dominates behind those that stay, each with its signature, and
@@ -42,7 +56,8 @@ fn move_back<D: Dominance>(
     entries: &mut [Entry],
     signatures: &mut [u64],
 ) -> usize
-    requires { AreSigned (entry_order (D.order dominance.now)) entries.old signatures.old others.now.entries.items others.now.signatures.items }
+    requires signed { AreSigned (entry_order (D.order dominance.now)) others.now.entries.items others.now.signatures.items entries.old signatures.old }
+    requires apart { IsApart (entry_order (D.order dominance.now)) others.now.entries.items }
     ensures permutation { IsPermutation entries.old entries.new }
     ensures within { result ≤ length entries.new }
     ensures stay { (e : Entry) → Among e (take result entries.new)
@@ -53,9 +68,15 @@ fn move_back<D: Dominance>(
 {
     let mut staying = 0;
     for place in 0..entries.len() {
-        if !is_beaten(dominance, others, &entries[place], signatures[place]) {
-            entries.swap(staying, place);
-            signatures.swap(staying, place);
+        let over = find_over(
+            dominance,
+            &others.entries,
+            &others.signatures,
+            &entries[place],
+            signatures[place],
+        );
+        if over.is_none() {
+            exchange(entries, signatures, staying, place);
             staying += 1;
         }
     }
@@ -84,38 +105,32 @@ impl Level {
         push_signatures(&mut self.signatures, cuts, &self.entries);
     }
 
-    /// How an entry compares with the level. The one that dominates it goes half way to the front, since it
+    /// Whether it dominates an entry: one of its entries does. That one goes half way to the front, since it
     /// may dominate the next one too.
-    pub(crate) fn meet<D: Dominance>(
+    pub(crate) fn dominates<D: Dominance>(
         &mut self,
         dominance: &D,
         entry: &Entry,
         signature: u64,
-    ) -> Meeting
+    ) -> bool
         requires { AreSigned (entry_order (D.order dominance.now)) self.old.entries.items self.old.signatures.items (entry.now ∷ []) (signature ∷ []) }
-        ensures meets { let over = entry_order (D.order dominance.now) in
-            IsApart over self.old.entries.items → Meets over self.old.entries.items entry.now result }
+        ensures dominates { let over = entry_order (D.order dominance.now) in
+            IsApart over self.old.entries.items → result ≡ is_beaten over self.old.entries.items entry.now }
         ensures moved { Moved self.old self.new }
     {
-        let meeting = meet(
-            dominance,
-            &self.entries,
-            &self.signatures,
-            entry,
-            signature,
-            Known::Apart,
-        );
-        if let Meeting::Beaten { place } = meeting {
-            self.entries.swap(place / 2, place);
-            self.signatures.swap(place / 2, place);
-        }
-        meeting
+        let over = find_over(dominance, &self.entries, &self.signatures, entry, signature);
+        let Some(place) = over else {
+            return false;
+        };
+        exchange(&mut self.entries, &mut self.signatures, place / 2, place);
+        true
     }
 
     /// Moves the entries that one of `others` dominates behind those that stay, and returns how many stay: at
     /// most one comparison for each pair whose signatures leave open that the other dominates the held one.
     pub(crate) fn set_apart<D: Dominance>(&mut self, dominance: &D, others: &SignedEntries) -> usize
-        requires { AreSigned (entry_order (D.order dominance.now)) self.old.entries.items self.old.signatures.items others.now.entries.items others.now.signatures.items }
+        requires signed { AreSigned (entry_order (D.order dominance.now)) others.now.entries.items others.now.signatures.items self.old.entries.items self.old.signatures.items }
+        requires apart { IsApart (entry_order (D.order dominance.now)) others.now.entries.items }
         ensures moved { Moved self.old self.new }
         ensures within { result ≤ vec_len self.new.entries }
         ensures stay { (e : Entry) → Among e (take result self.new.entries.items)
@@ -129,27 +144,32 @@ impl Level {
         move_back(dominance, others, &mut self.entries, &mut self.signatures)
     }
 
-    /// Makes room for so many more entries and their signatures.
-    pub(crate) fn reserve(&mut self, more: usize) -> Result<(), AllocError>
+    /// Makes room for what joins it.
+    pub(crate) fn reserve(&mut self, joining: &SignedEntries) -> Result<(), AllocError>
         ensures entries { self.new.entries.items ≡ self.old.entries.items }
         ensures signatures { self.new.signatures.items ≡ self.old.signatures.items }
-        ensures room { OnOk result ((n : ℕ) → n ≤ vec_len self.old.entries → vec_len self.old.signatures ≡ vec_len self.old.entries → HasRoom (n + more) self.new) }
+        ensures room { OnOk result ((n : ℕ) → n ≤ vec_len self.old.entries → n ≤ vec_len self.old.signatures
+            → HasRoom (record { staying = n; joining = joining.now }) self.new) }
     {
-        self.entries.reserve(more)?;
-        self.signatures.reserve(more)?;
+        self.entries.reserve(joining.entries.len())?;
+        self.signatures.reserve(joining.signatures.len())?;
         Ok(())
     }
 
-    /// Makes its step, for which there is room, and signs those that join it. Takes no memory.
-    pub(crate) fn make(&mut self, step: &Step, cuts: &Cuts)
-        requires { HasRoom (step.now.staying + length step.now.joining.items) self.old }
+    /// Makes its step, for which there is room. Takes no memory.
+    pub(crate) fn make(&mut self, step: &Step)
+        requires { HasRoom step.now self.old }
         ensures entries { self.new.entries.items ≡ stepped self.old.entries.items step.now }
-        ensures signed { self.old.signatures.items ≡ map (signature_by cuts.now) self.old.entries.items
-            → self.new.signatures.items ≡ map (signature_by cuts.now) self.new.entries.items }
+        ensures signed { (rule : Entry → ℕ) → IsSignedBy rule step.now.joining → self.old.signatures.items ≡ map rule self.old.entries.items
+            → self.new.signatures.items ≡ map rule self.new.entries.items }
     {
         self.entries.truncate(step.staying);
-        self.entries.extend_from_slice(&step.joining).unwrap();
+        self.entries
+            .extend_from_slice(&step.joining.entries)
+            .unwrap();
         self.signatures.truncate(step.staying);
-        push_signatures(&mut self.signatures, cuts, &step.joining);
+        self.signatures
+            .extend_from_slice(&step.joining.signatures)
+            .unwrap();
     }
 }

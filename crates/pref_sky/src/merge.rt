@@ -1,42 +1,46 @@
 //! An addition to a partial result, level by level: first it is planned, and then made without asking for
 //! memory. Held entries of one level never meet again, and none is copied but those that go down.
 
-ghost use Rattle.std.specs.Prelude.{◌≡◌, ◌≤◌, ◌<◌, ◌++◌, ◌+◌, ◌^◌, ◌==◌, ℕ, [], suc, true, Bool, List, not, filter, length, map, count_by, vec_len, IfOk, OnOk};
+ghost use Rattle.std.specs.Prelude.{◌≡◌, ◌≤◌, ◌<◌, ◌++◌, ◌⊎◌, ◌+◌, ◌^◌, ◌==◌, ℕ, [], ◌∷◌, suc, true, Bool, List, not, filter, length, map, count_by, vec_len, IfOk, OnOk};
 ghost use Rattle.std.specs.List.{list_any};
-ghost use Rattle.pref_sky.specs.Best.{best, without_best};
+ghost use Rattle.pref_sky.specs.Best.{best, is_beaten, without_best};
 ghost use Rattle.pref_sky.specs.Levels.{HaveDifferentIds, entry_of, entry_order, in_order_of_id, levels};
-ghost use Rattle.pref_sky.specs.Meetings.{is_kept, let_in};
-ghost use Rattle.pref_sky.specs.Members.{SameMembers};
-ghost use Rattle.pref_sky.specs.Partials.{HasRoom, HasRoomAt, HaveRoom, HoldTheSame, Opened, Reordered, held_at, ranked_after, ranked_from, stepped};
+ghost use Rattle.pref_sky.specs.Meetings.{IsFree, is_kept};
+ghost use Rattle.pref_sky.specs.Members.{Among, SameMembers};
+ghost use Rattle.pref_sky.specs.Partials.{AreMoved, HasRoom, HasRoomAt, HaveRoom, HoldTheSame, Opened, Reordered, held_at, ranked_after, ranked_from, stepped};
 ghost use Rattle.pref_sky.specs.Passes.{IsApart};
-ghost use Rattle.pref_sky.specs.Signatures.{AreSigned, AreSignedBy, IsSignedBy, LevelsAreSigned, Moved, signature_by};
+ghost use Rattle.pref_sky.specs.Signatures.{AreSigned, AreSignedBy, IsSignedBy, LevelsAreSigned, Moved, StepsAreSignedBy, signature_by};
+ghost use Rattle.pref_sky.specs.Starts.{AreApart, Start, StartAt, starting};
 ghost use Rattle.pref_sky.specs.declared.entry.Entry.{Entry};
 
 use crate::best::best_of_signed;
 use crate::entry::Entry;
 use crate::level::{Level, Step};
-use crate::meeting::{Losers, sift};
-use crate::ranking::holds_id;
+use crate::meeting::{Losers, find_over};
 use crate::signatures::SignedEntries;
-use pref_term::{Cuts, Dominance};
+use pref_term::Dominance;
 use std::alloc::{AllocError, Global};
 
-/// Puts the entries that aren't among the best of them behind others, each found by its id, with
-/// their signatures.
-fn push_lost(
+/// Puts entries behind others, but for the best of them, which are `top`, each with its signature.
+fn push_lost<D: Dominance>(
+    dominance: &D,
     down: &mut SignedEntries,
-    entries: &[Entry],
-    signatures: &[u64],
-    best: &[Entry],
+    entries: &SignedEntries,
+    top: &SignedEntries,
 ) -> Result<(), AllocError>
-    requires { length signatures.now ≡ length entries.now }
-    ensures lost { OnOk result ((all : List Entry) → HaveDifferentIds all → best.now ≡ in_order_of_id all
-        → down.new.entries.items ≡ down.old.entries.items ++ filter (λ e. not (list_any (λ b. b.id == e.id) best.now)) entries.now) }
-    ensures signed { OnOk result ((rule : Entry → ℕ) → signatures.now ≡ map rule entries.now → IsSignedBy rule down.old → IsSignedBy rule down.new) }
+    requires signed { AreSigned (entry_order (D.order dominance.now)) top.now.entries.items top.now.signatures.items entries.now.entries.items entries.now.signatures.items }
+    requires top { in_order_of_id top.now.entries.items ≡ in_order_of_id (best (entry_order (D.order dominance.now)) entries.now.entries.items) }
+    ensures lost { OnOk result (down.new.entries.items ≡ down.old.entries.items ++ without_best (entry_order (D.order dominance.now)) entries.now.entries.items) }
+    ensures signed { OnOk result ((rule : Entry → ℕ) → IsSignedBy rule entries.now → IsSignedBy rule down.old → IsSignedBy rule down.new) }
 {
-    for (place, entry) in entries.iter().enumerate() {
-        if !holds_id(best, entry.id) {
-            down.push(entry, signatures[place])?;
+    if top.entries.len() == entries.entries.len() {
+        return Ok(());
+    }
+    for (place, entry) in entries.entries.iter().enumerate() {
+        let signature = entries.signatures[place];
+        let over = find_over(dominance, &top.entries, &top.signatures, entry, signature);
+        if over.is_some() {
+            down.push(entry, signature)?;
         }
     }
     Ok(())
@@ -50,55 +54,51 @@ struct Merged {
     down: SignedEntries,
 }
 
-/// Plans a level's step as entries come to it, and makes room for it. The level itself keeps its entries.
+/// Plans a level's step as entries come to it that nothing held there dominates, and makes room for it. The
+/// level itself keeps its entries.
 ///
-/// Cost: one comparison at most for each pair of a held and a coming entry whose signatures leave it open,
-/// the best of those that are let in, and one comparison more at most for each pair of a held entry and one
-/// that displaces some whose signatures leave open that the latter dominates the former.
+/// Cost: the best of those that come, and at most one comparison for each pair of a held or coming entry and one
+/// of these best whose signatures leave open that the latter dominates the former.
 fn merge_level<D: Dominance>(
     alloc: Global,
     dominance: &D,
     window: usize,
     held: &mut Level,
-    coming: &[Entry],
-    signatures: &[u64],
+    coming: &SignedEntries,
     losers: Losers,
 ) -> Result<Merged, AllocError>
     requires window { 0 < window }
-    requires ids { HaveDifferentIds (held.old.entries.items ++ coming.now) }
-    requires signed { AreSigned (entry_order (D.order dominance.now)) held.old.entries.items held.old.signatures.items coming.now signatures.now }
+    requires ids { HaveDifferentIds (held.old.entries.items ++ coming.now.entries.items) }
+    requires signed { AreSigned (entry_order (D.order dominance.now)) held.old.entries.items held.old.signatures.items coming.now.entries.items coming.now.signatures.items }
     ensures moved { Moved held.old held.new }
-    ensures room { IfOk result (λ m. HasRoom (m.step.staying + length m.step.joining.items) held.new) }
-    ensures level { IfOk result (λ m. IsApart (entry_order (D.order dominance.now)) held.old.entries.items
-        → SameMembers (stepped held.new.entries.items m.step) (best (entry_order (D.order dominance.now)) (held.old.entries.items ++ coming.now))) }
-    ensures down { IfOk result (λ m. IsApart (entry_order (D.order dominance.now)) held.old.entries.items → is_kept losers ≡ true
-        → SameMembers m.down.entries.items (without_best (entry_order (D.order dominance.now)) (held.old.entries.items ++ coming.now))) }
+    ensures room { IfOk result (λ m. HasRoom m.step held.new) }
+    ensures level { let over = entry_order (D.order dominance.now) in
+        IfOk result (λ m. IsApart over held.old.entries.items → IsFree over held.old.entries.items coming.now.entries.items
+        → SameMembers (stepped held.new.entries.items m.step) (best over (held.old.entries.items ++ coming.now.entries.items))) }
+    ensures down { let over = entry_order (D.order dominance.now) in
+        IfOk result (λ m. IsApart over held.old.entries.items → IsFree over held.old.entries.items coming.now.entries.items → is_kept losers ≡ true
+        → SameMembers m.down.entries.items (without_best over (held.old.entries.items ++ coming.now.entries.items))) }
     ensures counts { IfOk result (λ m. (p : Entry → Bool)
-        → count_by p (stepped held.new.entries.items m.step) + count_by p m.down.entries.items ≤ count_by p held.old.entries.items + count_by p coming.now) }
+        → count_by p (stepped held.new.entries.items m.step) + count_by p m.down.entries.items
+        ≤ count_by p held.old.entries.items + count_by p coming.now.entries.items) }
     ensures signed { IfOk result (λ m. (rule : Entry → ℕ) → held.old.signatures.items ≡ map rule held.old.entries.items
-        → signatures.now ≡ map rule coming.now → IsSignedBy rule m.down) }
+        → IsSignedBy rule coming.now → IsSignedBy rule m.step.joining × IsSignedBy rule m.down) }
 {
-    let sifted = sift(alloc, dominance, held, coming, signatures, losers)?;
     let best = best_of_signed(
         alloc,
         dominance,
         window,
-        &sifted.let_in.entries,
-        &sifted.let_in.signatures,
+        &coming.entries,
+        &coming.signatures,
     )?;
     let joining = best.0;
-    let staying = held.set_apart(dominance, &sifted.displacing);
-    let mut down = sifted.turned_away;
+    let staying = held.set_apart(dominance, &joining);
+    let mut down = SignedEntries::new(alloc);
     if let Losers::Kept = losers {
-        push_lost(
-            &mut down,
-            &sifted.let_in.entries,
-            &sifted.let_in.signatures,
-            &joining,
-        )?;
+        push_lost(dominance, &mut down, coming, &joining)?;
         down.extend_from_slices(&held.entries[staying..], &held.signatures[staying..])?;
     }
-    held.reserve(joining.len())?;
+    held.reserve(&joining)?;
     Ok(Merged {
         step: Step { staying, joining },
         down,
@@ -127,43 +127,119 @@ fn merge_at<D: Dominance>(
     cut: u32,
     held: &mut Vec<Level>,
     above: usize,
-    coming: &[Entry],
-    signatures: &[u64],
+    coming: &SignedEntries,
 ) -> Result<Merged, AllocError>
     requires window { 0 < window }
     requires further { above < cut }
     requires within { above ≤ vec_len held.old }
-    requires ids { HaveDifferentIds (held_at above held.old.items ++ coming.now) }
-    requires signed { LevelsAreSigned (entry_order (D.order dominance.now)) held.old.items coming.now signatures.now }
+    requires ids { HaveDifferentIds (held_at above held.old.items ++ coming.now.entries.items) }
+    requires signed { LevelsAreSigned (entry_order (D.order dominance.now)) held.old.items coming.now.entries.items coming.now.signatures.items }
     ensures reordered { Reordered above held.old.items held.new.items }
     ensures bound { vec_len held.old < 2 ^ 32 → vec_len held.new < 2 ^ 32 }
     ensures there { OnOk result (above < vec_len held.new) }
-    ensures room { IfOk result (λ m. HasRoomAt (m.step.staying + length m.step.joining.items) above held.new.items) }
+    ensures room { IfOk result (λ m. HasRoomAt m.step above held.new.items) }
     ensures level { let over = entry_order (D.order dominance.now) in
-        IfOk result (λ m. IsApart over (held_at above held.old.items)
-        → SameMembers (stepped (held_at above held.new.items) m.step) (best over (held_at above held.old.items ++ coming.now))) }
+        IfOk result (λ m. IsApart over (held_at above held.old.items) → IsFree over (held_at above held.old.items) coming.now.entries.items
+        → SameMembers (stepped (held_at above held.new.items) m.step) (best over (held_at above held.old.items ++ coming.now.entries.items))) }
     ensures down { let over = entry_order (D.order dominance.now) in
-        IfOk result (λ m. IsApart over (held_at above held.old.items) → suc above < cut
-        → SameMembers m.down.entries.items (without_best over (held_at above held.old.items ++ coming.now))) }
+        IfOk result (λ m. IsApart over (held_at above held.old.items) → IsFree over (held_at above held.old.items) coming.now.entries.items → suc above < cut
+        → SameMembers m.down.entries.items (without_best over (held_at above held.old.items ++ coming.now.entries.items))) }
     ensures counts { IfOk result (λ m. (p : Entry → Bool)
         → count_by p (stepped (held_at above held.new.items) m.step) + count_by p m.down.entries.items
-        ≤ count_by p (held_at above held.old.items) + count_by p coming.now) }
-    ensures signed { IfOk result (λ m. LevelsAreSigned (entry_order (D.order dominance.now)) held.new.items m.down.entries.items m.down.signatures.items) }
+        ≤ count_by p (held_at above held.old.items) + count_by p coming.now.entries.items) }
+    ensures signed { IfOk result (λ m. (rule : Entry → ℕ) → AreSignedBy rule held.old.items
+        → IsSignedBy rule coming.now → IsSignedBy rule m.step.joining × IsSignedBy rule m.down) }
 {
     open_level(alloc, held, above)?;
     let losers = Losers::of_level(above as u32 + 1, cut);
-    merge_level(
-        alloc,
-        dominance,
-        window,
-        &mut held[above],
-        coming,
-        signatures,
-        losers,
-    )
+    merge_level(alloc, dominance, window, &mut held[above], coming, losers)
 }
 
-/// Plans the steps of the first levels up to the cut, as far down as something comes.
+/// How many of the first levels dominate an entry, up to the cut: a search by halves, since where one of the levels does,
+/// each level before it does. The last level is asked first, since most entries that come late are below it.
+fn start_of<D: Dominance>(
+    dominance: &D,
+    held: &mut Vec<Level>,
+    cut: u32,
+    entry: &Entry,
+    signature: u64,
+) -> usize
+    requires { LevelsAreSigned (entry_order (D.order dominance.now)) held.old.items (entry.now ∷ []) (signature ∷ []) }
+    ensures moved { AreMoved held.old.items held.new.items }
+    ensures start { let over = entry_order (D.order dominance.now) in AreApart over held.old.items → Start over held.old.items cut entry.now result }
+{
+    let mut low = 0;
+    let mut high = held.len().min(cut as usize);
+    let mut middle = high.saturating_sub(1);
+    while low < high {
+        if held[middle].dominates(dominance, entry, signature) {
+            low = middle + 1;
+        } else {
+            high = middle;
+        }
+        middle = low + (high - low) / 2;
+    }
+    low
+}
+
+/// For each entry, how many of the first levels dominate it, up to the cut.
+fn starts_of<D: Dominance>(
+    alloc: Global,
+    dominance: &D,
+    held: &mut Vec<Level>,
+    cut: u32,
+    entries: &[Entry],
+    signatures: &[u64],
+) -> Result<Vec<usize>, AllocError>
+    requires { LevelsAreSigned (entry_order (D.order dominance.now)) held.old.items entries.now signatures.now }
+    ensures moved { AreMoved held.old.items held.new.items }
+    ensures start { let over = entry_order (D.order dominance.now) in
+        IfOk result (λ starts. AreApart over held.old.items → StartAt over held.old.items cut entries.now starts.items) }
+    ensures long { IfOk result (λ starts. length starts.items ≡ length entries.now) }
+{
+    let mut starts = Vec::with_capacity(alloc, entries.len())?;
+    for (place, entry) in entries.iter().enumerate() {
+        starts.push(start_of(dominance, held, cut, entry, signatures[place]))?;
+    }
+    Ok(starts)
+}
+
+/// Behind how many levels no new entry starts, up to the cut.
+fn last_start(starts: &[usize], cut: u32) -> usize
+    ensures { (s : ℕ) → Among s starts.now → (s < result) ⊎ (cut ≤ s) }
+{
+    let mut last = 0;
+    for start in starts {
+        if last <= *start && *start < cut as usize {
+            last = *start + 1;
+        }
+    }
+    last
+}
+
+/// Puts the new entries that start behind the first `above` levels behind what comes down there.
+fn push_starting(
+    coming: &mut SignedEntries,
+    entries: &[Entry],
+    signatures: &[u64],
+    starts: &[usize],
+    above: usize,
+) -> Result<(), AllocError>
+    requires starts { length starts.now ≡ length entries.now }
+    requires signatures { length signatures.now ≡ length entries.now }
+    ensures entries { OnOk result (coming.new.entries.items ≡ coming.old.entries.items ++ starting above entries.now starts.now) }
+    ensures signed { OnOk result ((rule : Entry → ℕ) → signatures.now ≡ map rule entries.now → IsSignedBy rule coming.old → IsSignedBy rule coming.new) }
+{
+    for (place, start) in starts.iter().enumerate() {
+        if *start == above {
+            coming.push(&entries[place], signatures[place])?;
+        }
+    }
+    Ok(())
+}
+
+/// Plans the steps of the first levels up to the cut, as far down as something comes, for new entries that
+/// start at these levels.
 fn plan_levels<D: Dominance>(
     alloc: Global,
     dominance: &D,
@@ -172,14 +248,18 @@ fn plan_levels<D: Dominance>(
     held: &mut Vec<Level>,
     entries: &[Entry],
     signatures: &[u64],
+    starts: &[usize],
 ) -> Result<Vec<Step>, AllocError>
     requires window { 0 < window }
-    requires some { 0 < cut }
     requires ids { HaveDifferentIds (map entry_of (ranked_from 1 held.old.items) ++ entries.now) }
     requires signed { LevelsAreSigned (entry_order (D.order dominance.now)) held.old.items entries.now signatures.now }
+    requires long { length starts.now ≡ length entries.now }
+    requires start { let over = entry_order (D.order dominance.now) in AreApart over held.old.items → StartAt over held.old.items cut entries.now starts.now }
     ensures same { HoldTheSame held.old.items held.new.items }
     ensures bound { vec_len held.old < 2 ^ 32 → vec_len held.new < 2 ^ 32 }
     ensures room { IfOk result (λ steps. HaveRoom held.new.items steps.items) }
+    ensures signed { IfOk result (λ steps. (rule : Entry → ℕ) → AreSignedBy rule held.old.items → signatures.now ≡ map rule entries.now
+        → StepsAreSignedBy rule steps.items) }
     ensures counts { IfOk result (λ steps. (p : Entry → Bool)
         → count_by p (map entry_of (ranked_after 1 held.new.items steps.items))
         ≤ count_by p (map entry_of (ranked_from 1 held.old.items)) + count_by p entries.now) }
@@ -188,60 +268,24 @@ fn plan_levels<D: Dominance>(
         → ranked_from 1 held.old.items ≡ levels over before cut
         → ranked_after 1 held.new.items steps.items ≡ levels over (before ++ entries.now) cut) }
 {
+    let last = last_start(starts, cut);
     let mut steps = Vec::new(alloc);
-    let first = merge_at(alloc, dominance, window, cut, held, 0, entries, signatures)?;
-    steps.push(first.step)?;
-    let mut coming = first.down;
-    'each_level: while steps.len() < cut as usize && !coming.entries.is_empty() {
-        let next = merge_at(
-            alloc,
-            dominance,
-            window,
-            cut,
-            held,
-            steps.len(),
-            &coming.entries,
-            &coming.signatures,
-        )?;
+    let mut coming = SignedEntries::new(alloc);
+    'each_level: while steps.len() < cut as usize
+        && (steps.len() < last || !coming.entries.is_empty())
+    {
+        let above = steps.len();
+        push_starting(&mut coming, entries, signatures, starts, above)?;
+        let next = merge_at(alloc, dominance, window, cut, held, above, &coming)?;
         steps.push(next.step)?;
         coming = next.down;
     }
     Ok(steps)
 }
 
-/// The new entries that nothing held at a level dominates.
-fn let_in_by<D: Dominance>(
-    alloc: Global,
-    dominance: &D,
-    held: &mut Vec<Level>,
-    place: usize,
-    entries: &[Entry],
-    signatures: &[u64],
-) -> Result<SignedEntries, AllocError>
-    requires there { place < vec_len held.old }
-    requires signed { LevelsAreSigned (entry_order (D.order dominance.now)) held.old.items entries.now signatures.now }
-    ensures reordered { Reordered place held.old.items held.new.items }
-    ensures len { vec_len held.new ≡ vec_len held.old }
-    ensures let_in { let over = entry_order (D.order dominance.now) in
-        IfOk result (λ some. IsApart over (held_at place held.old.items) → some.entries.items ≡ let_in over (held_at place held.old.items) entries.now) }
-    ensures counts { IfOk result (λ some. (p : Entry → Bool) → count_by p some.entries.items ≤ count_by p entries.now) }
-    ensures signed { IfOk result (λ some. LevelsAreSigned (entry_order (D.order dominance.now)) held.new.items some.entries.items some.signatures.items) }
-{
-    let sifted = sift(
-        alloc,
-        dominance,
-        &mut held[place],
-        entries,
-        signatures,
-        Losers::Dropped,
-    )?;
-    Ok(sifted.let_in)
-}
-
 /// Plans the steps of the levels up to the cut, and makes room for them. What the levels hold stays.
 ///
-/// Where all the levels are there and more than one, new entries that something held at the last of them
-/// dominates are dropped first.
+/// Each new entry is handed to the first level that does not dominate it; where all do, to none.
 pub(crate) fn plan<D: Dominance>(
     alloc: Global,
     dominance: &D,
@@ -257,6 +301,8 @@ pub(crate) fn plan<D: Dominance>(
     ensures same { HoldTheSame held.old.items held.new.items }
     ensures bound { vec_len held.old < 2 ^ 32 → vec_len held.new < 2 ^ 32 }
     ensures room { IfOk result (λ steps. HaveRoom held.new.items steps.items) }
+    ensures signed { IfOk result (λ steps. (rule : Entry → ℕ) → AreSignedBy rule held.old.items → signatures.now ≡ map rule entries.now
+        → StepsAreSignedBy rule steps.items) }
     ensures counts { IfOk result (λ steps. (p : Entry → Bool)
         → count_by p (map entry_of (ranked_after 1 held.new.items steps.items))
         ≤ count_by p (map entry_of (ranked_from 1 held.old.items)) + count_by p entries.now) }
@@ -265,33 +311,20 @@ pub(crate) fn plan<D: Dominance>(
         → ranked_from 1 held.old.items ≡ levels over before cut
         → ranked_after 1 held.new.items steps.items ≡ levels over (before ++ entries.now) cut) }
 {
-    if cut == 0 {
-        return Ok(Vec::new(alloc));
-    }
-    let last = cut as usize - 1;
-    if last == 0 || last >= held.len() {
-        return plan_levels(alloc, dominance, window, cut, held, entries, signatures);
-    }
-    let some = let_in_by(alloc, dominance, held, last, entries, signatures)?;
+    let starts = starts_of(alloc, dominance, held, cut, entries, signatures)?;
     plan_levels(
-        alloc,
-        dominance,
-        window,
-        cut,
-        held,
-        &some.entries,
-        &some.signatures,
+        alloc, dominance, window, cut, held, entries, signatures, &starts,
     )
 }
 
-/// Makes the steps of the first levels, for which there is room, and signs those that join. Takes no memory.
-pub(crate) fn make_all(held: &mut Vec<Level>, steps: &[Step], cuts: &Cuts)
+/// Makes the steps of the first levels, for which there is room. Takes no memory.
+pub(crate) fn make_all(held: &mut Vec<Level>, steps: &[Step])
     requires { HaveRoom held.old.items steps.now }
     ensures items { ranked_from 1 held.new.items ≡ ranked_after 1 held.old.items steps.now }
-    ensures signed { AreSignedBy (signature_by cuts.now) held.old.items → AreSignedBy (signature_by cuts.now) held.new.items }
+    ensures signed { (rule : Entry → ℕ) → StepsAreSignedBy rule steps.now → AreSignedBy rule held.old.items → AreSignedBy rule held.new.items }
     ensures len { vec_len held.new ≡ vec_len held.old }
 {
     for (place, step) in steps.iter().enumerate() {
-        held[place].make(step, cuts);
+        held[place].make(step);
     }
 }

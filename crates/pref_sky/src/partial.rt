@@ -154,7 +154,7 @@ fn add_to<D: Dominance>(
     renew_cuts(alloc, dominance, cuts, held, entries)?;
     let signatures = signatures_of(alloc, cuts, entries)?;
     let steps = plan(alloc, dominance, window, cut, held, entries, &signatures)?;
-    make_all(held, &steps, cuts);
+    make_all(held, &steps);
     Ok(())
 }
 
@@ -191,14 +191,14 @@ impl Partial {
     /// Adds entries, of which none has an id that is held: where it held the levels 1 to `cut` of a list,
     /// it then holds those of this list followed by the new entries.
     ///
-    /// Held entries of one level are never compared with each other again. Cost: for each level that
-    /// something comes down to, one comparison for each pair of an entry held there and one that comes,
-    /// at most, one more where the latter dominates something held there, and the best of those that none
-    /// held there dominates; where the cut is above 1, first one comparison of each new entry with each held
-    /// at the last level. Once 256 entries are held, signatures spare most of these: a new entry is signed then,
-    /// and once more where it joins a level. Copied are the new entries that join a level, and those that go down one, once for each
-    /// level; what stays at a level is not. Memory: lists as long as what comes to a level, the signatures of
-    /// the new entries, and room for what joins.
+    /// Held entries of one level are never compared with each other again. Cost: for each new entry a search
+    /// by halves for the first level that does not dominate it, of which each step compares it with the
+    /// entries of one level until one dominates it or is the same; for each level that something comes to, the
+    /// best of what comes, and at most one comparison for each pair of one of these best and another entry that
+    /// is held or comes there. Once 256 entries are held, signatures spare most of these: a new entry is
+    /// signed then, once. Copied are the new entries that start at a level, those that join one, and those
+    /// that go down one; what stays at a level is not. Memory: a number for each new entry and its signature,
+    /// lists as long as what comes to a level, and room for what joins.
     ///
     /// `Err` is out of memory; the partial result is then as it was.
     pub fn add<D: Dominance>(

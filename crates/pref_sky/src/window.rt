@@ -8,6 +8,7 @@ ghost use Rattle.pref_sky.specs.declared.entry.Entry.{Entry};
 
 use crate::entry::{Entry, is_over};
 use crate::meeting::{Known, Meeting, meet};
+use crate::signatures::SignedEntries;
 use pref_term::{Dominance, is_within};
 use std::alloc::{AllocError, Global};
 use std::marker::Model;
@@ -139,7 +140,7 @@ impl SignedWindow {
     ghost use Rattle.pref_sky.specs.Levels.{entry_order};
     ghost use Rattle.pref_sky.specs.Meetings.{IsKnown};
     ghost use Rattle.pref_sky.specs.Passes.{settled};
-    ghost use Rattle.pref_sky.specs.Signatures.{AreSigned};
+    ghost use Rattle.pref_sky.specs.Signatures.{AreSigned, IsSignedBy};
     ghost use Rattle.pref_sky.specs.Windows.{Held, Offers, window_at_begin, window_entries};
     ghost use Rattle.pref_sky.specs.declared.entry.Entry.{Entry};
 
@@ -212,14 +213,16 @@ impl SignedWindow {
     /// Ends a pass: the early entries are returned as best and leave the window; the late ones stay for the
     /// next pass.
     ///
-    /// Copies the early entries once. `Err` is out of memory.
-    pub(crate) fn settle(&mut self, told: &mut Vec<Entry>) -> Result<(), AllocError>
-        ensures told { OnOk result (told.new.items ≡ told.old.items ++ self.old.window.early) }
+    /// Copies the early entries once, with their signatures. `Err` is out of memory.
+    pub(crate) fn settle(&mut self, told: &mut SignedEntries) -> Result<(), AllocError>
+        ensures told { OnOk result (told.new.entries.items ≡ told.old.entries.items ++ self.old.window.early) }
+        ensures told_signed { OnOk result ((rule : Entry → ℕ) → self.old.signatures ≡ map rule (window_entries self.old.window)
+            → IsSignedBy rule told.old → IsSignedBy rule told.new) }
         ensures window { OnOk result (self.new.window ≡ settled self.old.window) }
         ensures signed { OnOk result ((rule : Entry → ℕ) → self.old.signatures ≡ map rule (window_entries self.old.window)
             → self.new.signatures ≡ map rule (window_entries self.new.window)) }
     {
-        told.extend_from_slice(&self.entries[..self.early])?;
+        told.extend_from_slices(&self.entries[..self.early], &self.signatures[..self.early])?;
         self.entries.rotate_left(self.early);
         self.entries.truncate(self.entries.len() - self.early);
         self.signatures.rotate_left(self.early);

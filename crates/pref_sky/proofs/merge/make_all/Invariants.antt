@@ -1,5 +1,6 @@
-use Rattle.std.proofs.Common.{◌≡◌, vec_len}
-use Rattle.pref_sky.specs.Signatures.{AreSignedBy, signature_by}
+use Rattle.std.proofs.Common.{◌≡◌, ℕ, vec_len}
+use Rattle.pref_sky.specs.declared.entry.Entry.{Entry}
+use Rattle.pref_sky.specs.Signatures.{AreSignedBy, StepsAreSignedBy}
 use Rattle.pref_sky.proofs.Making.{Making}
 use Rattle.pref_sky.proofs.merge.make_all.Given as goal
 
@@ -7,6 +8,6 @@ abbrev pub invariant-loop-place : goal.invariant-loop-place
 invariant-loop-place l =
     record {
       making : Making l.fn.held.items l.held.items l.steps l.place;
-      signed : AreSignedBy (signature_by l.cuts) l.fn.held.items → AreSignedBy (signature_by l.cuts) l.held.items;
+      signed : (rule : Entry → ℕ) → StepsAreSignedBy rule l.steps → AreSignedBy rule l.fn.held.items → AreSignedBy rule l.held.items;
       len : vec_len l.held ≡ vec_len l.fn.held;
     }

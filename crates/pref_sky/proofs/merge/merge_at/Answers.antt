@@ -4,6 +4,7 @@ use Rattle.std.proofs.lemmas.Bool.{lt-ltb}
 use Rattle.std.proofs.lemmas.Result.{IfOk-weaker}
 use Rattle.pref_sky.specs.Best.{best, without_best}
 use Rattle.pref_sky.specs.Levels.{HaveDifferentIds, entry_order}
+use Rattle.pref_sky.specs.Meetings.{IsFree}
 use Rattle.pref_sky.specs.Members.{SameMembers}
 use Rattle.pref_sky.specs.Passes.{IsApart}
 use Rattle.pref_sky.specs.Partials.{held_at, stepped}
@@ -20,7 +21,7 @@ pub merge_level-requires-clause-ids : goal.merge_level-requires-clause-ids
 merge_level-requires-clause-ids g c =
     let opened = c.open_level.new.held in
     let inside : c.args.above < vec_len opened = (c.in_ok-open_level.ensures {u = tt}).there in
-    subst (λ l. HaveDifferentIds (l ++ c.args.coming.now)) (sym (here_is c.args.above c.args.held.now.items opened.items c.open_level.ensures.opened (omega (arith, inside, opened.ok.0)) c.index_mut.result.now c.index_mut.ensures.value)) c.requires.ids
+    subst (λ l. HaveDifferentIds (l ++ c.args.coming.now.entries.items)) (sym (here_is c.args.above c.args.held.now.items opened.items c.open_level.ensures.opened (omega (arith, inside, opened.ok.0)) c.index_mut.result.now c.index_mut.ensures.value)) c.requires.ids
 
 -- the level was there, and is among the others now
 there : (g : given.Over) (c : goal.After-held-1 g) → c.args.above < length c.open_level.new.held.items
@@ -43,31 +44,31 @@ returns-clause-bound g c short =
 pub returns-clause-room : goal.returns-clause-room
 returns-clause-room g c =
     let new = c.merge_level.new.held in
-    IfOk-weaker c.merge_level.result _ _ (λ m fits. room_now c.args.above c.args.held.now.items c.open_level.new.held.items c.open_level.ensures.opened (there g c) c.index_mut.result.now c.index_mut.ensures.value new (m.step.staying + length m.step.joining.items) fits) c.merge_level.ensures.room
+    IfOk-weaker c.merge_level.result _ _ (λ m fits. room_now c.args.above c.args.held.now.items c.open_level.new.held.items c.open_level.ensures.opened (there g c) c.index_mut.result.now c.index_mut.ensures.value new m.step fits) c.merge_level.ensures.room
 
 pub returns-clause-level : goal.returns-clause-level
 returns-clause-level g c =
     let over = entry_order (g.D.Dominance.order c.args.dominance.now) in
     let new = c.merge_level.new.held in
-    let coming = c.args.coming.now in
+    let coming = c.args.coming.now.entries.items in
     let old = held_at c.args.above c.args.held.now.items in
     let now = held_now c.args.above c.args.held.now.items c.open_level.new.held.items c.open_level.ensures.opened (there g c) c.index_mut.result.now c.index_mut.ensures.value new in
     IfOk-weaker c.merge_level.result _ _ (λ m level.
-    subst (λ l. IsApart over old → SameMembers (stepped l m.step) (best over (old ++ coming))) (sym now)
-    (subst (λ k. IsApart over k → SameMembers (stepped new.entries.items m.step) (best over (k ++ coming))) (here g c) level)) c.merge_level.ensures.level
+    subst (λ l. IsApart over old → IsFree over old coming → SameMembers (stepped l m.step) (best over (old ++ coming))) (sym now)
+    (subst (λ k. IsApart over k → IsFree over k coming → SameMembers (stepped new.entries.items m.step) (best over (k ++ coming))) (here g c) level)) c.merge_level.ensures.level
 
 pub returns-clause-down : goal.returns-clause-down
 returns-clause-down g c =
     let over = entry_order (g.D.Dominance.order c.args.dominance.now) in
-    let coming = c.args.coming.now in
-    IfOk-weaker c.merge_level.result _ _ (λ m down apart further.
+    let coming = c.args.coming.now.entries.items in
+    IfOk-weaker c.merge_level.result _ _ (λ m down apart free further.
     subst (λ k. SameMembers m.down.entries.items (without_best over (k ++ coming))) (here g c)
-    (down (subst (IsApart over) (sym (here g c)) apart) (c.of_level-losers.ensures ∙ lt-ltb (c.args.above + 1) c.args.cut (omega (arith, further))))) c.merge_level.ensures.down
+    (down (subst (IsApart over) (sym (here g c)) apart) (subst (λ k. IsFree over k coming) (sym (here g c)) free) (c.of_level-losers.ensures ∙ lt-ltb (c.args.above + 1) c.args.cut (omega (arith, further))))) c.merge_level.ensures.down
 
 pub returns-clause-counts : goal.returns-clause-counts
 returns-clause-counts g c =
     let new = c.merge_level.new.held in
-    let coming = c.args.coming.now in
+    let coming = c.args.coming.now.entries.items in
     let old = held_at c.args.above c.args.held.now.items in
     let now = held_now c.args.above c.args.held.now.items c.open_level.new.held.items c.open_level.ensures.opened (there g c) c.index_mut.result.now c.index_mut.ensures.value new in
     IfOk-weaker c.merge_level.result _ _ (λ m counts p.
@@ -81,26 +82,18 @@ merge_level-requires-clause-signed g c =
     let opened = c.open_level.new.held in
     let signed = c.requires.signed in
     let inside : c.args.above < vec_len opened = (c.in_ok-open_level.ensures {u = tt}).there in
-    let still : LevelsAreSigned over opened.items c.args.coming.now c.args.signatures.now =
+    let still : LevelsAreSigned over opened.items c.args.coming.now.entries.items c.args.coming.now.signatures.items =
     record {
       rule = signed.rule;
       tells = signed.tells;
       levels_by = c.open_level.ensures.opened.signed signed.rule signed.levels_by;
       coming_by = signed.coming_by;
     } in
-    one_signed over c.args.above opened.items c.index_mut.result.now c.args.coming.now c.args.signatures.now (omega (arith, inside, opened.ok.0)) c.index_mut.ensures.value still
+    one_signed over c.args.above opened.items c.index_mut.result.now c.args.coming.now.entries.items c.args.coming.now.signatures.items (omega (arith, inside, opened.ok.0)) c.index_mut.ensures.value still
 
 pub returns-clause-signed : goal.returns-clause-signed
 returns-clause-signed g c =
-    let signed = c.requires.signed in
     let opened = c.open_level.new.held.items in
     let level = c.index_mut.result.now in
-    let levels_by = c.open_level.ensures.opened.signed signed.rule signed.levels_by in
-    let r = now_reordered c.args.above c.args.held.now.items opened c.open_level.ensures.opened (there g c) level c.index_mut.ensures.value c.merge_level.new.held c.merge_level.ensures.moved in
-    IfOk-weaker c.merge_level.result _ _ (λ m down.
-    record {
-      rule = signed.rule;
-      tells = signed.tells;
-      levels_by = r.signed signed.rule signed.levels_by;
-      coming_by = down signed.rule (signed_level signed.rule c.args.above opened level (there g c) c.index_mut.ensures.value levels_by) signed.coming_by;
-    }) c.merge_level.ensures.signed
+    IfOk-weaker c.merge_level.result _ _ (λ m signed rule levels_by coming_by.
+    signed rule (signed_level rule c.args.above opened level (there g c) c.index_mut.ensures.value (c.open_level.ensures.opened.signed rule levels_by)) coming_by) c.merge_level.ensures.signed
