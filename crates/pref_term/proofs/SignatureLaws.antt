@@ -13,7 +13,7 @@ use Rattle.pref_term.specs.Leading.{cuts_base, is_by_distance, is_by_value, lead
 use Rattle.pref_term.specs.OrderLaws.{and_parts, better_order, or_parts}
 use Rattle.pref_term.specs.Preference.{Base, low, high, around, between, one_of, layered, Preference, scored, pareto, prior, reverse}
 use Rattle.pref_term.specs.Question.{Question}
-use Rattle.pref_term.specs.Signatures.{Suit, column_of, hash, reaches}
+use Rattle.pref_term.specs.Signatures.{Suit, cut_column, hash, reaches}
 use Rattle.pref_term.specs.TwinLaws.{twins_alike}
 use Rattle.pref_term.specs.declared.factor.Sense.{Sense}
 use Rattle.pref_term.specs.declared.factor.Sense.TheVariants.{Direct, Reversed}
@@ -168,7 +168,7 @@ group_cell (col ∷ cols) c a b some h =
       | inr x ↦ group_cell cols c a b x both.1
     ]
 
-reaches_as : (cut : Cut) (a b : List ℤ) → cell a (column_of cut) ≡ cell b (column_of cut) → reaches cut a ≡ reaches cut b
+reaches_as : (cut : Cut) (a b : List ℤ) → cell a (cut_column cut) ≡ cell b (cut_column cut) → reaches cut a ≡ reaches cut b
 reaches_as (AtLeast c v) a b e = ap (λ x. not (int_lt x v)) e
 reaches_as (AtMost c v) a b e = ap (λ x. not (int_lt v x)) e
 reaches_as (Far c l r d) a b e = ap (λ x. not (int_lt (outside l r x) (pos d))) e
@@ -178,8 +178,8 @@ reaches_as (Hashed c m k) a b e = ap (λ x. bit_and (hash x) m == k) e
 -- a cut of a group's column, or that leads the preference: by which way the first row is not worse does not matter
 suiting_keeps : (q : Question) (cut : Cut) (a b : List ℤ) → (leads q.preference Direct cut ≡ true → reaches cut a ≡ true → reaches cut b ≡ true) → in_same_group q.group a b ≡ true → suits q.preference q.group cut ≡ true → reaches cut a ≡ true → reaches cut b ≡ true
 suiting_keeps q cut a b keeps near is h =
-    elim (or_parts (list_any (λ col. column_of cut == col) q.group) (leads q.preference Direct cut) is) [
-      | inl x ↦ sym (reaches_as cut a b (group_cell q.group (column_of cut) a b x near)) ∙ h
+    elim (or_parts (list_any (λ col. cut_column cut == col) q.group) (leads q.preference Direct cut) is) [
+      | inl x ↦ sym (reaches_as cut a b (group_cell q.group (cut_column cut) a b x near)) ∙ h
       | inr x ↦ keeps x h
     ]
 

@@ -5,7 +5,7 @@ use Rattle.std.specs.List.{list_any}
 use Rattle.std.specs.Ordering.{int_eq}
 use Rattle.pref_term.specs.Factors.{opposite}
 use Rattle.pref_term.specs.Preference.{Base, low, high, around, one_of, Preference, scored, pareto, prior, reverse, between, layered}
-use Rattle.pref_term.specs.Signatures.{column_of}
+use Rattle.pref_term.specs.Signatures.{cut_column}
 use Rattle.pref_term.specs.declared.factor.Sense.{Sense}
 use Rattle.pref_term.specs.declared.factor.Sense.TheVariants.{Direct, Reversed}
 use Rattle.pref_term.specs.declared.signature.cut.Cut.{Cut}
@@ -41,4 +41,4 @@ leads (reverse p) sense cut = leads p (opposite sense) cut
 
 -- a cut that suits this preference in these groups
 abbrev pub suits : Preference → List ℕ → Cut → Bool
-suits p group cut = list_any (λ col. column_of cut == col) group || leads p Direct cut
+suits p group cut = list_any (λ col. cut_column cut == col) group || leads p Direct cut

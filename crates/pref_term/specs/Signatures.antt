@@ -7,12 +7,12 @@ use Rattle.pref_term.specs.declared.signature.cut.Cut.{Cut}
 use Rattle.pref_term.specs.declared.signature.cut.Cut.TheVariants.{AtLeast, AtMost, Far, Near, Hashed}
 
 -- the column that a cut reads
-abbrev pub column_of : Cut → ℕ
-column_of (AtLeast col value) = col
-column_of (AtMost col value) = col
-column_of (Far col left right distance) = col
-column_of (Near col left right distance) = col
-column_of (Hashed col mask bits) = col
+abbrev pub cut_column : Cut → ℕ
+cut_column (AtLeast col value) = col
+cut_column (AtMost col value) = col
+cut_column (Far col left right distance) = col
+cut_column (Near col left right distance) = col
+cut_column (Hashed col mask bits) = col
 
 -- the hash of a cell: its bits as a number, times an odd one near 2^64 over the golden ratio (this project)
 abbrev pub hash : ℤ → ℕ

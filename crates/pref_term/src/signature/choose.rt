@@ -3,7 +3,7 @@ ghost use Rattle.std.specs.Prelude.{◌<◌, All, IfOk, OnOk};
 ghost use Rattle.pref_term.specs.Columns.{ReadsBelow};
 ghost use Rattle.pref_term.specs.Factors.{AreInRow, preference_of_factor};
 ghost use Rattle.pref_term.specs.Preference.{preference_of};
-ghost use Rattle.pref_term.specs.Signatures.{column_of};
+ghost use Rattle.pref_term.specs.Signatures.{cut_column};
 
 use crate::factor::{Factor, Sense, outside};
 use crate::signature::cut::Cut;
@@ -60,7 +60,7 @@ fn push_leading(parts: &mut Vec<Factor>, term: &Term, sense: Sense) -> Result<()
 /// The cut through these distances that a row just reaches.
 fn cut_at_distance(col: usize, left: i64, right: i64, sense: Sense, row: &Row) -> Cut
     requires { col < 16 }
-    ensures { column_of result < 16 }
+    ensures { cut_column result < 16 }
 {
     let distance = outside(row.cell(col), left, right);
     match sense {
@@ -82,7 +82,7 @@ fn cut_at_distance(col: usize, left: i64, right: i64, sense: Sense, row: &Row) -
 /// The cut through a factor's scores that a row just reaches.
 fn cut_at(factor: Factor, row: &Row) -> Cut
     requires { ReadsBelow 16 (preference_of_factor factor) }
-    ensures { column_of result < 16 }
+    ensures { cut_column result < 16 }
 {
     match factor {
         Factor::Low { col } => Cut::AtLeast {
@@ -108,8 +108,8 @@ fn cut_at(factor: Factor, row: &Row) -> Cut
 /// Puts a cut through the factor's scores at each row of the sample behind these.
 fn push_cuts(cuts: &mut Vec<Cut>, factor: Factor, sample: &[Row]) -> Result<(), AllocError>
     requires factor { ReadsBelow 16 (preference_of_factor factor) }
-    requires within { All (λ cut. column_of cut < 16) cuts.old.items }
-    ensures { OnOk result (All (λ cut. column_of cut < 16) cuts.new.items) }
+    requires within { All (λ cut. cut_column cut < 16) cuts.old.items }
+    ensures { OnOk result (All (λ cut. cut_column cut < 16) cuts.new.items) }
 {
     for row in sample {
         cuts.push(cut_at(factor, row))?;
@@ -120,7 +120,7 @@ fn push_cuts(cuts: &mut Vec<Cut>, factor: Factor, sample: &[Row]) -> Result<(), 
 /// The different cuts through the factor's scores that the rows of the sample just reach, in order.
 fn marks_of(alloc: Global, factor: Factor, sample: &[Row]) -> Result<Vec<Cut>, AllocError>
     requires { ReadsBelow 16 (preference_of_factor factor) }
-    ensures { IfOk result (λ marks. All (λ cut. column_of cut < 16) marks.items) }
+    ensures { IfOk result (λ marks. All (λ cut. cut_column cut < 16) marks.items) }
 {
     let mut marks = Vec::new(alloc);
     push_cuts(&mut marks, factor, sample)?;
@@ -132,9 +132,9 @@ fn marks_of(alloc: Global, factor: Factor, sample: &[Row]) -> Result<Vec<Cut>, A
 /// Puts the cut in the middle of each of this many equal shares of the marks behind these; each mark where there are no more.
 fn push_shares(cuts: &mut Vec<Cut>, marks: &[Cut], shares: usize) -> Result<(), AllocError>
     requires shares { 0 < shares }
-    requires marks { All (λ cut. column_of cut < 16) marks.now }
-    requires within { All (λ cut. column_of cut < 16) cuts.old.items }
-    ensures { OnOk result (All (λ cut. column_of cut < 16) cuts.new.items) }
+    requires marks { All (λ cut. cut_column cut < 16) marks.now }
+    requires within { All (λ cut. cut_column cut < 16) cuts.old.items }
+    ensures { OnOk result (All (λ cut. cut_column cut < 16) cuts.new.items) }
 {
     let share = marks.len().div_ceil(shares).max(1);
     for (place, mark) in marks.iter().enumerate() {
@@ -149,8 +149,8 @@ fn push_shares(cuts: &mut Vec<Cut>, marks: &[Cut], shares: usize) -> Result<(), 
 /// signature is within the other.
 fn push_hashed(cuts: &mut Vec<Cut>, col: usize, bits: usize) -> Result<(), AllocError>
     requires col { col < 16 }
-    requires within { All (λ cut. column_of cut < 16) cuts.old.items }
-    ensures { OnOk result (All (λ cut. column_of cut < 16) cuts.new.items) }
+    requires within { All (λ cut. cut_column cut < 16) cuts.old.items }
+    ensures { OnOk result (All (λ cut. cut_column cut < 16) cuts.new.items) }
 {
     let mut mask = FIRST_BIT;
     for _ in 0..bits {
@@ -168,8 +168,8 @@ fn push_hashed(cuts: &mut Vec<Cut>, col: usize, bits: usize) -> Result<(), Alloc
 /// Puts cuts by hashes for each column of a group behind these.
 fn push_group(cuts: &mut Vec<Cut>, group: &[usize]) -> Result<(), AllocError>
     requires group { All (λ col. col < 16) group.now }
-    requires within { All (λ cut. column_of cut < 16) cuts.old.items }
-    ensures { OnOk result (All (λ cut. column_of cut < 16) cuts.new.items) }
+    requires within { All (λ cut. cut_column cut < 16) cuts.old.items }
+    ensures { OnOk result (All (λ cut. cut_column cut < 16) cuts.new.items) }
 {
     let bits = HASH_BITS.div_ceil(group.len().max(1));
     for col in group {

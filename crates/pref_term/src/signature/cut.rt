@@ -2,7 +2,7 @@
 ghost use Rattle.std.specs.Prelude.{◌≡◌, ◌<◌};
 ghost use Rattle.pref_term.specs.Leading.{is_by_distance, is_by_value, leads, suits};
 ghost use Rattle.pref_term.specs.Preference.{preference_of};
-ghost use Rattle.pref_term.specs.Signatures.{column_of, hash, reaches};
+ghost use Rattle.pref_term.specs.Signatures.{cut_column, hash, reaches};
 
 use crate::factor::{Sense, outside};
 use crate::term::Term;
@@ -60,7 +60,7 @@ fn hash(value: i64) -> u64
 impl Cut {
     /// The column that it reads.
     fn column(self) -> usize
-        ensures { result ≡ column_of self }
+        ensures { result ≡ cut_column self }
     {
         match self {
             Cut::AtLeast { col, .. }
@@ -74,7 +74,7 @@ impl Cut {
     /// Whether a row reaches this cut. By reference, so that no more of it is read than its kind needs.
     #[inline(always)]
     pub(super) fn reaches(&self, row: &Row) -> bool
-        requires { column_of self.now < 16 }
+        requires { cut_column self.now < 16 }
         ensures { result ≡ reaches self.now row.now }
     {
         match self {

@@ -3,7 +3,7 @@ ghost use Rattle.std.specs.Prelude.{◌≡◌, ◌<◌, true, All, List, []};
 ghost use Rattle.std.specs.List.{list_all};
 ghost use Rattle.pref_term.specs.Leading.{suits};
 ghost use Rattle.pref_term.specs.Preference.{preference_of};
-ghost use Rattle.pref_term.specs.Signatures.{column_of, signature};
+ghost use Rattle.pref_term.specs.Signatures.{cut_column, signature};
 
 use crate::signature::cut::Cut;
 use crate::term::Term;
@@ -21,14 +21,14 @@ pub struct Cuts {
 impl Model for Cuts {
     ghost use Rattle.std.specs.Prelude.{◌<◌, All, List, []};
     ghost use Rattle.std.specs.Option.{option_map_or};
-    ghost use Rattle.pref_term.specs.Signatures.{column_of};
+    ghost use Rattle.pref_term.specs.Signatures.{cut_column};
     ghost use Rattle.pref_term.specs.declared.signature.cut.Cut.{Cut};
 
     ghost Value = { List Cut };
 
     ghost view = { λ c. option_map_or (λ v. v.items) c.cuts [] };
 
-    ghost invariant = { λ c. All (λ cut. column_of cut < 16) (option_map_or (λ v. v.items) c.cuts []) };
+    ghost invariant = { λ c. All (λ cut. cut_column cut < 16) (option_map_or (λ v. v.items) c.cuts []) };
 }
 
 impl Cuts {
@@ -41,7 +41,7 @@ impl Cuts {
 
     /// These cuts. Of more than 64 the last 64 have bits. Takes no memory.
     pub fn of(cuts: Vec<Cut>) -> Cuts
-        requires { All (λ cut. column_of cut < 16) cuts.items }
+        requires { All (λ cut. cut_column cut < 16) cuts.items }
         ensures { result ≡ cuts.items }
     {
         Cuts { cuts: Some(cuts) }
@@ -50,7 +50,7 @@ impl Cuts {
     /// The cuts.
     pub fn as_slice(&self) -> &[Cut]
         ensures cuts { result.now ≡ self.now }
-        ensures within { All (λ cut. column_of cut < 16) result.now }
+        ensures within { All (λ cut. cut_column cut < 16) result.now }
     {
         match &self.cuts {
             None => &[],
