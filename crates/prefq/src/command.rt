@@ -1,16 +1,16 @@
 //! A command line as an event, or why it is refused.
-ghost use Rattle.std.specs.Prelude.{◌≡◌, length, Ok};
+ghost use Rattle.std.specs.Prelude.{◌≡◌, length, Ok, Some};
 ghost use Rattle.pref_table.specs.Rows.{line_row};
 ghost use Rattle.pref_term.specs.Asked.{asked};
-ghost use Rattle.prefq.specs.Commands.{act_by, act_of, change_of, event_of, of_question, of_values};
-ghost use Rattle.prefq.specs.Forms.{said};
+ghost use Rattle.prefq.specs.Commands.{change_of, event_of, event_said, of_question, of_values};
+ghost use Rattle.prefq.specs.Forms.{begins, changes, commits, said};
 ghost use Rattle.prefq.specs.Pieces.{change_said};
 ghost use Rattle.prefq.specs.Reading.{Reads};
 
 use crate::commits::read_commit;
 use crate::forms::{Form, read_form};
 use crate::pieces::ChangeForm;
-use pref_core::{Act, BoxedCommit, Change, Commit, CoreFault, Event};
+use pref_core::{Act, BoxedCommit, Change, CoreFault, Event};
 use pref_table::{Row, Schema, TableFault, read_row};
 use pref_term::{Ask, TermFault, read_ask};
 use std::alloc::Global;
@@ -66,42 +66,75 @@ pub fn read_change(schema: &Schema, form: ChangeForm<'_>) -> Result<Change, Stop
     }
 }
 
-/// The act that makes one change.
-fn act_of(change: Change) -> Act
-    ensures { result ≡ act_by change }
+/// The event of a client's change. Its row is read into the event.
+#[tactic(auto, unfolding(crate::specs::Commands::act_of, crate::specs::Commands::change_of))]
+fn change_event(schema: &Schema, client: u8, form: ChangeForm<'_>) -> Result<Event, Stop>
+    ensures { Reads result (event_said schema.now (Some (client, changes (change_said form.entry)))) }
 {
-    match change {
-        Change::Add(row) => Act::Insert(row),
-        Change::Set(id, row) => Act::Update(id, row),
-        Change::Remove(id) => Act::Delete(id),
+    match form {
+        ChangeForm::Insert(values) => Ok(Event {
+            client,
+            act: Act::Insert(read_values(schema, values)?),
+        }),
+        ChangeForm::Update(id, values) => Ok(Event {
+            client,
+            act: Act::Update(id, read_values(schema, values)?),
+        }),
+        ChangeForm::Delete(id) => Ok(Event {
+            client,
+            act: Act::Delete(id),
+        }),
     }
 }
 
-/// The act that makes a commit.
-fn commit_act(alloc: Global, commit: Commit) -> Result<Act, Stop>
-    ensures { Reads result (Ok (Act.Commit commit)) }
+/// The event of a client's commit. It stays a call of its own, since whoever holds the room of a whole commit clears it first.
+#[inline(never)]
+#[tactic(auto, unfolding(crate::specs::Commands::act_of))]
+fn commit_event(alloc: Global, schema: &Schema, client: u8, pieces: &[u8]) -> Result<Event, Stop>
+    ensures { Reads result (event_said schema.now (Some (client, commits pieces.now))) }
 {
-    match BoxedCommit::new(alloc, commit) {
-        Ok(commit) => Ok(Act::Commit(commit)),
+    match BoxedCommit::new(alloc, read_commit(schema, pieces)?) {
+        Ok(commit) => Ok(Event {
+            client,
+            act: Act::Commit(commit),
+        }),
         Err(_) => Err(Stop::OutOfMemory),
     }
 }
 
-/// The act that a form says, its values, its pieces or its question read.
+/// The event of a client's question.
+#[inline(never)]
 #[tactic(auto, unfolding(crate::specs::Commands::act_of))]
-fn read_act(alloc: Global, schema: &Schema, form: Form<'_>) -> Result<Act, Stop>
-    ensures { Reads result (act_of schema.now (said form.entry)) }
+fn question_event(
+    alloc: Global,
+    schema: &Schema,
+    client: u8,
+    question: &[u8],
+) -> Result<Event, Stop>
+    ensures { Reads result (event_said schema.now (Some (client, begins question.now))) }
 {
-    match form {
-        Form::Change(change) => Ok(act_of(read_change(schema, change)?)),
-        Form::Commit(pieces) => commit_act(alloc, read_commit(schema, pieces)?),
-        Form::Begin(question) => Ok(Act::Begin(read_question(alloc, schema, question)?)),
-        Form::Scan => Ok(Act::Scan),
-        Form::Finish => Ok(Act::Finish),
-        Form::Abandon => Ok(Act::Abandon),
-        Form::Get(id) => Ok(Act::Get(id)),
-        Form::Room => Ok(Act::Room),
-    }
+    Ok(Event {
+        client,
+        act: Act::Begin(read_question(alloc, schema, question)?),
+    })
+}
+
+/// The event of what a client's line says, its values, its pieces or its question read.
+#[tactic(auto, unfolding(crate::specs::Commands::act_of))]
+fn form_event(alloc: Global, schema: &Schema, client: u8, form: Form<'_>) -> Result<Event, Stop>
+    ensures { Reads result (event_said schema.now (Some (client, said form.entry))) }
+{
+    let act = match form {
+        Form::Change(change) => return change_event(schema, client, change),
+        Form::Commit(pieces) => return commit_event(alloc, schema, client, pieces),
+        Form::Begin(question) => return question_event(alloc, schema, client, question),
+        Form::Scan => Act::Scan,
+        Form::Finish => Act::Finish,
+        Form::Abandon => Act::Abandon,
+        Form::Get(id) => Act::Get(id),
+        Form::Room => Act::Room,
+    };
+    Ok(Event { client, act })
 }
 
 /// The event of a command line. Its form is tested first, then its values, its pieces or its question.
@@ -111,6 +144,5 @@ pub fn read_event(alloc: Global, schema: &Schema, line: &[u8]) -> Result<Event, 
     let Some((client, form)) = read_form(line) else {
         return Err(Stop::Refused(Refusal::NotCommand));
     };
-    let act = read_act(alloc, schema, form)?;
-    Ok(Event { client, act })
+    form_event(alloc, schema, client, form)
 }
