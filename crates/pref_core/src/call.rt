@@ -303,7 +303,7 @@ impl Op {
     }
 }
 
-/// An [`Op`] whose call is lent: it takes 88 bytes, and an op 1,240, since a call has room for a commit of eight rows.
+/// An [`Op`] whose call is lent: it takes 80 bytes, and an op 1,240, since a call has room for a commit of eight rows.
 #[derive(Clone, Copy)]
 pub(crate) struct Planned<'a> {
     pub(crate) client: u8,

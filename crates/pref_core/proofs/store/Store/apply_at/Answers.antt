@@ -1,4 +1,4 @@
-use Rattle.std.proofs.Common.{◌≡◌, sym, subst, ap, ◌∙◌}
+use Rattle.std.proofs.Common.{sym, subst, ap, ◌∙◌}
 use Rattle.pref_core.specs.declared.call.Op.{Op}
 use Rattle.pref_core.specs.Indexes.{IsReady}
 use Rattle.pref_core.specs.Operations.{AppliesIn, IsPlan, applied}

@@ -1,7 +1,7 @@
-use Rattle.std.proofs.Common.{◌≡◌, ◌+◌, Some, refl, sym, ap, ◌∙◌, subst, arith}
+use Rattle.std.proofs.Common.{◌≡◌, ◌+◌, Some, refl, sym, ap, ◌∙◌, arith}
 use Rattle.pref_core.specs.declared.call.Op.{Op}
 use Rattle.pref_core.specs.declared.store.Store.TheInside.{Inside}
-use Rattle.pref_core.specs.Operations.{IsPlan, outcome_at}
+use Rattle.pref_core.specs.Operations.{outcome_at}
 use Rattle.pref_core.specs.Slots.{Contents}
 use Rattle.pref_core.specs.State.{seat, refusal_of}
 use Rattle.pref_core.proofs.Legal.{is_next-planned}
