@@ -2,6 +2,7 @@
 mod answers;
 mod cuttings;
 mod fixtures;
+mod groups;
 mod passes;
 mod plain;
 mod refusals;

@@ -24,7 +24,7 @@ StaysInGroups over same = (a b : Entry) → over a b ≡ true → same a.row b.r
 abbrev pub level_of : (Entry → Entry → Bool) → List Entry → ℕ → List Ranked
 level_of over all n = map (at_level (suc n)) (in_order_of_id (best over (rest over all n)))
 
-among_map : {A B : Type 0} (f : A → B) (xs : List A) (x : A) → Among x xs → Among (f x) (map f xs)
+pub among_map : {A B : Type 0} (f : A → B) (xs : List A) (x : A) → Among x xs → Among (f x) (map f xs)
 among_map f [] x m = absurd m
 among_map f (y ∷ ys) x m = elim m [ inl e ↦ inl (ap f e) | inr r ↦ inr (among_map f ys x r) ]
 

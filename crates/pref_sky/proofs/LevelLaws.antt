@@ -48,12 +48,12 @@ answer_of_same ask xs ys dx dy same =
     selected_of_same (entry_order (order_of ask)) strict (in_same_group ask.group) (entry_order_stays_in_groups ask) ask.mode xs ys (levels_of_same (entry_order (order_of ask)) strict xs ys dx dy same)
 
 -- two tests of which an entry passes one at most, and then a third
-count_both : {E : Type 0} (p q r : E → Bool) (xs : List E) → ((x : E) → cond (p x) 1 0 + cond (q x) 1 0 ≤ cond (r x) 1 0) → count_by p xs + count_by q xs ≤ count_by r xs
+pub count_both : {E : Type 0} (p q r : E → Bool) (xs : List E) → ((x : E) → cond (p x) 1 0 + cond (q x) 1 0 ≤ cond (r x) 1 0) → count_by p xs + count_by q xs ≤ count_by r xs
 count_both p q r [] each = omega arith
 count_both p q r (x ∷ xs) each =
     omega (arith, each x, count_both p q r xs each, sum_by-cons (λ y. cond (p y) 1 0) x xs, sum_by-cons (λ y. cond (q y) 1 0) x xs, sum_by-cons (λ y. cond (r y) 1 0) x xs)
 
-count_filtered : {E : Type 0} (p q : E → Bool) (xs : List E) → count_by p (filter q xs) ≡ count_by (λ x. p x && q x) xs
+pub count_filtered : {E : Type 0} (p q : E → Bool) (xs : List E) → count_by p (filter q xs) ≡ count_by (λ x. p x && q x) xs
 count_filtered p q [] = refl
 count_filtered p q (x ∷ xs) =
     let deeper = count_filtered p q xs in
@@ -70,7 +70,7 @@ one_at_most true false true h = absurd (both_ways false refl (h refl))
 one_at_most true false false h = omega arith
 one_at_most false a b h = omega arith
 
-count_and : {E : Type 0} (p q : E → Bool) (xs : List E) → count_by (λ x. p x && q x) xs ≤ count_by p xs
+pub count_and : {E : Type 0} (p q : E → Bool) (xs : List E) → count_by (λ x. p x && q x) xs ≤ count_by p xs
 count_and p q [] = omega arith
 count_and p q (x ∷ xs) =
     let here = elim (p x) as (λ b. cond {A = ℕ} (b && q x) 1 0 ≤ cond b 1 0) [ true ↦ elim (q x) as (λ b. cond {A = ℕ} b 1 0 ≤ 1) [ true ↦ omega arith | false ↦ omega arith ] | false ↦ omega arith ] in

@@ -27,3 +27,8 @@ pub mod Planning
 pub mod Making
 pub mod Opening
 pub mod Starting
+pub mod Ranks
+pub mod PartLaws
+pub mod Listings
+pub mod PartSteps
+pub mod PartLoops

@@ -59,7 +59,7 @@ module _ (first held : List Level) (steps : List Step) (place : ℕ) (step : Ste
           room = subst (λ l. HaveRoom l (drop (suc place) steps)) (sym back) both.1;
         })
 
-after_none : (n : ℕ) (held : List Level) → ranked_after n held [] ≡ ranked_from n held
+pub after_none : (n : ℕ) (held : List Level) → ranked_after n held [] ≡ ranked_from n held
 after_none n [] = refl
 after_none n (level ∷ behind) = refl
 

@@ -10,10 +10,14 @@ use Rattle.pref_sky.specs.Levels.{HaveDifferentIds, put_by_id, in_order_of_id}
 pub use Rattle.pref_sky.specs.Members.{SameMembers}
 use Rattle.pref_sky.proofs.Members.{Among}
 
+-- each stands before all later ones
+abbrev pub RisesBy : {E : Type 0} → (E → E → Type 0) → List E → Type 0
+RisesBy before [] = Unit {0}
+RisesBy {E = E} before (e ∷ others) = ((x : E) → Among x others → before e x) × RisesBy before others
+
 -- each id is below all later ones
 abbrev pub Rises : List Entry → Type 0
-Rises [] = Unit {0}
-Rises (e ∷ others) = ((x : Entry) → Among x others → e.id < x.id) × Rises others
+Rises entries = RisesBy (λ (e x : Entry). e.id < x.id) entries
 
 pub one_passes : {E : Type 0} (p : E → Bool) (xs : List E) (x : E) → Among x xs → p x ≡ true → 1 ≤ count_by p xs
 one_passes p [] x m t = absurd m
@@ -82,29 +86,32 @@ rises_in_order (e ∷ others) different =
     rises_put e (in_order_of_id others) (rises_in_order others (different_tail e others different)) (λ x m. different_later e others different x (from_in_order others x m))
 
 -- two lists that rise and have the same members are one
-pub same_if_rise : (xs ys : List Entry) → Rises xs → Rises ys → SameMembers xs ys → xs ≡ ys
-same_if_rise [] [] rx ry same = refl
-same_if_rise [] (y ∷ ys) rx ry same = absurd (same.back y (inl refl))
-same_if_rise (x ∷ xs) [] rx ry same = absurd (same.there x (inl refl))
-same_if_rise (x ∷ xs) (y ∷ ys) rx ry same =
+pub same_if_rise : {E : Type 0} (before : E → E → Type 0) → ((x y : E) → before x y → before y x → ⊥) → (xs ys : List E) → RisesBy before xs → RisesBy before ys → SameMembers xs ys → xs ≡ ys
+same_if_rise before one_way [] [] rx ry same = refl
+same_if_rise before one_way [] (y ∷ ys) rx ry same = absurd (same.back y (inl refl))
+same_if_rise before one_way (x ∷ xs) [] rx ry same = absurd (same.there x (inl refl))
+same_if_rise before one_way (x ∷ xs) (y ∷ ys) rx ry same =
     let heads : x ≡ y =
     elim (same.there x (inl refl)) [
       | inl e ↦ e
       | inr later ↦ elim (same.back y (inl refl)) [
         | inl e ↦ sym e
-        | inr after ↦ absurd (omega (arith, ry.0 x later, rx.0 y after))
+        | inr after ↦ absurd (one_way x y (rx.0 y after) (ry.0 x later))
       ]
     ] in
     let tails : xs ≡ ys =
-    same_if_rise xs ys rx.1 ry.1 (record {
-      there = λ z m. elim (same.there z (inr m)) [ inl e ↦ absurd (let below = rx.0 z m in let ids = ap (λ (w : Entry). w.id) (e ∙ sym heads) in omega (arith, below, ids)) | inr r ↦ r ];
-      back = λ z m. elim (same.back z (inr m)) [ inl e ↦ absurd (let below = ry.0 z m in let ids = ap (λ (w : Entry). w.id) (e ∙ heads) in omega (arith, below, ids)) | inr r ↦ r ];
+    same_if_rise before one_way xs ys rx.1 ry.1 (record {
+      there = λ z m. elim (same.there z (inr m)) [ inl e ↦ absurd (let itself : before x x = subst (before x) (e ∙ sym heads) (rx.0 z m) in one_way x x itself itself) | inr r ↦ r ];
+      back = λ z m. elim (same.back z (inr m)) [ inl e ↦ absurd (let itself : before y y = subst (before y) (e ∙ heads) (ry.0 z m) in one_way y y itself itself) | inr r ↦ r ];
     }) in
-    ap (λ (w : Entry). w ∷ xs) heads ∙ ap (λ l. y ∷ l) tails
+    ap (λ w. w ∷ xs) heads ∙ ap (λ l. y ∷ l) tails
+
+ids_one_way : (x y : Entry) → x.id < y.id → y.id < x.id → ⊥
+ids_one_way x y below above = omega (arith, below, above)
 
 pub same_in_order : (xs ys : List Entry) → HaveDifferentIds xs → HaveDifferentIds ys → SameMembers xs ys → in_order_of_id xs ≡ in_order_of_id ys
 same_in_order xs ys dx dy same =
-    same_if_rise (in_order_of_id xs) (in_order_of_id ys) (rises_in_order xs dx) (rises_in_order ys dy) (record {
+    same_if_rise (λ (e x : Entry). e.id < x.id) ids_one_way (in_order_of_id xs) (in_order_of_id ys) (rises_in_order xs dx) (rises_in_order ys dy) (record {
       there = λ x m. among_in_order ys x (same.there x (from_in_order xs x m));
       back = λ x m. among_in_order xs x (same.back x (from_in_order ys x m));
     })
@@ -147,7 +154,7 @@ same_if_permuted xs ys moved =
 pub sorted_is : (xs ys : List Entry) → IsPermutation xs ys → IsNonDecreasingBy (λ (e : Entry). e.id) ys → HaveDifferentIds xs → ys ≡ in_order_of_id xs
 sorted_is xs ys moved sorted different =
     let same = same_if_permuted xs ys moved in
-    same_if_rise ys (in_order_of_id xs)
+    same_if_rise (λ (e x : Entry). e.id < x.id) ids_one_way ys (in_order_of_id xs)
     (rises_if_sorted ys sorted (record { once = λ id. omega (arith, different.once id, sum_by-IsPermutation (λ (e : Entry). cond (eqb e.id id) 1 0) xs ys moved) }))
     (rises_in_order xs different)
     (record { there = λ x m. among_in_order xs x (same.back x m); back = λ x m. same.there x (from_in_order xs x m) })

@@ -9,3 +9,5 @@ pub mod Signatures
 pub mod Passes
 pub mod Partials
 pub mod Starts
+pub mod Parts
+pub mod Held

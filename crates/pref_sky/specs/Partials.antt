@@ -1,12 +1,12 @@
 -- No public contract cites this.
 -- What a partial result holds, level by level, and what the steps of an addition make of it.
-use Rattle.std.specs.Prelude.{⊤, ◌≡◌, ◌≤◌, ◌+◌, ℕ, zero, suc, List, [], ◌∷◌, ◌++◌, length, map, take, drop, vec_capacity}
+use Rattle.std.specs.Prelude.{⊤, ◌≡◌, ◌≤◌, ◌+◌, ℕ, zero, suc, List, [], ◌∷◌, ◌++◌, Bool, length, map, count_by, take, drop, vec_capacity}
 use Rattle.std.specs.List.Sorted.{IsPermutation}
 use Rattle.pref_sky.specs.declared.entry.Entry.{Entry}
 use Rattle.pref_sky.specs.declared.entry.Ranked.{Ranked}
 use Rattle.pref_sky.specs.declared.level.Level.{Level}
 use Rattle.pref_sky.specs.declared.level.Step.{Step}
-use Rattle.pref_sky.specs.Levels.{at_level, in_order_of_id}
+use Rattle.pref_sky.specs.Levels.{HaveDifferentIds, at_level, entry_of, in_order_of_id, levels}
 use Rattle.pref_sky.specs.Signatures.{AreSignedBy, Moved}
 
 -- the entries of levels of which the first is the n-th, in order of level, then id
@@ -73,3 +73,9 @@ pub record Opened (n : ℕ) (old new : List Level) : Type 0 where
 pub record HoldTheSame (old new : List Level) : Type 0 where
   pub ranked : ranked_from 1 new ≡ ranked_from 1 old
   pub signed : (rule : Entry → ℕ) → AreSignedBy rule old → AreSignedBy rule new
+
+-- steps that make of levels, reordered, what an addition of these entries is to leave
+pub record IsPlanned (over : Entry → Entry → Bool) (cut : ℕ) (old new : List Level) (coming : List Entry) (steps : List Step) : Type 0 where
+  pub room : HaveRoom new steps
+  pub counts : (p : Entry → Bool) → count_by p (map entry_of (ranked_after 1 new steps)) ≤ count_by p (map entry_of (ranked_from 1 old)) + count_by p coming
+  pub merged : (before : List Entry) → HaveDifferentIds (before ++ coming) → ranked_from 1 old ≡ levels over before cut → ranked_after 1 new steps ≡ levels over (before ++ coming) cut

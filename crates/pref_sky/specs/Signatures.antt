@@ -1,6 +1,7 @@
 -- No public contract cites this.
 -- Signatures beside entries: words of which most show that one entry does not dominate another.
 use Rattle.std.specs.Prelude.{⊤, ◌≡◌, true, ℕ, Bool, List, [], ◌∷◌, map}
+use Rattle.std.specs.Coded.{Coded-set, Unit-prop, coded_list, coded_ℕ, ×_prop}
 use Rattle.std.specs.List.Sorted.{IsPermutation}
 use Rattle.pref_term.specs.declared.signature.cut.Cut.{Cut}
 use Rattle.pref_term.specs.Signatures.{is_within, signature}
@@ -34,6 +35,10 @@ IsSignedBy rule some = some.signatures.items ≡ map rule some.entries.items
 abbrev pub AreSignedBy : (Entry → ℕ) → List Level → Type 0
 AreSignedBy rule [] = ⊤
 AreSignedBy rule (level ∷ behind) = (level.signatures.items ≡ map rule level.entries.items) × AreSignedBy rule behind
+
+pub AreSignedBy-prop : (rule : Entry → ℕ) (levels : List Level) → IsProp (AreSignedBy rule levels)
+AreSignedBy-prop rule [] = Unit-prop
+AreSignedBy-prop rule (level ∷ behind) = ×_prop (Coded-set (coded_list coded_ℕ) level.signatures.items (map rule level.entries.items)) (AreSignedBy-prop rule behind)
 
 -- and those of what joins by each step
 abbrev pub StepsAreSignedBy : (Entry → ℕ) → List Step → Type 0

@@ -16,12 +16,14 @@
 #![tactic(auto)]
 
 mod answers;
+mod apart;
 mod best;
 mod entry;
 pub mod laws;
 mod level;
 mod meeting;
 mod merge;
+mod part;
 mod partial;
 mod ranking;
 mod signatures;

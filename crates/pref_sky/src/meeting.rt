@@ -13,6 +13,7 @@ use pref_term::{Dominance, Relation, is_within};
 
 /// The place of an entry of the list that dominates this one, by one comparison for each whose signature
 /// leaves it open, until one dominates it, or is the same as it: the list is to be apart, so then none does.
+#[inline(always)]
 pub(crate) fn find_over<D: Dominance>(
     dominance: &D,
     entries: &[Entry],

@@ -1,50 +1,53 @@
 //! Partial results: the first levels of a list that is added piece by piece.
 
-ghost use Rattle.std.specs.List.{count_by};
-ghost use Rattle.std.specs.Prelude.{◌≡◌, ◌≤◌, ◌<◌, ◌+◌, ◌++◌, ◌^◌, Bool, List, length, map, vec_len, IfOk, OnOk, OnErr};
+ghost use Rattle.std.specs.Prelude.{◌≡◌, ◌<◌, ◌++◌, ◌^◌, [], List, length, map, IfOk};
+ghost use Rattle.pref_sky.specs.Held.{ranked_held};
 ghost use Rattle.pref_sky.specs.Levels.{HaveDifferentIds, entry_of, entry_order, levels};
-ghost use Rattle.pref_sky.specs.Partials.{HoldTheSame, ranked_from};
-ghost use Rattle.pref_sky.specs.Signatures.{AreSignedBy, signature_by};
+ghost use Rattle.pref_sky.specs.Partials.{ranked_from};
+ghost use Rattle.pref_sky.specs.Parts.{ranked_parts};
 ghost use Rattle.pref_sky.specs.declared.entry.Entry.{Entry};
-ghost use Rattle.pref_term.specs.Signatures.{Suit};
 
+use crate::apart::Parts;
 use crate::entry::{Entry, Ranked};
 use crate::level::Level;
-use crate::merge::{make_all, plan};
+use crate::part::Part;
 use crate::ranking::push_level;
-use crate::signatures::{cuts_of, signatures_of};
-use pref_term::{Cuts, Dominance};
+use pref_term::Dominance;
 use std::alloc::{AllocError, Global};
 use std::marker::Model;
+
+/// What a partial result holds.
+#[derive(Drop)]
+pub(crate) enum Held {
+    /// Nothing was added.
+    Nothing,
+    /// All entries together.
+    Whole(Part),
+    /// In parts, which the order never compares with each other.
+    Apart(Parts),
+}
 
 /// The entries of the levels 1 to a cut among all that were added, in order of level, then id.
 ///
 /// A contract sees the list of them. What it holds is by one order and one cut, so each `add` is made
 /// with the order and the cut of the first. Each entry is in it once, 136 bytes and 8 for its
-/// signature.
+/// signature; where the order compares rows within groups alone, there are 1,024 small lists beside them.
 #[derive(Drop)]
 pub struct Partial {
-    levels: Option<Vec<Level>>,
-    cuts: Cuts,
+    held: Held,
 }
 
 impl Model for Partial {
-    ghost use Rattle.std.specs.Prelude.{◌<◌, ◌^◌, List, [], length, map};
-    ghost use Rattle.std.specs.Option.{option_map_or};
+    ghost use Rattle.std.specs.Prelude.{List, map};
     ghost use Rattle.pref_sky.specs.declared.entry.Ranked.{Ranked};
+    ghost use Rattle.pref_sky.specs.Held.{ranked_held};
     ghost use Rattle.pref_sky.specs.Levels.{HaveDifferentIds, entry_of};
-    ghost use Rattle.pref_sky.specs.Partials.{ranked_from};
-    ghost use Rattle.pref_sky.specs.Signatures.{AreSignedBy, signature_by};
 
     ghost Value = { List Ranked };
 
-    ghost view = { λ a. option_map_or (λ v. ranked_from 1 v.items) a.levels [] };
+    ghost view = { λ a. ranked_held a.held };
 
-    ghost invariant = { λ a. record {
-      different : HaveDifferentIds (map entry_of (option_map_or (λ v. ranked_from 1 v.items) a.levels []));
-      bound : option_map_or (λ v. length v.items) a.levels 0 < 2 ^ 32;
-      signed : AreSignedBy (signature_by a.cuts) (option_map_or (λ v. v.items) a.levels []);
-    } };
+    ghost invariant = { λ a. HaveDifferentIds (map entry_of (ranked_held a.held)) };
 }
 
 /// The entries of levels, in order of level, then id.
@@ -62,100 +65,51 @@ fn ranked_of(alloc: Global, levels: &[Level]) -> Result<Vec<Ranked>, AllocError>
     Ok(ranked)
 }
 
-/// Signs the levels by these cuts in place of those before. Takes no memory.
-fn take_cuts(cuts: &mut Cuts, held: &mut Vec<Level>, new: Cuts)
-    requires { AreSignedBy (signature_by cuts.old) held.old.items }
-    ensures cuts { cuts.new ≡ new }
-    ensures signed { AreSignedBy (signature_by cuts.new) held.new.items }
-    ensures ranked { ranked_from 1 held.new.items ≡ ranked_from 1 held.old.items }
-    ensures len { vec_len held.new ≡ vec_len held.old }
-{
-    for place in 0..held.len() {
-        held[place].sign(&new);
-    }
-    *cuts = new;
-}
-
-/// The fewest held entries beside which what comes is signed. Beside fewer most of what comes is dominated after
-/// a few comparisons, and to sign an entry takes as long as some fifty.
-const MANY: usize = 256;
-
-/// Whether signatures are worth their cost: the entries that are held, with one in 64 of those that come,
-/// are many. Any answer is right.
-fn are_many(held: &[Level], coming: &[Entry]) -> bool {
-    let mut missing = MANY.saturating_sub(coming.len() / 64);
-    for level in held {
-        missing = missing.saturating_sub(level.entries.len());
-    }
-    missing == 0
-}
-
-/// Cuts that suit the order, for entries like these; none where few are held.
-fn cuts_beside<D: Dominance>(
-    alloc: Global,
-    dominance: &D,
-    held: &[Level],
-    entries: &[Entry],
-) -> Result<Cuts, AllocError>
-    ensures { IfOk result (λ cuts. Suit (D.order dominance.now) cuts) }
-{
-    if are_many(held, entries) {
-        cuts_of(alloc, dominance, entries)
-    } else {
-        Ok(Cuts::none())
-    }
-}
-
-/// Sees that the levels are signed by cuts that suit the order. Where theirs don't, or tell nothing, they
-/// get some for entries like these, once many are held.
-fn renew_cuts<D: Dominance>(
-    alloc: Global,
-    dominance: &D,
-    cuts: &mut Cuts,
-    held: &mut Vec<Level>,
-    entries: &[Entry],
-) -> Result<(), AllocError>
-    requires { AreSignedBy (signature_by cuts.old) held.old.items }
-    ensures suit { OnOk result (Suit (D.order dominance.now) cuts.new) }
-    ensures signed { AreSignedBy (signature_by cuts.new) held.new.items }
-    ensures ranked { ranked_from 1 held.new.items ≡ ranked_from 1 held.old.items }
-    ensures len { vec_len held.new ≡ vec_len held.old }
-{
-    if !cuts.as_slice().is_empty() && dominance.suits(cuts) {
-        return Ok(());
-    }
-    let new = cuts_beside(alloc, dominance, held, entries)?;
-    take_cuts(cuts, held, new);
-    Ok(())
-}
-
-/// Adds entries to levels that are signed by these cuts, as [`Partial::add`] does.
-fn add_to<D: Dominance>(
+/// What is held after the first addition: parts where the order compares rows within groups alone.
+fn begun<D: Dominance>(
     alloc: Global,
     dominance: &D,
     window: usize,
     cut: u32,
-    cuts: &mut Cuts,
-    held: &mut Vec<Level>,
     entries: &[Entry],
-) -> Result<(), AllocError>
+) -> Result<Held, AllocError>
     requires window { 0 < window }
-    requires ids { HaveDifferentIds (map entry_of (ranked_from 1 held.old.items) ++ entries.now) }
-    requires signed { AreSignedBy (signature_by cuts.old) held.old.items }
-    ensures signed { AreSignedBy (signature_by cuts.new) held.new.items }
-    ensures bound { vec_len held.old < 2 ^ 32 → vec_len held.new < 2 ^ 32 }
-    ensures counts { (p : Entry → Bool) → count_by p (map entry_of (ranked_from 1 held.new.items))
-        ≤ count_by p (map entry_of (ranked_from 1 held.old.items)) + count_by p entries.now }
+    requires ids { HaveDifferentIds entries.now }
+    ensures ids { IfOk result (λ held. HaveDifferentIds (map entry_of (ranked_held held))) }
     ensures ok { let over = entry_order (D.order dominance.now) in
-        (before : List Entry) → HaveDifferentIds (before ++ entries.now) → ranked_from 1 held.old.items ≡ levels over before cut
-        → OnOk result (ranked_from 1 held.new.items ≡ levels over (before ++ entries.now) cut) }
-    ensures err { OnErr result (ranked_from 1 held.new.items ≡ ranked_from 1 held.old.items) }
+        IfOk result (λ held. (before : List Entry) → HaveDifferentIds (before ++ entries.now) → [] ≡ levels over before cut
+        → ranked_held held ≡ levels over (before ++ entries.now) cut) }
 {
-    renew_cuts(alloc, dominance, cuts, held, entries)?;
-    let signatures = signatures_of(alloc, cuts, entries)?;
-    let steps = plan(alloc, dominance, window, cut, held, entries, &signatures)?;
-    make_all(held, &steps);
-    Ok(())
+    let columns = dominance.groups();
+    if columns.is_empty() {
+        let mut part = Part::new(alloc);
+        part.add(alloc, dominance, window, cut, entries)?;
+        return Ok(Held::Whole(part));
+    }
+    let mut parts = Parts::new(alloc, columns)?;
+    parts.add(alloc, dominance, window, cut, entries)?;
+    Ok(Held::Apart(parts))
+}
+
+/// Adds to parts by an order that may compare rows of two of them: their entries are put together. Gives what is then held.
+fn added_together<D: Dominance>(
+    alloc: Global,
+    dominance: &D,
+    window: usize,
+    cut: u32,
+    parts: &Parts,
+    entries: &[Entry],
+) -> Result<Held, AllocError>
+    requires window { 0 < window }
+    requires ids { HaveDifferentIds (map entry_of (ranked_parts parts.now.parts.items) ++ entries.now) }
+    ensures ids { IfOk result (λ held. HaveDifferentIds (map entry_of (ranked_held held))) }
+    ensures ok { let over = entry_order (D.order dominance.now) in
+        IfOk result (λ held. (before : List Entry) → HaveDifferentIds (before ++ entries.now) → ranked_parts parts.now.parts.items ≡ levels over before cut
+        → ranked_held held ≡ levels over (before ++ entries.now) cut) }
+{
+    let mut part = parts.together(alloc)?;
+    part.add(alloc, dominance, window, cut, entries)?;
+    Ok(Held::Whole(part))
 }
 
 impl Partial {
@@ -170,21 +124,21 @@ impl Partial {
         ensures levels { (over : Entry → Entry → Bool) (cut : ℕ) → result ≡ levels over [] cut }
     {
         Partial {
-            levels: None,
-            cuts: Cuts::none(),
+            held: Held::Nothing,
         }
     }
 
     /// The entries that are held, with their levels, in order of level, then id.
     ///
-    /// Cost: one copy of them, and a sort of each level by id. Memory: the list, and beside it one as long
-    /// as a level. `Err` is out of memory.
+    /// Cost: one copy of them, and a sort of each level by id; of parts one copy more, and for each level a look at
+    /// each part. Memory: the list, and beside it one as long as a level, of parts one of all. `Err` is out of memory.
     pub fn ranked(&self, alloc: Global) -> Result<Vec<Ranked>, AllocError>
         ensures { IfOk result (λ ranked. ranked.items ≡ self.now) }
     {
-        match &self.levels {
-            None => Ok(Vec::new(alloc)),
-            Some(levels) => ranked_of(alloc, levels),
+        match &self.held {
+            Held::Nothing => Ok(Vec::new(alloc)),
+            Held::Whole(part) => ranked_of(alloc, &part.levels),
+            Held::Apart(parts) => ranked_of(alloc, &parts.together(alloc)?.levels),
         }
     }
 
@@ -199,6 +153,10 @@ impl Partial {
     /// signed then, once. Copied are the new entries that start at a level, those that join one, and those
     /// that go down one; what stays at a level is not. Memory: a number for each new entry and its signature,
     /// lists as long as what comes to a level, and room for what joins.
+    ///
+    /// Where the order names [groups](pref_term::Dominance::groups), all this goes for the entries of one part: the cells
+    /// of its group tell in which of 1,024 parts an entry is, and it meets no others. What comes is copied once more then.
+    /// An order that names others than the first one puts all parts together, once, at the cost of a copy.
     ///
     /// `Err` is out of memory; the partial result is then as it was.
     pub fn add<D: Dominance>(
@@ -218,15 +176,19 @@ impl Partial {
             → OnOk result (self.new ≡ levels over (before ++ entries.now) cut) }
         ensures err { OnErr result (self.new ≡ self.old) }
     {
-        let levels = self.levels.get_or_insert(Vec::new(alloc));
-        add_to(
-            alloc,
-            dominance,
-            window,
-            cut,
-            &mut self.cuts,
-            levels,
-            entries,
-        )
+        match &mut self.held {
+            Held::Nothing => {
+                self.held = begun(alloc, dominance, window, cut, entries)?;
+                Ok(())
+            }
+            Held::Whole(part) => part.add(alloc, dominance, window, cut, entries),
+            Held::Apart(parts) => {
+                if parts.columns.as_slice() == dominance.groups() {
+                    return parts.add(alloc, dominance, window, cut, entries);
+                }
+                self.held = added_together(alloc, dominance, window, cut, parts, entries)?;
+                Ok(())
+            }
+        }
     }
 }

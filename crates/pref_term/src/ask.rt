@@ -226,4 +226,8 @@ impl Dominance for Ask {
     fn cuts(&self, alloc: Global, sample: &[Row]) -> Result<Cuts, AllocError> {
         cuts_for(alloc, &self.term, &self.group, sample)
     }
+
+    fn groups(&self) -> &[usize] {
+        self.group()
+    }
 }

@@ -1,6 +1,6 @@
 //! Strict orders of rows.
 ghost use Rattle.std.specs.Prelude.{◌≡◌, true};
-ghost use Rattle.pref_term.specs.Order.{IsRowOrder, RowOrder, StandAlike, is_better, is_same, is_worse};
+ghost use Rattle.pref_term.specs.Order.{IsRowOrder, RowOrder, StandAlike, StaysWithin, is_better, is_same, is_worse};
 ghost use Rattle.pref_term.specs.Signatures.{Suit};
 
 use crate::relation::Relation;
@@ -62,6 +62,14 @@ pub trait Dominance {
     /// this body gives none. Takes memory for the list, and `Err` is out of memory.
     fn cuts(&self, _alloc: Global, _sample: &[Row]) -> Result<Cuts, AllocError> {
         Ok(Cuts::none())
+    }
+
+    /// Columns in which rows are equal where one dominates the other or is its twin: rows that differ in one of them
+    /// need not be compared. This body names none, which is right for every order.
+    fn groups(&self) -> &[usize]
+        ensures { StaysWithin (order self.now) result.now }
+    {
+        &[]
     }
 
     ghost laws: { (d : Self) → IsRowOrder (order d) };

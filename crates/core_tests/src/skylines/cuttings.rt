@@ -31,7 +31,7 @@ pub(super) fn added_in_two<D: Dominance>(
 }
 
 /// Cut there, the two pieces make the levels of the whole.
-fn check_cutting<D: Dominance>(
+pub(super) fn check_cutting<D: Dominance>(
     rt: &impl Abort,
     alloc: Global,
     dominance: &D,

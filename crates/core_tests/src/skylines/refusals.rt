@@ -96,6 +96,20 @@ fn a_refused_add_of_twins_changes_nothing_and_is_made_again(rt: HostRuntime) -> 
     check_refused(&rt, alloc, &LowOnce, front, back, &both)
 }
 
+/// Rows in parts by their groups: what is planned for the first of them is not made where the last one's plan is refused.
+#[test]
+fn a_refused_add_to_several_groups_changes_nothing_and_is_made_again(
+    rt: HostRuntime,
+) -> Result<(), Fail> {
+    let alloc = rt.alloc();
+    let ask = ask_of(alloc, b"top_level 2 low(x) by y")?;
+    let rows = [(5, 1), (5, 2), (7, 3), (4, 1), (9, 2), (3, 3), (2, 1)];
+    let entries = numbered(alloc, &rows)?;
+    let both = levels(alloc, &ask, 1, 2, &entries)?;
+    let (front, back) = entries.as_slice().split_at(entries.len().min(3));
+    check_refused(&rt, alloc, &ask, front, back, &both)
+}
+
 #[test]
 fn a_refused_answer_changes_nothing_and_is_made_again(rt: HostRuntime) -> Result<(), Fail> {
     let alloc = rt.alloc();

@@ -1,7 +1,7 @@
 use Rattle.std.proofs.Common.{◌≡◌, drop, take, vec_len}
 use Rattle.pref_sky.specs.Partials.{ranked_from}
 use Rattle.pref_sky.specs.Signatures.{AreSignedBy, signature_by}
-use Rattle.pref_sky.proofs.partial.take_cuts.Given as goal
+use Rattle.pref_sky.proofs.part.take_cuts.Given as goal
 
 abbrev pub invariant-loop-place : goal.invariant-loop-place
 invariant-loop-place l =

@@ -5,7 +5,7 @@ use Rattle.std.proofs.Math.Seq.{take-suc-set}
 use Rattle.pref_sky.specs.Signatures.{AreSignedBy, signature_by}
 use Rattle.pref_sky.proofs.SignedLevels.{same_entries, signed_level, signed_push}
 use Rattle.pref_sky.proofs.Staying.{same_there}
-use Rattle.pref_sky.proofs.partial.take_cuts.Goals as goal
+use Rattle.pref_sky.proofs.part.take_cuts.Goals as goal
 
 -- a level that was not signed again yet is as it was
 pub sign-requires : goal.sign-requires

@@ -1,0 +1,82 @@
+//! Rows that are compared within groups alone, and orders that follow one another.
+ghost use Rattle.std.specs.Prelude.{◌++◌};
+ghost use Rattle.pref_sky.specs.Levels.{HaveDifferentIds};
+
+use super::answers::ask_of;
+use super::cuttings::check_cutting;
+use super::fixtures::{numbered, places_of};
+use crate::same::assert_same_list;
+use pref_sky::{Entry, Partial, levels};
+use pref_term::Dominance;
+use std::alloc::{AllocError, Global};
+use std::process::Abort;
+use std::test::Fail;
+
+/// Three rows of each of four hundred groups, the best of each last.
+fn of_many_groups(alloc: Global) -> Result<Vec<(i64, i64)>, AllocError> {
+    let mut rows = Vec::with_capacity(alloc, 1200)?;
+    for i in 0..1200_u32 {
+        rows.push((i64::from(1200 - i), i64::from(i % 400)))?;
+    }
+    Ok(rows)
+}
+
+#[test]
+fn two_levels_of_many_groups(rt: HostRuntime) -> Result<(), Fail> {
+    let alloc = rt.alloc();
+    let rows = of_many_groups(alloc)?;
+    let entries = numbered(alloc, &rows)?;
+    let ask = ask_of(alloc, b"top_level 2 low(x) by y")?;
+    let whole = levels(alloc, &ask, 64, 2, &entries)?;
+    check_cutting(&rt, alloc, &ask, 2, &entries, &whole, 500)?;
+    check_cutting(&rt, alloc, &ask, 2, &entries, &whole, 1199)
+}
+
+/// What is held after two pieces, each added by an order of its own.
+fn added_by_two<D: Dominance, E: Dominance>(
+    alloc: Global,
+    first: &D,
+    second: &E,
+    front: &[Entry],
+    back: &[Entry],
+) -> Result<Partial, AllocError>
+    requires { HaveDifferentIds (front.now ++ back.now) }
+{
+    let mut partial = Partial::empty();
+    partial.add(alloc, first, 2, 1, front)?;
+    partial.add(alloc, second, 2, 1, back)?;
+    Ok(partial)
+}
+
+/// Of six rows the first three are added by the first order, by which all three are best, and then the others by the second one.
+fn check_orders(
+    rt: &impl Abort,
+    alloc: Global,
+    first: &[u8],
+    second: &[u8],
+    rows: &[(i64, i64)],
+    places: &[(u32, u64)],
+) -> Result<(), Fail> {
+    let first = ask_of(alloc, first)?;
+    let second = ask_of(alloc, second)?;
+    let entries = numbered(alloc, rows)?;
+    let (front, back) = entries.as_slice().split_at(entries.len().min(3));
+    let partial = added_by_two(alloc, &first, &second, front, back)?;
+    let found = places_of(alloc, &partial.ranked(alloc)?)?;
+    assert_same_list(rt, "held", found.as_slice(), places);
+    Ok(())
+}
+
+/// The first three rows are best by either order.
+#[test]
+fn a_second_order_compares_all_that_is_held(rt: HostRuntime) -> Result<(), Fail> {
+    let alloc = rt.alloc();
+    let by_y = b"best low(x) by y";
+    let ties = [(5, 1), (5, 2), (5, 3), (4, 9), (5, 4), (6, 1)];
+    check_orders(&rt, alloc, by_y, b"best low(x)", &ties, &[(1, 4)])?;
+    let first_five = [(1, 1), (1, 2), (1, 3), (1, 4), (1, 5)];
+    check_orders(&rt, alloc, b"best low(x)", by_y, &ties, &first_five)?;
+    let rows = [(5, 1), (6, 2), (7, 3), (5, 0), (6, 9), (8, 8)];
+    let places = [(1, 2), (1, 3), (1, 4), (1, 6)];
+    check_orders(&rt, alloc, by_y, b"best low(y) by x", &rows, &places)
+}

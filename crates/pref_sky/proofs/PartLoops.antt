@@ -1,0 +1,58 @@
+-- Loops over parts: entries are dealt out, and the levels of all parts are put together.
+use Rattle.std.proofs.Common.{◌≡◌, ℕ, zero, suc, ◌≤◌, ◌<◌, ◌+◌, false, inl, inr, List, [], ◌∷◌, ◌++◌, length, take, drop, get_or, set, Vec, Global, refl, sym, ◌∙◌, ap, subst, arith, add-one, append_assoc, filter, eq-eqb}
+use Rattle.std.proofs.lemmas.Bool.{eqb-true, false_from_ne_true}
+use Rattle.std.proofs.lemmas.List.{drop_more}
+use Rattle.pref_sky.specs.declared.entry.Entry.{Entry}
+use Rattle.pref_sky.specs.declared.level.Level.{Level}
+use Rattle.pref_sky.specs.declared.part.Part.{Part}
+use Rattle.pref_sky.specs.Partials.{held_at, ranked_from}
+use Rattle.pref_sky.specs.Parts.{ArePartedBy, all_at, coming_of, is_in, levels_of, ranked_upto}
+use Rattle.pref_sky.proofs.Members.{Among}
+use Rattle.pref_sky.proofs.Listings.{same_or_not, listed_at, listed_set_here, listed_set_other}
+use Rattle.pref_sky.proofs.RankedLevels.{one_level, ranked_push}
+use Rattle.pref_sky.proofs.Staying.{leaves, stays}
+
+-- one entry more is dealt out
+pub dealt_more : (number : Entry → ℕ) (entries : List Entry) (i : ℕ) (e : Entry) (dealt : List (Vec Entry Global)) (n : ℕ) (list new : Vec Entry Global) → i < length entries → e ≡ get_or entries i e → n ≡ number e → n < length dealt → list ≡ get_or dealt n list
+    → new.items ≡ list.items ++ e ∷ [] → ((part : ℕ) → coming_of part dealt ≡ filter (is_in number part) (take i entries)) → (part : ℕ) → coming_of part (set dealt n new) ≡ filter (is_in number part) (take (i + 1) entries)
+dealt_more number entries i e dealt n list new inside at its there there_at pushed each part =
+    let items : Vec Entry Global → List Entry = λ v. v.items in
+    let told : number (get_or entries i e) ≡ n = ap number (sym at) ∙ sym its in
+    elim (same_or_not part n) [
+      | inl here ↦
+          let mine = is_in number n in
+          let held : list.items ≡ filter mine (take i entries) = ap items there_at ∙ (sym (listed_at items n dealt list there) ∙ each n) in
+          subst (λ j. coming_of j (set dealt n new) ≡ filter (is_in number j) (take (i + 1) entries)) (sym here)
+          (listed_set_here items n dealt new there
+          ∙ (pushed ∙ (ap (λ l. l ++ e ∷ []) held ∙ (ap (λ x. filter mine (take i entries) ++ x ∷ []) at ∙ sym (stays mine entries i e inside (eq-eqb (number (get_or entries i e)) n told))))))
+      | inr other ↦
+          let out : is_in number part (get_or entries i e) ≡ false = false_from_ne_true (is_in number part (get_or entries i e)) (λ t. other (sym (eqb-true (number (get_or entries i e)) part t) ∙ told)) in
+          listed_set_other items n part dealt new other ∙ (each part ∙ sym (leaves (is_in number part) entries i e inside out))
+    ]
+
+-- one part more is looked at
+part_then : (parts : List Part) (i : ℕ) (part : Part) → i < length parts → part ≡ get_or parts i part → drop i parts ≡ part ∷ drop (i + 1) parts
+part_then parts i part inside at = drop_more parts i part inside ∙ ap (λ p. p ∷ drop (i + 1) parts) (sym at)
+
+pub gathered_more : (parts : List Part) (i : ℕ) (part : Part) (place : ℕ) (found more : List Entry) → i < length parts → part ≡ get_or parts i part → more ≡ found ++ held_at place part.levels.items
+    → found ++ all_at (drop i parts) place ≡ all_at parts place → more ++ all_at (drop (i + 1) parts) place ≡ all_at parts place
+gathered_more parts i part place found more inside at gathered before =
+    ap (λ l. l ++ all_at (drop (i + 1) parts) place) gathered
+    ∙ (append_assoc found (held_at place part.levels.items) (all_at (drop (i + 1) parts) place) ∙ (ap (λ l. found ++ all_at l place) (sym (part_then parts i part inside at)) ∙ before))
+
+pub no_level : (place : ℕ) (held : List Level) → length held ≤ place → held_at place held ≡ []
+no_level place [] past = refl
+no_level zero (level ∷ behind) past = absurd (omega (arith, past))
+no_level (suc place) (level ∷ behind) past = no_level place behind (omega (arith, past))
+
+-- one level more is put together
+pub level_together : (parts : List Part) (place : ℕ) (levels : List Level) (level : Level) → length levels ≡ place → level.entries.items ≡ all_at parts place → ranked_from 1 levels ≡ ranked_upto (all_at parts) place
+    → ranked_from 1 (levels ++ level ∷ []) ≡ ranked_upto (all_at parts) (place + 1)
+level_together parts place levels level long is before =
+    ranked_push 1 (suc place) levels level (omega (arith, long))
+    ∙ (ap (λ l. l ++ one_level (suc place) level.entries.items) before
+    ∙ (ap (λ e. ranked_upto (all_at parts) place ++ one_level (suc place) e) is ∙ ap (ranked_upto (all_at parts)) (sym (add-one place))))
+
+-- what is the same stays in its parts
+pub parted_same : (number : Entry → ℕ) (old new : List Part) → ArePartedBy number old → ((part : ℕ) → ranked_from 1 (levels_of part new) ≡ ranked_from 1 (levels_of part old)) → ArePartedBy number new
+parted_same number old new parted same part r m = parted part r (subst (Among r) (same part) m)

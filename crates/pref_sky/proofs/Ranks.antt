@@ -1,0 +1,136 @@
+-- The entries of some levels, each level in order of id: one list for each set of them.
+use Rattle.std.proofs.Common.{◌≡◌, ℕ, zero, suc, ◌<◌, ◌+◌, Bool, ◌⊎◌, inl, inr, List, [], ◌∷◌, ◌++◌, length, map, take, refl, sym, ◌∙◌, ap, subst, arith, append-nil, append_assoc}
+use Rattle.std.proofs.lemmas.Bool.{cases_lt}
+use Rattle.std.proofs.Math.Seq.{take-length}
+use Rattle.pref_sky.specs.declared.entry.Entry.{Entry}
+use Rattle.pref_sky.specs.declared.entry.Ranked.{Ranked}
+use Rattle.pref_sky.specs.declared.level.Level.{Level}
+use Rattle.pref_sky.specs.Best.{best, rest}
+use Rattle.pref_sky.specs.Levels.{HaveDifferentIds, in_order_of_id, at_level, entry_of, levels}
+use Rattle.pref_sky.specs.Partials.{ranked_from, held_at}
+use Rattle.pref_sky.specs.Parts.{ranked_upto}
+use Rattle.pref_sky.proofs.Members.{Among, in_left, in_right, in_either, from_map}
+use Rattle.pref_sky.proofs.Orders.{Rises, RisesBy, rises_in_order, same_if_rise, among_in_order, from_in_order}
+use Rattle.pref_sky.proofs.Enough.{among_map}
+use Rattle.pref_sky.proofs.RankedLevels.{one_level}
+
+-- one entry stands before another
+abbrev pub ComesBefore : Ranked → Ranked → Type 0
+ComesBefore r s = (r.level < s.level) ⊎ ((r.level ≡ s.level) × (r.id < s.id))
+
+one_way : (r s : Ranked) → ComesBefore r s → ComesBefore s r → ⊥
+one_way r s there back =
+    elim there [
+      | inl above ↦ elim back [ inl below ↦ omega (arith, above, below) | inr level ↦ omega (arith, above, level.0) ]
+      | inr level ↦ elim back [ inl below ↦ omega (arith, level.0, below) | inr also ↦ omega (arith, level.1, also.1) ]
+    ]
+
+-- an entry of one of the first n levels
+pub record IsRanked (level : ℕ → List Entry) (n : ℕ) (r : Ranked) : Type 0 where
+  pub place : ℕ
+  pub below : place < n
+  pub entry : Entry
+  pub there : Among entry (level place)
+  pub is : r ≡ at_level (suc place) entry
+
+pub from_upto : (level : ℕ → List Entry) (n : ℕ) (r : Ranked) → Among r (ranked_upto level n) → IsRanked level n r
+from_upto level zero r m = absurd m
+from_upto level (suc n) r m =
+    elim (in_either (ranked_upto level n) (one_level (suc n) (level n)) r m) [
+      | inl above ↦ let w = from_upto level n r above in record { place = w.place; below = omega (arith, w.below); entry = w.entry; there = w.there; is = w.is }
+      | inr here ↦ let w = from_map (at_level (suc n)) (in_order_of_id (level n)) r here in record { place = n; below = omega arith; entry = w.0; there = from_in_order (level n) w.0 w.1; is = w.2 }
+    ]
+
+pub to_upto : (level : ℕ → List Entry) (n k : ℕ) (e : Entry) → k < n → Among e (level k) → Among (at_level (suc k) e) (ranked_upto level n)
+to_upto level zero k e below m = absurd (omega (arith, below))
+to_upto level (suc n) k e below m =
+    elim (cases_lt k n) [
+      | inl above ↦ in_left (ranked_upto level n) (one_level (suc n) (level n)) (at_level (suc k) e) (to_upto level n k e above m)
+      | inr past ↦
+          let same : k ≡ n = omega (arith, below, past) in
+          in_right (ranked_upto level n) (one_level (suc n) (level n)) (at_level (suc k) e)
+          (subst (λ j. Among (at_level (suc k) e) (one_level (suc j) (level j))) same (among_map (at_level (suc k)) (in_order_of_id (level k)) e (among_in_order (level k) e m)))
+    ]
+
+-- an entry with its level is one of this level
+pub at_upto : (level : ℕ → List Entry) (n k : ℕ) (e : Entry) → Among (at_level (suc k) e) (ranked_upto level n) → (k < n) × Among e (level k)
+at_upto level n k e m =
+    let w = from_upto level n (at_level (suc k) e) m in
+    let levels_same = ap (λ (r : Ranked). r.level) w.is in
+    let same : w.place ≡ k = omega (arith, levels_same) in
+    let entries_same : w.entry ≡ e = sym (ap entry_of w.is) in
+    (omega (arith, w.below, same), subst (λ j. Among e (level j)) same (subst (λ x. Among x (level w.place)) entries_same w.there))
+
+rises_beside : {E : Type 0} (before : E → E → Type 0) (xs ys : List E) → RisesBy before xs → RisesBy before ys → ((x y : E) → Among x xs → Among y ys → before x y) → RisesBy before (xs ++ ys)
+rises_beside before [] ys rx ry apart = ry
+rises_beside before (x ∷ xs) ys rx ry apart = (
+  λ y m. elim (in_either xs ys y m) [ inl a ↦ rx.0 y a | inr b ↦ apart x y (inl refl) b ],
+  rises_beside before xs ys rx.1 ry (λ a b ma mb. apart a b (inr ma) mb),
+)
+
+level_rises : (n : ℕ) (xs : List Entry) → Rises xs → RisesBy ComesBefore (map (at_level n) xs)
+level_rises n [] rises = tt
+level_rises n (x ∷ xs) rises = (
+  λ r m. let w = from_map (at_level n) xs r m in subst (ComesBefore (at_level n x)) (sym w.2) (inr (refl, rises.0 w.0 w.1)),
+  level_rises n xs rises.1,
+)
+
+upto_rises : (level : ℕ → List Entry) (n : ℕ) → ((k : ℕ) → HaveDifferentIds (level k)) → RisesBy ComesBefore (ranked_upto level n)
+upto_rises level zero different = tt
+upto_rises level (suc n) different =
+    rises_beside ComesBefore (ranked_upto level n) (one_level (suc n) (level n)) (upto_rises level n different) (level_rises (suc n) (in_order_of_id (level n)) (rises_in_order (level n) (different n)))
+    (λ r s mr ms.
+    let v = from_upto level n r mr in
+    let w = from_map (at_level (suc n)) (in_order_of_id (level n)) s ms in
+    let low = ap (λ (t : Ranked). t.level) v.is in
+    let high = ap (λ (t : Ranked). t.level) w.2 in
+    inl (omega (arith, low, high, v.below)))
+
+-- what is of a level there is of the level here
+abbrev pub AreWithin : (ℕ → List Entry) → ℕ → (ℕ → List Entry) → ℕ → Type 0
+AreWithin level n other m = (k : ℕ) (e : Entry) → k < n → Among e (level k) → (k < m) × Among e (other k)
+
+members_within : (level other : ℕ → List Entry) (n m : ℕ) → AreWithin level n other m → (r : Ranked) → Among r (ranked_upto level n) → Among r (ranked_upto other m)
+members_within level other n m within r among =
+    let w = from_upto level n r among in
+    let v = within w.place w.entry w.below w.there in
+    subst (λ s. Among s (ranked_upto other m)) (sym w.is) (to_upto other m w.place w.entry v.0 v.1)
+
+pub same_upto : (level other : ℕ → List Entry) (n m : ℕ) → ((k : ℕ) → HaveDifferentIds (level k)) → ((k : ℕ) → HaveDifferentIds (other k)) → AreWithin level n other m → AreWithin other m level n
+    → ranked_upto level n ≡ ranked_upto other m
+same_upto level other n m different also there back =
+    same_if_rise ComesBefore one_way (ranked_upto level n) (ranked_upto other m) (upto_rises level n different) (upto_rises other m also)
+    (record { there = members_within level other n m there; back = members_within other level m n back })
+
+-- where the lists are one, so are the levels
+pub within_if_same : (level other : ℕ → List Entry) (n m : ℕ) → ranked_upto level n ≡ ranked_upto other m → AreWithin level n other m
+within_if_same level other n m same k e below m_level = at_upto other m k e (subst (Among (at_level (suc k) e)) same (to_upto level n k e below m_level))
+
+-- the levels of a list
+pub levels_upto_is : (over : Entry → Entry → Bool) (all : List Entry) (n : ℕ) → levels over all n ≡ ranked_upto (λ k. best over (rest over all k)) n
+levels_upto_is over all zero = refl
+levels_upto_is over all (suc n) = ap (λ l. l ++ one_level (suc n) (best over (rest over all n))) (levels_upto_is over all n)
+
+-- held levels
+take_level : (k n m : ℕ) (held : List Level) → m ≡ k + n → ranked_from k (take (suc n) held) ≡ ranked_from k (take n held) ++ one_level m (held_at n held)
+take_level k zero m [] at = refl
+take_level k zero m (level ∷ behind) at =
+    let same : k ≡ m = omega (arith, at) in
+    append-nil (one_level k level.entries.items) ∙ ap (λ j. one_level j level.entries.items) same
+take_level k (suc n) m [] at = refl
+take_level k (suc n) m (level ∷ behind) at =
+    let one = one_level k level.entries.items in
+    ap (λ l. one ++ l) (take_level (suc k) n m behind (omega (arith, at))) ∙ sym (append_assoc one (ranked_from (suc k) (take n behind)) (one_level m (held_at n behind)))
+
+take_upto : (held : List Level) (n : ℕ) → ranked_from 1 (take n held) ≡ ranked_upto (λ k. held_at k held) n
+take_upto held zero = refl
+take_upto held (suc n) = let next : suc n ≡ 1 + n = omega arith in take_level 1 n (suc n) held next ∙ ap (λ l. l ++ one_level (suc n) (held_at n held)) (take_upto held n)
+
+pub held_upto : (held : List Level) → ranked_from 1 held ≡ ranked_upto (λ k. held_at k held) (length held)
+held_upto held = ap (ranked_from 1) (sym (take-length held)) ∙ take_upto held (length held)
+
+-- a level that holds something is there
+pub held_there : (k : ℕ) (held : List Level) (e : Entry) → Among e (held_at k held) → k < length held
+held_there k [] e m = absurd m
+held_there zero (level ∷ behind) e m = omega arith
+held_there (suc k) (level ∷ behind) e m = omega (arith, held_there k behind e m)

@@ -1,0 +1,217 @@
+//! Entries in parts, where rows are compared within groups alone: an entry meets those of its part, and no others.
+
+ghost use Rattle.std.specs.Prelude.{◌≡◌, ◌≤◌, ◌<◌, ◌++◌, ◌^◌, [], ◌∷◌, ℕ, List, All, filter, length, map, vec_len, max, IfOk, OnOk, OnErr};
+ghost use Rattle.pref_sky.specs.Levels.{HaveDifferentIds, entry_of, entry_order, levels};
+ghost use Rattle.pref_sky.specs.Partials.{HaveRoom, IsPlanned, ranked_after, ranked_from};
+ghost use Rattle.pref_sky.specs.Parts.{ArePartedBy, all_at, coming_of, cuts_of, depth, is_in, levels_of, part_of, ranked_parts, steps_of};
+ghost use Rattle.pref_sky.specs.Signatures.{AreSignedBy, StepsAreSignedBy, signature_by};
+ghost use Rattle.pref_sky.specs.declared.entry.Entry.{Entry};
+ghost use Rattle.pref_sky.specs.declared.level.Step.{Step};
+ghost use Rattle.pref_term.specs.Order.{StaysWithin};
+
+use crate::entry::Entry;
+use crate::level::{Level, Step};
+use crate::part::Part;
+use crate::signatures::signatures_of;
+use pref_term::{Cuts, Dominance};
+use std::alloc::{AllocError, Global};
+
+/// How many parts there are.
+const PARTS: usize = 1024;
+
+/// A number without pattern, by which words are mixed.
+const MIX: u64 = 11_400_714_819_323_198_485;
+
+/// The part that holds an entry: its cells in these columns, mixed, tell it.
+fn part_of(columns: &[usize], entry: &Entry) -> usize
+    requires { All (λ col. col < 16) columns.now }
+    ensures number { result ≡ part_of columns.now entry.now }
+    ensures within { result < 1024 }
+{
+    let mut word: u64 = 0;
+    for col in columns {
+        let value = entry.row.cell(*col).cast_unsigned();
+        word = word.wrapping_add(value).wrapping_mul(MIX);
+    }
+    (word >> 54) as usize
+}
+
+/// A list without entries for each part.
+fn nothing_dealt(alloc: Global) -> Result<Vec<Vec<Entry>>, AllocError>
+    ensures len { IfOk result (λ dealt. length dealt.items ≡ 1024) }
+    ensures none { IfOk result (λ dealt. (part : ℕ) → coming_of part dealt.items ≡ []) }
+{
+    let mut dealt = Vec::with_capacity(alloc, PARTS)?;
+    'each_part: while dealt.len() < PARTS {
+        dealt.push(Vec::new(alloc))?;
+    }
+    Ok(dealt)
+}
+
+/// Deals entries out to the parts, each list in their order.
+fn deal(alloc: Global, columns: &[usize], entries: &[Entry]) -> Result<Vec<Vec<Entry>>, AllocError>
+    requires { All (λ col. col < 16) columns.now }
+    ensures len { IfOk result (λ dealt. length dealt.items ≡ 1024) }
+    ensures dealt { IfOk result (λ dealt. (part : ℕ)
+        → coming_of part dealt.items ≡ filter (is_in (part_of columns.now) part) entries.now) }
+{
+    let mut dealt = nothing_dealt(alloc)?;
+    for entry in entries {
+        dealt[part_of(columns, entry)].push(*entry)?;
+    }
+    Ok(dealt)
+}
+
+/// Plans what comes to each part. What the parts hold stays.
+fn plan_parts<D: Dominance>(
+    alloc: Global,
+    dominance: &D,
+    window: usize,
+    cut: u32,
+    parts: &mut Vec<Part>,
+    dealt: &[Vec<Entry>],
+) -> Result<Vec<Vec<Step>>, AllocError>
+    requires window { 0 < window }
+    requires len { length dealt.now ≡ vec_len parts.old }
+    requires ids { (part : ℕ) → HaveDifferentIds (map entry_of (ranked_from 1 (levels_of part parts.old.items)) ++ coming_of part dealt.now) }
+    ensures len { vec_len parts.new ≡ vec_len parts.old }
+    ensures same { (part : ℕ) → ranked_from 1 (levels_of part parts.new.items) ≡ ranked_from 1 (levels_of part parts.old.items) }
+    ensures long { IfOk result (λ plans. length plans.items ≡ vec_len parts.old) }
+    ensures planned { IfOk result (λ plans. (part : ℕ) → IsPlanned (entry_order (D.order dominance.now)) cut
+        (levels_of part parts.old.items) (levels_of part parts.new.items) (coming_of part dealt.now) (steps_of part plans.items)) }
+    ensures signed { IfOk result (λ plans. (part : ℕ) → StepsAreSignedBy (signature_by (cuts_of part parts.new.items)) (steps_of part plans.items)) }
+{
+    let mut plans = Vec::with_capacity(alloc, parts.len())?;
+    for place in 0..parts.len() {
+        let steps = parts[place].plan(alloc, dominance, window, cut, &dealt[place])?;
+        plans.push(steps)?;
+    }
+    Ok(plans)
+}
+
+/// Makes the steps that were planned. Takes no memory.
+fn make_parts(parts: &mut Vec<Part>, plans: &[Vec<Step>])
+    requires len { length plans.now ≡ vec_len parts.old }
+    requires room { (part : ℕ) → HaveRoom (levels_of part parts.old.items) (steps_of part plans.now) }
+    requires signed { (part : ℕ) → StepsAreSignedBy (signature_by (cuts_of part parts.old.items)) (steps_of part plans.now) }
+    ensures len { vec_len parts.new ≡ vec_len parts.old }
+    ensures made { (part : ℕ) → ranked_from 1 (levels_of part parts.new.items) ≡ ranked_after 1 (levels_of part parts.old.items) (steps_of part plans.now) }
+{
+    for place in 0..parts.len() {
+        parts[place].make(&plans[place]);
+    }
+}
+
+/// How many levels the deepest part has.
+fn deepest(parts: &[Part]) -> usize
+    ensures depth { result ≡ depth parts.now }
+    ensures bound { result < 2 ^ 32 }
+{
+    let mut deepest = 0;
+    for part in parts {
+        deepest = part.levels.len().max(deepest);
+    }
+    deepest
+}
+
+/// The entries of all parts at one level, unordered.
+fn entries_at(alloc: Global, parts: &[Part], place: usize) -> Result<Vec<Entry>, AllocError>
+    ensures { IfOk result (λ entries. entries.items ≡ all_at parts.now place) }
+{
+    let mut entries = Vec::new(alloc);
+    for part in parts {
+        if place < part.levels.len() {
+            entries.extend_from_slice(&part.levels[place].entries)?;
+        }
+    }
+    Ok(entries)
+}
+
+/// Levels that hold the entries of all parts, without cuts.
+fn levels_together(alloc: Global, parts: &[Part]) -> Result<Vec<Level>, AllocError>
+    ensures ranked { IfOk result (λ levels. ranked_from 1 levels.items ≡ ranked_parts parts.now) }
+    ensures signed { IfOk result (λ levels. AreSignedBy (signature_by []) levels.items) }
+    ensures bound { IfOk result (λ levels. length levels.items < 2 ^ 32) }
+{
+    let mut levels = Vec::new(alloc);
+    for place in 0..deepest(parts) {
+        let entries = entries_at(alloc, parts, place)?;
+        let signatures = signatures_of(alloc, &Cuts::none(), &entries)?;
+        levels.push(Level {
+            entries,
+            signatures,
+        })?;
+    }
+    Ok(levels)
+}
+
+/// Parts that hold nothing.
+fn empty_parts(alloc: Global) -> Result<Vec<Part>, AllocError>
+    ensures len { IfOk result (λ parts. length parts.items ≡ 1024) }
+    ensures none { IfOk result (λ parts. (part : ℕ) → levels_of part parts.items ≡ []) }
+{
+    let mut parts = Vec::with_capacity(alloc, PARTS)?;
+    'each_part: while parts.len() < PARTS {
+        parts.push(Part::new(alloc))?;
+    }
+    Ok(parts)
+}
+
+/// Parts, and the columns whose cells tell in which of them an entry is.
+#[derive(Drop)]
+pub(crate) struct Parts {
+    pub(crate) columns: Vec<usize>,
+    pub(crate) parts: Vec<Part>,
+    ghost within: { All (λ col. col < 16) columns.items },
+    ghost many: { length parts.items ≡ 1024 },
+    ghost parted: { ArePartedBy (part_of columns.items) parts.items },
+}
+
+impl Parts {
+    /// Parts by these columns that hold nothing.
+    pub(crate) fn new(alloc: Global, columns: &[usize]) -> Result<Parts, AllocError>
+        requires { All (λ col. col < 16) columns.now }
+        ensures columns { IfOk result (λ apart. apart.columns.items ≡ columns.now) }
+        ensures nothing { IfOk result (λ apart. ranked_parts apart.parts.items ≡ []) }
+    {
+        let parts = empty_parts(alloc)?;
+        let columns = Vec::from_slice(alloc, columns)?;
+        Ok(Parts { columns, parts })
+    }
+
+    /// A part that holds what all of them hold, in new lists.
+    pub(crate) fn together(&self, alloc: Global) -> Result<Part, AllocError>
+        ensures { IfOk result (λ part. ranked_from 1 part.levels.items ≡ ranked_parts self.now.parts.items) }
+    {
+        let levels = levels_together(alloc, &self.parts)?;
+        Ok(Part {
+            levels,
+            cuts: Cuts::none(),
+        })
+    }
+
+    /// Adds entries, each to its part, as [`Partial::add`](crate::Partial::add) does. The order compares rows within
+    /// groups of these columns alone.
+    pub(crate) fn add<D: Dominance>(
+        &mut self,
+        alloc: Global,
+        dominance: &D,
+        window: usize,
+        cut: u32,
+        entries: &[Entry],
+    ) -> Result<(), AllocError>
+        requires window { 0 < window }
+        requires groups { StaysWithin (D.order dominance.now) self.old.columns.items }
+        requires ids { HaveDifferentIds (map entry_of (ranked_parts self.old.parts.items) ++ entries.now) }
+        ensures ids { HaveDifferentIds (map entry_of (ranked_parts self.new.parts.items)) }
+        ensures ok { let over = entry_order (D.order dominance.now) in
+            (before : List Entry) → HaveDifferentIds (before ++ entries.now) → ranked_parts self.old.parts.items ≡ levels over before cut
+            → OnOk result (ranked_parts self.new.parts.items ≡ levels over (before ++ entries.now) cut) }
+        ensures err { OnErr result (ranked_parts self.new.parts.items ≡ ranked_parts self.old.parts.items) }
+    {
+        let dealt = deal(alloc, &self.columns, entries)?;
+        let plans = plan_parts(alloc, dominance, window, cut, &mut self.parts, &dealt)?;
+        make_parts(&mut self.parts, &plans);
+        Ok(())
+    }
+}

@@ -1,0 +1,168 @@
+//! A part of a partial result: levels of entries, signed by cuts of its own.
+
+ghost use Rattle.std.specs.List.{count_by};
+ghost use Rattle.std.specs.Prelude.{◌≡◌, ◌≤◌, ◌<◌, ◌+◌, ◌++◌, ◌^◌, Bool, List, length, map, vec_len, IfOk, OnOk, OnErr};
+ghost use Rattle.pref_sky.specs.Levels.{HaveDifferentIds, entry_of, entry_order, levels};
+ghost use Rattle.pref_sky.specs.Partials.{HaveRoom, IsPlanned, ranked_after, ranked_from};
+ghost use Rattle.pref_sky.specs.Signatures.{AreSignedBy, AreSignedBy-prop, StepsAreSignedBy, signature_by};
+ghost use Rattle.pref_sky.specs.declared.entry.Entry.{Entry};
+ghost use Rattle.pref_term.specs.Signatures.{Suit};
+
+use crate::entry::Entry;
+use crate::level::{Level, Step};
+use crate::merge::{make_all, plan};
+use crate::signatures::{cuts_of, signatures_of};
+use pref_term::{Cuts, Dominance};
+use std::alloc::{AllocError, Global};
+
+/// Levels, and the cuts by which their entries are signed.
+#[derive(Drop)]
+pub(crate) struct Part {
+    pub(crate) levels: Vec<Level>,
+    pub(crate) cuts: Cuts,
+    ghost bound: { length levels.items < 2 ^ 32 },
+    ghost signed: { AreSignedBy (signature_by cuts) levels.items } by { AreSignedBy-prop (signature_by cuts) levels.items },
+}
+
+/// Signs the levels by these cuts in place of those before. Takes no memory.
+fn take_cuts(cuts: &mut Cuts, held: &mut Vec<Level>, new: Cuts)
+    requires { AreSignedBy (signature_by cuts.old) held.old.items }
+    ensures cuts { cuts.new ≡ new }
+    ensures signed { AreSignedBy (signature_by cuts.new) held.new.items }
+    ensures ranked { ranked_from 1 held.new.items ≡ ranked_from 1 held.old.items }
+    ensures len { vec_len held.new ≡ vec_len held.old }
+{
+    for place in 0..held.len() {
+        held[place].sign(&new);
+    }
+    *cuts = new;
+}
+
+/// The fewest held entries beside which what comes is signed. Beside fewer most of what comes is dominated after
+/// a few comparisons, and to sign an entry takes as long as some fifty.
+const MANY: usize = 256;
+
+/// Whether signatures are worth their cost: the entries that are held, with one in 64 of those that come,
+/// are many. Any answer is right.
+fn are_many(held: &[Level], coming: &[Entry]) -> bool {
+    let mut missing = MANY.saturating_sub(coming.len() / 64);
+    for level in held {
+        missing = missing.saturating_sub(level.entries.len());
+    }
+    missing == 0
+}
+
+/// Cuts that suit the order, for entries like these; none where few are held.
+fn cuts_beside<D: Dominance>(
+    alloc: Global,
+    dominance: &D,
+    held: &[Level],
+    entries: &[Entry],
+) -> Result<Cuts, AllocError>
+    ensures { IfOk result (λ cuts. Suit (D.order dominance.now) cuts) }
+{
+    if are_many(held, entries) {
+        cuts_of(alloc, dominance, entries)
+    } else {
+        Ok(Cuts::none())
+    }
+}
+
+/// Sees that the levels are signed by cuts that suit the order. Where theirs don't, or tell nothing, they
+/// get some for entries like these, once many are held.
+fn renew_cuts<D: Dominance>(
+    alloc: Global,
+    dominance: &D,
+    cuts: &mut Cuts,
+    held: &mut Vec<Level>,
+    entries: &[Entry],
+) -> Result<(), AllocError>
+    requires { AreSignedBy (signature_by cuts.old) held.old.items }
+    ensures suit { OnOk result (Suit (D.order dominance.now) cuts.new) }
+    ensures signed { AreSignedBy (signature_by cuts.new) held.new.items }
+    ensures ranked { ranked_from 1 held.new.items ≡ ranked_from 1 held.old.items }
+    ensures len { vec_len held.new ≡ vec_len held.old }
+{
+    if !cuts.as_slice().is_empty() && dominance.suits(cuts) {
+        return Ok(());
+    }
+    let new = cuts_beside(alloc, dominance, held, entries)?;
+    take_cuts(cuts, held, new);
+    Ok(())
+}
+
+impl Part {
+    ghost use Rattle.std.specs.Prelude.{[]};
+
+    /// A part that holds nothing. Takes no memory.
+    pub(crate) fn new(alloc: Global) -> Part
+        ensures { result.levels.items ≡ [] }
+    {
+        Part {
+            levels: Vec::new(alloc),
+            cuts: Cuts::none(),
+        }
+    }
+
+    /// Plans the steps of its levels as entries come, and makes room for them. What it holds stays.
+    pub(crate) fn plan<D: Dominance>(
+        &mut self,
+        alloc: Global,
+        dominance: &D,
+        window: usize,
+        cut: u32,
+        entries: &[Entry],
+    ) -> Result<Vec<Step>, AllocError>
+        requires window { 0 < window }
+        requires ids { HaveDifferentIds (map entry_of (ranked_from 1 self.old.levels.items) ++ entries.now) }
+        ensures same { ranked_from 1 self.new.levels.items ≡ ranked_from 1 self.old.levels.items }
+        ensures planned { IfOk result (λ steps. IsPlanned (entry_order (D.order dominance.now)) cut self.old.levels.items self.new.levels.items entries.now steps.items) }
+        ensures signed { IfOk result (λ steps. StepsAreSignedBy (signature_by self.new.cuts) steps.items) }
+    {
+        if entries.is_empty() {
+            return Ok(Vec::new(alloc));
+        }
+        renew_cuts(alloc, dominance, &mut self.cuts, &mut self.levels, entries)?;
+        let signatures = signatures_of(alloc, &self.cuts, entries)?;
+        plan(
+            alloc,
+            dominance,
+            window,
+            cut,
+            &mut self.levels,
+            entries,
+            &signatures,
+        )
+    }
+
+    /// Makes the steps that were planned. Takes no memory.
+    pub(crate) fn make(&mut self, steps: &[Step])
+        requires room { HaveRoom self.old.levels.items steps.now }
+        requires signed { StepsAreSignedBy (signature_by self.old.cuts) steps.now }
+        ensures { ranked_from 1 self.new.levels.items ≡ ranked_after 1 self.old.levels.items steps.now }
+    {
+        make_all(&mut self.levels, steps);
+    }
+
+    /// Adds entries, as [`Partial::add`](crate::Partial::add) does.
+    pub(crate) fn add<D: Dominance>(
+        &mut self,
+        alloc: Global,
+        dominance: &D,
+        window: usize,
+        cut: u32,
+        entries: &[Entry],
+    ) -> Result<(), AllocError>
+        requires window { 0 < window }
+        requires ids { HaveDifferentIds (map entry_of (ranked_from 1 self.old.levels.items) ++ entries.now) }
+        ensures ids { HaveDifferentIds (map entry_of (ranked_from 1 self.new.levels.items)) }
+        ensures ok { let over = entry_order (D.order dominance.now) in
+            (before : List Entry) → HaveDifferentIds (before ++ entries.now) → ranked_from 1 self.old.levels.items ≡ levels over before cut
+            → OnOk result (ranked_from 1 self.new.levels.items ≡ levels over (before ++ entries.now) cut) }
+        ensures err { OnErr result (ranked_from 1 self.new.levels.items ≡ ranked_from 1 self.old.levels.items) }
+    {
+        let steps = self.plan(alloc, dominance, window, cut, entries)?;
+        self.make(&steps);
+        Ok(())
+    }
+}
