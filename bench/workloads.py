@@ -96,21 +96,28 @@ ASKS = ["best low(c1) * high(c2)", "best low(c1) * low(c2) * low(c3)", "top_leve
         "at_least 20 high(c2) * low(c4)", "best pos(g, 1, 2, 3) & low(c1) * low(c2)", "skyline of c1 min, c2 max, g diff"]
 
 
+def live_row(r):
+    """The cells of a row of the tables of live, changes and updates."""
+    return ",".join(str(r.randrange(SCALE)) for _ in range(4)) + f",{r.randrange(20)}"
+
+
+def live_table(r, rows):
+    return ["table", "c1,c2,c3,c4,g"] + [live_row(r) for _ in range(rows)] + ["end"]
+
+
 def live(rows, commands, cap):
     """60 of 100 commands are updates, 20 inserts and deletes, 10 gets and rooms, 10 steps of queries."""
     r = random.Random("live")
-    def row():
-        return ",".join(str(r.randrange(SCALE)) for _ in range(4)) + f",{r.randrange(20)}"
-    lines = ["table", "c1,c2,c3,c4,g"] + [row() for _ in range(rows)] + ["end"]
+    lines = live_table(r, rows)
     ids = list(range(1, rows + 1))
     next_id, blocks, asked = rows + 1, -(-cap // 1024), 0
     left = [None] * 8
     for _ in range(commands):
         client, p = r.randrange(8), r.random()
         if p < .6:
-            lines.append(f"as {client + 1} update {r.choice(ids)} {row()}")
+            lines.append(f"as {client + 1} update {r.choice(ids)} {live_row(r)}")
         elif p < .7:
-            lines.append(f"as {client + 1} insert {row()}")
+            lines.append(f"as {client + 1} insert {live_row(r)}")
             ids.append(next_id)
             next_id += 1
         elif p < .8:
@@ -138,6 +145,17 @@ def changes(rows, commands, cap):
     """The live mix without queries: updates, inserts, deletes, gets, rooms."""
     lines, play = live(rows, commands, cap)
     return [l for l in lines if l.split()[2:3] not in (["begin"], ["scan"], ["finish"])], play
+
+
+def updates(rows, count, cap, together):
+    """Updates of random rows, the same ones whether each is a line of its own or eight of different rows are a commit."""
+    r = random.Random("updates")
+    lines = live_table(r, rows)
+    for _ in range(count // 8):
+        client = r.randrange(8) + 1
+        eight = [f"update {i} {live_row(r)}" for i in r.sample(range(1, rows + 1), 8)]
+        lines += [f"as {client} commit {'; '.join(eight)}"] if together else [f"as {client} {update}" for update in eight]
+    return lines, options(cap, clients=8)
 
 
 def grouped(n, d, groups, repeat):
@@ -280,10 +298,12 @@ FULL |= {
     "atleast100-ind-d3": lambda: levels("at_least 100", "ind", 3, 20_000, 1),
     "live": lambda: live(40_000, 100_000, 65_536),
     "changes": lambda: changes(40_000, 100_000, 65_536),
+    "single-updates": lambda: updates(40_000, 160_000, 65_536, False),
     "grouped": lambda: grouped(65_536, 3, 100, 4),
     "deep": lambda: deep(20_000, 2),
     "alike": lambda: rated(65_536, "best high(stars)"),
     "alike-all": lambda: rated(65_536, "best pos(stars, 9)"),
+    "alike-clause": lambda: rated(65_536, "skyline of stars max"),
     "own-groups": lambda: rated(65_536, "best low(price) by id"),
     "wide": lambda: wide(16_384),
     "one-by-one": lambda: one_by_one(16_384),
@@ -303,10 +323,12 @@ QUICK = {
     "quick-atleast100": lambda: levels("at_least 100", "ind", 3, 4_096, 1),
     "quick-live": lambda: live(10_000, 20_000, 16_384),
     "quick-changes": lambda: changes(10_000, 80_000, 16_384),
+    "quick-single-updates": lambda: updates(10_000, 40_000, 16_384, False),
     "quick-grouped": lambda: grouped(8_192, 3, 100, 6),
     "quick-deep": lambda: deep(4_096, 3),
     "quick-alike": lambda: rated(8_192, "best high(stars)"),
     "quick-alike-all": lambda: rated(2_048, "best pos(stars, 9)"),
+    "quick-alike-clause": lambda: rated(8_192, "skyline of stars max"),
     "quick-own-groups": lambda: rated(4_096, "best low(price) by id"),
     "quick-wide": lambda: wide(2_048),
     "quick-one-by-one": lambda: one_by_one(1_024),
@@ -315,7 +337,17 @@ QUICK = {
     "quick-churn": lambda: churn(60_000, 7_500),
 }
 
-ALL = FULL | QUICK
+# what prefq_rs cannot read, since it has no `distinct` and no `commit`
+ALONE = {
+    "alike-distinct": lambda: rated(65_536, "skyline of distinct stars max"),
+    "commits-of-eight": lambda: updates(40_000, 160_000, 65_536, True),
+    "quick-alike-distinct": lambda: rated(8_192, "skyline of distinct stars max"),
+    "quick-commits-of-eight": lambda: updates(10_000, 40_000, 16_384, True),
+}
+# each of these beside the workload that does the same without
+WITHOUT = {name: name.replace("alike-distinct", "alike-clause").replace("commits-of-eight", "single-updates") for name in ALONE}
+
+ALL = FULL | QUICK | ALONE
 ALL |= {f"{name}-{n}": lambda make=make, n=n: make(n) for name, make in GROWING.items() for n in SIZES}
 ALL |= {f"churn-after-{changes}": lambda c=changes: churn(c, 30_000) for age in AGES for changes in (age, age + SAMPLE)}
 ALL |= {f"gets-{kind}": lambda k=kind: gets(k, GETS) for kind in ("home", "moved", "deleted", "never")}
