@@ -1,6 +1,6 @@
 #!/usr/bin/env bash
-# All tests: every proof from nothing, the must-fail edits and the tests by `rt ci`; then each check over the built programs that
-# takes seconds. Names what failed, and ends with a count of what passed and what failed.
+# All tests: every proof from nothing, the must-fail edits and the tests by `rt ci`; then the list of definitions, and each check over the
+# built programs that takes seconds. Names what failed, and ends with a count of what passed and what failed.
 #
 #     tests/all.sh
 #
@@ -41,6 +41,7 @@ passed=$(tail -n 1 "$room/gate" | sed -n 's/^\([0-9]*\) passed, [0-9]* failed$/\
 passed=${passed:-0}
 echo "== rt ci took $((SECONDS / 60)) minutes"
 
+check python3 tests/definitions.py
 check python3 examples/check.py
 check python3 tests/scripts.py
 check python3 tests/model/compare.py
