@@ -52,6 +52,65 @@ fn records_as_csv_reads_them(rt: HostRuntime) -> Result<(), Fail> {
     Ok(())
 }
 
+/// The first two cells of each row.
+fn pairs_of(alloc: Global, text: &[u8]) -> Result<Vec<(i64, i64)>, TableFault> {
+    let (_, rows) = read_table(alloc, text)?;
+    let mut pairs = Vec::new(alloc);
+    for row in rows.as_slice() {
+        pairs.push(pair(row))?;
+    }
+    Ok(pairs)
+}
+
+/// Rows of plain digits are read another way than the rows behind the first other line.
+#[test]
+fn plain_rows_before_others(rt: HostRuntime) -> Result<(), Fail> {
+    let cases = [
+        ("a,b\n1,2\n-3,+4\n", [(1, 2), (-3, 4)].as_slice()),
+        ("a,b\n1,2\n\"3\",4\n5,6", &[(1, 2), (3, 4), (5, 6)]),
+        ("a,b\n1,2\n3,4\r\n5,6\r\n", &[(1, 2), (3, 4), (5, 6)]),
+        ("a,b\r\n1,2\r\n3,4\n", &[(1, 2), (3, 4)]),
+        ("a,b\n1,2\n 3 ,\t4\n5,6\n", &[(1, 2), (3, 4), (5, 6)]),
+        ("a,b\n1,2\n\n\n3,4\n\n", &[(1, 2), (3, 4)]),
+        ("a,b\n1,2\r3,4", &[(1, 2), (3, 4)]),
+        ("a,b\r\n1,2\r\r\n3,4\r", &[(1, 2), (3, 4)]),
+        ("\"a\",b\n1,2\n3,\"4\"\n", &[(1, 2), (3, 4)]),
+        (
+            "a\n1\n9223372036854775807\n2\n",
+            &[(1, 0), (i64::MAX, 0), (2, 0)],
+        ),
+        ("\u{FEFF}a,b\n1,2\n", &[(1, 2)]),
+        ("a,b\n", &[]),
+    ];
+    for (text, wanted) in cases {
+        let found = pairs_of(rt.alloc(), text.as_bytes())?;
+        assert_same_list(&rt, text, found.as_slice(), wanted);
+    }
+    Ok(())
+}
+
+#[test]
+fn faults_behind_plain_rows(rt: HostRuntime) {
+    let cases = [
+        ("a,b\n1,2\n3,x\n", TableFault::NotWhole { row: 2, col: 2 }),
+        ("a,b\n1,2\n3,4\n5\n6,7\n", TableFault::Width { row: 3 }),
+        ("a,b\n1,2\n3,4,5\n", TableFault::Width { row: 2 }),
+        ("a,b\n1,2,\n", TableFault::Width { row: 1 }),
+        ("a\n1\n\u{FEFF}2\n", TableFault::NotWhole { row: 2, col: 1 }),
+        ("a\n1\n2\n\n\n-\n", TableFault::NotWhole { row: 3, col: 1 }),
+        ("a\n1\n\"2\"\nx", TableFault::NotWhole { row: 3, col: 1 }),
+        ("a\n1\n\"2\n\"\n", TableFault::NotWhole { row: 2, col: 1 }),
+        (
+            "a\n1\n9223372036854775808\n",
+            TableFault::OutOfRange { row: 2, col: 1 },
+        ),
+    ];
+    for (text, fault) in cases {
+        let found = fault_of(rt.alloc(), text.as_bytes());
+        assert_same(&rt, text, &found, &Some(fault));
+    }
+}
+
 #[test]
 fn refused_texts(rt: HostRuntime) {
     let cases = [
@@ -97,6 +156,21 @@ fn the_row_after_the_last_is_too_many(rt: HostRuntime) -> Result<(), Fail> {
     let (_, rows) = read_table(rt.alloc(), text.as_slice())?;
     assert_same(&rt, "the last row", &rows.len(), &65_536);
     text.extend_from_slice(b"1,2\n")?;
+    let found = fault_of(rt.alloc(), text.as_slice());
+    assert_same(&rt, "one more", &found, &Some(TableFault::TooManyRows));
+    Ok(())
+}
+
+#[test]
+fn rows_behind_many_plain_ones_count_on(rt: HostRuntime) -> Result<(), Fail> {
+    let mut text = b"a\n".to_vec(rt.alloc())?;
+    for _ in 0..65_534 {
+        text.extend_from_slice(b"7\n")?;
+    }
+    text.extend_from_slice(b"\"8\"\n9\n")?;
+    let (_, rows) = read_table(rt.alloc(), text.as_slice())?;
+    assert_same(&rt, "the last row", &rows.len(), &65_536);
+    text.extend_from_slice(b"10\n")?;
     let found = fault_of(rt.alloc(), text.as_slice());
     assert_same(&rt, "one more", &found, &Some(TableFault::TooManyRows));
     Ok(())

@@ -1,19 +1,20 @@
 -- A field of digits, perhaps behind a sign, read in the pass that finds its end.
-use Rattle.std.proofs.Common.{◌≡◌, ◌∙◌, ℕ, ◌+◌, ◌-◌, ◌<◌, ◌≤◌, ◌*◌, ◌^◌, Bool, true, false, List, [], ◌∷◌, length, take, get_or, sym, ap, refl, arith, add-one, zero, suc, Ok, ℤ, pos}
+use Rattle.std.proofs.Common.{◌≡◌, ◌∙◌, ℕ, ◌+◌, ◌-◌, ◌<◌, ◌≤◌, ◌*◌, ◌^◌, Bool, true, false, List, [], ◌∷◌, length, take, drop, get_or, sym, ap, refl, arith, add-one, zero, suc, Ok, ℤ, pos}
 use Rattle.std.specs.Prelude.{nat_lt, ◌==◌}
 use Rattle.std.specs.List.{prefix_len, suffix_len}
 use Rattle.std.specs.Char.{is_ascii_digit}
 use Rattle.std.specs.Str.{all_ascii_digits}
 use Rattle.std.specs.Str.Parse.{digits_value, starts_with_minus, without_leading_sign}
 use Rattle.std.proofs.Math.Nat.{pow-le-pow_right, pow-suc}
-use Rattle.std.proofs.lemmas.Bool.{eqb-true, le-leb, lt-ltb, ltb-true, ltb-false, ne_eqb}
+use Rattle.std.proofs.lemmas.Bool.{eqb-false, eqb-true, le-leb, lt-ltb, ltb-true, ltb-false, ne_eqb}
 use Rattle.std.proofs.lemmas.Int.Digits.{digits_value_more}
-use Rattle.std.proofs.lemmas.List.{get_or-take, length-take-le, take_all}
+use Rattle.std.proofs.lemmas.List.{get_or-drop, get_or-take, length-drop, length-take-le, take_all}
 use Rattle.std.proofs.lemmas.List.Sums.{prefix_len-drop_no, suffix_len-take_no}
 use Rattle.std.proofs.lemmas.Str.Parse.{without_leading_plus_none}
 use Rattle.pref_table.specs.Capped.{IsCapped}
 use Rattle.pref_table.specs.Fields.{AreLeadingDigits, IsPlainField}
 use Rattle.pref_table.specs.Number.{fits_cell, is_blank, number_of, signed_by, without_blanks}
+use Rattle.pref_table.specs.Plain.{ArePlain, IsPlain}
 use Rattle.pref_table.specs.Rows.{is_comma}
 use Rattle.pref_table.proofs.NumberFacts.{digit_value-of, number-fits}
 use Rattle.pref_table.proofs.RowsFacts.{cut_at, cut_none}
@@ -43,6 +44,9 @@ not_comma byte (low, high, other) = ne_eqb byte 44 other
 
 digit_signed : (byte : ℕ) → IsDigit byte → IsSigned byte
 digit_signed byte (low, high) = (omega arith, high, λ e. absurd (omega arith))
+
+signed_plain : (byte : ℕ) → IsSigned byte → IsPlain byte
+signed_plain byte (low, high, other) = (λ e. absurd (omega arith), λ e. absurd (omega arith), λ e. absurd (omega arith))
 
 -- one digit more, at the end of those so far
 pub room_below : (place most value : ℕ) → place ≤ most → value < 10 ^ place → value < 10 ^ most
@@ -90,14 +94,32 @@ field_reads field digits value d some are blanks e small =
     number-fits field field digits blanks d (ne_eqb (length digits) 0 (λ z. absurd (omega arith))) (all_digits digits are) value capped
     (signed_by (starts_with_minus field) value) (small-fits (starts_with_minus field) value small) refl
 
+-- a line is plain where its first field is of signs and digits, and what follows the comma is plain
+line_plain : (line : List ℕ) (size : ℕ) → ((k : ℕ) → k < size → IsSigned (get_or line k 0)) → (size < length line → get_or line size 0 ≡ 44)
+    → ArePlain (drop (size + 1) line) → ArePlain line
+line_plain line size signed comma rest k inside = by (nat_lt k size) (k == size) refl refl
+  where
+    by : (before here : Bool) → nat_lt k size ≡ before → (k == size) ≡ here → IsPlain (get_or line k 0)
+    by true here b e = signed_plain _ (signed k (ltb-true k size b))
+    by false true b e =
+        let at : k ≡ size = eqb-true k size e in
+        rw (at, comma (omega arith)) (λ e. absurd (omega arith), λ e. absurd (omega arith), λ e. absurd (omega arith))
+    by false false b e =
+        let past : size < k = omega (arith, ltb-false k size b, eqb-false k size e) in
+        let place : size + 1 + (k - (size + 1)) ≡ k = omega arith in
+        let same : get_or (drop (size + 1) line) (k - (size + 1)) 0 ≡ get_or line k 0 = get_or-drop (size + 1) line (k - (size + 1)) 0 ∙ ap (λ n. get_or line n 0) place in
+        rw same at (rest (k - (size + 1)) (omega (arith, length-drop (size + 1) line)))
+
 -- a first field ends at its comma, or with the line
-field_ends : (line : List ℕ) (number : ℤ) (size : ℕ) → size ≤ length line → number_of (take size line) ≡ Ok number
+field_ends : (line : List ℕ) (number : ℤ) (size : ℕ) → 0 < size → size ≤ length line → number_of (take size line) ≡ Ok number
     → ((k : ℕ) → k < size → IsSigned (get_or line k 0)) → (size < length line → get_or line size 0 ≡ 44) → IsPlainField line number size
-field_ends line number size inside reads signed comma = record {
+field_ends line number size some inside reads signed comma = record {
+  some = some;
   inside = inside;
   reads = reads;
   cut = λ more. cut_at line size more (λ k h. not_comma _ (signed k h)) (comma more);
   last = λ whole. cut_none line (λ k h. not_comma _ (signed k (omega arith)));
+  plain = line_plain line size signed comma;
 }
 
 last_not_blank : (digits : List ℕ) (sign : ℕ) → 0 < length digits → AreDigits digits (length digits) → is_blank (get_or (sign ∷ digits) (length digits) 0) ≡ false
@@ -120,7 +142,7 @@ module _ (line : List ℕ) (value count : ℕ) (some : 0 < count) where
       let minus : starts_with_minus field ≡ false = ne_eqb (get_or field 0 0) 45 (λ e. absurd (omega (arith, first))) in
       let sign : field ≡ without_leading_sign field = rw minus (sym (without_leading_plus_none field (λ e. absurd (omega (arith, first))))) in
       let reads = field_reads field field value sign (omega (arith, size)) are blanks led.reads led.small in
-      field_ends line (pos value) count led.inside (rw minus at reads) (λ k h. digit_signed _ (led.digits k h)) comma
+      field_ends line (pos value) count some led.inside (rw minus at reads) (λ k h. digit_signed _ (led.digits k h)) comma
 
   -- digits behind a sign
   signed_field : (sign : ℕ) (negative : Bool) → (sign == 45) ≡ negative → IsSigned sign → without_leading_sign (sign ∷ take count line) ≡ take count line
@@ -132,7 +154,7 @@ module _ (line : List ℕ) (value count : ℕ) (some : 0 < count) where
       let end : length (sign ∷ digits) - 1 ≡ length digits = omega arith in
       let blanks = no_blanks (sign ∷ digits) (omega arith) (not_blank sign signed) (rw end (last_not_blank digits sign (omega (arith, size)) are)) in
       let reads = field_reads (sign ∷ digits) digits value (sym rest) (omega (arith, size)) are blanks led.reads led.small in
-      field_ends (sign ∷ line) (signed_by negative value) (suc count) (omega (arith, led.inside)) (rw minus at reads) (each_signed sign line count signed led.digits) (λ h. comma (omega arith))
+      field_ends (sign ∷ line) (signed_by negative value) (suc count) (omega arith) (omega (arith, led.inside)) (rw minus at reads) (each_signed sign line count signed led.digits) (λ h. comma (omega arith))
 
 -- a line that begins with so many digits behind an optional sign, and then ends or goes on with a comma
 pub plain_is : (line : List ℕ) (value count size : ℕ) → 0 < count → AreLeadingDigits (without_leading_sign line) value count

@@ -4,6 +4,7 @@ use Rattle.std.specs.Prelude.{◌≡◌, ◌⊎◌, ◌≤◌, ◌<◌, ◌+◌,
 use Rattle.std.specs.Str.Parse.{digits_value}
 use Rattle.std.specs.List.{slice_split}
 use Rattle.pref_table.specs.Number.{number_of}
+use Rattle.pref_table.specs.Plain.{ArePlain}
 use Rattle.pref_table.specs.Rows.{cell_in, is_comma}
 use Rattle.pref_table.specs.declared.fault.TableFault.{TableFault}
 
@@ -18,12 +19,14 @@ pub record AreLeadingDigits (text : List ℕ) (value count : ℕ) : Type 0 where
   pub reads : value ≡ digits_value 10 (take count text)
   pub small : value < 10 ^ 18
 
--- the first size bytes of a line are its first field, and read as this number
+-- the first size bytes of a line are its first field, which is plain, and read as this number
 pub record IsPlainField (line : List ℕ) (number : ℤ) (size : ℕ) : Type 0 where
+  pub some : 0 < size
   pub inside : size ≤ length line
   pub reads : number_of (take size line) ≡ Ok number
   pub cut : size < length line → slice_split is_comma line ≡ take size line ∷ slice_split is_comma (drop (size + 1) line)
   pub last : size ≡ length line → slice_split is_comma line ≡ line ∷ []
+  pub plain : ArePlain (drop (size + 1) line) → ArePlain line
 
 -- the cell of a line's first field, which is in this column of row 0, or its fault; and what follows the comma after it
 pub record FirstCell (line : List ℕ) (col : ℕ) (cell : Result ℤ TableFault) (after : List ℕ) : Type 0 where

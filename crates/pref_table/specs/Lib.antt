@@ -7,3 +7,5 @@ pub mod Records
 pub mod Tables
 pub mod Capped
 pub mod Fields
+pub mod Plain
+pub mod Lines

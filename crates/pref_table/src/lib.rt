@@ -3,6 +3,7 @@
 
 mod fault;
 mod line;
+mod lines;
 mod number;
 mod row;
 mod schema;

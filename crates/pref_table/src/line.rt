@@ -1,6 +1,7 @@
 //! A row from a line of text.
-ghost use Rattle.std.specs.Prelude.{◌≡◌, ◌==◌, ◌+◌, ◌<◌, ℕ, length, drop, count_by, List, MatchResult, Ok, Err};
+ghost use Rattle.std.specs.Prelude.{◌≡◌, ◌==◌, ◌+◌, ◌<◌, ◌≤◌, ℕ, length, drop, count_by, List, IfSome, MatchResult, Ok, Err};
 ghost use Rattle.pref_table.specs.Fields.{FirstCell, IsCutInto};
+ghost use Rattle.pref_table.specs.Lines.{IsPlainLine};
 ghost use Rattle.pref_table.specs.Rows.{line_row};
 
 use crate::fault::TableFault;
@@ -61,6 +62,28 @@ fn cut_row(schema: &Schema, line: &[u8]) -> Result<Row, TableFault>
     Ok(Row::of_cells(cells))
 }
 
+/// The row of a line whose fields are each 1 to 18 digits, perhaps behind a sign, and no other byte. Reads it in one pass.
+pub(crate) fn plain_row(width: usize, line: &[u8]) -> Option<Row>
+    requires { width ≤ 16 }
+    ensures row { IfSome result (λ row. line_row width line.now ≡ Ok row) }
+    ensures plain { IfSome result (λ _. IsPlainLine line.now) }
+{
+    let mut cells = [0; MAX_COLUMNS];
+    let mut rest = line;
+    for col in 0..width {
+        let (number, size) = plain_field(rest)?;
+        cells[col] = number;
+        if size < rest.len() {
+            rest = after_comma(rest, size);
+        } else if col + 1 == width {
+            return Some(Row::of_cells(cells));
+        } else {
+            return None;
+        }
+    }
+    None
+}
+
 /// The row of a line of text, whose fields are cut at each comma; there are no quotes. Takes no memory.
 ///
 /// A field is a whole number with spaces and tabs around it. Refused with the first of these faults, with row 0: `Width`,
@@ -70,21 +93,8 @@ fn cut_row(schema: &Schema, line: &[u8]) -> Result<Row, TableFault>
 pub fn read_row(schema: &Schema, line: &[u8]) -> Result<Row, TableFault>
     ensures { result ≡ line_row (length schema.now) line.now }
 {
-    let width = schema.width();
-    let mut cells = [0; MAX_COLUMNS];
-    let mut rest = line;
-    for col in 0..width {
-        let Some((number, size)) = plain_field(rest) else {
-            break;
-        };
-        cells[col] = number;
-        if size < rest.len() {
-            rest = after_comma(rest, size);
-        } else if col + 1 == width {
-            return Ok(Row::of_cells(cells));
-        } else {
-            break;
-        }
+    match plain_row(schema.width(), line) {
+        Some(row) => Ok(row),
+        None => cut_row(schema, line),
     }
-    cut_row(schema, line)
 }

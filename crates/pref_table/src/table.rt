@@ -1,15 +1,16 @@
 //! A table from its text.
-ghost use Rattle.std.specs.Prelude.{◌≡◌, true, ◌<◌, ◌≤◌, ℕ, List, length, map, IfOk, IfErr, IfSome, slice_get};
+ghost use Rattle.std.specs.Prelude.{◌≡◌, ◌++◌, true, ◌<◌, ◌≤◌, ℕ, List, drop, length, map, IfOk, IfErr, slice_get};
 ghost use Rattle.csv.specs.Records.{fields_of};
+ghost use Rattle.pref_table.specs.Lines.{IsLineEnd, IsPlainLine, header_names, rows_with};
 ghost use Rattle.pref_table.specs.Names.{schema_of};
 ghost use Rattle.pref_table.specs.Number.{without_blanks};
-ghost use Rattle.pref_table.specs.Numbered.{all_from};
 ghost use Rattle.pref_table.specs.Records.{HasLeft, ReadsFirst};
 ghost use Rattle.pref_table.specs.Rows.{row_of};
-ghost use Rattle.pref_table.specs.Tables.{Gives, numbered_row, table_of, without_marks};
-ghost use Rattle.csv.specs.Reading.{default_config, error_kind, records, stops_reader};
+ghost use Rattle.pref_table.specs.Tables.{Gives, table_of, table_of_records, without_marks};
+ghost use Rattle.csv.specs.Reading.{default_config, error_kind, records, stops_reader, strip_bom};
 
 use crate::fault::TableFault;
+use crate::lines::{cut_header, plain_rows};
 use crate::number::trim_blanks;
 use crate::row::{Row, cell_at};
 use crate::schema::{MAX_COLUMNS, Schema};
@@ -17,7 +18,7 @@ use csv::{ByteRecord, Reader, ReaderBuilder};
 use std::alloc::Global;
 
 /// The most rows that a table text has.
-const MAX_ROWS: u64 = 65_536;
+pub(crate) const MAX_ROWS: u64 = 65_536;
 
 /// The text without the byte order marks at its start.
 fn skip_marks(bytes: &[u8]) -> &[u8]
@@ -30,13 +31,15 @@ fn skip_marks(bytes: &[u8]) -> &[u8]
     rest
 }
 
-fn reader_of(alloc: Global, bytes: &[u8]) -> Reader<&[u8]>
-    ensures { HasLeft result (records default_config (without_marks bytes.now)) }
+/// A reader of the records of a text that has no byte order mark at its start.
+fn reader_of(alloc: Global, text: &[u8]) -> Reader<&[u8]>
+    requires { strip_bom text.now ≡ text.now }
+    ensures { HasLeft result (records default_config text.now) }
 {
     ReaderBuilder::new()
         .has_headers(false)
         .flexible(true)
-        .from_reader(alloc, skip_marks(bytes))
+        .from_reader(alloc, text)
 }
 
 /// Reads the next record, if there is one. What fails is the reader underneath, or memory.
@@ -97,18 +100,33 @@ fn record_row(schema: &Schema, row: u64, cells_text: &ByteRecord) -> Result<Row,
     Ok(Row::of_cells(cells))
 }
 
-/// Reads the rows under a header, up to the end of the text.
-fn read_rows(
+/// Reads the names in the first record.
+fn read_header(
     alloc: Global,
+    reader: &mut Reader<&[u8]>,
+    record: &mut ByteRecord,
+) -> Result<Schema, TableFault>
+    ensures names { (left : List (List (List ℕ))) → HasLeft reader.old left → Gives (λ schema. schema) result (header_names left) }
+    ensures rest { IfOk result (λ _. (left : List (List (List ℕ))) → HasLeft reader.old left → HasLeft reader.new (drop 1 left)) }
+{
+    if !next_record(reader, record)? {
+        return Err(TableFault::NoColumns);
+    }
+    read_schema(alloc, record)
+}
+
+/// Reads the rows behind those that are read already, up to the end of the text.
+fn read_rows(
     schema: &Schema,
+    mut rows: Vec<Row>,
     reader: &mut Reader<&[u8]>,
     record: &mut ByteRecord,
 ) -> Result<Vec<Row>, TableFault>
+    requires { length rows.items ≤ 65536 }
     ensures { (left : List (List (List ℕ))) → HasLeft reader.old left
-        → Gives (λ rows. rows.items) result (all_from (numbered_row (length schema.now)) 1 left) }
+        → Gives (λ rows. rows.items) result (rows_with (length schema.now) rows.items left) }
 {
-    let mut rows = Vec::new(alloc);
-    for row in 1..MAX_ROWS + 1 {
+    for row in rows.len() as u64 + 1..MAX_ROWS + 1 {
         if !next_record(reader, record)? {
             return Ok(rows);
         }
@@ -120,6 +138,36 @@ fn read_rows(
     Ok(rows)
 }
 
+/// The table of a header and the lines under it. The first lines are read without csv, as far as they are rows of plain digits.
+fn read_lines(alloc: Global, header: &[u8], lines: &[u8]) -> Result<(Schema, Vec<Row>), TableFault>
+    requires marks { strip_bom header.now ≡ header.now }
+    requires plain { IsPlainLine header.now }
+    requires ends { IsLineEnd lines.now }
+    ensures { Gives (λ table. (table.0, table.1.items)) result (table_of_records (records default_config (header.now ++ lines.now))) }
+{
+    let mut record = ByteRecord::new(alloc);
+    let schema = read_header(alloc, &mut reader_of(alloc, header), &mut record)?;
+    let (rows, left) = plain_rows(alloc, schema.width(), lines)?;
+    if left.len() <= 1 {
+        // At most a line feed is left, and no record.
+        return Ok((schema, rows));
+    }
+    let rows = read_rows(&schema, rows, &mut reader_of(alloc, left), &mut record)?;
+    Ok((schema, rows))
+}
+
+/// The table of a text whose records csv reads.
+fn read_records(alloc: Global, text: &[u8]) -> Result<(Schema, Vec<Row>), TableFault>
+    requires { strip_bom text.now ≡ text.now }
+    ensures { Gives (λ table. (table.0, table.1.items)) result (table_of_records (records default_config text.now)) }
+{
+    let mut reader = reader_of(alloc, text);
+    let mut record = ByteRecord::new(alloc);
+    let schema = read_header(alloc, &mut reader, &mut record)?;
+    let rows = read_rows(&schema, Vec::new(alloc), &mut reader, &mut record)?;
+    Ok((schema, rows))
+}
+
 /// The schema and the rows of a table text: its first record is the header, and each further one a row.
 ///
 /// Records and fields are those that the crate `csv` reads with its defaults, after byte order marks at the very
@@ -127,18 +175,17 @@ fn read_rows(
 /// record `TooManyRows`, `Width`, and from the left `NotWhole` or `OutOfRange`; `OutOfMemory` as soon as memory runs out.
 /// Reads the text once, keeps one record at a time, and stops at the first fault and after 65,537 rows.
 ///
+/// Rows of plain digits, perhaps behind signs, are read in one pass without the reader of `csv`, up to the first other line.
+///
 /// ```text
 /// let (schema, rows) = read_table(alloc, b"price,dist\n50,8\n60,5\n")?;
 /// ```
 pub fn read_table(alloc: Global, bytes: &[u8]) -> Result<(Schema, Vec<Row>), TableFault>
     ensures { Gives (λ table. (table.0, table.1.items)) result (table_of bytes.now) }
 {
-    let mut reader = reader_of(alloc, bytes);
-    let mut record = ByteRecord::new(alloc);
-    if !next_record(&mut reader, &mut record)? {
-        return Err(TableFault::NoColumns);
+    let text = skip_marks(bytes);
+    match cut_header(text) {
+        Some((header, lines)) => read_lines(alloc, header, lines),
+        None => read_records(alloc, text),
     }
-    let schema = read_schema(alloc, &record)?;
-    let rows = read_rows(alloc, &schema, &mut reader, &mut record)?;
-    Ok((schema, rows))
 }

@@ -1,0 +1,28 @@
+use Rattle.std.proofs.Common.{Ok, Err}
+use Rattle.std.proofs.lemmas.Result.{err_from_is_err_and}
+use Rattle.csv.specs.Reading.{default_config, records}
+use Rattle.pref_table.proofs.TablesFacts.{fails-on, table-names, table-rows}
+use Rattle.pref_table.proofs.table.read_records.Goals as goal
+
+pub returns-in_err-schema : goal.returns-in_err-schema
+returns-in_err-schema c =
+    let left = records default_config c.args.text.now in
+    let fault = c.in_err-schema.field-0.0 in
+    let p = err_from_is_err_and c.from_residual.result c.from_residual.ensures.1 in
+    rw (p.1, p.2) (fails-on fault _ _ (c.in_err-schema.ensures.names left c.reader_of-reader.ensures) (table-names left fault))
+
+pub returns-in_err-rows : goal.returns-in_err-rows
+returns-in_err-rows c =
+    let left = records default_config c.args.text.now in
+    let fault = c.in_err-rows.field-0.0 in
+    let names = c.in_ok-schema.ensures.names left c.reader_of-reader.ensures in
+    let rest = c.in_ok-schema.ensures.rest left c.reader_of-reader.ensures in
+    let p = err_from_is_err_and c.from_residual-in_err-rows.result c.from_residual-in_err-rows.ensures.1 in
+    rw (p.1, p.2) (fails-on fault _ _ (rw c.new.ensures.items at (c.in_err-rows.ensures _ rest)) (table-rows left c.in_ok-schema.schema (Err fault) names))
+
+pub returns : goal.returns
+returns c =
+    let left = records default_config c.args.text.now in
+    let names = c.in_ok-schema.ensures.names left c.reader_of-reader.ensures in
+    let rest = c.in_ok-schema.ensures.rest left c.reader_of-reader.ensures in
+    table-rows left c.in_ok-schema.schema (Ok c.in_ok-rows.rows.items) names (rw c.new.ensures.items at (c.in_ok-rows.ensures _ rest))
