@@ -7,7 +7,7 @@ use Rattle.std.proofs.lemmas.List.Edits.{length-swap, swap_is}
 use Rattle.std.proofs.lemmas.List.Folds.{list_any-append}
 use Rattle.pref_sky.specs.declared.entry.Entry.{Entry}
 use Rattle.pref_term.specs.Order.{RowOrder}
-use Rattle.pref_term.specs.declared.signature.cut.Cut.{Cut}
+use Rattle.pref_term.specs.declared.signature.scale.Scale.{Scale}
 use Rattle.pref_term.specs.Signatures.{Suit, is_within, signature}
 use Rattle.pref_sky.specs.Levels.{entry_order}
 use Rattle.pref_sky.specs.Signatures.{AreSigned}
@@ -60,7 +60,7 @@ first_holds true b h = refl
 first_holds false b h = h
 
 -- an entry that is over another has no bit that the other lacks, by cuts that suit the order of their rows
-pub suit_tells : (order : RowOrder) (cuts : List Cut) → Suit order cuts → (a b : Entry) → entry_order order a b ≡ true → is_within (signature cuts a.row) (signature cuts b.row) ≡ true
+pub suit_tells : (order : RowOrder) (cuts : List Scale) → Suit order cuts → (a b : Entry) → entry_order order a b ≡ true → is_within (signature cuts a.row) (signature cuts b.row) ≡ true
 suit_tells order cuts suit a b h =
     elim (cases_Bool (order.over a.row b.row)) [
       | inl over ↦ suit.over a.row b.row over

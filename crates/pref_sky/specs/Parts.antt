@@ -4,7 +4,7 @@ use Rattle.std.specs.Prelude.{◌≡◌, ◌+◌, ◌*◌, ◌/◌, ◌%◌, ◌
 use Rattle.std.specs.Global.{Global}
 use Rattle.std.specs.Int.{cast_unsigned, w64}
 use Rattle.pref_term.specs.Better.{cell}
-use Rattle.pref_term.specs.declared.signature.cut.Cut.{Cut}
+use Rattle.pref_term.specs.declared.signature.scale.Scale.{Scale}
 use Rattle.pref_sky.specs.declared.entry.Entry.{Entry}
 use Rattle.pref_sky.specs.declared.entry.Ranked.{Ranked}
 use Rattle.pref_sky.specs.declared.level.Level.{Level}
@@ -41,7 +41,7 @@ abbrev pub levels_of : ℕ → List Part → List Level
 levels_of n parts = listed (λ (part : Part). part.levels.items) n parts
 
 -- the cuts of a part
-abbrev pub cuts_of : ℕ → List Part → List Cut
+abbrev pub cuts_of : ℕ → List Part → List Scale
 cuts_of n parts = listed (λ (part : Part). part.cuts) n parts
 
 -- the entries that come to a part, and the steps that are planned for it

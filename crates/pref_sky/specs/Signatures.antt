@@ -3,7 +3,7 @@
 use Rattle.std.specs.Prelude.{⊤, ◌≡◌, true, ℕ, Bool, List, [], ◌∷◌, map}
 use Rattle.std.specs.Coded.{Coded-set, Unit-prop, coded_list, coded_ℕ, ×_prop}
 use Rattle.std.specs.List.Sorted.{IsPermutation}
-use Rattle.pref_term.specs.declared.signature.cut.Cut.{Cut}
+use Rattle.pref_term.specs.declared.signature.scale.Scale.{Scale}
 use Rattle.pref_term.specs.Signatures.{is_within, signature}
 use Rattle.pref_sky.specs.Windows.{Held}
 use Rattle.pref_sky.specs.declared.entry.Entry.{Entry}
@@ -12,7 +12,7 @@ use Rattle.pref_sky.specs.declared.level.Step.{Step}
 use Rattle.pref_sky.specs.declared.signatures.SignedEntries.{SignedEntries}
 
 -- the signature of an entry by some cuts
-abbrev pub signature_by : List Cut → Entry → ℕ
+abbrev pub signature_by : List Scale → Entry → ℕ
 signature_by cuts e = signature cuts e.row
 
 -- two lists with their signatures beside them, all by one rule: an entry that dominates another has no bit that the other lacks

@@ -83,7 +83,7 @@ fn renew_cuts<D: Dominance>(
     ensures ranked { ranked_from 1 held.new.items ≡ ranked_from 1 held.old.items }
     ensures len { vec_len held.new ≡ vec_len held.old }
 {
-    if !cuts.as_slice().is_empty() && dominance.suits(cuts) {
+    if !cuts.is_none() && dominance.suits(cuts) {
         return Ok(());
     }
     let new = cuts_beside(alloc, dominance, held, entries)?;

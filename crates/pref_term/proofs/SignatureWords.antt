@@ -1,14 +1,13 @@
 -- Words of bits: where each bit of a word is one of another, the first is within the second.
-use Rattle.std.proofs.Common.{◌≡◌, ◌<◌, ◌≤◌, ◌+◌, ◌*◌, ◌^◌, ◌%◌, ◌/◌, ℕ, zero, suc, ℤ, List, [], ◌∷◌, Bool, true, false, refl, sym, ap, ◌∙◌, arith, eq-eqb, w64}
+use Rattle.std.proofs.Common.{◌≡◌, ◌<◌, ◌≤◌, ◌+◌, ◌*◌, ◌^◌, ◌%◌, ◌/◌, ℕ, zero, suc, ℤ, List, [], ◌∷◌, ◌++◌, map, Bool, true, false, refl, sym, ap, ◌∙◌, arith, eq-eqb, w64}
 use Rattle.std.specs.Prelude.{bit_and, min}
-use Rattle.std.specs.List.{list_all}
+use Rattle.std.specs.List.{flat_map, list_all}
 use Rattle.std.specs.Int.{bit_at, bit_not, from_bool}
 use Rattle.std.proofs.lemmas.Nat.{and_le_l}
 use lib.Bits.{or_lt}
 use Rattle.std.proofs.lemmas.Nat.Bits.{bit_at_and, bit_at_or, bit_at_not, bit_at_lowest, bit_at-suc, bit_at-zero, bit_at-lt, bit_at_cat_low, same_from_bits_below}
 use Rattle.pref_term.specs.OrderLaws.{and_parts}
-use Rattle.pref_term.specs.Signatures.{is_within, reaches, signature, signed_onto, with_bit}
-use Rattle.pref_term.specs.declared.signature.cut.Cut.{Cut}
+use Rattle.pref_term.specs.Signatures.{is_within, signed_onto, with_bit}
 
 -- each of the 64 bits of the first word is one of the second
 Covered : ℕ → ℕ → Type 0
@@ -47,11 +46,45 @@ pushed_covered x y b c covered step zero inside =
 pushed_covered x y b c covered step (suc i) inside =
     omega (arith, bit_at_or (x * 2 ^ 1 % 2 ^ 64) (from_bool b) (suc i), bit_at_or (y * 2 ^ 1 % 2 ^ 64) (from_bool c) (suc i), pushed_high x i inside, pushed_high y i inside, bit_high b i, bit_high c i, covered i (omega arith))
 
-signed_covered : (test : Cut → Bool) (cuts : List Cut) (a b : List ℤ) → ((cut : Cut) → test cut ≡ true → reaches cut a ≡ true → reaches cut b ≡ true) → (x y : ℕ) → list_all test cuts ≡ true → Covered x y → Covered (signed_onto x cuts a) (signed_onto y cuts b)
-signed_covered test [] a b keeps x y all_pass covered = covered
-signed_covered test (cut ∷ cuts) a b keeps x y all_pass covered =
-    let both = and_parts (test cut) (list_all test cuts) all_pass in
-    signed_covered test cuts a b keeps (with_bit x (reaches cut a)) (with_bit y (reaches cut b)) both.1 (pushed_covered x y (reaches cut a) (reaches cut b) covered (keeps cut both.0))
+-- ---- lists of bits
+
+-- each bit that is set in the first list is set in the second, which is as long
+pub Implied : List Bool → List Bool → Type 0
+Implied [] [] = Unit {0}
+Implied [] (c ∷ cs) = ⊥
+Implied (b ∷ bs) [] = ⊥
+Implied (b ∷ bs) (c ∷ cs) = (b ≡ true → c ≡ true) × Implied bs cs
+
+pub implied_itself : (bs : List Bool) → Implied bs bs
+unfolding Implied
+implied_itself [] = tt
+implied_itself (b ∷ bs) = (λ h. h, implied_itself bs)
+
+pub implied_map : {E : Type 0} (f g : E → Bool) → ((x : E) → f x ≡ true → g x ≡ true) → (xs : List E) → Implied (map f xs) (map g xs)
+unfolding Implied
+implied_map f g each [] = tt
+implied_map f g each (x ∷ xs) = (each x, implied_map f g each xs)
+
+implied_append : (xs bs ys cs : List Bool) → Implied xs bs → Implied ys cs → Implied (xs ++ ys) (bs ++ cs)
+unfolding Implied
+implied_append [] [] ys cs h k = k
+implied_append [] (b ∷ bs) ys cs h k = absurd h
+implied_append (x ∷ xs) [] ys cs h k = absurd h
+implied_append (x ∷ xs) (b ∷ bs) ys cs h k = (h.0, implied_append xs bs ys cs h.1 k)
+
+pub implied_flat : {E : Type 0} (test : E → Bool) (f g : E → List Bool) → ((x : E) → test x ≡ true → Implied (f x) (g x)) → (xs : List E) → list_all test xs ≡ true → Implied (flat_map f xs) (flat_map g xs)
+unfolding Implied
+implied_flat test f g each [] all_pass = tt
+implied_flat test f g each (x ∷ xs) all_pass =
+    let both = and_parts (test x) (list_all test xs) all_pass in
+    implied_append (f x) (g x) (flat_map f xs) (flat_map g xs) (each x both.0) (implied_flat test f g each xs both.1)
+
+signed_covered : (bs cs : List Bool) → Implied bs cs → (x y : ℕ) → Covered x y → Covered (signed_onto x bs) (signed_onto y cs)
+unfolding Implied
+signed_covered [] [] h x y covered = covered
+signed_covered [] (c ∷ cs) h x y covered = absurd h
+signed_covered (b ∷ bs) [] h x y covered = absurd h
+signed_covered (b ∷ bs) (c ∷ cs) h x y covered = signed_covered bs cs h.1 (with_bit x b) (with_bit y c) (pushed_covered x y b c covered h.0)
 
 -- a signature has 64 bits
 one_below : (b : Bool) → from_bool b < 2 ^ 64
@@ -61,9 +94,9 @@ one_below false = omega arith
 bit_below : (x : ℕ) (b : Bool) → with_bit x b < 2 ^ 64
 bit_below x b = or_lt 64 (x * 2 ^ 1 % 2 ^ 64) (from_bool b) (omega arith) (one_below b)
 
-signed_below : (cuts : List Cut) (row : List ℤ) (x : ℕ) → x < 2 ^ 64 → signed_onto x cuts row < 2 ^ 64
-signed_below [] row x small = small
-signed_below (cut ∷ cuts) row x small = signed_below cuts row (with_bit x (reaches cut row)) (bit_below x (reaches cut row))
+signed_below : (bits : List Bool) (x : ℕ) → x < 2 ^ 64 → signed_onto x bits < 2 ^ 64
+signed_below [] x small = small
+signed_below (b ∷ bits) x small = signed_below bits (with_bit x b) (bit_below x b)
 
 -- so nothing of the first is outside the second
 within_if_covered : (x y : ℕ) → x < 2 ^ 64 → y < 2 ^ 64 → Covered x y → is_within x y ≡ true
@@ -73,9 +106,13 @@ within_if_covered x y small_x small_y covered =
     eq-eqb rest 0 (same_from_bits_below 64 rest 0 (omega (arith, and_le_l x (bit_not w64 y))) (omega arith)
     (λ i inside. bit_at_and x (bit_not w64 y) i ∙ (ap (min (bit_at x i)) (bit_at_not w64 y i small_y inside) ∙ omega (arith, covered i inside, bit_at-lt y i, bit_at-zero i))))
 
--- where one row reaches no cut that another does not reach, its signature is within the other's
-pub signed_within : (test : Cut → Bool) (cuts : List Cut) (a b : List ℤ) → ((cut : Cut) → test cut ≡ true → reaches cut a ≡ true → reaches cut b ≡ true) → list_all test cuts ≡ true → is_within (signature cuts a) (signature cuts b) ≡ true
+-- where each bit of a list is set in another, the word of the first is within that of the second
+pub signed_within : (bs cs : List Bool) → Implied bs cs → is_within (signed_onto 0 bs) (signed_onto 0 cs) ≡ true
 unfolding Covered
-signed_within test cuts a b keeps all_pass =
-    within_if_covered (signature cuts a) (signature cuts b) (signed_below cuts a 0 (omega arith)) (signed_below cuts b 0 (omega arith))
-    (signed_covered test cuts a b keeps 0 0 all_pass (λ i inside. omega arith))
+signed_within bs cs h =
+    within_if_covered (signed_onto 0 bs) (signed_onto 0 cs) (signed_below bs 0 (omega arith)) (signed_below cs 0 (omega arith)) (signed_covered bs cs h 0 0 (λ i inside. omega arith))
+
+-- bits are put behind a word one list after the other
+pub signed_onto_append : (word : ℕ) (bs cs : List Bool) → signed_onto word (bs ++ cs) ≡ signed_onto (signed_onto word bs) cs
+signed_onto_append word [] cs = refl
+signed_onto_append word (b ∷ bs) cs = signed_onto_append (with_bit word b) bs cs

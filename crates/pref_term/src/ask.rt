@@ -5,7 +5,7 @@ ghost use Rattle.pref_term.specs.Better.{in_same_group};
 use crate::dominance::Dominance;
 use crate::factor::{Factor, compare_by_factors, factors_of};
 use crate::relation::Relation;
-use crate::signature::{Cuts, all_suit, cuts_for};
+use crate::signature::{Cuts, cuts_for};
 use crate::term::Term;
 use crate::walk::compare;
 use pref_table::Row;
@@ -220,7 +220,7 @@ impl Dominance for Ask {
 
     /// Whether each cut goes through the scores of a part that leads the term, or reads a column of the group. Takes no memory.
     fn suits(&self, cuts: &Cuts) -> bool {
-        all_suit(cuts.as_slice(), &self.term, &self.group)
+        cuts.suit(&self.term, &self.group)
     }
 
     fn cuts(&self, alloc: Global, sample: &[Row]) -> Result<Cuts, AllocError> {

@@ -55,7 +55,7 @@ pub trait Dominance {
     fn suits(&self, cuts: &Cuts) -> bool
         ensures { result ≡ true → Suit (order self.now) cuts.now }
     {
-        cuts.as_slice().is_empty()
+        cuts.is_none()
     }
 
     /// Cuts for rows like these. Any are right where `suits` says so, and good ones distinguish most rows;

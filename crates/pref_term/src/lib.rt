@@ -26,6 +26,6 @@ pub use fault::TermFault;
 pub use read::read_ask;
 pub use relation::Relation;
 pub use shown::show;
-pub use signature::{Cut, Cuts, is_within};
+pub use signature::{Cuts, is_within};
 pub use term::{NumberSets, Numbers, Term};
 pub use walk::{better, compare, same};

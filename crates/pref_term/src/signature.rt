@@ -1,19 +1,18 @@
 //! Signatures of rows: a word for each row, by which most pairs are distinguished without a comparison.
 //!
-//! Each bit says whether the row reaches a cut, through the scores of a base term or by the hash of a cell of its group. A row that
-//! dominates another reaches no cut that the other does not reach, whatever the cuts are: so where a bit of the first is missing in
+//! Each bit says whether the row reaches a mark of a scale, by the score of a base term, or is by the hash of a cell of its group. A row that
+//! dominates another reaches no mark that the other does not reach, whatever the marks are: so where a bit of the first is missing in
 //! the second, the first does not dominate the second.
 ghost use Rattle.std.specs.Prelude.{◌≡◌};
 ghost use Rattle.pref_term.specs.Signatures.{is_within};
 
 mod choose;
-mod cut;
 mod cuts;
+mod measure;
+mod scale;
 
 pub(crate) use choose::cuts_for;
-pub use cut::Cut;
 pub use cuts::Cuts;
-pub(crate) use cuts::all_suit;
 
 /// Whether no bit of the first signature is missing in the second. Where one is, the first row does not dominate the second,
 /// by an order that the cuts of both suit.

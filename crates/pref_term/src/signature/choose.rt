@@ -1,13 +1,13 @@
-//! Cuts for an ask, from a sample of rows. Any cuts through leading parts or columns of the group are right, so nothing about their values is proved.
+//! Cuts for an ask, from a sample of rows. Any marks on scales of leading parts or of the group's columns are right, so nothing about them is proved.
 ghost use Rattle.std.specs.Prelude.{◌<◌, All, IfOk, OnOk};
 ghost use Rattle.pref_term.specs.Columns.{ReadsBelow};
-ghost use Rattle.pref_term.specs.Factors.{AreInRow, preference_of_factor};
 ghost use Rattle.pref_term.specs.Preference.{preference_of};
-ghost use Rattle.pref_term.specs.Signatures.{cut_column};
+ghost use Rattle.pref_term.specs.Signatures.{measure_column, scale_column};
 
-use crate::factor::{Factor, Sense, outside};
-use crate::signature::cut::Cut;
+use crate::factor::Sense;
 use crate::signature::cuts::Cuts;
+use crate::signature::measure::Measure;
+use crate::signature::scale::Scale;
 use crate::term::Term;
 use pref_table::Row;
 use std::alloc::{AllocError, Global};
@@ -15,35 +15,34 @@ use std::alloc::{AllocError, Global};
 /// The bits of a signature.
 const BITS: usize = 64;
 
-/// How many bits of hashes the columns of a group share, about. Each takes two cuts, and leaves half of the pairs of different groups to
-/// be compared: an eighth one would spare no more than it costs where a row meets three hundred others.
+/// How many bits of hashes the columns of a group share, about. Each takes two bits of a signature, and leaves half of the pairs of different
+/// groups to be compared: an eighth one would spare no more than it costs where a row meets three hundred others.
 const HASH_BITS: usize = 7;
 
 /// The bit of a hash that distinguishes values best.
 const FIRST_BIT: u64 = 1 << 63;
 
-/// In fewer than twice as many groups, cuts through scores are worth all the bits that the group leaves.
+/// In fewer than twice as many groups, marks on scores are worth all the bits that the group leaves.
 const FEW_GROUPS: usize = 8;
 
-/// Puts the factors of the base terms that lead the term, in this sense, behind these.
-fn push_leading(parts: &mut Vec<Factor>, term: &Term, sense: Sense) -> Result<(), AllocError>
+/// Puts the measures of the base terms that lead the term, in this sense, behind these.
+fn push_leading(parts: &mut Vec<Measure>, term: &Term, sense: Sense) -> Result<(), AllocError>
     requires term { ReadsBelow 16 (preference_of term.now) }
-    requires within { AreInRow parts.old.items }
-    ensures { OnOk result (AreInRow parts.new.items) }
+    requires within { All (λ part. measure_column part < 16) parts.old.items }
+    ensures { OnOk result (All (λ part. measure_column part < 16) parts.new.items) }
 {
-    let factor = match term {
-        Term::Low { col } => Factor::Low { col: *col },
-        Term::High { col } => Factor::High { col: *col },
-        Term::Around { col, centre } => Factor::Distance {
+    let measure = match term {
+        Term::Low { col } => Measure::Low { col: *col },
+        Term::High { col } => Measure::High { col: *col },
+        Term::Around { col, centre } => Measure::Near {
             col: *col,
-            centre: *centre,
-            sense: Sense::Direct,
+            left: *centre,
+            right: *centre,
         },
-        Term::Between { col, left, right } => Factor::Range {
+        Term::Between { col, left, right } => Measure::Near {
             col: *col,
             left: *left,
             right: *right,
-            sense: Sense::Direct,
         },
         Term::Pos { .. } | Term::Layered { .. } => return Ok(()),
         Term::Pareto(p, q) => {
@@ -53,127 +52,79 @@ fn push_leading(parts: &mut Vec<Factor>, term: &Term, sense: Sense) -> Result<()
         Term::Prior(p, _) => return push_leading(parts, p, sense),
         Term::Reverse(p) => return push_leading(parts, p, sense.opposite()),
     };
-    parts.push(factor.in_sense(sense))?;
+    parts.push(measure.in_sense(sense))?;
     Ok(())
 }
 
-/// The cut through these distances that a row just reaches.
-fn cut_at_distance(col: usize, left: i64, right: i64, sense: Sense, row: &Row) -> Cut
-    requires { col < 16 }
-    ensures { cut_column result < 16 }
+/// The different numbers of the sample's rows, in order.
+fn numbers_of(alloc: Global, measure: Measure, sample: &[Row]) -> Result<Vec<i64>, AllocError>
+    requires { measure_column measure < 16 }
 {
-    let distance = outside(row.cell(col), left, right);
-    match sense {
-        Sense::Direct => Cut::Far {
-            col,
-            left,
-            right,
-            distance,
-        },
-        Sense::Reversed => Cut::Near {
-            col,
-            left,
-            right,
-            distance,
-        },
-    }
-}
-
-/// The cut through a factor's scores that a row just reaches.
-fn cut_at(factor: Factor, row: &Row) -> Cut
-    requires { ReadsBelow 16 (preference_of_factor factor) }
-    ensures { cut_column result < 16 }
-{
-    match factor {
-        Factor::Low { col } => Cut::AtLeast {
-            col,
-            value: row.cell(col),
-        },
-        Factor::High { col } => Cut::AtMost {
-            col,
-            value: row.cell(col),
-        },
-        Factor::Distance { col, centre, sense } => {
-            cut_at_distance(col, centre, centre, sense, row)
-        }
-        Factor::Range {
-            col,
-            left,
-            right,
-            sense,
-        } => cut_at_distance(col, left, right, sense, row),
-    }
-}
-
-/// Puts a cut through the factor's scores at each row of the sample behind these.
-fn push_cuts(cuts: &mut Vec<Cut>, factor: Factor, sample: &[Row]) -> Result<(), AllocError>
-    requires factor { ReadsBelow 16 (preference_of_factor factor) }
-    requires within { All (λ cut. cut_column cut < 16) cuts.old.items }
-    ensures { OnOk result (All (λ cut. cut_column cut < 16) cuts.new.items) }
-{
+    let mut numbers = Vec::new(alloc);
     for row in sample {
-        cuts.push(cut_at(factor, row))?;
+        numbers.push(measure.of(row))?;
     }
-    Ok(())
+    numbers.sort_unstable();
+    numbers.dedup();
+    Ok(numbers)
 }
 
-/// The different cuts through the factor's scores that the rows of the sample just reach, in order.
-fn marks_of(alloc: Global, factor: Factor, sample: &[Row]) -> Result<Vec<Cut>, AllocError>
-    requires { ReadsBelow 16 (preference_of_factor factor) }
-    ensures { IfOk result (λ marks. All (λ cut. cut_column cut < 16) marks.items) }
+/// The number in the middle of each of this many equal shares of these; each of them where there are no more.
+fn middles_of(alloc: Global, numbers: &[i64], shares: usize) -> Result<Vec<i64>, AllocError>
+    requires { 0 < shares }
 {
-    let mut marks = Vec::new(alloc);
-    push_cuts(&mut marks, factor, sample)?;
-    marks.sort_unstable();
-    marks.dedup();
-    Ok(marks)
-}
-
-/// Puts the cut in the middle of each of this many equal shares of the marks behind these; each mark where there are no more.
-fn push_shares(cuts: &mut Vec<Cut>, marks: &[Cut], shares: usize) -> Result<(), AllocError>
-    requires shares { 0 < shares }
-    requires marks { All (λ cut. cut_column cut < 16) marks.now }
-    requires within { All (λ cut. cut_column cut < 16) cuts.old.items }
-    ensures { OnOk result (All (λ cut. cut_column cut < 16) cuts.new.items) }
-{
-    let share = marks.len().div_ceil(shares).max(1);
-    for (place, mark) in marks.iter().enumerate() {
+    let share = numbers.len().div_ceil(shares).max(1);
+    let mut middles = Vec::new(alloc);
+    for (place, number) in numbers.iter().enumerate() {
         if place % share == share / 2 {
-            cuts.push(*mark)?;
+            middles.push(*number)?;
         }
     }
-    Ok(())
+    Ok(middles)
 }
 
-/// Puts cuts by the first bits of this column's hashes behind these, one for each answer: where two hashes differ in a bit, neither
-/// signature is within the other.
-fn push_hashed(cuts: &mut Vec<Cut>, col: usize, bits: usize) -> Result<(), AllocError>
-    requires col { col < 16 }
-    requires within { All (λ cut. cut_column cut < 16) cuts.old.items }
-    ensures { OnOk result (All (λ cut. cut_column cut < 16) cuts.new.items) }
+/// A scale with so many marks at most, which divide the sample into equal shares.
+fn scale_of(
+    alloc: Global,
+    measure: Measure,
+    sample: &[Row],
+    shares: usize,
+) -> Result<Scale, AllocError>
+    requires column { measure_column measure < 16 }
+    requires shares { 0 < shares }
+    ensures { IfOk result (λ scale. scale_column scale < 16) }
 {
+    let numbers = numbers_of(alloc, measure, sample)?;
+    let marks = middles_of(alloc, &numbers, shares)?;
+    Ok(Scale::Marks { measure, marks })
+}
+
+/// Masks of the first bits of a hash, each of one bit.
+fn masks_of(alloc: Global, bits: usize) -> Result<Vec<u64>, AllocError> {
+    let mut masks = Vec::new(alloc);
     let mut mask = FIRST_BIT;
     for _ in 0..bits {
-        cuts.push(Cut::Hashed {
-            col,
-            mask,
-            bits: mask,
-        })?;
-        cuts.push(Cut::Hashed { col, mask, bits: 0 })?;
+        masks.push(mask)?;
         mask >>= 1;
     }
-    Ok(())
+    Ok(masks)
 }
 
-/// Puts cuts by hashes for each column of a group behind these.
-fn push_group(cuts: &mut Vec<Cut>, group: &[usize]) -> Result<(), AllocError>
+/// Puts a scale of so many bits of the hash behind these for each column of a group: where two hashes differ in a bit, neither
+/// signature is within the other.
+fn push_group(
+    alloc: Global,
+    scales: &mut Vec<Scale>,
+    group: &[usize],
+    bits: usize,
+) -> Result<(), AllocError>
     requires group { All (λ col. col < 16) group.now }
-    requires within { All (λ cut. cut_column cut < 16) cuts.old.items }
-    ensures { OnOk result (All (λ cut. cut_column cut < 16) cuts.new.items) }
+    requires within { All (λ scale. scale_column scale < 16) scales.old.items }
+    ensures { OnOk result (All (λ scale. scale_column scale < 16) scales.new.items) }
 {
-    let bits = HASH_BITS.div_ceil(group.len().max(1));
     for col in group {
-        push_hashed(cuts, *col, bits)?;
+        let masks = masks_of(alloc, bits)?;
+        scales.push(Scale::Hashes { col: *col, masks })?;
     }
     Ok(())
 }
@@ -184,15 +135,15 @@ fn groups_in(alloc: Global, group: &[usize], sample: &[Row]) -> Result<usize, Al
 {
     let mut groups = 1;
     for col in group {
-        let values = marks_of(alloc, Factor::Low { col: *col }, sample)?;
+        let values = numbers_of(alloc, Measure::Low { col: *col }, sample)?;
         groups = groups.max(values.len());
     }
     Ok(groups)
 }
 
 /// Cuts for a term and the columns of a group. The bits of a signature that the group leaves are dealt out evenly among the parts that lead
-/// the term, and a part's cuts divide the sample into equal shares. In many groups few pairs are left to these, so they are fewer.
-/// Takes memory for the parts, a part's marks and the cuts.
+/// the term, and a part's marks divide the sample into equal shares. In many groups few pairs are left to these, so they are fewer.
+/// Takes memory for the parts, a part's numbers and the scales.
 pub(crate) fn cuts_for(
     alloc: Global,
     term: &Term,
@@ -202,17 +153,16 @@ pub(crate) fn cuts_for(
     requires term { ReadsBelow 16 (preference_of term.now) }
     requires group { All (λ col. col < 16) group.now }
 {
-    let mut by_group = Vec::new(alloc);
-    push_group(&mut by_group, group)?;
     let mut parts = Vec::new(alloc);
     push_leading(&mut parts, term, Sense::Direct)?;
+    let bits = HASH_BITS.div_ceil(group.len().max(1));
+    let hashed = group.len().saturating_mul(2 * bits);
     let thinning = (groups_in(alloc, group, sample)? / FEW_GROUPS).max(1);
-    let shares = BITS.saturating_sub(by_group.len()) / thinning / parts.len().max(1);
-    let mut cuts = Vec::new(alloc);
+    let shares = BITS.saturating_sub(hashed) / thinning / parts.len().max(1);
+    let mut scales = Vec::new(alloc);
     for part in &parts {
-        let marks = marks_of(alloc, *part, sample)?;
-        push_shares(&mut cuts, &marks, shares.max(1))?;
+        scales.push(scale_of(alloc, *part, sample, shares.max(1))?)?;
     }
-    cuts.extend_from_slice(&by_group)?;
-    Ok(Cuts::of(cuts))
+    push_group(alloc, &mut scales, group, bits)?;
+    Ok(Cuts::of(scales))
 }

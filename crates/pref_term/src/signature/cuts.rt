@@ -1,34 +1,34 @@
-//! Lists of cuts, by which rows are signed.
+//! Lists of scales, by which rows are signed.
 ghost use Rattle.std.specs.Prelude.{◌≡◌, ◌<◌, true, All, List, []};
 ghost use Rattle.std.specs.List.{list_all};
 ghost use Rattle.pref_term.specs.Leading.{suits};
 ghost use Rattle.pref_term.specs.Preference.{preference_of};
-ghost use Rattle.pref_term.specs.Signatures.{cut_column, signature};
+ghost use Rattle.pref_term.specs.Signatures.{scale_column, signature};
 
-use crate::signature::cut::Cut;
+use crate::signature::scale::Scale;
 use crate::term::Term;
 use pref_table::Row;
 use std::marker::Model;
 
-/// Some cuts, by which rows are signed. Contracts see the list of them.
+/// Cuts through what rows measure, by which rows are signed. Contracts see the list of their scales.
 ///
 /// Signatures are compared with others by the same cuts alone.
 #[derive(Drop)]
 pub struct Cuts {
-    cuts: Option<Vec<Cut>>,
+    scales: Option<Vec<Scale>>,
 }
 
 impl Model for Cuts {
     ghost use Rattle.std.specs.Prelude.{◌<◌, All, List, []};
     ghost use Rattle.std.specs.Option.{option_map_or};
-    ghost use Rattle.pref_term.specs.Signatures.{cut_column};
-    ghost use Rattle.pref_term.specs.declared.signature.cut.Cut.{Cut};
+    ghost use Rattle.pref_term.specs.Signatures.{scale_column};
+    ghost use Rattle.pref_term.specs.declared.signature.scale.Scale.{Scale};
 
-    ghost Value = { List Cut };
+    ghost Value = { List Scale };
 
-    ghost view = { λ c. option_map_or (λ v. v.items) c.cuts [] };
+    ghost view = { λ c. option_map_or (λ v. v.items) c.scales [] };
 
-    ghost invariant = { λ c. All (λ cut. cut_column cut < 16) (option_map_or (λ v. v.items) c.cuts []) };
+    ghost invariant = { λ c. All (λ scale. scale_column scale < 16) (option_map_or (λ v. v.items) c.scales []) };
 }
 
 impl Cuts {
@@ -36,25 +36,34 @@ impl Cuts {
     pub fn none() -> Cuts
         ensures { result ≡ [] }
     {
-        Cuts { cuts: None }
+        Cuts { scales: None }
     }
 
-    /// These cuts. Of more than 64 the last 64 have bits. Takes no memory.
-    pub fn of(cuts: Vec<Cut>) -> Cuts
-        requires { All (λ cut. cut_column cut < 16) cuts.items }
-        ensures { result ≡ cuts.items }
+    /// Whether these are [`Cuts::none`]. Cuts that were made for a term without a score may have no bit either.
+    pub fn is_none(&self) -> bool
+        ensures { result ≡ true → self.now ≡ [] }
     {
-        Cuts { cuts: Some(cuts) }
+        self.scales.is_none()
     }
 
-    /// The cuts.
-    pub fn as_slice(&self) -> &[Cut]
-        ensures cuts { result.now ≡ self.now }
-        ensures within { All (λ cut. cut_column cut < 16) result.now }
+    /// The cuts of these scales. Of more than 64 the last 64 have bits. Takes no memory.
+    pub(super) fn of(scales: Vec<Scale>) -> Cuts
+        requires { All (λ scale. scale_column scale < 16) scales.items }
+        ensures { result ≡ scales.items }
     {
-        match &self.cuts {
+        Cuts {
+            scales: Some(scales),
+        }
+    }
+
+    /// The scales.
+    fn as_slice(&self) -> &[Scale]
+        ensures scales { result.now ≡ self.now }
+        ensures within { All (λ scale. scale_column scale < 16) result.now }
+    {
+        match &self.scales {
             None => &[],
-            Some(cuts) => cuts.as_slice(),
+            Some(scales) => scales.as_slice(),
         }
     }
 
@@ -63,16 +72,16 @@ impl Cuts {
         ensures { result ≡ signature self.now row.now }
     {
         let mut bits = 0;
-        for cut in self.as_slice() {
-            bits = (bits << 1) | u64::from(cut.reaches(row));
+        for scale in self.as_slice() {
+            bits = scale.sign_onto(bits, row);
         }
         bits
     }
-}
 
-/// Whether each of the cuts suits the order that a term gives the rows of one group.
-pub(crate) fn all_suit(cuts: &[Cut], term: &Term, group: &[usize]) -> bool
-    ensures { result ≡ list_all (suits (preference_of term.now) group.now) cuts.now }
-{
-    cuts.iter().all(|cut| cut.suits(term, group))
+    /// Whether all suit the order that a term gives the rows of one group.
+    pub(crate) fn suit(&self, term: &Term, group: &[usize]) -> bool
+        ensures { result ≡ list_all (suits (preference_of term.now) group.now) self.now }
+    {
+        self.as_slice().iter().all(|scale| scale.suits(term, group))
+    }
 }

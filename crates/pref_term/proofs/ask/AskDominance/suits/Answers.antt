@@ -11,5 +11,4 @@ returns c told =
     let q = c.args.self.now in
     let preference : preference_of c.self.inside.term ≡ q.preference = ap (λ (s : Question). s.preference) c.self.view_is in
     let group : c.deref.result.now ≡ q.group = c.deref.ensures.value ∙ ap (λ (s : Question). s.group) c.self.view_is in
-    suiting_cuts q c.args.cuts.now
-    (sym (λ i. list_all (suits (preference i) (group i)) (c.as_slice.ensures.cuts i)) ∙ (sym c.all_suit.ensures ∙ told))
+    suiting_cuts q c.args.cuts.now ((λ i. list_all (suits (sym preference i) (sym group i)) c.args.cuts.now) ∙ (sym c.suit.ensures ∙ told))

@@ -1,7 +1,7 @@
 use Rattle.std.proofs.Common.{◌<◌, All}
-use Rattle.pref_term.specs.Signatures.{cut_column}
+use Rattle.pref_term.specs.Signatures.{scale_column}
 use Rattle.pref_term.proofs.signature.choose.push_group.Given as goal
 
 -- the columns so far are within a row
 abbrev pub invariant-loop-col : goal.invariant-loop-col
-invariant-loop-col l = All (λ cut. cut_column cut < 16) l.cuts.items
+invariant-loop-col l = All (λ scale. scale_column scale < 16) l.scales.items

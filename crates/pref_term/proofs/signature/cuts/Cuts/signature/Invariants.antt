@@ -1,7 +1,8 @@
 use Rattle.std.proofs.Common.{◌≡◌, drop}
-use Rattle.pref_term.specs.Signatures.{signature, signed_onto}
+use Rattle.std.specs.List.{flat_map}
+use Rattle.pref_term.specs.Signatures.{bits_by, signature, signed_onto}
 use Rattle.pref_term.proofs.signature.cuts.Cuts.signature.Given as goal
 
--- the cuts that are left make the rest
-abbrev pub invariant-loop-cut : goal.invariant-loop-cut
-invariant-loop-cut l = signed_onto l.bits (drop l.cut-index l.cut-items) l.row ≡ signature l.self l.row
+-- the scales that are left make the rest
+abbrev pub invariant-loop-scale : goal.invariant-loop-scale
+invariant-loop-scale l = signed_onto l.bits (flat_map (λ scale. bits_by scale l.row) (drop l.scale-index l.scale-items)) ≡ signature l.self l.row

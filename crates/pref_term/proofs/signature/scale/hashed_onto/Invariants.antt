@@ -1,0 +1,10 @@
+use Rattle.std.proofs.Common.{◌≡◌, ◌==◌, [], ◌∷◌, drop}
+use Rattle.std.specs.List.{flat_map}
+use Rattle.std.specs.Prelude.{bit_and}
+use Rattle.pref_term.specs.Signatures.{signed_onto}
+use Rattle.pref_term.proofs.signature.scale.hashed_onto.Given as goal
+
+-- the masks that are left make the rest
+abbrev pub invariant-loop-mask : goal.invariant-loop-mask
+invariant-loop-mask l = signed_onto l.bits (flat_map (λ mask. (bit_and l.hash mask == mask) ∷ (bit_and l.hash mask == 0) ∷ []) (drop l.mask-index l.masks))
+    ≡ signed_onto l.word (flat_map (λ mask. (bit_and l.hash mask == mask) ∷ (bit_and l.hash mask == 0) ∷ []) l.masks)
