@@ -11,7 +11,7 @@ ghost use Rattle.pref_sky.specs.Partials.{HasRoom, stepped};
 ghost use Rattle.pref_sky.specs.Signatures.{AreSigned, IsSignedBy, Moved, signature_by};
 ghost use Rattle.pref_sky.specs.declared.entry.Entry.{Entry};
 
-use crate::entry::Entry;
+use crate::entry::{Entry, compare};
 use crate::meeting::find_over;
 use crate::signatures::{SignedEntries, push_signatures};
 use pref_term::{Cuts, Dominance};
@@ -46,6 +46,20 @@ fn exchange(entries: &mut [Entry], signatures: &mut [u64], first: usize, second:
         entries.swap(first, second);
         signatures.swap(first, second);
     }
+}
+
+/// Whether each of `others` is the same as the first of the entries. Where these are apart, no other one dominates any of
+/// them then.
+fn are_like_first<D: Dominance>(dominance: &D, entries: &[Entry], others: &[Entry]) -> bool
+    ensures { let over = entry_order (D.order dominance.now) in
+        result ≡ true → IsApart over entries.now → (e : Entry) → Among e entries.now → is_beaten over others.now e ≡ false }
+{
+    for other in others {
+        if entries.is_empty() || !compare(dominance, &entries[0], other).is_same() {
+            return false;
+        }
+    }
+    true
 }
 
 /// Moves the entries that one of `others` dominates behind those that stay, each with its signature, and
@@ -127,18 +141,19 @@ impl Level {
     }
 
     /// Moves the entries that one of `others` dominates behind those that stay, and returns how many stay: at
-    /// most one comparison for each pair whose signatures leave open that the other dominates the held one.
+    /// most one comparison for each pair whose signatures leave open that the other dominates the held one. Where all
+    /// others are the same as the first entry, one comparison for each of them.
     pub(crate) fn set_apart<D: Dominance>(&mut self, dominance: &D, others: &SignedEntries) -> usize
         requires signed { AreSigned (entry_order (D.order dominance.now)) others.now.entries.items others.now.signatures.items self.old.entries.items self.old.signatures.items }
         requires apart { IsApart (entry_order (D.order dominance.now)) others.now.entries.items }
         ensures moved { Moved self.old self.new }
         ensures within { result ≤ vec_len self.new.entries }
-        ensures stay { (e : Entry) → Among e (take result self.new.entries.items)
+        ensures stay { IsApart (entry_order (D.order dominance.now)) self.old.entries.items → (e : Entry) → Among e (take result self.new.entries.items)
             → is_beaten (entry_order (D.order dominance.now)) others.now.entries.items e ≡ false }
         ensures go { (e : Entry) → Among e (drop result self.new.entries.items)
             → is_beaten (entry_order (D.order dominance.now)) others.now.entries.items e ≡ true }
     {
-        if others.entries.is_empty() {
+        if are_like_first(dominance, &self.entries, &others.entries) {
             return self.entries.len();
         }
         move_back(dominance, others, &mut self.entries, &mut self.signatures)

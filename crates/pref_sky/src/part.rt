@@ -39,20 +39,40 @@ fn take_cuts(cuts: &mut Cuts, held: &mut Vec<Level>, new: Cuts)
 }
 
 /// The fewest held entries beside which what comes is signed. Beside fewer most of what comes is dominated after
-/// a few comparisons, and to sign an entry takes as long as some fifty.
-const MANY: usize = 256;
+/// a few comparisons, and to sign an entry takes as long as some five.
+const MANY: usize = 48;
 
-/// Whether signatures are worth their cost: the entries that are held, with one in 64 of those that come,
-/// are many. Any answer is right.
-fn are_many(held: &[Level], coming: &[Entry]) -> bool {
-    let mut missing = MANY.saturating_sub(coming.len() / 64);
+/// How many of the first entries are added before the others, to see how many of them are held.
+const FIRST: usize = 128;
+
+/// How many of the first entries are held, at least, where what comes behind them is signed.
+const MANY_OF_FIRST: usize = 16;
+
+/// Whether levels hold at least so many entries together.
+fn hold_at_least(held: &[Level], many: usize) -> bool {
+    let mut missing = many;
     for level in held {
         missing = missing.saturating_sub(level.entries.len());
     }
     missing == 0
 }
 
-/// Cuts that suit the order, for entries like these; none where few are held.
+/// Whether signatures are worth their cost: the entries that are held, with one in 64 of those that come,
+/// are many. Any answer is right.
+fn are_many(held: &[Level], coming: &[Entry]) -> bool {
+    hold_at_least(held, MANY.saturating_sub(coming.len() / 64))
+}
+
+/// The entries that cuts are made for: those that come, or where they are few those of the first level, which are like
+/// what will join it.
+fn sampled<'held>(held: &'held [Level], entries: &'held [Entry]) -> &'held [Entry] {
+    match held.first() {
+        Some(level) if entries.len() < FIRST => &level.entries,
+        _ => entries,
+    }
+}
+
+/// Cuts that suit the order, for entries like these or those that are held; none where few are held.
 fn cuts_beside<D: Dominance>(
     alloc: Global,
     dominance: &D,
@@ -62,7 +82,7 @@ fn cuts_beside<D: Dominance>(
     ensures { IfOk result (λ cuts. Suit (D.order dominance.now) cuts) }
 {
     if are_many(held, entries) {
-        cuts_of(alloc, dominance, entries)
+        cuts_of(alloc, dominance, sampled(held, entries))
     } else {
         Ok(Cuts::none())
     }
@@ -102,6 +122,49 @@ impl Part {
             levels: Vec::new(alloc),
             cuts: Cuts::none(),
         }
+    }
+
+    /// Signs what it holds by cuts for entries like these, where it holds at least so many.
+    fn sign_many<D: Dominance>(
+        &mut self,
+        alloc: Global,
+        dominance: &D,
+        many: usize,
+        entries: &[Entry],
+    ) -> Result<(), AllocError>
+        ensures { ranked_from 1 self.new.levels.items ≡ ranked_from 1 self.old.levels.items }
+    {
+        if hold_at_least(&self.levels, many) {
+            let cuts = cuts_of(alloc, dominance, entries)?;
+            take_cuts(&mut self.cuts, &mut self.levels, cuts);
+        }
+        Ok(())
+    }
+
+    /// The part that holds the levels of these entries.
+    ///
+    /// The first of them show whether most entries are dominated soon: where an eighth of them is held, what comes
+    /// behind them is signed.
+    pub(crate) fn of<D: Dominance>(
+        alloc: Global,
+        dominance: &D,
+        window: usize,
+        cut: u32,
+        entries: &[Entry],
+    ) -> Result<Part, AllocError>
+        requires window { 0 < window }
+        requires ids { HaveDifferentIds entries.now }
+        ensures ids { IfOk result (λ part. HaveDifferentIds (map entry_of (ranked_from 1 part.levels.items))) }
+        ensures ok { let over = entry_order (D.order dominance.now) in
+            IfOk result (λ part. (before : List Entry) → HaveDifferentIds (before ++ entries.now) → [] ≡ levels over before cut
+            → ranked_from 1 part.levels.items ≡ levels over (before ++ entries.now) cut) }
+    {
+        let (first, others) = entries.split_at(FIRST.min(entries.len()));
+        let mut part = Part::new(alloc);
+        part.add(alloc, dominance, window, cut, first)?;
+        part.sign_many(alloc, dominance, MANY_OF_FIRST, others)?;
+        part.add(alloc, dominance, window, cut, others)?;
+        Ok(part)
     }
 
     /// Plans the steps of its levels as entries come, and makes room for them. What it holds stays.

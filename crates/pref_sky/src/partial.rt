@@ -82,8 +82,7 @@ fn begun<D: Dominance>(
 {
     let columns = dominance.groups();
     if columns.is_empty() {
-        let mut part = Part::new(alloc);
-        part.add(alloc, dominance, window, cut, entries)?;
+        let part = Part::of(alloc, dominance, window, cut, entries)?;
         return Ok(Held::Whole(part));
     }
     let mut parts = Parts::new(alloc, columns)?;
@@ -149,8 +148,8 @@ impl Partial {
     /// by halves for the first level that does not dominate it, of which each step compares it with the
     /// entries of one level until one dominates it or is the same; for each level that something comes to, the
     /// best of what comes, and at most one comparison for each pair of one of these best and another entry that
-    /// is held or comes there. Once 256 entries are held, signatures spare most of these: a new entry is
-    /// signed then, once. Copied are the new entries that start at a level, those that join one, and those
+    /// is held or comes there. Once 48 entries are held, or 16 of the first 128, signatures spare most of these: a new
+    /// entry is signed then, once. Copied are the new entries that start at a level, those that join one, and those
     /// that go down one; what stays at a level is not. Memory: a number for each new entry and its signature,
     /// lists as long as what comes to a level, and room for what joins.
     ///

@@ -100,7 +100,7 @@ returns-clause-level g c apart free =
     let joining = c.in_ok-best.best.0.entries.items in
     let stays = filter (λ e. not (is_beaten over joining e)) held in
     let found : in_order_of_id joining ≡ in_order_of_id (best over coming) = c.in_ok-best.ensures.best ∙ ap (λ l. in_order_of_id (best over l)) c.deref.ensures.value in
-    let parts : SameMembers (take n now) stays = those_that_stay (is_beaten over joining) held now n c.set_apart-staying.ensures.moved.permutation c.set_apart-staying.ensures.stay c.set_apart-staying.ensures.go in
+    let parts : SameMembers (take n now) stays = those_that_stay (is_beaten over joining) held now n c.set_apart-staying.ensures.moved.permutation (c.set_apart-staying.ensures.stay apart) c.set_apart-staying.ensures.go in
     let members : SameMembers (take n now ++ joining) (best over (held ++ coming)) =
     same_then (take n now ++ joining) (stays ++ joining) (best over (held ++ coming)) (same_beside (take n now) stays joining parts) (level_members over strict held coming joining apart free found) in
     subst (λ l. SameMembers (take n l ++ joining) (best over (held ++ coming))) (sym c.reserve.ensures.entries) members
@@ -130,7 +130,7 @@ returns-clause-down g c apart free further =
     let joining = c.in_ok-best.best.0.entries.items in
     let goes = filter (is_beaten over joining) held in
     let found : in_order_of_id joining ≡ in_order_of_id (best over coming) = c.in_ok-best.ensures.best ∙ ap (λ l. in_order_of_id (best over l)) c.deref.ensures.value in
-    let parts : SameMembers (drop n now) goes = those_that_go (is_beaten over joining) held now n c.set_apart-staying.ensures.moved.permutation c.set_apart-staying.ensures.stay c.set_apart-staying.ensures.go in
+    let parts : SameMembers (drop n now) goes = those_that_go (is_beaten over joining) held now n c.set_apart-staying.ensures.moved.permutation (c.set_apart-staying.ensures.stay apart) c.set_apart-staying.ensures.go in
     elim c.match-losers.branch [
       | in-Kept+in_ok-push_lost+in_ok-extend_from_slices w ↦
           let pushed : w.push_lost.new.down.entries.items ≡ without_best over coming = (w.in_ok-push_lost.ensures {u = tt}).lost ∙ ap (λ l. l ++ without_best over coming) c.new-down.ensures.entries in
