@@ -85,9 +85,9 @@ fn finds_two_rows_of_one_home(
     store: &mut Store,
 ) -> Result<(), Fail> {
     share_a_home(schema, store)?;
-    assert_eq!(rt; store.get(1), Some(row(schema, 4)?));
-    assert_eq!(rt; store.get(4), Some(row(schema, 6)?));
-    assert_eq!(rt; store.get(7), None);
+    assert_same(rt, "row 1", &store.get(1), &Some(row(schema, 4)?));
+    assert_same(rt, "row 4", &store.get(4), &Some(row(schema, 6)?));
+    assert_same(rt, "row 7", &store.get(7), &None);
     Ok(())
 }
 
