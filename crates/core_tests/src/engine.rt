@@ -10,8 +10,8 @@ mod replies;
 
 use crate::same::{assert_same, assert_same_text};
 use pref_core::{
-    Act, BoxedCommit, Commit, Committed, CoreFault, Event, Machine, RankedList, Reply, Setup,
-    Store, replay, replay_part,
+    Act, BoxedCommit, Change, Commit, Committed, CoreFault, Event, Machine, RankedList, Reply,
+    Setup, Store, replay, replay_part,
 };
 use pref_table::{Row, Schema};
 use pref_term::read_ask;
@@ -19,16 +19,24 @@ use std::alloc::Global;
 use std::process::Abort;
 use std::test::Fail;
 
-/// What a client does, over a table with the column x alone. A query asks for the rows with the smallest x, or for those and
-/// the next.
+/// A change of a commit.
+#[derive(Clone, Copy)]
+enum Changes {
+    Adds(i64),
+    Sets(u64, i64),
+    Removes(u64),
+}
+
+/// What a client does, over a table with the column x alone. A query asks for the rows with the smallest x, or what it is told to
+/// ask.
 #[derive(Clone, Copy)]
 enum Does {
     Inserts(i64),
     Updates(u64, i64),
     Deletes(u64),
-    Commits(Commit),
+    Commits(&'static [Changes]),
     Begins,
-    BeginsTwoLevels,
+    Asks(&'static [u8]),
     Scans,
     Finishes,
     Abandons,
@@ -55,14 +63,35 @@ fn rows(alloc: Global, schema: &Schema, values: &[i64]) -> Result<Vec<Row>, Fail
     Ok(made)
 }
 
+fn change(schema: &Schema, changes: Changes) -> Result<Change, Fail> {
+    Ok(match changes {
+        Changes::Adds(value) => Change::Add(row(schema, value)?),
+        Changes::Sets(id, value) => Change::Set(id, row(schema, value)?),
+        Changes::Removes(id) => Change::Remove(id),
+    })
+}
+
+fn changes_of(alloc: Global, schema: &Schema, list: &[Changes]) -> Result<Vec<Change>, Fail> {
+    let mut made = Vec::new(alloc);
+    for changes in list {
+        made.push(change(schema, *changes)?)?;
+    }
+    Ok(made)
+}
+
+fn commit_act(alloc: Global, changes: &[Change]) -> Result<Act, Fail> {
+    let commit = Commit::of(changes)?;
+    Ok(Act::Commit(BoxedCommit::new(alloc, commit)?))
+}
+
 fn act(alloc: Global, schema: &Schema, does: Does) -> Result<Act, Fail> {
     Ok(match does {
         Does::Inserts(value) => Act::Insert(row(schema, value)?),
         Does::Updates(id, value) => Act::Update(id, row(schema, value)?),
         Does::Deletes(id) => Act::Delete(id),
-        Does::Commits(commit) => Act::Commit(BoxedCommit::new(alloc, commit)?),
+        Does::Commits(list) => commit_act(alloc, &changes_of(alloc, schema, list)?)?,
         Does::Begins => Act::Begin(read_ask(alloc, schema, b"best low(x)")?),
-        Does::BeginsTwoLevels => Act::Begin(read_ask(alloc, schema, b"top_level 2 low(x)")?),
+        Does::Asks(question) => Act::Begin(read_ask(alloc, schema, question)?),
         Does::Scans => Act::Scan,
         Does::Finishes => Act::Finish,
         Does::Abandons => Act::Abandon,
