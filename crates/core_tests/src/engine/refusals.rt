@@ -2,11 +2,13 @@
 //! and refuses it; where none is refused they show that the calls succeed.
 ghost use Rattle.pref_core.specs.Scans.{NextIsNew};
 
-use super::{Does, act, answer_text, columns, events_of, reply_text, row, rows, with_machine};
+use super::{
+    Does, act, answer_text, columns, commit_act, events_of, reply_text, row, rows, with_machine,
+};
 use crate::same::{assert_same, assert_same_text};
 use pref_core::{
-    Act, Call, Change, Commit, CoreFault, Event, Index, Machine, Op, Part, Query, RankedList,
-    Reply, Setup, StepFault, Store, replay_part,
+    Act, Call, Change, Commit, Committed, CoreFault, Event, Index, Machine, Op, Part, Query,
+    RankedList, Reply, Setup, StepFault, Store, replay_part,
 };
 use pref_sky::Ranked;
 use pref_table::{Row, Schema};
@@ -14,6 +16,9 @@ use pref_term::read_ask;
 use std::alloc::Global;
 use std::process::Abort;
 use std::test::Fail;
+
+/// How often eight rows come in the place of eight others: the index, which has room for 18, has to grow by then.
+const ROUNDS: u8 = 30;
 
 /// What a step returns in the end: a step that memory is refused to hands its event back, and is made again.
 fn told_in_the_end(rt: &impl Abort, alloc: Global, machine: &mut Machine, event: Event) -> Reply {
@@ -74,6 +79,91 @@ fn each_act_changes_nothing_where_refused_and_is_made_again(rt: HostRuntime) -> 
     with_machine(alloc, |schema, machine| {
         go_through_a_run(&rt, alloc, schema, machine)
     })
+}
+
+/// The removes of the eight oldest rows of a table of 18, in whose place eight new ones came this often.
+fn removes_of(rounds: u8) -> [Change; 8] {
+    let oldest = 8 * u64::from(rounds) + 1;
+    let mut removes = [Change::Remove(oldest); 8];
+    for at in 1..8u8 {
+        removes[usize::from(at)] = Change::Remove(oldest + u64::from(at));
+    }
+    removes
+}
+
+/// No row of this id is there, and there is room for eight rows.
+fn has_room_for_eight(rt: &impl Abort, alloc: Global, machine: &mut Machine, id: u64) {
+    let get = Event {
+        client: 2,
+        act: Act::Get(id),
+    };
+    let room = Event {
+        client: 2,
+        act: Act::Room,
+    };
+    let missing = CoreFault::NoSuchRow { id };
+    let got = machine.step(alloc, get).err().map(|refused| refused.fault);
+    assert_same(rt, id, &got, &Some(missing));
+    let has_room = matches!(machine.step(alloc, room), Ok(Reply::Room(8)));
+    assert_same(rt, id, &has_room, &true);
+}
+
+/// A commit that adds eight rows, made again where memory was refused: until then none of them is there.
+fn added_in_the_end(
+    rt: &impl Abort,
+    alloc: Global,
+    machine: &mut Machine,
+    event: Event,
+    first: u64,
+) -> Option<Committed> {
+    let told = match machine.step(alloc, event) {
+        Ok(told) => told,
+        Err(StepFault { fault, event }) => {
+            assert_same(rt, first, &fault, &CoreFault::OutOfMemory);
+            has_room_for_eight(rt, alloc, machine, first);
+            machine.step(alloc, event).ok()?
+        }
+    };
+    match told {
+        Reply::Committed(committed) => Some(committed),
+        _ => None,
+    }
+}
+
+/// Eight rows in place of the eight oldest of a full table, again and again, until the index has to grow.
+fn replace_eight_rows(
+    rt: &impl Abort,
+    alloc: Global,
+    schema: &Schema,
+    machine: &mut Machine,
+) -> Result<(), Fail> {
+    let adds = [Change::Add(row(schema, 6)?); 8];
+    for round in 0..ROUNDS {
+        let removes = Event {
+            client: 1,
+            act: commit_act(alloc, &removes_of(round))?,
+        };
+        machine
+            .reply(alloc, removes)
+            .expect(rt, "a remove takes no memory");
+        let event = Event {
+            client: 1,
+            act: commit_act(alloc, &adds)?,
+        };
+        let first = 8 * u64::from(round) + 19;
+        let added = added_in_the_end(rt, alloc, machine, event, first);
+        assert_same(rt, round, &added, &Some(Committed { changes: 8, first }));
+    }
+    Ok(())
+}
+
+#[test]
+fn a_commit_that_makes_the_index_grow_is_made_again(rt: HostRuntime) -> Result<(), Fail> {
+    let alloc = rt.alloc();
+    let schema = columns(alloc)?;
+    let setup = Setup::new(2, 18, 6, 64).ok_or("setup")?;
+    let mut machine = Machine::new(alloc, setup, &[row(&schema, 5)?; 18])?;
+    replace_eight_rows(&rt, alloc, &schema, &mut machine)
 }
 
 fn check_slots(rt: &impl Abort, index: &Index, slots: [Option<usize>; 8]) {
