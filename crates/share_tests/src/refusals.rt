@@ -3,12 +3,10 @@
 
 ghost use Rattle.std.specs.Prelude.{◌≡◌};
 
-use crate::acts::{
-    Changes, Does, acts_of, answer_text, columns, commit, lists_text, row, rows, setup,
-};
+use crate::acts::{Does, acts_of, answer_text, columns, lists_text, row, rows, setup};
 use crate::boards::{Open, opened_for_two, replies_of_a_run};
 use crate::same::assert_same;
-use pref_core::{Act, Commit, Committed, CoreFault, Setup};
+use pref_core::{Act, Change, Commit, Committed, CoreFault, Setup};
 use pref_share::{BeginFault, Board, Client, Name, Naming, ShareFault, open_board};
 use pref_sky::Ranked;
 use pref_table::{Row, Schema};
@@ -18,6 +16,9 @@ use std::marker::Brand;
 use std::process::Abort;
 use std::sync::Wait;
 use std::test::Fail;
+
+/// How often eight rows come in the place of eight others: the index, which has room for 18, has to grow by then.
+const ROUNDS: u8 = 30;
 
 const OUT_OF_MEMORY: ShareFault = ShareFault::Core(CoreFault::OutOfMemory);
 
@@ -164,37 +165,83 @@ fn changes_refused_then_again(rt: HostRuntime) -> Result<(), Fail> {
     changed_and_heard::<Brand, _>(&rt, alloc, Name::new(), setup, &opening, &changed)
 }
 
-fn committed<J: Naming, R: Wait + Abort>(
+/// The commit of removes of the eight oldest rows of a table of 18, in whose place eight new ones came this often.
+fn removes_of(rounds: u8) -> Result<Commit, CoreFault> {
+    let oldest = 8 * u64::from(rounds) + 1;
+    let mut removes = [Change::Remove(oldest); 8];
+    for at in 1..8u8 {
+        removes[usize::from(at)] = Change::Remove(oldest + u64::from(at));
+    }
+    Commit::of(&removes)
+}
+
+/// A commit that adds eight rows, made again where memory was refused: until then none of them is there, and there is room for
+/// them.
+fn add_in_the_end<J: Naming, R: Wait + Abort>(
+    rt: &R,
+    alloc: Global,
+    board: &Board<J>,
+    client: &mut Client<J>,
+    adds: Commit,
+    first: u64,
+) -> Committed {
+    let before = client.seen();
+    match client.commit(rt, alloc, board, adds) {
+        Ok(told) => told,
+        Err(fault) => {
+            check_refusal(rt, fault, client, before);
+            let missing = ShareFault::Core(CoreFault::NoSuchRow { id: first });
+            let wanted = (Err(missing), Ok(8));
+            assert_same(rt, first, &(client.get(first), client.room()), &wanted);
+            client.commit(rt, alloc, board, adds).expect(rt, "memory")
+        }
+    }
+}
+
+/// Eight rows in place of the eight oldest of a full table, again and again, until the index has to grow.
+fn replace_eight_rows<J: Naming, R: Wait + Abort>(
+    rt: &R,
+    alloc: Global,
+    board: &Board<J>,
+    client: &mut Client<J>,
+    adds: Commit,
+) -> Result<(), Fail> {
+    for round in 0..ROUNDS {
+        client
+            .commit(rt, alloc, board, removes_of(round)?)
+            .expect(rt, "a remove takes no memory");
+        let first = 8 * u64::from(round) + 19;
+        let added = add_in_the_end(rt, alloc, board, client, adds, first);
+        assert_same(rt, round, &added, &Committed { changes: 8, first });
+    }
+    Ok(())
+}
+
+fn replaced<J: Naming, R: Wait + Abort>(
     rt: &R,
     alloc: Global,
     name: Name,
     setup: Setup,
     rows: &[Row],
-    commit: Commit,
-) -> Result<Committed, Fail>
+    adds: Commit,
+) -> Result<(), Fail>
     requires book { name.seen.book ≡ J.book }
     requires opening { J.opening ≡ record { limits = setup; rows = rows.now } }
 {
     let (board, mut client, _other) = opened_for_two::<J, R>(rt, alloc, name, setup, rows)?;
-    let told = in_the_end!(rt, &mut client, client.commit(rt, alloc, &board, commit));
+    let told = replace_eight_rows(rt, alloc, &board, &mut client, adds);
     board.close(rt);
-    Ok(told)
+    told
 }
 
 #[test]
 fn a_commit_refused_then_again(rt: HostRuntime) -> Result<(), Fail> {
     let alloc = rt.alloc();
     let schema = columns(alloc)?;
-    let opening = rows(alloc, &[5])?;
-    let commit = commit(&schema, Changes::Adds(3), Changes::Adds(4))?;
+    let opening = [row(&schema, 5)?; 18];
+    let adds = Commit::of(&[Change::Add(row(&schema, 6)?); 8])?;
     let setup = setup(2, 18, 6)?;
-    let told = committed::<Brand, _>(&rt, alloc, Name::new(), setup, &opening, commit)?;
-    let wanted = Committed {
-        changes: 2,
-        first: 2,
-    };
-    assert_same(&rt, "a commit", &told, &wanted);
-    Ok(())
+    replaced::<Brand, _>(&rt, alloc, Name::new(), setup, &opening, adds)
 }
 
 /// Abandons a query of two blocks, and asks it again to its end.
