@@ -15,14 +15,15 @@ pub enum Changes {
     Removes(u64),
 }
 
-/// What a client does. A query asks for the rows with the smallest x.
+/// What a client does. A query asks for the rows with the smallest x, or what it is told to ask.
 #[derive(Clone, Copy, Debug)]
 pub enum Does {
     Inserts(i64),
     Updates(u64, i64),
     Deletes(u64),
-    Commits(Changes, Changes),
+    Commits(&'static [Changes]),
     Begins,
+    Asks(&'static [u8]),
     Scans,
     Finishes,
     Abandons,
@@ -74,10 +75,18 @@ fn change(schema: &Schema, changes: Changes) -> Result<Change, Fail> {
     })
 }
 
-/// The commit of two changes.
-pub fn commit(schema: &Schema, first: Changes, second: Changes) -> Result<Commit, Fail> {
-    let changes = [change(schema, first)?, change(schema, second)?];
-    Ok(Commit::of(&changes)?)
+fn changes_of(alloc: Global, schema: &Schema, list: &[Changes]) -> Result<Vec<Change>, Fail> {
+    let mut made = Vec::new(alloc);
+    for changes in list {
+        made.push(change(schema, *changes)?)?;
+    }
+    Ok(made)
+}
+
+/// The act of a commit of these changes.
+pub fn commit_act(alloc: Global, schema: &Schema, list: &[Changes]) -> Result<Act, Fail> {
+    let commit = Commit::of(&changes_of(alloc, schema, list)?)?;
+    Ok(Act::Commit(BoxedCommit::new(alloc, commit)?))
 }
 
 pub fn act(alloc: Global, schema: &Schema, does: Does) -> Result<Act, Fail> {
@@ -85,10 +94,9 @@ pub fn act(alloc: Global, schema: &Schema, does: Does) -> Result<Act, Fail> {
         Does::Inserts(value) => Act::Insert(row(schema, value)?),
         Does::Updates(id, value) => Act::Update(id, row(schema, value)?),
         Does::Deletes(id) => Act::Delete(id),
-        Does::Commits(first, second) => {
-            Act::Commit(BoxedCommit::new(alloc, commit(schema, first, second)?)?)
-        }
+        Does::Commits(list) => commit_act(alloc, schema, list)?,
         Does::Begins => Act::Begin(read_ask(alloc, schema, b"best low(x)")?),
+        Does::Asks(question) => Act::Begin(read_ask(alloc, schema, question)?),
         Does::Scans => Act::Scan,
         Does::Finishes => Act::Finish,
         Does::Abandons => Act::Abandon,

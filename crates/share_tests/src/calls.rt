@@ -2,7 +2,7 @@
 
 ghost use Rattle.std.specs.Prelude.{◌≡◌};
 
-use crate::acts::{Changes, Does, act, columns, replies_text, reply_text, rows, setup};
+use crate::acts::{Does, act, columns, replies_text, reply_text, rows, setup};
 use crate::boards::{begin, opened_for_two};
 use crate::same::assert_same;
 use pref_core::{Act, Event, RankedList, Reply, Setup, replay};
@@ -95,7 +95,7 @@ fn played<J: Naming, R: Wait + Abort>(
 }
 
 /// Asserts the replies to the clients of a new board, whose table has these opening rows.
-fn check_told(
+pub fn check_told(
     rt: &(impl Wait + Abort + AllocGlobal),
     opening: &[i64],
     setup: Setup,
@@ -192,44 +192,6 @@ fn two_updates_under_an_open_query(rt: HostRuntime) -> Result<(), Fail> {
     ];
     let wanted =
         "begun 1 / updated 1 / updated 1 / room 1 / left 0 / answer level 1 id 1: 5 / room 2 / row 1: 2 / ";
-    check_told(&rt, &opening, setup, &run, wanted)
-}
-
-#[test]
-fn commits_of_a_full_table(rt: HostRuntime) -> Result<(), Fail> {
-    let opening = [1, 2];
-    let setup = setup(4, 2, 2)?;
-    let run = [
-        (0, Does::Commits(Changes::Adds(9), Changes::Removes(2))),
-        (1, Does::Commits(Changes::Sets(1, 4), Changes::Sets(2, 5))),
-        (2, Does::Commits(Changes::Adds(6), Changes::Adds(7))),
-        (3, Does::Gets(3)),
-        (3, Does::Commits(Changes::Removes(1), Changes::Sets(3, 8))),
-        (0, Does::Gets(1)),
-        (0, Does::Gets(3)),
-        (0, Does::AsksRoom),
-    ];
-    let wanted =
-        "committed 2 first 3 / refused: no such row 2 / refused: full needed 4 / row 3: 9 / committed 2 first 0 / refused: no such row 1 / row 3: 8 / room 1 / ";
-    check_told(&rt, &opening, setup, &run, wanted)
-}
-
-#[test]
-fn a_commit_beside_an_open_query(rt: HostRuntime) -> Result<(), Fail> {
-    let opening = [5, 7];
-    let setup = setup(4, 4, 4)?;
-    let run = [
-        (0, Does::Begins),
-        (1, Does::Commits(Changes::Removes(1), Changes::Sets(2, 1))),
-        (0, Does::Scans),
-        (0, Does::Finishes),
-        (1, Does::Begins),
-        (1, Does::Scans),
-        (1, Does::Finishes),
-        (1, Does::AsksRoom),
-    ];
-    let wanted =
-        "begun 1 / committed 2 first 0 / left 0 / answer level 1 id 1: 5 / begun 1 / left 0 / answer level 1 id 2: 1 / room 3 / ";
     check_told(&rt, &opening, setup, &run, wanted)
 }
 

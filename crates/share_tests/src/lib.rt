@@ -10,6 +10,8 @@ mod boards;
 #[cfg(test)]
 mod calls;
 #[cfg(test)]
+mod commits;
+#[cfg(test)]
 mod pairs;
 #[cfg(test)]
 mod reads;

@@ -2,23 +2,25 @@
 
 ghost use Rattle.std.specs.Prelude.{◌≡◌};
 
-use crate::acts::{Changes, Does, act, acts_of, columns, rows, setup};
+use crate::acts::{Changes, Does, acts_of, columns, commit_act, rows, setup};
 use crate::boards::{Open, replies_of_a_run};
 use crate::same::assert_same;
 use pref_core::{Act, Reply};
 use pref_share::Name;
 use pref_sky::Ranked;
 use pref_table::Schema;
-use pref_term::read_ask;
 use std::alloc::Global;
 use std::marker::Brand;
 use std::test::Fail;
 
 /// A query of the whole table.
 fn push_query(alloc: Global, schema: &Schema, acts: &mut Vec<Act>) -> Result<(), Fail> {
-    let ask = read_ask(alloc, schema, b"top_level 16 low(x)")?;
-    acts.push(Act::Begin(ask))?;
-    for step in acts_of(alloc, schema, &[Does::Scans, Does::Scans, Does::Finishes])? {
+    let asks = Does::Asks(b"top_level 16 low(x)");
+    for step in acts_of(
+        alloc,
+        schema,
+        &[asks, Does::Scans, Does::Scans, Does::Finishes],
+    )? {
         acts.push(step)?;
     }
     Ok(())
@@ -31,7 +33,7 @@ fn acts_of_a_pair(alloc: Global, schema: &Schema, first: u64) -> Result<Vec<Act>
         let value = i64::from(turn);
         let one = Changes::Sets(first, value);
         let other = Changes::Sets(first.wrapping_add(1), -value);
-        acts.push(act(alloc, schema, Does::Commits(one, other))?)?;
+        acts.push(commit_act(alloc, schema, &[one, other])?)?;
         if turn % 4 == 0 {
             push_query(alloc, schema, &mut acts)?;
         }
