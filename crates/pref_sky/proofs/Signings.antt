@@ -1,5 +1,5 @@
 -- Signatures beside entries: what they tell of two of them, and what keeps them beside.
-use Rattle.std.proofs.Common.{◌≡◌, ℕ, ◌+◌, ◌<◌, Bool, true, false, ◌||◌, ◌&&◌, nat_lt, inl, inr, List, [], ◌∷◌, ◌++◌, length, take, map, get_or, set, refl, sym, ◌∙◌, ap, arith}
+use Rattle.std.proofs.Common.{◌≡◌, ℕ, ◌+◌, ◌<◌, Bool, true, false, ◌||◌, ◌&&◌, nat_lt, inl, inr, List, [], ◌∷◌, ◌++◌, length, take, map, replicate, get_or, set, refl, sym, ◌∙◌, ap, arith}
 use Rattle.std.specs.List.{list_any, swap}
 use Rattle.std.proofs.lemmas.Bool.{both_ways, cases_Bool, false_from_ne_true}
 use Rattle.std.proofs.lemmas.List.{get_or-map, length-map, map-append, map-set, take_more}
@@ -10,7 +10,7 @@ use Rattle.pref_term.specs.Order.{RowOrder}
 use Rattle.pref_term.specs.declared.signature.scale.Scale.{Scale}
 use Rattle.pref_term.specs.Signatures.{Suit, is_within, signature}
 use Rattle.pref_sky.specs.Levels.{entry_order}
-use Rattle.pref_sky.specs.Signatures.{AreSigned}
+use Rattle.pref_sky.specs.Signatures.{AreSigned, signature_by}
 
 or_none : (b : Bool) → (b || false) ≡ b
 or_none true = refl
@@ -21,6 +21,11 @@ pub any_as_before : (p : Entry → Bool) (xs : List Entry) (i : ℕ) (d : Entry)
 any_as_before p xs i d inside fails =
     ap (list_any p) (take_more xs i d inside)
     ∙ (list_any-append p (take i xs) (get_or xs i d ∷ []) ∙ (ap (λ b. list_any p (take i xs) || (b || false)) fails ∙ or_none (list_any p (take i xs))))
+
+-- by no cuts each signature is 0
+pub signed_by_none : (entries : List Entry) → map (signature_by []) entries ≡ replicate (length entries) 0
+signed_by_none [] = refl
+signed_by_none (e ∷ entries) = ap (λ l. 0 ∷ l) (signed_by_none entries)
 
 -- a signature is that of the entry at its place
 pub rule_at : (rule : Entry → ℕ) (xs : List Entry) (ws : List ℕ) (i z : ℕ) (x d : Entry) → i < length xs → ws ≡ map rule xs → x ≡ get_or xs i d → get_or ws i z ≡ rule x

@@ -24,7 +24,7 @@ pub(crate) struct Part {
     ghost signed: { AreSignedBy (signature_by cuts) levels.items } by { AreSignedBy-prop (signature_by cuts) levels.items },
 }
 
-/// Signs the levels by these cuts in place of those before. Takes no memory.
+/// Signs the levels by these cuts in place of those before, where they differ. Takes no memory.
 fn take_cuts(cuts: &mut Cuts, held: &mut Vec<Level>, new: Cuts)
     requires { AreSignedBy (signature_by cuts.old) held.old.items }
     ensures cuts { cuts.new ≡ new }
@@ -32,6 +32,9 @@ fn take_cuts(cuts: &mut Cuts, held: &mut Vec<Level>, new: Cuts)
     ensures ranked { ranked_from 1 held.new.items ≡ ranked_from 1 held.old.items }
     ensures len { vec_len held.new ≡ vec_len held.old }
 {
+    if cuts.is_none() && new.is_none() {
+        return;
+    }
     for place in 0..held.len() {
         held[place].sign(&new);
     }
@@ -39,7 +42,7 @@ fn take_cuts(cuts: &mut Cuts, held: &mut Vec<Level>, new: Cuts)
 }
 
 /// The fewest held entries beside which what comes is signed. Beside fewer most of what comes is dominated after
-/// a few comparisons, and to sign an entry takes as long as some five.
+/// a few comparisons, and to sign an entry takes as many instructions as six or seven.
 const MANY: usize = 48;
 
 /// How many of the first entries are added before the others, to see how many of them are held.

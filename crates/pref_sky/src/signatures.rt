@@ -95,6 +95,12 @@ pub(crate) fn push_signatures(signatures: &mut Vec<u64>, cuts: &Cuts, entries: &
     requires { vec_len signatures.old + length entries.now ≤ vec_capacity signatures.old }
     ensures { signatures.new.items ≡ signatures.old.items ++ map (signature_by cuts.now) entries.now }
 {
+    if cuts.is_none() {
+        signatures
+            .resize(signatures.len() + entries.len(), 0)
+            .unwrap();
+        return;
+    }
     for entry in entries {
         signatures.push(cuts.signature(&entry.row)).unwrap();
     }
