@@ -171,7 +171,7 @@ count_level_of_all p (part ∷ others) k =
 pub part_differs : (parts : List Part) → HaveDifferentIds (map entry_of (ranked_parts parts)) → (part : ℕ) → HaveDifferentIds (map entry_of (ranked_from 1 (levels_of part parts)))
 part_differs parts different part = record { once = λ id. omega (arith, different.once id, count_all (λ e. eqb e.id id) parts, count_part (λ e. eqb e.id id) parts part) }
 
-all_differ : (parts : List Part) → HaveDifferentIds (map entry_of (ranked_parts parts)) → (k : ℕ) → HaveDifferentIds (all_at parts k)
+pub all_differ : (parts : List Part) → HaveDifferentIds (map entry_of (ranked_parts parts)) → (k : ℕ) → HaveDifferentIds (all_at parts k)
 all_differ parts different k = record { once = λ id. omega (arith, different.once id, count_all (λ e. eqb e.id id) parts, count_level_of_all (λ e. eqb e.id id) parts k) }
 
 -- a part with the entries that come to it has different ids

@@ -34,11 +34,15 @@ dealt_more number entries i e dealt n list new inside at its there there_at push
 part_then : (parts : List Part) (i : ℕ) (part : Part) → i < length parts → part ≡ get_or parts i part → drop i parts ≡ part ∷ drop (i + 1) parts
 part_then parts i part inside at = drop_more parts i part inside ∙ ap (λ p. p ∷ drop (i + 1) parts) (sym at)
 
-pub gathered_more : (parts : List Part) (i : ℕ) (part : Part) (place : ℕ) (found more : List Entry) → i < length parts → part ≡ get_or parts i part → more ≡ found ++ held_at place part.levels.items
-    → found ++ all_at (drop i parts) place ≡ all_at parts place → more ++ all_at (drop (i + 1) parts) place ≡ all_at parts place
-gathered_more parts i part place found more inside at gathered before =
-    ap (λ l. l ++ all_at (drop (i + 1) parts) place) gathered
-    ∙ (append_assoc found (held_at place part.levels.items) (all_at (drop (i + 1) parts) place) ∙ (ap (λ l. found ++ all_at l place) (sym (part_then parts i part inside at)) ∙ before))
+-- of what a function makes of the entries at a level, for part after part
+pub gathered_more : {F : Type 0} (f : List Entry → List F) → ((xs ys : List Entry) → f (xs ++ ys) ≡ f xs ++ f ys) → (parts : List Part) (i : ℕ) (part : Part) (place : ℕ) (all found more : List F) → i < length parts → part ≡ get_or parts i part
+    → more ≡ found ++ f (held_at place part.levels.items) → found ++ f (all_at (drop i parts) place) ≡ all → more ++ f (all_at (drop (i + 1) parts) place) ≡ all
+gathered_more f joins parts i part place all found more inside at gathered before =
+    let here = held_at place part.levels.items in
+    let later = all_at (drop (i + 1) parts) place in
+    ap (λ l. l ++ f later) gathered
+    ∙ (append_assoc found (f here) (f later)
+    ∙ (ap (λ l. found ++ l) (sym (joins here later)) ∙ (ap (λ l. found ++ f (all_at l place)) (sym (part_then parts i part inside at)) ∙ before)))
 
 pub no_level : (place : ℕ) (held : List Level) → length held ≤ place → held_at place held ≡ []
 no_level place [] past = refl

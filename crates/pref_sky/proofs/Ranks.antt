@@ -1,7 +1,11 @@
 -- The entries of some levels, each level in order of id: one list for each set of them.
-use Rattle.std.proofs.Common.{◌≡◌, ℕ, zero, suc, ◌<◌, ◌+◌, Bool, ◌⊎◌, inl, inr, List, [], ◌∷◌, ◌++◌, length, map, take, refl, sym, ◌∙◌, ap, subst, arith, append-nil, append_assoc}
+use Rattle.std.proofs.Common.{◌≡◌, ℕ, zero, suc, ◌<◌, ◌+◌, Bool, ◌⊎◌, inl, inr, List, [], ◌∷◌, ◌++◌, length, map, take, drop, ◌-◌, refl, sym, ◌∙◌, ap, subst, arith, append-nil, append_assoc, length-append, drop_of_length-le}
 use Rattle.std.proofs.lemmas.Bool.{cases_lt}
+use Rattle.std.specs.List.Sorted.{IsNonDecreasingBy, IsPermutation}
+use Rattle.std.proofs.lemmas.List.{get_or-map, length-map}
+use Rattle.std.proofs.lemmas.List.Sorted.{IsPermutation-map}
 use Rattle.std.proofs.Math.Seq.{take-length}
+use borrow.Rule.Slice.PartMut.{mid_of, post_of, put_mid}
 use Rattle.pref_sky.specs.declared.entry.Entry.{Entry}
 use Rattle.pref_sky.specs.declared.entry.Ranked.{Ranked}
 use Rattle.pref_sky.specs.declared.level.Level.{Level}
@@ -10,7 +14,9 @@ use Rattle.pref_sky.specs.Levels.{HaveDifferentIds, in_order_of_id, at_level, en
 use Rattle.pref_sky.specs.Partials.{ranked_from, held_at}
 use Rattle.pref_sky.specs.Parts.{ranked_upto}
 use Rattle.pref_sky.proofs.Members.{Among, in_left, in_right, in_either, from_map}
-use Rattle.pref_sky.proofs.Orders.{Rises, RisesBy, rises_in_order, same_if_rise, among_in_order, from_in_order}
+use Rattle.pref_sky.proofs.Orders.{Rises, RisesBy, rises_in_order, same_if_rise, same_if_permuted, sorted_is, among_in_order, from_in_order}
+use Rattle.pref_sky.proofs.Merges.{entries_at_level}
+use Rattle.pref_sky.proofs.Splits.{cut_at}
 use Rattle.pref_sky.proofs.Enough.{among_map}
 use Rattle.pref_sky.proofs.RankedLevels.{one_level}
 
@@ -134,3 +140,40 @@ pub held_there : (k : ℕ) (held : List Level) (e : Entry) → Among e (held_at 
 held_there k [] e m = absurd m
 held_there zero (level ∷ behind) e m = omega arith
 held_there (suc k) (level ∷ behind) e m = omega (arith, held_there k behind e m)
+
+-- entries that were put at their level again
+at_level_again : (n : ℕ) (ranked : List Ranked) → ((r : Ranked) → Among r ranked → r.level ≡ n) → map (at_level n) (map entry_of ranked) ≡ ranked
+at_level_again n [] of_level = refl
+at_level_again n (r ∷ others) of_level =
+    ap (λ l. at_level n (entry_of r) ∷ l) (at_level_again n others (λ s m. of_level s (inr m))) ∙ ap (λ k. at_level k (entry_of r) ∷ others) (sym (of_level r (inl refl)))
+
+entries_sorted : (ranked : List Ranked) → IsNonDecreasingBy (λ (r : Ranked). r.id) ranked → IsNonDecreasingBy (λ (e : Entry). e.id) (map entry_of ranked)
+entries_sorted ranked sorted i j d le inside =
+    let r : Ranked = at_level 0 d in
+    let j_inside : j < length ranked = omega (arith, inside, length-map ranked entry_of) in
+    let i_inside : i < length ranked = omega (arith, le, j_inside) in
+    let at_i = ap (λ (e : Entry). e.id) (get_or-map entry_of ranked i r d i_inside) in
+    let at_j = ap (λ (e : Entry). e.id) (get_or-map entry_of ranked j r d j_inside) in
+    omega (arith, at_i, at_j, sorted i j r le j_inside)
+
+-- what a sort by id leaves of the entries of one level
+pub level_sorted : (n : ℕ) (entries : List Entry) (ranked : List Ranked) → HaveDifferentIds entries → IsPermutation (map (at_level n) entries) ranked → IsNonDecreasingBy (λ (r : Ranked). r.id) ranked → ranked ≡ one_level n entries
+level_sorted n entries ranked different moved sorted =
+    let among = same_if_permuted (map (at_level n) entries) ranked moved in
+    let of_level : (r : Ranked) → Among r ranked → r.level ≡ n = λ r m. let w = from_map (at_level n) entries r (among.back r m) in ap (λ (s : Ranked). s.level) w.2 in
+    let entries_moved : IsPermutation entries (map entry_of ranked) =
+    subst (λ l. IsPermutation l (map entry_of ranked)) (entries_at_level n entries) (IsPermutation-map entry_of (map (at_level n) entries) ranked moved) in
+    sym (at_level_again n ranked of_level) ∙ ap (map (at_level n)) (sorted_is entries (map entry_of ranked) entries_moved (entries_sorted ranked sorted) different)
+
+-- and of those behind a place
+pub sorted_behind : (n start : ℕ) (front : List Ranked) (entries : List Entry) (ranked after : List Ranked) → HaveDifferentIds entries → length front ≡ start → ranked ≡ front ++ map (at_level n) entries
+    → IsPermutation (mid_of start (length ranked - start) ranked) after → IsNonDecreasingBy (λ (r : Ranked). r.id) after → put_mid start (length ranked - start) ranked after ≡ front ++ one_level n entries
+sorted_behind n start front entries ranked after different long is moved sorted =
+    let level = map (at_level n) entries in
+    let count = length ranked - start in
+    let cut = cut_at ranked front level start is (sym long) in
+    let counted : count ≡ length level = omega (arith, ap length is, length-append front level, long) in
+    let mid : mid_of start count ranked ≡ level = ap (take count) cut.1 ∙ (ap (λ k. take k level) counted ∙ take-length level) in
+    let post : post_of start count ranked ≡ [] = ap (drop count) cut.1 ∙ drop_of_length-le level (omega (arith, counted)) in
+    ap (λ l. take start ranked ++ (after ++ l)) post
+    ∙ (ap (λ l. take start ranked ++ l) (append-nil after) ∙ (ap (λ l. l ++ after) cut.0 ∙ ap (λ l. front ++ l) (level_sorted n entries after different (subst (λ l. IsPermutation l after) mid moved) sorted)))

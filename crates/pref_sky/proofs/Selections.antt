@@ -2,9 +2,8 @@
 use Rattle.std.proofs.Common.{◌≡◌, ℕ, zero, suc, ◌≤◌, ◌<◌, ◌+◌, ◌-◌, Bool, true, false, cond, ◌&&◌, inl, inr, List, [], ◌++◌, map, length, take, drop, filter, ltb, refl, sym, ◌∙◌, ap, subst, arith, append_assoc, length-append}
 use Rattle.std.specs.List.{count_by}
 use Rattle.std.proofs.lemmas.Bool.{le-ltb, lt-ltb}
-use Rattle.std.proofs.lemmas.List.{take-append-drop, length-take-le}
+use Rattle.std.proofs.lemmas.List.{map-append, take-append-drop, length-take-le}
 use Rattle.std.proofs.lemmas.List.Sums.{sum_by-append, length-filter}
-use Rattle.std.proofs.lemmas.List.Elements.{filter-append}
 use Rattle.pref_table.specs.declared.row.Row.{Row}
 use Rattle.pref_sky.specs.declared.entry.Entry.{Entry}
 use Rattle.pref_sky.specs.declared.entry.Ranked.{Ranked}
@@ -12,7 +11,7 @@ use Rattle.pref_sky.specs.Best.{best, rest}
 use Rattle.pref_sky.specs.Levels.{in_order_of_id, at_level, levels}
 use Rattle.pref_sky.specs.Answers.{count_before}
 use Rattle.pref_sky.specs.Meetings.{length_of_level}
-use Rattle.pref_sky.proofs.Members.{Among, in_either, from_map}
+use Rattle.pref_sky.proofs.Members.{Among, in_either, from_map, map_agree_among}
 use Rattle.pref_sky.proofs.Splits.{cut_at}
 use Rattle.pref_sky.proofs.Enough.{filter_agree_among, levels_upto, none_pass}
 use Rattle.pref_sky.proofs.LevelsBehind.{levels_behind, levels_then_behind, level_cut}
@@ -42,11 +41,11 @@ count_of_front over all same n m front back r is behind at =
     let zero_long = ap length none in
     omega (arith, sum_by-append (λ (s : Ranked). cond (test s) 1 0) front back, length-filter test front, length-filter group front, length-filter test back, same_long, zero_long)
 
--- the first n levels are selected, which end at this place
-pub record Selecting (over : Entry → Entry → Bool) (all : List Entry) (same : Row → Row → Bool) (k n : ℕ) (ranked : List Ranked) (place : ℕ) (kept : List Ranked) : Type 0 where
+-- of the first n levels, which end at this place, it is told which entries are selected
+pub record Selecting (over : Entry → Entry → Bool) (all : List Entry) (same : Row → Row → Bool) (k n : ℕ) (ranked : List Ranked) (place : ℕ) (chosen : List Bool) : Type 0 where
   pub front : take place ranked ≡ levels over all n
   pub back : drop place ranked ≡ levels_behind over all n (k - n)
-  pub chosen : kept ≡ filter (λ r. ltb (count_before same ranked r) k) (take place ranked)
+  pub as_told : chosen ≡ map (λ r. ltb (count_before same ranked r) k) (take place ranked)
 
 pub selecting_begins : (over : Entry → Entry → Bool) (all : List Entry) (same : Row → Row → Bool) (k : ℕ) (ranked : List Ranked) → ranked ≡ levels over all k → Selecting over all same k 0 ranked 0 []
 selecting_begins over all same k ranked is =
@@ -55,15 +54,15 @@ selecting_begins over all same k ranked is =
     record {
       front = refl;
       back = is ∙ (sym whole ∙ (sym (levels_then_behind over all k 0) ∙ ap (levels_behind over all 0) steps));
-      chosen = refl;
+      as_told = refl;
     }
 
 -- one level more is selected
-pub selecting_more : (over : Entry → Entry → Bool) (all : List Entry) (same : Row → Row → Bool) (k n : ℕ) (ranked : List Ranked) (place count : ℕ) (kept more level : List Ranked) → n < k
+pub selecting_more : (over : Entry → Entry → Bool) (all : List Entry) (same : Row → Row → Bool) (k n : ℕ) (ranked : List Ranked) (place count : ℕ) (chosen more : List Bool) (level : List Ranked) → n < k
     → count ≡ length_of_level (suc n) (drop place ranked) → level ≡ take count (drop place ranked) → count ≤ length (drop place ranked) → place ≤ length ranked
-    → more ≡ kept ++ filter (λ r. ltb (count_by (λ (s : Ranked). same s.row r.row) (take place ranked)) k) level
-    → Selecting over all same k n ranked place kept → Selecting over all same k (suc n) ranked (place + count) more
-selecting_more over all same k n ranked place count kept more level within long level_is inside placed more_is s =
+    → more ≡ chosen ++ map (λ r. ltb (count_by (λ (s : Ranked). same s.row r.row) (take place ranked)) k) level
+    → Selecting over all same k n ranked place chosen → Selecting over all same k (suc n) ranked (place + count) more
+selecting_more over all same k n ranked place count chosen more level within long level_is inside placed more_is s =
     let tail = drop place ranked in
     let front = take place ranked in
     let behind = drop count tail in
@@ -78,13 +77,13 @@ selecting_more over all same k n ranked place count kept more level within long 
     let cut = cut_at ranked (front ++ level) behind (place + count) parts long_enough in
     let few : Ranked → Bool = λ r. ltb (count_before same ranked r) k in
     let few_before : Ranked → Bool = λ r. ltb (count_by (λ (s : Ranked). same s.row r.row) front) k in
-    let agree : filter few_before level ≡ filter few level =
-    filter_agree_among few_before few level (λ r m.
+    let agree : map few_before level ≡ map few level =
+    map_agree_among few_before few level (λ r m.
     let w = from_map (at_level (suc n)) (in_order_of_id (best over (rest over all n))) r (subst (Among r) of_level m) in
     let at = ap (λ (t : Ranked). t.level) w.2 in
     ap (λ c. ltb c k) (sym (ap (λ l. count_before same l r) (sym (take-append-drop place ranked)) ∙ count_of_front over all same n (k - n) front tail r s.front s.back at))) in
     record {
       front = cut.0 ∙ (ap (λ l. l ++ level) s.front ∙ ap (λ l. levels over all n ++ l) of_level);
       back = cut.1 ∙ cuts.1;
-      chosen = more_is ∙ (ap (λ l. l ++ filter few_before level) s.chosen ∙ (ap (λ l. filter few front ++ l) agree ∙ (sym (filter-append few front level) ∙ ap (filter few) (sym cut.0))));
+      as_told = more_is ∙ (ap (λ l. l ++ map few_before level) s.as_told ∙ (ap (λ l. map few front ++ l) agree ∙ (sym (map-append few front level) ∙ ap (map few) (sym cut.0))));
     }

@@ -1,13 +1,14 @@
 //! The answer of an ask, from a partial result.
 
-ghost use Rattle.std.specs.Prelude.{◌≡◌, ◌<◌, ◌≤◌, ◌++◌, Bool, List, length, nat_lt, count_by, filter, IfOk, OnOk, All};
+ghost use Rattle.std.specs.Prelude.{◌≡◌, ◌<◌, ◌≤◌, ◌++◌, Bool, List, length, map, nat_lt, count_by, filter, IfOk, OnOk, All};
 ghost use Rattle.pref_term.specs.AskOrder.{order_of};
 ghost use Rattle.pref_term.specs.Better.{in_same_group};
 ghost use Rattle.pref_term.specs.Question.{cut_of};
-ghost use Rattle.pref_sky.specs.Answers.{answer_of, at_least};
+ghost use Rattle.pref_sky.specs.Answers.{answer_of, at_least, count_before};
 ghost use Rattle.pref_sky.specs.Levels.{entry_order, levels};
 ghost use Rattle.pref_sky.specs.Meetings.{length_of_level};
 ghost use Rattle.pref_sky.specs.declared.entry.Entry.{Entry};
+ghost use Rattle.pref_sky.specs.declared.entry.Ranked.{Ranked};
 
 use crate::entry::Ranked;
 use crate::partial::Partial;
@@ -27,22 +28,20 @@ fn has_fewer(columns: &[usize], k: usize, before: &[Ranked], entry: &Ranked) -> 
         < k
 }
 
-/// Appends those entries of a level that have fewer than `k` of their group before them.
+/// Puts behind others, for each entry of a level, whether it has fewer than `k` of its group before it.
 fn push_fewer(
-    kept: &mut Vec<Ranked>,
+    chosen: &mut Vec<bool>,
     columns: &[usize],
     k: usize,
     before: &[Ranked],
     level: &[Ranked],
 ) -> Result<(), AllocError>
     requires { All (λ column. column < 16) columns.now }
-    ensures { OnOk result (kept.new.items ≡ kept.old.items
-        ++ filter (λ r. nat_lt (count_by (λ s. in_same_group columns.now s.row r.row) before.now) k) level.now) }
+    ensures { OnOk result (chosen.new.items ≡ chosen.old.items
+        ++ map (λ r. nat_lt (count_by (λ s. in_same_group columns.now s.row r.row) before.now) k) level.now) }
 {
     for entry in level {
-        if has_fewer(columns, k, before, entry) {
-            kept.push(*entry)?;
-        }
+        chosen.push(has_fewer(columns, k, before, entry))?;
     }
     Ok(())
 }
@@ -59,26 +58,56 @@ fn length_of_level(ranked: &[Ranked], level: u32) -> usize
     count
 }
 
+/// Of each entry, whether it is on the first levels that hold `k` entries of its group together, from the levels 1 to `k`.
+fn choose(
+    alloc: Global,
+    columns: &[usize],
+    k: u32,
+    ranked: &[Ranked],
+) -> Result<Vec<bool>, AllocError>
+    requires { All (λ column. column < 16) columns.now }
+    ensures { IfOk result (λ chosen. (over : Entry → Entry → Bool) (entries : List Entry) → ranked.now ≡ levels over entries k
+        → chosen.items ≡ map (λ r. nat_lt (count_before (in_same_group columns.now) ranked.now r) k) ranked.now) }
+{
+    let mut chosen = Vec::with_capacity(alloc, ranked.len())?;
+    let mut place = 0;
+    for above in 0..k {
+        let (before, tail) = ranked.split_at(place);
+        let count = length_of_level(tail, above + 1);
+        push_fewer(&mut chosen, columns, k as usize, before, &tail[..count])?;
+        place += count;
+    }
+    Ok(chosen)
+}
+
+/// Keeps the entries that are chosen, in their order. Takes no memory.
+fn keep(ranked: &mut Vec<Ranked>, chosen: &[bool])
+    ensures { (test : Ranked → Bool) → chosen.now ≡ map test ranked.old.items → ranked.new.items ≡ filter test ranked.old.items }
+{
+    let mut count = 0;
+    for place in 0..ranked.len().min(chosen.len()) {
+        if chosen[place] {
+            ranked[count] = ranked[place];
+            count += 1;
+        }
+    }
+    ranked.truncate(count);
+}
+
 /// In each group the first levels that hold `k` entries together, from the levels 1 to `k`.
 fn at_least(
     alloc: Global,
     columns: &[usize],
     k: u32,
-    ranked: &[Ranked],
+    mut ranked: Vec<Ranked>,
 ) -> Result<Vec<Ranked>, AllocError>
     requires { All (λ column. column < 16) columns.now }
-    ensures { IfOk result (λ kept. (over : Entry → Entry → Bool) (entries : List Entry) → ranked.now ≡ levels over entries k
-        → kept.items ≡ at_least (in_same_group columns.now) k ranked.now) }
+    ensures { IfOk result (λ kept. (over : Entry → Entry → Bool) (entries : List Entry) → ranked.items ≡ levels over entries k
+        → kept.items ≡ at_least (in_same_group columns.now) k ranked.items) }
 {
-    let mut kept = Vec::with_capacity(alloc, ranked.len())?;
-    let mut place = 0;
-    for above in 0..k {
-        let (before, tail) = ranked.split_at(place);
-        let count = length_of_level(tail, above + 1);
-        push_fewer(&mut kept, columns, k as usize, before, &tail[..count])?;
-        place += count;
-    }
-    Ok(kept)
+    let chosen = choose(alloc, columns, k, &ranked)?;
+    keep(&mut ranked, &chosen);
+    Ok(ranked)
 }
 
 /// The answer of an ask, in order of level, then id, from a partial result at [`Ask::cut`]: where this
@@ -86,7 +115,7 @@ fn at_least(
 ///
 /// Cost: that of [`Partial::ranked`]. For "at least" each held entry is also compared by its group's
 /// columns with those on the levels before, until `k` of its group are found. Memory: that of
-/// `Partial::ranked`, and for "at least" the answer beside it. `Err` is out of memory.
+/// `Partial::ranked`, and for "at least" a byte for each held entry. `Err` is out of memory.
 pub fn answer(alloc: Global, ask: &Ask, partial: &Partial) -> Result<Vec<Ranked>, AllocError>
     ensures { (entries : List Entry) → partial.now ≡ levels (entry_order (order_of ask.now)) entries (cut_of ask.now.mode)
         → IfOk result (λ ranked. ranked.items ≡ answer_of ask.now entries) }
@@ -94,6 +123,6 @@ pub fn answer(alloc: Global, ask: &Ask, partial: &Partial) -> Result<Vec<Ranked>
     let ranked = partial.ranked(alloc)?;
     match ask.mode() {
         Mode::Best | Mode::TopLevel(_) => Ok(ranked),
-        Mode::AtLeast(k) => at_least(alloc, ask.group(), k, &ranked),
+        Mode::AtLeast(k) => at_least(alloc, ask.group(), k, ranked),
     }
 }

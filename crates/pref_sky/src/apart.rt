@@ -1,7 +1,7 @@
 //! Entries in parts, where rows are compared within groups alone: an entry meets those of its part, and no others.
 
 ghost use Rattle.std.specs.Prelude.{◌≡◌, ◌≤◌, ◌<◌, ◌++◌, ◌^◌, [], ◌∷◌, ℕ, List, All, filter, length, map, vec_len, max, IfOk, OnOk, OnErr};
-ghost use Rattle.pref_sky.specs.Levels.{HaveDifferentIds, entry_of, entry_order, levels};
+ghost use Rattle.pref_sky.specs.Levels.{HaveDifferentIds, at_level, entry_of, entry_order, levels};
 ghost use Rattle.pref_sky.specs.Partials.{HaveRoom, IsPlanned, ranked_after, ranked_from};
 ghost use Rattle.pref_sky.specs.Parts.{ArePartedBy, all_at, coming_of, cuts_of, depth, is_in, levels_of, part_of, ranked_parts, steps_of};
 ghost use Rattle.pref_sky.specs.Signatures.{AreSignedBy, StepsAreSignedBy, signature_by};
@@ -9,9 +9,10 @@ ghost use Rattle.pref_sky.specs.declared.entry.Entry.{Entry};
 ghost use Rattle.pref_sky.specs.declared.level.Step.{Step};
 ghost use Rattle.pref_term.specs.Order.{StaysWithin};
 
-use crate::entry::Entry;
-use crate::level::{Level, Step};
+use crate::entry::{Entry, Ranked};
+use crate::level::{Level, Step, count_of};
 use crate::part::Part;
+use crate::ranking::{push_level, sort_behind};
 use crate::signatures::signatures_of;
 use pref_term::{Cuts, Dominance};
 use std::alloc::{AllocError, Global};
@@ -120,9 +121,7 @@ fn entries_at(alloc: Global, parts: &[Part], place: usize) -> Result<Vec<Entry>,
 {
     let mut entries = Vec::new(alloc);
     for part in parts {
-        if place < part.levels.len() {
-            entries.extend_from_slice(&part.levels[place].entries)?;
-        }
+        entries.extend_from_slice(part.at(place))?;
     }
     Ok(entries)
 }
@@ -143,6 +142,30 @@ fn levels_together(alloc: Global, parts: &[Part]) -> Result<Vec<Level>, AllocErr
         })?;
     }
     Ok(levels)
+}
+
+/// Puts the entries of all parts at one level, unordered, behind those of the levels before it.
+fn push_parts(
+    ranked: &mut Vec<Ranked>,
+    level: u32,
+    parts: &[Part],
+    place: usize,
+) -> Result<(), AllocError>
+    ensures { OnOk result (ranked.new.items ≡ ranked.old.items ++ map (at_level level) (all_at parts.now place)) }
+{
+    for part in parts {
+        push_level(ranked, level, part.at(place))?;
+    }
+    Ok(())
+}
+
+/// How many entries parts hold together.
+fn count_in(parts: &[Part]) -> usize {
+    let mut count: usize = 0;
+    for part in parts {
+        count = count.saturating_add(count_of(&part.levels));
+    }
+    count
 }
 
 /// Parts that hold nothing.
@@ -188,6 +211,20 @@ impl Parts {
             levels,
             cuts: Cuts::none(),
         })
+    }
+
+    /// The entries of all parts, in order of level, then id.
+    pub(crate) fn ranked(&self, alloc: Global) -> Result<Vec<Ranked>, AllocError>
+        requires { HaveDifferentIds (map entry_of (ranked_parts self.now.parts.items)) }
+        ensures { IfOk result (λ ranked. ranked.items ≡ ranked_parts self.now.parts.items) }
+    {
+        let mut ranked = Vec::with_capacity(alloc, count_in(&self.parts))?;
+        for place in 0..deepest(&self.parts) {
+            let start = ranked.len();
+            push_parts(&mut ranked, place as u32 + 1, &self.parts, place)?;
+            sort_behind(&mut ranked, start);
+        }
+        Ok(ranked)
     }
 
     /// Adds entries, each to its part, as [`Partial::add`](crate::Partial::add) does. The order compares rows within

@@ -25,6 +25,15 @@ pub(crate) struct Level {
     pub(crate) signatures: Vec<u64>,
 }
 
+/// How many entries levels hold together.
+pub(crate) fn count_of(levels: &[Level]) -> usize {
+    let mut count: usize = 0;
+    for level in levels {
+        count = count.saturating_add(level.entries.len());
+    }
+    count
+}
+
 /// What an addition makes of a level.
 #[derive(Drop)]
 pub(crate) struct Step {

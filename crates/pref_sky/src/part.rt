@@ -3,13 +3,13 @@
 ghost use Rattle.std.specs.List.{count_by};
 ghost use Rattle.std.specs.Prelude.{◌≡◌, ◌≤◌, ◌<◌, ◌+◌, ◌++◌, ◌^◌, Bool, List, length, map, vec_len, IfOk, OnOk, OnErr};
 ghost use Rattle.pref_sky.specs.Levels.{HaveDifferentIds, entry_of, entry_order, levels};
-ghost use Rattle.pref_sky.specs.Partials.{HaveRoom, IsPlanned, ranked_after, ranked_from};
+ghost use Rattle.pref_sky.specs.Partials.{HaveRoom, IsPlanned, held_at, ranked_after, ranked_from};
 ghost use Rattle.pref_sky.specs.Signatures.{AreSignedBy, AreSignedBy-prop, StepsAreSignedBy, signature_by};
 ghost use Rattle.pref_sky.specs.declared.entry.Entry.{Entry};
 ghost use Rattle.pref_term.specs.Signatures.{Suit};
 
 use crate::entry::Entry;
-use crate::level::{Level, Step};
+use crate::level::{Level, Step, count_of};
 use crate::merge::{make_all, plan};
 use crate::signatures::{cuts_of, signatures_of};
 use pref_term::{Cuts, Dominance};
@@ -51,19 +51,10 @@ const FIRST: usize = 128;
 /// How many of the first entries are held, at least, where what comes behind them is signed.
 const MANY_OF_FIRST: usize = 16;
 
-/// Whether levels hold at least so many entries together.
-fn hold_at_least(held: &[Level], many: usize) -> bool {
-    let mut missing = many;
-    for level in held {
-        missing = missing.saturating_sub(level.entries.len());
-    }
-    missing == 0
-}
-
 /// Whether signatures are worth their cost: the entries that are held, with one in 64 of those that come,
 /// are many. Any answer is right.
 fn are_many(held: &[Level], coming: &[Entry]) -> bool {
-    hold_at_least(held, MANY.saturating_sub(coming.len() / 64))
+    count_of(held) >= MANY.saturating_sub(coming.len() / 64)
 }
 
 /// The entries that cuts are made for: those that come, or where they are few those of the first level, which are like
@@ -127,6 +118,17 @@ impl Part {
         }
     }
 
+    /// Its entries at the level behind the first `place`: none where there is no such level.
+    pub(crate) fn at(&self, place: usize) -> &[Entry]
+        ensures { result.now ≡ held_at place self.now.levels.items }
+    {
+        if place < self.levels.len() {
+            &self.levels[place].entries
+        } else {
+            &[]
+        }
+    }
+
     /// Signs what it holds by cuts for entries like these, where it holds at least so many.
     fn sign_many<D: Dominance>(
         &mut self,
@@ -137,7 +139,7 @@ impl Part {
     ) -> Result<(), AllocError>
         ensures { ranked_from 1 self.new.levels.items ≡ ranked_from 1 self.old.levels.items }
     {
-        if hold_at_least(&self.levels, many) {
+        if count_of(&self.levels) >= many {
             let cuts = cuts_of(alloc, dominance, entries)?;
             take_cuts(&mut self.cuts, &mut self.levels, cuts);
         }

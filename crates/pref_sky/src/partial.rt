@@ -9,9 +9,9 @@ ghost use Rattle.pref_sky.specs.declared.entry.Entry.{Entry};
 
 use crate::apart::Parts;
 use crate::entry::{Entry, Ranked};
-use crate::level::Level;
+use crate::level::{Level, count_of};
 use crate::part::Part;
-use crate::ranking::push_level;
+use crate::ranking::{push_level, sort_behind};
 use pref_term::Dominance;
 use std::alloc::{AllocError, Global};
 use std::marker::Model;
@@ -56,11 +56,11 @@ fn ranked_of(alloc: Global, levels: &[Level]) -> Result<Vec<Ranked>, AllocError>
     requires bound { length levels.now < 2 ^ 32 }
     ensures { IfOk result (λ ranked. ranked.items ≡ ranked_from 1 levels.now) }
 {
-    let mut ranked = Vec::new(alloc);
+    let mut ranked = Vec::with_capacity(alloc, count_of(levels))?;
     for (above, level) in levels.iter().enumerate() {
-        let mut entries = Vec::from_slice(alloc, &level.entries)?;
-        entries.sort_unstable_by_key(|entry| entry.id);
-        push_level(&mut ranked, above as u32 + 1, &entries)?;
+        let start = ranked.len();
+        push_level(&mut ranked, above as u32 + 1, &level.entries)?;
+        sort_behind(&mut ranked, start);
     }
     Ok(ranked)
 }
@@ -129,15 +129,15 @@ impl Partial {
 
     /// The entries that are held, with their levels, in order of level, then id.
     ///
-    /// Cost: one copy of them, and a sort of each level by id; of parts one copy more, and for each level a look at
-    /// each part. Memory: the list, and beside it one as long as a level, of parts one of all. `Err` is out of memory.
+    /// Cost: one copy of them, and a sort of each level by id; of parts for each level a look at each part. Memory: the
+    /// list alone. `Err` is out of memory.
     pub fn ranked(&self, alloc: Global) -> Result<Vec<Ranked>, AllocError>
         ensures { IfOk result (λ ranked. ranked.items ≡ self.now) }
     {
         match &self.held {
             Held::Nothing => Ok(Vec::new(alloc)),
             Held::Whole(part) => ranked_of(alloc, &part.levels),
-            Held::Apart(parts) => ranked_of(alloc, &parts.together(alloc)?.levels),
+            Held::Apart(parts) => parts.ranked(alloc),
         }
     }
 

@@ -1,9 +1,10 @@
 //! The levels of a list of entries (the rPref manual).
 
-ghost use Rattle.std.specs.Prelude.{◌≡◌, ◌<◌, ◌++◌, ◌==◌, List, not, filter, map, IfOk, OnOk};
+ghost use Rattle.std.specs.Prelude.{◌≡◌, ◌≤◌, ◌<◌, ◌++◌, ◌==◌, ℕ, List, not, filter, length, map, vec_len, IfOk, OnOk};
 ghost use Rattle.std.specs.List.{list_any};
 ghost use Rattle.pref_sky.specs.Levels.{HaveDifferentIds, at_level, entry_order, in_order_of_id, levels};
 ghost use Rattle.pref_sky.specs.declared.entry.Entry.{Entry};
+ghost use Rattle.pref_sky.specs.declared.entry.Ranked.{Ranked};
 
 use crate::best::best_rows;
 use crate::entry::{Entry, Ranked};
@@ -26,6 +27,15 @@ pub(crate) fn push_level(
         })?;
     }
     Ok(())
+}
+
+/// Sorts the entries from a place on, which are of one level, by id. Takes no memory.
+pub(crate) fn sort_behind(ranked: &mut Vec<Ranked>, start: usize)
+    requires { start ≤ vec_len ranked.old }
+    ensures { (front : List Ranked) (level : ℕ) (entries : List Entry) → HaveDifferentIds entries → length front ≡ start
+        → ranked.old.items ≡ front ++ map (at_level level) entries → ranked.new.items ≡ front ++ map (at_level level) (in_order_of_id entries) }
+{
+    ranked[start..].sort_unstable_by_key(|entry| entry.id);
 }
 
 /// Whether an id is that of one of the entries, which are in order of id: a search by halves.

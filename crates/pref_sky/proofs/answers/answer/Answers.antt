@@ -17,9 +17,10 @@ returns-in-AtLeast c entries held =
     let same = in_same_group ask.group in
     let k : ℕ = c.in-AtLeast.k in
     let mode : ask.mode ≡ AtLeast k = sym c.mode.ensures.mode ∙ c.in-AtLeast.is in
-    let slice : c.deref.result.now ≡ levels over entries k = c.deref.ensures.value ∙ (c.in_ok-ranked.ensures ∙ (held ∙ ap (λ m. levels over entries (cut_of m)) mode)) in
+    let ranked = c.in_ok-ranked.ranked.items in
+    let is : ranked ≡ levels over entries k = c.in_ok-ranked.ensures ∙ (held ∙ ap (λ m. levels over entries (cut_of m)) mode) in
     let holds_enough = enough over (entry_order_is_strict (order_of ask) (order_of_is_row_order ask)) same (entry_order_stays_in_groups ask) entries k in
     IfOk-weaker c.at_least.result _ _ (λ v h.
-    h over entries slice ∙ (ap (λ g. at_least (in_same_group g) k c.deref.result.now) c.group.ensures.columns
-    ∙ (ap (at_least same k) slice ∙ (sym holds_enough ∙ ap (λ m. selected over same m entries) (sym mode)))))
+    h over entries is ∙ (ap (λ g. at_least (in_same_group g) k ranked) c.group.ensures.columns
+    ∙ (ap (at_least same k) is ∙ (sym holds_enough ∙ ap (λ m. selected over same m entries) (sym mode)))))
     c.at_least.ensures

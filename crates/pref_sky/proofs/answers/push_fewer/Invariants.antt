@@ -1,8 +1,8 @@
-use Rattle.std.proofs.Common.{◌≡◌, ◌++◌, filter, take, nat_lt}
+use Rattle.std.proofs.Common.{◌≡◌, ◌++◌, map, take, nat_lt}
 use Rattle.std.specs.List.{count_by}
 use Rattle.pref_term.specs.Better.{in_same_group}
 use Rattle.pref_sky.proofs.answers.push_fewer.Given as goal
 
 abbrev pub invariant-loop-entry : goal.invariant-loop-entry
 invariant-loop-entry l =
-    l.kept.items ≡ l.initial.kept.items ++ filter (λ r. nat_lt (count_by (λ s. in_same_group l.columns s.row r.row) l.before) l.k) (take l.entry-index l.level)
+    l.chosen.items ≡ l.initial.chosen.items ++ map (λ r. nat_lt (count_by (λ s. in_same_group l.columns s.row r.row) l.before) l.k) (take l.entry-index l.level)

@@ -1,0 +1,23 @@
+use Rattle.std.proofs.Common.{rules, ◌≡◌, ◌++◌, ◌-◌, length, vec_len, map, take, drop, ◌∙◌, arith, length-append, length-take, length-drop}
+use Rattle.std.proofs.lemmas.List.{with_items_is}
+use Rattle.std.proofs.lemmas.List.Sorted.{IsNonDecreasingBy-from_sort_by_key}
+use borrow.Rule.Slice.PartMut.{post_of, put_mid}
+use Rattle.pref_sky.specs.declared.entry.Ranked.{Ranked}
+use Rattle.pref_sky.specs.Levels.{at_level}
+use Rattle.pref_sky.proofs.Ranks.{sorted_behind}
+use Rattle.pref_sky.proofs.ranking.sort_behind.Goals as goal
+
+pub returns : goal.returns
+returns c front level entries different long is =
+    let old = c.args.ranked.now in
+    let start = c.args.start in
+    let slice = c.deref_mut.result.now in
+    let after = c.sort_unstable_by_key.new.self in
+    let slice_is : slice ≡ front ++ map (at_level level) entries = c.deref_mut.ensures.value ∙ is in
+    let sorted = IsNonDecreasingBy-from_sort_by_key (λ (r : Ranked). r.id) _ c.sort_unstable_by_key.ensures.sorted (λ a r q k. search rules) in
+    let written = sorted_behind level start front entries slice after different long slice_is c.sort_unstable_by_key.ensures.permutation sorted in
+    let count = length slice - start in
+    let post = post_of start count slice in
+    let whole : length (put_mid start count slice after) ≡ vec_len old =
+    omega (arith, length-append (take start slice) (after ++ post), length-append after post, length-take start slice, length-drop start slice, length-take count (drop start slice), length-drop count (drop start slice), c.sort_unstable_by_key.ensures.len, c.deref_mut.ensures.len, c.requires) in
+    with_items_is old (put_mid start count slice after) whole ∙ written
