@@ -61,6 +61,7 @@ fn by_id<D: Dominance>(dominance: &D, a: &Entry, b: &Entry) -> Relation
 }
 
 /// How the first entry compares with the second: both questions in one comparison of their rows.
+#[inline(always)]
 pub(crate) fn compare<D: Dominance>(dominance: &D, a: &Entry, b: &Entry) -> Relation
     ensures better { is_better result ≡ entry_order (D.order dominance.now) a.now b.now }
     ensures worse { is_worse result ≡ entry_order (D.order dominance.now) b.now a.now }

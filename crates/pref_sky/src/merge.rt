@@ -1,7 +1,7 @@
 //! An addition to a partial result, level by level: first it is planned, and then made without asking for
 //! memory. Held entries of one level never meet again, and none is copied but those that go down.
 
-ghost use Rattle.std.specs.Prelude.{◌≡◌, ◌≤◌, ◌<◌, ◌++◌, ◌⊎◌, ◌+◌, ◌^◌, ◌==◌, ℕ, [], ◌∷◌, suc, true, Bool, List, not, filter, length, map, count_by, vec_len, IfOk, OnOk};
+ghost use Rattle.std.specs.Prelude.{◌≡◌, ◌≤◌, ◌<◌, ◌++◌, ◌⊎◌, ◌+◌, ◌^◌, ◌==◌, ℕ, [], ◌∷◌, suc, false, true, Bool, List, not, filter, length, map, count_by, vec_len, IfOk, OnOk};
 ghost use Rattle.std.specs.List.{list_any};
 ghost use Rattle.pref_sky.specs.Best.{best, is_beaten, without_best};
 ghost use Rattle.pref_sky.specs.Levels.{HaveDifferentIds, entry_of, entry_order, in_order_of_id, levels};
@@ -155,22 +155,26 @@ fn merge_at<D: Dominance>(
     merge_level(alloc, dominance, window, &mut held[above], coming, losers)
 }
 
-/// How many of the first levels dominate an entry, up to the cut: a search by halves, since where one of the levels does,
-/// each level before it does. The last level is asked first, since most entries that come late are below it.
-fn start_of<D: Dominance>(
+/// How many of the first levels dominate an entry, where the one behind the first `high` does not: a search by halves, since where one
+/// of the levels does, each level before it does.
+#[inline(never)]
+fn start_before<D: Dominance>(
     dominance: &D,
     held: &mut Vec<Level>,
     cut: u32,
+    mut high: usize,
     entry: &Entry,
     signature: u64,
 ) -> usize
-    requires { LevelsAreSigned (entry_order (D.order dominance.now)) held.old.items (entry.now ∷ []) (signature ∷ []) }
+    requires signed { LevelsAreSigned (entry_order (D.order dominance.now)) held.old.items (entry.now ∷ []) (signature ∷ []) }
+    requires within { high ≤ cut }
+    requires inside { high ≤ vec_len held.old }
+    requires free { let over = entry_order (D.order dominance.now) in AreApart over held.old.items → high < cut → is_beaten over (held_at high held.old.items) entry.now ≡ false }
     ensures moved { AreMoved held.old.items held.new.items }
     ensures start { let over = entry_order (D.order dominance.now) in AreApart over held.old.items → Start over held.old.items cut entry.now result }
 {
     let mut low = 0;
-    let mut high = held.len().min(cut as usize);
-    let mut middle = high.saturating_sub(1);
+    let mut middle = high / 2;
     while low < high {
         if held[middle].dominates(dominance, entry, signature) {
             low = middle + 1;
@@ -182,7 +186,32 @@ fn start_of<D: Dominance>(
     low
 }
 
+/// How many of the first levels dominate an entry, up to the cut. The last level is asked first, since most entries that come late are
+/// below it.
+#[inline(always)]
+fn start_of<D: Dominance>(
+    dominance: &D,
+    held: &mut Vec<Level>,
+    cut: u32,
+    entry: &Entry,
+    signature: u64,
+) -> usize
+    requires { LevelsAreSigned (entry_order (D.order dominance.now)) held.old.items (entry.now ∷ []) (signature ∷ []) }
+    ensures moved { AreMoved held.old.items held.new.items }
+    ensures start { let over = entry_order (D.order dominance.now) in AreApart over held.old.items → Start over held.old.items cut entry.now result }
+{
+    let high = held.len().min(cut as usize);
+    if high == 0 {
+        return 0;
+    }
+    if held[high - 1].dominates(dominance, entry, signature) {
+        return high;
+    }
+    start_before(dominance, held, cut, high - 1, entry, signature)
+}
+
 /// For each entry, how many of the first levels dominate it, up to the cut.
+#[inline(never)]
 fn starts_of<D: Dominance>(
     alloc: Global,
     dominance: &D,

@@ -3,7 +3,7 @@ use Rattle.pref_sky.specs.Best.{is_beaten}
 use Rattle.pref_sky.specs.Levels.{entry_order}
 use Rattle.pref_sky.specs.Partials.{AreMoved, held_at}
 use Rattle.pref_sky.specs.Starts.{AreApart}
-use Rattle.pref_sky.proofs.merge.start_of.Given as goal
+use Rattle.pref_sky.proofs.merge.start_before.Given as goal
 
 -- the level in front of `low` dominates the entry, the one behind the first `high` doesn't
 abbrev pub invariant-loop-low : goal.invariant-loop-low
