@@ -37,14 +37,28 @@ fn part_of(columns: &[usize], entry: &Entry) -> usize
     (word >> 54) as usize
 }
 
-/// A list without entries for each part.
-fn nothing_dealt(alloc: Global) -> Result<Vec<Vec<Entry>>, AllocError>
-    ensures len { IfOk result (λ dealt. length dealt.items ≡ 1024) }
+/// How many entries come to each part.
+fn counts_of(alloc: Global, columns: &[usize], entries: &[Entry]) -> Result<Vec<usize>, AllocError>
+    requires { All (λ col. col < 16) columns.now }
+    ensures { IfOk result (λ counts. length counts.items ≡ 1024) }
+{
+    let mut counts = Vec::from_elem(alloc, 0_usize, PARTS)?;
+    for entry in entries {
+        let part = part_of(columns, entry);
+        counts[part] = counts[part].saturating_add(1);
+    }
+    Ok(counts)
+}
+
+/// A list without entries for each part, with room for so many.
+fn nothing_dealt(alloc: Global, counts: &[usize]) -> Result<Vec<Vec<Entry>>, AllocError>
+    ensures len { IfOk result (λ dealt. length dealt.items ≡ length counts.now) }
     ensures none { IfOk result (λ dealt. (part : ℕ) → coming_of part dealt.items ≡ []) }
 {
-    let mut dealt = Vec::with_capacity(alloc, PARTS)?;
-    'each_part: while dealt.len() < PARTS {
-        dealt.push(Vec::new(alloc))?;
+    let mut dealt = Vec::with_capacity(alloc, counts.len())?;
+    for count in counts {
+        let list = Vec::with_capacity(alloc, *count)?;
+        dealt.push(list)?;
     }
     Ok(dealt)
 }
@@ -56,7 +70,8 @@ fn deal(alloc: Global, columns: &[usize], entries: &[Entry]) -> Result<Vec<Vec<E
     ensures dealt { IfOk result (λ dealt. (part : ℕ)
         → coming_of part dealt.items ≡ filter (is_in (part_of columns.now) part) entries.now) }
 {
-    let mut dealt = nothing_dealt(alloc)?;
+    let counts = counts_of(alloc, columns, entries)?;
+    let mut dealt = nothing_dealt(alloc, &counts)?;
     for entry in entries {
         dealt[part_of(columns, entry)].push(*entry)?;
     }

@@ -13,6 +13,7 @@ ghost use Rattle.pref_sky.specs.declared.entry.Entry.{Entry};
 
 use crate::entry::{Entry, compare};
 use crate::meeting::find_over;
+use crate::room::grow_for;
 use crate::signatures::{SignedEntries, push_signatures};
 use pref_term::{Cuts, Dominance};
 use std::alloc::{AllocError, Global};
@@ -175,8 +176,8 @@ impl Level {
         ensures room { OnOk result ((n : ℕ) → n ≤ vec_len self.old.entries → n ≤ vec_len self.old.signatures
             → HasRoom (record { staying = n; joining = joining.now }) self.new) }
     {
-        self.entries.reserve(joining.entries.len())?;
-        self.signatures.reserve(joining.signatures.len())?;
+        grow_for(&mut self.entries, joining.entries.len())?;
+        grow_for(&mut self.signatures, joining.signatures.len())?;
         Ok(())
     }
 

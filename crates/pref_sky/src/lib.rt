@@ -26,6 +26,7 @@ mod merge;
 mod part;
 mod partial;
 mod ranking;
+mod room;
 mod signatures;
 mod window;
 

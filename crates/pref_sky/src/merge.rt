@@ -17,6 +17,7 @@ use crate::best::best_of_signed;
 use crate::entry::Entry;
 use crate::level::{Level, Step};
 use crate::meeting::{Losers, find_over};
+use crate::room::grow_for;
 use crate::signatures::SignedEntries;
 use pref_term::Dominance;
 use std::alloc::{AllocError, Global};
@@ -115,6 +116,7 @@ fn open_level(alloc: Global, held: &mut Vec<Level>, above: usize) -> Result<(), 
     if above < held.len() {
         return Ok(());
     }
+    grow_for(held, 1)?;
     held.push(Level::new(alloc))?;
     Ok(())
 }
@@ -298,7 +300,7 @@ fn plan_levels<D: Dominance>(
         → ranked_after 1 held.new.items steps.items ≡ levels over (before ++ entries.now) cut) }
 {
     let last = last_start(starts, cut);
-    let mut steps = Vec::new(alloc);
+    let mut steps = Vec::with_capacity(alloc, 1)?;
     let mut coming = SignedEntries::new(alloc);
     'each_level: while steps.len() < cut as usize
         && (steps.len() < last || !coming.entries.is_empty())

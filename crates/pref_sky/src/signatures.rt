@@ -5,6 +5,7 @@ ghost use Rattle.pref_term.specs.Signatures.{Suit};
 ghost use Rattle.pref_sky.specs.Signatures.{signature_by};
 
 use crate::entry::Entry;
+use crate::room::grow_for;
 use pref_table::Row;
 use pref_term::{Cuts, Dominance};
 use std::alloc::{AllocError, Global};
@@ -49,6 +50,8 @@ impl SignedEntries {
         ensures entries { OnOk result (self.new.entries.items ≡ self.old.entries.items ++ entries.now) }
         ensures signatures { OnOk result (self.new.signatures.items ≡ self.old.signatures.items ++ signatures.now) }
     {
+        grow_for(&mut self.entries, entries.len())?;
+        grow_for(&mut self.signatures, signatures.len())?;
         self.entries.extend_from_slice(entries)?;
         self.signatures.extend_from_slice(signatures)?;
         Ok(())

@@ -38,13 +38,16 @@ each_level-init g c =
     let coming = c.new-coming.result in
     record {
       planning =
-          subst (λ l. Planning over cut (length l) held held entries (coming.entries.items ++ starting_from (length l) entries starts) l) (sym c.new-steps.ensures.items)
+          subst (λ l. Planning over cut (length l) held held entries (coming.entries.items ++ starting_from (length l) entries starts) l) (sym c.in_ok-steps.ensures.items)
           (subst (λ l. Planning over cut 0 held held entries (l ++ starting_from 0 entries starts) []) (sym c.new-coming.ensures.entries)
           (subst (λ l. Planning over cut 0 held held entries l []) (sym (starting_all entries starts c.requires.long)) (planning_begins over cut held entries)));
       lower = λ before different is further x m. absurd (subst (Among x) c.new-coming.ensures.entries m);
       signed = λ rule levels_by coming_by. (c.new-coming.ensures.signatures ∙ ap (map rule) (sym c.new-coming.ensures.entries), search rules);
       bound = λ short. short;
     }
+
+pub returns-in_err-steps-clause-same : goal.returns-in_err-steps-clause-same
+returns-in_err-steps-clause-same g c = record { ranked = refl; signed = λ rule by. by }
 
 pub push_starting-requires-clause-signatures : goal.push_starting-requires-clause-signatures
 push_starting-requires-clause-signatures g c = let signed = c.requires.signed in ap length signed.coming_by ∙ length-map c.args.entries.now signed.rule
