@@ -131,6 +131,7 @@ impl Level {
 
     /// Whether it dominates an entry: one of its entries does. That one goes half way to the front, since it
     /// may dominate the next one too.
+    #[inline(always)]
     pub(crate) fn dominates<D: Dominance>(
         &mut self,
         dominance: &D,
