@@ -290,7 +290,7 @@ impl Op {
     ghost use Rattle.pref_core.specs.Planned.{op_of};
 
     /// The same, with its call lent.
-    pub(crate) fn lent(&self) -> Planned<'_>
+    pub fn lent(&self) -> Planned<'_>
         ensures { op_of result ≡ self.now }
     {
         Planned {
@@ -305,19 +305,24 @@ impl Op {
 
 /// An [`Op`] whose call is lent: it takes 80 bytes, and an op 1,240, since a call has room for a commit of eight rows.
 #[derive(Clone, Copy)]
-pub(crate) struct Planned<'a> {
-    pub(crate) client: u8,
-    pub(crate) number: u64,
-    pub(crate) call: &'a Call,
-    pub(crate) slots: SlotList,
-    pub(crate) outcome: Outcome,
+pub struct Planned<'a> {
+    /// Who calls, 1 to 8.
+    pub client: u8,
+    /// The call's number, one above the client's last.
+    pub number: u64,
+    /// The call.
+    pub call: &'a Call,
+    /// The slots of the versions that begin, in the order of the changes that begin them.
+    pub slots: SlotList,
+    /// What becomes of the call.
+    pub outcome: Outcome,
 }
 
 impl Planned<'_> {
     ghost use Rattle.pref_core.specs.Planned.{op_of};
 
     /// The same, with a call of its own.
-    pub(crate) fn op(&self) -> Op
+    pub fn op(&self) -> Op
         ensures { result ≡ op_of self.now }
     {
         Op {

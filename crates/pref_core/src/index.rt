@@ -8,7 +8,7 @@ ghost use Rattle.pref_core.specs.Slots.{Contents, StandsFor};
 ghost use Rattle.pref_core.specs.State.{State, changes_of};
 ghost use Rattle.pref_core.specs.Table.{among};
 
-use crate::call::{Op, Outcome, Planned, SlotList};
+use crate::call::{Outcome, Planned, SlotList};
 use crate::changes::Change;
 use crate::store::Store;
 use indexmap::IndexMap;
@@ -88,17 +88,7 @@ impl Index {
     ///
     /// `Err` is out of memory, comes only for an op that adds a row, and leaves none of these rows in the index: where it
     /// was that of a store which planned the op, it still is.
-    pub fn prepare(&mut self, alloc: Global, op: &Op) -> Result<(), AllocError>
-        ensures prepared { OnOk result (Prepares op.now self.old self.new) }
-        ensures err { OnErr result (Withdraws op.now self.old self.new) }
-        ensures index { OnErr result ((contents : Contents) (state : State) → StandsFor contents state → IsPlan contents op.now.client op.now.call op.now → IsIndexOf contents self.old → IsIndexOf contents self.new) }
-        ensures refused { OnErr result (adds op.now.outcome ≡ true) }
-    {
-        self.make_ready(alloc, &op.lent())
-    }
-
-    /// The same for an op whose call is lent.
-    pub(crate) fn make_ready(&mut self, alloc: Global, op: &Planned<'_>) -> Result<(), AllocError>
+    pub fn prepare(&mut self, alloc: Global, op: &Planned<'_>) -> Result<(), AllocError>
         ensures prepared { OnOk result (Prepares (op_of op.now) self.old self.new) }
         ensures err { OnErr result (Withdraws (op_of op.now) self.old self.new) }
         ensures index { OnErr result ((contents : Contents) (state : State) → StandsFor contents state → IsPlan contents op.now.client op.now.call.now (op_of op.now) → IsIndexOf contents self.old → IsIndexOf contents self.new) }
@@ -115,11 +105,11 @@ impl Index {
     }
 
     /// Takes out again what was put for an op that won't be done: then the index is the store's as before.
-    pub fn withdraw(&mut self, op: &Op)
-        ensures out { Withdraws op.now self.old self.new }
-        ensures index { (contents : Contents) (state : State) → StandsFor contents state → IsPlan contents op.now.client op.now.call op.now → IsReady contents op.now self.old → IsIndexOf contents self.new }
+    pub fn withdraw(&mut self, op: &Planned<'_>)
+        ensures out { Withdraws (op_of op.now) self.old self.new }
+        ensures index { (contents : Contents) (state : State) → StandsFor contents state → IsPlan contents op.now.client op.now.call.now (op_of op.now) → IsReady contents (op_of op.now) self.old → IsIndexOf contents self.new }
     {
-        self.take_all(&AddedRows::of(&op.lent()));
+        self.take_all(&AddedRows::of(op));
     }
 
     /// Puts the slots of new rows. `Err` leaves other rows as they were.

@@ -187,8 +187,8 @@ impl Machine {
             Ok(op) => op,
             Err(fault) => return Err(fault),
         };
-        self.index.make_ready(alloc, &op)?;
-        self.store.carry_out(&mut self.index, &op);
+        self.index.prepare(alloc, &op)?;
+        self.store.apply_at(&mut self.index, &op);
         told(op.outcome, done)
     }
 

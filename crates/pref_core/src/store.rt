@@ -23,7 +23,7 @@ ghost use Rattle.pref_core.specs.State.{State, opening, calls_of, needed};
 ghost use Rattle.pref_core.specs.Slots.{StandsFor, caller_calls, visible, block_of, opening_contents};
 ghost use Rattle.pref_core.specs.Indexes.{IsIndexOf, IsReady};
 ghost use Rattle.pref_core.specs.Operations.{applied, IsPlan, Plans, PlansIn, AppliesIn};
-ghost use Rattle.pref_core.specs.Planned.{op_of};
+ghost use Rattle.pref_core.specs.Planned.{op_of, op_or_fault};
 
 use crate::call::{Call, Op, Planned};
 use crate::fault::CoreFault;
@@ -166,16 +166,24 @@ impl Store {
         ensures exact { Plans self.now client call result }
         ensures state { (state : State) → StandsFor self.now state → PlansIn state self.now client call result }
     {
-        self.op_by(None, client, &call)
+        match self.plan_by(None, client, &call) {
+            Ok(planned) => Ok(planned.op()),
+            Err(fault) => Err(fault),
+        }
     }
 
-    /// The same by an index of this store: constant in the slots.
-    pub fn plan_at(&self, index: &Index, client: u8, call: &Call) -> Result<Op, CoreFault>
+    /// The same by an index of this store: constant in the slots. The call is lent.
+    pub fn plan_at<'a>(
+        &self,
+        index: &Index,
+        client: u8,
+        call: &'a Call,
+    ) -> Result<Planned<'a>, CoreFault>
         requires { IsIndexOf self.now index.now }
-        ensures exact { Plans self.now client call.now result }
-        ensures state { (state : State) → StandsFor self.now state → PlansIn state self.now client call.now result }
+        ensures exact { Plans self.now client call.now (op_or_fault result) }
+        ensures state { (state : State) → StandsFor self.now state → PlansIn state self.now client call.now (op_or_fault result) }
     {
-        self.op_by(Some(index), client, call)
+        self.plan_by(Some(index), client, call)
     }
 
     /// Does a planned call. One that is not legal here changes nothing: so an operation is done once, and in its
@@ -195,22 +203,12 @@ impl Store {
     /// Does an op that was planned here, by an index that is ready for it ([`Index::prepare`]); the index then is this
     /// store's again. Takes no memory. Constant in the slots, but that a finish or an abandon goes over the ended
     /// versions that an open query needs.
-    pub fn apply_at(&mut self, index: &mut Index, op: &Op)
-        requires plan { IsPlan self.old op.now.client op.now.call op.now }
-        requires ready { IsReady self.old op.now index.old }
-        ensures exact { self.new ≡ applied self.old op.now }
-        ensures index { IsIndexOf self.new index.new }
-        ensures state { (state : State) → StandsFor self.old state → AppliesIn state self.old op.now self.new }
-    {
-        self.carry_out(index, &op.lent());
-    }
-
-    /// The same of an op whose call is lent.
-    pub(crate) fn carry_out(&mut self, index: &mut Index, op: &Planned<'_>)
+    pub fn apply_at(&mut self, index: &mut Index, op: &Planned<'_>)
         requires plan { IsPlan self.old op.now.client op.now.call.now (op_of op.now) }
         requires ready { IsReady self.old (op_of op.now) index.old }
         ensures exact { self.new ≡ applied self.old (op_of op.now) }
         ensures index { IsIndexOf self.new index.new }
+        ensures state { (state : State) → StandsFor self.old state → AppliesIn state self.old (op_of op.now) self.new }
     {
         self.follow(index, op);
         self.contents.step(op);

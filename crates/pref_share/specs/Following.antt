@@ -5,6 +5,7 @@ use mathlib.Core.List.{IsPrefix}
 use Rattle.pref_core.specs.declared.call.Call.{Call}
 use Rattle.pref_core.specs.declared.call.Op.{Op}
 use Rattle.pref_core.specs.declared.call.Outcome.{Outcome}
+use Rattle.pref_core.specs.declared.call.Outcome.TheVariants.{Added}
 use Rattle.pref_core.specs.declared.fault.CoreFault.{CoreFault}
 use Rattle.pref_core.specs.declared.fault.CoreFault.TheVariants.{NotDone, OutOfMemory}
 use Rattle.pref_core.specs.History.{numbered_of}
@@ -69,6 +70,11 @@ MayJoin o old call (Ahead seen) = IsAhead o old seen
 -- the outcome of a change, or the refusal that it is
 abbrev pub done_or_refused : Outcome → Result Outcome ShareFault
 done_or_refused outcome = elim (refusal_by_outcome outcome) [ None ↦ Ok outcome | Some fault ↦ Err (Core fault) ]
+
+-- the id of the first row that a change with this outcome added, 0 where it added none
+abbrev pub first_added : Outcome → ℕ
+first_added (Added first) = first
+first_added outcome = 0
 
 -- why an open query gives no answer
 abbrev pub GivesNone : Standing → CoreFault → Type 0

@@ -13,7 +13,7 @@ ghost use Rattle.pref_share.specs.Book.{word_of, ops_of, first_key};
 
 use crate::entry::Entry;
 use logbook::{Gain, Offer, Pen, Plain, Play, Rule, Seen, Start, Word};
-use pref_core::{Call, Op, Outcome, SlotList};
+use pref_core::Planned;
 use std::marker::{Brand, Model};
 
 /// The rule of the book.
@@ -133,36 +133,30 @@ impl Play<Entry, u64> for Add {
 }
 
 /// An operation, and the pen of the next one.
-pub(crate) struct Adding {
-    pub(crate) op: Op,
+pub(crate) struct Adding<'a> {
+    pub(crate) op: &'a Planned<'a>,
     pub(crate) next: Pen,
 }
 
 /// What a step asks for: the operation, and who may add the next one.
-impl Plain<Adding, Entry, u64> for Add {
+impl Plain<Adding<'_>, Entry, u64> for Add {
     ghost use Rattle.std.specs.Prelude.{None};
+    ghost use Rattle.pref_core.specs.Planned.{op_of};
 
-    ghost ask = { λ a. record { op = a.op; key = a.next.nib.key } };
+    ghost ask = { λ a. record { op = op_of a.op.now; key = a.next.nib.key } };
 
     ghost state = { λ a. None };
 }
 
-/// An operation that no store lets in.
-pub(crate) const NO_CALL: Op = Op {
-    client: 0,
-    number: 0,
-    call: Call::Begin,
-    slots: SlotList::NONE,
-    outcome: Outcome::Done,
-};
-
 /// For a step that adds nothing. No value of what it asks for is used.
-impl Plain<Op, Entry, u64> for Check {
-    ghost use Rattle.std.specs.Prelude.{None};
+impl Plain<Check, Entry, u64> for Check {
+    ghost use Rattle.std.specs.Prelude.{None, []};
+    ghost use Rattle.pref_core.specs.declared.call.Call.TheVariants.{Begin};
+    ghost use Rattle.pref_core.specs.declared.call.Outcome.TheVariants.{Done};
 
-    ghost ask = { λ op. record { op = op; key = 0 } };
+    ghost ask = { λ _. record { op = record { client = 0; number = 0; call = Begin; slots = []; outcome = Done }; key = 0 } };
 
-    ghost state = { λ op. None };
+    ghost state = { λ _. None };
 }
 
 /// A pen, and whether it is the first.
@@ -173,7 +167,7 @@ pub(crate) fn new_pen(turn: &Turn, seen: &Entries) -> (Pen, bool)
     ensures key { MatchBool result.1 (result.0.nib.key ≡ first_key) (Unit {0}) }
 {
     let mut seen = seen.again();
-    let mut offer: Offer<Entry, u64, Law, Nothing> = seen.plain::<Nothing, Op, Check>(&NO_CALL);
+    let mut offer: Offer<Entry, u64, Law, Nothing> = seen.plain::<Nothing, Check, Check>(&Check);
     let mut pen = seen.no_pen();
     let found = turn.compare_exchange::<Begin, Nothing>(0, 1, &mut seen, &mut offer, &mut pen);
     let _word: Turn = Word::tracked(0, &mut pen);

@@ -3,14 +3,13 @@
 ghost use Rattle.std.specs.Prelude.{◌≡◌, ◌++◌, ◌∷◌, ◌≤◌, [], length, IfSome, MatchBool};
 ghost use mathlib.Core.List.{IsPrefix};
 ghost use Rattle.pref_core.specs.Limits.{AreAllowed};
+ghost use Rattle.pref_core.specs.Planned.{op_of};
 ghost use Rattle.pref_share.specs.Openings.{IsLegalFrom, MayFollow};
 
-use crate::book::{
-    Add, Adding, Check, Entries, Law, NO_CALL, Name, Naming, Nothing, Token, Turn, new_pen,
-};
+use crate::book::{Add, Adding, Check, Entries, Law, Name, Naming, Nothing, Token, Turn, new_pen};
 use crate::entry::Entry;
 use logbook::{Offer, Pen};
-use pref_core::Op;
+use pref_core::Planned;
 use std::marker::{Model, PhantomData};
 
 /// The whole history. Who has it alone may add to it. Contracts see its operations.
@@ -87,22 +86,24 @@ impl<J: Naming> History<J> {
     {
         let mut seen = self.seen.again();
         prefix.seen.teach(&mut seen);
-        let mut offer: Offer<Entry, u64, Law, Nothing> = seen.plain::<Nothing, Op, Check>(&NO_CALL);
+        let mut offer: Offer<Entry, u64, Law, Nothing> = seen.plain::<Nothing, Check, Check>(
+            &Check,
+        );
         let _found = self
             .turn
             .compare_exchange::<Check, Nothing>(0, 1, &mut seen, &mut offer, &mut self.pen);
     }
 
     /// Adds an operation.
-    pub(crate) fn add(&mut self, op: &Op)
-        requires { MayFollow J.opening self.old op.now }
-        ensures { self.new ≡ self.old ++ op.now ∷ [] }
+    pub(crate) fn add(&mut self, op: &Planned<'_>)
+        requires { MayFollow J.opening self.old (op_of op.now) }
+        ensures { self.new ≡ self.old ++ op_of op.now ∷ [] }
     {
         let (next, _) = new_pen(&self.turn, &self.seen);
-        let adding = Adding { op: *op, next };
+        let adding = Adding { op, next };
         let mut offer: Offer<Entry, u64, Law, Nothing> = self
             .seen
-            .plain::<Nothing, Adding, Add>(&adding);
+            .plain::<Nothing, Adding<'_>, Add>(&adding);
         let _found = self
             .turn
             .compare_exchange::<Add, Nothing>(0, 1, &mut self.seen, &mut offer, &mut self.pen);

@@ -4,17 +4,18 @@ ghost use Rattle.std.specs.Prelude.{◌≡◌, ◌++◌, ◌∷◌, ◌<◌, ◌
 ghost use Rattle.std.specs.Option.{unwrap_or};
 ghost use mathlib.Core.List.{IsPrefix};
 ghost use Rattle.left_right.specs.Sides.{view};
+ghost use Rattle.pref_core.specs.Planned.{op_of};
 ghost use Rattle.pref_core.specs.State.{added, refusal};
 ghost use Rattle.pref_share.specs.Openings.{IsLegalFrom, MayFollow, first_contents, contents_at, state_at, calls_at};
 ghost use Rattle.pref_share.specs.Views.{stamped, HoldsHistory, Knows};
 
-use crate::book::{NO_CALL, Naming};
+use crate::book::{Naming, Token};
 use crate::history::{History, Prefix};
 use crate::published::{
     Hearing, Opening, Published, Stamp, Staying, StoreReader, StoreWriter, Telling,
 };
 use core::mem::replace_with;
-use pref_core::{Call, CoreFault, Index, Op, Store};
+use pref_core::{Call, CoreFault, Index, Op, Outcome, Planned, SlotList, Store};
 use std::alloc::{AllocError, Global};
 use std::marker::Model;
 use std::mem::ManuallyDrop;
@@ -62,6 +63,15 @@ fn open_with<R: Wait>(rt: &R, writer: StoreWriter) -> StoreWriter
 /// This many stamps are kept at most: those that one copy lacks, and the one of a call.
 const KEPT: usize = 3;
 
+/// An operation that no store lets in.
+const NO_CALL: Op = Op {
+    client: 0,
+    number: 0,
+    call: Call::Begin,
+    slots: SlotList::NONE,
+    outcome: Outcome::Done,
+};
+
 /// Makes room for the stamps of later calls, by stamps that change nothing. The room stays, so later calls need not grow it.
 fn with_room(mut writer: StoreWriter) -> Result<StoreWriter, StoreWriter>
     requires empty { writer.desk.shown.value.len ≡ 0 }
@@ -95,16 +105,20 @@ fn publish<J: Naming, R: Wait>(rt: &R, writer: StoreWriter) -> StoreWriter
     writer
 }
 
-/// Appends a stamp. Where there is no memory for it, waits until there is: its operation has joined the history.
-fn append<R: Wait>(rt: &R, writer: &mut StoreWriter, stamp: Stamp)
+/// Appends the stamp of an operation. Where there is no memory for it, waits until there is: the operation has joined the history.
+fn append<R: Wait>(rt: &R, writer: &mut StoreWriter, op: &Planned<'_>, len: u64, seen: &Token)
     ensures desk { writer.new.desk ≡ writer.old.desk }
-    ensures pending { drop writer.new.behind writer.new.log.items ≡ drop writer.old.behind writer.old.log.items ++ stamp ∷ [] }
+    ensures pending { drop writer.new.behind writer.new.log.items ≡ drop writer.old.behind writer.old.log.items ++ record { op = op_of op.now; len = len; seen = seen.now } ∷ [] }
 {
-    let mut waiting = stamp;
     for _ in rt.forever() {
-        match writer.append(waiting) {
-            Ok(()) => return,
-            Err(stamp) => waiting = stamp,
+        // A stamp is large: it is made where it is passed on.
+        let appended = writer.append(Stamp {
+            op: op.op(),
+            len,
+            seen: seen.again(),
+        });
+        if appended.is_ok() {
+            return;
         }
     }
     unreachable!()
@@ -194,28 +208,27 @@ impl<J: Naming> Master<J> {
 
     /// A call joins the history, and is published, planned by the index. `Err` is why it gets no number, or that there is no memory for the
     /// places of new rows in the index, which only a call that adds a row meets; nothing has changed then.
-    pub(crate) fn join<R: Wait>(
+    pub(crate) fn join<'a, R: Wait>(
         &mut self,
         rt: &R,
         alloc: Global,
         client: u8,
-        call: &Call,
-    ) -> Result<Op, CoreFault>
-        ensures planned { IfOk result (λ op. (op.client ≡ client) × (op.call ≡ call.now) × MayFollow J.opening self.old op) }
-        ensures joined { IfOk result (λ op. self.new ≡ self.old ++ op ∷ []) }
+        call: &'a Call,
+    ) -> Result<Planned<'a>, CoreFault>
+        ensures planned { IfOk result (λ op. (op.client ≡ client) × (op.call.now ≡ call.now) × MayFollow J.opening self.old (op_of op)) }
+        ensures joined { IfOk result (λ op. self.new ≡ self.old ++ op_of op ∷ []) }
         ensures refused { IfErr result (λ fault. (refusal (state_at J.opening self.old) client call.now ≡ Some fault) ⊎ (nat_lt 0 (added call.now) ≡ true)) }
         ensures same { IfErr result (λ fault. self.new ≡ self.old) }
     {
-        let op = self.store.plan_at(&self.index, client, call)?;
+        let op = match self.store.plan_at(&self.index, client, call) {
+            Ok(op) => op,
+            Err(fault) => return Err(fault),
+        };
         self.index.prepare(alloc, &op)?;
         self.history.add(&op);
         let seen = self.history.whole();
-        let stamp = Stamp {
-            op,
-            len: seen.len(),
-            seen: seen.token(),
-        };
-        append(rt, &mut *self.writer, stamp);
+        let token = seen.token();
+        append(rt, &mut *self.writer, &op, seen.len(), &token);
         replace_with(
             &mut *self.writer,
             rt,

@@ -21,7 +21,10 @@ fn done(
     requires { IsIndexOf store.old index.old }
     ensures { OnOk result (IsIndexOf store.new index.new) }
 {
-    let op = store.plan_at(index, client, call)?;
+    let op = match store.plan_at(index, client, call) {
+        Ok(op) => op,
+        Err(fault) => return Err(Fail::from(fault)),
+    };
     index.prepare(alloc, &op)?;
     store.apply_at(index, &op);
     Ok(op.outcome)
@@ -132,7 +135,10 @@ fn withdraws_a_row(
     requires { IsIndexOf store.now index.old }
 {
     let insert = Call::Insert(row(schema, 6)?);
-    let op = store.plan_at(index, 1, &insert)?;
+    let op = match store.plan_at(index, 1, &insert) {
+        Ok(op) => op,
+        Err(fault) => return Err(Fail::from(fault)),
+    };
     index.prepare(alloc, &op)?;
     assert_same(rt, "prepared", &index.slot(3), &Some(2));
     index.withdraw(&op);

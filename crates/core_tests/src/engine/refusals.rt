@@ -7,7 +7,7 @@ use super::{
 };
 use crate::same::{assert_same, assert_same_text};
 use pref_core::{
-    Act, Call, Change, Commit, Committed, CoreFault, Event, Index, Machine, Op, Part, Query,
+    Act, Call, Change, Commit, Committed, CoreFault, Event, Index, Machine, Part, Planned, Query,
     RankedList, Reply, Setup, StepFault, Store, replay_part,
 };
 use pref_sky::Ranked;
@@ -173,7 +173,7 @@ fn check_slots(rt: &impl Abort, index: &Index, slots: [Option<usize>; 8]) {
 }
 
 /// Puts the eight rows that an op adds, again where memory was refused: until then the index has none of them.
-fn prepare_in_the_end(rt: &impl Abort, alloc: Global, index: &mut Index, op: &Op) {
+fn prepare_in_the_end(rt: &impl Abort, alloc: Global, index: &mut Index, op: &Planned<'_>) {
     if index.prepare(alloc, op).is_err() {
         check_slots(rt, index, [None; 8]);
         index.prepare(alloc, op).expect(rt, "memory");
@@ -191,7 +191,7 @@ fn an_index_has_all_rows_of_a_commit_or_none(rt: HostRuntime) -> Result<(), Fail
     let store = Store::new(alloc, &setup, &[])?;
     let commit = Commit::of(&[Change::Add(row(&schema, 5)?); 8])?;
     let op = store.plan(1, Call::Commit(commit))?;
-    prepare_in_the_end(&rt, alloc, &mut index, &op);
+    prepare_in_the_end(&rt, alloc, &mut index, &op.lent());
     let slots = [
         Some(0),
         Some(1),

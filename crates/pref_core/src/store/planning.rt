@@ -4,10 +4,10 @@ ghost use Rattle.std.specs.Prelude.{IfSome, true, is_some, ◌≡◌};
 ghost use Rattle.pref_core.specs.Indexes.{IsIndexOf};
 ghost use Rattle.pref_core.specs.Kept.{IsFreed, FindsFreed};
 ghost use Rattle.pref_core.specs.Operations.{outcome_at, placed, Plans};
-ghost use Rattle.pref_core.specs.Planned.{PlansBy};
+ghost use Rattle.pref_core.specs.Planned.{op_or_fault};
 ghost use Rattle.pref_core.specs.State.{ended, is_change, is_formed, succeeds, granted};
 
-use crate::call::{Call, Op, Outcome, Planned, QueryState, SlotList};
+use crate::call::{Call, Outcome, Planned, QueryState, SlotList};
 use crate::fault::CoreFault;
 use crate::index::Index;
 use crate::store::Store;
@@ -16,6 +16,7 @@ use crate::store::contents::Contents;
 
 impl Store {
     /// What becomes of a call, whose rows are found by an index where there is one, and where its new rows go; or why it gets no number.
+    #[inline(always)]
     pub(crate) fn plan_by<'a>(
         &self,
         index: Option<&Index>,
@@ -23,7 +24,7 @@ impl Store {
         call: &'a Call,
     ) -> Result<Planned<'a>, CoreFault>
         requires { IfSome index (λ index. IsIndexOf self.now index.now) }
-        ensures { PlansBy self.now client call.now result }
+        ensures { Plans self.now client call.now (op_or_fault result) }
     {
         let Some(caller) = caller_of(&self.contents.callers, client) else {
             return Err(CoreFault::NoSuchClient);
@@ -41,22 +42,6 @@ impl Store {
             slots,
             outcome,
         })
-    }
-
-    /// The same as an op of its own.
-    pub(crate) fn op_by(
-        &self,
-        index: Option<&Index>,
-        client: u8,
-        call: &Call,
-    ) -> Result<Op, CoreFault>
-        requires { IfSome index (λ index. IsIndexOf self.now index.now) }
-        ensures { Plans self.now client call.now result }
-    {
-        match self.plan_by(index, client, call) {
-            Ok(planned) => Ok(planned.op()),
-            Err(fault) => Err(fault),
-        }
     }
 
     /// The slots that the rows which a call ends leave free, or the first id that it ends and the table lacks.

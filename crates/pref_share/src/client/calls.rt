@@ -7,7 +7,7 @@ ghost use Rattle.pref_core.specs.Stability.{is_end};
 ghost use Rattle.pref_share.specs.declared.fault.ShareFault.TheVariants.{ClientInUse};
 ghost use Rattle.pref_core.specs.Step.{told_of_commit};
 ghost use Rattle.pref_share.specs.Clients.{own_refusal, Changes, Commits, Joins, Begins, Finishes, IsAnswer, Refused, Refuses, RefusesChange, RefusesBegin, RefusesFinish, IsInUse};
-ghost use Rattle.pref_share.specs.Following.{MayJoin, IsAhead, done_or_refused, GivesNone};
+ghost use Rattle.pref_share.specs.Following.{MayJoin, IsAhead, done_or_refused, first_added, GivesNone};
 
 use crate::board::Board;
 use crate::book::Naming;
@@ -54,10 +54,8 @@ impl<J: Naming> Client<J> {
         ensures inserted { IfOk result (λ id. Changes J.opening self.old (Call.Insert row) (Added id) self.new) }
         ensures refused { IfErr result (λ fault. RefusesChange J.opening self.old (Call.Insert row) fault self.new) }
     {
-        match self.change(rt, alloc, board, &Call::Insert(row))? {
-            Outcome::Added(id) => Ok(id),
-            _ => unreachable!(),
-        }
+        let outcome = self.change(rt, alloc, board, &Call::Insert(row))?;
+        Ok(first_added(outcome))
     }
 
     /// Puts another row in place of the one of this id, in one commit. Waits for the board.
@@ -337,13 +335,19 @@ impl<J: Naming> Client<J> {
 fn told_of_commit(commit: &Commit, outcome: Outcome) -> Committed
     ensures { (next_id : ℕ) → outcome ≡ granted next_id (Call.Commit commit.now) → result ≡ told_of_commit next_id commit.now }
 {
-    let first = match outcome {
-        Outcome::Added(first) => first,
-        _ => 0,
-    };
     Committed {
         changes: commit.as_slice().len() as u32,
-        first,
+        first: first_added(outcome),
+    }
+}
+
+/// The id of the first row that a change with this outcome added, 0 where it added none.
+fn first_added(outcome: Outcome) -> u64
+    ensures { result ≡ first_added outcome }
+{
+    match outcome {
+        Outcome::Added(first) => first,
+        _ => 0,
     }
 }
 

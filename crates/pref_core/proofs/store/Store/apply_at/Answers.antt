@@ -1,20 +1,35 @@
-use Rattle.std.proofs.Common.{sym, subst, ap, ◌∙◌}
-use Rattle.pref_core.specs.declared.call.Op.{Op}
-use Rattle.pref_core.specs.Indexes.{IsReady}
-use Rattle.pref_core.specs.Operations.{AppliesIn, IsPlan, applied}
+use Rattle.std.proofs.Common.{◌≡◌, true, sym, ap, ◌∙◌, subst}
+use Rattle.pref_core.specs.Indexes.{IsIndexOf}
+use Rattle.pref_core.specs.Kept.{IsKept}
+use Rattle.pref_core.specs.Operations.{AppliesIn, is_next, applied}
+use Rattle.pref_core.proofs.Bounds.{next_id-small}
+use Rattle.pref_core.proofs.Ends.{kept_stepped, stepped_is}
 use Rattle.pref_core.proofs.Legal.{applies_in}
+use Rattle.pref_core.proofs.Reindexing.{indexed}
+use Rattle.pref_core.specs.Planned.{op_of}
 use Rattle.pref_core.proofs.store.Store.apply_at.Goals as goal
+use Rattle.pref_core.proofs.store.Store.apply_at.Goals.{After-step}
 
-pub carry_out-requires : goal.carry_out-requires
-carry_out-requires c =
-    let is = sym c.lent.ensures in
-    record {
-      plan = subst (λ (op : Op). IsPlan c.args.self.now op.client op.call op) is c.requires.plan;
-      ready = subst (λ (op : Op). IsReady c.args.self.now op c.args.index.now) is c.requires.ready;
-    }
+next : (c : After-step) → is_next c.self.inside.contents (op_of c.args.op.now) ≡ true
+next c = ap (λ s. is_next s (op_of c.args.op.now)) c.self.view_is ∙ c.requires.plan.next
+
+exact : (c : After-step) → c.step.new.self ≡ applied c.args.self.now (op_of c.args.op.now)
+exact c = stepped_is c.self.inside.contents (op_of c.args.op.now) c.step.new.self.slots c.step.new.self (next c) c.step.ensures.slots c.step.ensures.rest ∙ ap (λ s. applied s (op_of c.args.op.now)) c.self.view_is
+
+pub step-requires-clause-next : goal.step-requires-clause-next
+step-requires-clause-next c = ap (λ s. is_next s (op_of c.args.op.now)) c.self.view_is ∙ c.requires.plan.next
+
+pub invariant_of-self : goal.invariant_of-self
+invariant_of-self c = kept_stepped c.self.inside.contents (op_of c.args.op.now) c.step.new.self.slots c.step.new.self c.self.invariant (next c) c.step.ensures.slots c.step.ensures.rest
 
 pub returns-clause-exact : goal.returns-clause-exact
-returns-clause-exact c = c.carry_out.ensures.exact ∙ ap (applied c.args.self.now) c.lent.ensures
+returns-clause-exact c = exact c
+
+pub returns-clause-index : goal.returns-clause-index
+returns-clause-index c =
+    let kept = subst IsKept c.self.view_is c.self.invariant in
+    subst (λ s. IsIndexOf s c.follow.new.index) (sym (exact c))
+    (indexed c.args.self.now kept.stands.within (op_of c.args.op.now) c.args.index.now c.follow.new.index (next_id-small _ kept.bounded) c.requires.plan.next c.requires.plan.fits c.requires.ready c.follow.ensures)
 
 pub returns-clause-state : goal.returns-clause-state
-returns-clause-state c state h = subst (AppliesIn state c.args.self.now c.args.op.now) (sym (c.carry_out.ensures.exact ∙ ap (applied c.args.self.now) c.lent.ensures)) (applies_in c.args.self.now state c.args.op.now h)
+returns-clause-state c state h = subst (AppliesIn state c.args.self.now (op_of c.args.op.now)) (sym (exact c)) (applies_in c.args.self.now state (op_of c.args.op.now) h)

@@ -1,6 +1,7 @@
 use Rattle.std.proofs.Common.{◌≡◌, ◌++◌, ◌∷◌, [], List, Some, None, ⊎_elim, sym, subst, ◌∙◌, ap}
 use Rattle.std.specs.Option.{unwrap_or}
 use Rattle.pref_core.specs.declared.call.Op.{Op}
+use Rattle.pref_core.specs.Planned.{op_of}
 use Rattle.pref_core.specs.State.{refusal}
 use Rattle.pref_share.specs.Openings.{MayFollow, state_at, calls_at}
 use Rattle.pref_share.specs.Standing.{Standing}
@@ -40,7 +41,7 @@ returns-in-Ok-clause-joins g c =
     let o = g.J.Naming.opening in
     let s = c.self.inside in
     let history = c.deref_mut-master.result.now in
-    let op = c.in-Ok.op in
+    let op = op_of c.in-Ok.op in
     let last : c.last.result ≡ unwrap_or (calls_at o history s.number) 0 = c.last.ensures ∙ ap (λ (l : List Op). unwrap_or (calls_at o l s.number) 0) c.check.ensures.same in
     let is = even o s.number s.counter c.last.result s.seen history s.asking c.self.invariant.2 c.check.ensures.begins c.check.ensures.legal last c.if-last-self.false in
     let plan = subst (λ (l : List Op). (op.client ≡ s.number) × (op.call ≡ c.args.call.now) × MayFollow o l op) c.check.ensures.same c.in-Ok.ensures.planned in

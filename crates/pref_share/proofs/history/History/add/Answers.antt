@@ -1,5 +1,6 @@
 use Rattle.std.proofs.Common.{◌≡◌, ◌+◌, ◌++◌, ◌∷◌, [], length, sym, subst, ◌∙◌, ap, refl, arith}
 use Rattle.std.proofs.lemmas.List.{append-nil, length-append}
+use Rattle.pref_core.specs.Planned.{op_of}
 use Rattle.pref_share.specs.Openings.{IsLegalFrom, MayFollow}
 use Rattle.pref_share.specs.Book.{ops_of}
 use Rattle.pref_share.proofs.Adding.{adds_moves, entry_added}
@@ -25,16 +26,16 @@ invariant_of-self g c =
     let e = c.compare_exchange-found.ensures in
     let grown : c.compare_exchange-found.new.seen.log ≡ old ++ c.plain-offer.result.ask ∷ [] = e.7 old ([], append-nil old) c.self.invariant.5 in
     let offer = c.plain-offer.ensures.1 in
-    let more = entry_added old c.compare_exchange-found.new.seen.log c.plain-offer.result.ask c.args.op.now c.new_pen-next.result.0.nib.key grown (ap (λ a. a.op) offer) (ap (λ a. a.key) offer) in
-    let next : MayFollow opening (ops_of old) c.args.op.now = rw c.self.view_is c.requires in
-    let long : length (ops_of c.compare_exchange-found.new.seen.log) ≡ length (ops_of old) + 1 = ap length more.0 ∙ length-append (ops_of old) (c.args.op.now ∷ []) in (
+    let more = entry_added old c.compare_exchange-found.new.seen.log c.plain-offer.result.ask (op_of c.args.op.now) c.new_pen-next.result.0.nib.key grown (ap (λ a. a.op) offer) (ap (λ a. a.key) offer) in
+    let next : MayFollow opening (ops_of old) (op_of c.args.op.now) = rw c.self.view_is c.requires in
+    let long : length (ops_of c.compare_exchange-found.new.seen.log) ≡ length (ops_of old) + 1 = ap length more.0 ∙ length-append (ops_of old) (op_of c.args.op.now ∷ []) in (
       c.self.invariant.0,
       (let len = c.self.invariant.1 in omega arith),
       e.0 ∙ c.self.invariant.2,
       c.new_pen-next.ensures.book ∙ c.self.invariant.2,
       c.new_pen-next.ensures.right,
       more.1,
-      subst (IsLegalFrom opening) (sym more.0) (legal-more opening (ops_of old) c.args.op.now c.self.invariant.6 next),
+      subst (IsLegalFrom opening) (sym more.0) (legal-more opening (ops_of old) (op_of c.args.op.now) c.self.invariant.6 next),
     )
 
 pub overflow_add-self : goal.overflow_add-self
