@@ -1,17 +1,19 @@
 -- The changes of a commit line, one piece at a time.
-use Rattle.std.proofs.Common.{◌≡◌, ◌∙◌, ℕ, ◌+◌, ◌<◌, ◌≤◌, true, false, List, [], ◌∷◌, ◌++◌, length, take, get_or, set, sym, ap, refl, arith, inl, inr, nat_lt, Ok, Err}
-use Rattle.std.specs.Prelude.{nat_le}
-use Rattle.std.proofs.lemmas.Bool.{and_right, cases_lt, lt-leb}
-use Rattle.std.proofs.lemmas.List.{length-set, length-take-le, length_push, take-append-le, take_all, take_more_set}
+use Rattle.std.proofs.Common.{◌≡◌, ◌∙◌, ℕ, ◌+◌, ◌<◌, ◌≤◌, true, false, List, [], ◌∷◌, ◌++◌, length, take, drop, get_or, set, sym, ap, refl, arith, inl, inr, nat_lt, Ok, Err}
+use Rattle.std.specs.Prelude.{Bool, ◌&&◌, Option, Some, None, is_some, nat_le}
+use Rattle.std.specs.List.{list_all}
+use Rattle.std.proofs.lemmas.Bool.{and_right, cases_lt, lt-leb, true≢false}
+use Rattle.std.proofs.lemmas.List.{length-drop, length-set, length-take-le, length_push, take-append-le, take_all, take_more_set}
 use Rattle.pref_core.specs.Changes.{commit_of}
 use Rattle.pref_core.specs.declared.changes.Change.{Change}
 use Rattle.pref_core.specs.declared.fault.CoreFault.TheVariants.{ChangeCount}
 use Rattle.pref_table.specs.Numbered.{all_from}
 use Rattle.pref_table.proofs.NumberedFacts.{all_from-all, all_from-fails_at, all_from-more, all_from-none}
-use Rattle.prefq.specs.Commands.{commit_from, commit_said, of_changes, piece_change}
+use Rattle.prefq.proofs.SplitFacts.{drop_here}
+use Rattle.prefq.specs.Commands.{commit_said, of_changes, piece_change}
 use Rattle.prefq.specs.Pieces.{are_changes, piece_said, pieces_of}
-use Rattle.prefq.specs.Reading.{Reads}
-use Rattle.prefq.specs.declared.command.Refusal.{Refusal}
+use Rattle.prefq.specs.Reading.{Reads, first_refusal, pieces_left}
+use Rattle.prefq.specs.declared.command.Refusal.TheVariants.{NotCommand}
 use Rattle.prefq.specs.declared.command.Stop.{Stop}
 use Rattle.prefq.specs.declared.command.Stop.TheVariants.{Refused as StopRefused, OutOfMemory as StopMemory}
 
@@ -91,3 +93,71 @@ keeps_all names text place kept count forms h end =
     let read = all_from-all (λ _ part. piece_change names (piece_said part)) 1 (pieces_of text) h.all place end h.read in
     let whole : commit_said names text ≡ of_changes (commit_of h.all) = rw (forms, read) refl in
     whole ∙ ap of_changes (sym (commit_of-first h.all) ∙ ap commit_of (sym h.first))
+
+-- whether each of these pieces has the form of a change
+abbrev all_forms : List (List ℕ) → Bool
+all_forms pieces = list_all (λ piece. is_some (piece_said piece)) pieces
+
+-- Some pieces of a text were read, each has the form of a change, and these are left.
+pub record ReadsPieces (names : List (List ℕ)) (text : List ℕ) (left : Option (List ℕ)) (kept : List Change) (count : ℕ) : Type 0 where
+  pub place : ℕ
+  pub rest : drop place (pieces_of text) ≡ pieces_left left
+  pub forms : are_changes text ≡ all_forms (pieces_left left)
+  pub keeps : KeepsFirst names (pieces_of text) place kept count
+
+pub pieces_none : (names : List (List ℕ)) (text : List ℕ) (kept : List Change) → length kept ≡ 9 → ReadsPieces names text (Some text) kept 0
+pieces_none names text kept size = record { place = 0; rest = refl; forms = refl; keeps = keeps_none names (pieces_of text) kept size }
+
+-- the first refusal, by the forms of the pieces that follow
+refusal-same : (why : Stop) (rest : Option (List ℕ)) → all_forms (pieces_left rest) ≡ true → first_refusal why rest ≡ why
+refusal-same why None h = refl
+refusal-same why (Some text) h = rw h refl
+
+refusal-other : (why : Stop) (rest : Option (List ℕ)) → all_forms (pieces_left rest) ≡ false → first_refusal why rest ≡ StopRefused NotCommand
+refusal-other why None h = absurd (true≢false h)
+refusal-other why (Some text) h = rw h refl
+
+-- the next piece: its place, and the forms of those after it
+module _ (names : List (List ℕ)) (text now : List ℕ) (kept : List Change) (count : ℕ) (piece : List ℕ) (rest : Option (List ℕ))
+    (reads : ReadsPieces names text (Some now) kept count) (cut : pieces_of now ≡ piece ∷ pieces_left rest) where
+  turn : (reads.place < length (pieces_of text)) × (piece ≡ get_or (pieces_of text) reads.place piece) × (drop (reads.place + 1) (pieces_of text) ≡ pieces_left rest)
+  turn =
+      let here = drop_here (pieces_of text) reads.place piece piece (pieces_left rest) (reads.rest ∙ cut) in
+      (here.0, sym here.1, here.2)
+
+  forms_left : are_changes text ≡ (is_some (piece_said piece) && all_forms (pieces_left rest))
+  forms_left = reads.forms ∙ ap all_forms cut
+
+  -- its values are refused
+  pub pieces_refused : (why : Stop) → is_some (piece_said piece) ≡ true → Reads {X = Change} (Err why) (piece_change names (piece_said piece)) → Reads {X = List Change} (Err (first_refusal why rest)) (commit_said names text)
+  unfolding commit_said
+  pieces_refused why form is = by (all_forms (pieces_left rest)) refl
+    where
+      by : (forms : Bool) → all_forms (pieces_left rest) ≡ forms → Reads {X = List Change} (Err (first_refusal why rest)) (commit_said names text)
+      by true h = rw (refusal-same why rest h) (keeps_fails names text reads.place kept count piece why (forms_left ∙ rw (form, h) refl) reads.keeps (turn.0, turn.1) is)
+      by false h =
+          let none : are_changes text ≡ false = forms_left ∙ rw (form, h) refl in
+          rw (refusal-other why rest h, none) refl
+
+  -- it is read, and kept or not
+  pub pieces_kept : (change : Change) → is_some (piece_said piece) ≡ true → count < 9 → piece_change names (piece_said piece) ≡ Ok change → ReadsPieces names text rest (set kept count change) (count + 1)
+  pieces_kept change form room is = record {
+    place = reads.place + 1;
+    rest = turn.2;
+    forms = forms_left ∙ rw form refl;
+    keeps = keeps_one names (pieces_of text) reads.place kept count piece change reads.keeps (turn.0, turn.1) room is;
+  }
+
+  pub pieces_past : (change : Change) → is_some (piece_said piece) ≡ true → (count < 9 → ⊥) → piece_change names (piece_said piece) ≡ Ok change → ReadsPieces names text rest kept count
+  pieces_past change form full is = record {
+    place = reads.place + 1;
+    rest = turn.2;
+    forms = forms_left ∙ rw form refl;
+    keeps = keeps_past names (pieces_of text) reads.place kept count piece change reads.keeps (turn.0, turn.1) full is;
+  }
+
+-- no piece is left
+pub pieces_all : (names : List (List ℕ)) (text : List ℕ) (kept : List Change) (count : ℕ) → ReadsPieces names text None kept count → commit_said names text ≡ of_changes (commit_of (take count kept))
+pieces_all names text kept count reads =
+    let none : length (drop reads.place (pieces_of text)) ≡ 0 = ap length reads.rest in
+    keeps_all names text reads.place kept count reads.forms reads.keeps (omega (arith, none, length-drop reads.place (pieces_of text)))

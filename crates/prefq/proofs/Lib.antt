@@ -1,6 +1,8 @@
 pub mod BytesFacts
+pub mod SplitFacts
 pub mod ScriptFacts
 pub mod WordsFacts
+pub mod FormFacts
 pub mod CommandFacts
 pub mod CommitFacts
 pub mod TextFacts

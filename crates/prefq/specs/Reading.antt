@@ -1,6 +1,8 @@
 -- No public contract cites this.
 -- How the code goes through a script. (this project)
-use Rattle.std.specs.Prelude.{ℕ, suc, ◌≡◌, ◌<◌, ⊤, List, [], ◌∷◌, ◌++◌, length, map, Result, Ok, Err, if◌then◌else◌, slice_index_or}
+use Rattle.std.specs.Prelude.{ℕ, suc, ◌≡◌, ◌≤◌, ◌<◌, ◌^◌, ⊤, true, List, [], ◌∷◌, ◌++◌, length, map, Option, Some, None, Result, Ok, Err, if◌then◌else◌, slice_index_or}
+use Rattle.std.specs.Str.{all_ascii_digits}
+use Rattle.std.specs.Str.Parse.{digits_value}
 use Rattle.std.specs.Global.{Vec}
 use Rattle.pref_table.specs.Tables.{table_of}
 use Rattle.pref_table.specs.declared.fault.TableFault.{TableFault}
@@ -16,9 +18,13 @@ use Rattle.pref_share.specs.declared.fault.ShareFault.TheVariants as share
 use Rattle.pref_share.specs.Interleavings.{acts_of}
 use Rattle.prefq.specs.Threads.{is_client}
 use Rattle.prefq.specs.Commands.{Command, refused, runs, commands_of, accepted_events}
+use Rattle.prefq.specs.Forms.{Said, said_by, verb_of}
+use Rattle.prefq.specs.Pieces.{are_changes, pieces_of}
+use Rattle.prefq.specs.Words.{◌>>=◌, after_word, word_number, word_of}
 use Rattle.prefq.specs.Script.{Parts, parts_of, raw_lines}
 use Rattle.prefq.specs.Text.{refused_line, reply_lines}
 use Rattle.prefq.specs.declared.command.Refusal.{Refusal}
+use Rattle.prefq.specs.declared.command.Refusal.TheVariants.{NotCommand}
 use Rattle.prefq.specs.declared.command.Stop.{Stop}
 use Rattle.prefq.specs.declared.command.Stop.TheVariants.{Refused as StopRefused, OutOfMemory as StopMemory}
 use Rattle.prefq.specs.declared.commands.Line.{Line}
@@ -34,6 +40,35 @@ abbrev pub Reads : {X : Type 0} → Result X Stop → Result X Refusal → Type 
 Reads (Ok x) said = said ≡ Ok x
 Reads (Err (StopRefused why)) said = said ≡ Err why
 Reads (Err StopMemory) said = ⊤
+
+-- the word that a text begins with is digits, so many and of this value
+pub record IsDigitsWord (text : List ℕ) (value count : ℕ) : Type 0 where
+  pub size : length (word_of text) ≡ count
+  pub inside : count ≤ length text
+  pub digits : all_ascii_digits (word_of text) ≡ true
+  pub is : digits_value 10 (word_of text) ≡ value
+
+-- a word that is no number of 64 bits
+abbrev pub HasNoNumber : List ℕ → Type 0
+HasNoNumber word = (most : ℕ) → most < 2 ^ 64 → word_number most word ≡ None
+
+-- what is said by what follows a client's number
+abbrev pub said_by_client : ℕ → List ℕ → Option (ℕ × Said)
+said_by_client client rest = do
+  verb ← verb_of (word_of rest)
+  what ← said_by verb (after_word rest)
+  Some (client, what)
+
+-- the pieces that are left of a commit's text
+abbrev pub pieces_left : Option (List ℕ) → List (List ℕ)
+pieces_left None = []
+pieces_left (Some text) = pieces_of text
+
+-- the first refusal of a commit whose piece is refused for its values, by the text that follows the piece: a piece of it that has
+-- not the form of a change comes first
+abbrev pub first_refusal : Stop → Option (List ℕ) → Stop
+first_refusal why None = why
+first_refusal why (Some rest) = if are_changes rest then why else StopRefused NotCommand
 
 -- what is kept of a command beside its event
 abbrev pub line_for : Command → Line

@@ -1,17 +1,18 @@
 //! A command line as an event, or why it is refused.
-ghost use Rattle.std.specs.Prelude.{◌≡◌, length, Ok, Some};
-ghost use Rattle.pref_table.specs.Rows.{line_row};
+ghost use Rattle.std.specs.Prelude.{◌≡◌, Ok, Some};
 ghost use Rattle.pref_term.specs.Asked.{asked};
-ghost use Rattle.prefq.specs.Commands.{change_of, event_of, event_said, of_question, of_values};
+ghost use Rattle.prefq.specs.Commands.{change_of, event_of, event_said, of_question};
 ghost use Rattle.prefq.specs.Forms.{begins, changes, commits, said};
 ghost use Rattle.prefq.specs.Pieces.{change_said};
 ghost use Rattle.prefq.specs.Reading.{Reads};
+ghost use Rattle.prefq.specs.declared.command.Refusal.TheVariants.{Values};
+ghost use Rattle.prefq.specs.declared.command.Stop.TheVariants.{Refused};
 
 use crate::commits::read_commit;
 use crate::forms::{Form, read_form};
 use crate::pieces::ChangeForm;
 use pref_core::{Act, BoxedCommit, Change, CoreFault, Event};
-use pref_table::{Row, Schema, TableFault, read_row};
+use pref_table::{Schema, TableFault, read_row};
 use pref_term::{Ask, TermFault, read_ask};
 use std::alloc::Global;
 
@@ -35,12 +36,12 @@ pub enum Stop {
     OutOfMemory,
 }
 
-fn read_values(schema: &Schema, values: &[u8]) -> Result<Row, Stop>
-    ensures { Reads result (of_values (line_row (length schema.now) values.now)) }
-{
-    match read_row(schema, values) {
-        Ok(row) => Ok(row),
-        Err(why) => Err(Stop::Refused(Refusal::Values(why))),
+/// The fault of values as the refusal of their line.
+impl From<TableFault> for Stop {
+    ghost from_gives = { λ why stop. stop ≡ Refused (Values why) };
+
+    fn from(why: TableFault) -> Stop {
+        Stop::Refused(Refusal::Values(why))
     }
 }
 
@@ -60,8 +61,8 @@ pub fn read_change(schema: &Schema, form: ChangeForm<'_>) -> Result<Change, Stop
     ensures { Reads result (change_of schema.now (change_said form.entry)) }
 {
     match form {
-        ChangeForm::Insert(values) => Ok(Change::Add(read_values(schema, values)?)),
-        ChangeForm::Update(id, values) => Ok(Change::Set(id, read_values(schema, values)?)),
+        ChangeForm::Insert(values) => Ok(Change::Add(read_row(schema, values)?)),
+        ChangeForm::Update(id, values) => Ok(Change::Set(id, read_row(schema, values)?)),
         ChangeForm::Delete(id) => Ok(Change::Remove(id)),
     }
 }
@@ -74,11 +75,11 @@ fn change_event(schema: &Schema, client: u8, form: ChangeForm<'_>) -> Result<Eve
     match form {
         ChangeForm::Insert(values) => Ok(Event {
             client,
-            act: Act::Insert(read_values(schema, values)?),
+            act: Act::Insert(read_row(schema, values)?),
         }),
         ChangeForm::Update(id, values) => Ok(Event {
             client,
-            act: Act::Update(id, read_values(schema, values)?),
+            act: Act::Update(id, read_row(schema, values)?),
         }),
         ChangeForm::Delete(id) => Ok(Event {
             client,

@@ -1,8 +1,11 @@
 //! The changes that a script asks for: each in a command line of its own, or in a piece of a commit.
-ghost use Rattle.std.specs.Prelude.{◌≡◌, is_some, option_map};
-ghost use Rattle.prefq.specs.Pieces.{are_changes as are_changes_in, change_said, change_said_by, change_verb_of, piece_said};
+ghost use Rattle.std.specs.Prelude.{◌≡◌, ◌∷◌, is_some, option_map, MatchOption, None, Some};
+ghost use Rattle.prefq.specs.Reading.{pieces_left};
+ghost use Rattle.prefq.specs.Words.{after_word, word_of};
+ghost use Rattle.prefq.specs.Pieces.{are_changes as are_changes_in, change_said, change_said_by, change_verb_of, piece_said, pieces_of};
 
-use crate::words::{cut_word, id_alone, id_word, skip_blanks};
+use crate::words::{cut_number, id_alone, skip_blanks, strip_word};
+use memchr::memchr;
 
 /// The change that a word asks for.
 #[derive(Clone, Copy, Debug, PartialEq, Eq)]
@@ -20,19 +23,20 @@ pub enum ChangeForm<'a> {
     Delete(u64),
 }
 
-/// The change that a word asks for.
+/// The change that the word asks for that a text begins with, and what follows the blanks after the word.
 #[tactic(auto, unfolding(crate::specs::Pieces::change_verb_of))]
-pub fn change_word(word: &[u8]) -> Option<ChangeVerb>
-    ensures { result ≡ change_verb_of word.now }
+pub fn cut_change(text: &[u8]) -> Option<(ChangeVerb, &[u8])>
+    ensures { MatchOption result (change_verb_of (word_of text.now) ≡ None)
+        (λ cut. (change_verb_of (word_of text.now) ≡ Some cut.0) × (cut.1.now ≡ after_word text.now)) }
 {
-    if word == b"insert".as_slice() {
-        return Some(ChangeVerb::Insert);
+    if let Some(rest) = strip_word(text, b"update".as_slice()) {
+        return Some((ChangeVerb::Update, rest));
     }
-    if word == b"update".as_slice() {
-        return Some(ChangeVerb::Update);
+    if let Some(rest) = strip_word(text, b"insert".as_slice()) {
+        return Some((ChangeVerb::Insert, rest));
     }
-    if word == b"delete".as_slice() {
-        return Some(ChangeVerb::Delete);
+    if let Some(rest) = strip_word(text, b"delete".as_slice()) {
+        return Some((ChangeVerb::Delete, rest));
     }
     None
 }
@@ -45,8 +49,8 @@ pub fn change_form(verb: ChangeVerb, rest: &[u8]) -> Option<ChangeForm<'_>>
     match verb {
         ChangeVerb::Insert => Some(ChangeForm::Insert(rest)),
         ChangeVerb::Update => {
-            let (word, values) = cut_word(rest);
-            Some(ChangeForm::Update(id_word(word)?, values))
+            let (id, values) = cut_number(u64::MAX, rest)?;
+            Some(ChangeForm::Update(id, values))
         }
         ChangeVerb::Delete => Some(ChangeForm::Delete(id_alone(rest)?)),
     }
@@ -57,8 +61,18 @@ pub fn change_form(verb: ChangeVerb, rest: &[u8]) -> Option<ChangeForm<'_>>
 pub fn piece_form(piece: &[u8]) -> Option<ChangeForm<'_>>
     ensures { option_map change_said result ≡ piece_said piece.now }
 {
-    let (word, rest) = cut_word(skip_blanks(piece));
-    change_form(change_word(word)?, rest)
+    let (verb, rest) = cut_change(skip_blanks(piece))?;
+    change_form(verb, rest)
+}
+
+/// The first piece of a text, and what follows the semicolon after it, where there is one.
+pub fn cut_piece(text: &[u8]) -> (&[u8], Option<&[u8]>)
+    ensures { pieces_of text.now ≡ result.0.now ∷ pieces_left (option_map (λ rest. rest.now) result.1) }
+{
+    match memchr(b';', text) {
+        Some(place) => (&text[..place], Some(&text[place + 1..])),
+        None => (text, None),
+    }
 }
 
 /// Whether a piece has the form of a change.

@@ -1,7 +1,10 @@
 //! The words of a command line.
-ghost use Rattle.std.specs.Prelude.{◌≡◌, ◌≤◌, IfSome};
+ghost use Rattle.std.specs.Prelude.{false, ◌≡◌, ◌≤◌, IfSome, MatchOption, None, Some};
+ghost use Rattle.std.specs.List.{list_any};
+ghost use Rattle.std.specs.Str.{bytes_eq};
 ghost use Rattle.pref_table.specs.Number.{after_blanks, is_blank};
-ghost use Rattle.prefq.specs.Words.{after_word, id_of, lone_id, word_number, word_of};
+ghost use Rattle.prefq.specs.Reading.{HasNoNumber, IsDigitsWord};
+ghost use Rattle.prefq.specs.Words.{after_word, lone_id, word_number, word_of};
 
 use pref_table::blanks_length;
 
@@ -18,51 +21,56 @@ pub fn skip_blanks(text: &[u8]) -> &[u8]
     &text[blanks_length(text)..]
 }
 
-/// The word that a text begins with, and what follows the blanks after it.
-pub fn cut_word(text: &[u8]) -> (&[u8], &[u8])
-    ensures word { result.0.now ≡ word_of text.now }
-    ensures rest { result.1.now ≡ after_word text.now }
+/// What follows the blanks after a word, where a text begins with that word and then ends or has a blank.
+pub fn strip_word<'a>(text: &'a [u8], word: &[u8]) -> Option<&'a [u8]>
+    requires { list_any is_blank word.now ≡ false }
+    ensures { MatchOption result (bytes_eq (word_of text.now) word.now ≡ false)
+        (λ rest. (word_of text.now ≡ word.now) × (rest.now ≡ after_word text.now)) }
 {
-    for (place, byte) in text.iter().enumerate() {
-        if is_blank_byte(*byte) {
-            return (&text[..place], skip_blanks(&text[place..]));
-        }
-    }
-    (text, skip_blanks(&text[text.len()..]))
-}
-
-/// The number of a word of digits, where it is small enough.
-pub fn number_word(most: u64, word: &[u8]) -> Option<u64>
-    ensures value { result ≡ word_number most word.now }
-    ensures small { IfSome result (λ number. number ≤ most) }
-{
-    if word.is_empty() {
+    let rest = text.strip_prefix(word)?;
+    if !rest.is_empty() && !is_blank_byte(rest[0]) {
         return None;
     }
+    Some(skip_blanks(rest))
+}
+
+/// The value of the word that a text begins with, and its size in bytes, where the word is digits and the value has room.
+fn word_digits(text: &[u8]) -> Option<(u64, usize)>
+    ensures { MatchOption result (HasNoNumber (word_of text.now)) (λ word. IsDigitsWord text.now word.0 word.1) }
+{
     let mut number: u64 = 0;
-    for digit in word {
-        if !digit.is_ascii_digit() {
+    for (place, byte) in text.iter().enumerate() {
+        if !byte.is_ascii_digit() {
+            if is_blank_byte(*byte) {
+                return Some((number, place));
+            }
             return None;
         }
         number = number
             .checked_mul(10)?
-            .checked_add(u64::from(*digit - b'0'))?;
+            .checked_add(u64::from(*byte - b'0'))?;
     }
-    if number <= most { Some(number) } else { None }
+    Some((number, text.len()))
 }
 
-/// The id that a word is.
-pub fn id_word(word: &[u8]) -> Option<u64>
-    ensures { result ≡ id_of word.now }
+/// The number of the word that a text begins with, where the word is digits and the number is small enough, and what follows
+/// the blanks after the word. Reads the word in one pass.
+pub fn cut_number(most: u64, text: &[u8]) -> Option<(u64, &[u8])>
+    ensures cut { MatchOption result (word_number most (word_of text.now) ≡ None)
+        (λ cut. (word_number most (word_of text.now) ≡ Some cut.0) × (cut.1.now ≡ after_word text.now)) }
+    ensures small { IfSome result (λ cut. cut.0 ≤ most) }
 {
-    number_word(u64::MAX, word)
+    let (number, size) = word_digits(text)?;
+    if size == 0 || number > most {
+        return None;
+    }
+    Some((number, skip_blanks(&text[size..])))
 }
 
 /// An id that nothing follows.
 pub fn id_alone(text: &[u8]) -> Option<u64>
     ensures { result ≡ lone_id text.now }
 {
-    let (word, rest) = cut_word(text);
-    let id = id_word(word)?;
+    let (id, rest) = cut_number(u64::MAX, text)?;
     if rest.is_empty() { Some(id) } else { None }
 }

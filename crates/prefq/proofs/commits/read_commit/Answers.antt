@@ -1,53 +1,47 @@
-use Rattle.std.proofs.Common.{◌≡◌, ◌∙◌, ◌+◌, length, ap, refl, rules, subst, sym, arith, Err}
-use borrow.Author.Tests.{tests}
-use Rattle.std.proofs.lemmas.Iterator.Consumers.{YieldsList-end, YieldsList-turn}
-use Rattle.std.proofs.lemmas.Iterator.Splits.{YieldsList-from_slice_split}
-use Rattle.std.proofs.lemmas.List.{length_push}
-use Rattle.prefq.specs.Commands.{of_changes}
-use Rattle.prefq.specs.Pieces.{is_semicolon, pieces_of}
-use Rattle.prefq.proofs.CommitFacts.{KeepsFirst, keeps_all, keeps_fails, keeps_none, keeps_one, keeps_past}
+use Rattle.std.proofs.Common.{◌≡◌, ◌∙◌, true, ap, arith, is_some, option_map, refl, subst, sym, Err, Ok}
+use Rattle.pref_core.specs.declared.changes.Change.{Change}
+use Rattle.prefq.specs.Commands.{of_changes, piece_change}
+use Rattle.prefq.specs.Pieces.{piece_said}
+use Rattle.prefq.specs.Reading.{Reads}
+use Rattle.prefq.proofs.CommitFacts.{pieces_all, pieces_kept, pieces_none, pieces_past, pieces_refused}
 use Rattle.prefq.proofs.commits.read_commit.Goals as goal
 
-pub loop-piece-init : goal.loop-piece-init
-loop-piece-init c = keeps_none c.args.schema.now (pieces_of c.args.text.now) _ refl
-
-pub returns-in_err-change : goal.returns-in_err-change
-returns-in_err-change c =
-    let turn = YieldsList-turn (YieldsList-from_slice_split {s = c.into_iter-piece-iterator.result} _ is_semicolon c.args.text.now (cc) (cc) (cc) (λ x b q k. search (rules, tests)))
-    c.loop-piece.yielded _ c.loop-piece.yielded_by _ _ c.in-Some.piece c.in-Some.is c.next.ensures.steps in
-    let is : c.from_residual.result ≡ Err c.in_err-change.field-0.0 = search rules in
-    rw is (keeps_fails c.args.schema.now c.args.text.now (length c.loop-piece.yielded) c.loop-piece.changes c.loop-piece.count c.in-Some.piece.now c.in_err-change.field-0.0 (cc) c.loop-piece.invariant turn
-    c.in_err-change.ensures)
-
-pub loop-piece-preserved-then-count-lt-KEPT : goal.loop-piece-preserved-then-count-lt-KEPT
-loop-piece-preserved-then-count-lt-KEPT c =
-    let turn = YieldsList-turn (YieldsList-from_slice_split {s = c.into_iter-piece-iterator.result} _ is_semicolon c.args.text.now (cc) (cc) (cc) (λ x b q k. search (rules, tests)))
-    c.loop-piece.yielded _ c.loop-piece.yielded_by _ _ c.in-Some.piece c.in-Some.is c.next.ensures.steps in
-    rw (length_push c.loop-piece.yielded c.in-Some.piece)
-    (keeps_one c.args.schema.now (pieces_of c.args.text.now) (length c.loop-piece.yielded) c.loop-piece.changes c.loop-piece.count c.in-Some.piece.now c.in_ok-change.change c.loop-piece.invariant turn
-    c.if-count-lt-KEPT.true c.in_ok-change.ensures)
-
-pub loop-piece-preserved : goal.loop-piece-preserved
-loop-piece-preserved c =
-    let turn = YieldsList-turn (YieldsList-from_slice_split {s = c.into_iter-piece-iterator.result} _ is_semicolon c.args.text.now (cc) (cc) (cc) (λ x b q k. search (rules, tests)))
-    c.loop-piece.yielded _ c.loop-piece.yielded_by _ _ c.in-Some.piece c.in-Some.is c.next.ensures.steps in
-    rw (length_push c.loop-piece.yielded c.in-Some.piece)
-    (keeps_past c.args.schema.now (pieces_of c.args.text.now) (length c.loop-piece.yielded) c.loop-piece.changes c.loop-piece.count c.in-Some.piece.now c.in_ok-change.change c.loop-piece.invariant turn
-    (λ h. omega arith) c.in_ok-change.ensures)
-
-pub shared_whole_as_front-of : goal.shared_whole_as_front-of
-shared_whole_as_front-of c = (c.loop-piece.invariant.few, search rules)
-
-pub returns-in-Ok : goal.returns-in-Ok
-returns-in-Ok c =
-    let end = YieldsList-end (YieldsList-from_slice_split {s = c.into_iter-piece-iterator.result} _ is_semicolon c.args.text.now (cc) (cc) (cc) (λ x b q k. search (rules, tests)))
-    c.loop-piece.yielded _ c.loop-piece.yielded_by _ _ c.in-None.is c.next.ensures.steps in
-    keeps_all c.args.schema.now c.args.text.now (length c.loop-piece.yielded) c.loop-piece.changes c.loop-piece.count (cc) c.loop-piece.invariant (omega (arith, end.1))
-    ∙ ap of_changes (sym c.of.ensures ∙ c.in-Ok.is)
+pub loop-left-init : goal.loop-left-init
+loop-left-init c = pieces_none c.args.schema.now c.args.text.now _ refl
 
 pub returns-in-Err : goal.returns-in-Err
 returns-in-Err c =
-    let end = YieldsList-end (YieldsList-from_slice_split {s = c.into_iter-piece-iterator.result} _ is_semicolon c.args.text.now (cc) (cc) (cc) (λ x b q k. search (rules, tests)))
-    c.loop-piece.yielded _ c.loop-piece.yielded_by _ _ c.in-None.is c.next.ensures.steps in
-    keeps_all c.args.schema.now c.args.text.now (length c.loop-piece.yielded) c.loop-piece.changes c.loop-piece.count (cc) c.loop-piece.invariant (omega (arith, end.1))
-    ∙ ap of_changes (sym c.of.ensures ∙ c.in-Err.is)
+    let piece = c.cut_piece.result.0.now in
+    let reads = rw c.in-Some.is at c.loop-left.invariant in
+    let form : is_some (piece_said piece) ≡ true = ap is_some (sym c.in-Some-piece_form.ensures) in
+    let is = subst (λ t. Reads {X = Change} (Err c.in-Err.why) (piece_change c.args.schema.now t)) c.in-Some-piece_form.ensures c.in-Err.ensures in
+    rw c.refusal_before.ensures
+    (pieces_refused c.args.schema.now c.args.text.now c.in-Some.pieces.now c.loop-left.changes c.loop-left.count piece (option_map (λ rest. rest.now) c.cut_piece.result.1) reads c.cut_piece.ensures c.in-Err.why form is)
+
+pub loop-left-preserved-then-count-lt-KEPT : goal.loop-left-preserved-then-count-lt-KEPT
+loop-left-preserved-then-count-lt-KEPT c =
+    let piece = c.cut_piece.result.0.now in
+    let reads = rw c.in-Some.is at c.loop-left.invariant in
+    let form : is_some (piece_said piece) ≡ true = ap is_some (sym c.in-Some-piece_form.ensures) in
+    let is = subst (λ t. piece_change c.args.schema.now t ≡ Ok c.in-Ok.change) c.in-Some-piece_form.ensures c.in-Ok.ensures in
+    pieces_kept c.args.schema.now c.args.text.now c.in-Some.pieces.now c.loop-left.changes c.loop-left.count piece (option_map (λ rest. rest.now) c.cut_piece.result.1) reads c.cut_piece.ensures c.in-Ok.change form
+    c.if-count-lt-KEPT.true is
+
+pub loop-left-preserved : goal.loop-left-preserved
+loop-left-preserved c =
+    let piece = c.cut_piece.result.0.now in
+    let reads = rw c.in-Some.is at c.loop-left.invariant in
+    let form : is_some (piece_said piece) ≡ true = ap is_some (sym c.in-Some-piece_form.ensures) in
+    let is = subst (λ t. piece_change c.args.schema.now t ≡ Ok c.in-Ok.change) c.in-Some-piece_form.ensures c.in-Ok.ensures in
+    pieces_past c.args.schema.now c.args.text.now c.in-Some.pieces.now c.loop-left.changes c.loop-left.count piece (option_map (λ rest. rest.now) c.cut_piece.result.1) reads c.cut_piece.ensures c.in-Ok.change form
+    (λ h. absurd (omega (arith, h, c.if-count-lt-KEPT.false))) is
+
+pub returns-in-Ok-of : goal.returns-in-Ok-of
+returns-in-Ok-of c =
+    let reads = rw c.in_default.is at c.loop-left.invariant in
+    pieces_all c.args.schema.now c.args.text.now c.loop-left.changes c.loop-left.count reads ∙ ap of_changes (sym c.of.ensures ∙ c.in-Ok-of.is)
+
+pub returns-in-Err-of : goal.returns-in-Err-of
+returns-in-Err-of c =
+    let reads = rw c.in_default.is at c.loop-left.invariant in
+    pieces_all c.args.schema.now c.args.text.now c.loop-left.changes c.loop-left.count reads ∙ ap of_changes (sym c.of.ensures ∙ c.in-Err-of.is)

@@ -1,7 +1,10 @@
-use Rattle.std.proofs.Common.{length}
-use Rattle.prefq.specs.Pieces.{pieces_of}
-use Rattle.prefq.proofs.CommitFacts.{KeepsFirst}
+use Rattle.std.proofs.Common.{length, option_map}
+use Rattle.prefq.specs.Reading.{pieces_left}
+use Rattle.prefq.proofs.CommitFacts.{ReadsPieces}
 use Rattle.prefq.proofs.commits.read_commit.Given as goal
 
-abbrev pub invariant-loop-piece : goal.invariant-loop-piece
-invariant-loop-piece l = KeepsFirst l.schema (pieces_of l.text) (length l.yielded) l.changes l.count
+abbrev pub invariant-loop-left : goal.invariant-loop-left
+invariant-loop-left l = ReadsPieces l.schema l.text (option_map (λ pieces. pieces.now) l.left) l.changes l.count
+
+abbrev pub decreases-loop-left : goal.decreases-loop-left
+decreases-loop-left l = length (pieces_left (option_map (λ pieces. pieces.now) l.left))
