@@ -20,3 +20,4 @@ pub mod Places
 pub mod Kept
 pub mod Links
 pub mod Planned
+pub mod Lent

@@ -33,8 +33,121 @@ pub enum Call {
 }
 
 impl Call {
+    /// The same, with its rows lent.
+    pub fn lent(&self) -> LentCall<'_>
+        ensures { result ≡ self.now }
+    {
+        match self {
+            Call::Insert(row) => LentCall::insert(row),
+            Call::Update(id, row) => LentCall::update(*id, row),
+            Call::Delete(id) => LentCall::delete(*id),
+            Call::Commit(commit) => LentCall::commit(commit),
+            Call::Begin => LentCall::begin(),
+            Call::Finish => LentCall::finish(),
+            Call::Abandon => LentCall::abandon(),
+        }
+    }
+}
+
+/// The kinds of calls, with their rows lent.
+#[derive(Clone, Copy)]
+pub(crate) enum Lent<'a> {
+    Insert(&'a Row),
+    Update(u64, &'a Row),
+    Delete(u64),
+    Commit(&'a Commit),
+    Begin,
+    Finish,
+    Abandon,
+}
+
+/// A [`Call`] whose rows are lent: it takes 24 bytes, and a call 1,168, since it has room for a commit of eight rows. Contracts see the
+/// call.
+#[derive(Drop)]
+pub struct LentCall<'a> {
+    kind: Lent<'a>,
+}
+
+impl<'a> Model for LentCall<'a> {
+    ghost use Rattle.pref_core.specs.declared.call.Call.{Call};
+    ghost use Rattle.pref_core.specs.Lent.{call_of};
+
+    ghost Value = { Call };
+
+    ghost view = { λ lent. call_of lent.kind };
+}
+
+impl<'a> LentCall<'a> {
     ghost use Rattle.pref_core.specs.Table.{among};
+    ghost use Rattle.pref_core.specs.Operations.{begin_after};
+    ghost use Rattle.pref_core.specs.Stability.{is_end};
     ghost use Rattle.pref_core.specs.State.{refusal_of, is_open, changes_of, ended, begun, begins_row, added, is_change, is_formed};
+
+    /// A new row.
+    #[inline(always)]
+    pub fn insert(row: &'a Row) -> LentCall<'a>
+        ensures { result ≡ Call.Insert row.now }
+    {
+        LentCall {
+            kind: Lent::Insert(row),
+        }
+    }
+
+    /// The row of this id becomes another.
+    #[inline(always)]
+    pub fn update(id: u64, row: &'a Row) -> LentCall<'a>
+        ensures { result ≡ Call.Update id row.now }
+    {
+        LentCall {
+            kind: Lent::Update(id, row),
+        }
+    }
+
+    /// The row of this id is deleted.
+    #[inline(always)]
+    pub fn delete(id: u64) -> LentCall<'a>
+        ensures { result ≡ Call.Delete id }
+    {
+        LentCall {
+            kind: Lent::Delete(id),
+        }
+    }
+
+    /// One to eight changes, in one commit.
+    #[inline(always)]
+    pub fn commit(commit: &'a Commit) -> LentCall<'a>
+        ensures { result ≡ Call.Commit commit.now }
+    {
+        LentCall {
+            kind: Lent::Commit(commit),
+        }
+    }
+
+    /// A query begins.
+    #[inline(always)]
+    pub fn begin() -> LentCall<'a>
+        ensures { result ≡ Call.Begin }
+    {
+        LentCall { kind: Lent::Begin }
+    }
+
+    /// The open query ends with its answer.
+    #[inline(always)]
+    pub fn finish() -> LentCall<'a>
+        ensures { result ≡ Call.Finish }
+    {
+        LentCall { kind: Lent::Finish }
+    }
+
+    /// The open query ends without one.
+    #[inline(always)]
+    pub fn abandon() -> LentCall<'a>
+        ensures { result ≡ Call.Abandon }
+    {
+        LentCall {
+            kind: Lent::Abandon,
+        }
+    }
 
     /// Why the call gets no number, by how many numbered calls its client has made and whether that client has a query open; `None`
     /// where it gets one.
@@ -47,9 +160,9 @@ impl Call {
         if calls >= MOST_CALLS {
             return Some(CoreFault::Spent);
         }
-        match (self, query) {
-            (Call::Begin, QueryState::Open) => Some(CoreFault::QueryOpen),
-            (Call::Finish | Call::Abandon, QueryState::NotOpen) => Some(CoreFault::NoQuery),
+        match (&self.kind, query) {
+            (Lent::Begin, QueryState::Open) => Some(CoreFault::QueryOpen),
+            (Lent::Finish | Lent::Abandon, QueryState::NotOpen) => Some(CoreFault::NoQuery),
             _ => None,
         }
     }
@@ -60,25 +173,25 @@ impl Call {
         ensures few { length (changes_of self.now) ≤ 8 }
         ensures formed { is_formed self.now ≡ true }
     {
-        match self {
-            Call::Insert(_) | Call::Update(_, _) | Call::Delete(_) => 1,
-            Call::Commit(commit) => commit.as_slice().len(),
-            Call::Begin | Call::Finish | Call::Abandon => 0,
+        match self.kind {
+            Lent::Insert(_) | Lent::Update(_, _) | Lent::Delete(_) => 1,
+            Lent::Commit(commit) => commit.as_slice().len(),
+            Lent::Begin | Lent::Finish | Lent::Abandon => 0,
         }
     }
 
-    /// The same call. Copies what its variant holds: for a single change no more than that change.
-    pub(crate) fn copied(&self) -> Call
+    /// The call with rows of its own. Copies what is lent: for a single change no more than its row.
+    pub(crate) fn call(&self) -> Call
         ensures { result ≡ self.now }
     {
-        match self {
-            Call::Insert(row) => Call::Insert(*row),
-            Call::Update(id, row) => Call::Update(*id, *row),
-            Call::Delete(id) => Call::Delete(*id),
-            Call::Commit(commit) => Call::Commit(*commit),
-            Call::Begin => Call::Begin,
-            Call::Finish => Call::Finish,
-            Call::Abandon => Call::Abandon,
+        match self.kind {
+            Lent::Insert(row) => Call::Insert(*row),
+            Lent::Update(id, row) => Call::Update(id, *row),
+            Lent::Delete(id) => Call::Delete(id),
+            Lent::Commit(commit) => Call::Commit(*commit),
+            Lent::Begin => Call::Begin,
+            Lent::Finish => Call::Finish,
+            Lent::Abandon => Call::Abandon,
         }
     }
 
@@ -88,12 +201,12 @@ impl Call {
         requires { at < length (changes_of self.now) }
         ensures { slice_get (changes_of self.now) at ≡ Some result }
     {
-        match self {
-            Call::Insert(row) => Change::Add(*row),
-            Call::Update(id, row) => Change::Set(*id, *row),
-            Call::Delete(id) => Change::Remove(*id),
-            Call::Commit(commit) => commit.as_slice()[at],
-            Call::Begin | Call::Finish | Call::Abandon => unreachable!(),
+        match self.kind {
+            Lent::Insert(row) => Change::Add(*row),
+            Lent::Update(id, row) => Change::Set(id, *row),
+            Lent::Delete(id) => Change::Remove(id),
+            Lent::Commit(commit) => commit.as_slice()[at],
+            Lent::Begin | Lent::Finish | Lent::Abandon => unreachable!(),
         }
     }
 
@@ -101,10 +214,10 @@ impl Call {
     pub(crate) fn ends(&self, id: u64) -> bool
         ensures { result ≡ among (ended self.now) id }
     {
-        match self {
-            Call::Update(other, _) | Call::Delete(other) => *other == id,
-            Call::Commit(commit) => is_named(commit.as_slice(), id),
-            Call::Insert(_) | Call::Begin | Call::Finish | Call::Abandon => false,
+        match self.kind {
+            Lent::Update(other, _) | Lent::Delete(other) => other == id,
+            Lent::Commit(commit) => is_named(commit.as_slice(), id),
+            Lent::Insert(_) | Lent::Begin | Lent::Finish | Lent::Abandon => false,
         }
     }
 
@@ -113,10 +226,10 @@ impl Call {
         ensures count { (next_id : ℕ) → result ≡ length (begun next_id self.now) }
         ensures few { result ≤ 8 }
     {
-        match self {
-            Call::Insert(_) | Call::Update(_, _) => 1,
-            Call::Commit(commit) => begun_by(commit.as_slice()),
-            Call::Delete(_) | Call::Begin | Call::Finish | Call::Abandon => 0,
+        match self.kind {
+            Lent::Insert(_) | Lent::Update(_, _) => 1,
+            Lent::Commit(commit) => begun_by(commit.as_slice()),
+            Lent::Delete(_) | Lent::Begin | Lent::Finish | Lent::Abandon => 0,
         }
     }
 
@@ -131,10 +244,28 @@ impl Call {
     pub(crate) fn added(&self) -> u64
         ensures { result ≡ added self.now }
     {
-        match self {
-            Call::Insert(_) => 1,
-            Call::Commit(commit) => added_by(commit.as_slice()),
-            Call::Update(_, _) | Call::Delete(_) | Call::Begin | Call::Finish | Call::Abandon => 0,
+        match self.kind {
+            Lent::Insert(_) => 1,
+            Lent::Commit(commit) => added_by(commit.as_slice()),
+            Lent::Update(_, _) | Lent::Delete(_) | Lent::Begin | Lent::Finish | Lent::Abandon => 0,
+        }
+    }
+
+    /// Whether the call ends its client's open query.
+    pub(crate) fn ends_query(&self) -> bool
+        ensures { result ≡ is_end self.now }
+    {
+        matches!(self.kind, Lent::Finish | Lent::Abandon)
+    }
+
+    /// The stamp at the begin of its client's open query after the call, by the stamp then and that of the query before.
+    pub(crate) fn begun_after(&self, stamp: u64, begun: Option<u64>) -> Option<u64>
+        ensures { result ≡ begin_after stamp self.now begun }
+    {
+        match self.kind {
+            Lent::Begin => Some(stamp),
+            Lent::Finish | Lent::Abandon => None,
+            _ => begun,
         }
     }
 
@@ -142,9 +273,9 @@ impl Call {
     pub(crate) fn is_change(&self) -> bool
         ensures { result ≡ is_change self.now }
     {
-        match self {
-            Call::Insert(_) | Call::Update(_, _) | Call::Delete(_) | Call::Commit(_) => true,
-            Call::Begin | Call::Finish | Call::Abandon => false,
+        match self.kind {
+            Lent::Insert(_) | Lent::Update(_, _) | Lent::Delete(_) | Lent::Commit(_) => true,
+            Lent::Begin | Lent::Finish | Lent::Abandon => false,
         }
     }
 }
@@ -290,13 +421,14 @@ impl Op {
     ghost use Rattle.pref_core.specs.Planned.{op_of};
 
     /// The same, with its call lent.
-    pub fn lent(&self) -> Planned<'_>
+    pub fn planned<'a>(&self, call: &'a LentCall<'a>) -> Planned<'a>
+        requires { call.now ≡ self.now.call }
         ensures { op_of result ≡ self.now }
     {
         Planned {
             client: self.client,
             number: self.number,
-            call: &self.call,
+            call,
             slots: self.slots,
             outcome: self.outcome,
         }
@@ -311,7 +443,7 @@ pub struct Planned<'a> {
     /// The call's number, one above the client's last.
     pub number: u64,
     /// The call.
-    pub call: &'a Call,
+    pub call: &'a LentCall<'a>,
     /// The slots of the versions that begin, in the order of the changes that begin them.
     pub slots: SlotList,
     /// What becomes of the call.
@@ -328,7 +460,7 @@ impl Planned<'_> {
         Op {
             client: self.client,
             number: self.number,
-            call: self.call.copied(),
+            call: self.call.call(),
             slots: self.slots,
             outcome: self.outcome,
         }

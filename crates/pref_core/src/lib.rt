@@ -20,7 +20,7 @@ mod run;
 mod setup;
 mod store;
 
-pub use call::{Call, Op, Outcome, Planned, QueryState, SlotList};
+pub use call::{Call, LentCall, Op, Outcome, Planned, QueryState, SlotList};
 pub use changes::{Change, Commit};
 pub use event::{Act, BoxedCommit, Committed, Event, RankedList, Reply, StepFault};
 pub use fault::CoreFault;

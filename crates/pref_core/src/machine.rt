@@ -9,7 +9,7 @@ ghost use Rattle.pref_core.specs.Step.{opened, told_of_commit};
 ghost use Rattle.pref_core.specs.Systems.{Replies, Running, StandsForSystem, Steps, is_refusal, without_event};
 ghost use Rattle.pref_core.specs.Parts.{Does, Changes, is_begin, replied, told_of};
 
-use crate::call::{Call, Outcome};
+use crate::call::{Call, LentCall, Outcome};
 use crate::changes::{Commit, added_by};
 use crate::event::{Act, BoxedCommit, Committed, Event, RankedList, Reply, StepFault};
 use crate::fault::CoreFault;
@@ -143,19 +143,24 @@ impl Machine {
         ensures { Does self.old client (Act.Insert row.now) result self.new }
     {
         let done = Reply::Inserted(self.store.next_id());
-        self.change(alloc, client, &Call::Insert(*row), done)
+        self.change(alloc, client, &LentCall::insert(row), done)
     }
 
     fn update(&mut self, alloc: Global, client: u8, id: u64, row: &Row) -> Result<Reply, CoreFault>
         ensures { Does self.old client (Act.Update id row.now) result self.new }
     {
-        self.change(alloc, client, &Call::Update(id, *row), Reply::Updated(id))
+        self.change(
+            alloc,
+            client,
+            &LentCall::update(id, row),
+            Reply::Updated(id),
+        )
     }
 
     fn delete(&mut self, alloc: Global, client: u8, id: u64) -> Result<Reply, CoreFault>
         ensures { Does self.old client (Act.Delete id) result self.new }
     {
-        self.change(alloc, client, &Call::Delete(id), Reply::Deleted(id))
+        self.change(alloc, client, &LentCall::delete(id), Reply::Deleted(id))
     }
 
     fn commit(
@@ -168,7 +173,7 @@ impl Machine {
     {
         let commit = commit.commit();
         let done = Reply::Committed(told_of_commit(self.store.next_id(), commit));
-        self.change(alloc, client, &Call::Commit(*commit), done)
+        self.change(alloc, client, &LentCall::commit(commit), done)
     }
 
     /// A change, and the reply where it succeeds.
@@ -176,7 +181,7 @@ impl Machine {
         &mut self,
         alloc: Global,
         client: u8,
-        call: &Call,
+        call: &LentCall<'_>,
         done: Reply,
     ) -> Result<Reply, CoreFault>
         requires change { is_change call.now ≡ true }

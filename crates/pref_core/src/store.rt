@@ -25,7 +25,7 @@ ghost use Rattle.pref_core.specs.Indexes.{IsIndexOf, IsReady};
 ghost use Rattle.pref_core.specs.Operations.{applied, IsPlan, Plans, PlansIn, AppliesIn};
 ghost use Rattle.pref_core.specs.Planned.{op_of, op_or_fault};
 
-use crate::call::{Call, Op, Planned};
+use crate::call::{Call, LentCall, Op, Planned};
 use crate::fault::CoreFault;
 use crate::index::Index;
 use crate::setup::Setup;
@@ -166,7 +166,7 @@ impl Store {
         ensures exact { Plans self.now client call result }
         ensures state { (state : State) → StandsFor self.now state → PlansIn state self.now client call result }
     {
-        match self.plan_by(None, client, &call) {
+        match self.plan_by(None, client, &call.lent()) {
             Ok(planned) => Ok(planned.op()),
             Err(fault) => Err(fault),
         }
@@ -177,7 +177,7 @@ impl Store {
         &self,
         index: &Index,
         client: u8,
-        call: &'a Call,
+        call: &'a LentCall<'a>,
     ) -> Result<Planned<'a>, CoreFault>
         requires { IsIndexOf self.now index.now }
         ensures exact { Plans self.now client call.now (op_or_fault result) }
@@ -193,10 +193,11 @@ impl Store {
         ensures exact { self.new ≡ applied self.old op.now }
         ensures state { (state : State) → StandsFor self.old state → AppliesIn state self.old op.now self.new }
     {
-        let lent = op.lent();
-        let freed = self.freed_places(None, lent.call);
-        if self.contents.is_next(&freed, &lent) && self.contents.fits(&freed, &lent) {
-            self.contents.step(&lent);
+        let call = op.call.lent();
+        let planned = op.planned(&call);
+        let freed = self.freed_places(None, &call);
+        if self.contents.is_next(&freed, &planned) && self.contents.fits(&freed, &planned) {
+            self.contents.step(&planned);
         }
     }
 

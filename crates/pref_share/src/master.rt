@@ -15,7 +15,7 @@ use crate::published::{
     Hearing, Opening, Published, Stamp, Staying, StoreReader, StoreWriter, Telling,
 };
 use core::mem::replace_with;
-use pref_core::{Call, CoreFault, Index, Op, Outcome, Planned, SlotList, Store};
+use pref_core::{Call, CoreFault, Index, LentCall, Op, Outcome, Planned, SlotList, Store};
 use std::alloc::{AllocError, Global};
 use std::marker::Model;
 use std::mem::ManuallyDrop;
@@ -213,7 +213,7 @@ impl<J: Naming> Master<J> {
         rt: &R,
         alloc: Global,
         client: u8,
-        call: &'a Call,
+        call: &'a LentCall<'a>,
     ) -> Result<Planned<'a>, CoreFault>
         ensures planned { IfOk result (λ op. (op.client ≡ client) × (op.call.now ≡ call.now) × MayFollow J.opening self.old (op_of op)) }
         ensures joined { IfOk result (λ op. self.new ≡ self.old ++ op_of op ∷ []) }

@@ -21,7 +21,8 @@ fn done(
     requires { IsIndexOf store.old index.old }
     ensures { OnOk result (IsIndexOf store.new index.new) }
 {
-    let op = match store.plan_at(index, client, call) {
+    let lent = call.lent();
+    let op = match store.plan_at(index, client, &lent) {
         Ok(op) => op,
         Err(fault) => return Err(Fail::from(fault)),
     };
@@ -135,7 +136,8 @@ fn withdraws_a_row(
     requires { IsIndexOf store.now index.old }
 {
     let insert = Call::Insert(row(schema, 6)?);
-    let op = match store.plan_at(index, 1, &insert) {
+    let lent = insert.lent();
+    let op = match store.plan_at(index, 1, &lent) {
         Ok(op) => op,
         Err(fault) => return Err(Fail::from(fault)),
     };

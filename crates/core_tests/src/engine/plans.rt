@@ -144,7 +144,7 @@ fn a_call_gets_a_number_or_its_refusal(rt: HostRuntime) -> Result<(), Fail> {
         (Call::Begin, most, QueryState::Open, Some(CoreFault::Spent)),
     ];
     for (case, (call, calls, query, wanted)) in cases.iter().enumerate() {
-        assert_same(&rt, case, &call.refusal(*calls, *query), wanted);
+        assert_same(&rt, case, &call.lent().refusal(*calls, *query), wanted);
     }
     Ok(())
 }

@@ -191,7 +191,8 @@ fn an_index_has_all_rows_of_a_commit_or_none(rt: HostRuntime) -> Result<(), Fail
     let store = Store::new(alloc, &setup, &[])?;
     let commit = Commit::of(&[Change::Add(row(&schema, 5)?); 8])?;
     let op = store.plan(1, Call::Commit(commit))?;
-    prepare_in_the_end(&rt, alloc, &mut index, &op.lent());
+    let lent = op.call.lent();
+    prepare_in_the_end(&rt, alloc, &mut index, &op.planned(&lent));
     let slots = [
         Some(0),
         Some(1),

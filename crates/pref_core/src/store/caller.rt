@@ -7,7 +7,7 @@ ghost use Rattle.pref_core.specs.Operations.{begin_after, callers_after};
 ghost use Rattle.pref_core.specs.Slots.{is_visible};
 ghost use Rattle.pref_core.specs.State.{seat, begun};
 
-use crate::call::Call;
+use crate::call::LentCall;
 use crate::store::version::Version;
 use std::alloc::{AllocError, Global};
 
@@ -50,7 +50,7 @@ pub(crate) fn calls_of(callers: &[Caller], client: u8) -> u64
 }
 
 /// The client has made one call more.
-pub(crate) fn count(callers: &mut [Caller], client: u8, call: &Call, stamp: u64)
+pub(crate) fn count(callers: &mut [Caller], client: u8, call: &LentCall<'_>, stamp: u64)
     requires { IfSome (seat client callers.old) (λ caller. caller.calls < 2 ^ 56) }
     ensures { callers.new ≡ callers_after stamp callers.old client call.now }
 {
@@ -61,18 +61,13 @@ pub(crate) fn count(callers: &mut [Caller], client: u8, call: &Call, stamp: u64)
 }
 
 /// What is kept of a client that has made one call more.
-fn counted(caller: Caller, call: &Call, stamp: u64) -> Caller
+fn counted(caller: Caller, call: &LentCall<'_>, stamp: u64) -> Caller
     requires { caller.calls < 2 ^ 56 }
     ensures { result ≡ record { calls = suc caller.calls; begun = begin_after stamp call.now caller.begun } }
 {
-    let begun = match *call {
-        Call::Begin => Some(stamp),
-        Call::Finish | Call::Abandon => None,
-        _ => caller.begun,
-    };
     Caller {
         calls: caller.calls + 1,
-        begun,
+        begun: call.begun_after(stamp, caller.begun),
     }
 }
 

@@ -12,7 +12,7 @@ ghost use Rattle.pref_core.specs.Stability.{is_end};
 ghost use Rattle.pref_core.specs.State.{ended, begun, added, is_change, succeeds};
 ghost use Rattle.pref_core.specs.Table.{among, has};
 
-use crate::call::{Call, Planned, SlotList};
+use crate::call::{LentCall, Planned, SlotList};
 use crate::index::Index;
 use crate::setup::Setup;
 use crate::store::caller::{Caller, count, idle};
@@ -148,7 +148,7 @@ impl Contents {
     }
 
     /// Whether the slot of this place is no longer needed once the rows that the call ends have ended.
-    pub(crate) fn frees(&self, place: u32, call: &Call) -> bool
+    pub(crate) fn frees(&self, place: u32, call: &LentCall<'_>) -> bool
         requires { self.now.stamp < 2 ^ 63 }
         ensures { result ≡ frees_at (begins self.now.callers) (ended call.now) (self.now.stamp + 1) self.now.slots place }
     {
@@ -162,7 +162,7 @@ impl Contents {
     }
 
     /// How many versions are needed after a call that ends rows, by the slots that they leave free.
-    pub(crate) fn size_after(&self, freed: &SlotList, call: &Call) -> usize
+    pub(crate) fn size_after(&self, freed: &SlotList, call: &LentCall<'_>) -> usize
         requires { IsFreed self.now (ended call.now) freed.now }
         ensures { result ≡ used (grown call.now self.now) }
     {
@@ -227,7 +227,7 @@ impl Contents {
     }
 
     /// Ends all rows that the call ends.
-    fn end_rows(&mut self, call: &Call)
+    fn end_rows(&mut self, call: &LentCall<'_>)
         ensures { self.new ≡ with_slots (map (close (ended call.now) self.old.stamp) self.old.slots) self.old }
     {
         for at in 0..call.count() {
@@ -288,23 +288,13 @@ impl Contents {
     }
 
     /// The client has made one call more. Where it ends a query, the ended versions that no query needs any more are free.
-    fn count(&mut self, client: u8, call: &Call)
+    fn count(&mut self, client: u8, call: &LentCall<'_>)
         requires { refusal_at self.old client call.now ≡ None }
         ensures { self.new ≡ record { slots = self.old.slots; stamp = self.old.stamp; next_id = self.old.next_id; callers = callers_after self.old.stamp self.old.callers client call.now } }
     {
         count(&mut self.callers, client, call, self.stamp);
-        if ends_query(call) {
+        if call.ends_query() {
             self.places.sweep(&self.slots, &self.callers);
         }
-    }
-}
-
-/// Whether the call ends its client's open query.
-fn ends_query(call: &Call) -> bool
-    ensures { result ≡ is_end call.now }
-{
-    match *call {
-        Call::Finish | Call::Abandon => true,
-        _ => false,
     }
 }

@@ -7,7 +7,7 @@ ghost use Rattle.pref_core.specs.Operations.{outcome_at, placed, Plans};
 ghost use Rattle.pref_core.specs.Planned.{op_or_fault};
 ghost use Rattle.pref_core.specs.State.{ended, is_change, is_formed, succeeds, granted};
 
-use crate::call::{Call, Outcome, Planned, QueryState, SlotList};
+use crate::call::{LentCall, Outcome, Planned, QueryState, SlotList};
 use crate::fault::CoreFault;
 use crate::index::Index;
 use crate::store::Store;
@@ -21,7 +21,7 @@ impl Store {
         &self,
         index: Option<&Index>,
         client: u8,
-        call: &'a Call,
+        call: &'a LentCall<'a>,
     ) -> Result<Planned<'a>, CoreFault>
         requires { IfSome index (λ index. IsIndexOf self.now index.now) }
         ensures { Plans self.now client call.now (op_or_fault result) }
@@ -45,7 +45,11 @@ impl Store {
     }
 
     /// The slots that the rows which a call ends leave free, or the first id that it ends and the table lacks.
-    pub(crate) fn freed_places(&self, index: Option<&Index>, call: &Call) -> Result<SlotList, u64>
+    pub(crate) fn freed_places(
+        &self,
+        index: Option<&Index>,
+        call: &LentCall<'_>,
+    ) -> Result<SlotList, u64>
         requires { IfSome index (λ index. IsIndexOf self.now index.now) }
         ensures found { FindsFreed self.now (ended call.now) result }
         ensures formed { is_formed call.now ≡ true }
@@ -65,7 +69,12 @@ impl Store {
     }
 
     /// The slots of a call with this outcome.
-    fn slots_for(&self, freed: &Result<SlotList, u64>, call: &Call, outcome: Outcome) -> SlotList
+    fn slots_for(
+        &self,
+        freed: &Result<SlotList, u64>,
+        call: &LentCall<'_>,
+        outcome: Outcome,
+    ) -> SlotList
         requires freed { FindsFreed self.now (ended call.now) freed.now }
         requires told { outcome ≡ outcome_at self.now call.now }
         ensures { is_some (placed self.now call.now result outcome) ≡ true }
@@ -77,7 +86,7 @@ impl Store {
     }
 
     /// Slots for the rows that a call begins.
-    fn places_for(&self, freed: &SlotList, call: &Call) -> SlotList
+    fn places_for(&self, freed: &SlotList, call: &LentCall<'_>) -> SlotList
         requires freed { IsFreed self.now (ended call.now) freed.now }
         requires change { is_change call.now ≡ true }
         requires succeeds { succeeds (outcome_at self.now call.now) ≡ true }
@@ -101,7 +110,7 @@ impl Store {
 
 impl Contents {
     /// The outcome of a call that gets a number, by the slots that its ended rows leave free.
-    pub(crate) fn outcome(&self, freed: &Result<SlotList, u64>, call: &Call) -> Outcome
+    pub(crate) fn outcome(&self, freed: &Result<SlotList, u64>, call: &LentCall<'_>) -> Outcome
         requires { FindsFreed self.now (ended call.now) freed.now }
         ensures { result ≡ outcome_at self.now call.now }
     {
@@ -122,7 +131,7 @@ impl Contents {
     }
 }
 
-fn granted(next_id: u64, call: &Call) -> Outcome
+fn granted(next_id: u64, call: &LentCall<'_>) -> Outcome
     ensures { result ≡ granted next_id call.now }
 {
     if call.added() > 0 {

@@ -5,7 +5,7 @@ ghost use Rattle.pref_core.specs.Operations.{close};
 ghost use Rattle.pref_core.specs.Slots.{is_visible, born};
 ghost use Rattle.pref_core.specs.State.{ended};
 
-use crate::call::Call;
+use crate::call::LentCall;
 use pref_sky::Entry;
 use pref_table::Row;
 
@@ -28,7 +28,7 @@ impl Version {
 
 /// The slot after a commit by this call.
 #[inline(always)]
-pub(crate) fn closed(slot: Option<Version>, call: &Call, stamp: u64) -> Option<Version>
+pub(crate) fn closed(slot: Option<Version>, call: &LentCall<'_>, stamp: u64) -> Option<Version>
     ensures { result ≡ close (ended call.now) stamp slot }
 {
     match slot {

@@ -14,7 +14,7 @@ use crate::book::Naming;
 use crate::client::{Asking, Client};
 use crate::fault::{BeginFault, ShareFault};
 use crate::history::Prefix;
-use pref_core::{Call, Commit, Committed, CoreFault, Outcome, Query, QueryState};
+use pref_core::{Call, Commit, Committed, CoreFault, LentCall, Outcome, Query, QueryState};
 use pref_sky::Ranked;
 use pref_table::Row;
 use pref_term::Ask;
@@ -54,7 +54,7 @@ impl<J: Naming> Client<J> {
         ensures inserted { IfOk result (λ id. Changes J.opening self.old (Call.Insert row) (Added id) self.new) }
         ensures refused { IfErr result (λ fault. RefusesChange J.opening self.old (Call.Insert row) fault self.new) }
     {
-        let outcome = self.change(rt, alloc, board, &Call::Insert(row))?;
+        let outcome = self.change(rt, alloc, board, &LentCall::insert(&row))?;
         Ok(first_added(outcome))
     }
 
@@ -76,7 +76,7 @@ impl<J: Naming> Client<J> {
         ensures updated { IfOk result (λ _. Changes J.opening self.old (Call.Update id row) Done self.new) }
         ensures refused { IfErr result (λ fault. RefusesChange J.opening self.old (Call.Update id row) fault self.new) }
     {
-        self.change(rt, alloc, board, &Call::Update(id, row))?;
+        self.change(rt, alloc, board, &LentCall::update(id, &row))?;
         Ok(())
     }
 
@@ -97,7 +97,7 @@ impl<J: Naming> Client<J> {
         ensures deleted { IfOk result (λ _. Changes J.opening self.old (Call.Delete id) Done self.new) }
         ensures refused { IfErr result (λ fault. RefusesChange J.opening self.old (Call.Delete id) fault self.new) }
     {
-        self.change(rt, alloc, board, &Call::Delete(id))?;
+        self.change(rt, alloc, board, &LentCall::delete(id))?;
         Ok(())
     }
 
@@ -120,7 +120,7 @@ impl<J: Naming> Client<J> {
         ensures committed { IfOk result (λ told. Commits J.opening self.old commit told self.new) }
         ensures refused { IfErr result (λ fault. RefusesChange J.opening self.old (Call.Commit commit) fault self.new) }
     {
-        let outcome = self.change(rt, alloc, board, &Call::Commit(commit))?;
+        let outcome = self.change(rt, alloc, board, &LentCall::commit(&commit))?;
         Ok(told_of_commit(&commit, outcome))
     }
 
@@ -145,13 +145,14 @@ impl<J: Naming> Client<J> {
         ensures begun { IfOk result (λ left. Begins J.opening self.old ask left self.new) }
         ensures refused { IfErr result (λ fault. RefusesBegin J.opening self.old ask fault self.new) }
     {
-        if let Some(fault) = self.refusal(&Call::Begin) {
+        let call = LentCall::begin();
+        if let Some(fault) = self.refusal(&call) {
             return Err(BeginFault {
                 fault: ShareFault::Core(fault),
                 ask,
             });
         }
-        match self.join(rt, alloc, board, &Call::Begin) {
+        match self.join(rt, alloc, board, &call) {
             Ok(Joining::Joined { seen, stamp, .. }) => {
                 let query = Query::begin(ask, stamp, &self.setup);
                 let begun = seen.again();
@@ -189,11 +190,11 @@ impl<J: Naming> Client<J> {
         ensures finished { IfOk result (λ ranked. Finishes J.opening self.old ranked.items self.new) }
         ensures refused { IfErr result (λ fault. RefusesFinish J.opening self.old fault self.new) }
     {
-        if let Some(fault) = self.refusal(&Call::Finish) {
+        if let Some(fault) = self.refusal(&LentCall::finish()) {
             return Err(ShareFault::Core(fault));
         }
         let ranked = self.answer(alloc)?;
-        self.end(rt, alloc, board, &Call::Finish)?;
+        self.end(rt, alloc, board, &LentCall::finish())?;
         Ok(ranked)
     }
 
@@ -213,14 +214,14 @@ impl<J: Naming> Client<J> {
         ensures abandoned { IfOk result (λ _. Joins J.opening self.old Call.Abandon Done self.new × (self.new.query ≡ None)) }
         ensures refused { IfErr result (λ fault. Refuses (λ core. Refused J.opening self.old Call.Abandon core self.new) J.opening self.old Call.Abandon fault self.new) }
     {
-        if let Some(fault) = self.refusal(&Call::Abandon) {
+        if let Some(fault) = self.refusal(&LentCall::abandon()) {
             return Err(ShareFault::Core(fault));
         }
-        self.end(rt, alloc, board, &Call::Abandon)
+        self.end(rt, alloc, board, &LentCall::abandon())
     }
 
     /// Why a call gets no number, by the client's own counter and query.
-    fn refusal(&self, call: &Call) -> Option<CoreFault>
+    fn refusal(&self, call: &LentCall<'_>) -> Option<CoreFault>
         ensures { result ≡ own_refusal self.now call.now }
     {
         call.refusal(self.counter, QueryState::of(&self.asking))
@@ -232,7 +233,7 @@ impl<J: Naming> Client<J> {
         rt: &R,
         alloc: Global,
         board: &Board<J>,
-        call: &Call,
+        call: &LentCall<'_>,
     ) -> Result<Outcome, ShareFault>
         requires change { is_change call.now ≡ true }
         ensures changed { IfOk result (λ told. Changes J.opening self.old call.now told self.new) }
@@ -258,7 +259,7 @@ impl<J: Naming> Client<J> {
         rt: &R,
         alloc: Global,
         board: &Board<J>,
-        call: &Call,
+        call: &LentCall<'_>,
     ) -> Result<(), ShareFault>
         requires accepted { own_refusal self.old call.now ≡ None }
         requires ends { is_end call.now ≡ true }
@@ -293,7 +294,7 @@ impl<J: Naming> Client<J> {
         rt: &R,
         alloc: Global,
         board: &Board<J>,
-        call: &Call,
+        call: &LentCall<'_>,
     ) -> Result<Joining<Prefix<J>>, AllocError>
         requires { own_refusal self.now call.now ≡ None }
         ensures joins { IfOk result (λ joining. MayJoin J.opening self.now call.now joining) }

@@ -12,4 +12,5 @@ returns c =
     let told = c.told_of_commit.ensures ∙ ap (told_of_commit c.next_id.result) c.commit-commit.ensures in
     commit_does c.args.self.now c.args.client c.next_id.result c.args.commit.now c.change.result c.change.new.self (c.next_id.ensures ∙ ap (λ (r : Running). r.contents.next_id) c.self.view_is)
     (subst (λ told. Changes c.args.self.now c.args.client (Commit c.args.commit.now) (Committed told) c.change.result c.change.new.self) told
-    (subst (λ changes. Changes c.args.self.now c.args.client (Commit changes) (Committed c.told_of_commit.result) c.change.result c.change.new.self) c.commit-commit.ensures c.change.ensures))
+    (subst (λ changes. Changes c.args.self.now c.args.client (Commit changes) (Committed c.told_of_commit.result) c.change.result c.change.new.self) c.commit-commit.ensures
+    (subst (λ call. Changes c.args.self.now c.args.client call (Committed c.told_of_commit.result) c.change.result c.change.new.self) c.commit.ensures c.change.ensures)))

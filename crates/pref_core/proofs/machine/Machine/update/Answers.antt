@@ -1,5 +1,10 @@
+use Rattle.std.proofs.Common.{subst}
+use Rattle.pref_core.specs.declared.event.Reply.TheVariants.{Updated}
+use Rattle.pref_core.specs.Parts.{Changes}
 use Rattle.pref_core.proofs.Doing.{update_does}
 use Rattle.pref_core.proofs.machine.Machine.update.Goals as goal
 
 pub returns : goal.returns
-returns c = update_does c.args.self.now c.args.client c.args.id c.args.row.now c.change.result c.change.new.self c.change.ensures
+returns c =
+    update_does c.args.self.now c.args.client c.args.id c.args.row.now c.change.result c.change.new.self
+    (subst (λ call. Changes c.args.self.now c.args.client call (Updated c.args.id) c.change.result c.change.new.self) c.update.ensures c.change.ensures)

@@ -9,11 +9,11 @@ use Rattle.pref_core.proofs.Legal.{applies_in, applied_not, is_next-from}
 use Rattle.pref_core.proofs.store.Store.apply.Goals as goal
 use Rattle.pref_core.proofs.store.Store.apply.Goals.{After-step, Joined-else-is_next, else-is_next-via-then-is_next+else-fits, else-is_next-via-else-is_next}
 
-next : (c : After-step) → is_next c.self.inside.contents (op_of c.lent-lent.result) ≡ true
+next : (c : After-step) → is_next c.self.inside.contents (op_of c.planned-planned.result) ≡ true
 next c = sym c.is_next.ensures ∙ c.if-is_next.true
 
 exact : (c : After-step) → c.step.new.self ≡ applied c.args.self.now c.args.op.now
-exact c = stepped_is c.self.inside.contents (op_of c.lent-lent.result) c.step.new.self.slots c.step.new.self (next c) c.step.ensures.slots c.step.ensures.rest ∙ (λ i. applied (c.self.view_is i) (c.lent-lent.ensures i))
+exact c = stepped_is c.self.inside.contents (op_of c.planned-planned.result) c.step.new.self.slots c.step.new.self (next c) c.step.ensures.slots c.step.ensures.rest ∙ (λ i. applied (c.self.view_is i) (c.planned-planned.ensures i))
 
 still : (c : Joined-else-is_next) → c.args.self.now ≡ applied c.args.self.now c.args.op.now
 still c = sym c.self.view_is ∙ sym (applied_not now c.self.invariant.state op c.self.invariant.stands illegal) ∙ ap (λ s. applied s op) c.self.view_is
@@ -26,12 +26,12 @@ still c = sym c.self.view_is ∙ sym (applied_not now c.self.invariant.state op 
 
     illegal : ¬ IsLegal c.self.invariant.state now op
     illegal legal = elim c.else-is_next.branch [
-      | else-is_next-via-then-is_next+else-fits w ↦ true≢false (sym legal.fits ∙ ap (λ o. is_some (slots_after now o)) (sym c.lent-lent.ensures) ∙ sym w.fits.ensures ∙ w.if-fits.false)
-      | else-is_next-via-else-is_next w ↦ true≢false (sym (is_next-from now c.self.invariant.state op c.self.invariant.stands legal.next) ∙ ap (is_next now) (sym c.lent-lent.ensures) ∙ sym c.is_next.ensures ∙ w.if-is_next.false)
+      | else-is_next-via-then-is_next+else-fits w ↦ true≢false (sym legal.fits ∙ ap (λ o. is_some (slots_after now o)) (sym c.planned-planned.ensures) ∙ sym w.fits.ensures ∙ w.if-fits.false)
+      | else-is_next-via-else-is_next w ↦ true≢false (sym (is_next-from now c.self.invariant.state op c.self.invariant.stands legal.next) ∙ ap (is_next now) (sym c.planned-planned.ensures) ∙ sym c.is_next.ensures ∙ w.if-is_next.false)
     ]
 
 pub invariant_of-self : goal.invariant_of-self
-invariant_of-self c = kept_stepped c.self.inside.contents (op_of c.lent-lent.result) c.step.new.self.slots c.step.new.self c.self.invariant (next c) c.step.ensures.slots c.step.ensures.rest
+invariant_of-self c = kept_stepped c.self.inside.contents (op_of c.planned-planned.result) c.step.new.self.slots c.step.new.self c.self.invariant (next c) c.step.ensures.slots c.step.ensures.rest
 
 pub returns-then-fits-clause-exact : goal.returns-then-fits-clause-exact
 returns-then-fits-clause-exact c = exact c

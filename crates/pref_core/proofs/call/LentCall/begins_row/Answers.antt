@@ -1,7 +1,7 @@
 use Rattle.std.proofs.Common.{ap, ◌∙◌, nat_lt}
 use Rattle.pref_core.specs.State.{changes_of}
 use Rattle.pref_core.proofs.Counts.{begins_some}
-use Rattle.pref_core.proofs.call.Call.begins_row.Goals as goal
+use Rattle.pref_core.proofs.call.LentCall.begins_row.Goals as goal
 
 pub returns : goal.returns
 returns c = ap (nat_lt 0) (c.begun.ensures.count 0) ∙ begins_some 0 (changes_of c.args.self.now)
