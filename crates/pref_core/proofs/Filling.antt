@@ -1,9 +1,10 @@
 -- The rows that a call begins, in their slots, one after the other.
-use Rattle.std.proofs.Common.{◌≡◌, ℕ, suc, ◌+◌, ◌^◌, ◌<◌, Bool, true, false, not, ◌&&◌, ◌||◌, cond, eqb, nat_eq, List, [], ◌∷◌, ◌++◌, map, length, drop, set, Option, Some, None, is_some, slice_get, get_or, refl, sym, ap, ap₂, ◌∙◌, subst, arith, ⊎_elim}
+use Rattle.std.proofs.Common.{◌≡◌, ℕ, suc, ◌+◌, ◌^◌, ◌<◌, Bool, true, false, not, ◌&&◌, ◌||◌, cond, eqb, nat_eq, List, [], ◌∷◌, ◌++◌, map, length, drop, set, Option, Some, None, is_some, slice_get, get_or, unwrap_or, refl, sym, ap, ap₂, ◌∙◌, subst, arith, ⊎_elim}
 use Rattle.std.specs.List.{AllByRecursion}
-use Rattle.std.proofs.lemmas.List.{length-map, length-set, map-set}
+use Rattle.std.proofs.lemmas.List.{length-map, length-set, map-set, set-set}
+use Rattle.std.proofs.Math.Seq.{map-set_same}
 use Rattle.std.specs.Option.{option_map}
-use Rattle.std.proofs.lemmas.Option.{slice_get_within, slice_get-map}
+use Rattle.std.proofs.lemmas.Option.{slice_get_within, slice_get-get_or, slice_get-map}
 use Rattle.std.proofs.lemmas.Bool.{le-leb, eqb-true, eqb-false, ne_eqb, cases_eq, or_parts, and_parts, true≢false}
 use Rattle.pref_core.specs.declared.store.version.Version.{Version}
 use Rattle.pref_core.specs.declared.store.places.Zone.{Zone}
@@ -12,6 +13,7 @@ use Rattle.pref_sky.specs.declared.entry.Entry.{Entry}
 use Rattle.pref_core.specs.Table.{among, has}
 use Rattle.pref_core.specs.declared.call.Op.{Op}
 use Rattle.pref_core.specs.declared.call.Call.{Call}
+use Rattle.pref_core.specs.declared.call.Call.TheVariants.{Update}
 use Rattle.pref_core.specs.declared.call.Outcome.{Outcome}
 use Rattle.pref_core.specs.State.{State, ended, begun, added, missing, is_change, succeeds}
 use Rattle.pref_core.specs.Slots.{Contents, StandsFor, IsWithin, EndsBy, is_visible, begins, stamps, born, visible}
@@ -26,11 +28,11 @@ use Rattle.pref_core.proofs.Counts.{drop_item, drop_inside}
 use Rattle.pref_core.proofs.Closing.{none_closed, one_closed, row_alive, within_closed, ids_closed, links_ended, closed_zones, filled_zones}
 use Rattle.pref_core.proofs.Indexing.{other_place}
 use Rattle.pref_core.proofs.Keys.{within-set}
-use Rattle.pref_core.proofs.Linked.{links_born, fresh_begun}
+use Rattle.pref_core.proofs.Linked.{links_born, fresh_begun, tracked_next}
 use Rattle.pref_core.proofs.Linking.{some_same, shows_row}
 use Rattle.pref_core.proofs.Plans.{close_none}
 use Rattle.pref_core.proofs.Several.{filled_snoc, free_still, taken}
-use Rattle.pref_core.proofs.Zones.{holds_there, free_zone, has_row_at}
+use Rattle.pref_core.proofs.Zones.{holds_there, free_zone, has_row_at, row_version}
 
 -- Slots fit rows where there are as many, each is free, and none comes twice.
 fills_where : (made : ℕ) (ns earlier : List ℕ) (before : List Entry) (slots now : List (Option Version)) (places : List ℕ) (begun : List Entry) → filled (made ∷ ns) made earlier before slots ≡ Some now → length places ≡ length begun
@@ -288,6 +290,35 @@ module _ (contents : Contents) (zones : List Zone) (links : List ℕ) (id place 
     ids = subst (λ l. AreIds (2 ^ 64) (id_at (ids_of contents.stamp l))) (sym end_slots) (ids_closed (id ∷ []) contents.stamp contents.slots h.ids);
   }
 
+  visible_here : (eqb version.id id ≡ true) × (is_visible contents.stamp version ≡ true)
+  visible_here = and_parts (eqb version.id id) (is_visible contents.stamp version) row_here
+
+  -- .. or is replaced where it stands, ..
+  pub replace_slots : (new : Option Version) → set (map (close (id ∷ []) contents.stamp) contents.slots) place new ≡ set contents.slots place new
+  replace_slots new = ap (λ l. set l place new) (sym end_slots) ∙ set-set contents.slots place last new
+
+  here : (new : Option Version) → get_or contents.slots place new ≡ Some version
+  here new = ap (λ o. unwrap_or o new) (sym (slice_get-get_or contents.slots place new end_inside) ∙ at)
+
+  pub replace_tracked : (entry : Entry) (new : Option Version) → entry.id ≡ id → new ≡ born contents.stamp entry → IsTracked (with_slots (set contents.slots place new) contents) zones links
+  replace_tracked entry new same is =
+      let named : version.id ≡ id = eqb-true version.id id visible_here.0 in
+      let low : entry.id < contents.next_id = omega (arith, within_here.0, named, same) in
+      let zone : zone_of (begins contents.callers) new ≡ zone_of (begins contents.callers) (get_or contents.slots place new) =
+      ap (zone_of (begins contents.callers)) is ∙ sym (ap (zone_of (begins contents.callers)) (here new) ∙ row_alive contents.next_id contents.stamp id (begins contents.callers) version within_here row_here) in
+      let fresh : shown contents.stamp (born contents.stamp entry) ≡ Some entry.id = rw (le-leb contents.stamp contents.stamp (omega arith)) refl in
+      let before : shown contents.stamp (Some version) ≡ Some version.id = rw visible_here.1 refl in
+      let id_here : shown contents.stamp new ≡ shown contents.stamp (get_or contents.slots place new) =
+      ap (shown contents.stamp) is ∙ (fresh ∙ (ap Some (same ∙ sym named) ∙ sym (ap (shown contents.stamp) (here new) ∙ before))) in
+      let ids_same = map-set_same (shown contents.stamp) contents.slots place new new id_here in
+      record {
+        few = let long = length-set contents.slots place new in let few = h.few in omega arith;
+        within = subst (λ r. AllByRecursion (IsWithin contents.next_id contents.stamp) (set contents.slots place r)) (sym is) (within-set contents.next_id contents.stamp contents.slots place (born contents.stamp entry) (low, omega arith, tt) h.within);
+        listed = h.listed ∙ sym (map-set_same (zone_of (begins contents.callers)) contents.slots place new new zone);
+        linked = subst (λ ids. AreLinks ids links) (sym ids_same) h.linked;
+        ids = subst (λ ids. AreIds (2 ^ 64) (id_at ids)) (sym ids_same) h.ids;
+      }
+
 -- .. or begins.
 pub begin_tracked : (contents : Contents) (zones : List Zone) (links : List ℕ) (entry : Entry) (place : ℕ) (row : Option Version) (zones_new : List Zone) (links_new : List ℕ) → IsTracked contents zones links → is_free (stamps contents) contents.slots place ≡ true
     → has (visible contents.stamp contents.slots) entry.id ≡ false → entry.id < contents.next_id → entry.id < 2 ^ 64 → row ≡ born contents.stamp entry → zones_new ≡ set zones place Live → AreLinks (set (ids_of contents.stamp contents.slots) place (Some entry.id)) links_new
@@ -355,3 +386,23 @@ commit_filled now start closed op first is next ends c s =
     ∙ ap (λ (b : Contents). filled (stamps b) b.stamp op.slots (begun first op.call) (map (close (ended op.call) b.stamp) b.slots)) is
     ∙ ap (λ n. filled (suc now.stamp ∷ begins now.callers) (suc now.stamp) op.slots (begun n op.call) (map (close (ended op.call) (suc now.stamp)) now.slots)) next
     ∙ sym (ap (λ b. cond b (filled (suc now.stamp ∷ begins now.callers) (suc now.stamp) op.slots (begun now.next_id op.call) (map (close (ended op.call) (suc now.stamp)) now.slots)) (filled (stamps now) now.stamp op.slots [] now.slots)) (ap (λ b. b && succeeds op.outcome) c ∙ s))
+
+-- An update whose row stays in its slot writes this slot alone.
+pub commit_replaced : (now : Contents) (zones : List Zone) (links : List ℕ) (op : Op) (entry : Entry) (place : ℕ) → IsTracked now zones links → op.call ≡ Update entry.id entry.row → op.slots ≡ place ∷ []
+    → row_at (suc now.stamp) entry.id now.slots place ≡ true → is_change op.call ≡ true → succeeds op.outcome ≡ true → is_some (slots_after now op) ≡ true
+    → slots_after now op ≡ Some (set now.slots place (born (suc now.stamp) entry))
+commit_replaced now zones links op entry place h call slots row c s fits =
+    let start = begun_commit now (added op.call) in
+    let tracked = tracked_next now zones links (added op.call) h in
+    let found = row_version (suc now.stamp) entry.id now.slots place row in
+    let new = born (suc now.stamp) entry in
+    let closed : Contents = with_slots (map (close (entry.id ∷ []) (suc now.stamp)) now.slots) start in
+    let ends : closed ≡ with_slots (map (close (ended op.call) (suc now.stamp)) now.slots) start = ap (λ a. with_slots (map (close (ended a) (suc now.stamp)) now.slots) start) (sym call) in
+    let told : slots_after now op ≡ filled (stamps closed) (suc now.stamp) (place ∷ []) (entry ∷ []) closed.slots =
+    sym (commit_filled now start closed op now.next_id refl refl ends c s) ∙ ap₂ (λ places a. filled (stamps closed) (suc now.stamp) places (begun now.next_id a) closed.slots) slots call in
+    told ∙ (go (is_free (stamps closed) closed.slots place) (set closed.slots place new) (ap is_some (sym told) ∙ fits)
+    ∙ ap Some (replace_slots start zones links entry.id place found.0 tracked row found.1 new))
+  where
+    go : (free : Bool) (after : List (Option Version)) → is_some (cond free (Some after) None) ≡ true → cond free (Some after) None ≡ Some after
+    go true after e = refl
+    go false after e = absurd (true≢false (sym e))

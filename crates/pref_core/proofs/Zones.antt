@@ -120,9 +120,12 @@ has_row_at stamp id (slot ∷ slots) (suc place) h = more (seen stamp slot) (has
     more None e = e
     more (Some shown) e = or_right (eqb shown.id id) (has (visible stamp slots) id) e
 
--- An empty slot shows none.
-pub row_there : (stamp id : ℕ) (slots : List (Option Version)) (place : ℕ) → row_at stamp id slots place ≡ true → slice_get slots place ≡ Some None → ⊥
-row_there stamp id slots place row at = let none = ap (λ o. elim o as (λ x. Bool) [ None ↦ false | Some s ↦ is_row stamp id s ]) (sym at) ∙ row in cc
+-- A slot that shows a row holds a version.
+pub row_version : (stamp id : ℕ) (slots : List (Option Version)) (place : ℕ) → row_at stamp id slots place ≡ true → (version : Version) × (slice_get slots place ≡ Some (Some version))
+row_version stamp id [] place at = absurd (cc)
+row_version stamp id (None ∷ slots) zero at = absurd (cc)
+row_version stamp id (Some version ∷ slots) zero at = (version, refl)
+row_version stamp id (slot ∷ slots) (suc place) at = row_version stamp id slots place at
 
 -- Where no place shows the id's row it isn't in the table.
 pub has_nowhere : (stamp id : ℕ) (slots : List (Option Version)) → ((k : ℕ) → k < length slots → row_at stamp id slots k ≡ false) → has (visible stamp slots) id ≡ false

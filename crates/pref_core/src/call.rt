@@ -3,7 +3,7 @@
 //! Each client counts its calls of these kinds from 1 on, so that histories of many clients can be
 //! compared call by call. A call that is refused before its outcome is planned has no number.
 
-ghost use Rattle.std.specs.Prelude.{◌≡◌, ◌++◌, ◌∷◌, [], ◌<◌, ◌≤◌, ℕ, Some, true, is_some, length, slice_get};
+ghost use Rattle.std.specs.Prelude.{◌≡◌, ◌++◌, ◌∷◌, [], ◌<◌, ◌≤◌, ℕ, Some, IfSome, true, is_some, length, slice_get};
 
 use crate::changes::{Change, Commit, added_by, begun_by, is_named};
 use crate::fault::CoreFault;
@@ -207,6 +207,17 @@ impl<'a> LentCall<'a> {
             Lent::Delete(id) => Change::Remove(id),
             Lent::Commit(commit) => commit.as_slice()[at],
             Lent::Begin | Lent::Finish | Lent::Abandon => unreachable!(),
+        }
+    }
+
+    /// The id and the row of an update.
+    #[inline(always)]
+    pub(crate) fn updated(&self) -> Option<(u64, &'a Row)>
+        ensures { IfSome result (λ told. self.now ≡ Call.Update told.0 told.1.now) }
+    {
+        match self.kind {
+            Lent::Update(id, row) => Some((id, row)),
+            _ => None,
         }
     }
 

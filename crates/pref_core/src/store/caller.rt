@@ -2,13 +2,13 @@
 
 ghost use Rattle.std.specs.List.{list_any};
 ghost use Rattle.std.specs.Option.{option_to_list, unwrap_or};
-ghost use Rattle.std.specs.Prelude.{suc, IfOk, IfSome, None, option_map, replicate, ◌≡◌, ◌^◌, ◌<◌};
+ghost use Rattle.std.specs.Prelude.{suc, IfOk, IfSome, None, nat_le, not, option_map, replicate, ◌≡◌, ◌^◌, ◌<◌, ◌&&◌};
 ghost use Rattle.pref_core.specs.Operations.{begin_after, callers_after};
-ghost use Rattle.pref_core.specs.Slots.{is_visible};
+ghost use Rattle.pref_core.specs.Slots.{has_ended};
 ghost use Rattle.pref_core.specs.State.{seat, begun};
 
 use crate::call::LentCall;
-use crate::store::version::Version;
+use crate::store::version::is_alive;
 use std::alloc::{AllocError, Global};
 
 /// What is kept of a client: how many numbered calls it has made, and the stamp at its open query's begin.
@@ -18,12 +18,13 @@ pub struct Caller {
     pub begun: Option<u64>,
 }
 
-/// Whether an open query's begin sees the version.
-pub(crate) fn sees(caller: &Caller, version: &Version) -> bool
-    ensures { result ≡ list_any (λ stamp. is_visible stamp version.now) (option_to_list caller.now.begun) }
+/// Whether an open query's begin sees a version of this birth that ends then.
+#[inline(always)]
+pub(crate) fn sees(caller: &Caller, birth: u64, death: Option<u64>) -> bool
+    ensures { result ≡ list_any (λ stamp. nat_le birth stamp && not (has_ended stamp death)) (option_to_list caller.now.begun) }
 {
     match caller.begun {
-        Some(stamp) => version.is_visible_at(stamp),
+        Some(stamp) => is_alive(birth, death, stamp),
         None => false,
     }
 }

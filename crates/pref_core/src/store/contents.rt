@@ -2,7 +2,7 @@
 
 ghost use Rattle.std.specs.List.{count_by};
 ghost use Rattle.std.specs.Prelude.{ℕ, map, length, true, false, is_some, [], ◌∷◌, Some, None, slice_set, IfOk, IfSome, IfNone, ◌≡◌, ◌+◌, ◌^◌, ◌<◌, ◌≤◌};
-ghost use Rattle.pref_core.specs.Indexes.{slot_of, Points, IsPlaceOf, IsIndexOf};
+ghost use Rattle.pref_core.specs.Indexes.{row_at, slot_of, Points, IsPlaceOf, IsIndexOf};
 ghost use Rattle.pref_core.specs.Kept.{IsKept, IsFreed, AreFresh, row_in, frees_at, is_open, with_slots, zones_of};
 ghost use Rattle.pref_core.specs.Operations.{close, is_free, filled, is_next, refusal_at, slots_after, stepped, callers_after, used, grown};
 ghost use Rattle.pref_core.specs.Places.{is_free_zone};
@@ -11,17 +11,18 @@ ghost use Rattle.pref_core.specs.Slots.{stamps, begins, born, visible, opening_c
 ghost use Rattle.pref_core.specs.Stability.{is_end};
 ghost use Rattle.pref_core.specs.State.{ended, begun, added, is_change, succeeds};
 ghost use Rattle.pref_core.specs.Table.{among, has};
+ghost use Rattle.pref_core.specs.declared.call.Call.{Call};
 
 use crate::call::{LentCall, Planned, SlotList};
 use crate::index::Index;
 use crate::setup::Setup;
 use crate::store::caller::{Caller, count, idle};
 use crate::store::links::{Links, home_of};
-use crate::store::needs::zone_of;
+use crate::store::needs::{is_freed, zone_of};
 use crate::store::opening::opening;
 use crate::store::places::{Places, any_but};
 use crate::store::reads::stands_at;
-use crate::store::version::{Version, born, closed, ended};
+use crate::store::version::{Version, born, end};
 use pref_sky::Entry;
 use pref_table::Row;
 use std::alloc::{AllocError, Global};
@@ -153,10 +154,7 @@ impl Contents {
         ensures { result ≡ frees_at (begins self.now.callers) (ended call.now) (self.now.stamp + 1) self.now.slots place }
     {
         match self.slots.get(place as usize) {
-            Some(slot) => {
-                let slot = closed(*slot, call, self.stamp + 1);
-                zone_of(slot, &self.callers).is_free()
-            }
+            Some(slot) => is_freed(slot, call, self.stamp + 1, &self.callers),
             None => false,
         }
     }
@@ -222,8 +220,34 @@ impl Contents {
         let first = self.next_id;
         self.stamp += 1;
         self.next_id += op.call.added();
-        self.end_rows(op.call);
-        self.begin_rows(first, op);
+        match self.kept_slot(op) {
+            Some((id, row, place)) => self.replace(id, row, place),
+            None => {
+                self.end_rows(op.call);
+                self.begin_rows(first, op);
+            }
+        }
+    }
+
+    /// The id and the row of an update, and the slot of its row, where it stays there.
+    #[inline(always)]
+    fn kept_slot<'b>(&self, op: &Planned<'b>) -> Option<(u64, &'b Row, u32)>
+        ensures { IfSome result (λ kept. (op.now.call.now ≡ Call.Update kept.0 kept.1.now) × (op.now.slots ≡ kept.2 ∷ []) × (row_at self.now.stamp kept.0 self.now.slots kept.2 ≡ true)) }
+    {
+        let (id, row) = op.call.updated()?;
+        match op.slots.as_slice() {
+            [place] if stands_at(&self.slots, *place, self.stamp, id) => Some((id, row, *place)),
+            _ => None,
+        }
+    }
+
+    /// A row is replaced where it stands, so nothing else changes: neither what its place is used for nor where it is found.
+    #[inline(always)]
+    fn replace(&mut self, id: u64, row: &Row, place: u32)
+        requires { row_at self.old.stamp id self.old.slots place ≡ true }
+        ensures { self.new ≡ with_slots (slice_set self.old.slots place (born self.old.stamp (record { id = id; row = row.now }))) self.old }
+    {
+        self.slots[place as usize] = born(Entry { id, row: *row }, self.stamp);
     }
 
     /// Ends all rows that the call ends.
@@ -245,11 +269,8 @@ impl Contents {
         let Some(place) = self.links.take(&self.slots, stamp, id) else {
             return;
         };
-        let Some(version) = self.slots[place as usize] else {
-            unreachable!()
-        };
-        self.slots[place as usize] = ended(version, stamp);
-        let zone = zone_of(self.slots[place as usize], &self.callers);
+        end(&mut self.slots[place as usize], stamp);
+        let zone = zone_of(&self.slots[place as usize], &self.callers);
         self.places.close(place, zone);
     }
 

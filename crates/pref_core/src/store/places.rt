@@ -258,7 +258,7 @@ fn sweep(
 {
     for at in *free..held {
         let place = order[at as usize];
-        if zone_of(slots[place as usize], callers).is_free() {
+        if zone_of(&slots[place as usize], callers).is_free() {
             move_to(order, positions, place, *free);
             *free += 1;
         }

@@ -1,11 +1,9 @@
 //! Versions of rows.
 
-ghost use Rattle.std.specs.Prelude.{◌≡◌, Some};
-ghost use Rattle.pref_core.specs.Operations.{close};
-ghost use Rattle.pref_core.specs.Slots.{is_visible, born};
-ghost use Rattle.pref_core.specs.State.{ended};
+ghost use Rattle.std.specs.Prelude.{◌≡◌, ◌&&◌, Some, nat_le, not, option_map};
+ghost use Rattle.pref_core.specs.Slots.{born, has_ended, is_visible};
+ghost use Rattle.pref_core.specs.declared.store.version.Version.{Version};
 
-use crate::call::LentCall;
 use pref_sky::Entry;
 use pref_table::Row;
 
@@ -22,30 +20,26 @@ impl Version {
     pub fn is_visible_at(&self, stamp: u64) -> bool
         ensures { result ≡ is_visible stamp self.now }
     {
-        self.birth <= stamp && !self.death.is_some_and(|death| death <= stamp)
+        is_alive(self.birth, self.death, stamp)
     }
 }
 
-/// The slot after a commit by this call.
+/// Whether what begins and ends then has begun at a stamp, and not ended.
 #[inline(always)]
-pub(crate) fn closed(slot: Option<Version>, call: &LentCall<'_>, stamp: u64) -> Option<Version>
-    ensures { result ≡ close (ended call.now) stamp slot }
+pub(crate) fn is_alive(birth: u64, death: Option<u64>, stamp: u64) -> bool
+    ensures { result ≡ (nat_le birth stamp && not (has_ended stamp death)) }
 {
-    match slot {
-        Some(version) if version.death.is_none() && call.ends(version.id) => ended(version, stamp),
-        other => other,
-    }
+    birth <= stamp && !death.is_some_and(|death| death <= stamp)
 }
 
-/// A version that ends.
+/// The version that a slot holds ends. Nothing else of the slot is written.
 #[inline(always)]
-pub(crate) fn ended(version: Version, stamp: u64) -> Option<Version>
-    ensures { result ≡ Some (record version { death = Some stamp }) }
+pub(crate) fn end(slot: &mut Option<Version>, stamp: u64)
+    ensures { slot.new ≡ option_map (λ (version : Version). record version { death = Some stamp }) slot.old }
 {
-    Some(Version {
-        death: Some(stamp),
-        ..version
-    })
+    if let Some(version) = slot {
+        version.death = Some(stamp);
+    }
 }
 
 /// A version that begins.

@@ -1,10 +1,12 @@
-use Rattle.std.proofs.Common.{◌≡◌, suc, ◌+◌, sym, ap, ap₂, ◌∙◌, subst, is_some, arith}
+use Rattle.std.proofs.Common.{◌≡◌, suc, ◌+◌, set, Some, sym, ap, ap₂, ◌∙◌, subst, is_some, arith}
+use Rattle.pref_sky.specs.declared.entry.Entry.{Entry}
+use Rattle.pref_core.specs.Indexes.{row_at}
 use Rattle.pref_core.specs.Kept.{IsTracked, with_slots}
-use Rattle.pref_core.specs.Slots.{Contents}
+use Rattle.pref_core.specs.Slots.{Contents, born}
 use Rattle.pref_core.specs.State.{added}
 use Rattle.pref_core.proofs.Bounds.{stamp-small, next_id-small, added-small}
 use Rattle.pref_core.proofs.Applied.{IsAllowed-from}
-use Rattle.pref_core.proofs.Filling.{commit_fresh, commit_filled}
+use Rattle.pref_core.proofs.Filling.{commit_fresh, commit_filled, commit_replaced}
 use Rattle.pref_core.proofs.Linked.{tracked_next}
 use Rattle.pref_core.specs.Planned.{op_of}
 use Rattle.pref_core.proofs.store.contents.Contents.commit.Goals as goal
@@ -50,8 +52,8 @@ begin_rows-requires-clause-fresh c =
 pub begin_rows-requires-clause-small : goal.begin_rows-requires-clause-small
 begin_rows-requires-clause-small c = let small = next_id-small _ c.requires.kept.bounded in let same = ap (λ (s : Contents). s.next_id) c.self.view_is in omega (arith, same)
 
-pub returns-clause-slots : goal.returns-clause-slots
-returns-clause-slots c =
+pub returns-in-None-clause-slots : goal.returns-in-None-clause-slots
+returns-in-None-clause-slots c =
     let slots = ap (λ (s : Contents). s.slots) c.self.view_is in
     let callers = ap (λ (s : Contents). s.callers) c.self.view_is in
     let stamp : c.self.inside.stamp + 1 ≡ suc c.args.self.now.stamp = let same = ap (λ (s : Contents). s.stamp) c.self.view_is in omega (arith, same) in
@@ -60,10 +62,21 @@ returns-clause-slots c =
     sym (commit_filled c.args.self.now _ c.end_rows.new.self (op_of c.args.op.now) c.self.inside.next_id (λ i. record { slots = slots i; stamp = stamp i; next_id = next i; callers = callers i }) first c.end_rows.ensures c.requires.change c.requires.succeeds)
     ∙ c.begin_rows.ensures.slots
 
-pub returns-clause-rest : goal.returns-clause-rest
-returns-clause-rest c =
+pub returns-in-None-clause-rest : goal.returns-in-None-clause-rest
+returns-in-None-clause-rest c =
     let callers = ap (λ (s : Contents). s.callers) c.self.view_is in
     let stamp : c.self.inside.stamp + 1 ≡ c.args.self.now.stamp + 1 = ap (λ (s : Contents). s.stamp + 1) c.self.view_is in
     let next : c.self.inside.next_id + c.added.result ≡ c.args.self.now.next_id + added c.args.op.now.call.now = ap₂ (λ a b. a + b) (ap (λ (s : Contents). s.next_id) c.self.view_is) c.added.ensures in
     c.begin_rows.ensures.rest ∙ ap (λ e. with_slots c.begin_rows.new.self.slots e) c.end_rows.ensures
     ∙ (λ i. record { slots = c.begin_rows.new.self.slots; stamp = stamp i; next_id = next i; callers = callers i })
+
+pub returns-in-Some-clause-slots : goal.returns-in-Some-clause-slots
+returns-in-Some-clause-slots c =
+    let now = c.self.inside in
+    let entry : Entry = record { id = c.in-Some.id; row = c.in-Some.row.now } in
+    let told = c.in-Some.ensures {u = tt} in
+    let slots = ap (λ (s : Contents). s.slots) c.self.view_is in
+    let stamp : now.stamp + 1 ≡ suc c.args.self.now.stamp = let same = ap (λ (s : Contents). s.stamp) c.self.view_is in omega (arith, same) in
+    let row = sym (ap₂ (λ n l. row_at n entry.id l c.in-Some.place) stamp slots) ∙ told.2 in
+    commit_replaced c.args.self.now now.places now.links (op_of c.args.op.now) entry c.in-Some.place (subst (λ (s : Contents). IsTracked s now.places now.links) c.self.view_is c.self.invariant) told.0 told.1 row c.requires.change c.requires.succeeds c.requires.fits
+    ∙ ap Some (sym (ap (λ (s : Contents). s.slots) c.replace.ensures ∙ ap₂ (λ n l. set l c.in-Some.place (born n entry)) stamp slots))

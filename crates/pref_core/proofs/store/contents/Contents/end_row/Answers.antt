@@ -1,7 +1,9 @@
-use Rattle.std.proofs.Common.{[], ◌∷◌, map, set, Some, None, sym, ap, ap₂, ◌∙◌, subst, arith}
+use Rattle.std.proofs.Common.{◌≡◌, ℕ, ◌<◌, true, List, [], ◌∷◌, length, map, set, get_or, Option, Some, None, unwrap_or, sym, ap, ap₂, ◌∙◌, subst, arith}
+use Rattle.std.specs.Prelude.{option_map, slice_get}
 use Rattle.std.proofs.lemmas.Grind.{common_steps}
 use Rattle.std.proofs.lemmas.List.{get_or-set_same}
 use Rattle.std.proofs.lemmas.Option.{slice_get-get_or}
+use Rattle.pref_core.specs.declared.store.version.Version.{Version}
 use Rattle.pref_core.specs.Indexes.{row_at, IsPlaceOf}
 use Rattle.pref_core.specs.Kept.{IsTracked, with_slots}
 use Rattle.pref_core.specs.Links.{ids_of, AreLinks}
@@ -11,8 +13,27 @@ use Rattle.pref_core.specs.Slots.{Contents, begins}
 use Rattle.pref_core.proofs.Chains.{within_at}
 use Rattle.pref_core.proofs.Filling.{end_none, end_alive, end_slots, end_tracked}
 use Rattle.pref_core.proofs.Linking.{row_shown}
-use Rattle.pref_core.proofs.Zones.{row_there}
+use Rattle.pref_core.proofs.Zones.{row_version}
 use Rattle.pref_core.proofs.store.contents.Contents.end_row.Goals as goal
+use Rattle.pref_core.proofs.store.contents.Contents.end_row.Goals.{In-Some}
+
+shown : (c : In-Some) → row_at c.self.inside.stamp c.args.id c.self.inside.slots.items c.in-Some.place ≡ true
+shown c = ap (λ l. row_at c.self.inside.stamp c.args.id l c.in-Some.place) (sym c.deref.ensures.value) ∙ c.in-Some.ensures.place
+
+inside : (c : In-Some) → c.in-Some.place < length c.self.inside.slots.items
+inside c =
+    let now = c.self.inside in
+    within_at now.stamp now.slots.items c.in-Some.place c.args.id (row_shown now.stamp c.args.id now.slots.items c.in-Some.place (shown c))
+
+-- the version that ends
+found : (c : In-Some) → (version : Version) × (slice_get c.self.inside.slots.items c.in-Some.place ≡ Some (Some version))
+found c = let now = c.self.inside in row_version now.stamp c.args.id now.slots.items c.in-Some.place (shown c)
+
+-- its slot then
+ended : (slots : List (Option Version)) (place stamp : ℕ) (version : Version) (slot last : Option Version) → place < length slots → slice_get slots place ≡ Some (Some version)
+    → slot ≡ get_or slots place slot → last ≡ option_map (λ (v : Version). record v { death = Some stamp }) slot → last ≡ Some (record version { death = Some stamp })
+ended slots place stamp version slot last room at is told =
+    told ∙ ap (option_map (λ (v : Version). record v { death = Some stamp })) (is ∙ ap (λ o. unwrap_or o slot) (sym (slice_get-get_or slots place slot room) ∙ at))
 
 pub returns-in_default : goal.returns-in_default
 returns-in_default c =
@@ -21,61 +42,34 @@ returns-in_default c =
     (subst (λ l. IsPlaceOf now.stamp c.args.id l None) c.deref.ensures.value (subst (IsPlaceOf now.stamp c.args.id c.deref.result.now) c.in_default.is c.take.ensures.place))
     ∙ ap (λ (s : Contents). with_slots (map (close (c.args.id ∷ []) s.stamp) s.slots) s) c.self.view_is
 
-pub index-requires : goal.index-requires
-index-requires c =
-    let now = c.self.inside in
-    let shows = ap (λ l. row_at now.stamp c.args.id l c.in-Some.place) (sym c.deref.ensures.value) ∙ c.in-Some.ensures.place in
-    let room = within_at now.stamp now.slots.items c.in-Some.place c.args.id (row_shown now.stamp c.args.id now.slots.items c.in-Some.place shows) in
-    grind (arith, common_steps, room)
-
-pub unreachable-requires : goal.unreachable-requires
-unreachable-requires c =
-    let now = c.self.inside in
-    let shows = ap (λ l. row_at now.stamp c.args.id l c.in-Some.place) (sym c.deref.ensures.value) ∙ c.in-Some.ensures.place in
-    let room = within_at now.stamp now.slots.items c.in-Some.place c.args.id (row_shown now.stamp c.args.id now.slots.items c.in-Some.place shows) in
-    row_there now.stamp c.args.id now.slots.items c.in-Some.place shows (slice_get-get_or now.slots.items c.in-Some.place _ room ∙ ap Some (sym c.index.ensures ∙ c.in_default-index.is))
-
 pub index_mut-requires : goal.index_mut-requires
-index_mut-requires c =
-    let now = c.self.inside in
-    let shows = ap (λ l. row_at now.stamp c.args.id l c.in-Some.place) (sym c.deref.ensures.value) ∙ c.in-Some.ensures.place in
-    let room = within_at now.stamp now.slots.items c.in-Some.place c.args.id (row_shown now.stamp c.args.id now.slots.items c.in-Some.place shows) in
-    grind (arith, common_steps, room)
+index_mut-requires c = let room = inside (goal.at.index_mut-requires c).In-Some in grind (arith, common_steps, room)
 
-pub index-requires-2 : goal.index-requires-2
-index-requires-2 c =
-    let now = c.self.inside in
-    let shows = ap (λ l. row_at now.stamp c.args.id l c.in-Some.place) (sym c.deref.ensures.value) ∙ c.in-Some.ensures.place in
-    let room = within_at now.stamp now.slots.items c.in-Some.place c.args.id (row_shown now.stamp c.args.id now.slots.items c.in-Some.place shows) in
-    grind (arith, common_steps, room)
+pub index-requires : goal.index-requires
+index-requires c = let room = inside (goal.at.index-requires c).In-Some in grind (arith, common_steps, room)
 
 pub close-requires : goal.close-requires
 close-requires c =
     let now = c.self.inside in
-    let shows = ap (λ l. row_at now.stamp c.args.id l c.in-Some.place) (sym c.deref.ensures.value) ∙ c.in-Some.ensures.place in
-    let room = within_at now.stamp now.slots.items c.in-Some.place c.args.id (row_shown now.stamp c.args.id now.slots.items c.in-Some.place shows) in
-    let at = slice_get-get_or now.slots.items c.in-Some.place _ room ∙ ap Some (sym c.index.ensures ∙ c.in-Some-index.is) in
-    end_alive _ now.places now.links c.args.id c.in-Some.place c.in-Some-index.version c.self.invariant shows at
+    let some = (goal.at.close-requires c).In-Some in
+    end_alive _ now.places now.links c.args.id c.in-Some.place (found some).0 c.self.invariant (shown some) (found some).1
 
 pub invariant_of-self-2 : goal.invariant_of-self-2
 invariant_of-self-2 c =
     let now = c.self.inside in
     let contents : Contents = record { slots = now.slots.items; stamp = now.stamp; next_id = now.next_id; callers = now.callers.items } in
-    let shows = ap (λ l. row_at now.stamp c.args.id l c.in-Some.place) (sym c.deref.ensures.value) ∙ c.in-Some.ensures.place in
-    let room = within_at now.stamp now.slots.items c.in-Some.place c.args.id (row_shown now.stamp c.args.id now.slots.items c.in-Some.place shows) in
-    let at = slice_get-get_or now.slots.items c.in-Some.place _ room ∙ ap Some (sym c.index.ensures ∙ c.in-Some-index.is) in
+    let some = (goal.at.invariant_of-self-2 c).In-Some in
+    let last = ended now.slots.items c.in-Some.place now.stamp (found some).0 c.index_mut.result.now c.end.new.slot (inside some) (found some).1 c.index_mut.ensures.value c.end.ensures in
     let linked = subst (λ l. AreLinks (set (ids_of now.stamp l) c.in-Some.place None) c.take.new.self) c.deref.ensures.value c.in-Some.ensures.some in
-    let zone = c.zone_of-zone.ensures ∙ ap₂ (λ callers slot. zone_of (begins callers) slot) c.deref-2.ensures.value (c.index-2.ensures ∙ get_or-set_same now.slots.items c.in-Some.place c.ended.result _ room ∙ c.ended.ensures) in
-    subst (λ r. IsTracked (with_slots (set now.slots.items c.in-Some.place r) contents) c.close.new.self c.take.new.self) (sym c.ended.ensures)
-    (end_tracked contents now.places now.links c.args.id c.in-Some.place c.in-Some-index.version c.self.invariant shows at c.zone_of-zone.result c.close.new.self c.take.new.self zone c.close.ensures linked)
+    let zone = c.zone_of-zone.ensures ∙ ap₂ (λ callers slot. zone_of (begins callers) slot) c.deref-2.ensures.value (c.index.ensures ∙ get_or-set_same now.slots.items c.in-Some.place c.end.new.slot _ (inside some) ∙ last) in
+    subst (λ r. IsTracked (with_slots (set now.slots.items c.in-Some.place r) contents) c.close.new.self c.take.new.self) (sym last)
+    (end_tracked contents now.places now.links c.args.id c.in-Some.place (found some).0 c.self.invariant (shown some) (found some).1 c.zone_of-zone.result c.close.new.self c.take.new.self zone c.close.ensures linked)
 
 pub returns : goal.returns
 returns c =
     let now = c.self.inside in
     let contents : Contents = record { slots = now.slots.items; stamp = now.stamp; next_id = now.next_id; callers = now.callers.items } in
-    let shows = ap (λ l. row_at now.stamp c.args.id l c.in-Some.place) (sym c.deref.ensures.value) ∙ c.in-Some.ensures.place in
-    let room = within_at now.stamp now.slots.items c.in-Some.place c.args.id (row_shown now.stamp c.args.id now.slots.items c.in-Some.place shows) in
-    let at = slice_get-get_or now.slots.items c.in-Some.place _ room ∙ ap Some (sym c.index.ensures ∙ c.in-Some-index.is) in
-    ap (λ r. with_slots (set now.slots.items c.in-Some.place r) contents) c.ended.ensures
-    ∙ ap (λ l. with_slots l contents) (end_slots contents now.places now.links c.args.id c.in-Some.place c.in-Some-index.version c.self.invariant shows at)
+    let some = (goal.at.returns c).In-Some in
+    ap (λ r. with_slots (set now.slots.items c.in-Some.place r) contents) (ended now.slots.items c.in-Some.place now.stamp (found some).0 c.index_mut.result.now c.end.new.slot (inside some) (found some).1 c.index_mut.ensures.value c.end.ensures)
+    ∙ ap (λ l. with_slots l contents) (end_slots contents now.places now.links c.args.id c.in-Some.place (found some).0 c.self.invariant (shown some) (found some).1)
     ∙ ap (λ (s : Contents). with_slots (map (close (c.args.id ∷ []) s.stamp) s.slots) s) c.self.view_is

@@ -1,0 +1,14 @@
+use Rattle.std.proofs.Common.{refl, ap, ◌∙◌}
+use Rattle.pref_core.specs.Indexes.{row_at}
+use Rattle.pref_core.specs.Slots.{Contents}
+use Rattle.pref_core.proofs.Filling.{replace_tracked}
+use Rattle.pref_core.proofs.Zones.{row_version}
+use Rattle.pref_core.proofs.store.contents.Contents.replace.Goals as goal
+
+pub invariant_of-self : goal.invariant_of-self
+invariant_of-self c =
+    let now = c.self.inside in
+    let contents : Contents = record { slots = now.slots.items; stamp = now.stamp; next_id = now.next_id; callers = now.callers.items } in
+    let shows = ap (λ (s : Contents). row_at s.stamp c.args.id s.slots c.args.place) c.self.view_is ∙ c.requires in
+    let found = row_version now.stamp c.args.id now.slots.items c.args.place shows in
+    replace_tracked contents now.places now.links c.args.id c.args.place found.0 c.self.invariant shows found.1 (record { id = c.args.id; row = c.args.row.now }) c.born.result refl c.born.ensures
