@@ -7,7 +7,8 @@ ghost use Rattle.std.specs.Prelude.{true, false, ◌≡◌, ◌<◌, length, Ok,
 ghost use Rattle.pref_core.specs.State.{is_change};
 ghost use Rattle.pref_core.specs.Step.{opened, told_of_commit};
 ghost use Rattle.pref_core.specs.Systems.{Replies, Running, StandsForSystem, Steps, is_refusal, without_event};
-ghost use Rattle.pref_core.specs.Parts.{Does, Changes, is_begin, replied, told_of};
+ghost use Rattle.pref_core.specs.Parts.{Does, Changes, is_begin, replied, told_of, with_reply};
+ghost use Rattle.pref_core.specs.declared.event.Reply.{Reply};
 
 use crate::call::{Call, LentCall, Outcome};
 use crate::changes::{Commit, added_by};
@@ -142,25 +143,23 @@ impl Machine {
     fn insert(&mut self, alloc: Global, client: u8, row: &Row) -> Result<Reply, CoreFault>
         ensures { Does self.old client (Act.Insert row.now) result self.new }
     {
-        let done = Reply::Inserted(self.store.next_id());
-        self.change(alloc, client, &LentCall::insert(row), done)
+        let id = self.store.next_id();
+        self.change(alloc, client, &LentCall::insert(row))?;
+        Ok(Reply::Inserted(id))
     }
 
     fn update(&mut self, alloc: Global, client: u8, id: u64, row: &Row) -> Result<Reply, CoreFault>
         ensures { Does self.old client (Act.Update id row.now) result self.new }
     {
-        self.change(
-            alloc,
-            client,
-            &LentCall::update(id, row),
-            Reply::Updated(id),
-        )
+        self.change(alloc, client, &LentCall::update(id, row))?;
+        Ok(Reply::Updated(id))
     }
 
     fn delete(&mut self, alloc: Global, client: u8, id: u64) -> Result<Reply, CoreFault>
         ensures { Does self.old client (Act.Delete id) result self.new }
     {
-        self.change(alloc, client, &LentCall::delete(id), Reply::Deleted(id))
+        self.change(alloc, client, &LentCall::delete(id))?;
+        Ok(Reply::Deleted(id))
     }
 
     fn commit(
@@ -172,21 +171,15 @@ impl Machine {
         ensures { Does self.old client (Act.Commit commit.now) result self.new }
     {
         let commit = commit.commit();
-        let done = Reply::Committed(told_of_commit(self.store.next_id(), commit));
-        self.change(alloc, client, &LentCall::commit(commit), done)
+        let done = told_of_commit(self.store.next_id(), commit);
+        self.change(alloc, client, &LentCall::commit(commit))?;
+        Ok(Reply::Committed(done))
     }
 
-    /// A change, and the reply where it succeeds.
-    fn change(
-        &mut self,
-        alloc: Global,
-        client: u8,
-        call: &LentCall<'_>,
-        done: Reply,
-    ) -> Result<Reply, CoreFault>
-        requires change { is_change call.now ≡ true }
-        requires quiet { is_refusal done ≡ false }
-        ensures { Changes self.old client call.now done result self.new }
+    /// A change. Where it succeeds, any reply that is no refusal can be what its act returns.
+    fn change(&mut self, alloc: Global, client: u8, call: &LentCall<'_>) -> Result<(), CoreFault>
+        requires { is_change call.now ≡ true }
+        ensures { (done : Reply) → is_refusal done ≡ false → Changes self.old client call.now done (with_reply done result) self.new }
     {
         let op = match self.store.plan_by(Some(&self.index), client, call) {
             Ok(op) => op,
@@ -194,7 +187,7 @@ impl Machine {
         };
         self.index.prepare(alloc, &op)?;
         self.store.apply_at(&mut self.index, &op);
-        told(op.outcome, done)
+        told(op.outcome)
     }
 
     /// A query begins. A refusal hands its ask back.
@@ -281,13 +274,13 @@ fn told_of_commit(next_id: u64, commit: &Commit) -> Committed
     }
 }
 
-/// The reply to a change by its outcome.
-fn told(outcome: Outcome, done: Reply) -> Result<Reply, CoreFault>
-    ensures { result ≡ told_of outcome done }
+/// What a change returns by its outcome.
+fn told(outcome: Outcome) -> Result<(), CoreFault>
+    ensures { (done : Reply) → with_reply done result ≡ told_of outcome done }
 {
     match outcome.refusal() {
         Some(fault) => Err(fault),
-        None => Ok(done),
+        None => Ok(()),
     }
 }
 

@@ -4,7 +4,8 @@ use Rattle.pref_core.specs.Operations.{IsPlan}
 use Rattle.pref_core.specs.Planned.{op_of}
 use Rattle.pref_core.specs.State.{added}
 use Rattle.pref_core.specs.Step.{state_of}
-use Rattle.pref_core.specs.Parts.{Changes}
+use Rattle.pref_core.specs.declared.event.Reply.TheVariants.{Abandoned}
+use Rattle.pref_core.specs.Parts.{Changes, with_reply}
 use Rattle.pref_core.proofs.Steps.{running_of}
 use Rattle.pref_core.proofs.Legal.{plans_in}
 use Rattle.pref_core.proofs.Doing.{change_done, change_not, change_unmade, in_order_changed}
@@ -12,10 +13,10 @@ use Rattle.pref_core.proofs.Reindexing.{adds_planned}
 use Rattle.pref_core.proofs.machine.Machine.change.Goals as goal
 
 pub returns-in-Err : goal.returns-in-Err
-returns-in-Err c =
-    subst (λ r. Changes r c.args.client c.args.call.now c.args.done (Err c.in-Err.fault) r) c.self.view_is
+returns-in-Err c done quiet =
+    subst (λ r. Changes r c.args.client c.args.call.now done (Err c.in-Err.fault) r) c.self.view_is
     (
-    change_not (running_of c.self.inside.store c.self.inside.setup c.self.inside.queries.items) c.args.client c.args.call.now c.args.done c.in-Err.fault c.requires.change
+    change_not (running_of c.self.inside.store c.self.inside.setup c.self.inside.queries.items) c.args.client c.args.call.now done c.in-Err.fault c.requires
     (λ state h. plans_in c.self.inside.store state c.args.client c.args.call.now (Err c.in-Err.fault) h c.in-Err.ensures)
     )
 
@@ -28,14 +29,14 @@ apply_at-requires c =
     }
 
 pub returns-in_err-prepare : goal.returns-in_err-prepare
-returns-in_err-prepare c =
+returns-in_err-prepare c done quiet =
     let plan = c.in-Ok.ensures in
     let adds : nat_lt 0 (added c.args.call.now) ≡ true = subst (λ call. nat_lt 0 (added call) ≡ true) plan.what (adds_planned c.self.inside.store (op_of c.in-Ok.op) plan.next c.in_err-prepare.ensures.refused) in
     let is : c.from_residual.result ≡ Err OutOfMemory = search rules in
-    subst (λ t. Changes c.args.self.now c.args.client c.args.call.now c.args.done t (running_of c.self.inside.store c.self.inside.setup c.self.inside.queries.items)) (sym is)
+    subst (λ t. Changes c.args.self.now c.args.client c.args.call.now done (with_reply done t) (running_of c.self.inside.store c.self.inside.setup c.self.inside.queries.items)) (sym is)
     (
-    subst (λ r. Changes r c.args.client c.args.call.now c.args.done (Err OutOfMemory) (running_of c.self.inside.store c.self.inside.setup c.self.inside.queries.items)) c.self.view_is
-    (change_unmade (running_of c.self.inside.store c.self.inside.setup c.self.inside.queries.items) c.args.client c.args.call.now c.args.done (op_of c.in-Ok.op) c.requires.quiet c.in_err-prepare.ensures.refused (λ state h. plans_in c.self.inside.store state c.args.client c.args.call.now (Ok (op_of c.in-Ok.op)) h c.in-Ok.ensures) adds)
+    subst (λ r. Changes r c.args.client c.args.call.now done (Err OutOfMemory) (running_of c.self.inside.store c.self.inside.setup c.self.inside.queries.items)) c.self.view_is
+    (change_unmade (running_of c.self.inside.store c.self.inside.setup c.self.inside.queries.items) c.args.client c.args.call.now done (op_of c.in-Ok.op) quiet c.in_err-prepare.ensures.refused (λ state h. plans_in c.self.inside.store state c.args.client c.args.call.now (Ok (op_of c.in-Ok.op)) h c.in-Ok.ensures) adds)
     )
 
 pub invariant_of-self : goal.invariant_of-self
@@ -49,15 +50,15 @@ invariant_of-self c =
     }
 
 pub returns : goal.returns
-returns c =
+returns c done quiet =
     let old = running_of c.self.inside.store c.self.inside.setup c.self.inside.queries.items in
-    let base = change_done old c.args.client c.args.call.now c.args.done (op_of c.in-Ok.op) c.apply_at.new.self c.requires.change c.requires.quiet (λ state h. plans_in c.self.inside.store state c.args.client c.args.call.now (Ok (op_of c.in-Ok.op)) h c.in-Ok.ensures) c.apply_at.ensures.exact in
-    let told = subst (λ t. Changes old c.args.client c.args.call.now c.args.done t (running_of c.apply_at.new.self c.self.inside.setup c.self.inside.queries.items)) (sym c.told.ensures) base in
-    subst (λ r. Changes r c.args.client c.args.call.now c.args.done c.told.result (running_of c.apply_at.new.self c.self.inside.setup c.self.inside.queries.items)) c.self.view_is told
+    let base = change_done old c.args.client c.args.call.now done (op_of c.in-Ok.op) c.apply_at.new.self c.requires quiet (λ state h. plans_in c.self.inside.store state c.args.client c.args.call.now (Ok (op_of c.in-Ok.op)) h c.in-Ok.ensures) c.apply_at.ensures.exact in
+    let told = subst (λ t. Changes old c.args.client c.args.call.now done t (running_of c.apply_at.new.self c.self.inside.setup c.self.inside.queries.items)) (sym (c.told.ensures done)) base in
+    subst (λ r. Changes r c.args.client c.args.call.now done (with_reply done c.told.result) (running_of c.apply_at.new.self c.self.inside.setup c.self.inside.queries.items)) c.self.view_is told
 
 pub invariant_of-self-2 : goal.invariant_of-self-2
 invariant_of-self-2 c =
     let old = running_of c.self.inside.store c.self.inside.setup c.self.inside.queries.items in
-    in_order_changed old _ c.self.inside.index c.apply_at.new.index c.args.client c.args.call.now c.args.done _ c.self.invariant
-    (change_done old c.args.client c.args.call.now c.args.done (op_of c.in-Ok.op) c.apply_at.new.self c.requires.change c.requires.quiet (λ state h. plans_in c.self.inside.store state c.args.client c.args.call.now (Ok (op_of c.in-Ok.op)) h c.in-Ok.ensures) c.apply_at.ensures.exact)
+    in_order_changed old _ c.self.inside.index c.apply_at.new.index c.args.client c.args.call.now Abandoned _ c.self.invariant
+    (change_done old c.args.client c.args.call.now Abandoned (op_of c.in-Ok.op) c.apply_at.new.self c.requires refl (λ state h. plans_in c.self.inside.store state c.args.client c.args.call.now (Ok (op_of c.in-Ok.op)) h c.in-Ok.ensures) c.apply_at.ensures.exact)
     c.apply_at.ensures.index
