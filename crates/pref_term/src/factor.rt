@@ -5,7 +5,7 @@ ghost use Rattle.pref_term.specs.Better.{outside};
 ghost use Rattle.pref_term.specs.Columns.{ReadsBelow};
 ghost use Rattle.pref_term.specs.Factors.{AreFactorsOf, AreInRow, EndsInFactorsOf, by_factors, in_sense, opposite, preference_of_factor, sides_in_sense};
 ghost use Rattle.pref_term.specs.Preference.{Preference, preference_of};
-ghost use Rattle.pref_term.specs.Walk.{by_scores, by_sides, walked};
+ghost use Rattle.pref_term.specs.Walk.{by_scores, by_sides, in_product, walked};
 
 use crate::relation::Relation;
 use crate::term::Term;
@@ -106,6 +106,12 @@ impl Factor {
             Sense::Direct => self,
             Sense::Reversed => self.converse(),
         }
+    }
+
+    /// Whether the factor takes distances, and not values as they are.
+    #[inline(always)]
+    fn takes_distances(self) -> bool {
+        matches!(self, Factor::Distance { .. } | Factor::Range { .. })
     }
 
     /// How the first row compares with the second one by this factor.
@@ -251,7 +257,8 @@ fn with_factor(
 
 /// How the first row compares with the second one by the product of these factors.
 ///
-/// One loop, which stops at the first factor after which neither row can be better. Takes no memory.
+/// One loop, which stops at the first factor after which neither row can be better. A factor that takes distances, and those behind it,
+/// are left to a call, so that the loop over values alone keeps all that it needs in few registers. Takes no memory.
 #[inline]
 pub(crate) fn compare_by_factors(factors: &[Factor], a: &Row, b: &Row) -> Relation
     requires { AreInRow factors.now }
@@ -259,12 +266,39 @@ pub(crate) fn compare_by_factors(factors: &[Factor], a: &Row, b: &Row) -> Relati
 {
     let mut better = false;
     let mut worse = false;
-    for factor in factors {
+    for (place, factor) in factors.iter().enumerate() {
+        if factor.takes_distances() {
+            return compare_beside(better, worse, &factors[place..], a, b);
+        }
         let (first, second) = factor.sides(a, b);
         better |= first;
         worse |= second;
         if better && worse {
             return Relation::Neither;
+        }
+    }
+    Relation::by_sides(better, worse)
+}
+
+/// How the first row compares with the second one by the product of these factors with others, by which the first row is better or the
+/// second is.
+#[inline(never)]
+fn compare_beside(
+    mut better: bool,
+    mut worse: bool,
+    factors: &[Factor],
+    a: &Row,
+    b: &Row,
+) -> Relation
+    requires { AreInRow factors.now }
+    ensures { result ≡ in_product (by_sides better worse) (by_factors factors.now a.now b.now) }
+{
+    for factor in factors {
+        let sides = factor.sides(a, b);
+        better |= sides.0;
+        worse |= sides.1;
+        if better && worse {
+            break;
         }
     }
     Relation::by_sides(better, worse)
