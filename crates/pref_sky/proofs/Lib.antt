@@ -32,3 +32,4 @@ pub mod PartLaws
 pub mod Listings
 pub mod PartSteps
 pub mod PartLoops
+pub mod FirstLevels

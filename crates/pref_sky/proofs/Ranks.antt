@@ -118,7 +118,7 @@ levels_upto_is over all zero = refl
 levels_upto_is over all (suc n) = ap (λ l. l ++ one_level (suc n) (best over (rest over all n))) (levels_upto_is over all n)
 
 -- held levels
-take_level : (k n m : ℕ) (held : List Level) → m ≡ k + n → ranked_from k (take (suc n) held) ≡ ranked_from k (take n held) ++ one_level m (held_at n held)
+pub take_level : (k n m : ℕ) (held : List Level) → m ≡ k + n → ranked_from k (take (suc n) held) ≡ ranked_from k (take n held) ++ one_level m (held_at n held)
 take_level k zero m [] at = refl
 take_level k zero m (level ∷ behind) at =
     let same : k ≡ m = omega (arith, at) in
@@ -128,7 +128,7 @@ take_level k (suc n) m (level ∷ behind) at =
     let one = one_level k level.entries.items in
     ap (λ l. one ++ l) (take_level (suc k) n m behind (omega (arith, at))) ∙ sym (append_assoc one (ranked_from (suc k) (take n behind)) (one_level m (held_at n behind)))
 
-take_upto : (held : List Level) (n : ℕ) → ranked_from 1 (take n held) ≡ ranked_upto (λ k. held_at k held) n
+pub take_upto : (held : List Level) (n : ℕ) → ranked_from 1 (take n held) ≡ ranked_upto (λ k. held_at k held) n
 take_upto held zero = refl
 take_upto held (suc n) = let next : suc n ≡ 1 + n = omega arith in take_level 1 n (suc n) held next ∙ ap (λ l. l ++ one_level (suc n) (held_at n held)) (take_upto held n)
 

@@ -1,17 +1,19 @@
 //! The answer of an ask, from a partial result.
 
-ghost use Rattle.std.specs.Prelude.{◌≡◌, ◌<◌, ◌≤◌, ◌++◌, Bool, List, length, map, nat_lt, count_by, filter, IfOk, OnOk, All};
+ghost use Rattle.std.specs.Prelude.{◌≡◌, ◌<◌, ◌≤◌, ◌++◌, [], Bool, take, List, length, map, nat_lt, count_by, filter, IfOk, OnOk, All};
 ghost use Rattle.pref_term.specs.AskOrder.{order_of};
 ghost use Rattle.pref_term.specs.Better.{in_same_group};
 ghost use Rattle.pref_term.specs.Question.{cut_of};
 ghost use Rattle.pref_sky.specs.Answers.{answer_of, at_least, count_before};
 ghost use Rattle.pref_sky.specs.Levels.{entry_order, levels};
 ghost use Rattle.pref_sky.specs.Meetings.{length_of_level};
+ghost use Rattle.pref_sky.specs.Partials.{ranked_from};
 ghost use Rattle.pref_sky.specs.declared.entry.Entry.{Entry};
 ghost use Rattle.pref_sky.specs.declared.entry.Ranked.{Ranked};
 
 use crate::entry::Ranked;
-use crate::partial::Partial;
+use crate::level::Level;
+use crate::partial::{Partial, ranked_of};
 use pref_term::{Ask, Mode, in_same_group};
 use std::alloc::{AllocError, Global};
 
@@ -110,19 +112,38 @@ fn at_least(
     Ok(ranked)
 }
 
+/// The first of these levels that hold so many entries together; all where they hold fewer.
+fn first_levels(levels: &[Level], least: usize) -> &[Level]
+    ensures first { result.now ≡ take (length result.now) levels.now }
+    ensures enough { ranked_from 1 result.now ≡ at_least (in_same_group []) least (ranked_from 1 levels.now) }
+{
+    let mut left = least;
+    for (place, level) in levels.iter().enumerate() {
+        if left == 0 {
+            return &levels[..place];
+        }
+        left = left.saturating_sub(level.entries.len());
+    }
+    levels
+}
+
 /// The answer of an ask, in order of level, then id, from a partial result at [`Ask::cut`]: where this
 /// holds the levels up to the cut of some entries, it is the ask's selection from all of them.
 ///
-/// Cost: that of [`Partial::ranked`]. For "at least" each held entry is also compared by its group's
-/// columns with those on the levels before, until `k` of its group are found. Memory: that of
-/// `Partial::ranked`, and for "at least" a byte for each held entry. `Err` is out of memory.
+/// Cost: that of [`Partial::ranked`], and for "at least" without groups that of the levels that are told. For "at least" in groups
+/// each held entry is also compared by its group's columns with those on the levels before, until `k` of its group are found. Memory:
+/// the list alone, and for "at least" in groups a byte for each held entry. `Err` is out of memory.
 pub fn answer(alloc: Global, ask: &Ask, partial: &Partial) -> Result<Vec<Ranked>, AllocError>
     ensures { (entries : List Entry) → partial.now ≡ levels (entry_order (order_of ask.now)) entries (cut_of ask.now.mode)
         → IfOk result (λ ranked. ranked.items ≡ answer_of ask.now entries) }
 {
-    let ranked = partial.ranked(alloc)?;
     match ask.mode() {
-        Mode::Best | Mode::TopLevel(_) => Ok(ranked),
-        Mode::AtLeast(k) => at_least(alloc, ask.group(), k, ranked),
+        Mode::Best | Mode::TopLevel(_) => partial.ranked(alloc),
+        Mode::AtLeast(k) => match partial.levels() {
+            Some(levels) if ask.group().is_empty() => {
+                ranked_of(alloc, first_levels(levels, k as usize))
+            }
+            _ => at_least(alloc, ask.group(), k, partial.ranked(alloc)?),
+        },
     }
 }

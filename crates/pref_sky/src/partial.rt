@@ -51,7 +51,7 @@ impl Model for Partial {
 }
 
 /// The entries of levels, in order of level, then id.
-fn ranked_of(alloc: Global, levels: &[Level]) -> Result<Vec<Ranked>, AllocError>
+pub(crate) fn ranked_of(alloc: Global, levels: &[Level]) -> Result<Vec<Ranked>, AllocError>
     requires ids { HaveDifferentIds (map entry_of (ranked_from 1 levels.now)) }
     requires bound { length levels.now < 2 ^ 32 }
     ensures { IfOk result (λ ranked. ranked.items ≡ ranked_from 1 levels.now) }
@@ -112,8 +112,9 @@ fn added_together<D: Dominance>(
 }
 
 impl Partial {
-    ghost use Rattle.std.specs.Prelude.{◌≡◌, ◌<◌, ◌++◌, [], ℕ, Bool, map, List, IfOk, OnOk, OnErr};
+    ghost use Rattle.std.specs.Prelude.{◌≡◌, ◌<◌, ◌++◌, ◌^◌, [], ℕ, Bool, length, map, List, IfOk, IfSome, OnOk, OnErr};
     ghost use Rattle.pref_sky.specs.Levels.{HaveDifferentIds, entry_order, entry_of, levels};
+    ghost use Rattle.pref_sky.specs.Partials.{ranked_from};
     ghost use Rattle.pref_sky.specs.declared.entry.Entry.{Entry};
 
     /// What is held before anything was added: the levels of no entries. Takes no memory.
@@ -138,6 +139,17 @@ impl Partial {
             Held::Nothing => Ok(Vec::new(alloc)),
             Held::Whole(part) => ranked_of(alloc, &part.levels),
             Held::Apart(parts) => parts.ranked(alloc),
+        }
+    }
+
+    /// The levels, where all entries are held together and not in parts.
+    pub(crate) fn levels(&self) -> Option<&[Level]>
+        ensures held { IfSome result (λ levels. (ranked_from 1 levels.now ≡ self.now) × (length levels.now < 2 ^ 32)) }
+        ensures ids { HaveDifferentIds (map entry_of self.now) }
+    {
+        match &self.held {
+            Held::Whole(part) => Some(&part.levels),
+            Held::Nothing | Held::Apart(_) => None,
         }
     }
 

@@ -55,6 +55,18 @@ fn at_least_five_of_nine_rows(rt: HostRuntime) -> Result<(), Fail> {
 }
 
 #[test]
+fn at_least_four_of_nine_rows(rt: HostRuntime) -> Result<(), Fail> {
+    let two_levels = [(1, 1), (1, 7), (2, 6), (2, 8)];
+    check_answer(
+        &rt,
+        rt.alloc(),
+        b"at_least 4 low(x) * low(y)",
+        &PAIRS,
+        &two_levels,
+    )
+}
+
+#[test]
 fn top_two_levels_of_nine_rows(rt: HostRuntime) -> Result<(), Fail> {
     let places = [(1, 1), (1, 7), (2, 6), (2, 8)];
     check_answer(
