@@ -1,9 +1,10 @@
 -- No public contract cites this.
 -- Where new entries start: behind the levels that dominate them.
-use Rattle.std.specs.Prelude.{⊤, ◌≡◌, ◌==◌, ◌≤◌, ◌<◌, ℕ, suc, Bool, true, false, cond, List, [], ◌∷◌}
+use Rattle.std.specs.Prelude.{⊤, ◌≡◌, ◌==◌, ◌≤◌, ◌<◌, ◌⊎◌, ℕ, suc, Bool, true, false, cond, List, [], ◌∷◌}
 use Rattle.pref_sky.specs.declared.entry.Entry.{Entry}
 use Rattle.pref_sky.specs.declared.level.Level.{Level}
 use Rattle.pref_sky.specs.Best.{is_beaten}
+use Rattle.pref_sky.specs.Members.{Among}
 use Rattle.pref_sky.specs.Partials.{held_at}
 use Rattle.pref_sky.specs.Passes.{IsApart}
 
@@ -23,6 +24,10 @@ StartAt over levels cut [] [] = ⊤
 StartAt over levels cut [] (s ∷ starts) = ⊥
 StartAt over levels cut (e ∷ entries) [] = ⊥
 StartAt over levels cut (e ∷ entries) (s ∷ starts) = Start over levels cut e s × StartAt over levels cut entries starts
+
+-- each of these starts behind fewer levels than so many, or where the cut is
+abbrev pub StartWithin : ℕ → ℕ → List ℕ → Type 0
+StartWithin last cut starts = (s : ℕ) → Among s starts → (s < last) ⊎ (cut ≤ s)
 
 -- the entries whose start passes a test
 abbrev pub chosen : (ℕ → Bool) → List Entry → List ℕ → List Entry

@@ -10,7 +10,7 @@ ghost use Rattle.pref_sky.specs.Members.{Among, SameMembers};
 ghost use Rattle.pref_sky.specs.Partials.{AreMoved, HasRoom, HasRoomAt, HaveRoom, HoldTheSame, Opened, Reordered, held_at, ranked_after, ranked_from, stepped};
 ghost use Rattle.pref_sky.specs.Passes.{IsApart};
 ghost use Rattle.pref_sky.specs.Signatures.{AreSigned, AreSignedBy, IsSignedBy, LevelsAreSigned, Moved, StepsAreSignedBy, signature_by};
-ghost use Rattle.pref_sky.specs.Starts.{AreApart, Start, StartAt, starting};
+ghost use Rattle.pref_sky.specs.Starts.{AreApart, Start, StartAt, StartWithin, starting};
 ghost use Rattle.pref_sky.specs.declared.entry.Entry.{Entry};
 
 use crate::best::best_of_signed;
@@ -212,7 +212,16 @@ fn start_of<D: Dominance>(
     start_before(dominance, held, cut, high - 1, entry, signature)
 }
 
-/// For each entry, how many of the first levels dominate it, up to the cut.
+/// Where new entries start.
+#[derive(Drop)]
+struct Starts {
+    /// For each entry, how many of the first levels dominate it, up to the cut.
+    starts: Vec<usize>,
+    /// Each entry that starts above the cut starts behind fewer levels than this.
+    last: usize,
+}
+
+/// Where entries start.
 #[inline(never)]
 fn starts_of<D: Dominance>(
     alloc: Global,
@@ -221,31 +230,24 @@ fn starts_of<D: Dominance>(
     cut: u32,
     entries: &[Entry],
     signatures: &[u64],
-) -> Result<Vec<usize>, AllocError>
+) -> Result<Starts, AllocError>
     requires { LevelsAreSigned (entry_order (D.order dominance.now)) held.old.items entries.now signatures.now }
     ensures moved { AreMoved held.old.items held.new.items }
     ensures start { let over = entry_order (D.order dominance.now) in
-        IfOk result (λ starts. AreApart over held.old.items → StartAt over held.old.items cut entries.now starts.items) }
-    ensures long { IfOk result (λ starts. length starts.items ≡ length entries.now) }
+        IfOk result (λ found. AreApart over held.old.items → StartAt over held.old.items cut entries.now found.starts.items) }
+    ensures long { IfOk result (λ found. length found.starts.items ≡ length entries.now) }
+    ensures last { IfOk result (λ found. StartWithin found.last cut found.starts.items) }
 {
     let mut starts = Vec::with_capacity(alloc, entries.len())?;
-    for (place, entry) in entries.iter().enumerate() {
-        starts.push(start_of(dominance, held, cut, entry, signatures[place]))?;
-    }
-    Ok(starts)
-}
-
-/// Behind how many levels no new entry starts, up to the cut.
-fn last_start(starts: &[usize], cut: u32) -> usize
-    ensures { (s : ℕ) → Among s starts.now → (s < result) ⊎ (cut ≤ s) }
-{
     let mut last = 0;
-    for start in starts {
-        if last <= *start && *start < cut as usize {
-            last = *start + 1;
+    for (place, entry) in entries.iter().enumerate() {
+        let start = start_of(dominance, held, cut, entry, signatures[place]);
+        if start < cut as usize && last <= start {
+            last = start + 1;
         }
+        starts.push(start)?;
     }
-    last
+    Ok(Starts { starts, last })
 }
 
 /// Puts the new entries that start behind the first `above` levels behind what comes down there.
@@ -280,12 +282,14 @@ fn plan_levels<D: Dominance>(
     entries: &[Entry],
     signatures: &[u64],
     starts: &[usize],
+    last: usize,
 ) -> Result<Vec<Step>, AllocError>
     requires window { 0 < window }
     requires ids { HaveDifferentIds (map entry_of (ranked_from 1 held.old.items) ++ entries.now) }
     requires signed { LevelsAreSigned (entry_order (D.order dominance.now)) held.old.items entries.now signatures.now }
     requires long { length starts.now ≡ length entries.now }
     requires start { let over = entry_order (D.order dominance.now) in AreApart over held.old.items → StartAt over held.old.items cut entries.now starts.now }
+    requires last { StartWithin last cut starts.now }
     ensures same { HoldTheSame held.old.items held.new.items }
     ensures bound { vec_len held.old < 2 ^ 32 → vec_len held.new < 2 ^ 32 }
     ensures room { IfOk result (λ steps. HaveRoom held.new.items steps.items) }
@@ -299,7 +303,6 @@ fn plan_levels<D: Dominance>(
         → ranked_from 1 held.old.items ≡ levels over before cut
         → ranked_after 1 held.new.items steps.items ≡ levels over (before ++ entries.now) cut) }
 {
-    let last = last_start(starts, cut);
     let mut steps = Vec::with_capacity(alloc, 1)?;
     let mut coming = SignedEntries::new(alloc);
     'each_level: while steps.len() < cut as usize
@@ -342,9 +345,17 @@ pub(crate) fn plan<D: Dominance>(
         → ranked_from 1 held.old.items ≡ levels over before cut
         → ranked_after 1 held.new.items steps.items ≡ levels over (before ++ entries.now) cut) }
 {
-    let starts = starts_of(alloc, dominance, held, cut, entries, signatures)?;
+    let found = starts_of(alloc, dominance, held, cut, entries, signatures)?;
     plan_levels(
-        alloc, dominance, window, cut, held, entries, signatures, &starts,
+        alloc,
+        dominance,
+        window,
+        cut,
+        held,
+        entries,
+        signatures,
+        &found.starts,
+        found.last,
     )
 }
 

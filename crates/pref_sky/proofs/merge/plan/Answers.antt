@@ -3,20 +3,20 @@ use Rattle.std.specs.List.{count_by}
 use Rattle.std.proofs.lemmas.Result.{IfOk-weaker}
 use Rattle.pref_sky.specs.Levels.{HaveDifferentIds, entry_of, entry_order}
 use Rattle.pref_sky.specs.Partials.{ranked_from}
-use Rattle.pref_sky.specs.Starts.{AreApart, StartAt}
+use Rattle.pref_sky.specs.Starts.{AreApart, StartAt, StartWithin}
 use Rattle.pref_sky.proofs.HeldLevels.{different_by_count}
 use Rattle.pref_sky.proofs.RankedLevels.{hold_then}
 use Rattle.pref_sky.proofs.SignedLevels.{moved_hold, moved_long, moved_signed}
 use Rattle.pref_sky.proofs.Starting.{start_moved}
 use Rattle.pref_sky.proofs.merge.plan.Goals as goal
 
-pub returns-in_err-starts-clause-same : goal.returns-in_err-starts-clause-same
-returns-in_err-starts-clause-same g c =
+pub returns-in_err-found-clause-same : goal.returns-in_err-found-clause-same
+returns-in_err-found-clause-same g c =
     let held = c.args.held.now.items in
     moved_hold held c.starts_of.new.held.items c.starts_of.ensures.moved (different_by_count (map entry_of (ranked_from 1 held)) c.args.entries.now (map entry_of (ranked_from 1 held)) c.requires.ids (λ p. omega arith))
 
-pub returns-in_err-starts-clause-bound : goal.returns-in_err-starts-clause-bound
-returns-in_err-starts-clause-bound g c short =
+pub returns-in_err-found-clause-bound : goal.returns-in_err-found-clause-bound
+returns-in_err-found-clause-bound g c short =
     let held = c.args.held.now in
     let mid = c.starts_of.new.held in
     omega (arith, short, moved_long held.items mid.items c.starts_of.ensures.moved, held.ok.0, mid.ok.0)
@@ -42,7 +42,10 @@ plan_levels-requires-clause-start g c =
     let over = entry_order (g.D.Dominance.order c.args.dominance.now) in
     let held = c.args.held.now.items in
     let mid = c.starts_of.new.held.items in
-    subst (λ l. AreApart over mid → StartAt over mid c.args.cut c.args.entries.now l) (sym c.deref.ensures.value) (start_moved over held mid c.args.cut c.args.entries.now c.in_ok-starts.starts.items c.starts_of.ensures.moved c.in_ok-starts.ensures.start)
+    subst (λ l. AreApart over mid → StartAt over mid c.args.cut c.args.entries.now l) (sym c.deref.ensures.value) (start_moved over held mid c.args.cut c.args.entries.now c.in_ok-found.found.starts.items c.starts_of.ensures.moved c.in_ok-found.ensures.start)
+
+pub plan_levels-requires-clause-last : goal.plan_levels-requires-clause-last
+plan_levels-requires-clause-last g c = subst (StartWithin c.in_ok-found.found.last c.args.cut) (sym c.deref.ensures.value) c.in_ok-found.ensures.last
 
 pub returns-clause-same : goal.returns-clause-same
 returns-clause-same g c =

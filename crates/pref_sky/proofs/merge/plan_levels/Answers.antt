@@ -181,14 +181,14 @@ returns-clause-merged g c before different is =
     let ended : (cut ≤ n) ⊎ ((x : Entry) → Among x (down.items ++ starting_from n entries starts) → comes_after over before cut x ≡ true) =
     elim c.each_level-test.branch [
       | then-each_level-test+else-not-is_empty w ↦ elim w.if-len-last.branch [
-        | then-len-last v ↦ absurd (both_ways w.if-len-last.value w.if-not-is_empty.false (v.value-is ∙ lt-ltb w.len-in-each_level.result c.last_start-last.result v.if-len-last.true))
+        | then-len-last v ↦ absurd (both_ways w.if-len-last.value w.if-not-is_empty.false (v.value-is ∙ lt-ltb w.len-in-each_level.result c.args.last v.if-len-last.true))
         | else-len-last v ↦
             let emptied : eqb (vec_len down) 0 ≡ true = sym v.is_empty.ensures ∙ is_so v.is_empty.result (sym v.value-is ∙ w.if-not-is_empty.false) in
             let none : down.items ≡ [] = no_items down.items (omega (arith, eqb-true (vec_len down) 0 emptied, down.ok.0)) in
-            let past : c.last_start-last.result ≤ n = omega (arith, v.if-len-last.false, w.len-in-each_level.ensures, steps.ok.0) in
+            let past : c.args.last ≤ n = omega (arith, v.if-len-last.false, w.len-in-each_level.ensures, steps.ok.0) in
             inr (λ x m.
             reaches_cut over strict before cut first is entries starts c.requires.start n
-            (λ s there. elim (c.last_start-last.ensures s there) [ inl early ↦ inl (omega (arith, early, past)) | inr low ↦ inr low ]) x
+            (λ s there. elim (c.requires.last s there) [ inl early ↦ inl (omega (arith, early, past)) | inr low ↦ inr low ]) x
             (subst (λ l. Among x (l ++ starting_from n entries starts)) none m))
       ]
       | else-each_level-test w ↦ inl (let past = w.each_level-test.false in let long : c.len.result ≡ vec_len steps = c.len.ensures in omega (arith, past, long, steps.ok.0))

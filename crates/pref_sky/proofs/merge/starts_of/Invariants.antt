@@ -1,7 +1,7 @@
 use Rattle.std.proofs.Common.{◌≡◌, take, length}
 use Rattle.pref_sky.specs.Levels.{entry_order}
 use Rattle.pref_sky.specs.Partials.{AreMoved}
-use Rattle.pref_sky.specs.Starts.{AreApart, StartAt}
+use Rattle.pref_sky.specs.Starts.{AreApart, StartAt, StartWithin}
 use Rattle.pref_sky.proofs.merge.starts_of.Given as goal
 
 abbrev pub invariant-loop-place : goal.invariant-loop-place
@@ -11,4 +11,5 @@ invariant-loop-place g l =
       moved : AreMoved l.initial.held.items l.held.items;
       start : AreApart over l.initial.held.items → StartAt over l.initial.held.items l.cut (take l.place l.entries) l.starts.items;
       long : length l.starts.items ≡ l.place;
+      last : StartWithin l.last l.cut l.starts.items;
     }
