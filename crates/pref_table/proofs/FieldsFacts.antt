@@ -132,7 +132,7 @@ each_signed sign line count signed are (suc k) h = digit_signed _ (are k (omega 
 
 module _ (line : List ℕ) (value count : ℕ) (some : 0 < count) where
   -- digits alone
-  unsigned_field : AreLeadingDigits line value count → (count < length line → get_or line count 0 ≡ 44) → IsPlainField line (pos value) count
+  pub unsigned_field : AreLeadingDigits line value count → (count < length line → get_or line count 0 ≡ 44) → IsPlainField line (pos value) count
   unsigned_field led comma =
       let field = take count line in
       let size = length-take-le count line led.inside in

@@ -1,27 +1,16 @@
-use Rattle.std.proofs.Common.{◌≡◌, ◌∙◌, ◌<◌, ◌+◌, ◌-◌, get_or, length, ap, sym, subst, arith, w64}
-use Rattle.std.specs.Str.Parse.{starts_with_minus, without_leading_sign}
-use Rattle.std.proofs.lemmas.Bool.{eqb-true, not-false}
+use Rattle.std.proofs.Common.{◌∙◌, false, ap, arith, w64}
 use Rattle.std.proofs.lemmas.Int.{to_z-of_z}
-use Rattle.pref_table.specs.Fields.{AreLeadingDigits}
-use Rattle.pref_table.specs.Number.{fits_cell, signed_by}
-use Rattle.pref_table.proofs.FieldsFacts.{plain_is, small-fits}
+use Rattle.pref_table.specs.Number.{fits_cell}
+use Rattle.pref_table.proofs.FieldsFacts.{unsigned_field, small-fits}
 use Rattle.pref_table.proofs.NumberFacts.{cell-fits}
 use Rattle.pref_table.proofs.number.plain_field.Goals as goal
-use Rattle.pref_table.proofs.number.plain_field.Goals.{then-size-line, else-size-line}
 
 pub returns : goal.returns
 returns c =
     let line = c.args.line.now in
-    let digits = c.without_sign-digits.result.now in
     let value = c.leading_digits-magnitude.result.0 in
     let count = c.leading_digits-magnitude.result.1 in
-    let size = length line - length digits + count in
-    let led = subst (λ ds. AreLeadingDigits ds value count) c.without_sign-digits.ensures c.leading_digits-magnitude.ensures in
-    let behind : size ≡ length line - length (without_leading_sign line) + count = ap (λ ds. length line - length ds + count) c.without_sign-digits.ensures in
-    let comma : size < length line → get_or line size 0 ≡ 44 = λ h. elim c.if-size-line.branch [
-      | then-size-line w ↦ eqb-true _ 44 (not-false _ (sym w.value-is ∙ c.if-line-size-ne44.false))
-      | else-size-line w ↦ absurd (omega (arith, w.if-size-line.false))
-    ] in
-    let number : c.plain_signed.result ≡ signed_by (starts_with_minus line) value = c.plain_signed.ensures ∙ ap (λ n. signed_by n value) c.is_negative.ensures in
-    let fits = to_z-of_z w64 c.plain_signed.result (cell-fits _ (ap fits_cell number ∙ small-fits (starts_with_minus line) value led.small)) in
-    rw (fits, number) (plain_is line value count size (omega arith) led behind comma)
+    let led = c.leading_digits-magnitude.ensures in
+    let number = c.plain_signed.ensures in
+    let fits = to_z-of_z w64 c.plain_signed.result (cell-fits _ (ap fits_cell number ∙ small-fits false value led.small)) in
+    rw (fits, number) (unsigned_field line value count (omega (arith, c.if-count-eq0.false)) led (c.ends_after.ensures c.if-not-ends_after.false))

@@ -1,0 +1,22 @@
+use Rattle.std.proofs.Common.{◌≡◌, ◌∙◌, ◌<◌, ◌+◌, ◌-◌, get_or, length, ap, subst, arith, w64}
+use Rattle.std.specs.Str.Parse.{starts_with_minus, without_leading_sign}
+use Rattle.std.proofs.lemmas.Int.{to_z-of_z}
+use Rattle.pref_table.specs.Fields.{AreLeadingDigits}
+use Rattle.pref_table.specs.Number.{fits_cell, signed_by}
+use Rattle.pref_table.proofs.FieldsFacts.{plain_is, small-fits}
+use Rattle.pref_table.proofs.NumberFacts.{cell-fits}
+use Rattle.pref_table.proofs.number.signed_field.Goals as goal
+
+pub returns : goal.returns
+returns c =
+    let line = c.args.line.now in
+    let digits = c.without_sign-digits.result.now in
+    let value = c.leading_digits-magnitude.result.0 in
+    let count = c.leading_digits-magnitude.result.1 in
+    let size = length line - length digits + count in
+    let led = subst (λ ds. AreLeadingDigits ds value count) c.without_sign-digits.ensures c.leading_digits-magnitude.ensures in
+    let behind : size ≡ length line - length (without_leading_sign line) + count = ap (λ ds. length line - length ds + count) c.without_sign-digits.ensures in
+    let comma : size < length line → get_or line size 0 ≡ 44 = c.ends_after.ensures c.if-not-ends_after.false in
+    let number : c.plain_signed.result ≡ signed_by (starts_with_minus line) value = c.plain_signed.ensures ∙ ap (λ n. signed_by n value) c.is_negative.ensures in
+    let fits = to_z-of_z w64 c.plain_signed.result (cell-fits _ (ap fits_cell number ∙ small-fits (starts_with_minus line) value led.small)) in
+    rw (fits, number) (plain_is line value count size (omega arith) led behind comma)
