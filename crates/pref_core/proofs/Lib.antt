@@ -1,6 +1,7 @@
 pub mod WorkedRows
 pub mod Permutations
 pub mod Arranging
+mod AtOnce
 pub mod Listing
 pub mod Visible
 pub mod Tables

@@ -1,15 +1,16 @@
 -- No public contract cites this.
 -- What a store keeps beside its slots, so that no change looks through them.
-use Rattle.std.specs.Prelude.{◌≡◌, ◌+◌, ◌^◌, ◌<◌, ◌≤◌, ◌&&◌, ◌||◌, ℕ, suc, List, [], ◌∷◌, ◌++◌, map, length, Bool, true, false, not, Option, Some, None, option_map, slice_get, Result, MatchResult}
+use Rattle.std.specs.Prelude.{◌≡◌, ◌+◌, ◌^◌, ◌<◌, ◌≤◌, ◌&&◌, ◌||◌, ℕ, suc, List, [], ◌∷◌, ◌++◌, map, length, Bool, true, false, not, Option, Some, None, is_some, option_map, slice_get, Result, MatchResult}
 use Rattle.std.specs.List.{count_by, AllByRecursion}
 use Rattle.pref_core.specs.declared.store.version.Version.{Version}
+use Rattle.pref_core.specs.declared.call.Call.{Call}
 use Rattle.pref_core.specs.declared.store.places.Zone.{Zone}
 use Rattle.pref_sky.specs.declared.entry.Entry.{Entry}
 use Rattle.pref_core.specs.Rows.{Row}
 use Rattle.pref_core.specs.Table.{Line, among, has}
-use Rattle.pref_core.specs.State.{State, missing}
+use Rattle.pref_core.specs.State.{State, missing, granted, is_formed}
 use Rattle.pref_core.specs.Slots.{Contents, StandsFor, IsWithin, begins, visible, is_needed}
-use Rattle.pref_core.specs.Operations.{close, is_free}
+use Rattle.pref_core.specs.Operations.{close, is_free, outcome_at, placed}
 use Rattle.pref_core.specs.Bounds.{IsBounded}
 use Rattle.pref_core.specs.Places.{is_free_zone, free_at, zone_of}
 use Rattle.pref_core.specs.Links.{ids_of, id_at, AreIds, AreLinks}
@@ -66,6 +67,12 @@ pub record IsFreed (contents : Contents) (ids freed : List ℕ) : Type 0 where
 -- what a look for the slots that they leave free answers: these, or the first id that the table lacks
 abbrev pub FindsFreed : Contents → List ℕ → Result (List ℕ) ℕ → Type 0
 FindsFreed contents ids result = MatchResult result (λ freed. IsFreed contents ids freed) (λ id. missing ids (visible contents.stamp contents.slots) ≡ Some id)
+
+-- These are slots for the rows that a change begins, and it succeeds in them.
+pub record FitAtOnce (contents : Contents) (call : Call) (slots : List ℕ) : Type 0 where
+  pub outcome : granted contents.next_id call ≡ outcome_at contents call
+  pub placed : is_some (placed contents call slots (outcome_at contents call)) ≡ true
+  pub formed : is_formed call ≡ true
 
 -- each of these places is free, and none comes twice or is one of the earlier ones
 abbrev pub are_free : List ℕ → List (Option Version) → List ℕ → List ℕ → Bool

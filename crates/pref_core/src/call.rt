@@ -431,7 +431,7 @@ pub struct Op {
 impl Op {
     ghost use Rattle.pref_core.specs.Planned.{op_of};
 
-    /// The same, with its call lent.
+    /// The op with this call, which is its own, lent.
     pub fn planned<'a>(&self, call: &'a LentCall<'a>) -> Planned<'a>
         requires { call.now ≡ self.now.call }
         ensures { op_of result ≡ self.now }

@@ -195,8 +195,7 @@ impl Store {
     {
         let call = op.call.lent();
         let planned = op.planned(&call);
-        let freed = self.freed_places(None, &call);
-        if self.contents.is_next(&freed, &planned) && self.contents.fits(&freed, &planned) {
+        if self.is_legal(&planned) {
             self.contents.step(&planned);
         }
     }

@@ -1,21 +1,35 @@
 //! A planned call, done.
 
-ghost use Rattle.std.specs.Prelude.{map, true, [], ◌∷◌, suc, is_some, ◌≡◌};
+ghost use Rattle.std.specs.Prelude.{map, true, [], ◌∷◌, suc, is_some, ◌≡◌, ◌&&◌};
 ghost use Rattle.pref_core.specs.Indexes.{IsReady, Moves};
 ghost use Rattle.pref_core.specs.Kept.{IsFreed, FindsFreed, are_free};
-ghost use Rattle.pref_core.specs.Operations.{close, is_next, slots_after};
+ghost use Rattle.pref_core.specs.Operations.{close, is_next, outcome_at, slots_after};
 ghost use Rattle.pref_core.specs.Planned.{op_of};
 ghost use Rattle.pref_core.specs.Slots.{begins};
 ghost use Rattle.pref_core.specs.State.{ended, is_formed};
 
-use crate::call::{Planned, QueryState, SlotList};
+use crate::call::{Outcome, Planned, QueryState, SlotList};
 use crate::changes::Change;
 use crate::index::Index;
 use crate::store::Store;
 use crate::store::caller::caller_of;
 use crate::store::contents::Contents;
+use crate::store::planning::granted;
 
 impl Store {
+    /// Whether an op is legal next: its call, number and outcome, and its slots.
+    pub(crate) fn is_legal(&self, op: &Planned<'_>) -> bool
+        ensures { result ≡ (is_next self.now (op_of op.now) && is_some (slots_after self.now (op_of op.now))) }
+    {
+        if self.contents.fit_at_once(None, op.call, &op.slots) {
+            let outcome = granted(self.contents.next_id, op.call);
+            return self.contents.is_next(outcome, op);
+        }
+        let freed = self.freed_places(None, op.call);
+        let outcome = self.contents.outcome(&freed, op.call);
+        self.contents.is_next(outcome, op) && self.contents.fits(&freed, op)
+    }
+
     /// Goes along with a planned op before it is done: in an index each row that it sets gets its new slot, and each that it
     /// removes goes out.
     pub(crate) fn follow(&self, index: &mut Index, op: &Planned<'_>)
@@ -43,9 +57,9 @@ impl Store {
 }
 
 impl Contents {
-    /// Whether the call, its number and its outcome are legal next.
-    pub(crate) fn is_next(&self, freed: &Result<SlotList, u64>, op: &Planned<'_>) -> bool
-        requires freed { FindsFreed self.now (ended op.now.call.now) freed.now }
+    /// Whether the call, its number and its outcome are legal next, by what becomes of the call here.
+    fn is_next(&self, outcome: Outcome, op: &Planned<'_>) -> bool
+        requires outcome { outcome ≡ outcome_at self.now op.now.call.now }
         requires formed { is_formed op.now.call.now ≡ true }
         ensures { result ≡ is_next self.now (op_of op.now) }
     {
@@ -56,11 +70,11 @@ impl Contents {
         if refusal.is_some() || op.number != caller.calls + 1 {
             return false;
         }
-        op.outcome == self.outcome(freed, op.call)
+        op.outcome == outcome
     }
 
     /// Whether the op's slots fit its call: one for each row that begins, each free once the old rows ended, and none twice.
-    pub(crate) fn fits(&self, freed: &Result<SlotList, u64>, op: &Planned<'_>) -> bool
+    fn fits(&self, freed: &Result<SlotList, u64>, op: &Planned<'_>) -> bool
         requires freed { FindsFreed self.now (ended op.now.call.now) freed.now }
         requires next { is_next self.now (op_of op.now) ≡ true }
         ensures { result ≡ is_some (slots_after self.now (op_of op.now)) }

@@ -36,7 +36,7 @@ pub(crate) struct Contents {
     pub(crate) stamp: u64,
     pub(crate) next_id: u64,
     pub(crate) callers: Vec<Caller>,
-    places: Places,
+    pub(crate) places: Places,
     links: Links,
 }
 

@@ -2,17 +2,20 @@
 
 ghost use Rattle.std.specs.Prelude.{IfSome, true, is_some, ◌≡◌};
 ghost use Rattle.pref_core.specs.Indexes.{IsIndexOf};
-ghost use Rattle.pref_core.specs.Kept.{IsFreed, FindsFreed};
+ghost use Rattle.pref_core.specs.Kept.{IsKept, IsFreed, FindsFreed, FitAtOnce};
 ghost use Rattle.pref_core.specs.Operations.{outcome_at, placed, Plans};
 ghost use Rattle.pref_core.specs.Planned.{op_or_fault};
 ghost use Rattle.pref_core.specs.State.{ended, is_change, is_formed, succeeds, granted};
 
 use crate::call::{LentCall, Outcome, Planned, QueryState, SlotList};
+use crate::changes::Change;
 use crate::fault::CoreFault;
 use crate::index::Index;
 use crate::store::Store;
 use crate::store::caller::caller_of;
 use crate::store::contents::Contents;
+use crate::store::links::home_of;
+use crate::store::reads::stands_at;
 
 impl Store {
     /// What becomes of a call, whose rows are found by an index where there is one, and where its new rows go; or why it gets no number.
@@ -32,9 +35,7 @@ impl Store {
         if let Some(fault) = call.refusal(caller.calls, QueryState::of(&caller.begun)) {
             return Err(fault);
         }
-        let freed = self.freed_places(index, call);
-        let outcome = self.contents.outcome(&freed, call);
-        let slots = self.slots_for(&freed, call, outcome);
+        let (slots, outcome) = self.placed(index, call);
         Ok(Planned {
             client,
             number: caller.calls + 1,
@@ -42,6 +43,21 @@ impl Store {
             slots,
             outcome,
         })
+    }
+
+    /// The slots of a call's new rows and its outcome: at once where that can be, as for most calls of one change.
+    fn placed(&self, index: Option<&Index>, call: &LentCall<'_>) -> (SlotList, Outcome)
+        requires { IfSome index (λ index. IsIndexOf self.now index.now) }
+        ensures outcome { result.1 ≡ outcome_at self.now call.now }
+        ensures placed { is_some (placed self.now call.now result.0 result.1) ≡ true }
+        ensures formed { is_formed call.now ≡ true }
+    {
+        if let Some(slots) = self.contents.slots_at_once(index, call) {
+            return (slots, granted(self.contents.next_id, call));
+        }
+        let freed = self.freed_places(index, call);
+        let outcome = self.contents.outcome(&freed, call);
+        (self.slots_for(&freed, call, outcome), outcome)
     }
 
     /// The slots that the rows which a call ends leave free, or the first id that it ends and the table lacks.
@@ -109,6 +125,58 @@ impl Store {
 }
 
 impl Contents {
+    /// The slots of a call of one change, where its row can have its home at once, or where it begins no row.
+    fn slots_at_once(&self, index: Option<&Index>, call: &LentCall<'_>) -> Option<SlotList>
+        requires kept { IsKept self.now }
+        requires index { IfSome index (λ index. IsIndexOf self.now index.now) }
+        ensures { IfSome result (λ slots. FitAtOnce self.now call.now slots) }
+    {
+        if call.count() != 1 || self.slots.is_empty() {
+            return None;
+        }
+        let mut slots = SlotList::NONE;
+        if let Some(entry) = call.change(0).begun(self.next_id) {
+            slots.push(home_of(&self.slots, entry.id));
+        }
+        if self.fit_at_once(index, call, &slots) {
+            Some(slots)
+        } else {
+            None
+        }
+    }
+
+    /// Whether these are slots for a call of one change, by a look at them alone: an added row may have a free one, and a row that is
+    /// set the one where it stands, if no open query needs what is there.
+    pub(crate) fn fit_at_once(
+        &self,
+        index: Option<&Index>,
+        call: &LentCall<'_>,
+        slots: &SlotList,
+    ) -> bool
+        requires kept { IsKept self.now }
+        requires index { IfSome index (λ index. IsIndexOf self.now index.now) }
+        ensures { result ≡ true → FitAtOnce self.now call.now slots.now }
+    {
+        if call.count() != 1 {
+            return false;
+        }
+        match call.change(0) {
+            Change::Add(_) => match slots.as_slice() {
+                [place] => self.places.is_free(*place),
+                _ => false,
+            },
+            Change::Set(id, _) => match slots.as_slice() {
+                [place] => {
+                    stands_at(&self.slots, *place, self.stamp, id) && self.frees(*place, call)
+                }
+                _ => false,
+            },
+            Change::Remove(id) => {
+                slots.as_slice().is_empty() && self.place_of(index, id).is_some()
+            }
+        }
+    }
+
     /// The outcome of a call that gets a number, by the slots that its ended rows leave free.
     pub(crate) fn outcome(&self, freed: &Result<SlotList, u64>, call: &LentCall<'_>) -> Outcome
         requires { FindsFreed self.now (ended call.now) freed.now }
@@ -131,7 +199,8 @@ impl Contents {
     }
 }
 
-fn granted(next_id: u64, call: &LentCall<'_>) -> Outcome
+/// The outcome of a change that succeeds.
+pub(crate) fn granted(next_id: u64, call: &LentCall<'_>) -> Outcome
     ensures { result ≡ granted next_id call.now }
 {
     if call.added() > 0 {

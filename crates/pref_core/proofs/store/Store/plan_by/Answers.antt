@@ -1,23 +1,18 @@
 use Rattle.std.proofs.Common.{◌≡◌, ◌+◌, Some, refl, sym, ap, ◌∙◌, arith}
 use Rattle.pref_core.specs.declared.call.Op.{Op}
 use Rattle.pref_core.specs.declared.store.Store.TheInside.{Inside}
-use Rattle.pref_core.specs.Operations.{outcome_at}
 use Rattle.pref_core.specs.Slots.{Contents}
 use Rattle.pref_core.specs.State.{seat, refusal_of}
 use Rattle.pref_core.proofs.Legal.{is_next-planned}
 use Rattle.pref_core.proofs.store.Store.plan_by.Goals as goal
-
-pub slots_for-slots-requires-clause-told : goal.slots_for-slots-requires-clause-told
-slots_for-slots-requires-clause-told c = c.outcome-outcome.ensures ∙ ap (λ s. outcome_at s c.args.call.now) c.self.view_is
 
 pub returns : goal.returns
 returns c =
     let now = c.args.self.now in
     let call = c.args.call.now in
     let caller = c.in-Some.caller in
-    let op : Op = record { client = c.args.client; number = caller.calls + 1; call = call; slots = c.slots_for-slots.result; outcome = c.outcome-outcome.result } in
+    let op : Op = record { client = c.args.client; number = caller.calls + 1; call = call; slots = c.placed-slots.result.0; outcome = c.placed-slots.result.1 } in
     let callers = c.deref.ensures.value ∙ ap (λ (s : Contents). s.callers) (ap (λ (s : Inside). s.contents) c.self-inside.view_is ∙ c.self.view_is) in
     let at : seat c.args.client now.callers ≡ Some caller = ap (seat c.args.client) (sym callers) ∙ sym c.caller_of.ensures ∙ c.in-Some.is in
     let accepted = ap (λ b. refusal_of (Some caller.calls) b call) (sym c.of.ensures) ∙ sym c.refusal.ensures ∙ c.in_default-refusal.is in
-    let told = c.outcome-outcome.ensures ∙ ap (λ s. outcome_at s call) c.self.view_is in
-    record { by = refl; what = refl; next = is_next-planned now op caller at accepted (omega arith) told c.freed_places-freed.ensures.formed; fits = c.slots_for-slots.ensures }
+    record { by = refl; what = refl; next = is_next-planned now op caller at accepted (omega arith) c.placed-slots.ensures.outcome c.placed-slots.ensures.formed; fits = c.placed-slots.ensures.placed }
