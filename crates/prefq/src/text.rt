@@ -1,8 +1,10 @@
 //! The texts of replies and faults.
-ghost use Rattle.std.specs.Prelude.{◌≡◌, ◌≤◌, ◌++◌, OnOk, string_bytes};
-ghost use Rattle.prefq.specs.Text.{core_fault_text, level_line, level_lines, refusal_text, refused_line, reply_lines, row_text, table_fault_text, term_fault_text};
+ghost use Rattle.std.specs.Prelude.{◌≡◌, ◌≤◌, ◌++◌, OnOk, codes, string_bytes};
+ghost use Rattle.std.specs.Fmt.{decimal, signed_decimal};
+ghost use Rattle.prefq.specs.Text.{◌<>◌, core_fault_text, level_line, level_lines, refusal_text, refused_line, reply_lines, row_text, table_fault_text, term_fault_text};
 
 use crate::command::Refusal;
+use itoa::Buffer;
 use pref_core::{CoreFault, Reply};
 use pref_sky::Ranked;
 use pref_table::{Row, TableFault};
@@ -94,6 +96,24 @@ pub fn push_refused(out: &mut String, number: u64, why: &Refusal) -> Result<(), 
     write!(out, "\n")
 }
 
+/// Appends a number.
+fn push_number(out: &mut String, number: u64) -> Result<(), AllocError>
+    ensures { OnOk result (string_bytes out.new ≡ string_bytes out.old ++ decimal number) }
+{
+    let mut buffer = Buffer::new();
+    out.push_str(buffer.format(number))?;
+    Ok(())
+}
+
+/// Appends a cell.
+fn push_cell(out: &mut String, cell: i64) -> Result<(), AllocError>
+    ensures { OnOk result (string_bytes out.new ≡ string_bytes out.old ++ signed_decimal cell) }
+{
+    let mut buffer = Buffer::new();
+    out.push_str(buffer.format(cell))?;
+    Ok(())
+}
+
 /// Appends the cells of a row below the width, with commas between them.
 fn push_row(out: &mut String, width: usize, row: &Row) -> Result<(), AllocError>
     requires { width ≤ 16 }
@@ -101,10 +121,9 @@ fn push_row(out: &mut String, width: usize, row: &Row) -> Result<(), AllocError>
 {
     for col in 0..width {
         if col > 0 {
-            write!(out, ",")?;
+            out.push(',')?;
         }
-        let cell = row.cell(col);
-        write!(out, "{cell}")?;
+        push_cell(out, row.cell(col))?;
     }
     Ok(())
 }
@@ -114,11 +133,14 @@ fn push_level(out: &mut String, width: usize, ranked: &Ranked) -> Result<(), All
     requires { width ≤ 16 }
     ensures { OnOk result (string_bytes out.new ≡ string_bytes out.old ++ level_line width ranked.now) }
 {
-    let level = ranked.level;
-    let id = ranked.id;
-    write!(out, "level {level} id {id}: ")?;
+    out.push_str("level ")?;
+    push_number(out, u64::from(ranked.level))?;
+    out.push_str(" id ")?;
+    push_number(out, ranked.id)?;
+    out.push_str(": ")?;
     push_row(out, width, &ranked.row)?;
-    write!(out, "\n")
+    out.push('\n')?;
+    Ok(())
 }
 
 /// Appends the lines of the rows in an answer.
@@ -129,6 +151,17 @@ fn push_levels(out: &mut String, width: usize, rows: &[Ranked]) -> Result<(), Al
     for ranked in rows {
         push_level(out, width, ranked)?;
     }
+    Ok(())
+}
+
+/// Appends what most replies are: a client's number, what became of its command, and a number.
+fn push_line(out: &mut String, client: u8, what: &str, number: u64) -> Result<(), AllocError>
+    ensures { OnOk result (string_bytes out.new ≡ string_bytes out.old ++ (decimal client <> what.now <> decimal number <> codes "\n")) }
+{
+    push_number(out, u64::from(client))?;
+    out.push_str(what)?;
+    push_number(out, number)?;
+    out.push('\n')?;
     Ok(())
 }
 
@@ -143,29 +176,32 @@ pub fn push_reply(
     ensures { OnOk result (string_bytes out.new ≡ string_bytes out.old ++ reply_lines width client reply.now) }
 {
     match reply {
-        Reply::Inserted(id) => write!(out, "{client} inserted {id}\n"),
-        Reply::Updated(id) => write!(out, "{client} updated {id}\n"),
-        Reply::Deleted(id) => write!(out, "{client} deleted {id}\n"),
+        Reply::Inserted(id) => push_line(out, client, " inserted ", *id),
+        Reply::Updated(id) => push_line(out, client, " updated ", *id),
+        Reply::Deleted(id) => push_line(out, client, " deleted ", *id),
         Reply::Committed(done) => {
             let changes = done.changes;
             let first = done.first;
             write!(out, "{client} committed {changes} first {first}\n")
         }
-        Reply::Begun(blocks) => write!(out, "{client} begun {blocks}\n"),
-        Reply::Left(blocks) => write!(out, "{client} left {blocks}\n"),
+        Reply::Begun(blocks) => push_line(out, client, " begun ", u64::from(*blocks)),
+        Reply::Left(blocks) => push_line(out, client, " left ", u64::from(*blocks)),
         Reply::Answer(rows) => {
             let rows = rows.as_slice();
-            let count = rows.len();
-            write!(out, "{client} answer {count}\n")?;
+            push_line(out, client, " answer ", rows.len() as u64)?;
             push_levels(out, width, rows)
         }
         Reply::Abandoned => write!(out, "{client} abandoned\n"),
         Reply::Found(id, row) => {
-            write!(out, "{client} row {id}: ")?;
+            push_number(out, u64::from(client))?;
+            out.push_str(" row ")?;
+            push_number(out, *id)?;
+            out.push_str(": ")?;
             push_row(out, width, row)?;
-            write!(out, "\n")
+            out.push('\n')?;
+            Ok(())
         }
-        Reply::Room(room) => write!(out, "{client} room {room}\n"),
+        Reply::Room(room) => push_line(out, client, " room ", u64::from(*room)),
         Reply::Refused(why) => {
             write!(out, "{client} refused ")?;
             push_core_fault(out, *why)?;
