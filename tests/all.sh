@@ -37,6 +37,8 @@ check() { # command..
 command -v rt >/dev/null || { echo "the Rattle kit's command rt is not on the PATH" >&2; exit 1; }
 RT_JOBS=${RT_JOBS:-$(lanes)} rt ci | tee "$room/gate"
 [ "${PIPESTATUS[0]}" = 0 ] || failed+=('rt ci')
+# An edit that does not compile shows nothing, and `rt ci` passes over it.
+while read -r edit; do failed+=("$edit: no edit, since it does not compile"); done < <(sed -n 's/^rt: \(.*\): BAD EDIT.*/\1/p' "$room/gate")
 passed=$(tail -n 1 "$room/gate" | sed -n 's/^\([0-9]*\) passed, [0-9]* failed$/\1/p')
 passed=${passed:-0}
 echo "== rt ci took $((SECONDS / 60)) minutes"
