@@ -166,7 +166,7 @@ fills_end limit stamp ns (place ∷ places) slots all h = absurd (true≢false (
 abbrev pub EndedUpTo : Contents → Contents → List ℕ → Type 0
 EndedUpTo start now ids = now ≡ with_slots (map (close ids start.stamp) start.slots) start
 
-close_more : (xs ys : List ℕ) (made : ℕ) (slots : List (Option Version)) → map (close ys made) (map (close xs made) slots) ≡ map (close (xs ++ ys) made) slots
+pub close_more : (xs ys : List ℕ) (made : ℕ) (slots : List (Option Version)) → map (close ys made) (map (close xs made) slots) ≡ map (close (xs ++ ys) made) slots
 close_more xs ys made [] = refl
 close_more xs ys made (None ∷ slots) = ap (λ l. None ∷ l) (close_more xs ys made slots)
 close_more xs ys made (Some version ∷ slots) = ap₂ ◌∷◌ (ap (λ d. Some (record version { death = d })) (go (among xs version.id) (among ys version.id) version.death ∙ ap (λ b. close_at made b version.death) (sym (among_both xs)))) (close_more xs ys made slots)

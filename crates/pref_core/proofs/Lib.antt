@@ -25,6 +25,7 @@ pub mod Several
 pub mod Freeing
 pub mod Choosing
 pub mod Filling
+pub mod Replacing
 pub mod Ends
 pub mod Closing
 pub mod Openings

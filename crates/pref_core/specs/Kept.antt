@@ -1,15 +1,17 @@
 -- No public contract cites this.
 -- What a store keeps beside its slots, so that no change looks through them.
-use Rattle.std.specs.Prelude.{◌≡◌, ◌+◌, ◌^◌, ◌<◌, ◌≤◌, ◌&&◌, ◌||◌, ℕ, suc, List, [], ◌∷◌, ◌++◌, map, length, Bool, true, false, not, Option, Some, None, is_some, option_map, slice_get, Result, MatchResult}
+use Rattle.std.specs.Prelude.{◌≡◌, ◌+◌, ◌^◌, ◌<◌, ◌≤◌, ◌&&◌, ◌||◌, ℕ, suc, List, [], ◌∷◌, ◌++◌, map, length, Bool, true, false, not, Option, Some, None, is_some, option_map, slice_get, slice_set, Result, MatchResult}
 use Rattle.std.specs.List.{count_by, AllByRecursion}
 use Rattle.pref_core.specs.declared.store.version.Version.{Version}
 use Rattle.pref_core.specs.declared.call.Call.{Call}
+use Rattle.pref_core.specs.declared.changes.Change.{Change}
+use Rattle.pref_core.specs.declared.changes.Change.TheVariants.{Set}
 use Rattle.pref_core.specs.declared.store.places.Zone.{Zone}
 use Rattle.pref_sky.specs.declared.entry.Entry.{Entry}
 use Rattle.pref_core.specs.Rows.{Row}
 use Rattle.pref_core.specs.Table.{Line, among, has}
 use Rattle.pref_core.specs.State.{State, missing, granted, is_formed}
-use Rattle.pref_core.specs.Slots.{Contents, StandsFor, IsWithin, begins, visible, is_needed}
+use Rattle.pref_core.specs.Slots.{Contents, StandsFor, IsWithin, begins, born, visible, is_needed}
 use Rattle.pref_core.specs.Operations.{close, is_free, outcome_at, placed}
 use Rattle.pref_core.specs.Bounds.{IsBounded}
 use Rattle.pref_core.specs.Places.{is_free_zone, free_at, zone_of}
@@ -83,3 +85,14 @@ are_free stamps slots earlier (place ∷ places) = not (among earlier place) && 
 abbrev pub AreFresh : ℕ → List Line → List Entry → Type 0
 AreFresh limit table [] = Unit {0}
 AreFresh limit table (fresh ∷ rest) = (fresh.id < limit) × (has table fresh.id ≡ false) × (among (map (λ entry. entry.id) rest) fresh.id ≡ false) × AreFresh limit table rest
+
+-- each of these changes sets a row, which stands in its slot
+abbrev pub KeepSlots : ℕ → List (Option Version) → List Change → List ℕ → Type 0
+KeepSlots stamp slots [] places = Unit {0}
+KeepSlots stamp slots (Set id row ∷ changes) (place ∷ places) = (row_at stamp id slots place ≡ true) × KeepSlots stamp slots changes places
+KeepSlots stamp slots changes places = ⊥
+
+-- the slots with the rows that these changes set, each in its slot
+abbrev pub replaced : ℕ → List Change → List ℕ → List (Option Version) → List (Option Version)
+replaced stamp (Set id row ∷ changes) (place ∷ places) slots = replaced stamp changes places (slice_set slots place (born stamp (record { id = id; row = row })))
+replaced stamp changes places slots = slots

@@ -3,17 +3,18 @@
 ghost use Rattle.std.specs.List.{count_by};
 ghost use Rattle.std.specs.Prelude.{ℕ, map, length, true, false, is_some, [], ◌∷◌, Some, None, slice_set, IfOk, IfSome, IfNone, ◌≡◌, ◌+◌, ◌^◌, ◌<◌, ◌≤◌};
 ghost use Rattle.pref_core.specs.Indexes.{row_at, slot_of, Points, IsPlaceOf, IsIndexOf};
-ghost use Rattle.pref_core.specs.Kept.{IsKept, IsFreed, AreFresh, row_in, frees_at, is_open, with_slots, zones_of};
+ghost use Rattle.pref_core.specs.Kept.{IsKept, IsFreed, AreFresh, KeepSlots, row_in, frees_at, is_open, replaced, with_slots, zones_of};
 ghost use Rattle.pref_core.specs.Operations.{close, is_free, filled, is_next, refusal_at, slots_after, stepped, callers_after, used, grown};
 ghost use Rattle.pref_core.specs.Places.{is_free_zone};
 ghost use Rattle.pref_core.specs.Planned.{op_of};
 ghost use Rattle.pref_core.specs.Slots.{stamps, begins, born, visible, opening_contents};
 ghost use Rattle.pref_core.specs.Stability.{is_end};
-ghost use Rattle.pref_core.specs.State.{ended, begun, added, is_change, succeeds};
+ghost use Rattle.pref_core.specs.State.{ended, begun, added, changes_of, is_change, succeeds};
 ghost use Rattle.pref_core.specs.Table.{among, has};
 ghost use Rattle.pref_core.specs.declared.call.Call.{Call};
 
 use crate::call::{LentCall, Planned, SlotList};
+use crate::changes::Change;
 use crate::index::Index;
 use crate::setup::Setup;
 use crate::store::caller::{Caller, count, idle};
@@ -207,7 +208,8 @@ impl Contents {
         self.count(op.client, op.call);
     }
 
-    /// A commit: all rows end that are to end, and then others begin in the slots that are free.
+    /// A commit: rows that stay in their slots are replaced there; else all rows end that are to end, and then others begin in the
+    /// slots that are free.
     fn commit(&mut self, op: &Planned<'_>)
         requires kept { IsKept self.old }
         requires next { is_next self.old (op_of op.now) ≡ true }
@@ -222,6 +224,7 @@ impl Contents {
         self.next_id += op.call.added();
         match self.kept_slot(op) {
             Some((id, row, place)) => self.replace(id, row, place),
+            None if self.keeps_slots(op) => self.replace_rows(op),
             None => {
                 self.end_rows(op.call);
                 self.begin_rows(first, op);
@@ -238,6 +241,34 @@ impl Contents {
         match op.slots.as_slice() {
             [place] if stands_at(&self.slots, *place, self.stamp, id) => Some((id, row, *place)),
             _ => None,
+        }
+    }
+
+    /// Whether the call only sets rows, and each stays in its slot.
+    fn keeps_slots(&self, op: &Planned<'_>) -> bool
+        ensures { result ≡ true → KeepSlots self.now.stamp self.now.slots (changes_of op.now.call.now) op.now.slots }
+    {
+        let slots = op.slots.as_slice();
+        for at in 0..op.call.count() {
+            match (op.call.change(at), slots.get(at)) {
+                (Change::Set(id, _), Some(place))
+                    if stands_at(&self.slots, *place, self.stamp, id) => {}
+                _ => return false,
+            }
+        }
+        true
+    }
+
+    /// Each row that the call sets is replaced where it stands.
+    fn replace_rows(&mut self, op: &Planned<'_>)
+        requires { KeepSlots self.old.stamp self.old.slots (changes_of op.now.call.now) op.now.slots }
+        ensures { self.new ≡ with_slots (replaced self.old.stamp (changes_of op.now.call.now) op.now.slots self.old.slots) self.old }
+    {
+        let slots = op.slots.as_slice();
+        for at in 0..op.call.count() {
+            if let Change::Set(id, row) = op.call.change(at) {
+                self.replace(id, &row, slots[at]);
+            }
         }
     }
 

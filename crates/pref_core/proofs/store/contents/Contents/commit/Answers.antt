@@ -1,13 +1,15 @@
 use Rattle.std.proofs.Common.{◌≡◌, suc, ◌+◌, set, Some, sym, ap, ap₂, ◌∙◌, subst, is_some, arith}
 use Rattle.pref_sky.specs.declared.entry.Entry.{Entry}
 use Rattle.pref_core.specs.Indexes.{row_at}
-use Rattle.pref_core.specs.Kept.{IsTracked, with_slots}
+use Rattle.pref_core.specs.Kept.{IsTracked, KeepSlots, replaced}
 use Rattle.pref_core.specs.Slots.{Contents, born}
-use Rattle.pref_core.specs.State.{added}
+use Rattle.pref_core.specs.State.{added, changes_of}
 use Rattle.pref_core.proofs.Bounds.{stamp-small, next_id-small, added-small}
 use Rattle.pref_core.proofs.Applied.{IsAllowed-from}
+use Rattle.pref_core.proofs.Changing.{formed_apart}
 use Rattle.pref_core.proofs.Filling.{commit_fresh, commit_filled, commit_replaced}
 use Rattle.pref_core.proofs.Linked.{tracked_next}
+use Rattle.pref_core.proofs.Replacing.{commit_kept}
 use Rattle.pref_core.specs.Planned.{op_of}
 use Rattle.pref_core.proofs.store.contents.Contents.commit.Goals as goal
 
@@ -54,21 +56,15 @@ begin_rows-requires-clause-small c = let small = next_id-small _ c.requires.kept
 
 pub returns-in-None-clause-slots : goal.returns-in-None-clause-slots
 returns-in-None-clause-slots c =
+    let now = c.self.inside in
+    let op = op_of c.args.op.now in
+    let changes = changes_of op.call in
     let slots = ap (λ (s : Contents). s.slots) c.self.view_is in
-    let callers = ap (λ (s : Contents). s.callers) c.self.view_is in
-    let stamp : c.self.inside.stamp + 1 ≡ suc c.args.self.now.stamp = let same = ap (λ (s : Contents). s.stamp) c.self.view_is in omega (arith, same) in
-    let first = ap (λ (s : Contents). s.next_id) c.self.view_is in
-    let next : c.self.inside.next_id + c.added.result ≡ c.args.self.now.next_id + added c.args.op.now.call.now = ap₂ (λ a b. a + b) first c.added.ensures in
-    sym (commit_filled c.args.self.now _ c.end_rows.new.self (op_of c.args.op.now) c.self.inside.next_id (λ i. record { slots = slots i; stamp = stamp i; next_id = next i; callers = callers i }) first c.end_rows.ensures c.requires.change c.requires.succeeds)
-    ∙ c.begin_rows.ensures.slots
-
-pub returns-in-None-clause-rest : goal.returns-in-None-clause-rest
-returns-in-None-clause-rest c =
-    let callers = ap (λ (s : Contents). s.callers) c.self.view_is in
-    let stamp : c.self.inside.stamp + 1 ≡ c.args.self.now.stamp + 1 = ap (λ (s : Contents). s.stamp + 1) c.self.view_is in
-    let next : c.self.inside.next_id + c.added.result ≡ c.args.self.now.next_id + added c.args.op.now.call.now = ap₂ (λ a b. a + b) (ap (λ (s : Contents). s.next_id) c.self.view_is) c.added.ensures in
-    c.begin_rows.ensures.rest ∙ ap (λ e. with_slots c.begin_rows.new.self.slots e) c.end_rows.ensures
-    ∙ (λ i. record { slots = c.begin_rows.new.self.slots; stamp = stamp i; next_id = next i; callers = callers i })
+    let stamp : now.stamp + 1 ≡ suc c.args.self.now.stamp = let same = ap (λ (s : Contents). s.stamp) c.self.view_is in omega (arith, same) in
+    let keep = subst (λ n. KeepSlots n c.args.self.now.slots changes op.slots) stamp (subst (λ l. KeepSlots (now.stamp + 1) l changes op.slots) slots (c.keeps_slots.ensures c.if-keeps_slots.true)) in
+    commit_kept c.args.self.now now.places now.links op (subst (λ (s : Contents). IsTracked s now.places now.links) c.self.view_is c.self.invariant)
+    (formed_apart op.call (IsAllowed-from c.args.self.now op c.requires.next).formed) keep c.requires.change c.requires.succeeds c.requires.fits
+    ∙ ap Some (sym (ap (λ (s : Contents). s.slots) c.replace_rows.ensures ∙ ap₂ (λ n l. replaced n changes op.slots l) stamp slots))
 
 pub returns-in-Some-clause-slots : goal.returns-in-Some-clause-slots
 returns-in-Some-clause-slots c =

@@ -1,0 +1,7 @@
+use Rattle.std.proofs.Common.{drop}
+use Rattle.pref_core.specs.Kept.{KeepSlots}
+use Rattle.pref_core.specs.State.{changes_of}
+use Rattle.pref_core.proofs.store.contents.Contents.keeps_slots.Given as goal
+
+abbrev pub invariant-loop-at : goal.invariant-loop-at
+invariant-loop-at l = KeepSlots l.self.stamp l.self.slots (drop l.at (changes_of l.op.call.now)) (drop l.at l.slots) → KeepSlots l.self.stamp l.self.slots (changes_of l.op.call.now) l.op.slots
