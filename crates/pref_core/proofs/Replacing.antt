@@ -1,15 +1,18 @@
 -- Rows that a commit sets, each replaced where it stands.
-use Rattle.std.proofs.Common.{◌≡◌, ℕ, suc, ◌+◌, ◌<◌, Bool, true, false, cond, eqb, List, [], ◌∷◌, map, length, drop, set, Option, Some, None, is_some, slice_get, get_or, refl, sym, ap, ap₂, ◌∙◌, subst, arith, ⊎_elim}
+use Rattle.std.proofs.Common.{◌≡◌, Bor, ℕ, suc, ◌+◌, ◌<◌, Bool, true, false, cond, eqb, List, [], ◌∷◌, map, length, drop, set, Option, Some, None, is_some, slice_get, get_or, refl, sym, ap, ap₂, ◌∙◌, subst, arith, ⊎_elim}
 use Rattle.std.proofs.lemmas.List.{map-set, set-set}
 use Rattle.std.proofs.lemmas.Bool.{le-leb, eqb-true, eq-eqb, and_parts, cases_eq, true≢false}
 use Rattle.pref_core.specs.declared.changes.Change.{Change}
 use Rattle.pref_core.specs.declared.changes.Change.TheVariants.{Add, Set, Remove}
+use Rattle.pref_core.specs.declared.changes.LentChange.{LentChange}
+use Rattle.pref_core.specs.declared.changes.LentChange.TheVariants.{Add as LentAdd, Set as LentSet, Remove as LentRemove}
 use Rattle.pref_core.specs.declared.call.Op.{Op}
 use Rattle.pref_core.specs.declared.store.places.Zone.{Zone}
 use Rattle.pref_core.specs.declared.store.version.Version.{Version}
 use Rattle.pref_core.specs.Changes.{ended_by, begun_by}
 use Rattle.pref_core.specs.Indexes.{is_row, row_at}
 use Rattle.pref_core.specs.Kept.{IsTracked, KeepSlots, replaced, with_slots}
+use Rattle.pref_core.specs.Lent.{change_of}
 use Rattle.pref_core.specs.Operations.{close, close_at, filled, is_free, slots_after}
 use Rattle.pref_core.specs.Rows.{Row}
 use Rattle.pref_core.specs.Slots.{Contents, born, is_visible, stamps}
@@ -148,7 +151,7 @@ replaced_one start now new changes places at id row all is h told =
     })
 
 -- each of the changes sets a row
-pub sets_row : (stamp : ℕ) (slots : List (Option Version)) (change : Change) (rest : List Change) (places : List ℕ) → KeepSlots stamp slots (change ∷ rest) places → ((id : ℕ) (row : Row) → change ≡ Set id row → ⊥) → ⊥
-sets_row stamp slots (Set id row) rest places keep other = other id row refl
-sets_row stamp slots (Add row) rest places keep other = keep
-sets_row stamp slots (Remove id) rest places keep other = keep
+pub sets_row : (stamp : ℕ) (slots : List (Option Version)) (change : LentChange) (rest : List Change) (places : List ℕ) → KeepSlots stamp slots (change_of change ∷ rest) places → ((id : ℕ) (row : Bor Row) → change ≡ LentSet id row → ⊥) → ⊥
+sets_row stamp slots (LentSet id row) rest places keep other = other id row refl
+sets_row stamp slots (LentAdd row) rest places keep other = keep
+sets_row stamp slots (LentRemove id) rest places keep other = keep

@@ -5,7 +5,7 @@
 
 ghost use Rattle.std.specs.Prelude.{◌≡◌, ◌++◌, ◌∷◌, [], ◌<◌, ◌≤◌, ℕ, Some, IfSome, true, is_some, length, slice_get};
 
-use crate::changes::{Change, Commit, added_by, begun_by, is_named};
+use crate::changes::{Commit, LentChange, added_by, begun_by, is_named};
 use crate::fault::CoreFault;
 use pref_table::Row;
 use std::marker::Model;
@@ -79,6 +79,7 @@ impl<'a> Model for LentCall<'a> {
 
 impl<'a> LentCall<'a> {
     ghost use Rattle.pref_core.specs.Table.{among};
+    ghost use Rattle.pref_core.specs.Lent.{change_of};
     ghost use Rattle.pref_core.specs.Operations.{begin_after};
     ghost use Rattle.pref_core.specs.Stability.{is_end};
     ghost use Rattle.pref_core.specs.State.{refusal_of, is_open, changes_of, ended, begun, begins_row, added, is_change, is_formed};
@@ -197,15 +198,15 @@ impl<'a> LentCall<'a> {
 
     /// The change at this place, from 0 on.
     #[inline(always)]
-    pub(crate) fn change(&self, at: usize) -> Change
+    pub(crate) fn change(&self, at: usize) -> LentChange<'a>
         requires { at < length (changes_of self.now) }
-        ensures { slice_get (changes_of self.now) at ≡ Some result }
+        ensures { slice_get (changes_of self.now) at ≡ Some (change_of result) }
     {
         match self.kind {
-            Lent::Insert(row) => Change::Add(*row),
-            Lent::Update(id, row) => Change::Set(id, *row),
-            Lent::Delete(id) => Change::Remove(id),
-            Lent::Commit(commit) => commit.as_slice()[at],
+            Lent::Insert(row) => LentChange::Add(row),
+            Lent::Update(id, row) => LentChange::Set(id, row),
+            Lent::Delete(id) => LentChange::Remove(id),
+            Lent::Commit(commit) => commit.as_slice()[at].lent(),
             Lent::Begin | Lent::Finish | Lent::Abandon => unreachable!(),
         }
     }

@@ -9,7 +9,7 @@ ghost use Rattle.pref_core.specs.State.{State, changes_of};
 ghost use Rattle.pref_core.specs.Table.{among};
 
 use crate::call::{Outcome, Planned, SlotList};
-use crate::changes::Change;
+use crate::changes::LentChange;
 use crate::store::Store;
 use indexmap::IndexMap;
 use std::alloc::{AllocError, Global};
@@ -178,15 +178,15 @@ fn added_slots(op: &Planned<'_>) -> SlotList
     let mut used = 0;
     for at in 0..op.call.count() {
         match op.call.change(at) {
-            Change::Add(_) => {
+            LentChange::Add(_) => {
                 let Some(slot) = slots.get(used) else {
                     return added;
                 };
                 added.push(*slot);
                 used += 1;
             }
-            Change::Set(_, _) => used += 1,
-            Change::Remove(_) => {}
+            LentChange::Set(_, _) => used += 1,
+            LentChange::Remove(_) => {}
         }
     }
     added

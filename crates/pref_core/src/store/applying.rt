@@ -9,7 +9,7 @@ ghost use Rattle.pref_core.specs.Slots.{begins};
 ghost use Rattle.pref_core.specs.State.{ended, is_formed};
 
 use crate::call::{Outcome, Planned, QueryState, SlotList};
-use crate::changes::Change;
+use crate::changes::LentChange;
 use crate::index::Index;
 use crate::store::Store;
 use crate::store::caller::caller_of;
@@ -44,13 +44,13 @@ impl Store {
         let mut used = 0;
         for at in 0..op.call.count() {
             match op.call.change(at) {
-                Change::Add(_) => used += 1,
-                Change::Set(id, _) => {
+                LentChange::Add(_) => used += 1,
+                LentChange::Set(id, _) => {
                     let Some(slot) = slots.get(used) else { return };
                     self.contents.move_row(index, id, *slot);
                     used += 1;
                 }
-                Change::Remove(id) => index.take(id),
+                LentChange::Remove(id) => index.take(id),
             }
         }
     }

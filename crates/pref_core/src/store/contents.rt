@@ -14,7 +14,7 @@ ghost use Rattle.pref_core.specs.Table.{among, has};
 ghost use Rattle.pref_core.specs.declared.call.Call.{Call};
 
 use crate::call::{LentCall, Planned, SlotList};
-use crate::changes::Change;
+use crate::changes::LentChange;
 use crate::index::Index;
 use crate::setup::Setup;
 use crate::store::caller::{Caller, count, idle};
@@ -251,7 +251,7 @@ impl Contents {
         let slots = op.slots.as_slice();
         for at in 0..op.call.count() {
             match (op.call.change(at), slots.get(at)) {
-                (Change::Set(id, _), Some(place))
+                (LentChange::Set(id, _), Some(place))
                     if stands_at(&self.slots, *place, self.stamp, id) => {}
                 _ => return false,
             }
@@ -266,8 +266,8 @@ impl Contents {
     {
         let slots = op.slots.as_slice();
         for at in 0..op.call.count() {
-            if let Change::Set(id, row) = op.call.change(at) {
-                self.replace(id, &row, slots[at]);
+            if let LentChange::Set(id, row) = op.call.change(at) {
+                self.replace(id, row, slots[at]);
             }
         }
     }
@@ -318,8 +318,8 @@ impl Contents {
         let mut used = 0;
         for at in 0..op.call.count() {
             let change = op.call.change(at);
-            if let Some(entry) = change.begun(next_id) {
-                self.begin_row(entry, slots[used]);
+            if let Some((id, row)) = change.begun(next_id) {
+                self.begin_row(id, row, slots[used]);
                 used += 1;
             }
             next_id += change.added();
@@ -327,15 +327,15 @@ impl Contents {
     }
 
     /// Begins a row at a free place.
-    fn begin_row(&mut self, entry: Entry, place: u32)
+    fn begin_row(&mut self, id: u64, row: &Row, place: u32)
         requires free { is_free (stamps self.old) self.old.slots place ≡ true }
-        requires absent { has (visible self.old.stamp self.old.slots) entry.id ≡ false }
-        requires low { entry.id < self.old.next_id }
-        ensures { self.new ≡ with_slots (slice_set self.old.slots place (born self.old.stamp entry)) self.old }
+        requires absent { has (visible self.old.stamp self.old.slots) id ≡ false }
+        requires low { id < self.old.next_id }
+        ensures { self.new ≡ with_slots (slice_set self.old.slots place (born self.old.stamp (record { id = id; row = row.now }))) self.old }
     {
         let stamp = self.stamp;
-        self.links.add(&self.slots, stamp, entry.id, place);
-        self.slots[place as usize] = born(entry, stamp);
+        self.links.add(&self.slots, stamp, id, place);
+        self.slots[place as usize] = born(Entry { id, row: *row }, stamp);
         self.places.take(place);
     }
 

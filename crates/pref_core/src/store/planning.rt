@@ -8,7 +8,7 @@ ghost use Rattle.pref_core.specs.Planned.{op_or_fault};
 ghost use Rattle.pref_core.specs.State.{ended, is_change, is_formed, succeeds, granted};
 
 use crate::call::{LentCall, Outcome, Planned, QueryState, SlotList};
-use crate::changes::Change;
+use crate::changes::LentChange;
 use crate::fault::CoreFault;
 use crate::index::Index;
 use crate::store::Store;
@@ -112,8 +112,8 @@ impl Store {
         let mut next_id = self.contents.next_id;
         for at in 0..call.count() {
             let change = call.change(at);
-            if let Some(entry) = change.begun(next_id) {
-                match self.contents.choose(freed, &chosen, entry.id) {
+            if let Some((id, _)) = change.begun(next_id) {
+                match self.contents.choose(freed, &chosen, id) {
                     Some(place) => chosen.push(place),
                     None => unreachable!(),
                 }
@@ -135,8 +135,8 @@ impl Contents {
             return None;
         }
         let mut slots = SlotList::NONE;
-        if let Some(entry) = call.change(0).begun(self.next_id) {
-            slots.push(home_of(&self.slots, entry.id));
+        if let Some((id, _)) = call.change(0).begun(self.next_id) {
+            slots.push(home_of(&self.slots, id));
         }
         if self.fit_at_once(index, call, &slots) {
             Some(slots)
@@ -161,17 +161,17 @@ impl Contents {
             return false;
         }
         match call.change(0) {
-            Change::Add(_) => match slots.as_slice() {
+            LentChange::Add(_) => match slots.as_slice() {
                 [place] => self.places.is_free(*place),
                 _ => false,
             },
-            Change::Set(id, _) => match slots.as_slice() {
+            LentChange::Set(id, _) => match slots.as_slice() {
                 [place] => {
                     stands_at(&self.slots, *place, self.stamp, id) && self.frees(*place, call)
                 }
                 _ => false,
             },
-            Change::Remove(id) => {
+            LentChange::Remove(id) => {
                 slots.as_slice().is_empty() && self.place_of(index, id).is_some()
             }
         }

@@ -11,6 +11,7 @@ use Rattle.pref_core.proofs.Changing.{drop_at, drop_all}
 use Rattle.pref_core.proofs.Counts.{drop_item, drop_more}
 use Rattle.pref_core.proofs.Reindexing.{AreThere, FollowsRest, follows_one, ready_there}
 use Rattle.pref_core.specs.Planned.{op_of}
+use Rattle.pref_core.specs.Lent.{change_of}
 use Rattle.pref_core.proofs.store.Store.follow.Goals as goal
 use Rattle.pref_core.proofs.store.Store.follow.Goals.{in-Add, in-Set+in-Some, in-Remove}
 
@@ -28,7 +29,7 @@ loop-at-init c =
 pub returns-in_default : goal.returns-in_default
 returns-in_default c id =
     let op = (op_of c.args.op.now) in
-    let here = drop_at (changes_of op.call) c.loop-at.at (Set c.in-Set.id c.in-Set.field-1) c.in-Set.ensures in
+    let here = drop_at (changes_of op.call) c.loop-at.at (Set c.in-Set.id c.in-Set.field-1.now) c.in-Set.ensures in
     let none = drop_all c.as_slice-slots.result.now c.loop-at.used (ltb-false _ _ (sym c.in_default.ensures.lookup.0)) in
     sym (ap (λ rows. given rows id (slot_of c.loop-at.index id)) (ap₂ moved here none)) ∙ c.loop-at.invariant.rest.gives id
     ∙ ap (λ b. given (cond b (moved (changes_of op.call) op.slots) []) id (slot_of c.args.index.now id)) (sym (sym c.succeeds.ensures ∙ c.if-not-succeeds.false))
@@ -36,7 +37,7 @@ returns-in_default c id =
 pub move_row-requires-clause-there : goal.move_row-requires-clause-there
 move_row-requires-clause-there c =
     let rest = drop (c.loop-at.at + 1) (changes_of c.args.op.now.call.now) in
-    let here = drop_at (changes_of c.args.op.now.call.now) c.loop-at.at (Set c.in-Set.id c.in-Set.field-1) c.in-Set.ensures in
+    let here = drop_at (changes_of c.args.op.now.call.now) c.loop-at.at (Set c.in-Set.id c.in-Set.field-1.now) c.in-Set.ensures in
     let olds = subst (λ l. AreThere c.args.self.now (ended_by l) c.loop-at.index) here c.loop-at.invariant.rest.olds in
     ap (λ (s : Contents). has (visible s.stamp s.slots) c.in-Set.id) c.self.view_is
     ∙ olds.there c.in-Set.id (ap (λ b. b || among (ended_by rest) c.in-Set.id) (eq-eqb c.in-Set.id c.in-Set.id refl))
@@ -44,7 +45,7 @@ move_row-requires-clause-there c =
 pub move_row-requires-clause-index : goal.move_row-requires-clause-index
 move_row-requires-clause-index c =
     let rest = drop (c.loop-at.at + 1) (changes_of c.args.op.now.call.now) in
-    let here = drop_at (changes_of c.args.op.now.call.now) c.loop-at.at (Set c.in-Set.id c.in-Set.field-1) c.in-Set.ensures in
+    let here = drop_at (changes_of c.args.op.now.call.now) c.loop-at.at (Set c.in-Set.id c.in-Set.field-1.now) c.in-Set.ensures in
     let olds = subst (λ l. AreThere c.args.self.now (ended_by l) c.loop-at.index) here c.loop-at.invariant.rest.olds in
     subst (λ (s : Contents). IsPlaceOf s.stamp c.in-Set.id s.slots (slot_of c.loop-at.index c.in-Set.id)) (sym c.self.view_is)
     (olds.placed c.in-Set.id (ap (λ b. b || among (ended_by rest) c.in-Set.id) (eq-eqb c.in-Set.id c.in-Set.id refl)))
@@ -58,12 +59,12 @@ loop-at-preserved c =
     let used = c.loop-at.used in
     let rest = drop (c.loop-at.at + 1) changes in
     let all : ℕ → Option ℕ = λ id. given (moved changes op.slots) id (slot_of c.args.index.now id) in
-    let here = drop_at changes c.loop-at.at c.change.result c.change.ensures in
+    let here = drop_at changes c.loop-at.at (change_of c.change.result) c.change.ensures in
     let few = c.loop-at.invariant.used in
     elim c.match-change.branch [
       | in-Add w ↦
           let more = w.used-is in
-          let h = subst (λ l. FollowsRest now l (drop used slots) c.loop-at.index all) (here ∙ ap (λ x. x ∷ rest) w.in-Add.is) c.loop-at.invariant.rest in
+          let h = subst (λ l. FollowsRest now l (drop used slots) c.loop-at.index all) (here ∙ ap (λ x. change_of x ∷ rest) w.in-Add.is) c.loop-at.invariant.rest in
           record {
             rest = subst (λ n. FollowsRest now rest (drop n slots) c.match-change.index all) (sym more)
                 (subst (λ i. FollowsRest now rest (drop (used + 1) slots) i all) (sym w.index-is)
@@ -74,7 +75,7 @@ loop-at-preserved c =
           let more = w.used-is in
           let slot = w.in-Some.slot.now in
           let next = drop_item slots used slot slot w.in-Some.ensures.lookup.1 (ltb-true _ _ (sym w.in-Some.ensures.lookup.0)) in
-          let h = subst (λ l. FollowsRest now l (slot ∷ drop (used + 1) slots) c.loop-at.index all) (here ∙ ap (λ x. x ∷ rest) w.in-Set.is) (subst (λ l. FollowsRest now (drop c.loop-at.at changes) l c.loop-at.index all) next c.loop-at.invariant.rest) in
+          let h = subst (λ l. FollowsRest now l (slot ∷ drop (used + 1) slots) c.loop-at.index all) (here ∙ ap (λ x. change_of x ∷ rest) w.in-Set.is) (subst (λ l. FollowsRest now (drop c.loop-at.at changes) l c.loop-at.index all) next c.loop-at.invariant.rest) in
           record {
             rest = subst (λ n. FollowsRest now rest (drop n slots) c.match-change.index all) (sym more)
                 (subst (λ i. FollowsRest now rest (drop (used + 1) slots) i all) (sym w.index-is)
@@ -83,7 +84,7 @@ loop-at-preserved c =
           }
       | in-Remove w ↦
           let more = w.used-is in
-          let h = subst (λ l. FollowsRest now l (drop used slots) c.loop-at.index all) (here ∙ ap (λ x. x ∷ rest) w.in-Remove.is) c.loop-at.invariant.rest in
+          let h = subst (λ l. FollowsRest now l (drop used slots) c.loop-at.index all) (here ∙ ap (λ x. change_of x ∷ rest) w.in-Remove.is) c.loop-at.invariant.rest in
           record {
             rest = subst (λ n. FollowsRest now rest (drop n slots) c.match-change.index all) (sym more)
                 (subst (λ i. FollowsRest now rest (drop used slots) i all) (sym w.index-is)

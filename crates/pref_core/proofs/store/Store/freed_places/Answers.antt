@@ -6,6 +6,7 @@ use Rattle.pref_core.specs.Indexes.{IsPlaceOf}
 use Rattle.pref_core.specs.Kept.{IsFreed, frees_at}
 use Rattle.pref_core.specs.Slots.{Contents, begins, visible}
 use Rattle.pref_core.specs.State.{changes_of, ended, missing}
+use Rattle.pref_core.specs.Lent.{change_of}
 use Rattle.pref_core.proofs.Bounds.{stamp-small}
 use Rattle.pref_core.proofs.Changing.{ended_so_far, formed_apart, take_all}
 use Rattle.pref_core.proofs.Counts.{ended_first, ended_next}
@@ -21,7 +22,7 @@ loop-at-preserved c =
     let now = c.self.inside.contents in
     let call = c.args.call.now in
     let done = ended_by (take c.loop-at.at (changes_of call)) in
-    let more = ended_so_far (changes_of call) c.loop-at.at c.change.result c.change.ensures in
+    let more = ended_so_far (changes_of call) c.loop-at.at (change_of c.change.result) c.change.ensures in
     let next : suc now.stamp ≡ now.stamp + 1 = omega arith in
     elim c.match-ended.branch [
       | in-Some+in-Some-place_of+then-frees w ↦
@@ -51,7 +52,7 @@ returns-in_default-place_of-clause-found c =
     let changes = changes_of c.args.call.now in
     ap (λ (s : Contents). missing (ended_by changes) (visible s.stamp s.slots)) (sym c.self.view_is)
     ∙ frees_missing now (ended_by changes) (ended_by (take c.loop-at.at changes)) (ended_by (drop (c.loop-at.at + 1) changes)) c.loop-at.freed c.in-Some.id
-    (ended_next changes c.loop-at.at c.change.result c.in-Some.id c.change.ensures (sym c.in-Some.ensures)) c.loop-at.invariant
+    (ended_next changes c.loop-at.at (change_of c.change.result) c.in-Some.id c.change.ensures (sym c.in-Some.ensures)) c.loop-at.invariant
     (subst (IsPlaceOf now.stamp c.in-Some.id now.slots) c.in_default-place_of.is c.place_of.ensures)
 
 pub push-requires : goal.push-requires

@@ -1,11 +1,11 @@
 use Rattle.std.proofs.Common.{◌+◌, ◌++◌, [], ◌∷◌, drop, sym, ap, ◌∙◌, subst, arith}
-use Rattle.std.specs.Option.{option_to_list}
 use Rattle.pref_core.specs.declared.store.Store.TheInside.{Inside}
 use Rattle.pref_core.specs.Bounds.{IsBounded}
 use Rattle.pref_core.specs.Changes.{begun_by, added_by}
 use Rattle.pref_core.specs.Kept.{is_open, zones_of}
 use Rattle.pref_core.specs.Slots.{Contents}
 use Rattle.pref_core.specs.State.{changes_of}
+use Rattle.pref_core.specs.Lent.{change_of}
 use Rattle.pref_core.proofs.Bounds.{next_id-small}
 use Rattle.pref_core.proofs.Changing.{begun_at, added_one, drop_all}
 use Rattle.pref_core.proofs.Choosing.{ChosenUpTo, none_chosen, chosen_few, choose_one, one_left, all_chosen}
@@ -22,38 +22,38 @@ loop-at-init c =
 
 pub push-requires : goal.push-requires
 push-requires c =
-    let rest = begun_by (c.loop-at.next_id + added_by (c.change-change.result ∷ [])) (drop (c.loop-at.at + 1) (changes_of c.args.call.now)) in
-    let is = begun_at c.loop-at.next_id (changes_of c.args.call.now) c.loop-at.at c.change-change.result c.change-change.ensures ∙ ap (λ l. l ++ rest) (sym c.in-Some.ensures) in
-    chosen_few c.args.self.now c.args.call.now c.in-Some.entry rest c.loop-at.chosen c.count-at-end.ensures.few (subst (λ l. ChosenUpTo c.args.self.now c.args.call.now l c.loop-at.chosen) is c.loop-at.invariant.chosen)
+    let rest = begun_by (c.loop-at.next_id + added_by ((change_of c.change-change.result) ∷ [])) (drop (c.loop-at.at + 1) (changes_of c.args.call.now)) in
+    let is = begun_at c.loop-at.next_id (changes_of c.args.call.now) c.loop-at.at (change_of c.change-change.result) c.change-change.ensures ∙ ap (λ l. l ++ rest) c.in-Some.ensures.some in
+    chosen_few c.args.self.now c.args.call.now (record { id = c.in-Some.id; row = c.in-Some.field-0-1.now }) rest c.loop-at.chosen c.count-at-end.ensures.few (subst (λ l. ChosenUpTo c.args.self.now c.args.call.now l c.loop-at.chosen) is c.loop-at.invariant.chosen)
 
 pub unreachable-requires : goal.unreachable-requires
 unreachable-requires c =
-    let rest = begun_by (c.loop-at.next_id + added_by (c.change-change.result ∷ [])) (drop (c.loop-at.at + 1) (changes_of c.args.call.now)) in
-    let is = begun_at c.loop-at.next_id (changes_of c.args.call.now) c.loop-at.at c.change-change.result c.change-change.ensures ∙ ap (λ l. l ++ rest) (sym c.in-Some.ensures) in
-    one_left c.args.self.now c.args.call.now c.in-Some.entry rest c.loop-at.chosen c.args.freed.now c.requires.freed c.requires.change c.requires.succeeds
+    let rest = begun_by (c.loop-at.next_id + added_by ((change_of c.change-change.result) ∷ [])) (drop (c.loop-at.at + 1) (changes_of c.args.call.now)) in
+    let is = begun_at c.loop-at.next_id (changes_of c.args.call.now) c.loop-at.at (change_of c.change-change.result) c.change-change.ensures ∙ ap (λ l. l ++ rest) c.in-Some.ensures.some in
+    one_left c.args.self.now c.args.call.now (record { id = c.in-Some.id; row = c.in-Some.field-0-1.now }) rest c.loop-at.chosen c.args.freed.now c.requires.freed c.requires.change c.requires.succeeds
     (λ place opens. c.in-None.ensures.none place (ap (λ s. is_open (zones_of s) c.args.freed.now place) c.self.view_is ∙ opens)) (subst (λ l. ChosenUpTo c.args.self.now c.args.call.now l c.loop-at.chosen) is c.loop-at.invariant.chosen)
 
 pub overflow_add-next_id : goal.overflow_add-next_id
 overflow_add-next_id c =
     let small = next_id-small _ (subst IsBounded c.self.view_is c.self.invariant.bounded) in
-    let one = added_one c.change-change.result in
+    let one = added_one (change_of c.change-change.result) in
     omega arith
 
 pub loop-at-preserved : goal.loop-at-preserved
 loop-at-preserved c =
     let now = c.args.self.now in
     let call = c.args.call.now in
-    let rest = begun_by (c.loop-at.next_id + added_by (c.change-change.result ∷ [])) (drop (c.loop-at.at + 1) (changes_of call)) in
-    let one = added_one c.change-change.result in
+    let rest = begun_by (c.loop-at.next_id + added_by ((change_of c.change-change.result) ∷ [])) (drop (c.loop-at.at + 1) (changes_of call)) in
+    let one = added_one (change_of c.change-change.result) in
     record {
       chosen = subst (λ n. ChosenUpTo now call (begun_by (c.loop-at.next_id + n) (drop (c.loop-at.at + 1) (changes_of call))) c.match-begun.chosen) (sym c.added-next_id.ensures) (elim c.match-begun.branch [
         | in-Some+in-Some-choose w ↦
-            let is = begun_at c.loop-at.next_id (changes_of call) c.loop-at.at c.change-change.result c.change-change.ensures ∙ ap (λ l. l ++ rest) (sym c.begun.ensures ∙ ap option_to_list w.in-Some.is) in
+            let is = begun_at c.loop-at.next_id (changes_of call) c.loop-at.at (change_of c.change-change.result) c.change-change.ensures ∙ ap (λ l. l ++ rest) w.in-Some.ensures.some in
             subst (ChosenUpTo now call rest) (sym (w.chosen-is ∙ w.push.ensures))
-            (choose_one now call w.in-Some.entry rest c.loop-at.chosen w.in-Some-choose.place c.args.freed.now c.requires.freed (ap (λ s. is_open (zones_of s) c.args.freed.now w.in-Some-choose.place) (sym c.self.view_is) ∙ w.in-Some-choose.ensures.found.0) w.in-Some-choose.ensures.found.1
+            (choose_one now call (record { id = w.in-Some.id; row = w.in-Some.field-0-1.now }) rest c.loop-at.chosen w.in-Some-choose.place c.args.freed.now c.requires.freed (ap (λ s. is_open (zones_of s) c.args.freed.now w.in-Some-choose.place) (sym c.self.view_is) ∙ w.in-Some-choose.ensures.found.0) w.in-Some-choose.ensures.found.1
             (subst (λ l. ChosenUpTo now call l c.loop-at.chosen) is c.loop-at.invariant.chosen))
         | in_default w ↦
-            let is = begun_at c.loop-at.next_id (changes_of call) c.loop-at.at c.change-change.result c.change-change.ensures ∙ ap (λ l. l ++ rest) (sym c.begun.ensures ∙ ap option_to_list w.in_default.is) in
+            let is = begun_at c.loop-at.next_id (changes_of call) c.loop-at.at (change_of c.change-change.result) c.change-change.ensures ∙ ap (λ l. l ++ rest) w.in_default.ensures.none in
             subst (ChosenUpTo now call rest) (sym w.chosen-is) (subst (λ l. ChosenUpTo now call l c.loop-at.chosen) is c.loop-at.invariant.chosen)
       ]);
       few = omega arith;

@@ -11,7 +11,7 @@ invariant_of-self c =
     let now = c.self.inside in
     let contents : Contents = record { slots = now.slots.items; stamp = now.stamp; next_id = now.next_id; callers = now.callers.items } in
     let free = ap (λ (s : Contents). is_free (stamps s) s.slots c.args.place) c.self.view_is ∙ c.requires.free in
-    let absent = ap (λ (s : Contents). has (visible s.stamp s.slots) c.args.entry.id) c.self.view_is ∙ c.requires.absent in
-    let low = subst (λ (s : Contents). c.args.entry.id < s.next_id) (sym c.self.view_is) c.requires.low in
-    begin_tracked contents now.places now.links c.args.entry c.args.place c.born.result c.take.new.self c.add.new.self c.self.invariant free absent low (omega arith) c.born.ensures c.take.ensures
-    (subst (λ slots. AreLinks (set (ids_of now.stamp slots) c.args.place (Some c.args.entry.id)) c.add.new.self) c.deref.ensures.value c.add.ensures)
+    let absent = ap (λ (s : Contents). has (visible s.stamp s.slots) c.args.id) c.self.view_is ∙ c.requires.absent in
+    let low = subst (λ (s : Contents). c.args.id < s.next_id) (sym c.self.view_is) c.requires.low in
+    begin_tracked contents now.places now.links (record { id = c.args.id; row = c.args.row.now }) c.args.place c.born.result c.take.new.self c.add.new.self c.self.invariant free absent low (omega arith) c.born.ensures c.take.ensures
+    (subst (λ slots. AreLinks (set (ids_of now.stamp slots) c.args.place (Some c.args.id)) c.add.new.self) c.deref.ensures.value c.add.ensures)

@@ -1,11 +1,11 @@
 use Rattle.std.proofs.Common.{◌+◌, ◌++◌, [], ◌∷◌, List, Option, drop, sym, ap, ◌∙◌, subst, arith}
-use Rattle.std.specs.Option.{option_to_list}
 use Rattle.pref_core.specs.declared.store.version.Version.{Version}
 use Rattle.pref_sky.specs.declared.entry.Entry.{Entry}
 use Rattle.pref_core.specs.Changes.{begun_by, added_by}
 use Rattle.pref_core.specs.Operations.{filled}
 use Rattle.pref_core.specs.Slots.{begins, stamps}
 use Rattle.pref_core.specs.State.{changes_of, begun}
+use Rattle.pref_core.specs.Lent.{change_of}
 use Rattle.pref_core.proofs.Changing.{added_one, begun_at, drop_all}
 use Rattle.pref_core.proofs.Filling.{BegunUpTo, FillsRest, BeginsNext, begins_next, begun_one, fills_end}
 use Rattle.pref_core.proofs.store.contents.Contents.begin_rows.Goals as goal
@@ -13,15 +13,15 @@ use Rattle.pref_core.proofs.store.contents.Contents.begin_rows.Goals.{In-Some, i
 
 -- the rows behind the one that begins
 abbrev rest : In-Some → List Entry
-rest c = begun_by (c.loop-at.next_id + added_by (c.change-change.result ∷ [])) (drop (c.loop-at.at + 1) (changes_of c.args.op.now.call.now))
+rest c = begun_by (c.loop-at.next_id + added_by ((change_of c.change-change.result) ∷ [])) (drop (c.loop-at.at + 1) (changes_of c.args.op.now.call.now))
 
 abbrev all : In-Some → Option (List (Option Version))
 all c = filled (stamps c.args.self.now) c.args.self.now.stamp c.args.op.now.slots (begun c.args.first c.args.op.now.call.now) c.args.self.now.slots
 
-next : (c : In-Some) → BeginsNext c.args.self.now c.loop-at.self c.as_slice-slots.result.now c.loop-at.used c.in-Some.entry (rest c) (all c)
+next : (c : In-Some) → BeginsNext c.args.self.now c.loop-at.self c.as_slice-slots.result.now c.loop-at.used (record { id = c.in-Some.id; row = c.in-Some.row.now }) (rest c) (all c)
 next c =
-    let is = begun_at c.loop-at.next_id (changes_of c.args.op.now.call.now) c.loop-at.at c.change-change.result c.change-change.ensures ∙ ap (λ l. l ++ rest c) (sym c.in-Some.ensures) in
-    begins_next c.args.self.now c.loop-at.self c.as_slice-slots.result.now c.loop-at.used c.in-Some.entry (rest c) (all c)
+    let is = begun_at c.loop-at.next_id (changes_of c.args.op.now.call.now) c.loop-at.at (change_of c.change-change.result) c.change-change.ensures ∙ ap (λ l. l ++ rest c) c.in-Some.ensures.some in
+    begins_next c.args.self.now c.loop-at.self c.as_slice-slots.result.now c.loop-at.used (record { id = c.in-Some.id; row = c.in-Some.row.now }) (rest c) (all c)
     (subst (λ l. BegunUpTo c.args.self.now c.loop-at.self (drop c.loop-at.used c.as_slice-slots.result.now) l (all c)) is c.loop-at.invariant.begun)
 
 pub bounds-slots-used : goal.bounds-slots-used
@@ -40,12 +40,12 @@ pub loop-at-preserved : goal.loop-at-preserved
 loop-at-preserved c =
     let start = c.args.self.now in
     let changes = changes_of c.args.op.now.call.now in
-    let rest = begun_by (c.loop-at.next_id + added_by (c.change-change.result ∷ [])) (drop (c.loop-at.at + 1) changes) in
+    let rest = begun_by (c.loop-at.next_id + added_by ((change_of c.change-change.result) ∷ [])) (drop (c.loop-at.at + 1) changes) in
     let all = filled (stamps start) start.stamp c.args.op.now.slots (begun c.args.first c.args.op.now.call.now) start.slots in
     let slots = c.as_slice-slots.result.now in
     let used = c.loop-at.used in
-    let from = begun_at c.loop-at.next_id changes c.loop-at.at c.change-change.result c.change-change.ensures in
-    let one = added_one c.change-change.result in
+    let from = begun_at c.loop-at.next_id changes c.loop-at.at (change_of c.change-change.result) c.change-change.ensures in
+    let one = added_one (change_of c.change-change.result) in
     let told = c.added-next_id.ensures in
     let few = c.loop-at.invariant.few in
     let before = c.loop-at.invariant.used in
@@ -53,12 +53,12 @@ loop-at-preserved c =
       begun = subst (λ n. BegunUpTo start c.match-begun.self (drop c.match-begun.used slots) (begun_by (c.loop-at.next_id + n) (drop (c.loop-at.at + 1) changes)) all) (sym told)
           (elim c.match-begun.branch [
             | in-Some w ↦
-                let is = from ∙ ap (λ l. l ++ rest) (sym w.in-Some.ensures) in
+                let is = from ∙ ap (λ l. l ++ rest) w.in-Some.ensures.some in
                 subst (λ s. BegunUpTo start s (drop c.match-begun.used slots) rest all) (sym w.self-is) (subst (λ n. BegunUpTo start w.begin_row.new.self (drop n slots) rest all) (sym w.used-is)
-                (begun_one start c.loop-at.self w.begin_row.new.self slots used w.in-Some.entry rest all
+                (begun_one start c.loop-at.self w.begin_row.new.self slots used (record { id = w.in-Some.id; row = w.in-Some.row.now }) rest all
                 (subst (λ l. BegunUpTo start c.loop-at.self (drop used slots) l all) is c.loop-at.invariant.begun) w.begin_row.ensures))
             | in_default w ↦
-                let is = from ∙ ap (λ l. l ++ rest) (sym c.begun.ensures ∙ ap option_to_list w.in_default.is) in
+                let is = from ∙ ap (λ l. l ++ rest) w.in_default.ensures.none in
                 subst (λ s. BegunUpTo start s (drop c.match-begun.used slots) rest all) (sym w.self-is) (subst (λ n. BegunUpTo start c.loop-at.self (drop n slots) rest all) (sym w.used-is)
                 (subst (λ l. BegunUpTo start c.loop-at.self (drop used slots) l all) is c.loop-at.invariant.begun))
           ]);

@@ -3,6 +3,7 @@ use Rattle.std.specs.Option.{option_to_list}
 use Rattle.std.proofs.lemmas.List.{append-nil}
 use Rattle.pref_core.specs.Changes.{ended_by}
 use Rattle.pref_core.specs.State.{changes_of}
+use Rattle.pref_core.specs.Lent.{change_of}
 use Rattle.pref_core.proofs.Changing.{ended_so_far}
 use Rattle.pref_core.proofs.Filling.{EndedUpTo, ended_none, ended_more}
 use Rattle.pref_core.proofs.store.contents.Contents.end_rows.Goals as goal
@@ -15,7 +16,7 @@ pub loop-at-preserved : goal.loop-at-preserved
 loop-at-preserved c =
     let start = c.args.self.now in
     let done = ended_by (take c.loop-at.at (changes_of c.args.call.now)) in
-    let more = ended_so_far (changes_of c.args.call.now) c.loop-at.at c.change.result c.change.ensures in
+    let more = ended_so_far (changes_of c.args.call.now) c.loop-at.at (change_of c.change.result) c.change.ensures in
     elim c.match-ended.branch [
       | in-Some w ↦
           subst (EndedUpTo start c.match-ended.self) (sym (more ∙ ap (λ l. done ++ l) (sym c.ended.ensures ∙ ap option_to_list w.in-Some.is)))

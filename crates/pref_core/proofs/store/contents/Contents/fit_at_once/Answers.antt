@@ -21,7 +21,7 @@ returns-in-len1 c free =
     let long : length (changes_of call) ≡ 1 = let many = c.count.ensures.count in omega arith in
     let zones = c.self.invariant.listed ∙ ap zones_of c.self.view_is in
     subst (FitAtOnce now call) (sym (one_slot c.as_slice.result.now (omega arith) (omega arith)) ∙ c.as_slice.ensures.same)
-    (added_at_once now call c.in-Add.field-0 place c.requires.kept c.count.ensures.formed (one_change (changes_of call) (Add c.in-Add.field-0) long c.in-Add.ensures)
+    (added_at_once now call c.in-Add.field-0.now place c.requires.kept c.count.ensures.formed (one_change (changes_of call) (Add c.in-Add.field-0.now) long c.in-Add.ensures)
     (ap (λ z. free_at z place) (sym zones) ∙ sym c.is_free.ensures ∙ free))
 
 pub returns-then-stands_at : goal.returns-then-stands_at
@@ -34,7 +34,7 @@ returns-then-stands_at c frees =
     let stamp = ap (λ (s : Contents). s.stamp) c.self.view_is in
     let slots = c.deref.ensures.value ∙ ap (λ (s : Contents). s.slots) c.self.view_is in
     subst (FitAtOnce now call) (sym (one_slot c.as_slice-in-Set.result.now (omega arith) (omega arith)) ∙ c.as_slice-in-Set.ensures.same)
-    (set_at_once now call id c.in-Set.field-1 place c.requires.kept c.count.ensures.formed (one_change (changes_of call) (Set id c.in-Set.field-1) long c.in-Set.ensures)
+    (set_at_once now call id c.in-Set.field-1.now place c.requires.kept c.count.ensures.formed (one_change (changes_of call) (Set id c.in-Set.field-1.now) long c.in-Set.ensures)
     (sym (λ i. row_at (stamp i) id (slots i) place) ∙ sym c.stands_at.ensures ∙ c.if-stands_at.true) (sym c.frees.ensures ∙ frees))
 
 pub returns-then-is_empty : goal.returns-then-is_empty

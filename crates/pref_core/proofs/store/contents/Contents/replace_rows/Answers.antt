@@ -2,6 +2,7 @@ use Rattle.std.proofs.Common.{List, Option, ◌+◌, drop, sym, subst}
 use Rattle.pref_core.specs.declared.store.version.Version.{Version}
 use Rattle.pref_core.specs.Kept.{KeepSlots, replaced}
 use Rattle.pref_core.specs.State.{changes_of}
+use Rattle.pref_core.specs.Lent.{change_of}
 use Rattle.pref_core.proofs.Changing.{drop_at}
 use Rattle.pref_core.proofs.Replacing.{ReplacesNext, ReplacedUpTo, replaces_next, replaced_one, sets_row}
 use Rattle.pref_core.proofs.store.contents.Contents.replace_rows.Goals as goal
@@ -10,8 +11,8 @@ use Rattle.pref_core.proofs.store.contents.Contents.replace_rows.Goals.{In-Set, 
 abbrev all : In-Set → List (Option Version)
 all c = replaced c.args.self.now.stamp (changes_of c.args.op.now.call.now) c.args.op.now.slots c.args.self.now.slots
 
-next : (c : In-Set) → ReplacesNext c.loop-at.self (changes_of c.args.op.now.call.now) c.as_slice-slots.result.now c.loop-at.at c.in-Set.id c.in-Set.row (all c)
-next c = replaces_next c.args.self.now c.loop-at.self (changes_of c.args.op.now.call.now) c.as_slice-slots.result.now c.loop-at.at c.in-Set.id c.in-Set.row (all c) c.in-Set.ensures c.loop-at.invariant
+next : (c : In-Set) → ReplacesNext c.loop-at.self (changes_of c.args.op.now.call.now) c.as_slice-slots.result.now c.loop-at.at c.in-Set.id c.in-Set.row.now (all c)
+next c = replaces_next c.args.self.now c.loop-at.self (changes_of c.args.op.now.call.now) c.as_slice-slots.result.now c.loop-at.at c.in-Set.id c.in-Set.row.now (all c) c.in-Set.ensures c.loop-at.invariant
 
 pub bounds-slots-at : goal.bounds-slots-at
 bounds-slots-at c = (next (goal.at.bounds-slots-at c).In-Set).inside
@@ -30,6 +31,6 @@ loop-at-preserved c =
     elim c.match-change.branch [
       | in-Set w ↦
           subst (λ s. ReplacedUpTo start s (drop (at + 1) changes) (drop (at + 1) places) all) (sym w.self-is)
-          (replaced_one start now w.replace.new.self changes places at w.in-Set.id w.in-Set.row all w.in-Set.ensures c.loop-at.invariant w.replace.ensures)
-      | in_default w ↦ absurd (sets_row now.stamp now.slots c.change.result (drop (at + 1) changes) (drop at places) (subst (λ l. KeepSlots now.stamp now.slots l (drop at places)) (drop_at changes at c.change.result c.change.ensures) c.loop-at.invariant.keep) w.in_default.not-Set)
+          (replaced_one start now w.replace.new.self changes places at w.in-Set.id w.in-Set.row.now all w.in-Set.ensures c.loop-at.invariant w.replace.ensures)
+      | in_default w ↦ absurd (sets_row now.stamp now.slots c.change.result (drop (at + 1) changes) (drop at places) (subst (λ l. KeepSlots now.stamp now.slots l (drop at places)) (drop_at changes at (change_of c.change.result) c.change.ensures) c.loop-at.invariant.keep) w.in_default.not-Set)
     ]
