@@ -1,11 +1,12 @@
 -- How many changes a call makes, and how many rows they begin and add, one change after the other.
-use Rattle.std.proofs.Common.{◌≡◌, ℕ, zero, suc, ◌+◌, ◌<◌, ◌≤◌, Bool, true, false, cond, List, [], ◌∷◌, ◌++◌, length, take, drop, get_or, slice_get, add-one, Some, refl, sym, ap, ◌∙◌, arith, nat_lt}
+use Rattle.std.proofs.Common.{◌≡◌, ℕ, zero, suc, ◌+◌, ◌<◌, ◌≤◌, Bool, true, false, ◌||◌, cond, eqb, List, [], ◌∷◌, ◌++◌, length, take, drop, get_or, slice_get, add-one, Some, refl, sym, ap, ◌∙◌, arith, nat_lt}
 use Rattle.std.proofs.Math.Seq.{drop-cons}
-use Rattle.std.proofs.lemmas.Bool.{lt-ltb}
+use Rattle.std.proofs.lemmas.Bool.{lt-ltb, eq-eqb, or_right}
 use Rattle.std.proofs.lemmas.List.{take-append-drop}
 use Rattle.pref_core.specs.declared.changes.Change.{Change}
 use Rattle.pref_core.specs.declared.changes.Change.TheVariants.{Add, Set, Remove}
 use Rattle.pref_core.specs.Changes.{ended_by, begun_by, added_by, begins_any}
+use Rattle.pref_core.specs.Table.{among}
 use Rattle.pref_core.proofs.Changing.{ended_by-append, drop_at}
 
 pub drop_item : {X : Type 0} (xs : List X) (at : ℕ) (x other : X) → x ≡ get_or xs at other → at < length xs → drop at xs ≡ x ∷ drop (at + 1) xs
@@ -38,6 +39,16 @@ ended_next changes at change id e named =
     ap ended_by (sym (take-append-drop at changes)) ∙ ended_by-append (take at changes) (drop at changes)
     ∙ ap (λ l. ended_by (take at changes) ++ ended_by l) (drop_at changes at change e)
     ∙ ap (λ l. ended_by (take at changes) ++ l) (ended_by-append (change ∷ []) (drop (at + 1) changes) ∙ ap (λ l. l ++ ended_by (drop (at + 1) changes)) named)
+
+pub named_at : (changes : List Change) (at : ℕ) (change : Change) (id : ℕ) → slice_get changes at ≡ Some change → ended_by (change ∷ []) ≡ id ∷ [] → among (ended_by changes) id ≡ true
+named_at changes at change id e named = ap (λ l. among l id) (ended_next changes at change id e named) ∙ behind (ended_by (take at changes))
+  where
+    rest : List ℕ
+    rest = ended_by (drop (at + 1) changes)
+
+    behind : (ids : List ℕ) → among (ids ++ id ∷ rest) id ≡ true
+    behind [] = ap (λ b. b || among rest id) (eq-eqb id id refl)
+    behind (other ∷ ids) = or_right (eqb other id) (among (ids ++ id ∷ rest) id) (behind ids)
 
 -- The next id has no say in how many rows begin.
 begun_alike : (m n : ℕ) (changes : List Change) → length (begun_by m changes) ≡ length (begun_by n changes)

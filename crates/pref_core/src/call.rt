@@ -5,7 +5,7 @@
 
 ghost use Rattle.std.specs.Prelude.{◌≡◌, ◌++◌, ◌∷◌, [], ◌<◌, ◌≤◌, ℕ, Some, IfSome, true, is_some, length, slice_get};
 
-use crate::changes::{Commit, LentChange, added_by, begun_by, is_named};
+use crate::changes::{Commit, LentChange, added_by, begun_by};
 use crate::fault::CoreFault;
 use pref_table::Row;
 use std::marker::Model;
@@ -78,11 +78,10 @@ impl<'a> Model for LentCall<'a> {
 }
 
 impl<'a> LentCall<'a> {
-    ghost use Rattle.pref_core.specs.Table.{among};
     ghost use Rattle.pref_core.specs.Lent.{change_of};
     ghost use Rattle.pref_core.specs.Operations.{begin_after};
     ghost use Rattle.pref_core.specs.Stability.{is_end};
-    ghost use Rattle.pref_core.specs.State.{refusal_of, is_open, changes_of, ended, begun, begins_row, added, is_change, is_formed};
+    ghost use Rattle.pref_core.specs.State.{refusal_of, is_open, changes_of, begun, begins_row, added, is_change, is_formed};
 
     /// A new row.
     #[inline(always)]
@@ -219,17 +218,6 @@ impl<'a> LentCall<'a> {
         match self.kind {
             Lent::Update(id, row) => Some((id, row)),
             _ => None,
-        }
-    }
-
-    /// Whether the call ends the row of this id.
-    pub(crate) fn ends(&self, id: u64) -> bool
-        ensures { result ≡ among (ended self.now) id }
-    {
-        match self.kind {
-            Lent::Update(other, _) | Lent::Delete(other) => other == id,
-            Lent::Commit(commit) => is_named(commit.as_slice(), id),
-            Lent::Insert(_) | Lent::Begin | Lent::Finish | Lent::Abandon => false,
         }
     }
 

@@ -153,7 +153,7 @@ impl Commit {
 }
 
 /// Whether one of the changes names the id.
-pub(crate) fn is_named(changes: &[Change], id: u64) -> bool
+fn is_named(changes: &[Change], id: u64) -> bool
     ensures { result ≡ among (ended_by changes.now) id }
 {
     for change in changes {

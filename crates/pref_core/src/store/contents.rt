@@ -1,7 +1,7 @@
 //! What a store holds: versions of rows in slots, and the lists beside them that spare a look at each slot.
 
 ghost use Rattle.std.specs.List.{count_by};
-ghost use Rattle.std.specs.Prelude.{ℕ, map, length, true, false, is_some, [], ◌∷◌, Some, None, slice_set, IfOk, IfSome, IfNone, ◌≡◌, ◌+◌, ◌^◌, ◌<◌, ◌≤◌};
+ghost use Rattle.std.specs.Prelude.{ℕ, List, map, length, true, false, is_some, [], ◌∷◌, Some, None, slice_set, IfOk, IfSome, IfNone, ◌≡◌, ◌+◌, ◌^◌, ◌<◌, ◌≤◌};
 ghost use Rattle.pref_core.specs.Indexes.{row_at, slot_of, Points, IsPlaceOf, IsIndexOf};
 ghost use Rattle.pref_core.specs.Kept.{IsKept, IsFreed, AreFresh, KeepSlots, row_in, frees_at, is_open, replaced, with_slots, zones_of};
 ghost use Rattle.pref_core.specs.Operations.{close, is_free, filled, is_next, refusal_at, slots_after, stepped, callers_after, used, grown};
@@ -19,7 +19,7 @@ use crate::index::Index;
 use crate::setup::Setup;
 use crate::store::caller::{Caller, count, idle};
 use crate::store::links::{Links, home_of};
-use crate::store::needs::{is_freed, zone_of};
+use crate::store::needs::{is_seen, zone_of};
 use crate::store::opening::opening;
 use crate::store::places::{Places, any_but};
 use crate::store::reads::stands_at;
@@ -149,14 +149,14 @@ impl Contents {
         self.places.free()
     }
 
-    /// Whether the slot of this place is no longer needed once the rows that the call ends have ended.
-    pub(crate) fn frees(&self, place: u32, call: &LentCall<'_>) -> bool
+    /// Whether the place of a row is no longer needed once that row, among others, has ended.
+    pub(crate) fn frees(&self, place: u32) -> bool
         requires { self.now.stamp < 2 ^ 63 }
-        ensures { result ≡ frees_at (begins self.now.callers) (ended call.now) (self.now.stamp + 1) self.now.slots place }
+        ensures { (ids : List ℕ) (id : ℕ) → among ids id ≡ true → row_at self.now.stamp id self.now.slots place ≡ true → result ≡ frees_at (begins self.now.callers) ids (self.now.stamp + 1) self.now.slots place }
     {
         match self.slots.get(place as usize) {
-            Some(slot) => is_freed(slot, call, self.stamp + 1, &self.callers),
-            None => false,
+            Some(Some(version)) => !is_seen(version, Some(self.stamp + 1), &self.callers),
+            _ => false,
         }
     }
 

@@ -76,7 +76,7 @@ impl Store {
                 let Some(place) = self.contents.place_of(index, id) else {
                     return Err(id);
                 };
-                if self.contents.frees(place, call) {
+                if self.contents.frees(place) {
                     freed.push(place);
                 }
             }
@@ -166,9 +166,7 @@ impl Contents {
                 _ => false,
             },
             LentChange::Set(id, _) => match slots.as_slice() {
-                [place] => {
-                    stands_at(&self.slots, *place, self.stamp, id) && self.frees(*place, call)
-                }
+                [place] => { stands_at(&self.slots, *place, self.stamp, id) && self.frees(*place) }
                 _ => false,
             },
             LentChange::Remove(id) => {

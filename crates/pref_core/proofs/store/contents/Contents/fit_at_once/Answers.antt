@@ -1,11 +1,14 @@
-use Rattle.std.proofs.Common.{◌≡◌, ℕ, true, [], get_or, length, Some, None, Option, is_some, sym, ap, ◌∙◌, subst, arith}
+use Rattle.std.proofs.Common.{◌≡◌, ℕ, true, false, ◌||◌, refl, [], get_or, length, Some, None, Option, is_some, sym, ap, ◌∙◌, subst, arith}
+use Rattle.std.proofs.lemmas.Bool.{eq-eqb}
 use Rattle.pref_core.specs.declared.call.Call.{Call}
 use Rattle.pref_core.specs.declared.changes.Change.TheVariants.{Add, Set, Remove}
+use Rattle.pref_core.specs.Changes.{ended_by}
 use Rattle.pref_core.specs.Indexes.{IsPlaceOf, row_at}
 use Rattle.pref_core.specs.Kept.{FitAtOnce, zones_of}
 use Rattle.pref_core.specs.Places.{free_at}
 use Rattle.pref_core.specs.Slots.{Contents}
-use Rattle.pref_core.specs.State.{changes_of}
+use Rattle.pref_core.specs.State.{changes_of, ended}
+use Rattle.pref_core.specs.Table.{among}
 use Rattle.pref_core.proofs.AtOnce.{one_change, one_slot, no_slot, added_at_once, set_at_once, removed_at_once}
 use Rattle.pref_core.proofs.Bounds.{stamp-small}
 use Rattle.pref_core.proofs.store.contents.Contents.fit_at_once.Goals as goal
@@ -33,9 +36,12 @@ returns-then-stands_at c frees =
     let long : length (changes_of call) ≡ 1 = let many = c.count.ensures.count in omega arith in
     let stamp = ap (λ (s : Contents). s.stamp) c.self.view_is in
     let slots = c.deref.ensures.value ∙ ap (λ (s : Contents). s.slots) c.self.view_is in
+    let is = one_change (changes_of call) (Set id c.in-Set.field-1.now) long c.in-Set.ensures in
+    let stands = sym (λ i. row_at (stamp i) id (slots i) place) ∙ sym c.stands_at.ensures ∙ c.if-stands_at.true in
+    let named = ap (λ l. among (ended_by l) id) is ∙ ap (λ b. b || false) (eq-eqb id id refl) in
     subst (FitAtOnce now call) (sym (one_slot c.as_slice-in-Set.result.now (omega arith) (omega arith)) ∙ c.as_slice-in-Set.ensures.same)
-    (set_at_once now call id c.in-Set.field-1.now place c.requires.kept c.count.ensures.formed (one_change (changes_of call) (Set id c.in-Set.field-1.now) long c.in-Set.ensures)
-    (sym (λ i. row_at (stamp i) id (slots i) place) ∙ sym c.stands_at.ensures ∙ c.if-stands_at.true) (sym c.frees.ensures ∙ frees))
+    (set_at_once now call id c.in-Set.field-1.now place c.requires.kept c.count.ensures.formed is stands
+    (sym (c.frees.ensures (ended call) id named stands) ∙ frees))
 
 pub returns-then-is_empty : goal.returns-then-is_empty
 returns-then-is_empty c some =
