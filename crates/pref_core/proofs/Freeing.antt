@@ -12,7 +12,7 @@ use Rattle.pref_core.specs.declared.store.places.Zone.TheVariants.{Free}
 use Rattle.pref_core.specs.Table.{among}
 use Rattle.pref_core.specs.State.{State, missing}
 use Rattle.pref_core.specs.Slots.{Contents, StandsFor, IsWithin, is_visible, visible, begins}
-use Rattle.pref_core.specs.Operations.{close}
+use Rattle.pref_core.specs.Operations.{close, is_free}
 use Rattle.pref_core.specs.Places.{is_free_zone, free_at, zone_of}
 use Rattle.pref_core.specs.Bounds.{IsBounded}
 use Rattle.pref_core.specs.Indexes.{is_row, row_at, IsPlaceOf}
@@ -22,7 +22,7 @@ use Rattle.pref_core.proofs.Closing.{row_alive}
 use Rattle.pref_core.proofs.Keys.{within-close}
 use Rattle.pref_core.proofs.Linked.{known_ids}
 use Rattle.pref_core.proofs.Linking.{row_shown}
-use Rattle.pref_core.proofs.Zones.{count_by-cons, holds_there, read_other, live, live_by, close_idle, has_row_at, free_zone, used_zones, one_no}
+use Rattle.pref_core.proofs.Zones.{count_by-cons, holds_there, read_other, live, live_by, close_idle, has_row_at, row_version, free_zone, used_zones, one_no}
 
 -- What was found of the first of these rows.
 pub record FreesUpTo (contents : Contents) (ids done freed : List ℕ) : Type 0 where
@@ -187,7 +187,7 @@ module _ (contents : Contents) (state : State) (bounded : IsBounded contents) (s
   one_row id p q a b = (known_ids contents state bounded stands).once p q id (row_shown contents.stamp id contents.slots p a) (row_shown contents.stamp id contents.slots q b)
 
   -- two rows don't stand at one place
-  one_id : (slots : List (Option Version)) (id other place : ℕ) → row_at contents.stamp id slots place ≡ true → row_at contents.stamp other slots place ≡ true → id ≡ other
+  pub one_id : (slots : List (Option Version)) (id other place : ℕ) → row_at contents.stamp id slots place ≡ true → row_at contents.stamp other slots place ≡ true → id ≡ other
   one_id [] id other place a b = absurd (cc)
   one_id (None ∷ slots) id other zero a b = absurd (cc)
   one_id (Some version ∷ slots) id other zero a b = sym (eqb-true version.id id (and_parts (eqb version.id id) (is_visible contents.stamp version) a).0) ∙ eqb-true version.id other (and_parts (eqb version.id other) (is_visible contents.stamp version) b).0
@@ -276,6 +276,36 @@ module _ (contents : Contents) (state : State) (bounded : IsBounded contents) (s
       go None = refl
       go (Some slot) = refl
 
+  zone_there : (place : ℕ) (o : Option (Option Version)) → slice_get contents.slots place ≡ o → free_at zones place ≡ elim o as (λ x. Bool) [ None ↦ false | Some slot ↦ is_free_zone (zone_of ns slot) ]
+  zone_there place o e = ap (λ (o : Option Zone). elim o as (λ x. Bool) [ None ↦ false | Some zone ↦ is_free_zone zone ]) (slice_get-map (zone_of ns) contents.slots place ∙ ap (option_map (zone_of ns)) e) ∙ go o
+    where
+      go : (o : Option (Option Version)) → elim (option_map (zone_of ns) o) as (λ x. Bool) [ None ↦ false | Some zone ↦ is_free_zone zone ] ≡ elim o as (λ x. Bool) [ None ↦ false | Some slot ↦ is_free_zone (zone_of ns slot) ]
+      go None = refl
+      go (Some slot) = refl
+
+  frees_there : (ids : List ℕ) (place : ℕ) (o : Option (Option Version)) → slice_get contents.slots place ≡ o → frees_at ns ids made contents.slots place ≡ elim o as (λ x. Bool) [ None ↦ false | Some slot ↦ is_free_zone (zone_of ns (close ids made slot)) ]
+  frees_there ids place o e = ap (λ o. elim o as (λ x. Bool) [ None ↦ false | Some slot ↦ is_free_zone (zone_of ns (close ids made slot)) ]) e
+
+  -- a place is free once rows ended where they leave it free, ..
+  pub frees_closed : (ids : List ℕ) (place : ℕ) → frees_at ns ids made contents.slots place ≡ true → is_free (made ∷ ns) (map (close ids made) contents.slots) place ≡ true
+  frees_closed ids place f = free_zone contents.next_id made ns (map (close ids made) contents.slots) place (within-close ids contents.next_id contents.stamp contents.slots stands.within) ∙ frees_zone ids place ∙ f
+
+  -- .. or where it was free
+  pub free_closed : (ids : List ℕ) (place : ℕ) → free_at zones place ≡ true → is_free (made ∷ ns) (map (close ids made) contents.slots) place ≡ true
+  free_closed ids place f = frees_closed ids place (go (slice_get contents.slots place) refl)
+    where
+      go : (o : Option (Option Version)) → slice_get contents.slots place ≡ o → frees_at ns ids made contents.slots place ≡ true
+      go None e = absurd (true≢false (sym f ∙ zone_there place None e))
+      go (Some slot) e = frees_there ids place (Some slot) e ∙ slot_freed ids slot (sym (zone_there place (Some slot) e) ∙ f)
+
+  -- where a row stands it isn't
+  pub row_taken : (id place : ℕ) → row_at contents.stamp id contents.slots place ≡ true → free_at zones place ≡ false
+  row_taken id place row =
+      let found = row_version contents.stamp id contents.slots place row in
+      let shows : is_row contents.stamp id (Some found.0) ≡ true = ap (λ o. elim o as (λ x. Bool) [ None ↦ false | Some s ↦ is_row contents.stamp id s ]) (sym found.1) ∙ row in
+      zone_there place (Some (Some found.0)) found.1
+      ∙ ap is_free_zone (row_alive contents.next_id contents.stamp id ns found.0 (holds_there (IsWithin contents.next_id contents.stamp) contents.slots place (Some found.0) found.1 stands.within) shows)
+
   -- the slot of a place is free once rows ended where it was free, or one of them stood there and nobody needs it
   frees_open : (ids olds : List ℕ) (place : ℕ) → AreOldPlaces contents.stamp ids contents.slots olds → frees_at ns ids made contents.slots place ≡ (free_at zones place || (among olds place && frees_at ns ids made contents.slots place))
   frees_open ids olds place stand = at (slice_get contents.slots place) refl
@@ -287,22 +317,12 @@ module _ (contents : Contents) (state : State) (bounded : IsBounded contents) (s
       by false false true up down = refl
       by false false false up down = refl
 
-      zone_there : (o : Option (Option Version)) → slice_get contents.slots place ≡ o → free_at zones place ≡ elim o as (λ x. Bool) [ None ↦ false | Some slot ↦ is_free_zone (zone_of ns slot) ]
-      zone_there o e = ap (λ (o : Option Zone). elim o as (λ x. Bool) [ None ↦ false | Some zone ↦ is_free_zone zone ]) (slice_get-map (zone_of ns) contents.slots place ∙ ap (option_map (zone_of ns)) e) ∙ go o
-        where
-          go : (o : Option (Option Version)) → elim (option_map (zone_of ns) o) as (λ x. Bool) [ None ↦ false | Some zone ↦ is_free_zone zone ] ≡ elim o as (λ x. Bool) [ None ↦ false | Some slot ↦ is_free_zone (zone_of ns slot) ]
-          go None = refl
-          go (Some slot) = refl
-
-      frees_there : (o : Option (Option Version)) → slice_get contents.slots place ≡ o → frees_at ns ids made contents.slots place ≡ elim o as (λ x. Bool) [ None ↦ false | Some slot ↦ is_free_zone (zone_of ns (close ids made slot)) ]
-      frees_there o e = ap (λ o. elim o as (λ x. Bool) [ None ↦ false | Some slot ↦ is_free_zone (zone_of ns (close ids made slot)) ]) e
-
       at : (o : Option (Option Version)) → slice_get contents.slots place ≡ o → frees_at ns ids made contents.slots place ≡ (free_at zones place || (among olds place && frees_at ns ids made contents.slots place))
-      at None e = by (frees_at ns ids made contents.slots place) (free_at zones place) (among olds place) (λ z. absurd (true≢false (sym z ∙ zone_there None e))) (λ f z. absurd (true≢false (sym f ∙ frees_there None e)))
+      at None e = by (frees_at ns ids made contents.slots place) (free_at zones place) (among olds place) (λ z. absurd (true≢false (sym z ∙ zone_there place None e))) (λ f z. absurd (true≢false (sym f ∙ frees_there ids place None e)))
       at (Some slot) e = by (frees_at ns ids made contents.slots place) (free_at zones place) (among olds place)
-          (λ z. frees_there (Some slot) e ∙ slot_freed ids slot (sym (zone_there (Some slot) e) ∙ z))
+          (λ z. frees_there ids place (Some slot) e ∙ slot_freed ids slot (sym (zone_there place (Some slot) e) ∙ z))
           (λ f z.
-          let ended = row_freed ids slot (holds_there (IsWithin contents.next_id contents.stamp) contents.slots place slot e stands.within) (sym (zone_there (Some slot) e) ∙ z) (sym (frees_there (Some slot) e) ∙ f) in
+          let ended = row_freed ids slot (holds_there (IsWithin contents.next_id contents.stamp) contents.slots place slot e stands.within) (sym (zone_there place (Some slot) e) ∙ z) (sym (frees_there ids place (Some slot) e) ∙ f) in
           let here : row_at contents.stamp ended.0 contents.slots place ≡ true = ap (λ o. elim o as (λ x. Bool) [ None ↦ false | Some s ↦ is_row contents.stamp ended.0 s ]) e ∙ ended.2 in
           let old = old_place ids olds ended.0 stand ended.1 in
           subst (λ p. among olds p ≡ true) (one_row ended.0 old.place place old.row here) old.among_olds)

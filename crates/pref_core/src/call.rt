@@ -4,6 +4,7 @@
 //! compared call by call. A call that is refused before its outcome is planned has no number.
 
 ghost use Rattle.std.specs.Prelude.{◌≡◌, ◌++◌, ◌∷◌, [], ◌<◌, ◌≤◌, ℕ, Some, IfSome, true, is_some, length, slice_get};
+ghost use Rattle.pref_core.specs.Table.{among};
 
 use crate::changes::{Commit, LentChange, added_by, begun_by};
 use crate::fault::CoreFault;
@@ -361,8 +362,6 @@ impl Model for SlotList {
 }
 
 impl SlotList {
-    ghost use Rattle.pref_core.specs.Table.{among};
-
     /// No slot.
     pub const NONE: SlotList = SlotList {
         slots: [0; 8],
@@ -390,13 +389,20 @@ impl SlotList {
     pub(crate) fn has(&self, slot: u32) -> bool
         ensures { result ≡ among self.now slot }
     {
-        for other in self.as_slice() {
-            if *other == slot {
-                return true;
-            }
-        }
-        false
+        is_listed(self.as_slice(), slot)
     }
+}
+
+/// Whether the slot is one of these.
+pub(crate) fn is_listed(slots: &[u32], slot: u32) -> bool
+    ensures { result ≡ among slots.now slot }
+{
+    for other in slots {
+        if *other == slot {
+            return true;
+        }
+    }
+    false
 }
 
 /// A planned call: what is done to a store when it is applied.

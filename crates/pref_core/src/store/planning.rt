@@ -7,7 +7,7 @@ ghost use Rattle.pref_core.specs.Operations.{outcome_at, placed, Plans};
 ghost use Rattle.pref_core.specs.Planned.{op_or_fault};
 ghost use Rattle.pref_core.specs.State.{ended, is_change, is_formed, succeeds, granted};
 
-use crate::call::{LentCall, Outcome, Planned, QueryState, SlotList};
+use crate::call::{LentCall, Outcome, Planned, QueryState, SlotList, is_listed};
 use crate::changes::LentChange;
 use crate::fault::CoreFault;
 use crate::index::Index;
@@ -45,7 +45,7 @@ impl Store {
         })
     }
 
-    /// The slots of a call's new rows and its outcome: at once where that can be, as for most calls of one change.
+    /// The slots of a call's new rows and its outcome: at once where that can be, as where no open query needs what ends.
     fn placed(&self, index: Option<&Index>, call: &LentCall<'_>) -> (SlotList, Outcome)
         requires { IfSome index (λ index. IsIndexOf self.now index.now) }
         ensures outcome { result.1 ≡ outcome_at self.now call.now }
@@ -125,28 +125,33 @@ impl Store {
 }
 
 impl Contents {
-    /// The slots of a call of one change, where its row can have its home at once, or where it begins no row.
+    /// The slots of a call whose rows can all have their homes at once, or which begins no row.
     fn slots_at_once(&self, index: Option<&Index>, call: &LentCall<'_>) -> Option<SlotList>
         requires kept { IsKept self.now }
         requires index { IfSome index (λ index. IsIndexOf self.now index.now) }
         ensures { IfSome result (λ slots. FitAtOnce self.now call.now slots) }
     {
-        if call.count() != 1 || self.slots.is_empty() {
+        if self.slots.is_empty() {
             return None;
         }
-        let mut slots = SlotList::NONE;
-        if let Some((id, _)) = call.change(0).begun(self.next_id) {
-            slots.push(home_of(&self.slots, id));
+        let mut homes = SlotList::NONE;
+        let mut next_id = self.next_id;
+        for at in 0..call.count() {
+            let change = call.change(at);
+            if let Some((id, _)) = change.begun(next_id) {
+                homes.push(home_of(&self.slots, id));
+            }
+            next_id += change.added();
         }
-        if self.fit_at_once(index, call, &slots) {
-            Some(slots)
+        if self.fit_at_once(index, call, &homes) {
+            Some(homes)
         } else {
             None
         }
     }
 
-    /// Whether these are slots for a call of one change, by a look at them alone: an added row may have a free one, and a row that is
-    /// set the one where it stands, if no open query needs what is there.
+    /// Whether these are slots for the rows that a call begins, by a look at them alone: an added row may have a free one, and a row
+    /// that is set the one where it stands, if no open query needs what is there.
     pub(crate) fn fit_at_once(
         &self,
         index: Option<&Index>,
@@ -157,22 +162,23 @@ impl Contents {
         requires index { IfSome index (λ index. IsIndexOf self.now index.now) }
         ensures { result ≡ true → FitAtOnce self.now call.now slots.now }
     {
-        if call.count() != 1 {
-            return false;
-        }
-        match call.change(0) {
-            LentChange::Add(_) => match slots.as_slice() {
-                [place] => self.places.is_free(*place),
-                _ => false,
-            },
-            LentChange::Set(id, _) => match slots.as_slice() {
-                [place] => { stands_at(&self.slots, *place, self.stamp, id) && self.frees(*place) }
-                _ => false,
-            },
-            LentChange::Remove(id) => {
-                slots.as_slice().is_empty() && self.place_of(index, id).is_some()
+        let slots = slots.as_slice();
+        let mut used = 0;
+        for at in 0..call.count() {
+            match (call.change(at), slots.get(used)) {
+                (LentChange::Add(_), Some(place))
+                    if self.places.is_free(*place) && !is_listed(&slots[..used], *place) => {
+                    used += 1;
+                }
+                (LentChange::Set(id, _), Some(place))
+                    if stands_at(&self.slots, *place, self.stamp, id) && self.frees(*place) => {
+                    used += 1;
+                }
+                (LentChange::Remove(id), _) if self.place_of(index, id).is_some() => {}
+                _ => return false,
             }
         }
+        call.is_change() && used == slots.len()
     }
 
     /// The outcome of a call that gets a number, by the slots that its ended rows leave free.

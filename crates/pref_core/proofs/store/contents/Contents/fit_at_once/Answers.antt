@@ -1,60 +1,68 @@
-use Rattle.std.proofs.Common.{◌≡◌, ℕ, true, false, ◌||◌, refl, [], get_or, length, Some, None, Option, is_some, sym, ap, ◌∙◌, subst, arith}
-use Rattle.std.proofs.lemmas.Bool.{eq-eqb}
-use Rattle.pref_core.specs.declared.call.Call.{Call}
-use Rattle.pref_core.specs.declared.changes.Change.TheVariants.{Add, Set, Remove}
-use Rattle.pref_core.specs.Changes.{ended_by}
-use Rattle.pref_core.specs.Indexes.{IsPlaceOf, row_at}
+use Rattle.std.proofs.Common.{◌+◌, Some, refl, sym, ap, ◌∙◌, subst, arith}
+use Rattle.std.proofs.lemmas.Bool.{eqb-true, ltb-true}
+use Rattle.std.proofs.lemmas.Option.{slice_get-get_or}
+use Rattle.pref_core.specs.declared.changes.Change.TheVariants.{Set}
+use Rattle.pref_core.specs.Indexes.{row_at}
 use Rattle.pref_core.specs.Kept.{FitAtOnce, zones_of}
 use Rattle.pref_core.specs.Places.{free_at}
 use Rattle.pref_core.specs.Slots.{Contents}
 use Rattle.pref_core.specs.State.{changes_of, ended}
-use Rattle.pref_core.specs.Table.{among}
-use Rattle.pref_core.proofs.AtOnce.{one_change, one_slot, no_slot, added_at_once, set_at_once, removed_at_once}
+use Rattle.pref_core.proofs.AtOnce.{FitsUpTo, fits_added, fits_set, fits_removed, fits_all}
 use Rattle.pref_core.proofs.Bounds.{stamp-small}
+use Rattle.pref_core.proofs.Counts.{named_at}
 use Rattle.pref_core.proofs.store.contents.Contents.fit_at_once.Goals as goal
+use Rattle.pref_core.proofs.store.contents.Contents.fit_at_once.Goals.{in-Add-Some, in-Set-Some, in-Remove-default}
 
 pub frees-requires : goal.frees-requires
 frees-requires c = let small = stamp-small c.args.self.now c.requires.kept.bounded in omega arith
 
-pub returns-in-len1 : goal.returns-in-len1
-returns-in-len1 c free =
+pub loop-at-preserved : goal.loop-at-preserved
+loop-at-preserved c =
     let now = c.args.self.now in
     let call = c.args.call.now in
-    let place = get_or c.as_slice.result.now 0 0 in
-    let long : length (changes_of call) ≡ 1 = let many = c.count.ensures.count in omega arith in
-    let zones = c.self.invariant.listed ∙ ap zones_of c.self.view_is in
-    subst (FitAtOnce now call) (sym (one_slot c.as_slice.result.now (omega arith) (omega arith)) ∙ c.as_slice.ensures.same)
-    (added_at_once now call c.in-Add.field-0.now place c.requires.kept c.count.ensures.formed (one_change (changes_of call) (Add c.in-Add.field-0.now) long c.in-Add.ensures)
-    (ap (λ z. free_at z place) (sym zones) ∙ sym c.is_free.ensures ∙ free))
+    let places = c.as_slice-slots.result.now in
+    let at = c.loop-at.at in
+    let used = c.loop-at.used in
+    let few = c.loop-at.invariant.used in
+    elim c.match-change.branch [
+      | in-Add-Some w ↦
+          let place = w.in-Add-Some.place.now in
+          let more = w.used-is in
+          let slot = slice_get-get_or places used place (ltb-true _ _ (sym w.in-Add-Some.ensures'.lookup.0)) ∙ ap Some (sym w.in-Add-Some.ensures'.lookup.1) in
+          let zones = c.self.invariant.listed ∙ ap zones_of c.self.view_is in
+          record {
+            fits = subst (FitsUpTo now call places (at + 1)) (sym more)
+                (fits_added now call places at used w.in-Add-Some.field-0-0.now place c.requires.kept w.in-Add-Some.ensures slot
+                (ap (λ z. free_at z place) (sym zones) ∙ sym w.is_free.ensures ∙ w.if-is_free.true) (sym w.is_listed.ensures ∙ w.if-not-is_listed.true) c.loop-at.invariant.fits);
+            used = omega arith;
+          }
+      | in-Set-Some w ↦
+          let id = w.in-Set-Some.id in
+          let row = w.in-Set-Some.field-1-0.now in
+          let place = w.in-Set-Some.place.now in
+          let more = w.used-is in
+          let slot = slice_get-get_or places used place (ltb-true _ _ (sym w.in-Set-Some.ensures'.lookup.0)) ∙ ap Some (sym w.in-Set-Some.ensures'.lookup.1) in
+          let stamp = ap (λ (s : Contents). s.stamp) c.self.view_is in
+          let slots = w.deref.ensures.value ∙ ap (λ (s : Contents). s.slots) c.self.view_is in
+          let stands = sym (λ i. row_at (stamp i) id (slots i) place) ∙ sym w.stands_at.ensures ∙ w.if-stands_at.true in
+          record {
+            fits = subst (FitsUpTo now call places (at + 1)) (sym more)
+                (fits_set now call places at used id row place c.requires.kept c.count-at-end.ensures.formed w.in-Set-Some.ensures slot stands
+                (sym (w.frees.ensures (ended call) id (named_at (changes_of call) at (Set id row) id w.in-Set-Some.ensures refl) stands) ∙ w.if-frees.true) c.loop-at.invariant.fits);
+            used = omega arith;
+          }
+      | in-Remove-default w ↦
+          let same = w.used-is in
+          record {
+            fits = subst (FitsUpTo now call places (at + 1)) (sym same)
+                (fits_removed now call places at used w.in-Remove-default.id w.place_of.result c.requires.kept w.in-Remove-default.ensures w.place_of.ensures (sym w.is_some.ensures ∙ w.if-is_some.true) c.loop-at.invariant.fits);
+            used = omega arith;
+          }
+    ]
 
-pub returns-then-stands_at : goal.returns-then-stands_at
-returns-then-stands_at c frees =
-    let now = c.args.self.now in
+pub returns-then-is_change : goal.returns-then-is_change
+returns-then-is_change c all =
     let call = c.args.call.now in
-    let id = c.in-Set.id in
-    let place = get_or c.as_slice-in-Set.result.now 0 0 in
-    let long : length (changes_of call) ≡ 1 = let many = c.count.ensures.count in omega arith in
-    let stamp = ap (λ (s : Contents). s.stamp) c.self.view_is in
-    let slots = c.deref.ensures.value ∙ ap (λ (s : Contents). s.slots) c.self.view_is in
-    let is = one_change (changes_of call) (Set id c.in-Set.field-1.now) long c.in-Set.ensures in
-    let stands = sym (λ i. row_at (stamp i) id (slots i) place) ∙ sym c.stands_at.ensures ∙ c.if-stands_at.true in
-    let named = ap (λ l. among (ended_by l) id) is ∙ ap (λ b. b || false) (eq-eqb id id refl) in
-    subst (FitAtOnce now call) (sym (one_slot c.as_slice-in-Set.result.now (omega arith) (omega arith)) ∙ c.as_slice-in-Set.ensures.same)
-    (set_at_once now call id c.in-Set.field-1.now place c.requires.kept c.count.ensures.formed is stands
-    (sym (c.frees.ensures (ended call) id named stands) ∙ frees))
-
-pub returns-then-is_empty : goal.returns-then-is_empty
-returns-then-is_empty c some =
-    subst (FitAtOnce now call) (sym (no_slot c.as_slice-in-Remove.result.now (sym c.is_empty.ensures ∙ c.if-is_empty.true)) ∙ c.as_slice-in-Remove.ensures.same)
-    (go c.place_of.result (sym c.is_some.ensures ∙ some) c.place_of.ensures)
-  where
-    now : Contents
-    now = c.args.self.now
-
-    call : Call
-    call = c.args.call.now
-
-    go : (o : Option ℕ) → is_some o ≡ true → IsPlaceOf now.stamp c.in-Remove.id now.slots o → FitAtOnce now call []
-    go None s stands = absurd (cc)
-    go (Some place) s stands = removed_at_once now call c.in-Remove.id place c.count.ensures.formed
-        (one_change (changes_of call) (Remove c.in-Remove.id) (let many = c.count.ensures.count in omega arith) c.in-Remove.ensures) stands
+    let places = c.as_slice-slots.result.now in
+    subst (FitAtOnce c.args.self.now call) c.as_slice-slots.ensures.same
+    (fits_all c.args.self.now call places c.loop-at.at c.loop-at.used (sym c.is_change.ensures ∙ c.if-is_change.true) c.count-at-end.ensures.formed (omega arith) (sym (eqb-true _ _ all)) c.loop-at.invariant.fits)

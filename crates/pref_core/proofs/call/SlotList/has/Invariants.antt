@@ -1,6 +1,0 @@
-use Rattle.std.proofs.Common.{◌≡◌, drop}
-use Rattle.pref_core.specs.Table.{among}
-use Rattle.pref_core.proofs.call.SlotList.has.Given as goal
-
-abbrev pub invariant-loop-other : goal.invariant-loop-other
-invariant-loop-other l = among (drop l.other-index l.other-items) l.slot ≡ among l.self l.slot

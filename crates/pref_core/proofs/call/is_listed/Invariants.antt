@@ -1,0 +1,6 @@
+use Rattle.std.proofs.Common.{◌≡◌, drop}
+use Rattle.pref_core.specs.Table.{among}
+use Rattle.pref_core.proofs.call.is_listed.Given as goal
+
+abbrev pub invariant-loop-other : goal.invariant-loop-other
+invariant-loop-other l = among (drop l.other-index l.slots) l.slot ≡ among l.slots l.slot

@@ -1,0 +1,8 @@
+use Rattle.std.proofs.Common.{arith}
+use Rattle.pref_core.specs.Lent.{change_of}
+use Rattle.pref_core.proofs.Bounds.{next_id-small}
+use Rattle.pref_core.proofs.Changing.{added_one}
+use Rattle.pref_core.proofs.store.contents.Contents.slots_at_once.Goals as goal
+
+pub overflow_add-next_id : goal.overflow_add-next_id
+overflow_add-next_id c = let small = next_id-small c.args.self.now c.requires.kept.bounded in let one = added_one (change_of c.change-change.result) in omega arith
