@@ -208,8 +208,8 @@ impl Contents {
         self.count(op.client, op.call);
     }
 
-    /// A commit: rows that stay in their slots are replaced there; else all rows end that are to end, and then others begin in the
-    /// slots that are free.
+    /// A commit: where it only sets rows, and these stay in their slots, they are replaced there; else all rows end that are to end,
+    /// and then others begin in the slots that are free.
     fn commit(&mut self, op: &Planned<'_>)
         requires kept { IsKept self.old }
         requires next { is_next self.old (op_of op.now) ≡ true }
