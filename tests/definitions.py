@@ -5,7 +5,7 @@
 
 A section of DEFINITIONS.md names its folder in its heading. Its line `From .., so N lines` names definitions of that folder, and N is the
 number of lines of these and of all that they cite in turn, without comments, imports and what stands in a line `Not counted: ..` of the
-section. Public contracts are those of what a library exports, and of the functions of the program in PROGRAM. Needs Python 3.8.
+section. Public contracts are those of what a library exports, and of what is inside pref_script and in SPOKEN_OF. Needs Python 3.8.
 """
 import re
 import sys
@@ -13,8 +13,8 @@ from pathlib import Path
 
 TOP = Path(__file__).resolve().parent.parent
 DOCUMENT = TOP / "docs/DEFINITIONS.md"
-CRATES = ["pref_table", "pref_term", "pref_sky", "pref_core", "pref_share", "prefq"]
-PROGRAM = {"run_script", "run_script_on_threads", "run_live", "run_threads", "read_input", "write_told", "fault_line", "status", "LiveTable", "Watched"}
+CRATES = ["pref_table", "pref_term", "pref_sky", "pref_core", "pref_share", "pref_script"]
+SPOKEN_OF = {"read_input", "write_told", "LiveTable"}
 
 HEAD = re.compile(r"(?:(?:abbrev|unfoldable|pub|record|data)\s+)+([^\s:(]+)")
 IMPORT = re.compile(r"use Rattle\.(\w+)\.specs\.([\w.]+?)(?:\.\{([^}]*)\}| as (\w+))(?=[\s;]|$)")
@@ -79,12 +79,11 @@ def behind(keys, without, lines, brought):
 
 
 def exported(crate):
-    """The names that a library exports, or those functions of the program that documents speak of."""
+    """The names that a library exports, and those inside pref_script that documents speak of."""
     root = TOP / "crates" / crate / "src/lib.rt"
-    if not root.is_file():
-        return PROGRAM
     names = re.findall(r"pub use [\w:]+::(?:\{([^}]*)\}|(\w+))", root.read_text())
-    return {name.strip() for several, one in names for name in (several or one).split(",")}
+    spoken_of = SPOKEN_OF if crate == "pref_script" else set()
+    return spoken_of | {name.strip() for several, one in names for name in (several or one).split(",")}
 
 
 def cited_by_contracts(lines):

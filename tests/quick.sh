@@ -65,7 +65,7 @@ scripts() {
     cd crates/prefq && rt try --cases "$room/cases"
 }
 
-for crate in core_tests share_tests prefq; do
+for crate in core_tests share_tests script_tests prefq; do
     start "tests of $crate, not proved" tests_of "$crate"
 done
 start 'stored run, scripts, examples, documents' scripts

@@ -1,34 +1,10 @@
-//! A preference table that runs a script.
+//! The program: its arguments, its standard input and output, and its exit status. What it does with a script is pref_script's.
 #![tactic(auto)]
 
-mod acts;
 mod args;
-mod command;
-mod commands;
-mod commits;
-mod fault;
-mod forms;
-mod input;
-mod lines;
-mod live;
-mod live_table;
-mod output;
-mod pieces;
-mod playing;
-mod read_ahead;
-mod reading;
-mod replies;
-mod run;
-mod script;
-mod text;
-mod threads;
-mod watched;
-mod words;
 
 use args::{Args, ArgsFault, Mode, read_args};
-use fault::RunFault;
-use live::run_live;
-use run::run_script;
+use pref_script::{RunFault, Watched, run_live, run_script, run_script_on_threads};
 use std::alloc::{AllocError, Global};
 use std::env;
 use std::io::{ErrorKind, Read, Write};
@@ -36,8 +12,6 @@ use std::process::ExitCode;
 use std::rt::Env;
 use std::sync::Wait;
 use std::thread::Threads;
-use threads::run_script_on_threads;
-use watched::Watched;
 
 /// The status of refused arguments.
 const REFUSED: u8 = 2;

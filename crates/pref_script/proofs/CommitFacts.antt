@@ -1,0 +1,163 @@
+-- The changes of a commit line, one piece at a time.
+use Rattle.std.proofs.Common.{◌≡◌, ◌∙◌, ℕ, ◌+◌, ◌<◌, ◌≤◌, true, false, List, [], ◌∷◌, ◌++◌, length, take, drop, get_or, set, sym, ap, refl, arith, inl, inr, nat_lt, Ok, Err}
+use Rattle.std.specs.Prelude.{Bool, ◌&&◌, Option, Some, None, is_some, nat_le}
+use Rattle.std.specs.List.{list_all}
+use Rattle.std.proofs.lemmas.Bool.{and_right, cases_lt, lt-leb, true≢false}
+use Rattle.std.proofs.lemmas.List.{length-drop, length-set, length-take-le, length_push, take-append-le, take_all, take_more_set}
+use Rattle.pref_core.specs.Changes.{commit_of}
+use Rattle.pref_core.specs.declared.changes.Change.{Change}
+use Rattle.pref_core.specs.declared.fault.CoreFault.TheVariants.{ChangeCount}
+use Rattle.pref_table.specs.Numbered.{all_from}
+use Rattle.pref_table.proofs.NumberedFacts.{all_from-all, all_from-fails_at, all_from-more, all_from-none}
+use Rattle.pref_script.proofs.SplitFacts.{drop_here}
+use Rattle.pref_script.specs.Commands.{commit_said, of_changes, piece_change}
+use Rattle.pref_script.specs.Pieces.{are_changes, piece_said, pieces_of}
+use Rattle.pref_script.specs.Reading.{Reads, first_refusal, pieces_left}
+use Rattle.pref_script.specs.declared.command.Refusal.TheVariants.{NotCommand}
+use Rattle.pref_script.specs.declared.command.Stop.{Stop}
+use Rattle.pref_script.specs.declared.command.Stop.TheVariants.{Refused as StopRefused, OutOfMemory as StopMemory}
+
+-- nine changes are too many already, whatever follows them
+pub commit_of-first : (all : List Change) → commit_of (take 9 all) ≡ commit_of all
+commit_of-first all = elim (cases_lt (length all) 10) [
+  | inl few ↦ ap commit_of (take_all 9 all (omega arith))
+  | inr many ↦ too_many (take 9 all) (omega (arith, length-take-le 9 all (omega arith))) ∙ sym (too_many all (omega arith))
+]
+  where
+    too_many : (changes : List Change) → 8 < length changes → commit_of changes ≡ Err ChangeCount
+    too_many changes h = rw (and_right (nat_lt 0 (length changes)) (nat_le (length changes) 8) (lt-leb (length changes) 8 h)) refl
+
+-- So many pieces were read, and of their changes the first nine are kept.
+pub record KeepsFirst (names : List (List ℕ)) (pieces : List (List ℕ)) (place : ℕ) (kept : List Change) (count : ℕ) : Type 0 where
+  pub all : List Change
+  pub read : all_from (λ _ piece. piece_change names (piece_said piece)) 1 (take place pieces) ≡ Ok all
+  pub size : length kept ≡ 9
+  pub few : count ≤ 9
+  pub first : take count kept ≡ take 9 all
+  pub sum : count < 9 → length all ≡ count
+  pub more : (count < 9 → ⊥) → 9 ≤ length all
+
+pub keeps_none : (names pieces : List (List ℕ)) (kept : List Change) → length kept ≡ 9 → KeepsFirst names pieces 0 kept 0
+keeps_none names pieces kept size = record {
+  all = [];
+  read = all_from-none _ 1;
+  size = size;
+  few = omega arith;
+  first = refl;
+  sum = λ _. refl;
+  more = λ h. absurd (h (omega arith));
+}
+
+-- a change that is kept, and one past the ninth
+pub keeps_one : (names pieces : List (List ℕ)) (place : ℕ) (kept : List Change) (count : ℕ) (piece : List ℕ) (change : Change) → KeepsFirst names pieces place kept count
+    → (place < length pieces) × (piece ≡ get_or pieces place piece) → count < 9 → piece_change names (piece_said piece) ≡ Ok change → KeepsFirst names pieces (place + 1) (set kept count change) (count + 1)
+keeps_one names pieces place kept count piece change h turn room is =
+    let whole : take 9 h.all ≡ h.all = take_all 9 h.all (omega (arith, h.sum room)) in
+    let size : length (h.all ++ change ∷ []) ≡ count + 1 = omega (arith, length_push h.all change, h.sum room) in
+    record {
+      all = h.all ++ change ∷ [];
+      read = all_from-more _ 1 pieces h.all place piece change turn.0 h.read (ap (λ (p : List ℕ). piece_change names (piece_said p)) (sym turn.1) ∙ is);
+      size = length-set kept count change ∙ h.size;
+      few = omega arith;
+      first = take_more_set kept count change (omega (arith, h.size)) ∙ ap (λ (l : List Change). l ++ change ∷ []) (h.first ∙ whole) ∙ sym (take_all 9 (h.all ++ change ∷ []) (omega arith));
+      sum = λ _. size;
+      more = λ full. omega (arith, size, full);
+    }
+
+pub keeps_past : (names pieces : List (List ℕ)) (place : ℕ) (kept : List Change) (count : ℕ) (piece : List ℕ) (change : Change) → KeepsFirst names pieces place kept count
+    → (place < length pieces) × (piece ≡ get_or pieces place piece) → (count < 9 → ⊥) → piece_change names (piece_said piece) ≡ Ok change → KeepsFirst names pieces (place + 1) kept count
+keeps_past names pieces place kept count piece change h turn full is = record {
+  all = h.all ++ change ∷ [];
+  read = all_from-more _ 1 pieces h.all place piece change turn.0 h.read (ap (λ (p : List ℕ). piece_change names (piece_said p)) (sym turn.1) ∙ is);
+  size = h.size;
+  few = h.few;
+  first = h.first ∙ sym (take-append-le 9 h.all (change ∷ []) (h.more full));
+  sum = λ room. absurd (full room);
+  more = λ _. omega (arith, length_push h.all change, h.more full);
+}
+
+-- the first piece whose values are refused
+pub keeps_fails : (names : List (List ℕ)) (text : List ℕ) (place : ℕ) (kept : List Change) (count : ℕ) (piece : List ℕ) (why : Stop) → are_changes text ≡ true
+    → KeepsFirst names (pieces_of text) place kept count → (place < length (pieces_of text)) × (piece ≡ get_or (pieces_of text) place piece)
+    → Reads {X = Change} (Err why) (piece_change names (piece_said piece)) → Reads {X = List Change} (Err why) (commit_said names text)
+unfolding commit_said
+keeps_fails names text place kept count piece (StopRefused why) forms h turn is =
+    rw (forms, all_from-fails_at (λ _ part. piece_change names (piece_said part)) 1 (pieces_of text) h.all place piece why turn.0 h.read (ap (λ (p : List ℕ). piece_change names (piece_said p)) (sym turn.1) ∙ is)) refl
+keeps_fails names text place kept count piece StopMemory forms h turn is = tt
+
+-- all pieces were read
+pub keeps_all : (names : List (List ℕ)) (text : List ℕ) (place : ℕ) (kept : List Change) (count : ℕ) → are_changes text ≡ true
+    → KeepsFirst names (pieces_of text) place kept count → length (pieces_of text) ≤ place → commit_said names text ≡ of_changes (commit_of (take count kept))
+unfolding commit_said
+keeps_all names text place kept count forms h end =
+    let read = all_from-all (λ _ part. piece_change names (piece_said part)) 1 (pieces_of text) h.all place end h.read in
+    let whole : commit_said names text ≡ of_changes (commit_of h.all) = rw (forms, read) refl in
+    whole ∙ ap of_changes (sym (commit_of-first h.all) ∙ ap commit_of (sym h.first))
+
+-- whether each of these pieces has the form of a change
+abbrev all_forms : List (List ℕ) → Bool
+all_forms pieces = list_all (λ piece. is_some (piece_said piece)) pieces
+
+-- Some pieces of a text were read, each has the form of a change, and these are left.
+pub record ReadsPieces (names : List (List ℕ)) (text : List ℕ) (left : Option (List ℕ)) (kept : List Change) (count : ℕ) : Type 0 where
+  pub place : ℕ
+  pub rest : drop place (pieces_of text) ≡ pieces_left left
+  pub forms : are_changes text ≡ all_forms (pieces_left left)
+  pub keeps : KeepsFirst names (pieces_of text) place kept count
+
+pub pieces_none : (names : List (List ℕ)) (text : List ℕ) (kept : List Change) → length kept ≡ 9 → ReadsPieces names text (Some text) kept 0
+pieces_none names text kept size = record { place = 0; rest = refl; forms = refl; keeps = keeps_none names (pieces_of text) kept size }
+
+-- the first refusal, by the forms of the pieces that follow
+refusal-same : (why : Stop) (rest : Option (List ℕ)) → all_forms (pieces_left rest) ≡ true → first_refusal why rest ≡ why
+refusal-same why None h = refl
+refusal-same why (Some text) h = rw h refl
+
+refusal-other : (why : Stop) (rest : Option (List ℕ)) → all_forms (pieces_left rest) ≡ false → first_refusal why rest ≡ StopRefused NotCommand
+refusal-other why None h = absurd (true≢false h)
+refusal-other why (Some text) h = rw h refl
+
+-- the next piece: its place, and the forms of those after it
+module _ (names : List (List ℕ)) (text now : List ℕ) (kept : List Change) (count : ℕ) (piece : List ℕ) (rest : Option (List ℕ))
+    (reads : ReadsPieces names text (Some now) kept count) (cut : pieces_of now ≡ piece ∷ pieces_left rest) where
+  turn : (reads.place < length (pieces_of text)) × (piece ≡ get_or (pieces_of text) reads.place piece) × (drop (reads.place + 1) (pieces_of text) ≡ pieces_left rest)
+  turn =
+      let here = drop_here (pieces_of text) reads.place piece piece (pieces_left rest) (reads.rest ∙ cut) in
+      (here.0, sym here.1, here.2)
+
+  forms_left : are_changes text ≡ (is_some (piece_said piece) && all_forms (pieces_left rest))
+  forms_left = reads.forms ∙ ap all_forms cut
+
+  -- its values are refused
+  pub pieces_refused : (why : Stop) → is_some (piece_said piece) ≡ true → Reads {X = Change} (Err why) (piece_change names (piece_said piece)) → Reads {X = List Change} (Err (first_refusal why rest)) (commit_said names text)
+  unfolding commit_said
+  pieces_refused why form is = by (all_forms (pieces_left rest)) refl
+    where
+      by : (forms : Bool) → all_forms (pieces_left rest) ≡ forms → Reads {X = List Change} (Err (first_refusal why rest)) (commit_said names text)
+      by true h = rw (refusal-same why rest h) (keeps_fails names text reads.place kept count piece why (forms_left ∙ rw (form, h) refl) reads.keeps (turn.0, turn.1) is)
+      by false h =
+          let none : are_changes text ≡ false = forms_left ∙ rw (form, h) refl in
+          rw (refusal-other why rest h, none) refl
+
+  -- it is read, and kept or not
+  pub pieces_kept : (change : Change) → is_some (piece_said piece) ≡ true → count < 9 → piece_change names (piece_said piece) ≡ Ok change → ReadsPieces names text rest (set kept count change) (count + 1)
+  pieces_kept change form room is = record {
+    place = reads.place + 1;
+    rest = turn.2;
+    forms = forms_left ∙ rw form refl;
+    keeps = keeps_one names (pieces_of text) reads.place kept count piece change reads.keeps (turn.0, turn.1) room is;
+  }
+
+  pub pieces_past : (change : Change) → is_some (piece_said piece) ≡ true → (count < 9 → ⊥) → piece_change names (piece_said piece) ≡ Ok change → ReadsPieces names text rest kept count
+  pieces_past change form full is = record {
+    place = reads.place + 1;
+    rest = turn.2;
+    forms = forms_left ∙ rw form refl;
+    keeps = keeps_past names (pieces_of text) reads.place kept count piece change reads.keeps (turn.0, turn.1) full is;
+  }
+
+-- no piece is left
+pub pieces_all : (names : List (List ℕ)) (text : List ℕ) (kept : List Change) (count : ℕ) → ReadsPieces names text None kept count → commit_said names text ≡ of_changes (commit_of (take count kept))
+pieces_all names text kept count reads =
+    let none : length (drop reads.place (pieces_of text)) ≡ 0 = ap length reads.rest in
+    keeps_all names text reads.place kept count reads.forms reads.keeps (omega (arith, none, length-drop reads.place (pieces_of text)))

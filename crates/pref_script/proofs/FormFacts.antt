@@ -1,0 +1,59 @@
+-- A command line that begins as most do.
+use Rattle.std.proofs.Common.{◌≡◌, ◌∙◌, ℕ, suc, ◌+◌, ◌-◌, ◌≤◌, Bool, cond, not, true, false, List, [], ◌∷◌, length, drop, take, get_or, ap, refl, arith, Some}
+use Rattle.std.specs.List.{position_or_len, prefix_len}
+use Rattle.std.specs.Char.{is_ascii_digit}
+use Rattle.std.specs.Int.{IsInRange}
+use Rattle.std.specs.Str.Parse.{digits_value}
+use Rattle.std.proofs.lemmas.List.Sums.{prefix_len_is}
+use Rattle.pref_table.specs.Number.{after_blanks, is_blank}
+use Rattle.pref_script.specs.Forms.{said_in}
+use Rattle.pref_script.specs.Reading.{said_by_client}
+use Rattle.pref_script.specs.Words.{after_word, word_number, word_of}
+use Rattle.pref_script.proofs.WordsFacts.{digit_not_blank, number-is, value_more}
+
+-- the number of one digit
+digit_number : (digit : ℕ) → IsInRange 48 57 digit → is_ascii_digit digit ≡ true → word_number 255 (digit ∷ []) ≡ Some (digit - 48)
+digit_number digit range is =
+    let value : digits_value 10 (digit ∷ []) ≡ digit - 48 = omega (arith, value_more (digit ∷ []) 0 0 (omega arith) range refl) in
+    number-is 255 (digit ∷ []) (rw is refl) (omega (arith, value, range.1)) ∙ ap Some value
+
+-- what follows one blank
+after_one : (rest : List ℕ) → after_blanks (32 ∷ rest) ≡ after_blanks rest
+after_one rest =
+    let one : 1 + prefix_len is_blank rest ≡ suc (prefix_len is_blank rest) = omega arith in
+    ap (λ (n : ℕ). drop n (32 ∷ rest)) one
+
+-- the word `as`, a blank, a digit and a blank, word by word
+module _ (digit : ℕ) (rest : List ℕ) (blank : is_blank digit ≡ false) where
+  as_word : word_of (97 ∷ 115 ∷ 32 ∷ digit ∷ 32 ∷ rest) ≡ 97 ∷ 115 ∷ []
+  unfolding word_of
+  as_word = refl
+
+  as_after : after_word (97 ∷ 115 ∷ 32 ∷ digit ∷ 32 ∷ rest) ≡ digit ∷ 32 ∷ rest
+  unfolding after_word
+  as_after =
+      let none : prefix_len is_blank (digit ∷ 32 ∷ rest) ≡ 0 = prefix_len_is is_blank (digit ∷ 32 ∷ rest) 0 0 (omega arith) (λ k h. absurd (omega (arith, h))) (λ _. blank) in
+      after_one (digit ∷ 32 ∷ rest) ∙ ap (λ (n : ℕ). drop n (digit ∷ 32 ∷ rest)) none
+
+  digit_word : word_of (digit ∷ 32 ∷ rest) ≡ digit ∷ []
+  unfolding word_of
+  digit_word = ap (λ (b : Bool). take (cond (not b) (suc (position_or_len is_blank (32 ∷ rest))) 0) (digit ∷ 32 ∷ rest)) blank
+
+  digit_after : after_word (digit ∷ 32 ∷ rest) ≡ after_blanks rest
+  unfolding after_word
+  digit_after = ap (λ (b : Bool). after_blanks (drop (cond (not b) (suc (position_or_len is_blank (32 ∷ rest))) 0) (digit ∷ 32 ∷ rest))) blank ∙ after_one rest
+
+client_in : (digit : ℕ) (rest : List ℕ) → IsInRange 48 57 digit → is_ascii_digit digit ≡ true → said_in (97 ∷ 115 ∷ 32 ∷ digit ∷ 32 ∷ rest) ≡ said_by_client (digit - 48) (after_blanks rest)
+unfolding said_in
+client_in digit rest range is =
+    let blank = digit_not_blank digit range in
+    rw (as_word digit rest blank, as_after digit rest blank, digit_word digit rest blank, digit_after digit rest blank, digit_number digit range is) refl
+
+pub client_at : (line : List ℕ) → 5 ≤ length line → get_or line 0 0 ≡ 97 → get_or line 1 0 ≡ 115 → get_or line 2 0 ≡ 32 → IsInRange 48 57 (get_or line 3 0) → is_ascii_digit (get_or line 3 0) ≡ true → get_or line 4 0 ≡ 32
+    → said_in line ≡ said_by_client (get_or line 3 0 - 48) (after_blanks (drop 5 line))
+client_at [] few = absurd (omega (arith, few))
+client_at (a ∷ []) few = absurd (omega (arith, few))
+client_at (a ∷ s ∷ []) few = absurd (omega (arith, few))
+client_at (a ∷ s ∷ blank ∷ []) few = absurd (omega (arith, few))
+client_at (a ∷ s ∷ blank ∷ digit ∷ []) few = absurd (omega (arith, few))
+client_at (a ∷ s ∷ blank ∷ digit ∷ end ∷ rest) few = λ at0 at1 at2 range is at4. rw (at0, at1, at2, at4) (client_in digit rest range is)

@@ -1,0 +1,76 @@
+-- The output of a script, part by part.
+use Rattle.std.proofs.Common.{◌≡◌, ◌∙◌, ℕ, ◌<◌, List, [], ◌∷◌, length, ap, refl, Ok, Err, Bool, true, false, ◌⊎◌, inl, inr, Result}
+use Rattle.std.proofs.lemmas.Bool.{cases_lt, le-ltb, lt-ltb}
+use Rattle.std.specs.Global.{Global}
+use Rattle.std.specs.Prelude.{IfErr, IfOk, String, nat_lt, string_bytes}
+use Rattle.std.specs.List.{position_or_len}
+use Rattle.pref_table.specs.Tables.{Fails, Table, table_of}
+use Rattle.pref_table.specs.declared.fault.TableFault.TheVariants as table
+use Rattle.pref_table.specs.declared.fault.TableFault.{TableFault}
+use Rattle.pref_core.specs.Limits.{Limits}
+use Rattle.pref_core.specs.declared.fault.CoreFault.TheVariants as core
+use Rattle.pref_core.specs.declared.fault.CoreFault.{CoreFault}
+use Rattle.pref_script.specs.Output.{Script, ScriptFault, TellsOutput, in_bytes, output_of, script_of, script_with}
+use Rattle.pref_script.specs.Reading.{core_fault, table_fault}
+use Rattle.pref_script.specs.Script.{Parts, is_end_line, is_table_line, parts_of, raw_lines}
+use Rattle.pref_script.specs.declared.fault.RunFault.{RunFault}
+use Rattle.pref_script.specs.declared.fault.RunFault.TheVariants as fault
+
+-- a script's parts fail in two ways
+parts-faults : (raws : List (List ℕ)) (why : RunFault) → parts_of raws ≡ Err why → (why ≡ fault.NoTable) ⊎ (why ≡ fault.NoEnd)
+parts-faults [] why h = inl (cc h)
+parts-faults (first ∷ rest) why h = by (is_table_line first) (nat_lt (position_or_len is_end_line rest) (length rest)) refl refl h
+  where
+    by : (table end : Bool) → is_table_line first ≡ table → nat_lt (position_or_len is_end_line rest) (length rest) ≡ end → parts_of (first ∷ rest) ≡ Err why
+        → (why ≡ fault.NoTable) ⊎ (why ≡ fault.NoEnd)
+    by false end e f h = inl (cc (rw e at h))
+    by true false e f h = inr (cc (rw (e, f) at h))
+    by true true e f h = cc (rw (e, f) at h)
+
+pub script-parts : (limits : Limits) (bytes : List ℕ) (why : RunFault) → parts_of (raw_lines bytes) ≡ Err why → script_of limits bytes ≡ Err why
+unfolding script_of
+script-parts limits bytes why h = rw h refl
+
+pub script-parts-fault : (limits : Limits) (bytes : List ℕ) (why : RunFault) → parts_of (raw_lines bytes) ≡ Err why → ScriptFault why (script_of limits bytes)
+script-parts-fault limits bytes why h = elim (parts-faults (raw_lines bytes) why h) [
+  | inl e ↦ rw e (script-parts limits bytes fault.NoTable (h ∙ ap Err e))
+  | inr e ↦ rw e (script-parts limits bytes fault.NoEnd (h ∙ ap Err e))
+]
+
+-- a table's fault is the script's
+script-table : (limits : Limits) (bytes : List ℕ) (parts : Parts) (why : TableFault) → parts_of (raw_lines bytes) ≡ Ok parts → table_of parts.table ≡ Err why
+    → script_of limits bytes ≡ Err (fault.Table why)
+unfolding script_of
+script-table limits bytes parts why h t = rw (h, t) refl
+
+pub script-table-fault : (limits : Limits) (bytes : List ℕ) (parts : Parts) (why : TableFault) → parts_of (raw_lines bytes) ≡ Ok parts → Fails why (table_of parts.table)
+    → ScriptFault (table_fault why) (script_of limits bytes)
+script-table-fault limits bytes parts table.OutOfMemory h t = tt
+script-table-fault limits bytes parts why h t = script-table limits bytes parts why h t
+
+-- rows without room are the engine's refusal
+script-full : (limits : Limits) (bytes : List ℕ) (parts : Parts) (table : Table) → parts_of (raw_lines bytes) ≡ Ok parts → table_of parts.table ≡ Ok table
+    → limits.capacity < length table.1 → script_of limits bytes ≡ Err (fault.Opening (core.Full (length table.1)))
+unfolding script_of
+script-full limits bytes parts table h t many = rw (h, t, lt-ltb limits.capacity (length table.1) many) refl
+
+pub script-core-fault : (limits : Limits) (bytes : List ℕ) (parts : Parts) (table : Table) (why : CoreFault) → parts_of (raw_lines bytes) ≡ Ok parts → table_of parts.table ≡ Ok table
+    → (limits.capacity < length table.1 → why ≡ core.Full (length table.1)) → (why ≡ core.OutOfMemory) ⊎ (limits.capacity < length table.1)
+    → ScriptFault (core_fault why) (script_of limits bytes)
+script-core-fault limits bytes parts table why h t full (inl memory) = rw memory tt
+script-core-fault limits bytes parts table why h t full (inr many) = rw (full many) (script-full limits bytes parts table h t many)
+
+-- a script without a fault
+pub script-ok : (limits : Limits) (bytes : List ℕ) (parts : Parts) (table : Table) → parts_of (raw_lines bytes) ≡ Ok parts → table_of parts.table ≡ Ok table
+    → (limits.capacity < length table.1 → ⊥) → script_of limits bytes ≡ Ok (script_with parts table)
+unfolding script_of
+script-ok limits bytes parts table h t room = elim (cases_lt limits.capacity (length table.1)) [
+  | inl many ↦ absurd (room many)
+  | inr few ↦ rw (h, t, le-ltb limits.capacity (length table.1) few) refl
+]
+
+-- what a script without a fault is told, unless memory ran out
+pub tells-played : (limits : Limits) (bytes : List ℕ) (script : Script) (result : Result (String Global) RunFault) → script_of limits bytes ≡ Ok script
+    → IfOk result (λ text. string_bytes text ≡ output_of limits (Ok script)) → IfErr result (λ why. why ≡ fault.Memory) → TellsOutput limits bytes (in_bytes result)
+tells-played limits bytes script (Ok text) said told memory = rw said (refl, told)
+tells-played limits bytes script (Err why) said told memory = rw memory tt

@@ -1,0 +1,96 @@
+-- Commands that are played one after the other.
+use Rattle.std.proofs.Common.{◌≡◌, ◌∙◌, ℕ, ℤ, ◌+◌, List, [], ◌∷◌, ◌++◌, length, Ok, sym, ap, refl, subst, arith, append_assoc}
+use Rattle.std.proofs.lemmas.List.{append-nil}
+use Rattle.pref_core.specs.Limits.{Limits}
+use Rattle.pref_core.specs.Step.{System, opened, replies, step}
+use Rattle.pref_core.specs.Systems.{Replies, Running, StandsForSystem}
+use Rattle.pref_core.specs.declared.event.Event.{Event}
+use Rattle.pref_core.specs.declared.event.Reply.{Reply}
+use Rattle.pref_script.specs.Commands.{Command, refused, runs, commands_in, commands_of, accepted_events}
+use Rattle.pref_script.specs.Output.{command_lines}
+use Rattle.pref_script.specs.Playing.{Plays, TellsAll, told_from}
+use Rattle.pref_script.specs.Script.{raw_lines, without_line_end}
+use Rattle.pref_script.specs.Text.{refused_line, reply_lines}
+use Rattle.pref_script.specs.declared.command.Refusal.{Refusal}
+use Rattle.pref_script.proofs.ScriptFacts.{lines_none}
+
+-- no command
+pub plays_none : (width : ℕ) (running : Running) (text : List ℕ) → Plays width running [] text text running
+plays_none width running text = record {
+  limits = refl;
+  plays = λ system h. record { next = system; stands = h; goes_on = λ more. refl };
+}
+
+-- a refused line
+pub plays_refused : (width : ℕ) (running : Running) (number : ℕ) (why : Refusal) (old new : List ℕ) → new ≡ old ++ refused_line number why → Plays width running (refused number why ∷ []) old new running
+unfolding command_lines accepted_events
+plays_refused width running number why old new added = record {
+  limits = refl;
+  plays = λ system h. record { next = system; stands = h; goes_on = λ more. rw added (append_assoc old (refused_line number why) (told_from running.limits width system more)) };
+}
+
+-- an event
+pub plays_event : (width : ℕ) (before after : Running) (event : Event) (reply : Reply) (old new : List ℕ) → Replies before event (Ok reply) after → new ≡ old ++ reply_lines width event.client reply
+    → Plays width before (runs event ∷ []) old new after
+unfolding command_lines accepted_events
+plays_event width before after event reply old new answers added = record {
+  limits = answers.limits;
+  plays = λ system h.
+      let says = answers.tells system h in
+      let right = step before.limits system event in record {
+        next = right.next;
+        stands = says.1;
+        goes_on = λ more.
+            let rest = told_from before.limits width right.next more in
+            rw added (append_assoc old (reply_lines width event.client reply) rest ∙ ap (λ (r : Reply). old ++ (reply_lines width event.client r ++ rest)) says.0);
+      };
+}
+
+-- what was told so far, and what is left to be told from here on, is what all are told
+pub record PlayingFrom (width : ℕ) (limits : Limits) (system : System) (all : List Command) (text : List ℕ) (now : Running) (rest : List Command) : Type 0 where
+  pub next : System
+  pub stands : StandsForSystem now next
+  pub whole : text ++ told_from limits width next rest ≡ told_from limits width system all
+
+pub record Playing (width : ℕ) (first : Running) (all : List Command) (text : List ℕ) (now : Running) (rest : List Command) : Type 0 where
+  pub limits : now.limits ≡ first.limits
+  pub from : (system : System) → StandsForSystem first system → PlayingFrom width first.limits system all text now rest
+
+-- before the first command
+pub playing_start : (width : ℕ) (first : Running) (all : List Command) (text : List ℕ) → text ≡ [] → Playing width first all text first all
+playing_start width first all text none = rw none (record { limits = refl; from = λ system h. record { next = system; stands = h; whole = refl } })
+
+-- some commands more
+playing_more : (width : ℕ) (first now after : Running) (all commands rest : List Command) (text new : List ℕ) → Playing width first all text now (commands ++ rest) → Plays width now commands text new after → Playing width first all new after rest
+playing_more width first now after all commands rest text new playing plays = record {
+  limits = plays.limits ∙ playing.limits;
+  from = λ system h.
+      let so_far = playing.from system h in
+      let one = plays.plays so_far.next so_far.stands in
+      let on : new ++ told_from first.limits width one.next rest ≡ text ++ told_from first.limits width so_far.next (commands ++ rest)
+      = subst (λ (l : Limits). new ++ told_from l width one.next rest ≡ text ++ told_from l width so_far.next (commands ++ rest)) playing.limits (one.goes_on rest) in
+      record { next = one.next; stands = one.stands; whole = on ∙ so_far.whole };
+}
+
+-- a line more
+pub playing_line : (width : ℕ) (names : List (List ℕ)) (first now after : Running) (all : List Command) (number : ℕ) (left raw tail text new : List ℕ)
+    → Playing width first all text now (commands_of names number (raw_lines left)) → raw_lines left ≡ raw ∷ raw_lines tail
+    → Plays width now (commands_in names number (without_line_end raw)) text new after → Playing width first all new after (commands_of names (number + 1) (raw_lines tail))
+unfolding commands_of
+playing_line width names first now after all number left raw tail text new playing cut plays =
+    playing_more width first now after all (commands_in names number (without_line_end raw)) (commands_of names (number + 1) (raw_lines tail)) text new (rw cut at playing) plays
+
+-- no line is left
+pub playing_all : (width : ℕ) (names : List (List ℕ)) (first now : Running) (all : List Command) (number : ℕ) (left text : List ℕ)
+    → Playing width first all text now (commands_of names number (raw_lines left)) → length left ≡ 0 → TellsAll width first all text
+unfolding commands_of command_lines
+playing_all width names first now all number [] text playing none = λ system h. sym (append-nil text) ∙ (rw lines_none at (playing.from system h).whole)
+playing_all width names first now all number (x ∷ xs) text playing none = absurd (omega arith)
+
+-- all that the commands of a script are told
+pub tells_output : (limits : Limits) (rows : List (List ℤ)) (names : List (List ℕ)) (number first : ℕ) (lines : List (List ℕ)) (running : Running) (text : List ℕ)
+    → running.limits ≡ limits → StandsForSystem running (opened limits rows) → TellsAll (length names) running (commands_of names number lines) text → number ≡ first
+    → text ≡ command_lines (length names) (commands_of names first lines) (replies limits rows (accepted_events (commands_of names first lines)))
+tells_output limits rows names number first lines running text same stands tells is =
+    subst (λ (l : Limits). text ≡ told_from l (length names) (opened limits rows) (commands_of names first lines)) same
+    (subst (λ (n : ℕ). text ≡ told_from running.limits (length names) (opened limits rows) (commands_of names n lines)) is (tells (opened limits rows) stands))

@@ -1,0 +1,26 @@
+-- What is written of what was told.
+use Rattle.std.proofs.Common.{◌≡◌, ◌∙◌, ◌≤◌, ℕ, List, [], length, refl, true, Ok, Err, Result, Option, None, Some, take}
+use Rattle.std.proofs.lemmas.List.{append-nil}
+use Rattle.std.specs.Prelude.{IfErr, OnOk}
+use Rattle.std.specs.Io.KnownBytes.{Appends, Keeps}
+use Rattle.pref_script.specs.Output.{fault_text}
+use Rattle.pref_script.specs.Run.{Sink, WroteAll, Wrote}
+use Rattle.pref_script.specs.declared.fault.RunFault.{RunFault}
+use Rattle.pref_script.specs.declared.fault.RunFault.TheVariants as fault
+
+-- a text was written, or a beginning of it
+pub wrote-text : (sink : Sink) (text : List ℕ) (result : Result (Unit {0}) RunFault) → OnOk result (WroteAll sink text)
+    → IfErr result (λ why. (why ≡ fault.Write) × (sink.failed ≡ true) × (count : ℕ) × (count ≤ length text) × Appends sink.held sink.holds (take count text)) → Wrote sink (Ok text) result
+wrote-text sink text (Ok done) all part = (refl, all)
+wrote-text sink text (Err why) all (write, failed, count, few, part) = rw write (failed, (count, part))
+
+pub nothing-written : (held holds : Option (List ℕ)) → Appends held holds [] → Keeps held holds
+nothing-written None holds h = tt
+nothing-written (Some xs) None h = h
+nothing-written (Some xs) (Some ys) h = h ∙ append-nil xs
+
+-- a fault's line was written
+pub wrote-line : (sink : Sink) (told : Result (List ℕ) RunFault) (why : RunFault) → told ≡ Err why → (why ≡ fault.Write → ⊥) → WroteAll sink (fault_text why) → Wrote sink told (Err why)
+wrote-line sink told fault.Write is other line = absurd (other refl)
+wrote-line sink told fault.Memory is other line = nothing-written sink.held sink.holds line
+wrote-line sink told why is other line = (is, rw is line)

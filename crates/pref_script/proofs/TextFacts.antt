@@ -1,0 +1,17 @@
+-- Lines that are printed one after the other.
+use Rattle.std.proofs.Common.{◌≡◌, ◌∙◌, ℕ, ◌+◌, ◌<◌, ◌≤◌, List, ◌++◌, length, drop, get_or, sym, append_assoc}
+use Rattle.std.proofs.lemmas.List.{append-nil, drop_more, drop_all}
+use Rattle.pref_script.specs.Text.{texts}
+
+-- one text more
+pub texts-more : {A : Type 0} (text : A → List ℕ) (out wrote all : List ℕ) (xs : List A) (place : ℕ) (x d : A) → place < length xs → get_or xs place d ≡ x
+    → out ++ texts text (drop place xs) ≡ all → wrote ≡ out ++ text x → wrote ++ texts text (drop (place + 1) xs) ≡ all
+unfolding texts
+texts-more text out wrote all xs place x d inside here before now =
+    let whole = rw (drop_more xs place d inside, here) at before in
+    rw now (append_assoc out (text x) (texts text (drop (place + 1) xs)) ∙ whole)
+
+-- and none more
+pub texts-end : {A : Type 0} (text : A → List ℕ) (out all : List ℕ) (xs : List A) (place : ℕ) → length xs ≤ place → out ++ texts text (drop place xs) ≡ all → out ≡ all
+unfolding texts
+texts-end text out all xs place none before = sym (append-nil out) ∙ rw (drop_all place xs none) at before

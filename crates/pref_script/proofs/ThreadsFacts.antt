@@ -1,0 +1,81 @@
+-- What a script is told whose clients run on threads.
+use Rattle.std.proofs.Common.{◌≡◌, ◌∙◌, ℕ, ◌<◌, List, [], ◌++◌, length, refl, Ok, Err, ◌⊎◌, inl, inr, ℤ}
+use Rattle.std.specs.Global.{Vec}
+use Rattle.pref_core.specs.Limits.{Limits}
+use Rattle.pref_core.specs.declared.event.Act.{Act}
+use Rattle.pref_core.specs.declared.event.Reply.{Reply}
+use Rattle.pref_core.specs.declared.fault.CoreFault.TheVariants as core
+use Rattle.pref_share.specs.Interleavings.{IsSequential}
+use Rattle.pref_share.specs.Runs.{IsJointRun}
+use Rattle.pref_share.specs.Standing.{newcomers}
+use Rattle.pref_share.specs.declared.fault.ShareFault.{ShareFault}
+use Rattle.pref_share.specs.declared.fault.ShareFault.TheVariants as share
+use Rattle.pref_script.specs.Commands.{commands_of}
+use Rattle.pref_script.specs.Output.{Script, ScriptFault, script_of, script_with}
+use Rattle.pref_script.specs.Reading.{IsReadOf, share_fault, unowned_text}
+use Rattle.pref_script.specs.Text.{texts}
+use Rattle.pref_script.specs.Threads.{AreActs, ClosesOrStops, TellsOnThreads, StopsClients, WereStopped, clients_lines, unowned_lines}
+use Rattle.pref_script.specs.declared.commands.Line.{Line}
+use Rattle.pref_script.specs.declared.fault.RunFault.{RunFault}
+use Rattle.pref_script.specs.declared.fault.RunFault.TheVariants as fault
+use Rattle.pref_script.specs.declared.reading.Script.{Script as Read}
+use Rattle.pref_script.proofs.ClientFacts.{told-unowned}
+use Rattle.pref_script.proofs.OutputFacts.{script-core-fault, script-ok}
+
+-- a fault of the script
+pub tells-fault : (limits : Limits) (may_hold : ℕ → ℕ → Type 0) (bytes : List ℕ) (why : RunFault) → ScriptFault why (script_of limits bytes) → TellsOnThreads limits may_hold bytes (Err why)
+tells-fault limits may_hold bytes (fault.Threads why) h = absurd h
+tells-fault limits may_hold bytes why h = h
+
+-- the clients were stopped
+tells-stopped : (limits : Limits) (may_hold : ℕ → ℕ → Type 0) (bytes : List ℕ) (r : Read) → IsReadOf bytes r → (limits.capacity < length r.rows.items → ⊥) → (acts : List (Vec Act)) → AreActs limits.clients r.commands.events.items acts
+    → (why : ShareFault) → ClosesOrStops may_hold acts why → TellsOnThreads limits may_hold bytes (Err (share_fault why))
+tells-stopped limits may_hold bytes r read room acts owned why stops = by why stops
+  where
+    script : Script
+    script = script_with read.parts (r.schema, r.rows.items)
+
+    is_script : script_of limits bytes ≡ Ok script
+    is_script = script-ok limits bytes read.parts (r.schema, r.rows.items) read.cut read.table room
+
+    stopped : (why : ShareFault) → StopsClients may_hold acts why → WereStopped limits may_hold script why
+    stopped why stops = record { acts = acts; of_script = rw read.events at owned; stops = stops }
+
+    by : (why : ShareFault) → ClosesOrStops may_hold acts why → TellsOnThreads limits may_hold bytes (Err (share_fault why))
+    by (share.Core core) stops = rw stops tt
+    by why stops = (script, is_script, stopped why stops)
+
+-- the board was not opened, or the clients were stopped
+pub tells-refused : (limits : Limits) (may_hold : ℕ → ℕ → Type 0) (bytes : List ℕ) (r : Read) → IsReadOf bytes r → (rows : List (List ℤ)) → rows ≡ r.rows.items → (acts : List (Vec Act)) → AreActs limits.clients r.commands.events.items acts → (why : ShareFault)
+    → ((limits.capacity < length rows) × (why ≡ share.Core (core.Full (length rows)))) ⊎ ((limits.capacity < length rows → ⊥) × ClosesOrStops may_hold acts why)
+    → TellsOnThreads limits may_hold bytes (Err (share_fault why))
+tells-refused limits may_hold bytes r read rows same acts owned why refused = by (rw same at refused)
+  where
+    by : ((limits.capacity < length r.rows.items) × (why ≡ share.Core (core.Full (length r.rows.items)))) ⊎ ((limits.capacity < length r.rows.items → ⊥) × ClosesOrStops may_hold acts why)
+        → TellsOnThreads limits may_hold bytes (Err (share_fault why))
+    by (inl (many, full)) = rw full (script-core-fault limits bytes read.parts (r.schema, r.rows.items) (core.Full (length r.rows.items)) read.cut read.table (λ _. refl) (inr many))
+    by (inr (room, stops)) = tells-stopped limits may_hold bytes r read room acts owned why stops
+
+-- what is printed before the clients' lines
+unowned-printed : (clients width : ℕ) (bytes : List ℕ) (r : Read) (read : IsReadOf bytes r) (lines : List Line) (start unowned : List ℕ) → width ≡ length r.schema → lines ≡ r.commands.lines.items
+    → start ≡ [] → unowned ≡ start ++ texts (unowned_text clients width) lines → unowned ≡ unowned_lines clients (length r.schema) (commands_of r.schema read.parts.first read.parts.commands)
+unowned-printed clients width bytes r read lines start unowned wide all empty wrote =
+    let printed = rw (empty, wide, all ∙ read.lines) at wrote in
+    printed ∙ told-unowned clients (length r.schema) (commands_of r.schema read.parts.first read.parts.commands)
+
+-- the output of a joint run
+pub tells-joint : (limits : Limits) (may_hold : ℕ → ℕ → Type 0) (bytes : List ℕ) (r : Read) (read : IsReadOf bytes r) (rows : List (List ℤ)) (width : ℕ) (lines : List Line) (acts : List (Vec Act)) (replies : List (Vec Reply))
+    (shown : List (Vec Reply)) (start unowned text : List ℕ) → rows ≡ r.rows.items → (limits.capacity < length rows → ⊥) → width ≡ length r.schema → lines ≡ r.commands.lines.items
+    → start ≡ [] → unowned ≡ start ++ texts (unowned_text limits.clients width) lines → shown ≡ replies → text ≡ unowned ++ clients_lines width 1 shown
+    → AreActs limits.clients r.commands.events.items acts → IsJointRun (record { limits = limits; rows = rows }) (newcomers limits.clients) acts replies
+    → IsSequential (record { limits = limits; rows = rows }) acts replies → TellsOnThreads limits may_hold bytes (Ok text)
+tells-joint limits may_hold bytes r read rows width lines acts replies shown start unowned text same room wide all empty first every wrote owned joint sequential =
+    let space = rw same at room in
+    let run = rw same at joint in
+    let answers = rw same at sequential in
+    let before = unowned-printed limits.clients width bytes r read lines start unowned wide all empty first in
+    let printed = rw (wide, every, before) at wrote in (
+      script_with read.parts (r.schema, r.rows.items),
+      script-ok limits bytes read.parts (r.schema, r.rows.items) read.cut read.table space,
+      record { acts = acts; replies = replies; of_script = rw read.events at owned; joint = run; sequential = answers; told = printed },
+    )

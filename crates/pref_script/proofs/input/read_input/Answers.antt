@@ -1,0 +1,16 @@
+use Rattle.std.proofs.Common.{◌≡◌, ◌++◌, take, length, arith}
+use Rattle.std.proofs.KnownBytes.{Consumes-trans}
+use Rattle.std.proofs.lemmas.List.{length-append, length-take}
+use Rattle.pref_script.proofs.input.read_input.Goals as goal
+
+-- the bytes so far and those of the last read were read, and no more
+pub returns-in_err-extend_from_slice-clause-most : goal.returns-in_err-extend_from_slice-clause-most
+returns-in_err-extend_from_slice-clause-most g c =
+    let part = take c.in-Ok.count c.read.new.buf in
+    let input = c.loop-chunk.input.items in
+    let room = c.room_after-room.result in
+    let size : length c.read.new.buf ≡ length (take room c.loop-chunk.chunk) = c.read.auto.buf in (
+      input ++ part,
+      Consumes-trans _ _ _ input part c.loop-chunk.invariant.1 c.in-Ok.ensures.bytes.0,
+      omega (arith, length-append input part, length-take c.in-Ok.count c.read.new.buf, size, length-take room c.loop-chunk.chunk, c.room_after-room.ensures.most, c.len-in-loop-chunk.ensures, c.loop-chunk.input.ok.0),
+    )

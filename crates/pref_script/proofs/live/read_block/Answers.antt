@@ -1,0 +1,71 @@
+use Rattle.std.proofs.Common.{ℕ, sym, subst, ◌∙◌}
+use Rattle.std.proofs.lemmas.Result.{err_from_is_err_and}
+use Rattle.pref_script.specs.ReadAhead.{IsLineAt}
+use Rattle.pref_script.specs.Run.{source_of}
+use Rattle.pref_script.proofs.BlockFacts.{block_end, block_next, block_open, end_missing, input_missing, table_missing}
+use Rattle.pref_script.proofs.LineFacts.{behind_more, further, some_more}
+use Rattle.pref_script.proofs.LiveRunFacts.{line_missing}
+use Rattle.pref_script.proofs.live.read_block.Goals as goal
+
+pub loop-end-init : goal.loop-end-init
+loop-end-init g c =
+    let some = further 0 c.in_ok-start.start c.in_ok-start.ensures.inside.0 c.if-start-eq0.false in
+    let is = sym (rw c.as_slice.ensures at c.is_table_line.ensures) ∙ c.if-not-is_table_line.false in
+    record {
+      read = c.in_ok-start.ensures.behind;
+      block = block_open c.read_line.new.self c.in_ok-start.start some c.in_ok-start.ensures.inside.1 c.in_ok-start.ensures.most c.in_ok-start.ensures.line is;
+    }
+
+pub loop-end-preserved : goal.loop-end-preserved
+loop-end-preserved g c =
+    let had = g.R.Read.remaining c.loop-end.reader.inner in
+    let left = g.R.Read.remaining c.read_line-in-loop-end.new.reader.inner in
+    let some = further c.loop-end.stop c.in_ok-end.end c.in_ok-end.ensures.inside.0 c.if-end-stop.false in
+    let other = sym (rw c.as_slice-in-loop-end.ensures at c.is_end_line.ensures) ∙ c.if-is_end_line.false in
+    record {
+      read = behind_more _ had left c.args.ahead.now c.loop-end.ahead c.read_line-in-loop-end.new.self c.loop-end.invariant.read c.in_ok-end.ensures.behind;
+      block = block_next had left c.loop-end.ahead c.read_line-in-loop-end.new.self c.in_ok-start.start c.loop-end.stop c.loop-end.count c.in_ok-end.end c.loop-end.invariant.block c.in_ok-end.ensures.behind c.in_ok-end.ensures.line some
+          c.in_ok-end.ensures.inside.1 c.in_ok-end.ensures.most other;
+    }
+
+pub returns-in_err-start : goal.returns-in_err-start
+returns-in_err-start g c =
+    let source = source_of g.R.Read.remaining c.args.reader.now c.read_line.new.reader in
+    let p = err_from_is_err_and c.from_residual.result c.from_residual.ensures.1 in
+    rw (p.1, p.2) (line_missing source c.args.ahead.now c.read_line.new.self c.in_err-start.field-0.0 c.in_err-start.ensures.fault c.in_err-start.ensures.read)
+
+pub returns-then-start-eq0 : goal.returns-then-start-eq0
+returns-then-start-eq0 g c =
+    (c.in_ok-start.ensures.behind, input_missing c.read_line.new.self (subst (λ (n : ℕ). IsLineAt 0 n c.read_line.new.self) c.if-start-eq0.true c.in_ok-start.ensures.line))
+
+pub returns-then-not-is_table_line : goal.returns-then-not-is_table_line
+returns-then-not-is_table_line g c =
+    let other = sym (rw c.as_slice.ensures at c.is_table_line.ensures) ∙ c.if-not-is_table_line.true in
+    (c.in_ok-start.ensures.behind, table_missing c.read_line.new.self c.in_ok-start.start c.in_ok-start.ensures.inside.1 c.in_ok-start.ensures.line other)
+
+pub returns-in_err-end : goal.returns-in_err-end
+returns-in_err-end g c =
+    let source = source_of g.R.Read.remaining c.args.reader.now c.read_line-in-loop-end.new.reader in
+    let p = err_from_is_err_and c.from_residual-in_err-end.result c.from_residual-in_err-end.ensures.1 in
+    rw (p.1, p.2)
+    (line_missing source c.args.ahead.now c.read_line-in-loop-end.new.self c.in_err-end.field-0.0 c.in_err-end.ensures.fault (some_more _ _ _ c.args.ahead.now c.loop-end.ahead c.loop-end.invariant.read c.in_err-end.ensures.read))
+
+pub returns-then-end-stop : goal.returns-then-end-stop
+returns-then-end-stop g c =
+    let had = g.R.Read.remaining c.loop-end.reader.inner in
+    let left = g.R.Read.remaining c.read_line-in-loop-end.new.reader.inner in
+    let line = subst (λ (n : ℕ). IsLineAt c.loop-end.stop n c.read_line-in-loop-end.new.self) c.if-end-stop.true c.in_ok-end.ensures.line in (
+      behind_more _ had left c.args.ahead.now c.loop-end.ahead c.read_line-in-loop-end.new.self c.loop-end.invariant.read c.in_ok-end.ensures.behind,
+      end_missing had left c.loop-end.ahead c.read_line-in-loop-end.new.self c.in_ok-start.start c.loop-end.stop c.loop-end.count c.loop-end.invariant.block c.in_ok-end.ensures.behind line,
+    )
+
+pub returns-then-is_end_line : goal.returns-then-is_end_line
+returns-then-is_end_line g c =
+    let had = g.R.Read.remaining c.loop-end.reader.inner in
+    let left = g.R.Read.remaining c.read_line-in-loop-end.new.reader.inner in
+    let some = further c.loop-end.stop c.in_ok-end.end c.in_ok-end.ensures.inside.0 c.if-end-stop.false in
+    let is = sym (rw c.as_slice-in-loop-end.ensures at c.is_end_line.ensures) ∙ c.if-is_end_line.true in (
+      behind_more _ had left c.args.ahead.now c.loop-end.ahead c.read_line-in-loop-end.new.self c.loop-end.invariant.read c.in_ok-end.ensures.behind,
+      block_end had left c.loop-end.ahead c.read_line-in-loop-end.new.self c.in_ok-start.start c.loop-end.stop c.loop-end.count c.in_ok-end.end c.loop-end.invariant.block c.in_ok-end.ensures.behind c.in_ok-end.ensures.line some
+          c.in_ok-end.ensures.inside.1 is,
+    )

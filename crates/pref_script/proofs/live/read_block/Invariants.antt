@@ -1,0 +1,14 @@
+use Rattle.std.proofs.Common.{◌-◌}
+use Rattle.pref_script.specs.ReadAhead.{ReadBehind}
+use Rattle.pref_script.proofs.BlockFacts.{BlockAt}
+use Rattle.pref_script.proofs.live.read_block.Given as goal
+
+abbrev pub invariant-loop-end : goal.invariant-loop-end
+invariant-loop-end g l =
+    let remaining = g.R.Read.remaining in record {
+      read : ReadBehind (remaining l.fn.reader.inner) (remaining l.reader.inner) l.fn.ahead l.ahead;
+      block : BlockAt l.ahead l.start l.stop l.count;
+    }
+
+abbrev pub decreases-loop-end : goal.decreases-loop-end
+decreases-loop-end g l = 16777216 - l.stop

@@ -1,0 +1,42 @@
+use Rattle.std.proofs.Common.{arith, string_bytes}
+use Rattle.std.proofs.lemmas.Result.{err_from_is_err_and}
+use Rattle.pref_script.proofs.live.take_turn.Goals as goal
+
+pub returns : goal.returns
+returns g c = (
+  string_bytes c.tell.new.text,
+  record {
+    mid = c.read_line.new.self;
+    end = c.in_ok-end.end;
+    read = c.in_ok-end.ensures.behind;
+    some = grind arith;
+    inside = c.in_ok-end.ensures.inside.1;
+    line = c.in_ok-end.ensures.line;
+    tells = rw (c.line_text.ensures, c.as_slice.ensures, c.new-text.ensures.bytes) at c.in_ok-tell.ensures.told;
+    taken = c.take.ensures.unread;
+    ended = c.take.ensures.ended;
+  },
+  rw c.as_bytes.ensures.value at c.in_ok-write_output.ensures.ok,
+)
+
+pub returns-in_err-write_output : goal.returns-in_err-write_output
+returns-in_err-write_output g c =
+    let p = err_from_is_err_and c.from_residual-in_err-write_output.result c.from_residual-in_err-write_output.ensures.1 in
+    let (written, failed, count, few, part) = c.in_err-write_output.ensures.fault in
+    let line = rw c.as_bytes.ensures.value at part in
+    rw (p.1, p.2, written) (
+      failed,
+      string_bytes c.tell.new.text,
+      record {
+        mid = c.read_line.new.self;
+        end = c.in_ok-end.end;
+        read = c.in_ok-end.ensures.behind;
+        some = grind arith;
+        inside = c.in_ok-end.ensures.inside.1;
+        line = c.in_ok-end.ensures.line;
+        tells = rw (c.line_text.ensures, c.as_slice.ensures, c.new-text.ensures.bytes) at c.in_ok-tell.ensures.told;
+        taken = c.take.ensures.unread;
+        ended = c.take.ensures.ended;
+      },
+      (count, line),
+    )

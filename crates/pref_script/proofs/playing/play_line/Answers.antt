@@ -1,0 +1,8 @@
+use Rattle.std.proofs.Common.{sym, ◌∙◌}
+use Rattle.pref_script.proofs.PlayFacts.{plays_refused}
+use Rattle.pref_script.proofs.playing.play_line.Goals as goal
+
+pub returns-in_ok-push_refused-in-Err-Refused-clause-played : goal.returns-in_ok-push_refused-in-Err-Refused-clause-played
+returns-in_ok-push_refused-in-Err-Refused-clause-played c =
+    rw (sym c.is_blank_line.ensures ∙ c.if-is_blank_line.false, rw c.in-Err-Refused.field-0-is at c.in-Err-Refused.ensures)
+    (plays_refused _ c.args.machine.now c.args.number c.in-Err-Refused.why _ _ (rw c.in-Err-Refused.why-is at c.in_ok-push_refused-in-Err-Refused.ensures))

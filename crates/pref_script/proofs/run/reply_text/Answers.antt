@@ -1,0 +1,24 @@
+use Rattle.std.proofs.Common.{refl}
+use Rattle.std.proofs.lemmas.Result.{IfOk-weaker, err_from_is_err_and}
+use Rattle.pref_script.specs.LiveTable.{names_of, running_of}
+use Rattle.pref_script.proofs.OutputFacts.{script-ok, script-parts-fault, tells-played}
+use Rattle.pref_script.proofs.PlayFacts.{tells_output}
+use Rattle.pref_script.proofs.run.reply_text.Goals as goal
+
+pub returns-in_err-table : goal.returns-in_err-table
+returns-in_err-table c =
+    let p = err_from_is_err_and c.from_residual.result c.from_residual.ensures.1 in
+    rw (p.1, p.2) (script-parts-fault c.args.setup c.args.bytes.now c.in_err-table.field-0.0 c.in_err-table.ensures.parts)
+
+pub returns-in_err-live : goal.returns-in_err-live
+returns-in_err-live c =
+    let p = err_from_is_err_and c.from_residual-in_err-live.result c.from_residual-in_err-live.ensures.1 in
+    rw (p.1, p.2) (c.in_err-live.ensures.fault c.args.bytes.now _ c.in_ok-table.ensures.parts refl)
+
+pub returns : goal.returns
+returns c =
+    let live = c.in_ok-live.live in
+    let opened = c.in_ok-live.ensures.opened in
+    let said = script-ok c.args.setup c.args.bytes.now _ (names_of live, opened.rows) c.in_ok-table.ensures.parts opened.gives opened.room in
+    let told = IfOk-weaker c.tell_lines.result _ _ (λ text tells. tells_output c.args.setup opened.rows (names_of live) _ _ _ (running_of live) _ opened.bounds opened.stands tells opened.starts) c.tell_lines.ensures.told in
+    tells-played c.args.setup c.args.bytes.now _ c.tell_lines.result said told c.tell_lines.ensures.memory

@@ -1,0 +1,68 @@
+-- What a run reads and writes that replies to each line of a script as it comes. (this project)
+use Rattle.std.specs.Prelude.{ℕ, ◌≡◌, ◌≤◌, ◌<◌, ◌⊎◌, true, List, [], ◌++◌, length, take, drop, Result, Ok, Err, IsOk}
+use Rattle.std.specs.Io.KnownBytes.{Consumes, IsAtEnd}
+use Rattle.pref_core.specs.Limits.{Limits}
+use Rattle.pref_script.specs.LiveTable.{TellsLine}
+use Rattle.pref_script.specs.Output.{fault_text, output, script_of}
+use Rattle.pref_script.specs.ReadAhead.{IsLineAt, ReadBehind, ReadSome, is_at_end, unread}
+use Rattle.pref_script.specs.Run.{NothingWritten, Sink, Source, WroteAll, WroteBeginning}
+use Rattle.pref_script.specs.Script.{raw_lines, without_line_end}
+use Rattle.pref_script.specs.declared.fault.RunFault.{RunFault}
+use Rattle.pref_script.specs.declared.fault.RunFault.TheVariants as fault
+use Rattle.pref_script.specs.declared.live.Turn.{Turn}
+use Rattle.pref_script.specs.declared.live.Turn.TheVariants as turn
+use Rattle.pref_script.specs.declared.live_table.LiveTable.{LiveTable}
+use Rattle.pref_script.specs.declared.read_ahead.ReadAhead.{ReadAhead}
+
+-- one line was read and given to the live table, which printed this text
+pub record TellsNext (source : Source) (old new : ReadAhead) (before after : LiveTable) (text : List ℕ) : Type 0 where
+  pub mid : ReadAhead
+  pub end : ℕ
+  pub read : ReadBehind source.had source.left old mid
+  pub some : 0 < end
+  pub inside : end ≤ length (unread mid)
+  pub line : IsLineAt 0 end mid
+  pub tells : TellsLine before (without_line_end (take end (unread mid))) [] text after
+  pub taken : unread new ≡ drop end (unread mid)
+  pub ended : is_at_end new ≡ is_at_end mid
+
+-- no line was left
+pub record NoneLeft (source : Source) (old new : ReadAhead) : Type 0 where
+  pub read : ReadBehind source.had source.left old new
+  pub ended : is_at_end new ≡ true
+  pub none : unread new ≡ []
+
+-- what a turn reads and writes, by how it ends
+abbrev pub Turns : Source → Sink → ReadAhead → ReadAhead → LiveTable → LiveTable → Result Turn RunFault → Type 0
+Turns source sink old new before after (Ok turn.Told) = (text : List ℕ) × TellsNext source old new before after text × WroteAll sink text
+Turns source sink old new before after (Ok turn.End) = NoneLeft source old new × NothingWritten sink
+Turns source sink old new before after (Err fault.Write) = (sink.failed ≡ true) × (text : List ℕ) × TellsNext source old new before after text × WroteBeginning sink text
+Turns source sink old new before after (Err fault.Read) = (source.failed ≡ true) × ReadSome source.had source.left old × NothingWritten sink
+Turns source sink old new before after (Err fault.TooLarge) = ReadSome source.had source.left old × NothingWritten sink
+Turns source sink old new before after (Err fault.Memory) = ReadSome source.had source.left old × NothingWritten sink
+Turns source sink old new before after (Err other) = ⊥
+
+-- a text ends with a line, so that what follows is lines of its own
+abbrev pub EndsWithLine : List ℕ → Type 0
+EndsWithLine text = (more : List ℕ) → raw_lines (text ++ more) ≡ raw_lines text ++ raw_lines more
+
+-- these first lines of an input are a script without a fault
+pub record IsHeard (limits : Limits) (source : Source) (heard : List ℕ) : Type 0 where
+  pub unheard : List ℕ
+  pub consumed : Consumes source.had source.left (heard ++ unheard)
+  pub lines : EndsWithLine heard ⊎ (unheard ≡ []) × IsAtEnd source.left
+  pub script : IsOk (script_of limits heard)
+
+-- what a run has written that stops early: nothing, or the output of the first lines
+abbrev pub StopsEarly : Limits → Source → Sink → Type 0
+StopsEarly limits source sink = NothingWritten sink ⊎ (heard : List ℕ) × IsHeard limits source heard × WroteAll sink (output limits heard)
+
+-- what a run read and wrote, by how it ended
+abbrev pub RanLive : Limits → Source → Sink → Result (Unit {0}) RunFault → Type 0
+RanLive limits source sink (Ok done) = (bytes : List ℕ) × Consumes source.had source.left bytes × IsAtEnd source.left × IsOk (script_of limits bytes) × WroteAll sink (output limits bytes)
+RanLive limits source sink (Err fault.Read) = (source.failed ≡ true) × StopsEarly limits source sink
+RanLive limits source sink (Err fault.TooLarge) = StopsEarly limits source sink
+RanLive limits source sink (Err fault.Memory) = StopsEarly limits source sink
+RanLive limits source sink (Err fault.Write) = (sink.failed ≡ true) × (heard : List ℕ) × (unheard : List ℕ) × Consumes source.had source.left (heard ++ unheard) × WroteBeginning sink (output limits heard)
+RanLive limits source sink (Err (fault.Threads why)) = ⊥
+RanLive limits source sink (Err why) = (bytes : List ℕ) × Consumes source.had source.left bytes × (script_of limits bytes ≡ Err why) × WroteAll sink (fault_text why)

@@ -1,0 +1,93 @@
+-- The output of a script whose clients run on threads. (this project)
+use Rattle.std.specs.Prelude.{ℕ, suc, ◌≡◌, ◌+◌, ◌&&◌, List, [], ◌∷◌, length, Bool, nat_le, nat_lt, if◌then◌else◌, Some, Result, Ok, Err, slice_get}
+use Rattle.std.specs.Global.{Vec}
+use Rattle.pref_core.specs.Limits.{Limits}
+use Rattle.pref_core.specs.declared.event.Act.{Act}
+use Rattle.pref_core.specs.declared.event.Event.{Event}
+use Rattle.pref_core.specs.declared.event.Reply.{Reply}
+use Rattle.pref_core.specs.declared.event.Reply.TheVariants.{Refused}
+use Rattle.pref_core.specs.declared.fault.CoreFault.TheVariants.{NoSuchClient}
+use Rattle.pref_share.specs.Openings.{Opening}
+use Rattle.pref_share.specs.Interleavings.{IsSequential, acts_of}
+use Rattle.pref_share.specs.Runs.{IsJointRun}
+use Rattle.pref_share.specs.Reports.{Stops}
+use Rattle.pref_share.specs.Standing.{newcomers}
+use Rattle.pref_share.specs.declared.fault.ShareFault.{ShareFault}
+use Rattle.pref_share.specs.declared.fault.ShareFault.TheVariants as share
+use Rattle.pref_script.specs.Commands.{Command, refused, runs, accepted_events}
+use Rattle.pref_script.specs.Output.{Script, ScriptFault, script_of}
+use Rattle.pref_script.specs.Text.{◌<>◌, refused_line, reply_lines, texts}
+use Rattle.pref_script.specs.declared.fault.RunFault.{RunFault}
+use Rattle.pref_script.specs.declared.fault.RunFault.TheVariants as fault
+
+-- whether one of this many clients has this number
+abbrev pub is_client : ℕ → ℕ → Bool
+is_client clients number = nat_lt 0 number && nat_le number clients
+
+-- the acts of this many clients, a list for each
+pub record AreActs (clients : ℕ) (events : List Event) (acts : List (Vec Act)) : Type 0 where
+  pub lists : length acts ≡ clients
+  pub each : (place : ℕ) (list : Vec Act) → slice_get acts place ≡ Some list → list.items ≡ acts_of (suc place) events
+
+-- what is printed for a command that belongs to no client: a refused line, or an event of a client that does not exist
+abbrev pub unowned_line : ℕ → ℕ → Command → List ℕ
+unowned_line clients width (refused number why) = refused_line number why
+unowned_line clients width (runs event) = if is_client clients event.client then [] else reply_lines width event.client (Refused NoSuchClient)
+
+-- the lines of all these, in order of the script
+abbrev pub unowned_lines : ℕ → ℕ → List Command → List ℕ
+unowned_lines clients width commands = texts (unowned_line clients width) commands
+
+-- the lines of each client's replies, in order of the clients, of which the first has this number
+unfoldable pub clients_lines : ℕ → ℕ → List (Vec Reply) → List ℕ
+clients_lines width client [] = []
+clients_lines width client (replies ∷ more) = texts (reply_lines width client) replies.items <> clients_lines width (client + 1) more
+
+-- the whole output, by the replies to each client
+abbrev pub threads_text : Limits → Script → List (Vec Reply) → List ℕ
+threads_text limits script replies = unowned_lines limits.clients (length script.names) script.commands <> clients_lines (length script.names) 1 replies
+
+-- what the board of a script opens with
+abbrev pub opening_of : Limits → Script → Opening
+opening_of limits script = record { limits = limits; rows = script.rows }
+
+-- The text is the output of a joint run: one legal history gives these replies to the acts of the script's clients, and so does the
+-- sequential table for one interleaving of them.
+pub record TellsJointRun (limits : Limits) (script : Script) (text : List ℕ) : Type 0 where
+  pub acts : List (Vec Act)
+  pub replies : List (Vec Reply)
+  pub of_script : AreActs limits.clients (accepted_events script.commands) acts
+  pub joint : IsJointRun (opening_of limits script) (newcomers limits.clients) acts replies
+  pub sequential : IsSequential (opening_of limits script) acts replies
+  pub told : text ≡ threads_text limits script replies
+
+-- why clients did not do all their acts: the board was not opened, or closed, or they were stopped
+abbrev pub ClosesOrStops : (ℕ → ℕ → Type 0) → List (Vec Act) → ShareFault → Type 0
+ClosesOrStops may_hold acts share.Closed = Unit {0}
+ClosesOrStops may_hold acts why = Stops may_hold acts why
+
+-- the same, for another reason than out of memory
+abbrev pub StopsClients : (ℕ → ℕ → Type 0) → List (Vec Act) → ShareFault → Type 0
+StopsClients may_hold acts (share.Core why) = ⊥
+StopsClients may_hold acts why = ClosesOrStops may_hold acts why
+
+-- The clients of a script were stopped, behind a gate that says this of each turn at which it holds a client.
+pub record WereStopped (limits : Limits) (may_hold : ℕ → ℕ → Type 0) (script : Script) (why : ShareFault) : Type 0 where
+  pub acts : List (Vec Act)
+  pub of_script : AreActs limits.clients (accepted_events script.commands) acts
+  pub stops : StopsClients may_hold acts why
+
+-- what an input gives whose clients run on threads behind such a gate: the text of a joint run, a fault, or why they were stopped
+abbrev pub TellsOnThreads : Limits → (ℕ → ℕ → Type 0) → List ℕ → Result (List ℕ) RunFault → Type 0
+TellsOnThreads limits may_hold bytes (Ok text) = (script : Script) × (script_of limits bytes ≡ Ok script) × TellsJointRun limits script text
+TellsOnThreads limits may_hold bytes (Err (fault.Threads why)) = (script : Script) × (script_of limits bytes ≡ Ok script) × WereStopped limits may_hold script why
+TellsOnThreads limits may_hold bytes (Err why) = ScriptFault why (script_of limits bytes)
+
+-- what a gate says that is always open
+abbrev pub always_open : ℕ → ℕ → Type 0
+always_open client turn = ⊥
+
+-- no client was held
+abbrev pub HoldsNobody : RunFault → Type 0
+HoldsNobody (fault.Threads (share.Held client)) = ⊥
+HoldsNobody why = Unit {0}

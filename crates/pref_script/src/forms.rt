@@ -1,0 +1,128 @@
+//! The forms of a command line.
+ghost use Rattle.std.specs.Prelude.{◌≡◌, MatchOption, None, Some, option_map};
+ghost use Rattle.pref_script.specs.Forms.{said, said_by, said_in, verb_of};
+ghost use Rattle.pref_script.specs.Reading.{said_by_client};
+ghost use Rattle.pref_script.specs.Words.{after_word, alone as alone_of, word_of};
+
+use crate::pieces::{ChangeForm, ChangeVerb, change_form, cut_change};
+use crate::words::{cut_number, id_alone, skip_blanks, strip_word};
+
+/// What a command asks for.
+#[derive(Clone, Copy, Debug, PartialEq, Eq)]
+enum Verb {
+    Change(ChangeVerb),
+    Commit,
+    Begin,
+    Scan,
+    Finish,
+    Abandon,
+    Get,
+    Room,
+}
+
+/// What a command line says, its values, its pieces and its question not read yet.
+#[derive(Clone, Copy, Debug)]
+pub enum Form<'a> {
+    Change(ChangeForm<'a>),
+    Commit(&'a [u8]),
+    Begin(&'a [u8]),
+    Scan,
+    Finish,
+    Abandon,
+    Get(u64),
+    Room,
+}
+
+/// What the word asks for that a text begins with, and what follows the blanks after the word.
+#[tactic(auto, unfolding(crate::specs::Forms::verb_of))]
+fn cut_verb(text: &[u8]) -> Option<(Verb, &[u8])>
+    ensures { MatchOption result (verb_of (word_of text.now) ≡ None)
+        (λ cut. (verb_of (word_of text.now) ≡ Some cut.0) × (cut.1.now ≡ after_word text.now)) }
+{
+    if let Some((change, rest)) = cut_change(text) {
+        return Some((Verb::Change(change), rest));
+    }
+    if let Some(rest) = strip_word(text, b"get".as_slice()) {
+        return Some((Verb::Get, rest));
+    }
+    if let Some(rest) = strip_word(text, b"commit".as_slice()) {
+        return Some((Verb::Commit, rest));
+    }
+    if let Some(rest) = strip_word(text, b"begin".as_slice()) {
+        return Some((Verb::Begin, rest));
+    }
+    if let Some(rest) = strip_word(text, b"scan".as_slice()) {
+        return Some((Verb::Scan, rest));
+    }
+    if let Some(rest) = strip_word(text, b"finish".as_slice()) {
+        return Some((Verb::Finish, rest));
+    }
+    if let Some(rest) = strip_word(text, b"abandon".as_slice()) {
+        return Some((Verb::Abandon, rest));
+    }
+    if let Some(rest) = strip_word(text, b"room".as_slice()) {
+        return Some((Verb::Room, rest));
+    }
+    None
+}
+
+/// The form, where nothing follows.
+fn alone<'a>(form: Form<'a>, rest: &[u8]) -> Option<Form<'a>>
+    ensures { option_map said result ≡ alone_of (said form.entry) rest.now }
+{
+    if rest.is_empty() { Some(form) } else { None }
+}
+
+/// The form of a verb with what follows it.
+#[tactic(auto, unfolding(crate::specs::Forms::said_by))]
+fn verb_form(verb: Verb, rest: &[u8]) -> Option<Form<'_>>
+    ensures { option_map said result ≡ said_by verb rest.now }
+{
+    match verb {
+        Verb::Change(change) => Some(Form::Change(change_form(change, rest)?)),
+        Verb::Commit => Some(Form::Commit(rest)),
+        Verb::Begin => Some(Form::Begin(rest)),
+        Verb::Scan => alone(Form::Scan, rest),
+        Verb::Finish => alone(Form::Finish, rest),
+        Verb::Abandon => alone(Form::Abandon, rest),
+        Verb::Get => Some(Form::Get(id_alone(rest)?)),
+        Verb::Room => alone(Form::Room, rest),
+    }
+}
+
+/// The client of a command line that begins with the word `as`, and what follows its number.
+#[inline(never)]
+#[tactic(auto, unfolding(crate::specs::Forms::said_in))]
+fn cut_any_client(line: &[u8]) -> Option<(u8, &[u8])>
+    ensures { MatchOption result (said_in line.now ≡ None) (λ cut. said_in line.now ≡ said_by_client cut.0 cut.1.now) }
+{
+    let rest = strip_word(skip_blanks(line), b"as".as_slice())?;
+    let (client, rest) = cut_number(255, rest)?;
+    Some((client as u8, rest))
+}
+
+/// The same, where most lines begin by `as`, one blank, one digit and one blank.
+fn cut_client(line: &[u8]) -> Option<(u8, &[u8])>
+    ensures { MatchOption result (said_in line.now ≡ None) (λ cut. said_in line.now ≡ said_by_client cut.0 cut.1.now) }
+{
+    if line.len() >= 5
+        && line[0] == b'a'
+        && line[1] == b's'
+        && line[2] == b' '
+        && line[3].is_ascii_digit()
+        && line[4] == b' '
+    {
+        return Some((line[3] - b'0', skip_blanks(&line[5..])));
+    }
+    cut_any_client(line)
+}
+
+/// The client of a command line and what the line says, where it has the form of one.
+pub fn read_form(line: &[u8]) -> Option<(u8, Form<'_>)>
+    ensures { option_map (λ read. (read.0, said read.1)) result ≡ said_in line.now }
+{
+    let (client, rest) = cut_client(line)?;
+    let (verb, rest) = cut_verb(rest)?;
+    let form = verb_form(verb, rest)?;
+    Some((client, form))
+}

@@ -1,0 +1,36 @@
+//! Scripts of a preference table, from the bytes of their lines to the bytes of their replies.
+//!
+//! [`run_script`] reads a whole script and then writes all replies; [`run_live`] replies to each line as it comes;
+//! [`run_script_on_threads`] runs each client's lines on a thread of its own. Each says in its contract which bytes it writes: those of
+//! the sequential table, line by line, or of a joint run of the clients. A run that ends early has a [`RunFault`].
+#![tactic(auto)]
+
+mod acts;
+mod command;
+mod commands;
+mod commits;
+mod fault;
+mod forms;
+mod input;
+mod lines;
+mod live;
+mod live_table;
+mod output;
+mod pieces;
+mod playing;
+mod read_ahead;
+mod reading;
+mod replies;
+mod run;
+mod script;
+mod text;
+mod threads;
+mod watched;
+mod words;
+
+pub use fault::RunFault;
+pub use live::run_live;
+pub use output::fault_line;
+pub use run::run_script;
+pub use threads::{OpenGate, run_script_on_threads, run_threads};
+pub use watched::Watched;

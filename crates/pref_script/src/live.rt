@@ -1,0 +1,166 @@
+//! A script whose lines are replied to as they come.
+ghost use Rattle.std.specs.Prelude.{◌≡◌, ◌≤◌, ◌<◌, ◌+◌, ◌^◌, [], List, ℕ, Option, false};
+ghost use Rattle.pref_core.specs.Limits.{Limits};
+ghost use Rattle.pref_script.specs.Hearing.{Hears, OpensLive, ReadsBlock};
+ghost use Rattle.pref_script.specs.Live.{RanLive, Turns};
+ghost use Rattle.pref_script.specs.LiveTable.{next_number};
+ghost use Rattle.pref_script.specs.ReadAhead.{is_at_end, unread};
+ghost use Rattle.pref_script.specs.Run.{sink_of, source_of};
+ghost use Rattle.pref_script.specs.Watched.{has_failed, inside};
+
+use crate::fault::RunFault;
+use crate::live_table::LiveTable;
+use crate::output::{write_output, write_told};
+use crate::read_ahead::ReadAhead;
+use crate::script::{is_end_line, is_table_line, line_text};
+use crate::watched::Watched;
+use pref_core::Setup;
+use std::alloc::Global;
+use std::io::{Read, Write};
+
+/// More lines than any input has.
+const MAX_LINES: u64 = 1 << 63;
+
+/// How a turn ends.
+#[derive(Clone, Copy)]
+pub enum Turn {
+    /// A line was read, and its replies were written.
+    Told,
+    /// There was no line.
+    End,
+}
+
+/// The table block of a script, by its places in what was read: the lines up to the first line `end`.
+#[derive(Clone, Copy)]
+pub struct TableBlock {
+    /// Where the table text starts.
+    pub start: usize,
+    /// Where the table text stops.
+    pub stop: usize,
+    /// Where the line `end` ends.
+    pub end: usize,
+    /// The number of the line after it.
+    pub first: u64,
+}
+
+/// Reads the table block.
+///
+/// Refused `NoTable` as soon as the first line is there, `NoEnd` where the input ends before a line `end`, and as
+/// [`ReadAhead::read_line`] is.
+fn read_block<R: Read>(
+    alloc: Global,
+    reader: &mut Watched<R>,
+    ahead: &mut ReadAhead,
+) -> Result<TableBlock, RunFault>
+    ensures { ReadsBlock (source_of R.remaining reader.old reader.new) ahead.old ahead.new result }
+{
+    let start = ahead.read_line(alloc, reader, 0)?;
+    if start == 0 {
+        return Err(RunFault::NoTable);
+    }
+    if !is_table_line(&ahead.as_slice()[..start]) {
+        return Err(RunFault::NoTable);
+    }
+    let mut stop = start;
+    let mut count = 0;
+    loop {
+        let end = ahead.read_line(alloc, reader, stop)?;
+        if end == stop {
+            return Err(RunFault::NoEnd);
+        }
+        if is_end_line(&ahead.as_slice()[stop..end]) {
+            return Ok(TableBlock {
+                start,
+                stop,
+                end,
+                first: count + 3,
+            });
+        }
+        stop = end;
+        count += 1;
+    }
+}
+
+/// Reads the table block and opens its table. Takes the block from what was read ahead.
+fn open_live<R: Read>(
+    alloc: Global,
+    reader: &mut Watched<R>,
+    ahead: &mut ReadAhead,
+    setup: Setup,
+) -> Result<LiveTable, RunFault>
+    requires empty { unread ahead.old ≡ [] }
+    requires fresh { is_at_end ahead.old ≡ false }
+    ensures { OpensLive setup (source_of R.remaining reader.old reader.new) ahead.new result }
+{
+    let block = read_block(alloc, reader, ahead)?;
+    let table = &ahead.as_slice()[block.start..block.stop];
+    let live = LiveTable::open(alloc, setup, table, block.first)?;
+    ahead.take(block.end);
+    Ok(live)
+}
+
+/// One turn: reads one line, plays it on the table, and writes its replies and flushes before it returns.
+fn take_turn<R: Read, W: Write>(
+    alloc: Global,
+    reader: &mut Watched<R>,
+    writer: &mut Watched<W>,
+    ahead: &mut ReadAhead,
+    live: &mut LiveTable,
+) -> Result<Turn, RunFault>
+    requires { next_number live.old + 1 < 2 ^ 64 }
+    ensures { Turns (source_of R.remaining reader.old reader.new) (sink_of W.contents writer.old writer.new) ahead.old ahead.new live.old live.new result }
+{
+    let end = ahead.read_line(alloc, reader, 0)?;
+    if end == 0 {
+        return Ok(Turn::End);
+    }
+    let mut text = String::new(alloc);
+    live.tell(alloc, line_text(&ahead.as_slice()[..end]), &mut text)?;
+    ahead.take(end);
+    write_output(writer, text.as_bytes())?;
+    Ok(Turn::Told)
+}
+
+/// Plays all lines that come.
+fn tell_all<R: Read, W: Write>(
+    alloc: Global,
+    reader: &mut Watched<R>,
+    writer: &mut Watched<W>,
+    ahead: &mut ReadAhead,
+    live: &mut LiveTable,
+) -> Result<(), RunFault>
+    requires { next_number live.old ≤ 16777219 }
+    ensures { (limits : Limits) (had : Option (List ℕ)) → Hears limits had (R.remaining (inside reader.old)) ahead.old live.old []
+        → RanLive limits (record { had = had; left = R.remaining (inside reader.new); failed = has_failed reader.new }) (sink_of W.contents writer.old writer.new) result }
+{
+    for _line in 0..MAX_LINES {
+        match take_turn(alloc, reader, writer, ahead, live)? {
+            Turn::Told => {}
+            Turn::End => return Ok(()),
+        }
+    }
+    Err(RunFault::TooLarge)
+}
+
+/// Reads a script, runs it under a setup, and replies to each of its lines as it comes: a line's replies are written and flushed before
+/// the next line is waited for. The input has no bound; the table block has 16,777,216 bytes at most, and so has each line after it
+/// with its end.
+///
+/// Refused `NoTable`, `NoEnd`, `Table` or `Opening` as soon as the table block shows it; its one line was written then. After `Read`, `TooLarge` and
+/// `Memory` the replies to the lines before were written, and after `Write` a beginning of the output.
+pub fn run_live<R: Read, W: Write>(
+    alloc: Global,
+    reader: &mut Watched<R>,
+    writer: &mut Watched<W>,
+    setup: Setup,
+) -> Result<(), RunFault>
+    requires reads { has_failed reader.old ≡ false }
+    requires writes { has_failed writer.old ≡ false }
+    ensures { RanLive setup (source_of R.remaining reader.old reader.new) (sink_of W.contents writer.old writer.new) result }
+{
+    let mut ahead = ReadAhead::new(alloc);
+    match open_live(alloc, reader, &mut ahead, setup) {
+        Ok(mut live) => tell_all(alloc, reader, writer, &mut ahead, &mut live),
+        Err(fault) => write_told(alloc, writer, Err(fault)),
+    }
+}

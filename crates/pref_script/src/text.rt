@@ -1,0 +1,211 @@
+//! The texts of replies and faults.
+ghost use Rattle.std.specs.Prelude.{◌≡◌, ◌≤◌, ◌++◌, OnOk, codes, string_bytes};
+ghost use Rattle.std.specs.Fmt.{decimal, signed_decimal};
+ghost use Rattle.pref_script.specs.Text.{◌<>◌, core_fault_text, level_line, level_lines, refusal_text, refused_line, reply_lines, row_text, table_fault_text, term_fault_text};
+
+use crate::command::Refusal;
+use itoa::Buffer;
+use pref_core::{CoreFault, Reply};
+use pref_sky::Ranked;
+use pref_table::{Row, TableFault};
+use pref_term::TermFault;
+use std::alloc::AllocError;
+
+/// Appends the number and the text of a fault of a table.
+pub fn push_table_fault(out: &mut String, fault: TableFault) -> Result<(), AllocError>
+    ensures { OnOk result (string_bytes out.new ≡ string_bytes out.old ++ table_fault_text fault) }
+{
+    match fault {
+        TableFault::NoColumns => write!(out, "1: no columns"),
+        TableFault::TooManyColumns => write!(out, "2: too many columns"),
+        TableFault::BadName { col } => write!(out, "3: bad name col {col}"),
+        TableFault::SameName { col } => write!(out, "4: same name col {col}"),
+        TableFault::Width { row } => write!(out, "5: width row {row}"),
+        TableFault::NotWhole { row, col } => write!(out, "6: not whole row {row} col {col}"),
+        TableFault::OutOfRange { row, col } => {
+            write!(out, "7: out of range row {row} col {col}")
+        }
+        TableFault::TooManyRows => write!(out, "8: too many rows"),
+        TableFault::OutOfMemory => write!(out, "9: out of memory"),
+    }
+}
+
+/// Appends the number and the text of a fault of a question.
+pub fn push_term_fault(out: &mut String, fault: &TermFault) -> Result<(), AllocError>
+    ensures { OnOk result (string_bytes out.new ≡ string_bytes out.old ++ term_fault_text fault.now) }
+{
+    match fault {
+        TermFault::Unexpected { at } => write!(out, "1: unexpected at {at}"),
+        TermFault::UnknownColumn { at } => write!(out, "2: unknown column at {at}"),
+        TermFault::NumberRange { at } => write!(out, "3: number range at {at}"),
+        TermFault::TooDeep { at } => write!(out, "4: too deep at {at}"),
+        TermFault::TooLong => write!(out, "5: too long"),
+        TermFault::BadCount { at } => write!(out, "6: bad count at {at}"),
+        TermFault::NoMinOrMax => write!(out, "7: no min or max"),
+        TermFault::OutOfMemory => write!(out, "8: out of memory"),
+        TermFault::EmptyRange { at } => write!(out, "9: empty range at {at}"),
+    }
+}
+
+/// Appends the number and the text of a refusal of the engine.
+pub fn push_core_fault(out: &mut String, fault: CoreFault) -> Result<(), AllocError>
+    ensures { OnOk result (string_bytes out.new ≡ string_bytes out.old ++ core_fault_text fault) }
+{
+    match fault {
+        CoreFault::NoSuchClient => write!(out, "1: no such client"),
+        CoreFault::Spent => write!(out, "2: spent"),
+        CoreFault::QueryOpen => write!(out, "3: query open"),
+        CoreFault::NoQuery => write!(out, "4: no query"),
+        CoreFault::AllScanned => write!(out, "5: all scanned"),
+        CoreFault::NotDone { left } => write!(out, "6: not done left {left}"),
+        CoreFault::NoSuchRow { id } => write!(out, "7: no such row {id}"),
+        CoreFault::Full { needed } => write!(out, "8: full needed {needed}"),
+        CoreFault::OutOfMemory => write!(out, "9: out of memory"),
+        CoreFault::Twice { place } => write!(out, "12: twice place {place}"),
+        CoreFault::ChangeCount => write!(out, "13: change count"),
+    }
+}
+
+/// Appends what is printed for a refused line after its number.
+fn push_refusal(out: &mut String, why: &Refusal) -> Result<(), AllocError>
+    ensures { OnOk result (string_bytes out.new ≡ string_bytes out.old ++ refusal_text why.now) }
+{
+    match why {
+        Refusal::NotCommand => write!(out, " refused: command"),
+        Refusal::Values(fault) => {
+            write!(out, " refused table ")?;
+            push_table_fault(out, *fault)
+        }
+        Refusal::Question(fault) => {
+            write!(out, " refused term ")?;
+            push_term_fault(out, fault)
+        }
+        Refusal::Changes(fault) => {
+            write!(out, " refused commit ")?;
+            push_core_fault(out, *fault)
+        }
+    }
+}
+
+/// Appends the line of a refused line.
+pub fn push_refused(out: &mut String, number: u64, why: &Refusal) -> Result<(), AllocError>
+    ensures { OnOk result (string_bytes out.new ≡ string_bytes out.old ++ refused_line number why.now) }
+{
+    write!(out, "line {number}")?;
+    push_refusal(out, why)?;
+    write!(out, "\n")
+}
+
+/// Appends a number.
+fn push_number(out: &mut String, number: u64) -> Result<(), AllocError>
+    ensures { OnOk result (string_bytes out.new ≡ string_bytes out.old ++ decimal number) }
+{
+    let mut buffer = Buffer::new();
+    out.push_str(buffer.format(number))?;
+    Ok(())
+}
+
+/// Appends a cell.
+fn push_cell(out: &mut String, cell: i64) -> Result<(), AllocError>
+    ensures { OnOk result (string_bytes out.new ≡ string_bytes out.old ++ signed_decimal cell) }
+{
+    let mut buffer = Buffer::new();
+    out.push_str(buffer.format(cell))?;
+    Ok(())
+}
+
+/// Appends the cells of a row below the width, with commas between them.
+fn push_row(out: &mut String, width: usize, row: &Row) -> Result<(), AllocError>
+    requires { width ≤ 16 }
+    ensures { OnOk result (string_bytes out.new ≡ string_bytes out.old ++ row_text width row.now) }
+{
+    for col in 0..width {
+        if col > 0 {
+            out.push(',')?;
+        }
+        push_cell(out, row.cell(col))?;
+    }
+    Ok(())
+}
+
+/// Appends the line of a row in an answer.
+fn push_level(out: &mut String, width: usize, ranked: &Ranked) -> Result<(), AllocError>
+    requires { width ≤ 16 }
+    ensures { OnOk result (string_bytes out.new ≡ string_bytes out.old ++ level_line width ranked.now) }
+{
+    out.push_str("level ")?;
+    push_number(out, u64::from(ranked.level))?;
+    out.push_str(" id ")?;
+    push_number(out, ranked.id)?;
+    out.push_str(": ")?;
+    push_row(out, width, &ranked.row)?;
+    out.push('\n')?;
+    Ok(())
+}
+
+/// Appends the lines of the rows in an answer.
+fn push_levels(out: &mut String, width: usize, rows: &[Ranked]) -> Result<(), AllocError>
+    requires { width ≤ 16 }
+    ensures { OnOk result (string_bytes out.new ≡ string_bytes out.old ++ level_lines width rows.now) }
+{
+    for ranked in rows {
+        push_level(out, width, ranked)?;
+    }
+    Ok(())
+}
+
+/// Appends what most replies are: a client's number, what became of its command, and a number.
+fn push_line(out: &mut String, client: u8, what: &str, number: u64) -> Result<(), AllocError>
+    ensures { OnOk result (string_bytes out.new ≡ string_bytes out.old ++ (decimal client <> what.now <> decimal number <> codes "\n")) }
+{
+    push_number(out, u64::from(client))?;
+    out.push_str(what)?;
+    push_number(out, number)?;
+    out.push('\n')?;
+    Ok(())
+}
+
+/// Appends the line or the lines of a reply to a client. Rows are printed over the width of the table.
+pub fn push_reply(
+    out: &mut String,
+    width: usize,
+    client: u8,
+    reply: &Reply,
+) -> Result<(), AllocError>
+    requires { width ≤ 16 }
+    ensures { OnOk result (string_bytes out.new ≡ string_bytes out.old ++ reply_lines width client reply.now) }
+{
+    match reply {
+        Reply::Inserted(id) => push_line(out, client, " inserted ", *id),
+        Reply::Updated(id) => push_line(out, client, " updated ", *id),
+        Reply::Deleted(id) => push_line(out, client, " deleted ", *id),
+        Reply::Committed(done) => {
+            let changes = done.changes;
+            let first = done.first;
+            write!(out, "{client} committed {changes} first {first}\n")
+        }
+        Reply::Begun(blocks) => push_line(out, client, " begun ", u64::from(*blocks)),
+        Reply::Left(blocks) => push_line(out, client, " left ", u64::from(*blocks)),
+        Reply::Answer(rows) => {
+            let rows = rows.as_slice();
+            push_line(out, client, " answer ", rows.len() as u64)?;
+            push_levels(out, width, rows)
+        }
+        Reply::Abandoned => write!(out, "{client} abandoned\n"),
+        Reply::Found(id, row) => {
+            push_number(out, u64::from(client))?;
+            out.push_str(" row ")?;
+            push_number(out, *id)?;
+            out.push_str(": ")?;
+            push_row(out, width, row)?;
+            out.push('\n')?;
+            Ok(())
+        }
+        Reply::Room(room) => push_line(out, client, " room ", u64::from(*room)),
+        Reply::Refused(why) => {
+            write!(out, "{client} refused ")?;
+            push_core_fault(out, *why)?;
+            write!(out, "\n")
+        }
+    }
+}

@@ -1,0 +1,131 @@
+//! A script whose clients run on threads, from its bytes to the bytes of its output.
+ghost use Rattle.std.specs.Prelude.{◌≡◌, ◌<◌, ◌≤◌, ◌⊎◌, ℕ, List, false, length, IfOk, IfErr};
+ghost use Rattle.std.specs.Io.KnownBytes.{Consumes};
+ghost use Rattle.pref_core.specs.declared.fault.CoreFault.TheVariants as core;
+ghost use Rattle.pref_share.specs.Interleavings.{IsSequential};
+ghost use Rattle.pref_share.specs.Runs.{IsJointRun};
+ghost use Rattle.pref_share.specs.Standing.{newcomers};
+ghost use Rattle.pref_script.specs.Output.{in_bytes};
+ghost use Rattle.pref_script.specs.Run.{Ran, sink_of, source_of};
+ghost use Rattle.pref_script.specs.Threads.{ClosesOrStops, HoldsNobody, TellsOnThreads, always_open};
+ghost use Rattle.pref_script.specs.Watched.{has_failed, inside};
+
+use crate::acts::acts_by_client;
+use crate::fault::RunFault;
+use crate::input::read_input;
+use crate::output::write_told;
+use crate::reading::{Script, read_script};
+use crate::replies::{push_clients, push_unowned};
+use crate::watched::Watched;
+use pref_core::{Act, Reply, Setup};
+use pref_share::{Gate, Name, Naming, ShareFault, open_board, run_all};
+use pref_table::Row;
+use std::alloc::Global;
+use std::io::{Read, Write};
+use std::marker::Brand;
+use std::sync::Wait;
+use std::thread::Threads;
+
+/// A gate that is always open.
+pub struct OpenGate;
+
+impl Gate for OpenGate {
+    ghost may_hold = { λ gate client turn. ⊥ };
+
+    fn before(&self, _client: u8, _turn: usize) -> bool {
+        true
+    }
+
+    fn after(&self, _client: u8, _turn: usize) {}
+}
+
+/// The replies to the acts of each client, which run on threads of their own over one new board.
+fn joint_replies<J: Naming + Send + Sync, R: Threads + Wait + Sync, G: Gate + Sync>(
+    rt: &R,
+    alloc: Global,
+    name: Name,
+    setup: Setup,
+    rows: &[Row],
+    acts: Vec<Vec<Act>>,
+    gate: &G,
+) -> Result<Vec<Vec<Reply>>, ShareFault>
+    requires book { name.seen.book ≡ J.book }
+    requires opening { J.opening ≡ record { limits = setup; rows = rows.now } }
+    requires lists { length acts.items ≡ setup.clients }
+    ensures joint { IfOk result (λ replies. IsJointRun (record { limits = setup; rows = rows.now }) (newcomers setup.clients) acts.items replies.items) }
+    ensures sequential { IfOk result (λ replies. IsSequential (record { limits = setup; rows = rows.now }) acts.items replies.items) }
+    ensures room { IfOk result (λ replies. setup.capacity < length rows.now → ⊥) }
+    ensures stops { IfErr result (λ why. (setup.capacity < length rows.now) × (why ≡ ShareFault.Core (core.Full (length rows.now)))
+        ⊎ (setup.capacity < length rows.now → ⊥) × ClosesOrStops (G.may_hold gate.now) acts.items why) }
+{
+    let (board, clients) = open_board::<J, R>(rt, alloc, name, setup, rows)?;
+    let replies = run_all(rt, alloc, &board, clients, acts, gate);
+    board.close(rt);
+    replies
+}
+
+/// Runs a script under a setup, each client's events on a thread of its own with the gate's calls round each, and gives the
+/// output: first the lines that belong to no client, then the lines of each client, each in the order of the script.
+///
+/// The replies are those of one legal history, and of the sequential table for one interleaving of the clients' acts; which
+/// one is not said. Refused `NoTable`, `NoEnd`, `Table`, `Opening`, in this
+/// order, `Memory` as soon as memory runs out, and `Threads` where a client was stopped: by the gate (`Held`, which an [`OpenGate`]
+/// never does), or by `ClientInUse` or `Closed`, which no run of a script is known to meet.
+///
+/// ```text
+/// let output = run_threads(rt, alloc, script, setup, &OpenGate)?;
+/// ```
+pub fn run_threads<R: Threads + Wait + Sync, G: Gate + Sync>(
+    rt: &R,
+    alloc: Global,
+    bytes: &[u8],
+    setup: Setup,
+    gate: &G,
+) -> Result<String, RunFault>
+    ensures { TellsOnThreads setup (G.may_hold gate.now) bytes.now (in_bytes result) }
+{
+    let Script {
+        schema,
+        rows,
+        commands,
+    } = read_script(alloc, bytes)?;
+    let width = schema.width();
+    let mut text = String::new(alloc);
+    push_unowned(&mut text, width, setup.clients(), commands.lines.as_slice())?;
+    let acts = acts_by_client(alloc, setup.clients(), commands.events)?;
+    let replies = joint_replies::<Brand, R, G>(
+        rt,
+        alloc,
+        Name::new(),
+        setup,
+        rows.as_slice(),
+        acts,
+        gate,
+    )?;
+    push_clients(&mut text, width, replies.as_slice())?;
+    Ok(text)
+}
+
+/// Reads a script, runs it under a setup, each client's events on a thread of its own, and writes its output. The gate is open,
+/// so no client is held. The whole output is made before its first byte is written.
+///
+/// After `Read`, `TooLarge`, `Memory` and `Threads` nothing was written, and after `Write` a beginning of the output. Each other
+/// fault is the script's own, and its one line is the output. The faults come in the order of [`run_script`](crate::run::run_script),
+/// and `Threads` where a client was stopped after that.
+pub fn run_script_on_threads<T: Threads + Wait + Sync, R: Read, W: Write>(
+    rt: &T,
+    alloc: Global,
+    reader: &mut Watched<R>,
+    writer: &mut Watched<W>,
+    setup: Setup,
+) -> Result<(), RunFault>
+    requires reads { has_failed reader.old ≡ false }
+    requires writes { has_failed writer.old ≡ false }
+    ensures most { (bytes : List ℕ) × Consumes (R.remaining (inside reader.old)) (R.remaining (inside reader.new)) bytes × (length bytes ≤ 16777217) }
+    ensures ran { Ran (TellsOnThreads setup always_open) (source_of R.remaining reader.old reader.new) (sink_of W.contents writer.old writer.new) result }
+    ensures nobody { IfErr result HoldsNobody }
+{
+    let input = read_input(alloc, reader)?;
+    let told = run_threads(rt, alloc, input.as_slice(), setup, &OpenGate);
+    write_told(alloc, writer, told)
+}
