@@ -11,6 +11,7 @@ export PYTHONDONTWRITEBYTECODE=1
 room=$(mktemp -d)
 trap 'rm -rf "$room"' EXIT
 failed=()
+checks=()
 
 # One check for each processor, as far as each has 3 GB, which is more than any takes. (`rt ci` by itself reckons with twice as much or more.)
 lanes() {
@@ -21,17 +22,32 @@ lanes() {
     echo $((processors < memory ? processors : memory))
 }
 
-# Runs a check and counts it.
+# Runs a check beside another, and keeps what it said and how it ended.
 check() { # command..
-    local begun=$SECONDS
-    echo "== $*"
-    if "$@"; then
-        passed=$((passed + 1))
-    else
-        failed+=("$*")
-        echo "FAILED: $*"
-    fi
-    echo "== $((SECONDS - begun)) seconds"
+    local number=${#checks[@]}
+    checks+=("$*")
+    while [ "$(jobs -rp | wc -l)" -ge 2 ]; do wait -n; done
+    {
+        begun=$SECONDS
+        "$@" >"$room/said.$number" 2>&1
+        echo $? >"$room/status.$number"
+        echo "== $((SECONDS - begun)) seconds" >>"$room/said.$number"
+    } &
+}
+
+# Shows what each check said, and counts it.
+report() {
+    local number
+    for number in "${!checks[@]}"; do
+        echo "== ${checks[$number]}"
+        cat "$room/said.$number"
+        if [ "$(cat "$room/status.$number")" = 0 ]; then
+            passed=$((passed + 1))
+        else
+            failed+=("${checks[$number]}")
+            echo "FAILED: ${checks[$number]}"
+        fi
+    done
 }
 
 command -v rt >/dev/null || { echo "the Rattle kit's command rt is not on the PATH" >&2; exit 1; }
@@ -43,6 +59,7 @@ passed=$(tail -n 1 "$room/gate" | sed -n 's/^\([0-9]*\) passed, [0-9]* failed$/\
 passed=${passed:-0}
 echo "== rt ci took $((SECONDS / 60)) minutes"
 
+check python3 tests/reads_take_no_lock.py
 check python3 tests/definitions.py
 check python3 examples/check.py
 check python3 tests/scripts.py
@@ -52,7 +69,8 @@ check python3 examples/parts/parts.py crates/prefq/out/prefq --check 120000
 check tests/faults_of_the_program.sh
 check tests/count_begin_and_abandon.sh
 check tests/refuse_each_allocation.sh
-check python3 tests/reads_take_no_lock.py
+wait
+report
 
 [ ${#failed[@]} = 0 ] || printf 'failed: %s\n' "${failed[@]}"
 echo "all tests took $((SECONDS / 60)) minutes"
