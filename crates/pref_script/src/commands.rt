@@ -14,7 +14,7 @@ use pref_table::Schema;
 use std::alloc::Global;
 
 /// A command line: refused, by its number, or an event of this client, whose reply takes its place.
-#[derive(Debug, Drop)]
+#[derive(Drop)]
 pub enum Line {
     Refused(u64, Refusal),
     Answered(u8),

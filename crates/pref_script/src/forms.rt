@@ -8,7 +8,7 @@ use crate::pieces::{ChangeForm, ChangeVerb, change_form, cut_change};
 use crate::words::{cut_number, id_alone, skip_blanks, strip_word};
 
 /// What a command asks for.
-#[derive(Clone, Copy, Debug, PartialEq, Eq)]
+#[derive(Clone, Copy)]
 enum Verb {
     Change(ChangeVerb),
     Commit,
@@ -21,7 +21,7 @@ enum Verb {
 }
 
 /// What a command line says, its values, its pieces and its question not read yet.
-#[derive(Clone, Copy, Debug)]
+#[derive(Clone, Copy)]
 pub enum Form<'a> {
     Change(ChangeForm<'a>),
     Commit(&'a [u8]),

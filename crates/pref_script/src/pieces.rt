@@ -8,7 +8,7 @@ use crate::words::{cut_number, id_alone, skip_blanks, strip_word};
 use memchr::memchr;
 
 /// The change that a word asks for.
-#[derive(Clone, Copy, Debug, PartialEq, Eq)]
+#[derive(Clone, Copy)]
 pub enum ChangeVerb {
     Insert,
     Update,
@@ -16,7 +16,7 @@ pub enum ChangeVerb {
 }
 
 /// What a change says, its values not read yet.
-#[derive(Clone, Copy, Debug)]
+#[derive(Clone, Copy)]
 pub enum ChangeForm<'a> {
     Insert(&'a [u8]),
     Update(u64, &'a [u8]),

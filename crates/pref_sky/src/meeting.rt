@@ -40,7 +40,7 @@ pub(crate) fn find_over<D: Dominance>(
 }
 
 /// How an entry compares with a list.
-#[derive(Clone, Copy, Debug, PartialEq, Eq)]
+#[derive(Clone, Copy)]
 pub(crate) enum Meeting {
     /// Something of the list dominates it: the entry at this place.
     Beaten { place: usize },
@@ -51,7 +51,7 @@ pub(crate) enum Meeting {
 }
 
 /// What is known of how the entries of a list compare with one another.
-#[derive(Clone, Copy, Debug, PartialEq, Eq)]
+#[derive(Clone, Copy)]
 pub(crate) enum Known {
     /// None of them dominates another.
     Apart,
@@ -100,7 +100,7 @@ pub(crate) fn meet<D: Dominance>(
 }
 
 /// What becomes of the entries that don't stay at a level.
-#[derive(Clone, Copy, Debug, PartialEq, Eq)]
+#[derive(Clone, Copy)]
 pub(crate) enum Losers {
     /// They are kept, for the levels below.
     Kept,

@@ -64,7 +64,7 @@ impl Model for SignedWindow {
 }
 
 /// How many entries stay in a window, and how many of them are early.
-#[derive(Clone, Copy, Debug)]
+#[derive(Clone, Copy)]
 struct Stay {
     count: usize,
     early: usize,

@@ -4,7 +4,7 @@ ghost use Rattle.std.specs.Prelude.{◌≡◌};
 ghost use Rattle.pref_term.specs.Grammar.{base_words, keyword_of, cased_of, direction_in, outer_words, word_among};
 
 /// A byte that is a token by itself.
-#[derive(Clone, Copy, Debug, PartialEq, Eq)]
+#[derive(Clone, Copy)]
 pub enum Sign {
     Left,
     Right,
@@ -17,7 +17,7 @@ pub enum Sign {
 }
 
 /// A word of the grammar, where the place makes it one.
-#[derive(Clone, Copy, Debug, PartialEq, Eq)]
+#[derive(Clone, Copy)]
 pub enum Keyword {
     Best,
     Low,
@@ -33,7 +33,7 @@ pub enum Keyword {
 }
 
 /// A word of the grammar that may be in any case.
-#[derive(Clone, Copy, Debug, PartialEq, Eq)]
+#[derive(Clone, Copy)]
 pub enum CasedWord {
     Skyline,
     Of,
@@ -43,7 +43,7 @@ pub enum CasedWord {
 }
 
 /// What a skyline clause says of a column.
-#[derive(Clone, Copy, Debug, PartialEq, Eq)]
+#[derive(Clone, Copy)]
 pub enum Direction {
     /// Smaller is better.
     Min,

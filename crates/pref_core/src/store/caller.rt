@@ -12,7 +12,7 @@ use crate::store::version::is_alive;
 use std::alloc::{AllocError, Global};
 
 /// What is kept of a client: how many numbered calls it has made, and the stamp at its open query's begin.
-#[derive(Clone, Copy, Debug, PartialEq, Eq)]
+#[derive(Clone, Copy)]
 pub struct Caller {
     pub calls: u64,
     pub begun: Option<u64>,

@@ -8,7 +8,7 @@ use pref_sky::Entry;
 use pref_table::Row;
 
 /// A row from the commit that made it up to the commit that ended it.
-#[derive(Clone, Copy, Debug, PartialEq, Eq)]
+#[derive(Clone, Copy)]
 pub struct Version {
     pub id: u64,
     pub row: Row,
