@@ -66,6 +66,7 @@ check python3 tests/scripts.py
 check python3 tests/model/compare.py
 check python3 tests/live.py
 check python3 examples/parts/parts.py crates/prefq/out/prefq --check 120000
+check python3 tests/arguments.py
 check tests/faults_of_the_program.sh
 check tests/count_begin_and_abandon.sh
 check tests/refuse_each_allocation.sh

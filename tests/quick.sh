@@ -56,16 +56,16 @@ tests_of() { # crate
     cd "crates/$1" && rt try --test
 }
 
-# The program on its stored run, and on every script, every example and all that the documents show.
+# The program on its stored run, on every script, every example and all that the documents show, and on lists of arguments.
 scripts() {
     mkdir "$room/cases"
-    python3 tests/scripts.py --cases "$room/cases" && python3 examples/check.py --cases "$room/cases" || return 1
+    python3 tests/scripts.py --cases "$room/cases" && python3 examples/check.py --cases "$room/cases" && python3 tests/arguments.py --cases "$room/cases" || return 1
     cp crates/prefq/stdin "$room/cases/stored_run"
     cp crates/prefq/stdout "$room/cases/stored_run.stdout"
     cd crates/prefq && rt try --cases "$room/cases"
 }
 
-for crate in core_tests share_tests script_tests prefq; do
+for crate in core_tests share_tests script_tests; do
     start "tests of $crate, not proved" tests_of "$crate"
 done
 start 'stored run, scripts, examples, documents' scripts

@@ -7,7 +7,7 @@ use pref_core::Setup;
 use std::alloc::{AllocError, Global};
 
 /// How a script is run.
-#[derive(Clone, Copy, Debug, PartialEq, Eq)]
+#[derive(Clone, Copy)]
 pub enum Mode {
     /// Line by line, once all are read.
     Play,
@@ -25,7 +25,7 @@ pub struct Args {
 }
 
 /// Why there is nothing to run.
-#[derive(Debug, Drop)]
+#[derive(Drop)]
 pub enum ArgsFault {
     /// The arguments are none of the program's.
     Refused,
