@@ -13,10 +13,11 @@ trap 'rm -rf "$room"' EXIT
 failed=()
 checks=()
 
-# One check for each processor, as far as each has 3 GB, which is more than any takes. (`rt ci` by itself reckons with twice as much or more.)
+# One check for each processor and three at least, since some wait for the disk, as far as each has 3 GB, which is more than any takes. (`rt ci` by
+# itself reckons with twice as much or more.)
 lanes() {
     local processors memory
-    processors=$(nproc)
+    processors=$(($(nproc) > 3 ? $(nproc) : 3))
     memory=$(($(sed -n 's/^MemAvailable: *\([0-9]*\) kB$/\1/p' /proc/meminfo) / 3000000))
     [ "$memory" -gt 0 ] || memory=1
     echo $((processors < memory ? processors : memory))

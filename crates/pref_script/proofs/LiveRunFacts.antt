@@ -1,5 +1,5 @@
 -- A run that tells each line as it comes: how it begins, goes on and ends.
-use Rattle.std.proofs.Common.{◌≡◌, ◌∙◌, ℕ, ◌+◌, ◌≤◌, true, false, List, [], ◌++◌, length, take, drop, ap, refl, sym, subst, arith, Option, Result, Ok, Err, inl, inr}
+use Rattle.std.proofs.Common.{◌≡◌, ◌∙◌, ℕ, ◌≤◌, true, false, List, [], ◌++◌, length, take, drop, ap, refl, sym, subst, arith, Option, Result, Ok, Err, inl, inr}
 use Rattle.std.proofs.KnownBytes.{Appends-kept, Appends-trans}
 use Rattle.std.proofs.lemmas.List.{append-nil, drop_all, take-append-drop, take_all}
 use Rattle.std.specs.Io.KnownBytes.{Appends, Consumes}
