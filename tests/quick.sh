@@ -65,10 +65,11 @@ scripts() {
     cd crates/prefq && rt try --cases "$room/cases"
 }
 
+# The longest first.
+start 'stored run, scripts, examples, documents' scripts
 for crate in core_tests share_tests script_tests; do
     start "tests of $crate, not proved" tests_of "$crate"
 done
-start 'stored run, scripts, examples, documents' scripts
 start 'layout of the files' layout
 start 'list of definitions' python3 tests/definitions.py
 wait
