@@ -46,12 +46,6 @@ def apply(edit, folder):
             path.write_text(whole.replace(old, text))
 
 
-def file_of(crate, edit):
-    """The file of an edit, which the test command tries or else tests/wrong_edits.sh."""
-    tried = TOP / f"crates/{crate}/must-fail/{edit}.edit"
-    return tried if tried.is_file() else TOP / f"tests/must-fail/{crate}/{edit}.edit"
-
-
 def fails(crate, edit, shown):
     """Whether the test or the script that a line begins with fails under its edit; None where it begins with neither."""
     test, script = TEST.match(shown), SCRIPT.match(shown)
@@ -61,7 +55,7 @@ def fails(crate, edit, shown):
         shutil.copytree(TOP / "crates", f"{room}/crates", ignore=shutil.ignore_patterns("out", "must-fail"))
         for file in ("crates.txt", "HANDLES"):
             shutil.copy(TOP / file, room)
-        apply(file_of(crate, edit), Path(room, "crates", crate))
+        apply(TOP / f"crates/{crate}/must-fail/{edit}.edit", Path(room, "crates", crate))
         if script:
             return script_differs(room, script[1])
         return f"test {test[2]} ... FAILED" in tried(f"{room}/crates/{test[1]}", "--test")
@@ -93,13 +87,9 @@ def main():
         wrong += failed is False
         print(f"{crate} {edit}: {'' if failed is None else 'fails: ' if failed else 'DOES NOT FAIL: '}{shown}", flush=True)
     stand = {(edit.parent.parent.name, edit.stem) for edit in TOP.glob("crates/*/must-fail/*.edit")}
-    for crate, edit in sorted(stand - told):
+    for crate, edit in sorted(stand ^ told):
         wrong += 1
-        print(f"{crate} {edit}: not in docs/EDITS.md")
-    for crate, edit in sorted(told):
-        if not file_of(crate, edit).is_file():
-            wrong += 1
-            print(f"{crate} {edit}: no such edit")
+        print(f"{crate} {edit}: {'not in docs/EDITS.md' if (crate, edit) in stand else 'no such edit'}")
     sys.exit(1 if wrong else 0)
 
 
