@@ -187,8 +187,8 @@ impl Store {
     }
 
     /// Does a planned call. One that is not legal here changes nothing: so an operation is done once, and in its
-    /// turn. Takes no memory. Plans again to see that it is legal, and then writes the slots that end or begin; a finish
-    /// or an abandon goes over the ended versions that an open query needs.
+    /// turn. Takes no memory. Sees that it is legal by a look at its slots, or plans again where that does not tell, and then
+    /// writes the slots that end or begin; a finish or an abandon goes over the ended versions that an open query needs.
     pub fn apply(&mut self, op: &Op)
         ensures exact { self.new ≡ applied self.old op.now }
         ensures state { (state : State) → StandsFor self.old state → AppliesIn state self.old op.now self.new }

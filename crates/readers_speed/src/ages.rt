@@ -6,6 +6,7 @@ use crate::random::Random;
 use pref_core::Setup;
 use pref_share::{Board, Client, Name, Naming, open_board};
 use pref_table::{Row, Schema};
+use std::alloc::{AllocError, Global};
 use std::sync::Wait;
 use std::time::{Clock, Instant};
 
@@ -125,6 +126,15 @@ impl<'a, J: Naming, R: Wait + Clock + AllocGlobal> Table<'a, J, R> {
     }
 }
 
+/// This many ids, from the first on.
+fn ids_from(alloc: Global, first: u64, count: usize) -> Result<Vec<u64>, AllocError> {
+    let mut ids = Vec::new(alloc);
+    for at in 0..count as u64 {
+        ids.push(first.wrapping_add(at))?;
+    }
+    Ok(ids)
+}
+
 /// The client's table at these ages, each a number of changes.
 fn at_ages<J: Naming, R: Wait + Clock + AllocGlobal>(
     rt: &R,
@@ -133,6 +143,7 @@ fn at_ages<J: Naming, R: Wait + Clock + AllocGlobal>(
     client: Client<J>,
     ages: &[u64],
 ) -> anyhow::Result<Vec<Age>> {
+    let unknown = ids_from(rt.alloc(), NEVER, ROWS)?;
     let mut table = Table {
         rt,
         board,
@@ -140,10 +151,10 @@ fn at_ages<J: Naming, R: Wait + Clock + AllocGlobal>(
         client,
         random: Random(0),
         changes: 0,
-        ids: (1..=ROWS as u64).collect(rt.alloc())?,
-        deleted: (0..ROWS).map(|_| 0).collect(rt.alloc())?,
+        ids: ids_from(rt.alloc(), 1, ROWS)?,
+        // None is deleted yet.
+        deleted: Vec::from_slice(rt.alloc(), &unknown)?,
     };
-    let unknown: Vec<u64> = (NEVER..NEVER + ROWS as u64).collect(rt.alloc())?;
     let mut measured = Vec::new(rt.alloc());
     for changes in ages {
         measured.push(table.age(*changes, &unknown)?)?;

@@ -47,7 +47,11 @@ fn plan_of(words: &[String]) -> Option<Plan>
 
 fn opening_rows(alloc: Global, schema: &Schema, count: u64) -> Result<Vec<Row>, TableFault> {
     let mut random = Random(0);
-    (0..count).map(|_| random.row(schema)).try_collect(alloc)
+    let mut rows = Vec::new(alloc);
+    for _ in 0..count {
+        rows.push(random.row(schema)?)?;
+    }
+    Ok(rows)
 }
 
 /// Prints how often in a second this was done.

@@ -12,13 +12,18 @@ pub const ROWS: u64 = 40_000;
 pub struct Random(pub u64);
 
 impl Random {
+    /// The next number, of 31 bits.
+    fn next(&mut self) -> u64 {
+        let product = self.0.wrapping_mul(0x5851_f42d_4c95_7f2d);
+        self.0 = product.wrapping_add(0x1405_7b7e_f767_814f);
+        self.0 >> 33
+    }
+
     /// An id of an opening row.
     pub fn id(&mut self) -> u64
         ensures { (1 ≤ result) × (result ≤ ROWS) }
     {
-        let product = self.0.wrapping_mul(0x5851_f42d_4c95_7f2d);
-        self.0 = product.wrapping_add(0x1405_7b7e_f767_814f);
-        1 + (self.0 >> 33) % ROWS
+        1 + self.next() % ROWS
     }
 
     /// A row of numbers from 1 to [`ROWS`]. Refused `Width` where there are not six columns.

@@ -43,10 +43,10 @@ pub(crate) fn entries_at(
     for slot in slots {
         if let Some(version) = slot {
             if version.is_visible_at(stamp) {
-                found.push(Entry {
-                    id: version.id,
+                found.push_reserved(Entry {
                     row: version.row,
-                })?;
+                    id: version.id,
+                });
             }
         }
     }
