@@ -210,7 +210,17 @@ impl Store {
         ensures index { IsIndexOf self.new index.new }
         ensures state { (state : State) → StandsFor self.old state → AppliesIn state self.old (op_of op.now) self.new }
     {
-        self.follow(index, op);
+        self.reindex(index, op);
         self.contents.step(op);
+    }
+
+    /// Makes an index that is ready for an op which was planned here ([`Index::prepare`]) that of the store after the op. Takes no memory,
+    /// and leaves the store as it is: for whoever applies the op later, or in copies of the store alone.
+    pub fn reindex(&self, index: &mut Index, op: &Planned<'_>)
+        requires plan { IsPlan self.now op.now.client op.now.call.now (op_of op.now) }
+        requires ready { IsReady self.now (op_of op.now) index.old }
+        ensures { IsIndexOf (applied self.now (op_of op.now)) index.new }
+    {
+        self.contents.follow(index, op);
     }
 }

@@ -95,6 +95,10 @@ let_in_more : (contents : Contents) (xs : List Op) (op : Op) → AreLetIn conten
 let_in_more contents [] op let_in next fits = (next, fits, tt)
 let_in_more contents (x ∷ xs) op let_in next fits = (let_in.0, let_in.1, let_in_more (applied contents x) xs op let_in.2 next fits)
 
+-- the published store is what its history leaves
+pub published_left : (o : Opening) (book : Book) (x : Published) (history : List Op) → HoldsHistory (first_contents o) book x → x.seen.log ≡ history → x.store ≡ contents_at o history
+published_left o book x history stands same = stands.store ∙ ap (contents_at o) same
+
 -- the copy after the stamp of the next operation stands for the history with it
 pub stamped_stands : (opening : Contents) (book : Book) (x : Published) (s : Stamp) → HoldsHistory opening book x → s.seen.log ≡ x.seen.log ++ s.op ∷ [] → is_next (ran opening x.seen.log) s.op ≡ true → is_some (slots_after (ran opening x.seen.log) s.op) ≡ true
     → s.len ≡ length s.seen.log → s.seen.book ≡ book → HoldsHistory opening book (stamped x s)

@@ -38,7 +38,7 @@ impl<J: Naming> Board<J> {
 /// Opens a table with these rows under a new name, and gives its clients, in order of number.
 ///
 /// Refused `Full` where there are more rows than slots, else `OutOfMemory`. `Closed` comes where no
-/// reader is given or a board was opened under this name before, which cannot be. Nothing is kept then. Cost: three
+/// reader is given or a board was opened under this name before, which cannot be. Nothing is kept then. Cost: two
 /// stores of all slots, since readers take two copies in turn, and an index of the rows.
 ///
 /// The function that opens a board is generic over its name, and its caller picks one: `run_board::<Brand, _>(&rt, Name::new(), setup, &schema, &hotels)`.

@@ -1,4 +1,4 @@
-//! What lies under the lock of a board: the master store, the whole history, and the writer that publishes it.
+//! What lies under the lock of a board: the whole history, an index of the rows that it leaves, and the writer that publishes it.
 
 ghost use Rattle.std.specs.Prelude.{◌≡◌, ◌++◌, ◌∷◌, ◌<◌, ◌⊎◌, [], drop, fold, nat_lt, true, Some, IfOk, IfErr};
 ghost use Rattle.std.specs.Option.{unwrap_or};
@@ -21,11 +21,10 @@ use std::marker::Model;
 use std::mem::ManuallyDrop;
 use std::sync::Wait;
 
-/// The master store, which is what the whole history leaves, its index, and the writer, which has published it. Contracts see
-/// the history.
+/// The whole history, the index of the master store, and the writer: the master store, which is what the history leaves, is the
+/// copy that the writer has published. Contracts see the history.
 pub(crate) struct Master<J: Naming> {
     history: History<J>,
-    store: Store,
     index: Index,
     // A lock may hold only what is dropped or needs no drop; `close` takes the writer out.
     writer: ManuallyDrop<StoreWriter>,
@@ -44,7 +43,7 @@ impl<J: Naming> Model for Master<J> {
 
     ghost view = { λ m. m.history };
 
-    ghost invariant = { λ m. IsLegalFrom J.opening m.history × (m.store ≡ contents_at J.opening m.history) × IsIndexOf m.store m.index × ((manually_drop_value m.writer).desk.shown.value.seen.log ≡ m.history) × HoldsHistory (first_contents J.opening) J.book (manually_drop_value m.writer).desk.shown.value × Knows (first_contents J.opening) J.book (view_of (manually_drop_value m.writer).desk.place) × (drop (manually_drop_value m.writer).behind (manually_drop_value m.writer).log.items ≡ []) };
+    ghost invariant = { λ m. IsLegalFrom J.opening m.history × IsIndexOf (contents_at J.opening m.history) m.index × ((manually_drop_value m.writer).desk.shown.value.seen.log ≡ m.history) × HoldsHistory (first_contents J.opening) J.book (manually_drop_value m.writer).desk.shown.value × Knows (first_contents J.opening) J.book (view_of (manually_drop_value m.writer).desk.place) × (drop (manually_drop_value m.writer).behind (manually_drop_value m.writer).log.items ≡ []) };
 }
 
 /// Lets the writer know what the board opens with. What is pending changes nothing.
@@ -90,6 +89,13 @@ fn with_room(mut writer: StoreWriter) -> Result<StoreWriter, StoreWriter>
         }
     }
     Ok(writer)
+}
+
+/// The store that readers take now.
+fn published_store(writer: &StoreWriter) -> &Store
+    ensures { result.now ≡ writer.now.desk.shown.value.store }
+{
+    &writer.published().store
 }
 
 /// Publishes what is pending.
@@ -140,21 +146,20 @@ impl<J: Naming> Master<J> {
         ensures { IfOk result (λ m. m ≡ []) }
     {
         let index = Index::new(alloc, &store)?;
-        let first = Published {
+        let second = Published {
             store: store.copy(alloc)?,
             len: 0,
             seen: history.whole().token(),
         };
-        let second = Published {
-            store: store.copy(alloc)?,
+        let first = Published {
+            store,
             len: 0,
-            seen: first.seen.again(),
+            seen: second.seen.again(),
         };
         let writer = StoreWriter::new(alloc, first, second, readers as usize)?;
         match with_room(writer) {
             Ok(writer) => Ok(Master {
                 history,
-                store,
                 index,
                 writer: unsafe { ManuallyDrop::new_unchecked(open_with(rt, writer)) },
             }),
@@ -163,6 +168,14 @@ impl<J: Naming> Master<J> {
                 Err(AllocError)
             }
         }
+    }
+
+    /// The master store: the published one, since between two calls nothing is pending.
+    fn store(&self) -> &Store
+        ensures left { result.now ≡ contents_at J.opening self.now }
+        ensures legal { IsLegalFrom J.opening self.now }
+    {
+        published_store(&*self.writer)
     }
 
     /// The history.
@@ -186,14 +199,14 @@ impl<J: Naming> Master<J> {
     pub(crate) fn last(&self, client: u8) -> u64
         ensures { result ≡ unwrap_or (calls_at J.opening self.now client) 0 }
     {
-        self.store.last(client)
+        self.store().last(client)
     }
 
     /// How many commits there were.
     pub(crate) fn stamp(&self) -> u64
         ensures { result ≡ (state_at J.opening self.now).commits }
     {
-        self.store.stamp()
+        self.store().stamp()
     }
 
     /// A reader that knows the board.
@@ -206,8 +219,8 @@ impl<J: Naming> Master<J> {
         Ok(reader)
     }
 
-    /// A call joins the history, and is published, planned by the index. `Err` is why it gets no number, or that there is no memory for the
-    /// places of new rows in the index, which only a call that adds a row meets; nothing has changed then.
+    /// A call joins the history, and is published, planned by the index on the master store. `Err` is why it gets no number, or that
+    /// there is no memory for the places of new rows in the index, which only a call that adds a row meets; nothing has changed then.
     pub(crate) fn join<'a, R: Wait>(
         &mut self,
         rt: &R,
@@ -220,11 +233,12 @@ impl<J: Naming> Master<J> {
         ensures refused { IfErr result (λ fault. (refusal (state_at J.opening self.old) client call.now ≡ Some fault) ⊎ (nat_lt 0 (added call.now) ≡ true)) }
         ensures same { IfErr result (λ fault. self.new ≡ self.old) }
     {
-        let op = match self.store.plan_at(&self.index, client, call) {
+        let op = match published_store(&*self.writer).plan_at(&self.index, client, call) {
             Ok(op) => op,
             Err(fault) => return Err(fault),
         };
         self.index.prepare(alloc, &op)?;
+        published_store(&*self.writer).reindex(&mut self.index, &op);
         self.history.add(&op);
         let seen = self.history.whole();
         let token = seen.token();
@@ -237,7 +251,6 @@ impl<J: Naming> Master<J> {
                 ensures { (view result.0.desk.place ≡ view writer.desk.place) × (result.0.desk.shown.value ≡ fold stamped writer.desk.shown.value (drop writer.behind writer.log.items)) × (drop result.0.behind result.0.log.items ≡ []) }
             { (publish::<J, R>(rt, writer), ()) },
         );
-        self.store.apply_at(&mut self.index, &op);
         Ok(op)
     }
 
@@ -245,7 +258,6 @@ impl<J: Naming> Master<J> {
     pub(crate) fn close<R: Wait>(self, rt: &R) {
         let Master {
             history: _history,
-            store: _store,
             index: _index,
             writer,
         } = self;

@@ -156,6 +156,35 @@ fn a_row_that_is_not_added_is_withdrawn(rt: HostRuntime) -> Result<(), Fail> {
     })
 }
 
+fn goes_before_the_store(
+    rt: &impl Abort,
+    alloc: Global,
+    store: &Store,
+    index: &mut Index,
+) -> Result<(), Fail>
+    requires { IsIndexOf store.now index.old }
+{
+    let delete = Call::Delete(2);
+    let lent = delete.lent();
+    let op = match store.plan_at(index, 1, &lent) {
+        Ok(op) => op,
+        Err(fault) => return Err(Fail::from(fault)),
+    };
+    index.prepare(alloc, &op)?;
+    store.reindex(index, &op);
+    assert_same(rt, "in the index", &index.slot(2), &None);
+    assert_same(rt, "in the store", &store.get(2).is_some(), &true);
+    Ok(())
+}
+
+#[test]
+fn an_index_goes_before_its_store(rt: HostRuntime) -> Result<(), Fail> {
+    let alloc = rt.alloc();
+    with_index(alloc, &[4, 5], |_schema, store, index| {
+        goes_before_the_store(&rt, alloc, store, index)
+    })
+}
+
 fn is_a_map(rt: &impl Abort, alloc: Global, index: &mut Index) -> Result<(), Fail> {
     index.put(alloc, 7, 1)?;
     assert_same(rt, "put", &index.slot(7), &Some(1));

@@ -2,7 +2,7 @@
 
 ghost use Rattle.std.specs.Prelude.{map, true, [], ◌∷◌, suc, is_some, ◌≡◌, ◌&&◌};
 ghost use Rattle.pref_core.specs.Indexes.{IsReady, Moves};
-ghost use Rattle.pref_core.specs.Kept.{IsFreed, FindsFreed, are_free};
+ghost use Rattle.pref_core.specs.Kept.{IsKept, IsFreed, FindsFreed, are_free};
 ghost use Rattle.pref_core.specs.Operations.{close, is_next, outcome_at, slots_after};
 ghost use Rattle.pref_core.specs.Planned.{op_of};
 ghost use Rattle.pref_core.specs.Slots.{begins};
@@ -29,10 +29,13 @@ impl Store {
         let outcome = self.contents.outcome(&freed, op.call);
         self.contents.is_next(outcome, op) && self.contents.fits(&freed, op)
     }
+}
 
+impl Contents {
     /// Goes along with a planned op before it is done: in an index each row that it sets gets its new slot, and each that it
     /// removes goes out.
     pub(crate) fn follow(&self, index: &mut Index, op: &Planned<'_>)
+        requires kept { IsKept self.now }
         requires next { is_next self.now (op_of op.now) ≡ true }
         requires ready { IsReady self.now (op_of op.now) index.old }
         ensures { Moves (op_of op.now) index.old index.new }
@@ -47,16 +50,14 @@ impl Store {
                 LentChange::Add(_) => used += 1,
                 LentChange::Set(id, _) => {
                     let Some(slot) = slots.get(used) else { return };
-                    self.contents.move_row(index, id, *slot);
+                    self.move_row(index, id, *slot);
                     used += 1;
                 }
                 LentChange::Remove(id) => index.take(id),
             }
         }
     }
-}
 
-impl Contents {
     /// Whether the call, its number and its outcome are legal next, by what becomes of the call here.
     fn is_next(&self, outcome: Outcome, op: &Planned<'_>) -> bool
         requires outcome { outcome ≡ outcome_at self.now op.now.call.now }

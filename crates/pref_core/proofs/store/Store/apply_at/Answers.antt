@@ -1,11 +1,8 @@
 use Rattle.std.proofs.Common.{◌≡◌, true, sym, ap, ◌∙◌, subst}
 use Rattle.pref_core.specs.Indexes.{IsIndexOf}
-use Rattle.pref_core.specs.Kept.{IsKept}
 use Rattle.pref_core.specs.Operations.{AppliesIn, is_next, applied}
-use Rattle.pref_core.proofs.Bounds.{next_id-small}
 use Rattle.pref_core.proofs.Ends.{kept_stepped, stepped_is}
 use Rattle.pref_core.proofs.Legal.{applies_in}
-use Rattle.pref_core.proofs.Reindexing.{indexed}
 use Rattle.pref_core.specs.Planned.{op_of}
 use Rattle.pref_core.proofs.store.Store.apply_at.Goals as goal
 use Rattle.pref_core.proofs.store.Store.apply_at.Goals.{After-step}
@@ -26,10 +23,7 @@ pub returns-clause-exact : goal.returns-clause-exact
 returns-clause-exact c = exact c
 
 pub returns-clause-index : goal.returns-clause-index
-returns-clause-index c =
-    let kept = subst IsKept c.self.view_is c.self.invariant in
-    subst (λ s. IsIndexOf s c.follow.new.index) (sym (exact c))
-    (indexed c.args.self.now kept.stands.within (op_of c.args.op.now) c.args.index.now c.follow.new.index (next_id-small _ kept.bounded) c.requires.plan.next c.requires.plan.fits c.requires.ready c.follow.ensures)
+returns-clause-index c = subst (λ s. IsIndexOf s c.reindex.new.index) (sym (exact c)) c.reindex.ensures
 
 pub returns-clause-state : goal.returns-clause-state
 returns-clause-state c state h = subst (AppliesIn state c.args.self.now (op_of c.args.op.now)) (sym (exact c)) (applies_in c.args.self.now state (op_of c.args.op.now) h)

@@ -1,12 +1,6 @@
-use Rattle.std.proofs.Common.{sym, subst, ◌∙◌}
-use Rattle.pref_core.specs.Slots.{Contents, StandsFor}
-use Rattle.pref_share.specs.Openings.{state_at}
-use Rattle.pref_share.proofs.Histories.{legal_stands}
+use Rattle.std.proofs.Common.{◌∙◌}
+use Rattle.pref_share.proofs.Histories.{left_stands}
 use Rattle.pref_share.proofs.master.Master.stamp.Goals as goal
 
 pub returns : goal.returns
-returns g c =
-    let o = g.J.Naming.opening in
-    let history = c.self.inside.history in
-    let stands = subst (λ (x : Contents). StandsFor x (state_at o history)) (sym c.self.invariant.1) (legal_stands o history c.self.invariant.0) in
-    rw (← c.self.view_is) (c.stamp.ensures ∙ stands.stamp)
+returns g c = c.stamp.ensures ∙ (left_stands g.J.Naming.opening c.args.self.now c.store.result.now c.store.ensures.legal c.store.ensures.left).stamp

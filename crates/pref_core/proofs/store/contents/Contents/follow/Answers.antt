@@ -2,18 +2,16 @@ use Rattle.std.proofs.Common.{◌+◌, ◌||◌, ℕ, [], ◌∷◌, cond, drop,
 use Rattle.std.proofs.lemmas.Bool.{eq-eqb, ltb-false, ltb-true}
 use Rattle.pref_core.specs.declared.changes.Change.TheVariants.{Set}
 use Rattle.pref_core.specs.Changes.{ended_by}
-use Rattle.pref_core.specs.Indexes.{slot_of, given, moved, IsPlaceOf}
-use Rattle.pref_core.specs.Kept.{IsKept}
+use Rattle.pref_core.specs.Indexes.{slot_of, given, moved}
 use Rattle.pref_core.specs.State.{changes_of}
-use Rattle.pref_core.specs.Slots.{Contents, visible}
-use Rattle.pref_core.specs.Table.{among, has}
+use Rattle.pref_core.specs.Table.{among}
 use Rattle.pref_core.proofs.Changing.{drop_at, drop_all}
 use Rattle.pref_core.proofs.Counts.{drop_item, drop_more}
 use Rattle.pref_core.proofs.Reindexing.{AreThere, FollowsRest, follows_one, ready_there}
 use Rattle.pref_core.specs.Planned.{op_of}
 use Rattle.pref_core.specs.Lent.{change_of}
-use Rattle.pref_core.proofs.store.Store.follow.Goals as goal
-use Rattle.pref_core.proofs.store.Store.follow.Goals.{in-Add, in-Set+in-Some, in-Remove}
+use Rattle.pref_core.proofs.store.contents.Contents.follow.Goals as goal
+use Rattle.pref_core.proofs.store.contents.Contents.follow.Goals.{in-Add, in-Set+in-Some, in-Remove}
 
 pub loop-at-init : goal.loop-at-init
 loop-at-init c =
@@ -21,7 +19,7 @@ loop-at-init c =
     record {
       rest = record {
         gives = λ id. ap (λ l. given (moved (changes_of op.call) l) id (slot_of c.args.index.now id)) c.as_slice-slots.ensures.same;
-        olds = ready_there c.args.self.now (subst IsKept c.self.view_is c.self.invariant).stands.within op c.args.index.now c.requires.next (sym c.succeeds.ensures ∙ c.if-not-succeeds.false) c.requires.ready;
+        olds = ready_there c.args.self.now c.requires.kept.stands.within op c.args.index.now c.requires.next (sym c.succeeds.ensures ∙ c.if-not-succeeds.false) c.requires.ready;
       };
       used = omega arith;
     }
@@ -39,16 +37,14 @@ move_row-requires-clause-there c =
     let rest = drop (c.loop-at.at + 1) (changes_of c.args.op.now.call.now) in
     let here = drop_at (changes_of c.args.op.now.call.now) c.loop-at.at (Set c.in-Set.id c.in-Set.field-1.now) c.in-Set.ensures in
     let olds = subst (λ l. AreThere c.args.self.now (ended_by l) c.loop-at.index) here c.loop-at.invariant.rest.olds in
-    ap (λ (s : Contents). has (visible s.stamp s.slots) c.in-Set.id) c.self.view_is
-    ∙ olds.there c.in-Set.id (ap (λ b. b || among (ended_by rest) c.in-Set.id) (eq-eqb c.in-Set.id c.in-Set.id refl))
+    olds.there c.in-Set.id (ap (λ b. b || among (ended_by rest) c.in-Set.id) (eq-eqb c.in-Set.id c.in-Set.id refl))
 
 pub move_row-requires-clause-index : goal.move_row-requires-clause-index
 move_row-requires-clause-index c =
     let rest = drop (c.loop-at.at + 1) (changes_of c.args.op.now.call.now) in
     let here = drop_at (changes_of c.args.op.now.call.now) c.loop-at.at (Set c.in-Set.id c.in-Set.field-1.now) c.in-Set.ensures in
     let olds = subst (λ l. AreThere c.args.self.now (ended_by l) c.loop-at.index) here c.loop-at.invariant.rest.olds in
-    subst (λ (s : Contents). IsPlaceOf s.stamp c.in-Set.id s.slots (slot_of c.loop-at.index c.in-Set.id)) (sym c.self.view_is)
-    (olds.placed c.in-Set.id (ap (λ b. b || among (ended_by rest) c.in-Set.id) (eq-eqb c.in-Set.id c.in-Set.id refl)))
+    olds.placed c.in-Set.id (ap (λ b. b || among (ended_by rest) c.in-Set.id) (eq-eqb c.in-Set.id c.in-Set.id refl))
 
 pub loop-at-preserved : goal.loop-at-preserved
 loop-at-preserved c =

@@ -2,7 +2,7 @@ use Rattle.std.proofs.Common.{◌≤◌, drop}
 use Rattle.pref_core.specs.Indexes.{slot_of, given, moved}
 use Rattle.pref_core.specs.State.{changes_of}
 use Rattle.pref_core.proofs.Reindexing.{FollowsRest}
-use Rattle.pref_core.proofs.store.Store.follow.Given as goal
+use Rattle.pref_core.proofs.store.contents.Contents.follow.Given as goal
 
 abbrev pub invariant-loop-at : goal.invariant-loop-at
 invariant-loop-at l = record {
