@@ -115,12 +115,9 @@ fn run_board<J: Naming + Send + Sync, R: Threads + Wait + Print + AllocGlobal + 
     requires book { name.seen.book ≡ J.book }
     requires opening { J.opening ≡ record { limits = setup; rows = hotels.now } }
 {
-    let (board, clients) = open_board::<J, R>(rt, rt.alloc(), name, setup, hotels)?;
-    let mut clients = clients.into_iter();
-    let done = match (clients.next(), clients.next()) {
-        (Some(mut desk), Some(mut guest)) => {
-            run_clients(rt, &board, &mut desk, &mut guest, schema)
-        }
+    let (board, mut clients) = open_board::<J, R>(rt, rt.alloc(), name, setup, hotels)?;
+    let done = match clients.as_mut_slice() {
+        [desk, guest] => run_clients(rt, &board, desk, guest, schema),
         _ => Err(anyhow!("a board of two clients")),
     };
     board.close(rt);

@@ -50,18 +50,21 @@ fn print_answer(rt: &impl Print, client: u8, answer: &RankedList) -> io::Result<
     Ok(())
 }
 
-fn main(rt: HostRuntime) -> Result<()> {
-    let alloc = rt.alloc();
-    let (schema, hotels) = read_table(alloc, HOTELS)?;
-    let setup = Setup::new(2, 1024, 256, 64).context("a number outside the limits")?;
-    let mut table = Machine::new(alloc, setup, &hotels)?;
+/// What the clients do.
+fn run_clients(rt: &impl Print, alloc: Global, table: &mut Machine, schema: &Schema) -> Result<()> {
+    let blocks = begin(alloc, table, schema, 1)?;
+    let hotel = Row::of(schema, &[55, 1])?;
+    reply(alloc, table, 2, Act::Insert(hotel))?;
+    print_answer(rt, 1, &answer(alloc, table, 1, blocks)?)?;
 
-    let blocks = begin(alloc, &mut table, &schema, 1)?;
-    let hotel = Row::of(&schema, &[55, 1])?;
-    reply(alloc, &mut table, 2, Act::Insert(hotel))?;
-    print_answer(&rt, 1, &answer(alloc, &mut table, 1, blocks)?)?;
-
-    let blocks = begin(alloc, &mut table, &schema, 2)?;
-    print_answer(&rt, 2, &answer(alloc, &mut table, 2, blocks)?)?;
+    let blocks = begin(alloc, table, schema, 2)?;
+    print_answer(rt, 2, &answer(alloc, table, 2, blocks)?)?;
     Ok(())
+}
+
+fn main(rt: HostRuntime) -> Result<()> {
+    let (schema, hotels) = read_table(rt.alloc(), HOTELS)?;
+    let setup = Setup::new(2, 1024, 256, 64).context("a number outside the limits")?;
+    let mut table = Machine::new(rt.alloc(), setup, &hotels)?;
+    run_clients(&rt, rt.alloc(), &mut table, &schema)
 }

@@ -42,7 +42,7 @@ struct Table<'a, J: Naming, R> {
     rt: &'a R,
     board: &'a Board<J>,
     schema: &'a Schema,
-    client: Client<J>,
+    client: &'a mut Client<J>,
     random: Random,
     changes: u64,
     ids: Vec<u64>,
@@ -119,10 +119,19 @@ impl<'a, J: Naming, R: Wait + Clock + AllocGlobal> Table<'a, J, R> {
         Ok(Age {
             changes: self.changes,
             change,
-            get: get(self.rt, &mut self.client, &self.ids, ROWS)?,
-            get_of_deleted: get(self.rt, &mut self.client, &self.deleted, 0)?,
-            get_of_unknown: get(self.rt, &mut self.client, unknown, 0)?,
+            get: get(self.rt, self.client, &self.ids, ROWS)?,
+            get_of_deleted: get(self.rt, self.client, &self.deleted, 0)?,
+            get_of_unknown: get(self.rt, self.client, unknown, 0)?,
         })
+    }
+
+    /// The table at these ages, each a number of changes.
+    fn ages(&mut self, ages: &[u64], unknown: &[u64]) -> anyhow::Result<Vec<Age>> {
+        let mut measured = Vec::new(self.rt.alloc());
+        for changes in ages {
+            measured.push(self.age(*changes, unknown)?)?;
+        }
+        Ok(measured)
     }
 }
 
@@ -140,10 +149,13 @@ fn at_ages<J: Naming, R: Wait + Clock + AllocGlobal>(
     rt: &R,
     board: &Board<J>,
     schema: &Schema,
-    client: Client<J>,
+    client: &mut Client<J>,
     ages: &[u64],
 ) -> anyhow::Result<Vec<Age>> {
+    let ids = ids_from(rt.alloc(), 1, ROWS)?;
     let unknown = ids_from(rt.alloc(), NEVER, ROWS)?;
+    // None is deleted yet.
+    let deleted = ids_from(rt.alloc(), NEVER, ROWS)?;
     let mut table = Table {
         rt,
         board,
@@ -151,15 +163,10 @@ fn at_ages<J: Naming, R: Wait + Clock + AllocGlobal>(
         client,
         random: Random(0),
         changes: 0,
-        ids: ids_from(rt.alloc(), 1, ROWS)?,
-        // None is deleted yet.
-        deleted: Vec::from_slice(rt.alloc(), &unknown)?,
+        ids,
+        deleted,
     };
-    let mut measured = Vec::new(rt.alloc());
-    for changes in ages {
-        measured.push(table.age(*changes, &unknown)?)?;
-    }
-    Ok(measured)
+    table.ages(ages, &unknown)
 }
 
 /// A new table of one client at these ages, each a number of changes.
@@ -174,10 +181,10 @@ pub fn measure<J: Naming, R: Wait + Clock + AllocGlobal>(
     requires book { name.seen.book ≡ J.book }
     requires opening { J.opening ≡ record { limits = setup; rows = rows.now } }
 {
-    let (board, clients) = open_board::<J, R>(rt, rt.alloc(), name, setup, rows)?;
-    let measured = match clients.into_iter().next() {
-        Some(client) => at_ages(rt, &board, schema, client, ages),
-        None => Ok(Vec::new(rt.alloc())),
+    let (board, mut clients) = open_board::<J, R>(rt, rt.alloc(), name, setup, rows)?;
+    let measured = match clients.as_mut_slice() {
+        [client, ..] => at_ages(rt, &board, schema, client, ages),
+        [] => Ok(Vec::new(rt.alloc())),
     };
     board.close(rt);
     measured

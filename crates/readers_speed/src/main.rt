@@ -9,13 +9,16 @@ mod threads;
 ghost use Rattle.std.specs.Prelude.{◌≤◌, ◌+◌, IfSome};
 
 use ages::Age;
-use anyhow::Context;
+use anyhow::{Context, Result};
 use pref_core::Setup;
 use pref_share::Name;
 use pref_table::{Row, Schema, TableFault};
 use random::{ROWS, Random};
 use std::alloc::Global;
 use std::marker::Brand;
+use std::sync::Wait;
+use std::thread::Threads;
+use std::time::Clock;
 use std::{env, io};
 use threads::{Does, Plan, Tally, measure};
 
@@ -76,25 +79,40 @@ fn print_ages(rt: &impl Print, ages: &[Age]) -> io::Result<()> {
     Ok(())
 }
 
-fn main(rt: HostRuntime) -> anyhow::Result<()> {
+/// Prints what a change and a get cost in a table whose rows come and go.
+fn print_costs(rt: &(impl Wait + Clock + Print + AllocGlobal), schema: &Schema) -> Result<()> {
+    let setup = Setup::new(1, ages::SLOTS, 65_536, 64).context("a setup of one client")?;
+    let rows = opening_rows(rt.alloc(), schema, ages::ROWS as u64)?;
+    let aged = ages::measure::<Brand, _>(rt, Name::new(), schema, &rows, setup, &AGES)?;
+    Ok(print_ages(rt, &aged)?)
+}
+
+/// Prints how much the clients of a plan do in a second.
+fn print_rates(
+    rt: &(impl Threads + Wait + Clock + Print + AllocGlobal + Sync),
+    schema: &Schema,
+    plan: Plan,
+) -> Result<()> {
+    let milliseconds = plan.milliseconds;
+    let rows = opening_rows(rt.alloc(), schema, ROWS)?;
+    let tallies = measure::<Brand, _>(rt, Name::new(), schema, &rows, plan)?;
+    for does in [Does::Gets, Does::Updates, Does::Scans] {
+        print_rate(rt, &tallies, does, milliseconds)?;
+    }
+    Ok(())
+}
+
+fn main(rt: HostRuntime) -> Result<()> {
     let words: Vec<String> = env::args(&rt)?.skip(1).collect(rt.alloc())?;
     let names = [b"a".as_slice(), b"b", b"c", b"d", b"e", b"f"];
     let schema = Schema::new(rt.alloc(), names.as_slice())?;
     if let [word] = words.as_slice()
         && word.as_str() == "ages"
     {
-        let setup = Setup::new(1, ages::SLOTS, 65_536, 64).context("a setup of one client")?;
-        let rows = opening_rows(rt.alloc(), &schema, ages::ROWS as u64)?;
-        let aged = ages::measure::<Brand, _>(&rt, Name::new(), &schema, &rows, setup, &AGES)?;
-        return Ok(print_ages(&rt, &aged)?);
+        return print_costs(&rt, &schema);
     }
-    let Some(plan) = plan_of(&words) else {
-        return Ok(rt.println(USAGE)?);
-    };
-    let rows = opening_rows(rt.alloc(), &schema, ROWS)?;
-    let tallies = measure::<Brand, _>(&rt, Name::new(), &schema, &rows, plan)?;
-    for does in [Does::Gets, Does::Updates, Does::Scans] {
-        print_rate(&rt, &tallies, does, plan.milliseconds)?;
+    match plan_of(&words) {
+        Some(plan) => print_rates(&rt, &schema, plan),
+        None => Ok(rt.println(USAGE)?),
     }
-    Ok(())
 }

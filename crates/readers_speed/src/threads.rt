@@ -100,25 +100,35 @@ impl<'a, J: Naming, R: Wait + Clock + AllocGlobal> Run<'a, J, R> {
         client.abandon(self.rt, self.rt.alloc(), self.board).ok()
     }
 
-    /// Does its part of the plan until the time is over. What is refused is not counted.
-    fn work(&self, mut client: Client<J>) -> Tally {
-        let does = self.plan.does(client.number());
+    /// Does what a client does once, gets a number of times, and gives how often it was not refused.
+    fn once(&self, client: &mut Client<J>, random: &mut Random, does: Does) -> u64 {
+        match does {
+            Does::Gets => gets(client, random),
+            Does::Updates => u64::from(self.update(client, random).is_some()),
+            Does::Scans => u64::from(self.scan(client).is_some()),
+        }
+    }
+
+    /// How often a client does its part of the plan until the time is over. What is refused is not counted.
+    fn times(&self, client: &mut Client<J>, does: Does) -> u64 {
         let mut random = Random(u64::from(client.number()));
         let span = Duration::from_millis(u64::from(self.plan.milliseconds));
         let mut times = 0u64;
         let Ok(start) = Instant::now(self.rt) else {
-            return Tally { does, times };
+            return times;
         };
         for _ in 0..u64::MAX {
             if !start.elapsed(self.rt).is_ok_and(|elapsed| elapsed < span) {
                 break;
             }
-            times = times.saturating_add(match does {
-                Does::Gets => gets(&mut client, &mut random),
-                Does::Updates => u64::from(self.update(&mut client, &mut random).is_some()),
-                Does::Scans => u64::from(self.scan(&mut client).is_some()),
-            });
+            times = times.saturating_add(self.once(client, &mut random, does));
         }
+        times
+    }
+
+    fn work(&self, mut client: Client<J>) -> Tally {
+        let does = self.plan.does(client.number());
+        let times = self.times(&mut client, does);
         Tally { does, times }
     }
 }
