@@ -8,7 +8,7 @@ use std::alloc::Global;
 use std::test::Fail;
 
 /// A change of a commit.
-#[derive(Clone, Copy, Debug)]
+#[derive(Clone, Copy)]
 pub enum Changes {
     Adds(i64),
     Sets(u64, i64),
@@ -16,7 +16,7 @@ pub enum Changes {
 }
 
 /// What a client does. A query asks for the rows with the smallest x, or what it is told to ask.
-#[derive(Clone, Copy, Debug)]
+#[derive(Clone, Copy)]
 pub enum Does {
     Inserts(i64),
     Updates(u64, i64),

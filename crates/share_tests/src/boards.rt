@@ -9,24 +9,15 @@ use pref_term::Ask;
 use std::alloc::Global;
 use std::process::Abort;
 use std::sync::Wait;
-use std::test::Fail;
 use std::thread::Threads;
 
-/// A new board with its first two clients.
-pub fn opened_for_two<J: Naming, R: Wait + Abort>(
-    rt: &R,
-    alloc: Global,
-    name: Name,
-    setup: Setup,
-    rows: &[Row],
-) -> Result<(Board<J>, Client<J>, Client<J>), Fail>
-    requires book { name.seen.book ≡ J.book }
-    requires opening { J.opening ≡ record { limits = setup; rows = rows.now } }
-{
-    let (board, clients) = open_board::<J, R>(rt, alloc, name, setup, rows)?;
-    let mut clients = clients.into_iter();
-    match (clients.next(), clients.next()) {
-        (Some(first), Some(second)) => Ok((board, first, second)),
+/// The first two clients of a board. Lent, since a proof pays for each way out of a function that owns a client of its own.
+pub fn first_two<'a, J: Naming>(
+    rt: &impl Abort,
+    clients: &'a mut [Client<J>],
+) -> (&'a mut Client<J>, &'a mut Client<J>) {
+    match clients {
+        [first, second, ..] => (first, second),
         _ => panic!(rt; "there are two clients"),
     }
 }

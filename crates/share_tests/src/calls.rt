@@ -3,7 +3,7 @@
 ghost use Rattle.std.specs.Prelude.{◌≡◌};
 
 use crate::acts::{Does, act, columns, replies_text, reply_text, rows, setup};
-use crate::boards::{begin, opened_for_two};
+use crate::boards::begin;
 use crate::same::assert_same;
 use pref_core::{Act, Event, RankedList, Reply, Setup, replay};
 use pref_share::{Board, Client, Name, Naming, ShareFault, open_board};
@@ -97,15 +97,15 @@ fn played<J: Naming, R: Wait + Abort>(
 /// Asserts the replies to the clients of a new board, whose table has these opening rows.
 pub fn check_told(
     rt: &(impl Wait + Abort + AllocGlobal),
-    opening: &[i64],
+    values: &[i64],
     setup: Setup,
     run: &[(u8, Does)],
     wanted: &str,
 ) -> Result<(), Fail> {
     let alloc = rt.alloc();
-    let opening = rows(alloc, opening)?;
+    let opening = rows(alloc, values)?;
     let text = played::<Brand, _>(rt, alloc, Name::new(), setup, &opening, run)?;
-    assert_same(rt, run, &text.as_str(), &wanted);
+    assert_same(rt, (setup.capacity(), values), &text.as_str(), &wanted);
     Ok(())
 }
 
@@ -195,7 +195,7 @@ fn two_updates_under_an_open_query(rt: HostRuntime) -> Result<(), Fail> {
     check_told(&rt, &opening, setup, &run, wanted)
 }
 
-/// How many blocks the begin of the first client of a new board returns, and the reply to the second once the first was dropped.
+/// How many blocks the begin of the last client of a new board returns, and the replies to the others once it was dropped.
 fn told_after_a_drop<J: Naming, R: Wait + Abort>(
     rt: &R,
     alloc: Global,
@@ -208,10 +208,13 @@ fn told_after_a_drop<J: Naming, R: Wait + Abort>(
     requires opening { J.opening ≡ record { limits = setup; rows = rows.now } }
 {
     let ask = read_ask(alloc, &columns(alloc)?, b"best low(x)")?;
-    let (board, mut first, second) = opened_for_two::<J, R>(rt, alloc, name, setup, rows)?;
-    let blocks = begin(rt, alloc, &board, &mut first, ask);
-    drop(first);
-    let text = told(rt, alloc, &board, &mut [second], run);
+    let (board, mut clients) = open_board::<J, R>(rt, alloc, name, setup, rows)?;
+    let Some(mut last) = clients.pop() else {
+        panic!(rt; "there are clients");
+    };
+    let blocks = begin(rt, alloc, &board, &mut last, ask);
+    drop(last);
+    let text = told(rt, alloc, &board, &mut clients, run);
     board.close(rt);
     Ok((blocks, text?))
 }

@@ -3,10 +3,10 @@
 ghost use Rattle.std.specs.Prelude.{◌≡◌};
 
 use crate::acts::{columns, row, rows, setup};
-use crate::boards::{begin, opened_for_two};
+use crate::boards::{begin, first_two};
 use crate::same::assert_same;
 use pref_core::Setup;
-use pref_share::{Client, Name, Naming, ShareFault};
+use pref_share::{Client, Name, Naming, ShareFault, open_board};
 use pref_table::Row;
 use pref_term::{Ask, read_ask};
 use std::alloc::Global;
@@ -40,9 +40,10 @@ fn read_of_an_open_board<J: Naming, R: Wait + Abort>(
     requires book { name.seen.book ≡ J.book }
     requires opening { J.opening ≡ record { limits = setup; rows = rows.now } }
 {
-    let (board, mut client, _other) = opened_for_two::<J, R>(rt, alloc, name, setup, rows)?;
-    begin(rt, alloc, &board, &mut client, ask);
-    let told = read(alloc, &mut client);
+    let (board, mut clients) = open_board::<J, R>(rt, alloc, name, setup, rows)?;
+    let (client, _other) = first_two(rt, &mut clients);
+    begin(rt, alloc, &board, client, ask);
+    let told = read(alloc, client);
     board.close(rt);
     Ok(told)
 }
@@ -72,10 +73,11 @@ fn read_of_a_closed_board<J: Naming, R: Wait + Abort>(
     requires book { name.seen.book ≡ J.book }
     requires opening { J.opening ≡ record { limits = setup; rows = rows.now } }
 {
-    let (board, mut client, _other) = opened_for_two::<J, R>(rt, alloc, name, setup, rows)?;
-    begin(rt, alloc, &board, &mut client, ask);
+    let (board, mut clients) = open_board::<J, R>(rt, alloc, name, setup, rows)?;
+    let (client, _other) = first_two(rt, &mut clients);
+    begin(rt, alloc, &board, client, ask);
     board.close(rt);
-    Ok((read(alloc, &mut client), client.seen()))
+    Ok((read(alloc, client), client.seen()))
 }
 
 #[test]

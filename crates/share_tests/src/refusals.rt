@@ -4,7 +4,7 @@
 ghost use Rattle.std.specs.Prelude.{◌≡◌};
 
 use crate::acts::{Does, acts_of, answer_text, columns, lists_text, row, rows, setup};
-use crate::boards::{Open, opened_for_two, replies_of_a_run};
+use crate::boards::{Open, first_two, replies_of_a_run};
 use crate::same::assert_same;
 use pref_core::{Act, Change, Commit, Committed, CoreFault, Setup};
 use pref_share::{BeginFault, Board, Client, Name, Naming, ShareFault, open_board};
@@ -146,9 +146,10 @@ fn changed_and_heard<J: Naming, R: Wait + Abort>(
     requires book { name.seen.book ≡ J.book }
     requires opening { J.opening ≡ record { limits = setup; rows = rows.now } }
 {
-    let (board, mut client, mut other) = opened_for_two::<J, R>(rt, alloc, name, setup, rows)?;
-    fill(rt, alloc, &board, &mut client, row);
-    change_and_read(rt, alloc, &board, &mut client, row);
+    let (board, mut clients) = open_board::<J, R>(rt, alloc, name, setup, rows)?;
+    let (client, other) = first_two(rt, &mut clients);
+    fill(rt, alloc, &board, client, row);
+    change_and_read(rt, alloc, &board, client, row);
     other.hear(client.word());
     assert_same(rt, "what is heard", &other.get(1), &Ok(*row));
     board.close(rt);
@@ -228,8 +229,9 @@ fn replaced<J: Naming, R: Wait + Abort>(
     requires book { name.seen.book ≡ J.book }
     requires opening { J.opening ≡ record { limits = setup; rows = rows.now } }
 {
-    let (board, mut client, _other) = opened_for_two::<J, R>(rt, alloc, name, setup, rows)?;
-    let told = replace_eight_rows(rt, alloc, &board, &mut client, adds);
+    let (board, mut clients) = open_board::<J, R>(rt, alloc, name, setup, rows)?;
+    let (client, _other) = first_two(rt, &mut clients);
+    let told = replace_eight_rows(rt, alloc, &board, client, adds);
     board.close(rt);
     told
 }
@@ -273,8 +275,9 @@ fn answered<J: Naming, R: Wait + Abort>(
     requires book { name.seen.book ≡ J.book }
     requires opening { J.opening ≡ record { limits = setup; rows = rows.now } }
 {
-    let (board, mut client, _other) = opened_for_two::<J, R>(rt, alloc, name, setup, rows)?;
-    let ranked = abandon_and_ask(rt, alloc, &board, &mut client, asks);
+    let (board, mut clients) = open_board::<J, R>(rt, alloc, name, setup, rows)?;
+    let (client, _other) = first_two(rt, &mut clients);
+    let ranked = abandon_and_ask(rt, alloc, &board, client, asks);
     board.close(rt);
     Ok(ranked)
 }

@@ -4,9 +4,9 @@
 ghost use Rattle.std.specs.Prelude.{◌≡◌};
 
 use crate::acts::{columns, rows, setup};
-use crate::boards::{begin, opened_for_two};
+use crate::boards::{begin, first_two};
 use pref_core::Setup;
-use pref_share::{Board, Client, Name, Naming};
+use pref_share::{Board, Client, Name, Naming, open_board};
 use pref_table::{Row, Schema};
 use pref_term::{Ask, read_ask};
 use std::alloc::Global;
@@ -55,8 +55,9 @@ fn on_a_new_board<J: Naming, R: Wait + Print + Abort>(
     requires book { name.seen.book ≡ J.book }
     requires opening { J.opening ≡ record { limits = setup; rows = rows.now } }
 {
-    let (board, mut client, _other) = opened_for_two::<J, R>(rt, alloc, name, setup, rows)?;
-    let told = begin_and_abandon(rt, alloc, &board, &mut client, asks);
+    let (board, mut clients) = open_board::<J, R>(rt, alloc, name, setup, rows)?;
+    let (client, _other) = first_two(rt, &mut clients);
+    let told = begin_and_abandon(rt, alloc, &board, client, asks);
     board.close(rt);
     told
 }

@@ -3,10 +3,10 @@
 ghost use Rattle.std.specs.Prelude.{◌≡◌};
 
 use crate::acts::{columns, row, setup};
-use crate::boards::opened_for_two;
+use crate::boards::first_two;
 use crate::same::assert_same;
 use pref_core::Setup;
-use pref_share::{Board, Client, Name, Naming, ShareFault, Word};
+use pref_share::{Board, Client, Name, Naming, ShareFault, Word, open_board};
 use pref_table::Row;
 use std::alloc::Global;
 use std::marker::Brand;
@@ -21,7 +21,7 @@ fn word_of_an_insert<J: Naming, R: Wait>(
     rt: &R,
     alloc: Global,
     board: &Board<J>,
-    mut client: Client<J>,
+    client: &mut Client<J>,
     row: Row,
 ) -> Result<Word<J>, ShareFault> {
     client.insert(rt, alloc, board, row)?;
@@ -40,7 +40,8 @@ fn got_after_a_word<J: Naming + Send + Sync, R: Threads + Wait + Abort + Sync>(
     requires book { name.seen.book ≡ J.book }
     requires opening { J.opening ≡ record { limits = setup; rows = rows.now } }
 {
-    let (board, mut first, second) = opened_for_two::<J, R>(rt, alloc, name, setup, rows)?;
+    let (board, mut clients) = open_board::<J, R>(rt, alloc, name, setup, rows)?;
+    let (first, second) = first_two(rt, &mut clients);
     let shared = &board;
     let (word, ()) = thread::join(
         rt,
@@ -75,7 +76,8 @@ fn seen_before_and_after<J: Naming, R: Wait + Abort>(
     requires book { name.seen.book ≡ J.book }
     requires opening { J.opening ≡ record { limits = setup; rows = rows.now } }
 {
-    let (board, mut first, mut second) = opened_for_two::<J, R>(rt, alloc, name, setup, rows)?;
+    let (board, mut clients) = open_board::<J, R>(rt, alloc, name, setup, rows)?;
+    let (first, second) = first_two(rt, &mut clients);
     let before = first.seen();
     let deleted = second.delete(rt, alloc, &board, 1);
     first.hear(second.word());
