@@ -100,7 +100,7 @@ impl<'a, J: Naming, R: Wait + Clock + AllocGlobal> Run<'a, J, R> {
         client.abandon(self.rt, self.rt.alloc(), self.board).ok()
     }
 
-    /// Does what a client does once, gets a number of times, and gives how often it was not refused.
+    /// Does once what a client does, or [`GETS`] gets, and gives how often it was not refused.
     fn once(&self, client: &mut Client<J>, random: &mut Random, does: Does) -> u64 {
         match does {
             Does::Gets => gets(client, random),
@@ -109,7 +109,7 @@ impl<'a, J: Naming, R: Wait + Clock + AllocGlobal> Run<'a, J, R> {
         }
     }
 
-    /// How often a client does its part of the plan until the time is over. What is refused is not counted.
+    /// Does this until the time is over, and gives how often it was not refused.
     fn times(&self, client: &mut Client<J>, does: Does) -> u64 {
         let mut random = Random(u64::from(client.number()));
         let span = Duration::from_millis(u64::from(self.plan.milliseconds));
@@ -126,6 +126,7 @@ impl<'a, J: Naming, R: Wait + Clock + AllocGlobal> Run<'a, J, R> {
         times
     }
 
+    /// A client does its part of the plan until the time is over.
     fn work(&self, mut client: Client<J>) -> Tally {
         let does = self.plan.does(client.number());
         let times = self.times(&mut client, does);
