@@ -19,9 +19,15 @@ use std::marker::Model;
 /// pairs of id and slot.
 ///
 /// [`Store::plan_at`] and [`Store::apply_at`] go by it, and keep it that of the store. (this project)
-#[derive(Drop)]
 pub struct Index {
     slots: IndexMap<u64, usize>,
+}
+
+// By hand, so that letting one go is a call: a derived `drop` is written out, and proved, at each way out of each function that owns one.
+impl Drop for Index {
+    fn drop(self) {
+        let Index { slots: _ } = self;
+    }
 }
 
 impl Model for Index {

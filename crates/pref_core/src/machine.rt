@@ -29,12 +29,23 @@ use std::marker::Model;
 /// let mut table = Machine::new(alloc, setup, &rows)?;
 /// let reply = table.reply(alloc, Event { client: 1, act: Act::Begin(ask) })?;
 /// ```
-#[derive(Drop)]
 pub struct Machine {
     store: Store,
     index: Index,
     setup: Setup,
     queries: Vec<Option<Query>>,
+}
+
+// By hand, so that letting one go is a call: a derived `drop` is written out, and proved, at each way out of each function that owns one.
+impl Drop for Machine {
+    fn drop(self) {
+        let Machine {
+            store: _,
+            index: _,
+            setup: _,
+            queries: _,
+        } = self;
+    }
 }
 
 impl Model for Machine {

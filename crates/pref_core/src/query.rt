@@ -19,7 +19,6 @@ use std::marker::Model;
 /// It is lent the store for the time of a scan alone, so others may change the table between two scans. What it sees
 /// stays the same nevertheless ([`blocks_stay`](crate::laws::blocks_stay)), and it answers the table at its begin
 /// ([`answers_the_begin`](crate::laws::answers_the_begin)).
-#[derive(Drop)]
 pub struct Query {
     ask: Ask,
     stamp: u64,
@@ -28,6 +27,21 @@ pub struct Query {
     done: u32,
     left: u32,
     partial: Partial,
+}
+
+// By hand, so that letting one go is a call: a derived `drop` is written out, and proved, at each way out of each function that owns one.
+impl Drop for Query {
+    fn drop(self) {
+        let Query {
+            ask: _,
+            stamp: _,
+            size: _,
+            window: _,
+            done: _,
+            left: _,
+            partial: _,
+        } = self;
+    }
 }
 
 impl Model for Query {

@@ -41,9 +41,15 @@ use std::marker::Model;
 /// What a store represents, a state of the sequential table, is said by `StandsFor`. [`Store::plan`] finds what
 /// becomes of a call and [`Store::apply`] does it; [`ops_are_history`](crate::laws::ops_are_history) says that what was
 /// applied so is a legal history.
-#[derive(Drop)]
 pub struct Store {
     contents: Contents,
+}
+
+// By hand, so that letting one go is a call: a derived `drop` is written out, and proved, at each way out of each function that owns one.
+impl Drop for Store {
+    fn drop(self) {
+        let Store { contents: _ } = self;
+    }
 }
 
 impl Model for Store {

@@ -42,10 +42,16 @@ impl<J: Naming> Model for Word<J> {
 }
 
 /// An open query, and the history that ends with its begin.
-#[derive(Drop)]
 pub(crate) struct Asking<J: Naming> {
     query: Query,
     begun: Prefix<J>,
+}
+
+// By hand, so that letting one go is a call: a derived `drop` is written out, and proved, at each way out of each function that owns one.
+impl<J: Naming> Drop for Asking<J> {
+    fn drop(self) {
+        let Asking { query: _, begun: _ } = self;
+    }
 }
 
 impl<J: Naming> Model for Asking<J> {
@@ -72,7 +78,6 @@ impl<J: Naming> Model for Asking<J> {
 /// }
 /// let ranked = client.finish(rt, alloc, &board)?;
 /// ```
-#[derive(Drop)]
 pub struct Client<J: Naming> {
     number: u8,
     counter: u64,
@@ -80,6 +85,20 @@ pub struct Client<J: Naming> {
     seen: Prefix<J>,
     asking: Option<Asking<J>>,
     reader: StoreReader,
+}
+
+// By hand, so that letting one go is a call: a derived `drop` is written out, and proved, at each way out of each function that owns one.
+impl<J: Naming> Drop for Client<J> {
+    fn drop(self) {
+        let Client {
+            number: _,
+            counter: _,
+            setup: _,
+            seen: _,
+            asking: _,
+            reader: _,
+        } = self;
+    }
 }
 
 impl<J: Naming> Model for Client<J> {

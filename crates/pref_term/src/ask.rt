@@ -24,7 +24,6 @@ pub enum Mode {
 }
 
 /// A question. Contracts see its preference, its group, its mode and whether of equal rows one is kept, and asks are equal where they see the same.
-#[derive(Drop)]
 pub struct Ask {
     term: Term,
     // The term's factors, where it is a product of base terms without a set: a comparison goes over them and not over the term.
@@ -50,6 +49,19 @@ impl Model for Ask {
 
     ghost invariant = { λ a. IsAsk (record { preference = preference_of a.term; group = a.group.items; mode = a.mode; distinct = a.distinct })
         × IfSome a.factors (λ factors. AreFactorsOf (preference_of a.term) factors.items) };
+}
+
+// By hand, so that letting one go is a call: a derived `drop` is written out, and proved, at each way out of each function that owns one.
+impl Drop for Ask {
+    fn drop(self) {
+        let Ask {
+            term: _,
+            factors: _,
+            group: _,
+            mode: _,
+            distinct: _,
+        } = self;
+    }
 }
 
 impl Ask {

@@ -19,9 +19,9 @@ invariant_of-result g c =
     let first : Published = record { store = c.args.store; len = 0; seen = c.again.result } in
     let same : c.in-Ok.writer.desk.shown.value ≡ first = c.in-Ok.ensures.shown ∙ c.in_ok-writer.ensures.0 in
     let shown : (manually_drop_value c.new_unchecked.result).desk.shown.value ≡ first = rw c.new_unchecked.ensures (c.open_with.ensures.shown ∙ same) in
-    let log : first.seen.log ≡ c.args.history = ap (λ (r : Reached). r.log) c.again.ensures ∙ c.token-2.ensures.log ∙ c.whole.ensures.same in
+    let log : first.seen.log ≡ c.args.history = ap (λ (r : Reached). r.log) c.again.ensures ∙ c.token.ensures.log ∙ c.whole.ensures.same in
     let empty : first.seen.log ≡ [] = log ∙ c.requires.history in
-    let book : first.seen.book ≡ g.J.Naming.book = ap (λ (r : Reached). r.book) c.again.ensures ∙ c.token-2.ensures.book in
+    let book : first.seen.book ≡ g.J.Naming.book = ap (λ (r : Reached). r.book) c.again.ensures ∙ c.token.ensures.book in
     let stands : HoldsHistory (first_contents o) g.J.Naming.book first = record {
       legal = subst (AreLetIn (first_contents o)) (sym empty) tt;
       store = c.requires.opening ∙ ap (ran (first_contents o)) (sym empty);
