@@ -1,8 +1,10 @@
 //! Answers of asks that are read from their texts, however the rows are cut into two pieces.
-use super::cuttings::added_in_two;
-use super::fixtures::{PAIRS, numbered, places_of};
-use crate::same::assert_same_list;
-use pref_sky::answer;
+ghost use Rattle.std.specs.Prelude.{◌≡◌, []};
+ghost use Rattle.pref_sky.specs.Levels.{HaveDifferentIds};
+
+use super::cuttings::add_in_two;
+use super::fixtures::{PAIRS, check_places, numbered};
+use pref_sky::{Entry, Partial, answer};
 use pref_table::Schema;
 use pref_term::{Ask, read_ask};
 use std::alloc::Global;
@@ -16,6 +18,25 @@ pub(super) fn ask_of(alloc: Global, text: &[u8]) -> Result<Ask, Fail> {
     Ok(read_ask(alloc, &schema, text)?)
 }
 
+/// Cut there, and added to a partial result that holds nothing, the two pieces make the answer.
+fn check_answer_cut_at(
+    rt: &impl Abort,
+    alloc: Global,
+    ask: &Ask,
+    partial: &mut Partial,
+    entries: &[Entry],
+    places: &[(u32, u64)],
+    at: usize,
+) -> Result<(), Fail>
+    requires nothing { partial.old ≡ [] }
+    requires ids { HaveDifferentIds entries.now }
+{
+    let (front, back) = entries.split_at(at.min(entries.len()));
+    add_in_two(alloc, ask, ask.cut(), partial, front, back)?;
+    let ranked = answer(alloc, ask, partial)?;
+    check_places(rt, alloc, ("cut at", at), &ranked, places)
+}
+
 pub(super) fn check_answer(
     rt: &impl Abort,
     alloc: Global,
@@ -26,11 +47,8 @@ pub(super) fn check_answer(
     let ask = ask_of(alloc, text)?;
     let entries = numbered(alloc, rows)?;
     for at in 0..=entries.len() {
-        let (front, back) = entries.as_slice().split_at(at);
-        let (partial, _) = added_in_two(alloc, &ask, ask.cut(), front, back)?;
-        let ranked = answer(alloc, &ask, &partial)?;
-        let found = places_of(alloc, &ranked)?;
-        assert_same_list(rt, ("cut at", at), found.as_slice(), places);
+        let mut partial = Partial::empty();
+        check_answer_cut_at(rt, alloc, &ask, &mut partial, &entries, places, at)?;
     }
     Ok(())
 }

@@ -1,37 +1,54 @@
 //! Levels, however the rows are cut into two pieces.
-ghost use Rattle.std.specs.Prelude.{◌≡◌, ◌++◌, IfOk};
+ghost use Rattle.std.specs.Prelude.{◌≡◌, ◌++◌, [], IfOk, OnOk};
 ghost use Rattle.pref_sky.specs.Levels.{HaveDifferentIds, entry_order, levels};
 
 use super::answers::ask_of;
-use super::fixtures::{LowBoth, LowInGroup, LowOnce, PAIRS, falling, numbered, places_of};
+use super::fixtures::{LowBoth, LowInGroup, LowOnce, PAIRS, check_places, falling, numbered};
 use super::plain::add_plainly;
 use crate::same::{assert_same, assert_same_list};
 use pref_sky::{Entry, Partial, Ranked, levels};
+use pref_table::TableFault;
 use pref_term::Dominance;
 use std::alloc::{AllocError, Global};
 use std::process::Abort;
 use std::test::Fail;
 
-/// A partial result of two pieces, and beside it what the plain merge makes of the second one.
-pub(super) fn added_in_two<D: Dominance>(
+/// Adds two pieces to a partial result that holds nothing, and returns what the plain merge makes of the second one.
+pub(super) fn add_in_two<D: Dominance>(
     alloc: Global,
     dominance: &D,
     cut: u32,
+    partial: &mut Partial,
     front: &[Entry],
     back: &[Entry],
-) -> Result<(Partial, Vec<Ranked>), AllocError>
-    requires { HaveDifferentIds (front.now ++ back.now) }
-    ensures { IfOk result (λ both. both.0 ≡ levels (entry_order (D.order dominance.now)) (front.now ++ back.now) cut) }
+) -> Result<Vec<Ranked>, AllocError>
+    requires nothing { partial.old ≡ [] }
+    requires ids { HaveDifferentIds (front.now ++ back.now) }
+    ensures { OnOk result (partial.new ≡ levels (entry_order (D.order dominance.now)) (front.now ++ back.now) cut) }
 {
-    let mut partial = Partial::empty();
     partial.add(alloc, dominance, 2, cut, front)?;
-    let plain = add_plainly(alloc, dominance, 2, cut, &partial, back)?;
+    let plain = add_plainly(alloc, dominance, 2, cut, partial, back)?;
     partial.add(alloc, dominance, 2, cut, back)?;
-    Ok((partial, plain))
+    Ok(plain)
+}
+
+/// Compares what is held with what the plain merge makes, and with the levels of the whole.
+fn check_held(
+    rt: &impl Abort,
+    alloc: Global,
+    at: usize,
+    partial: &Partial,
+    plain: &[Ranked],
+    whole: &[Ranked],
+) -> Result<(), Fail> {
+    let held = partial.ranked(alloc)?;
+    assert_same_list(rt, ("plain, cut at", at), &held, plain);
+    assert_same_list(rt, ("whole, cut at", at), &held, whole);
+    Ok(())
 }
 
 /// Cut there, the two pieces make the levels of the whole.
-pub(super) fn check_cutting<D: Dominance>(
+fn check_cutting<D: Dominance>(
     rt: &impl Abort,
     alloc: Global,
     dominance: &D,
@@ -43,10 +60,28 @@ pub(super) fn check_cutting<D: Dominance>(
     requires { HaveDifferentIds entries.now }
 {
     let (front, back) = entries.split_at(at.min(entries.len()));
-    let (partial, plain) = added_in_two(alloc, dominance, cut, front, back)?;
-    let held = partial.ranked(alloc)?;
-    assert_same_list(rt, ("plain, cut at", at), &held, plain.as_slice());
-    assert_same_list(rt, ("whole, cut at", at), &held, whole);
+    let mut partial = Partial::empty();
+    let plain = add_in_two(alloc, dominance, cut, &mut partial, front, back)?;
+    check_held(rt, alloc, at, &partial, plain.as_slice(), whole)
+}
+
+/// The levels have as many entries as told, and two pieces make them too, cut at each of these places.
+pub(super) fn check_cuttings<D: Dominance>(
+    rt: &impl Abort,
+    alloc: Global,
+    dominance: &D,
+    cut: u32,
+    entries: &[Entry],
+    count: usize,
+    cuttings: &[usize],
+) -> Result<(), Fail>
+    requires { HaveDifferentIds entries.now }
+{
+    let whole = levels(alloc, dominance, 64, cut, entries)?;
+    assert_same(rt, ("rows on levels up to", cut), &whole.len(), &count);
+    for at in cuttings {
+        check_cutting(rt, alloc, dominance, cut, entries, &whole, *at)?;
+    }
     Ok(())
 }
 
@@ -61,8 +96,7 @@ fn check_every_cutting<D: Dominance>(
     requires { HaveDifferentIds entries.now }
 {
     let whole = levels(alloc, dominance, 1, cut, entries)?;
-    let found = places_of(alloc, &whole)?;
-    assert_same_list(rt, "uncut", found.as_slice(), places);
+    check_places(rt, alloc, "uncut", &whole, places)?;
     for at in 0..=entries.len() {
         check_cutting(rt, alloc, dominance, cut, entries, &whole, at)?;
     }
@@ -114,27 +148,26 @@ fn of_twins_the_one_with_the_least_id_stays(rt: HostRuntime) -> Result<(), Fail>
 }
 
 /// Three levels of a hundred rows, and behind them twenty rows that move each of these down one.
-fn levelled(alloc: Global) -> Result<Vec<(i64, i64)>, AllocError> {
+fn levelled(alloc: Global) -> Result<Vec<Entry>, TableFault>
+    ensures { IfOk result (λ entries. HaveDifferentIds entries.items) }
+{
     let mut rows = Vec::with_capacity(alloc, 320)?;
-    for i in 0..300_u32 {
-        let step = i % 100;
-        rows.push((i64::from(step), i64::from(320 + i / 100 - 3 * step)))?;
+    for i in 0..320_u32 {
+        let (step, above) = if i < 300 {
+            (i % 100, 20 + i / 100)
+        } else {
+            (5 * (i - 300), 0)
+        };
+        rows.push((i64::from(step), i64::from(300 + above - 3 * step)))?;
     }
-    for i in 0..20_u32 {
-        rows.push((i64::from(5 * i), i64::from(300 - 15 * i)))?;
-    }
-    Ok(rows)
+    numbered(alloc, &rows)
 }
 
 /// So many held rows that those which come are signed.
 #[test]
 fn three_levels_of_a_hundred_rows(rt: HostRuntime) -> Result<(), Fail> {
     let alloc = rt.alloc();
-    let rows = levelled(alloc)?;
-    let entries = numbered(alloc, &rows)?;
+    let entries = levelled(alloc)?;
     let ask = ask_of(alloc, b"top_level 3 low(x) * low(y)")?;
-    let whole = levels(alloc, &ask, 64, 3, &entries)?;
-    assert_same(&rt, "rows of three levels", &whole.len(), &220);
-    check_cutting(&rt, alloc, &ask, 3, &entries, &whole, 300)?;
-    check_cutting(&rt, alloc, &ask, 3, &entries, &whole, 310)
+    check_cuttings(&rt, alloc, &ask, 3, &entries, 220, &[300, 310])
 }

@@ -1,11 +1,15 @@
-//! Three small orders, and rows with the ids 1, 2, ..
+//! Three small orders, rows with the ids 1, 2, .., and what is found compared by ids and levels.
 ghost use Rattle.std.specs.Prelude.{IfOk};
 ghost use Rattle.pref_sky.specs.Levels.{HaveDifferentIds};
 
+use crate::same::assert_same_list;
 use pref_sky::{Entry, Ranked};
 use pref_table::{Row, Schema, TableFault};
 use pref_term::Dominance;
 use std::alloc::{AllocError, Global};
+use std::fmt::Debug;
+use std::process::Abort;
+use std::test::Fail;
 
 /// Nine rows, of which two are best.
 pub(crate) const PAIRS: [(i64, i64); 9] = [
@@ -118,10 +122,36 @@ pub(crate) fn ids_of(alloc: Global, entries: &[Entry]) -> Result<Vec<u64>, Alloc
     entries.iter().map(|entry| entry.id).collect(alloc)
 }
 
+/// Asserts that the entries that were found in a case have these ids.
+pub(crate) fn check_ids<C: Debug + Copy>(
+    rt: &impl Abort,
+    alloc: Global,
+    case: C,
+    entries: &[Entry],
+    ids: &[u64],
+) -> Result<(), Fail> {
+    let found = ids_of(alloc, entries)?;
+    assert_same_list(rt, case, found.as_slice(), ids);
+    Ok(())
+}
+
 /// The levels and ids of ranked entries.
-pub(crate) fn places_of(alloc: Global, ranked: &[Ranked]) -> Result<Vec<(u32, u64)>, AllocError> {
+fn places_of(alloc: Global, ranked: &[Ranked]) -> Result<Vec<(u32, u64)>, AllocError> {
     ranked
         .iter()
         .map(|entry| (entry.level, entry.id))
         .collect(alloc)
+}
+
+/// Asserts that the ranked entries that were found in a case have these levels and ids.
+pub(crate) fn check_places<C: Debug + Copy>(
+    rt: &impl Abort,
+    alloc: Global,
+    case: C,
+    ranked: &[Ranked],
+    places: &[(u32, u64)],
+) -> Result<(), Fail> {
+    let found = places_of(alloc, ranked)?;
+    assert_same_list(rt, case, found.as_slice(), places);
+    Ok(())
 }

@@ -1,51 +1,69 @@
 //! Rows that are compared within groups alone, and orders that follow one another.
-ghost use Rattle.std.specs.Prelude.{◌++◌};
+ghost use Rattle.std.specs.Prelude.{◌≡◌, ◌++◌, [], IfOk};
 ghost use Rattle.pref_sky.specs.Levels.{HaveDifferentIds};
 
 use super::answers::ask_of;
-use super::cuttings::check_cutting;
-use super::fixtures::{numbered, places_of};
-use crate::same::assert_same_list;
-use pref_sky::{Entry, Partial, levels};
+use super::cuttings::check_cuttings;
+use super::fixtures::{check_places, numbered};
+use pref_sky::{Entry, Partial};
+use pref_table::TableFault;
 use pref_term::Dominance;
 use std::alloc::{AllocError, Global};
 use std::process::Abort;
 use std::test::Fail;
 
 /// Three rows of each of four hundred groups, the best of each last.
-fn of_many_groups(alloc: Global) -> Result<Vec<(i64, i64)>, AllocError> {
+fn of_many_groups(alloc: Global) -> Result<Vec<Entry>, TableFault>
+    ensures { IfOk result (λ entries. HaveDifferentIds entries.items) }
+{
     let mut rows = Vec::with_capacity(alloc, 1200)?;
     for i in 0..1200_u32 {
         rows.push((i64::from(1200 - i), i64::from(i % 400)))?;
     }
-    Ok(rows)
+    numbered(alloc, &rows)
 }
 
 #[test]
 fn two_levels_of_many_groups(rt: HostRuntime) -> Result<(), Fail> {
     let alloc = rt.alloc();
-    let rows = of_many_groups(alloc)?;
-    let entries = numbered(alloc, &rows)?;
+    let entries = of_many_groups(alloc)?;
     let ask = ask_of(alloc, b"top_level 2 low(x) by y")?;
-    let whole = levels(alloc, &ask, 64, 2, &entries)?;
-    check_cutting(&rt, alloc, &ask, 2, &entries, &whole, 500)?;
-    check_cutting(&rt, alloc, &ask, 2, &entries, &whole, 1199)
+    check_cuttings(&rt, alloc, &ask, 2, &entries, 800, &[500, 1199])
 }
 
-/// What is held after two pieces, each added by an order of its own.
-fn added_by_two<D: Dominance, E: Dominance>(
+/// Adds two pieces to a partial result that holds nothing, each by an order of its own.
+fn add_by_two<D: Dominance, E: Dominance>(
     alloc: Global,
     first: &D,
     second: &E,
+    partial: &mut Partial,
     front: &[Entry],
     back: &[Entry],
-) -> Result<Partial, AllocError>
-    requires { HaveDifferentIds (front.now ++ back.now) }
+) -> Result<(), AllocError>
+    requires nothing { partial.old ≡ [] }
+    requires ids { HaveDifferentIds (front.now ++ back.now) }
 {
-    let mut partial = Partial::empty();
     partial.add(alloc, first, 2, 1, front)?;
-    partial.add(alloc, second, 2, 1, back)?;
-    Ok(partial)
+    partial.add(alloc, second, 2, 1, back)
+}
+
+/// To a partial result that holds nothing the first three entries are added by the first order, the others by the second one.
+fn check_added_by_two<D: Dominance, E: Dominance>(
+    rt: &impl Abort,
+    alloc: Global,
+    first: &D,
+    second: &E,
+    partial: &mut Partial,
+    entries: &[Entry],
+    places: &[(u32, u64)],
+) -> Result<(), Fail>
+    requires nothing { partial.old ≡ [] }
+    requires ids { HaveDifferentIds entries.now }
+{
+    let (front, back) = entries.split_at(entries.len().min(3));
+    add_by_two(alloc, first, second, partial, front, back)?;
+    let held = partial.ranked(alloc)?;
+    check_places(rt, alloc, "held", &held, places)
 }
 
 /// Of six rows the first three are added by the first order, by which all three are best, and then the others by the second one.
@@ -57,14 +75,11 @@ fn check_orders(
     rows: &[(i64, i64)],
     places: &[(u32, u64)],
 ) -> Result<(), Fail> {
+    let entries = numbered(alloc, rows)?;
     let first = ask_of(alloc, first)?;
     let second = ask_of(alloc, second)?;
-    let entries = numbered(alloc, rows)?;
-    let (front, back) = entries.as_slice().split_at(entries.len().min(3));
-    let partial = added_by_two(alloc, &first, &second, front, back)?;
-    let found = places_of(alloc, &partial.ranked(alloc)?)?;
-    assert_same_list(rt, "held", found.as_slice(), places);
-    Ok(())
+    let mut partial = Partial::empty();
+    check_added_by_two(rt, alloc, &first, &second, &mut partial, &entries, places)
 }
 
 /// The first three rows are best by either order.

@@ -1,10 +1,12 @@
 //! Windows and passes: the answer is the same by any window, the number of passes isn't.
-ghost use Rattle.std.specs.Prelude.{◌<◌};
+ghost use Rattle.std.specs.Prelude.{◌<◌, IfOk};
+ghost use Rattle.pref_sky.specs.Levels.{HaveDifferentIds};
 
-use super::fixtures::{LowBoth, ids_of, numbered};
+use super::fixtures::{LowBoth, check_ids, ids_of, numbered};
 use super::plain::best_rows_by_pairs;
-use crate::same::{assert_same, assert_same_list};
-use pref_sky::{Offer, Window, best_rows, best_rows_passes};
+use crate::same::assert_same;
+use pref_sky::{Entry, Offer, Window, best_rows, best_rows_passes};
+use pref_table::TableFault;
 use pref_term::Dominance;
 use std::alloc::Global;
 use std::process::Abort;
@@ -26,9 +28,70 @@ pub(super) fn check_passes<D: Dominance>(
 {
     let entries = numbered(alloc, rows)?;
     let (found, count) = best_rows_passes(alloc, dominance, window, &entries)?;
-    let found = ids_of(alloc, &found)?;
-    assert_same_list(rt, (rows, window), found.as_slice(), ids);
     assert_same(rt, (rows, window), &count, &passes);
+    check_ids(rt, alloc, (rows, window), &found, ids)
+}
+
+/// Offers entries to a window, each by an order of its own, and compares what comes of it.
+fn check_each_offer<D: Dominance>(
+    rt: &impl Abort,
+    window: &mut Window,
+    entries: &[Entry],
+    offers: &[(&D, Offer)],
+) {
+    for (entry, (dominance, outcome)) in entries.iter().zip(offers) {
+        let told = window.offer(*dominance, *entry);
+        assert_same(rt, ("id", entry.id), &told, outcome);
+    }
+}
+
+/// The same for the rows that are offered to a new window of this size.
+pub(super) fn check_offers<D: Dominance>(
+    rt: &impl Abort,
+    alloc: Global,
+    size: usize,
+    rows: &[(i64, i64)],
+    offers: &[(&D, Offer)],
+) -> Result<(), Fail>
+    requires { 0 < size }
+{
+    let entries = numbered(alloc, rows)?;
+    let mut window = Window::new(alloc, size)?;
+    check_each_offer(rt, &mut window, &entries, offers);
+    Ok(())
+}
+
+/// By this window the best rows have these ids.
+fn check_window<D: Dominance>(
+    rt: &impl Abort,
+    alloc: Global,
+    dominance: &D,
+    window: usize,
+    entries: &[Entry],
+    ids: &[u64],
+) -> Result<(), Fail>
+    requires window { 0 < window }
+    requires ids { HaveDifferentIds entries.now }
+{
+    let found = best_rows(alloc, dominance, window, entries)?;
+    check_ids(rt, alloc, ("window", window), &found, ids)
+}
+
+/// By windows of every size the best rows are those that comparing each with each finds, and these are as many as told.
+pub(super) fn check_windows<D: Dominance>(
+    rt: &impl Abort,
+    alloc: Global,
+    dominance: &D,
+    entries: &[Entry],
+    count: usize,
+) -> Result<(), Fail>
+    requires { HaveDifferentIds entries.now }
+{
+    let plain = ids_of(alloc, &best_rows_by_pairs(alloc, dominance, entries)?)?;
+    assert_same(rt, "best rows", &plain.len(), &count);
+    for window in [1, 2, 27, 64, 1000] {
+        check_window(rt, alloc, dominance, window, entries, plain.as_slice())?;
+    }
     Ok(())
 }
 
@@ -43,21 +106,15 @@ fn passes_of_small_tables(rt: HostRuntime) -> Result<(), Fail> {
 
 #[test]
 fn offers_to_a_full_window(rt: HostRuntime) -> Result<(), Fail> {
-    let alloc = rt.alloc();
-    let entries = numbered(alloc, &[(5, 5), (9, 1), (6, 6), (1, 1), (9, 1)])?;
-    let mut window = Window::new(alloc, 1)?;
-    let outcomes = [
-        Offer::Joined,
-        Offer::Overflow,
-        Offer::Dropped,
-        Offer::Joined,
-        Offer::Dropped,
+    let rows = [(5, 5), (9, 1), (6, 6), (1, 1), (9, 1)];
+    let offers = [
+        (&LowBoth, Offer::Joined),
+        (&LowBoth, Offer::Overflow),
+        (&LowBoth, Offer::Dropped),
+        (&LowBoth, Offer::Joined),
+        (&LowBoth, Offer::Dropped),
     ];
-    for (entry, outcome) in entries.iter().zip(outcomes) {
-        let told = window.offer(&LowBoth, *entry);
-        assert_same(&rt, ("id", entry.id), &told, &outcome);
-    }
-    Ok(())
+    check_offers(&rt, rt.alloc(), 1, &rows, &offers)
 }
 
 #[test]
@@ -65,19 +122,20 @@ fn equal_rows_are_all_best(rt: HostRuntime) -> Result<(), Fail> {
     check_passes(&rt, rt.alloc(), &LowBoth, &[(1, 2), (1, 2)], 1, &[1, 2], 2)
 }
 
-#[test]
-fn windows_of_every_size(rt: HostRuntime) -> Result<(), Fail> {
-    let alloc = rt.alloc();
+/// A thousand rows, of which 143 are best by [`LowBoth`].
+fn near_a_line(alloc: Global) -> Result<Vec<Entry>, TableFault>
+    ensures { IfOk result (λ entries. HaveDifferentIds entries.items) }
+{
     let mut rows = Vec::with_capacity(alloc, 1000)?;
     for i in 0..1000_u32 {
         rows.push((i64::from(i), i64::from(1700 - i + 10 * (i % 7))))?;
     }
-    let entries = numbered(alloc, &rows)?;
-    let plain = ids_of(alloc, &best_rows_by_pairs(alloc, &LowBoth, &entries)?)?;
-    assert_same(&rt, "many rows", &(plain.len() > 100), &true);
-    for window in [1, 2, 64, 1000] {
-        let found = ids_of(alloc, &best_rows(alloc, &LowBoth, window, &entries)?)?;
-        assert_same_list(&rt, ("window", window), found.as_slice(), plain.as_slice());
-    }
-    Ok(())
+    numbered(alloc, &rows)
+}
+
+#[test]
+fn windows_of_every_size(rt: HostRuntime) -> Result<(), Fail> {
+    let alloc = rt.alloc();
+    let entries = near_a_line(alloc)?;
+    check_windows(&rt, alloc, &LowBoth, &entries, 143)
 }

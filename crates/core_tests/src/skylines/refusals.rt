@@ -1,18 +1,31 @@
 //! Requests for memory that are refused. `tests/refuse_each_allocation.sh` runs these tests once for each of their requests,
 //! and refuses it; where none is refused they show that the calls succeed.
-ghost use Rattle.std.specs.Prelude.{◌≡◌, ◌++◌, List, map, OnOk};
+ghost use Rattle.std.specs.Prelude.{◌≡◌, ◌++◌, [], List, map, OnOk};
 ghost use Rattle.pref_sky.specs.Levels.{HaveDifferentIds, entry_of, entry_order, levels};
 ghost use Rattle.pref_sky.specs.declared.entry.Entry.{Entry};
 
 use super::answers::ask_of;
-use super::cuttings::added_in_two;
-use super::fixtures::{LowBoth, LowOnce, PAIRS, falling, numbered, places_of};
+use super::cuttings::add_in_two;
+use super::fixtures::{LowBoth, LowOnce, PAIRS, check_places, falling, numbered};
 use crate::same::{assert_same, assert_same_list};
 use pref_sky::{Entry, Partial, Ranked, answer, levels};
-use pref_term::Dominance;
+use pref_term::{Ask, Dominance};
 use std::alloc::Global;
 use std::process::Abort;
 use std::test::Fail;
+
+/// Asserts that what is held at this time is as it must be.
+fn check_held(
+    rt: &impl Abort,
+    alloc: Global,
+    time: &str,
+    partial: &Partial,
+    held: &[Ranked],
+) -> Result<(), Fail> {
+    let found = partial.ranked(alloc)?;
+    assert_same_list(rt, time, found.as_slice(), held);
+    Ok(())
+}
 
 /// Adds entries that were refused before, when what is held must have stayed: now they are not.
 fn add_again<D: Dominance>(
@@ -28,7 +41,7 @@ fn add_again<D: Dominance>(
         → partial.old ≡ levels (entry_order (D.order dominance.now)) before 2
         → partial.new ≡ levels (entry_order (D.order dominance.now)) (before ++ entries.now) 2) }
 {
-    assert_same_list(rt, "refused", &partial.ranked(alloc)?, held);
+    check_held(rt, alloc, "refused", partial, held)?;
     let again = partial.add(alloc, dominance, 1, 2, entries);
     assert_same(rt, "again", &again.is_ok(), &true);
     again?;
@@ -49,11 +62,30 @@ fn add_in_the_end<D: Dominance>(
         → partial.old ≡ levels (entry_order (D.order dominance.now)) before 2
         → partial.new ≡ levels (entry_order (D.order dominance.now)) (before ++ entries.now) 2) }
 {
-    assert_same_list(rt, "before", &partial.ranked(alloc)?, held);
+    check_held(rt, alloc, "before", partial, held)?;
     match partial.add(alloc, dominance, 1, 2, entries) {
         Ok(()) => Ok(()),
         Err(_) => add_again(rt, alloc, dominance, partial, held, entries),
     }
+}
+
+/// Adds two pieces to a partial result that holds nothing, each again where it was refused: then it holds both.
+fn check_two_adds<D: Dominance>(
+    rt: &impl Abort,
+    alloc: Global,
+    dominance: &D,
+    partial: &mut Partial,
+    front: &[Entry],
+    back: &[Entry],
+    both: &[Ranked],
+) -> Result<(), Fail>
+    requires nothing { partial.old ≡ [] }
+    requires ids { HaveDifferentIds (front.now ++ back.now) }
+{
+    let first = levels(alloc, dominance, 1, 2, front)?;
+    add_in_the_end(rt, alloc, dominance, partial, &[], front)?;
+    add_in_the_end(rt, alloc, dominance, partial, &first, back)?;
+    check_held(rt, alloc, "both", partial, both)
 }
 
 /// Adds entries in two pieces, each again where it was refused: then it holds the first two levels of all.
@@ -61,18 +93,15 @@ fn check_refused<D: Dominance>(
     rt: &impl Abort,
     alloc: Global,
     dominance: &D,
-    front: &[Entry],
-    back: &[Entry],
-    both: &[Ranked],
+    entries: &[Entry],
+    at: usize,
 ) -> Result<(), Fail>
-    requires { HaveDifferentIds (front.now ++ back.now) }
+    requires { HaveDifferentIds entries.now }
 {
-    let first = levels(alloc, dominance, 1, 2, front)?;
+    let both = levels(alloc, dominance, 1, 2, entries)?;
+    let (front, back) = entries.split_at(at.min(entries.len()));
     let mut partial = Partial::empty();
-    add_in_the_end(rt, alloc, dominance, &mut partial, &[], front)?;
-    add_in_the_end(rt, alloc, dominance, &mut partial, &first, back)?;
-    assert_same_list(rt, "both", &partial.ranked(alloc)?, both);
-    Ok(())
+    check_two_adds(rt, alloc, dominance, &mut partial, front, back, &both)
 }
 
 #[test]
@@ -80,9 +109,7 @@ fn a_refused_add_changes_nothing_and_is_made_again(rt: HostRuntime) -> Result<()
     let alloc = rt.alloc();
     let rows = [(5, 5), (9, 1), (7, 7), (8, 8), (1, 9), (4, 5), (9, 9)];
     let entries = numbered(alloc, &rows)?;
-    let both = levels(alloc, &LowBoth, 1, 2, &entries)?;
-    let (front, back) = entries.as_slice().split_at(entries.len().min(4));
-    check_refused(&rt, alloc, &LowBoth, front, back, &both)
+    check_refused(&rt, alloc, &LowBoth, &entries, 4)
 }
 
 /// The twin that stays comes in the second piece.
@@ -91,9 +118,7 @@ fn a_refused_add_of_twins_changes_nothing_and_is_made_again(rt: HostRuntime) -> 
     let alloc = rt.alloc();
     let rows = [(5, 1), (7, 1), (5, 2), (7, 2), (5, 3), (7, 3)];
     let entries = falling(alloc, &rows)?;
-    let both = levels(alloc, &LowOnce, 1, 2, &entries)?;
-    let (front, back) = entries.as_slice().split_at(entries.len().min(3));
-    check_refused(&rt, alloc, &LowOnce, front, back, &both)
+    check_refused(&rt, alloc, &LowOnce, &entries, 3)
 }
 
 /// Rows in parts by their groups: what is planned for the first of them is not made where the last one's plan is refused.
@@ -102,31 +127,53 @@ fn a_refused_add_to_several_groups_changes_nothing_and_is_made_again(
     rt: HostRuntime,
 ) -> Result<(), Fail> {
     let alloc = rt.alloc();
-    let ask = ask_of(alloc, b"top_level 2 low(x) by y")?;
     let rows = [(5, 1), (5, 2), (7, 3), (4, 1), (9, 2), (3, 3), (2, 1)];
     let entries = numbered(alloc, &rows)?;
-    let both = levels(alloc, &ask, 1, 2, &entries)?;
-    let (front, back) = entries.as_slice().split_at(entries.len().min(3));
-    check_refused(&rt, alloc, &ask, front, back, &both)
+    let ask = ask_of(alloc, b"top_level 2 low(x) by y")?;
+    check_refused(&rt, alloc, &ask, &entries, 3)
+}
+
+/// An answer, made again where it was refused: what is held must have stayed.
+fn answer_in_the_end(
+    rt: &impl Abort,
+    alloc: Global,
+    ask: &Ask,
+    partial: &Partial,
+) -> Result<Vec<Ranked>, Fail> {
+    let held = partial.ranked(alloc)?;
+    match answer(alloc, ask, partial) {
+        Ok(ranked) => Ok(ranked),
+        Err(_) => {
+            check_held(rt, alloc, "refused", partial, held.as_slice())?;
+            Ok(answer(alloc, ask, partial).expect(rt, "memory"))
+        }
+    }
+}
+
+/// The answer of all entries, of which the first four are added before the others to a partial result that holds nothing.
+fn check_refused_answer(
+    rt: &impl Abort,
+    alloc: Global,
+    ask: &Ask,
+    partial: &mut Partial,
+    entries: &[Entry],
+    places: &[(u32, u64)],
+) -> Result<(), Fail>
+    requires nothing { partial.old ≡ [] }
+    requires ids { HaveDifferentIds entries.now }
+{
+    let (front, back) = entries.split_at(entries.len().min(4));
+    add_in_two(alloc, ask, ask.cut(), partial, front, back)?;
+    let ranked = answer_in_the_end(rt, alloc, ask, partial)?;
+    check_places(rt, alloc, "answer", &ranked, places)
 }
 
 #[test]
 fn a_refused_answer_changes_nothing_and_is_made_again(rt: HostRuntime) -> Result<(), Fail> {
     let alloc = rt.alloc();
-    let ask = ask_of(alloc, b"at_least 5 low(x) * low(y)")?;
     let entries = numbered(alloc, &PAIRS)?;
-    let (front, back) = entries.as_slice().split_at(entries.len().min(4));
-    let (partial, _) = added_in_two(alloc, &ask, ask.cut(), front, back)?;
-    let held = partial.ranked(alloc)?;
-    let ranked = match answer(alloc, &ask, &partial) {
-        Ok(ranked) => ranked,
-        Err(_) => {
-            assert_same_list(&rt, "refused", &partial.ranked(alloc)?, &held);
-            answer(alloc, &ask, &partial).expect(&rt, "memory")
-        }
-    };
+    let ask = ask_of(alloc, b"at_least 5 low(x) * low(y)")?;
     let places = [(1, 1), (1, 7), (2, 6), (2, 8), (3, 9)];
-    let found = places_of(alloc, &ranked)?;
-    assert_same_list(&rt, "answer", found.as_slice(), places.as_slice());
-    Ok(())
+    let mut partial = Partial::empty();
+    check_refused_answer(&rt, alloc, &ask, &mut partial, &entries, &places)
 }

@@ -1,10 +1,15 @@
 //! Rows that are the same under an ask: all of them are kept, by any window and on each level.
+ghost use Rattle.std.specs.Prelude.{◌<◌, IfOk};
+ghost use Rattle.pref_sky.specs.Levels.{HaveDifferentIds};
+
 use super::answers::{ask_of, check_answer};
-use super::fixtures::{ids_of, numbered};
-use super::passes::check_passes;
-use super::plain::best_rows_by_pairs;
-use crate::same::{assert_same, assert_same_list};
-use pref_sky::{Offer, Window, best_rows};
+use super::fixtures::numbered;
+use super::passes::{check_offers, check_passes, check_windows};
+use pref_sky::{Entry, Offer};
+use pref_table::TableFault;
+use pref_term::Ask;
+use std::alloc::Global;
+use std::process::Abort;
 use std::test::Fail;
 
 /// Nine hotels with their stars, of which six have the most.
@@ -20,21 +25,26 @@ const RATED: [(i64, i64); 9] = [
     (5, 9),
 ];
 
+fn check_six_ties(rt: &impl Abort, alloc: Global, rated: &Ask) -> Result<(), Fail> {
+    let ids = [1, 3, 4, 6, 7, 9];
+    check_passes(rt, alloc, rated, &RATED, 1, &ids, 6)?;
+    check_passes(rt, alloc, rated, &RATED, 2, &ids, 3)?;
+    check_passes(rt, alloc, rated, &RATED, 4, &ids, 2)?;
+    check_passes(rt, alloc, rated, &RATED, 64, &ids, 1)
+}
+
+fn check_nine_ties(rt: &impl Abort, alloc: Global, alike: &Ask) -> Result<(), Fail> {
+    let ids = [1, 2, 3, 4, 5, 6, 7, 8, 9];
+    check_passes(rt, alloc, alike, &RATED, 2, &ids, 5)?;
+    check_passes(rt, alloc, alike, &RATED, 4, &ids, 3)?;
+    check_passes(rt, alloc, alike, &RATED, 9, &ids, 1)
+}
+
 #[test]
 fn ties_in_windows_smaller_than_the_ties(rt: HostRuntime) -> Result<(), Fail> {
     let alloc = rt.alloc();
-    let rated = ask_of(alloc, b"best high(x)")?;
-    let ids = [1, 3, 4, 6, 7, 9];
-    check_passes(&rt, alloc, &rated, &RATED, 1, &ids, 6)?;
-    check_passes(&rt, alloc, &rated, &RATED, 2, &ids, 3)?;
-    check_passes(&rt, alloc, &rated, &RATED, 4, &ids, 2)?;
-    check_passes(&rt, alloc, &rated, &RATED, 64, &ids, 1)?;
-
-    let alike = ask_of(alloc, b"best pos(x, 9)")?;
-    let ids = [1, 2, 3, 4, 5, 6, 7, 8, 9];
-    check_passes(&rt, alloc, &alike, &RATED, 2, &ids, 5)?;
-    check_passes(&rt, alloc, &alike, &RATED, 4, &ids, 3)?;
-    check_passes(&rt, alloc, &alike, &RATED, 9, &ids, 1)
+    check_six_ties(&rt, alloc, &ask_of(alloc, b"best high(x)")?)?;
+    check_nine_ties(&rt, alloc, &ask_of(alloc, b"best pos(x, 9)")?)
 }
 
 #[test]
@@ -64,60 +74,46 @@ fn ties_on_each_level(rt: HostRuntime) -> Result<(), Fail> {
     check_answer(&rt, alloc, b"at_least 7 high(x)", &RATED, &two_levels)
 }
 
+/// A thousand rows, of which all that are alike in the remainders by these numbers are equal.
+fn remainders(alloc: Global, by_x: u32, by_y: u32) -> Result<Vec<Entry>, TableFault>
+    requires x { 0 < by_x }
+    requires y { 0 < by_y }
+    ensures { IfOk result (λ entries. HaveDifferentIds entries.items) }
+{
+    let mut rows = Vec::with_capacity(alloc, 1000)?;
+    for i in 0..1000_u32 {
+        rows.push((i64::from(i % by_x), i64::from(i % by_y)))?;
+    }
+    numbered(alloc, &rows)
+}
+
 #[test]
 fn many_ties_by_windows_of_every_size(rt: HostRuntime) -> Result<(), Fail> {
     let alloc = rt.alloc();
-    let mut rows = Vec::with_capacity(alloc, 1000)?;
-    for i in 0..1000_u32 {
-        rows.push((i64::from(i % 5), i64::from(i % 7)))?;
-    }
-    let entries = numbered(alloc, &rows)?;
+    let entries = remainders(alloc, 5, 7)?;
     let ask = ask_of(alloc, b"best high(x) * around(y, 3)")?;
-    let plain = ids_of(alloc, &best_rows_by_pairs(alloc, &ask, &entries)?)?;
-    assert_same(&rt, "ties", &plain.len(), &28);
-    for window in [1, 2, 27, 1000] {
-        let found = ids_of(alloc, &best_rows(alloc, &ask, window, &entries)?)?;
-        assert_same_list(&rt, ("window", window), found.as_slice(), plain.as_slice());
-    }
-    Ok(())
+    check_windows(&rt, alloc, &ask, &entries, 28)
 }
 
 /// By y all three are the same, so the window takes the first two, of which the second dominates the first by x.
 #[test]
 fn an_offer_by_another_order(rt: HostRuntime) -> Result<(), Fail> {
     let alloc = rt.alloc();
-    let entries = numbered(alloc, &[(2, 0), (1, 0), (2, 0)])?;
     let by_x = ask_of(alloc, b"best low(x)")?;
     let by_y = ask_of(alloc, b"best low(y)")?;
-    let mut window = Window::new(alloc, 3)?;
     let offers = [
         (&by_y, Offer::Joined),
         (&by_y, Offer::Joined),
         (&by_x, Offer::Dropped),
     ];
-    for (entry, (ask, outcome)) in entries.iter().zip(offers) {
-        let told = window.offer(ask, *entry);
-        assert_same(&rt, ("id", entry.id), &told, &outcome);
-    }
-    Ok(())
+    check_offers(&rt, alloc, 3, &[(2, 0), (1, 0), (2, 0)], &offers)
 }
 
 /// Ten times each of a hundred rows, of which all are in the front: by any window one of each is best.
 #[test]
 fn one_of_many_equal_rows_by_any_window(rt: HostRuntime) -> Result<(), Fail> {
     let alloc = rt.alloc();
+    let entries = remainders(alloc, 100, 100)?;
     let ask = ask_of(alloc, b"skyline of distinct x min, y max")?;
-    let mut rows = Vec::with_capacity(alloc, 1000)?;
-    for i in 0..1000_i64 {
-        let n = i % 100;
-        rows.push((n, n))?;
-    }
-    let entries = numbered(alloc, &rows)?;
-    let plain = ids_of(alloc, &best_rows_by_pairs(alloc, &ask, &entries)?)?;
-    assert_same(&rt, "one of each", &plain.len(), &100);
-    for window in [1, 2, 64, 1000] {
-        let found = ids_of(alloc, &best_rows(alloc, &ask, window, &entries)?)?;
-        assert_same_list(&rt, ("window", window), found.as_slice(), plain.as_slice());
-    }
-    Ok(())
+    check_windows(&rt, alloc, &ask, &entries, 100)
 }
