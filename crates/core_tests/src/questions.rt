@@ -8,31 +8,60 @@ mod showing;
 mod signatures;
 
 use crate::same::{assert_same, assert_same_list, assert_same_text};
-use pref_table::{Row, Schema};
+use pref_table::{Row, Schema, TableFault};
 use pref_term::{
-    Dominance, Mode, Numbers, Relation, Term, TermFault, better, compare, in_same_group, read_ask,
-    same,
+    Ask, Dominance, Mode, Numbers, Relation, Term, TermFault, better, compare, in_same_group,
+    read_ask, same,
 };
-use std::alloc::Global;
+use std::alloc::{AllocError, Global};
 use std::process::Abort;
 use std::test::Fail;
 
+const X: [&[u8]; 1] = [b"x"];
+
+const XY: [&[u8]; 2] = [b"x", b"y"];
+
+const XYZ: [&[u8]; 3] = [b"x", b"y", b"z"];
+
+const XYG: [&[u8]; 3] = [b"x", b"y", b"g"];
+
+/// The question that a text spells over these columns.
+fn ask_over(alloc: Global, names: &[&[u8]], text: &[u8]) -> Result<Ask, TermFault> {
+    match Schema::new(alloc, names) {
+        Ok(schema) => read_ask(alloc, &schema, text),
+        Err(_) => Err(TermFault::OutOfMemory),
+    }
+}
+
+/// The row of these cells over these columns.
+fn row_over(alloc: Global, names: &[&[u8]], cells: &[i64]) -> Result<Row, TableFault> {
+    let schema = Schema::new(alloc, names)?;
+    Row::of(&schema, cells)
+}
+
+/// What is wrong with a text over these columns.
+fn fault_over(alloc: Global, names: &[&[u8]], text: &[u8]) -> Option<TermFault> {
+    ask_over(alloc, names, text).err()
+}
+
 /// What is wrong with a text over the column x.
 fn fault(alloc: Global, text: &[u8]) -> Option<TermFault> {
-    let names = [b"x".as_slice()];
-    match Schema::new(alloc, names.as_slice()) {
-        Ok(schema) => read_ask(alloc, &schema, text).err(),
-        Err(_) => Some(TermFault::OutOfMemory),
+    fault_over(alloc, &X, text)
+}
+
+/// Texts over these columns, and the fault of each.
+fn check_refused(rt: &impl Abort, alloc: Global, names: &[&[u8]], cases: &[(&str, TermFault)]) {
+    for (text, wanted) in cases {
+        let found = fault_over(alloc, names, text.as_bytes());
+        assert_same(rt, *text, &found.as_ref(), &Some(wanted));
     }
 }
 
 /// How two rows over the columns x, y and z compare by a question.
 fn standing(alloc: Global, text: &[u8], a: &[i64; 3], b: &[i64; 3]) -> Result<Relation, Fail> {
-    let names = [b"x".as_slice(), b"y".as_slice(), b"z".as_slice()];
-    let schema = Schema::new(alloc, names.as_slice())?;
-    let ask = read_ask(alloc, &schema, text)?;
-    let first = Row::of(&schema, a.as_slice())?;
-    let second = Row::of(&schema, b.as_slice())?;
+    let first = row_over(alloc, &XYZ, a)?;
+    let second = row_over(alloc, &XYZ, b)?;
+    let ask = ask_over(alloc, &XYZ, text)?;
     Ok(ask.compare(&first, &second))
 }
 
@@ -49,6 +78,22 @@ fn check_standings(
     Ok(())
 }
 
+/// Whether two questions over these columns are equal.
+fn are_equal(
+    alloc: Global,
+    names: &[&[u8]],
+    first: &[u8],
+    second: &[u8],
+) -> Result<bool, TermFault> {
+    let ask = ask_over(alloc, names, first)?;
+    Ok(ask == ask_over(alloc, names, second)?)
+}
+
+/// A set of these numbers.
+fn set_of(alloc: Global, numbers: &[i64]) -> Result<Numbers, AllocError> {
+    Ok(Numbers::of(numbers.to_vec(alloc)?))
+}
+
 /// `best `, this many minus signs, `low(x)`.
 fn negated(alloc: Global, times: usize) -> Result<Vec<u8>, Fail> {
     let mut text = b"best ".to_vec(alloc)?;
@@ -59,36 +104,45 @@ fn negated(alloc: Global, times: usize) -> Result<Vec<u8>, Fail> {
     Ok(text)
 }
 
+/// What is wrong with a question behind this many minus signs.
+fn fault_of_negated(alloc: Global, times: usize) -> Result<Option<TermFault>, Fail> {
+    Ok(fault(alloc, negated(alloc, times)?.as_slice()))
+}
+
+/// How a row compares by such a question with one that holds a larger number.
+fn standing_of_negated(alloc: Global, times: usize) -> Result<Relation, Fail> {
+    let text = negated(alloc, times)?;
+    standing(alloc, text.as_slice(), &[1, 0, 0], &[2, 0, 0])
+}
+
+const REFUSED: [(&str, TermFault); 16] = [
+    ("best low(z)", TermFault::UnknownColumn { at: 9 }),
+    ("best low(z", TermFault::UnknownColumn { at: 9 }),
+    ("best low(x", TermFault::Unexpected { at: 10 }),
+    ("at_least 0 low(x)", TermFault::BadCount { at: 9 }),
+    ("top_level 1001 low(x)", TermFault::BadCount { at: 10 }),
+    ("skyline of x diff", TermFault::NoMinOrMax),
+    ("best low(x) +", TermFault::Unexpected { at: 12 }),
+    ("", TermFault::Unexpected { at: 0 }),
+    (
+        "best around(x, -9223372036854775809)",
+        TermFault::NumberRange { at: 15 },
+    ),
+    (
+        "best around(x, 9223372036854775808)",
+        TermFault::NumberRange { at: 15 },
+    ),
+    ("best low(x) by", TermFault::Unexpected { at: 14 }),
+    ("best low(x) by x,", TermFault::Unexpected { at: 17 }),
+    ("best low(z) +", TermFault::UnknownColumn { at: 9 }),
+    ("Best low(x)", TermFault::Unexpected { at: 0 }),
+    ("best pos(x)", TermFault::Unexpected { at: 10 }),
+    ("skyline of z min", TermFault::UnknownColumn { at: 11 }),
+];
+
 #[test]
 fn refused_at_their_token(rt: HostRuntime) {
-    let cases = [
-        ("best low(z)", TermFault::UnknownColumn { at: 9 }),
-        ("best low(z", TermFault::UnknownColumn { at: 9 }),
-        ("best low(x", TermFault::Unexpected { at: 10 }),
-        ("at_least 0 low(x)", TermFault::BadCount { at: 9 }),
-        ("top_level 1001 low(x)", TermFault::BadCount { at: 10 }),
-        ("skyline of x diff", TermFault::NoMinOrMax),
-        ("best low(x) +", TermFault::Unexpected { at: 12 }),
-        ("", TermFault::Unexpected { at: 0 }),
-        (
-            "best around(x, -9223372036854775809)",
-            TermFault::NumberRange { at: 15 },
-        ),
-        (
-            "best around(x, 9223372036854775808)",
-            TermFault::NumberRange { at: 15 },
-        ),
-        ("best low(x) by", TermFault::Unexpected { at: 14 }),
-        ("best low(x) by x,", TermFault::Unexpected { at: 17 }),
-        ("best low(z) +", TermFault::UnknownColumn { at: 9 }),
-        ("Best low(x)", TermFault::Unexpected { at: 0 }),
-        ("best pos(x)", TermFault::Unexpected { at: 10 }),
-        ("skyline of z min", TermFault::UnknownColumn { at: 11 }),
-    ];
-    for (text, wanted) in cases {
-        let found = fault(rt.alloc(), text.as_bytes());
-        assert_same(&rt, text, &found, &Some(wanted));
-    }
+    check_refused(&rt, rt.alloc(), &X, &REFUSED);
 }
 
 #[test]
@@ -110,311 +164,356 @@ fn accepted(rt: HostRuntime) {
     }
 }
 
+const NESTINGS: [(&str, usize, Option<TermFault>); 2] = [
+    ("64 signs", 64, None),
+    ("65 signs", 65, Some(TermFault::TooDeep { at: 69 })),
+];
+
 #[test]
 fn the_65th_nesting_is_too_deep(rt: HostRuntime) -> Result<(), Fail> {
-    let alloc = rt.alloc();
-    let deepest = negated(alloc, 64)?;
-    assert_same(&rt, "64 signs", &fault(alloc, deepest.as_slice()), &None);
-    let relation = standing(alloc, deepest.as_slice(), &[1, 0, 0], &[2, 0, 0])?;
+    for (case, times, wanted) in &NESTINGS {
+        let told = fault_of_negated(rt.alloc(), *times)?;
+        assert_same(&rt, *case, &told, wanted);
+    }
+    let relation = standing_of_negated(rt.alloc(), 64)?;
     assert_same(&rt, "rows", &relation, &Relation::Better);
-    let deeper = negated(alloc, 65)?;
-    let told = fault(alloc, deeper.as_slice());
-    assert_same(&rt, "65 signs", &told, &Some(TermFault::TooDeep { at: 69 }));
     Ok(())
+}
+
+/// What is wrong with a text of this many plus signs.
+fn fault_of_plus_signs(alloc: Global, count: usize) -> Result<Option<TermFault>, Fail> {
+    let text = vec![in alloc; b'+'; count]?;
+    Ok(fault(alloc, text.as_slice()))
 }
 
 #[test]
 fn a_longer_text_is_too_long_whatever_it_holds(rt: HostRuntime) -> Result<(), Fail> {
-    let mut text = Vec::new(rt.alloc());
-    for _ in 0..4_096 {
-        text.push(b'+')?;
-    }
-    let told = fault(rt.alloc(), text.as_slice());
-    assert_same(
-        &rt,
-        "4096 bytes",
-        &told,
-        &Some(TermFault::Unexpected { at: 0 }),
-    );
-    text.push(b'+')?;
-    let told = fault(rt.alloc(), text.as_slice());
+    let told = fault_of_plus_signs(rt.alloc(), 4_096)?;
+    let wanted = Some(TermFault::Unexpected { at: 0 });
+    assert_same(&rt, "4096 bytes", &told, &wanted);
+    let told = fault_of_plus_signs(rt.alloc(), 4_097)?;
     assert_same(&rt, "4097 bytes", &told, &Some(TermFault::TooLong));
     Ok(())
 }
 
+/// A question has this mode, this cut and this group.
+fn check_parts(rt: &impl Abort, ask: &Ask, case: &(&str, Mode, u32, &[usize])) {
+    let (text, mode, cut, group) = *case;
+    assert_same(rt, text, &(ask.mode(), ask.cut()), &(mode, cut));
+    assert_same_list(rt, text, ask.group(), group);
+}
+
+const COLUMNS_CALLED_AS_WORDS: [(&str, Mode, u32, &[usize]); 2] = [
+    (
+        "at_least 7 low(low) * high(end) by by, min",
+        Mode::AtLeast(7),
+        7,
+        &[1, 2],
+    ),
+    ("skyline of min min, low DIFF, end Max", Mode::Best, 1, &[0]),
+];
+
 #[test]
 fn a_word_is_a_column_where_a_column_stands(rt: HostRuntime) -> Result<(), Fail> {
-    let alloc = rt.alloc();
-    let names = [
-        b"low".as_slice(),
-        b"by".as_slice(),
-        b"min".as_slice(),
-        b"end".as_slice(),
-    ];
-    let schema = Schema::new(alloc, names.as_slice())?;
-    let cases: [(&str, Mode, u32, &[usize]); 2] = [
-        (
-            "at_least 7 low(low) * high(end) by by, min",
-            Mode::AtLeast(7),
-            7,
-            &[1, 2],
-        ),
-        ("skyline of min min, low DIFF, end Max", Mode::Best, 1, &[0]),
-    ];
-    for (text, mode, cut, group) in cases {
-        let ask = read_ask(alloc, &schema, text.as_bytes())?;
-        assert_same(&rt, text, &(ask.mode(), ask.cut()), &(mode, cut));
-        assert_same_list(&rt, text, ask.group(), group);
+    let names: [&[u8]; 4] = [b"low", b"by", b"min", b"end"];
+    for case in &COLUMNS_CALLED_AS_WORDS {
+        let ask = ask_over(rt.alloc(), &names, case.0.as_bytes())?;
+        check_parts(&rt, &ask, case);
     }
     Ok(())
 }
+
+const STANDINGS: [(&str, [i64; 3], [i64; 3], Relation); 12] = [
+    ("best low(x) * low(y)", [1, 2, 0], [1, 2, 9], Relation::Same),
+    (
+        "best around(x, 9223372036854775807)",
+        [i64::MIN + 1, 0, 0],
+        [i64::MIN, 0, 0],
+        Relation::Better,
+    ),
+    (
+        "best low(x) & low(y) * low(z)",
+        [0, 9, 9],
+        [1, 5, 5],
+        Relation::Better,
+    ),
+    (
+        "best (low(x) & low(y)) * low(z)",
+        [0, 9, 9],
+        [1, 5, 5],
+        Relation::Neither,
+    ),
+    (
+        "best -(low(x) * high(y))",
+        [1, 9, 0],
+        [3, 7, 0],
+        Relation::Worse,
+    ),
+    (
+        "best pos(x, 2, 5) & low(y)",
+        [2, 7, 0],
+        [1, 0, 0],
+        Relation::Better,
+    ),
+    (
+        "best pos(x, 2, 5) & low(y)",
+        [2, 7, 0],
+        [5, 6, 0],
+        Relation::Worse,
+    ),
+    (
+        "best (low(x) * low(y)) & low(z)",
+        [1, 2, 0],
+        [2, 1, 9],
+        Relation::Neither,
+    ),
+    (
+        "best reverse(low(x) & low(y))",
+        [1, 5, 0],
+        [1, 6, 0],
+        Relation::Worse,
+    ),
+    ("best low(x) by z", [1, 0, 1], [2, 0, 2], Relation::Neither),
+    (
+        "skyline of x min, z diff",
+        [1, 0, 1],
+        [2, 0, 1],
+        Relation::Better,
+    ),
+    ("best high(x)", [1, 0, 0], [2, 0, 0], Relation::Worse),
+];
 
 #[test]
 fn rows_stand_by_the_question(rt: HostRuntime) -> Result<(), Fail> {
-    let least = i64::MIN;
-    let cases = [
-        ("best low(x) * low(y)", [1, 2, 0], [1, 2, 9], Relation::Same),
-        (
-            "best around(x, 9223372036854775807)",
-            [least + 1, 0, 0],
-            [least, 0, 0],
-            Relation::Better,
-        ),
-        (
-            "best low(x) & low(y) * low(z)",
-            [0, 9, 9],
-            [1, 5, 5],
-            Relation::Better,
-        ),
-        (
-            "best (low(x) & low(y)) * low(z)",
-            [0, 9, 9],
-            [1, 5, 5],
-            Relation::Neither,
-        ),
-        (
-            "best -(low(x) * high(y))",
-            [1, 9, 0],
-            [3, 7, 0],
-            Relation::Worse,
-        ),
-        (
-            "best pos(x, 2, 5) & low(y)",
-            [2, 7, 0],
-            [1, 0, 0],
-            Relation::Better,
-        ),
-        (
-            "best pos(x, 2, 5) & low(y)",
-            [2, 7, 0],
-            [5, 6, 0],
-            Relation::Worse,
-        ),
-        (
-            "best (low(x) * low(y)) & low(z)",
-            [1, 2, 0],
-            [2, 1, 9],
-            Relation::Neither,
-        ),
-        (
-            "best reverse(low(x) & low(y))",
-            [1, 5, 0],
-            [1, 6, 0],
-            Relation::Worse,
-        ),
-        ("best low(x) by z", [1, 0, 1], [2, 0, 2], Relation::Neither),
-        (
-            "skyline of x min, z diff",
-            [1, 0, 1],
-            [2, 0, 1],
-            Relation::Better,
-        ),
-        ("best high(x)", [1, 0, 0], [2, 0, 0], Relation::Worse),
-    ];
-    check_standings(&rt, rt.alloc(), &cases)
+    check_standings(&rt, rt.alloc(), &STANDINGS)
 }
 
+const WALKS: [(&str, [i64; 2], [i64; 2], (bool, bool, bool, bool)); 5] = [
+    (
+        "best low(x) & high(y)",
+        [1, 2],
+        [1, 1],
+        (true, false, false, true),
+    ),
+    (
+        "best low(x) & high(y)",
+        [1, 2],
+        [1, 2],
+        (false, false, true, false),
+    ),
+    (
+        "best low(x) * low(y)",
+        [1, 2],
+        [2, 1],
+        (false, false, false, false),
+    ),
+    (
+        "best low(x) by y",
+        [1, 2],
+        [2, 2],
+        (true, false, false, true),
+    ),
+    (
+        "best low(x) by y",
+        [1, 2],
+        [2, 1],
+        (true, false, false, false),
+    ),
+];
+
 /// Of two rows: whether the first is better, worse and the same by the term, and whether it dominates the second by the question.
+fn read_off(ask: &Ask, a: &Row, b: &Row) -> (bool, bool, bool, bool) {
+    let term = ask.term();
+    (
+        better(term, a, b),
+        better(term, b, a),
+        same(term, a, b),
+        ask.over(a, b),
+    )
+}
+
+/// The same by the text of a question over the columns x and y.
+fn read_off_text(
+    alloc: Global,
+    text: &[u8],
+    first: &[i64],
+    second: &[i64],
+) -> Result<(bool, bool, bool, bool), Fail> {
+    let a = row_over(alloc, &XY, first)?;
+    let b = row_over(alloc, &XY, second)?;
+    let ask = ask_over(alloc, &XY, text)?;
+    Ok(read_off(&ask, &a, &b))
+}
+
 #[test]
 fn better_same_and_over_read_off_one_walk(rt: HostRuntime) -> Result<(), Fail> {
-    let alloc = rt.alloc();
-    let names = [b"x".as_slice(), b"y".as_slice()];
-    let schema = Schema::new(alloc, names.as_slice())?;
-    let cases = [
-        (
-            "best low(x) & high(y)",
-            [1, 2],
-            [1, 1],
-            (true, false, false, true),
-        ),
-        (
-            "best low(x) & high(y)",
-            [1, 2],
-            [1, 2],
-            (false, false, true, false),
-        ),
-        (
-            "best low(x) * low(y)",
-            [1, 2],
-            [2, 1],
-            (false, false, false, false),
-        ),
-        (
-            "best low(x) by y",
-            [1, 2],
-            [2, 2],
-            (true, false, false, true),
-        ),
-        (
-            "best low(x) by y",
-            [1, 2],
-            [2, 1],
-            (true, false, false, false),
-        ),
-    ];
-    for (text, first, second, wanted) in cases {
-        let ask = read_ask(alloc, &schema, text.as_bytes())?;
-        let a = Row::of(&schema, &first)?;
-        let b = Row::of(&schema, &second)?;
-        let term = ask.term();
-        let found = (
-            better(term, &a, &b),
-            better(term, &b, &a),
-            same(term, &a, &b),
-            ask.over(&a, &b),
-        );
-        assert_same(&rt, (text, first, second), &found, &wanted);
+    for (text, first, second, wanted) in &WALKS {
+        let found = read_off_text(rt.alloc(), text.as_bytes(), first, second)?;
+        assert_same(&rt, (*text, first, second), &found, wanted);
     }
     Ok(())
+}
+
+/// How rows compare by a preference for a set of values in the column x: the first with the second, the second with
+/// the first, and the first with itself.
+fn walks_of(set: Numbers, first: &Row, second: &Row) -> [Relation; 3] {
+    let term = Term::Pos { col: 0, set };
+    [
+        compare(&term, first, second),
+        compare(&term, second, first),
+        compare(&term, first, first),
+    ]
+}
+
+/// The first of two rows is better.
+fn check_walks(rt: &impl Abort, [relation, turned, alone]: [Relation; 3]) {
+    assert_same(rt, "better", &relation.is_better(), &true);
+    assert_same(rt, "not worse", &relation.is_worse(), &false);
+    assert_same(rt, "not the same", &relation.is_same(), &false);
+    assert_same(rt, "worse", &turned.is_worse(), &true);
+    assert_same(rt, "the same", &alone.is_same(), &true);
+}
+
+/// Two rows that are equal in the column y alone.
+fn check_groups(rt: &impl Abort, first: &Row, second: &Row) {
+    assert_same(rt, "by y", &in_same_group(&[1], first, second), &true);
+    let both = in_same_group(&[1, 0], first, second);
+    assert_same(rt, "by y, x", &both, &false);
 }
 
 #[test]
 fn a_term_made_by_hand_is_walked(rt: HostRuntime) -> Result<(), Fail> {
-    let alloc = rt.alloc();
-    let names = [b"x".as_slice(), b"y".as_slice()];
-    let schema = Schema::new(alloc, names.as_slice())?;
-    let first = Row::of(&schema, [5, 7].as_slice())?;
-    let second = Row::of(&schema, [1, 7].as_slice())?;
-    let set = Numbers::of(vec![in alloc; 2, 5]?);
+    let first = row_over(rt.alloc(), &XY, &[5, 7])?;
+    let second = row_over(rt.alloc(), &XY, &[1, 7])?;
+    check_groups(&rt, &first, &second);
+    let set = set_of(rt.alloc(), &[2, 5])?;
     assert_same_list(&rt, "set", set.as_slice(), [2, 5].as_slice());
-    let term = Term::Pos { col: 0, set };
-    let relation = compare(&term, &first, &second);
-    assert_same(&rt, "better", &relation.is_better(), &true);
-    assert_same(&rt, "not worse", &relation.is_worse(), &false);
-    assert_same(&rt, "not the same", &relation.is_same(), &false);
-    let turned = compare(&term, &second, &first);
-    assert_same(&rt, "worse", &turned.is_worse(), &true);
-    let alone = compare(&term, &first, &first);
-    assert_same(&rt, "the same", &alone.is_same(), &true);
-    assert_same(&rt, "by y", &in_same_group(&[1], &first, &second), &true);
-    let both = in_same_group(&[1, 0], &first, &second);
-    assert_same(&rt, "by y, x", &both, &false);
+    check_walks(&rt, walks_of(set, &first, &second));
+    Ok(())
+}
+
+const PAIRS_OF_QUESTIONS: [(&str, &str, bool); 22] = [
+    (
+        "best low(x) * low(y) by g",
+        "skyline of x min, g diff, y min",
+        true,
+    ),
+    ("best ((low(x)))", "best low(x)", true),
+    ("best reverse(high(x))", "best -high(x)", true),
+    ("best --low(x)", "best low(x)", false),
+    ("best low(x)", "best high(x)", false),
+    ("best low(x) & low(y)", "best low(y) & low(x)", false),
+    ("best low(x) & low(y)", "best low(x) * low(y)", false),
+    ("best pos(x, 1, 2)", "best pos(x, 2, 1)", false),
+    ("best around(x, 1)", "best around(x, 2)", false),
+    ("best between(x, 1, 2)", "best between( x , 1 , 02 )", true),
+    ("best between(x, 1, 2)", "best between(y, 1, 2)", false),
+    ("best between(x, 1, 2)", "best between(x, 0, 2)", false),
+    ("best between(x, 1, 2)", "best between(x, 1, 3)", false),
+    ("best between(x, 1, 1)", "best around(x, 1)", false),
+    (
+        "best layered(x, {1, 2}, {3})",
+        "best layered( x ,{1,02}, { 3 } )",
+        true,
+    ),
+    (
+        "best layered(x, {1, 2}, {3})",
+        "best layered(x, {2, 1}, {3})",
+        false,
+    ),
+    (
+        "best layered(x, {1, 2}, {3})",
+        "best layered(x, {3}, {1, 2})",
+        false,
+    ),
+    (
+        "best layered(x, {1, 2}, {3})",
+        "best layered(x, {1, 2, 3})",
+        false,
+    ),
+    (
+        "best layered(x, {1, 2}, {3})",
+        "best layered(y, {1, 2}, {3})",
+        false,
+    ),
+    ("best layered(x, {1, 2})", "best pos(x, 1, 2)", false),
+    ("best low(x) by g", "best low(x)", false),
+    ("top_level 1 low(x)", "at_least 1 low(x)", false),
+];
+
+fn check_equal_terms(rt: &impl Abort) {
+    let low = Term::Low { col: 0 };
+    assert_same(rt, "one column", &(low == Term::Low { col: 0 }), &true);
+    assert_same(rt, "two columns", &(low == Term::Low { col: 1 }), &false);
+}
+
+/// Whether sets of these numbers are equal.
+fn are_equal_sets(alloc: Global, first: &[i64], second: &[i64]) -> Result<bool, AllocError> {
+    let set = set_of(alloc, first)?;
+    Ok(set == set_of(alloc, second)?)
+}
+
+fn check_equal_sets(rt: &impl Abort, alloc: Global) -> Result<(), Fail> {
+    let equal = are_equal_sets(alloc, &[2, 5], &[2, 5])?;
+    assert_same(rt, "one set", &equal, &true);
+    let equal = are_equal_sets(alloc, &[2, 5], &[2])?;
+    assert_same(rt, "two sets", &equal, &false);
     Ok(())
 }
 
 #[test]
 fn equal_where_the_same_is_seen(rt: HostRuntime) -> Result<(), Fail> {
-    let alloc = rt.alloc();
-    let names = [b"x".as_slice(), b"y".as_slice(), b"g".as_slice()];
-    let schema = Schema::new(alloc, names.as_slice())?;
-    let cases = [
-        (
-            "best low(x) * low(y) by g",
-            "skyline of x min, g diff, y min",
-            true,
-        ),
-        ("best ((low(x)))", "best low(x)", true),
-        ("best reverse(high(x))", "best -high(x)", true),
-        ("best --low(x)", "best low(x)", false),
-        ("best low(x)", "best high(x)", false),
-        ("best low(x) & low(y)", "best low(y) & low(x)", false),
-        ("best low(x) & low(y)", "best low(x) * low(y)", false),
-        ("best pos(x, 1, 2)", "best pos(x, 2, 1)", false),
-        ("best around(x, 1)", "best around(x, 2)", false),
-        ("best between(x, 1, 2)", "best between( x , 1 , 02 )", true),
-        ("best between(x, 1, 2)", "best between(y, 1, 2)", false),
-        ("best between(x, 1, 2)", "best between(x, 0, 2)", false),
-        ("best between(x, 1, 2)", "best between(x, 1, 3)", false),
-        ("best between(x, 1, 1)", "best around(x, 1)", false),
-        (
-            "best layered(x, {1, 2}, {3})",
-            "best layered( x ,{1,02}, { 3 } )",
-            true,
-        ),
-        (
-            "best layered(x, {1, 2}, {3})",
-            "best layered(x, {2, 1}, {3})",
-            false,
-        ),
-        (
-            "best layered(x, {1, 2}, {3})",
-            "best layered(x, {3}, {1, 2})",
-            false,
-        ),
-        (
-            "best layered(x, {1, 2}, {3})",
-            "best layered(x, {1, 2, 3})",
-            false,
-        ),
-        (
-            "best layered(x, {1, 2}, {3})",
-            "best layered(y, {1, 2}, {3})",
-            false,
-        ),
-        ("best layered(x, {1, 2})", "best pos(x, 1, 2)", false),
-        ("best low(x) by g", "best low(x)", false),
-        ("top_level 1 low(x)", "at_least 1 low(x)", false),
-    ];
-    for (first, second, wanted) in cases {
-        let a = read_ask(alloc, &schema, first.as_bytes())?;
-        let b = read_ask(alloc, &schema, second.as_bytes())?;
-        assert_same(&rt, (first, second), &(a == b), &wanted);
+    for (first, second, wanted) in &PAIRS_OF_QUESTIONS {
+        let found = are_equal(rt.alloc(), &XYG, first.as_bytes(), second.as_bytes())?;
+        assert_same(&rt, (*first, *second), &found, wanted);
     }
-    let low = Term::Low { col: 0 };
-    assert_same(&rt, "one column", &(low == Term::Low { col: 0 }), &true);
-    assert_same(&rt, "two columns", &(low == Term::Low { col: 1 }), &false);
-    let set = Numbers::of(vec![in alloc; 2, 5]?);
-    let other = Numbers::of(vec![in alloc; 2, 5]?);
-    let shorter = Numbers::of(vec![in alloc; 2]?);
-    assert_same(&rt, "one set", &(set == other), &true);
-    assert_same(&rt, "two sets", &(set == shorter), &false);
-    Ok(())
+    check_equal_terms(&rt);
+    check_equal_sets(&rt, rt.alloc())
 }
 
-/// The longest product that a question holds, on rows that are the same in all its factors: one comparison a factor.
-#[test]
-fn the_longest_product_is_walked_once_a_pair(rt: HostRuntime) -> Result<(), Fail> {
-    let alloc = rt.alloc();
+/// The longest product that a question holds.
+fn longest_product(alloc: Global) -> Result<Vec<u8>, Fail> {
     let mut text = b"best low(x)".to_vec(alloc)?;
     for _ in 0..580 {
         text.extend_from_slice(b"*low(x)")?;
     }
-    let names = [b"x".as_slice()];
-    let schema = Schema::new(alloc, names.as_slice())?;
-    let ask = read_ask(alloc, &schema, text.as_slice())?;
-    let row = Row::of(&schema, [5].as_slice())?;
+    Ok(text)
+}
+
+/// Compares a row with itself 1,000 times.
+fn check_same_as_itself(rt: &impl Abort, ask: &Ask, row: &Row) {
     for _ in 0..1_000 {
-        assert_same(&rt, "the row", &ask.compare(&row, &row), &Relation::Same);
+        assert_same(rt, "the row", &ask.compare(row, row), &Relation::Same);
     }
+}
+
+/// On rows that are the same in all its factors: one comparison a factor.
+#[test]
+fn the_longest_product_is_walked_once_a_pair(rt: HostRuntime) -> Result<(), Fail> {
+    let row = row_over(rt.alloc(), &X, &[5])?;
+    let text = longest_product(rt.alloc())?;
+    let ask = ask_over(rt.alloc(), &X, text.as_slice())?;
+    check_same_as_itself(&rt, &ask, &row);
     Ok(())
 }
 
+const MESSAGES: [(TermFault, &str); 9] = [
+    (TermFault::Unexpected { at: 3 }, "unexpected at 3"),
+    (TermFault::UnknownColumn { at: 9 }, "unknown column at 9"),
+    (TermFault::NumberRange { at: 15 }, "number range at 15"),
+    (TermFault::EmptyRange { at: 19 }, "empty range at 19"),
+    (TermFault::TooDeep { at: 69 }, "too deep at 69"),
+    (TermFault::TooLong, "too long"),
+    (TermFault::BadCount { at: 9 }, "bad count at 9"),
+    (TermFault::NoMinOrMax, "no min or max"),
+    (TermFault::OutOfMemory, "out of memory"),
+];
+
 #[test]
 fn messages(rt: HostRuntime) -> Result<(), Fail> {
-    let cases = [
-        (TermFault::Unexpected { at: 3 }, "unexpected at 3"),
-        (TermFault::UnknownColumn { at: 9 }, "unknown column at 9"),
-        (TermFault::NumberRange { at: 15 }, "number range at 15"),
-        (TermFault::EmptyRange { at: 19 }, "empty range at 19"),
-        (TermFault::TooDeep { at: 69 }, "too deep at 69"),
-        (TermFault::TooLong, "too long"),
-        (TermFault::BadCount { at: 9 }, "bad count at 9"),
-        (TermFault::NoMinOrMax, "no min or max"),
-        (TermFault::OutOfMemory, "out of memory"),
-    ];
-    for (fault, text) in cases {
+    for (fault, text) in &MESSAGES {
         let message = fault.to_string(rt.alloc())?;
-        assert_same_text(&rt, text, message.as_str(), text);
+        assert_same_text(&rt, *text, message.as_str(), text);
     }
     Ok(())
 }

@@ -6,7 +6,8 @@ use crate::same::{assert_same, assert_same_list, assert_same_text};
 use pref_table::{
     Row, Schema, TableFault, blanks_length, is_name_byte, read_row, read_table, signed_number,
 };
-use std::alloc::Global;
+use std::alloc::{AllocError, Global};
+use std::process::Abort;
 use std::test::Fail;
 
 fn fault_of(alloc: Global, text: &[u8]) -> Option<TableFault> {
@@ -18,36 +19,52 @@ fn pair(row: &Row) -> (i64, i64) {
     (row.cell(0), row.cell(1))
 }
 
-#[test]
-fn marks_quotes_and_line_ends(rt: HostRuntime) -> Result<(), Fail> {
-    let text = b"\xEF\xBB\xBF\xEF\xBB\xBF\"a\",\"b\"\r\n +007 ,-0\r\n";
-    let (schema, rows) = read_table(rt.alloc(), text)?;
-    let [row] = rows.as_slice() else {
+/// The columns are a and b.
+fn check_columns(rt: &impl Abort, schema: &Schema) {
+    assert_same(rt, "width", &schema.width(), &2);
+    assert_same(rt, "b", &schema.index_of(b"b"), &Some(1));
+    assert_same(rt, "B", &schema.index_of(b"B"), &None);
+}
+
+/// The only row holds a 7 and a 0.
+fn check_rows(rt: &impl Abort, rows: &[Row]) -> Result<(), Fail> {
+    let [row] = rows else {
         return Err("one row".into());
     };
-    assert_same(&rt, "width", &schema.width(), &2);
-    assert_same(&rt, "b", &schema.index_of(b"b"), &Some(1));
-    assert_same(&rt, "B", &schema.index_of(b"B"), &None);
-    assert_same(&rt, "its columns", &pair(row), &(7, 0));
-    assert_same(&rt, "no column", &row.cell(15), &0);
+    assert_same(rt, "its columns", &pair(row), &(7, 0));
+    assert_same(rt, "no column", &row.cell(15), &0);
     Ok(())
 }
 
 #[test]
+fn marks_quotes_and_line_ends(rt: HostRuntime) -> Result<(), Fail> {
+    let text = b"\xEF\xBB\xBF\xEF\xBB\xBF\"a\",\"b\"\r\n +007 ,-0\r\n";
+    let (schema, rows) = read_table(rt.alloc(), text)?;
+    check_columns(&rt, &schema);
+    check_rows(&rt, rows.as_slice())
+}
+
+const RECORDS: [(&str, usize, Option<(i64, i64)>); 7] = [
+    ("x\n\n1\n", 1, Some((1, 0))),
+    ("a,b\n1,\"2\"\r3,4", 2, Some((1, 2))),
+    ("a\n\"5", 1, Some((5, 0))),
+    ("\"price\",\"rating\"\n-10,3\n20,5\n", 2, Some((-10, 3))),
+    (" a\t, b \n1,2\r\n", 1, Some((1, 2))),
+    ("\u{FEFF}\u{FEFF}\u{FEFF}a\n1\n", 1, Some((1, 0))),
+    ("a", 0, None),
+];
+
+/// How many rows a table text has, and the first two cells of the first.
+fn count_and_first(alloc: Global, text: &[u8]) -> Result<(usize, Option<(i64, i64)>), TableFault> {
+    let (_, rows) = read_table(alloc, text)?;
+    Ok((rows.len(), rows.first().map(pair)))
+}
+
+#[test]
 fn records_as_csv_reads_them(rt: HostRuntime) -> Result<(), Fail> {
-    let cases = [
-        ("x\n\n1\n", 1, Some((1, 0))),
-        ("a,b\n1,\"2\"\r3,4", 2, Some((1, 2))),
-        ("a\n\"5", 1, Some((5, 0))),
-        ("\"price\",\"rating\"\n-10,3\n20,5\n", 2, Some((-10, 3))),
-        (" a\t, b \n1,2\r\n", 1, Some((1, 2))),
-        ("\u{FEFF}\u{FEFF}\u{FEFF}a\n1\n", 1, Some((1, 0))),
-        ("a", 0, None),
-    ];
-    for (text, count, first) in cases {
-        let (_, rows) = read_table(rt.alloc(), text.as_bytes())?;
-        let found = (rows.len(), rows.first().map(pair));
-        assert_same(&rt, text, &found, &(count, first));
+    for (text, count, first) in &RECORDS {
+        let found = count_and_first(rt.alloc(), text.as_bytes())?;
+        assert_same(&rt, *text, &found, &(*count, *first));
     }
     Ok(())
 }
@@ -62,136 +79,195 @@ fn pairs_of(alloc: Global, text: &[u8]) -> Result<Vec<(i64, i64)>, TableFault> {
     Ok(pairs)
 }
 
+const TABLES: [(&str, &[(i64, i64)]); 12] = [
+    ("a,b\n1,2\n-3,+4\n", &[(1, 2), (-3, 4)]),
+    ("a,b\n1,2\n\"3\",4\n5,6", &[(1, 2), (3, 4), (5, 6)]),
+    ("a,b\n1,2\n3,4\r\n5,6\r\n", &[(1, 2), (3, 4), (5, 6)]),
+    ("a,b\r\n1,2\r\n3,4\n", &[(1, 2), (3, 4)]),
+    ("a,b\n1,2\n 3 ,\t4\n5,6\n", &[(1, 2), (3, 4), (5, 6)]),
+    ("a,b\n1,2\n\n\n3,4\n\n", &[(1, 2), (3, 4)]),
+    ("a,b\n1,2\r3,4", &[(1, 2), (3, 4)]),
+    ("a,b\r\n1,2\r\r\n3,4\r", &[(1, 2), (3, 4)]),
+    ("\"a\",b\n1,2\n3,\"4\"\n", &[(1, 2), (3, 4)]),
+    (
+        "a\n1\n9223372036854775807\n2\n",
+        &[(1, 0), (i64::MAX, 0), (2, 0)],
+    ),
+    ("\u{FEFF}a,b\n1,2\n", &[(1, 2)]),
+    ("a,b\n", &[]),
+];
+
 /// Rows of plain digits are read another way than the rows behind the first other line.
 #[test]
 fn plain_rows_before_others(rt: HostRuntime) -> Result<(), Fail> {
-    let cases = [
-        ("a,b\n1,2\n-3,+4\n", [(1, 2), (-3, 4)].as_slice()),
-        ("a,b\n1,2\n\"3\",4\n5,6", &[(1, 2), (3, 4), (5, 6)]),
-        ("a,b\n1,2\n3,4\r\n5,6\r\n", &[(1, 2), (3, 4), (5, 6)]),
-        ("a,b\r\n1,2\r\n3,4\n", &[(1, 2), (3, 4)]),
-        ("a,b\n1,2\n 3 ,\t4\n5,6\n", &[(1, 2), (3, 4), (5, 6)]),
-        ("a,b\n1,2\n\n\n3,4\n\n", &[(1, 2), (3, 4)]),
-        ("a,b\n1,2\r3,4", &[(1, 2), (3, 4)]),
-        ("a,b\r\n1,2\r\r\n3,4\r", &[(1, 2), (3, 4)]),
-        ("\"a\",b\n1,2\n3,\"4\"\n", &[(1, 2), (3, 4)]),
-        (
-            "a\n1\n9223372036854775807\n2\n",
-            &[(1, 0), (i64::MAX, 0), (2, 0)],
-        ),
-        ("\u{FEFF}a,b\n1,2\n", &[(1, 2)]),
-        ("a,b\n", &[]),
-    ];
-    for (text, wanted) in cases {
+    for (text, wanted) in &TABLES {
         let found = pairs_of(rt.alloc(), text.as_bytes())?;
-        assert_same_list(&rt, text, found.as_slice(), wanted);
+        assert_same_list(&rt, *text, found.as_slice(), wanted);
     }
     Ok(())
 }
 
-#[test]
-fn faults_behind_plain_rows(rt: HostRuntime) {
-    let cases = [
-        ("a,b\n1,2\n3,x\n", TableFault::NotWhole { row: 2, col: 2 }),
-        ("a,b\n1,2\n3,4\n5\n6,7\n", TableFault::Width { row: 3 }),
-        ("a,b\n1,2\n3,4,5\n", TableFault::Width { row: 2 }),
-        ("a,b\n1,2,\n", TableFault::Width { row: 1 }),
-        ("a\n1\n\u{FEFF}2\n", TableFault::NotWhole { row: 2, col: 1 }),
-        ("a\n1\n2\n\n\n-\n", TableFault::NotWhole { row: 3, col: 1 }),
-        ("a\n1\n\"2\"\nx", TableFault::NotWhole { row: 3, col: 1 }),
-        ("a\n1\n\"2\n\"\n", TableFault::NotWhole { row: 2, col: 1 }),
-        (
-            "a\n1\n9223372036854775808\n",
-            TableFault::OutOfRange { row: 2, col: 1 },
-        ),
-    ];
+const FAULTS_BEHIND_PLAIN_ROWS: [(&str, TableFault); 9] = [
+    ("a,b\n1,2\n3,x\n", TableFault::NotWhole { row: 2, col: 2 }),
+    ("a,b\n1,2\n3,4\n5\n6,7\n", TableFault::Width { row: 3 }),
+    ("a,b\n1,2\n3,4,5\n", TableFault::Width { row: 2 }),
+    ("a,b\n1,2,\n", TableFault::Width { row: 1 }),
+    ("a\n1\n\u{FEFF}2\n", TableFault::NotWhole { row: 2, col: 1 }),
+    ("a\n1\n2\n\n\n-\n", TableFault::NotWhole { row: 3, col: 1 }),
+    ("a\n1\n\"2\"\nx", TableFault::NotWhole { row: 3, col: 1 }),
+    ("a\n1\n\"2\n\"\n", TableFault::NotWhole { row: 2, col: 1 }),
+    (
+        "a\n1\n9223372036854775808\n",
+        TableFault::OutOfRange { row: 2, col: 1 },
+    ),
+];
+
+/// Table texts, and the fault of each.
+fn check_refused(rt: &impl Abort, alloc: Global, cases: &[(&str, TableFault)]) {
     for (text, fault) in cases {
-        let found = fault_of(rt.alloc(), text.as_bytes());
-        assert_same(&rt, text, &found, &Some(fault));
+        let found = fault_of(alloc, text.as_bytes());
+        assert_same(rt, *text, &found, &Some(*fault));
     }
 }
 
 #[test]
+fn faults_behind_plain_rows(rt: HostRuntime) {
+    check_refused(&rt, rt.alloc(), &FAULTS_BEHIND_PLAIN_ROWS);
+}
+
+const REFUSED: [(&str, TableFault); 17] = [
+    ("", TableFault::NoColumns),
+    ("\n\n", TableFault::NoColumns),
+    ("a,a", TableFault::SameName { col: 2 }),
+    ("a,", TableFault::BadName { col: 2 }),
+    ("a,b,a,1", TableFault::SameName { col: 3 }),
+    ("1,1", TableFault::BadName { col: 1 }),
+    ("_a", TableFault::BadName { col: 1 }),
+    (
+        "a,b,c,d,e,f,g,h,i,j,k,l,m,n,o,p,q",
+        TableFault::TooManyColumns,
+    ),
+    (",,,,,,,,,,,,,,,,", TableFault::TooManyColumns),
+    ("a\n1,2", TableFault::Width { row: 1 }),
+    ("a,b\n1,2\nNA", TableFault::Width { row: 2 }),
+    ("a\nNA", TableFault::NotWhole { row: 1, col: 1 }),
+    ("a\n\"1\"\"2\"", TableFault::NotWhole { row: 1, col: 1 }),
+    ("a\n+-5", TableFault::NotWhole { row: 1, col: 1 }),
+    ("x,y\n1,2\n3,1.5\n", TableFault::NotWhole { row: 2, col: 2 }),
+    (
+        "x\n9223372036854775808\n",
+        TableFault::OutOfRange { row: 1, col: 1 },
+    ),
+    (
+        "x\n99999999999999999999x\n",
+        TableFault::NotWhole { row: 1, col: 1 },
+    ),
+];
+
+#[test]
 fn refused_texts(rt: HostRuntime) {
-    let cases = [
-        ("", TableFault::NoColumns),
-        ("\n\n", TableFault::NoColumns),
-        ("a,a", TableFault::SameName { col: 2 }),
-        ("a,", TableFault::BadName { col: 2 }),
-        ("a,b,a,1", TableFault::SameName { col: 3 }),
-        ("1,1", TableFault::BadName { col: 1 }),
-        ("_a", TableFault::BadName { col: 1 }),
-        (
-            "a,b,c,d,e,f,g,h,i,j,k,l,m,n,o,p,q",
-            TableFault::TooManyColumns,
-        ),
-        (",,,,,,,,,,,,,,,,", TableFault::TooManyColumns),
-        ("a\n1,2", TableFault::Width { row: 1 }),
-        ("a,b\n1,2\nNA", TableFault::Width { row: 2 }),
-        ("a\nNA", TableFault::NotWhole { row: 1, col: 1 }),
-        ("a\n\"1\"\"2\"", TableFault::NotWhole { row: 1, col: 1 }),
-        ("a\n+-5", TableFault::NotWhole { row: 1, col: 1 }),
-        ("x,y\n1,2\n3,1.5\n", TableFault::NotWhole { row: 2, col: 2 }),
-        (
-            "x\n9223372036854775808\n",
-            TableFault::OutOfRange { row: 1, col: 1 },
-        ),
-        (
-            "x\n99999999999999999999x\n",
-            TableFault::NotWhole { row: 1, col: 1 },
-        ),
-    ];
-    for (text, fault) in cases {
-        let found = fault_of(rt.alloc(), text.as_bytes());
-        assert_same(&rt, text, &found, &Some(fault));
+    check_refused(&rt, rt.alloc(), &REFUSED);
+}
+
+/// Adds a line to a text this many times.
+fn add_lines(text: &mut Vec<u8>, line: &[u8], times: usize) -> Result<(), AllocError> {
+    for _ in 0..times {
+        text.extend_from_slice(line)?;
     }
+    Ok(())
+}
+
+/// A table text has the most rows that a table can have, and with one more line too many.
+fn check_last_row(
+    rt: &impl Abort,
+    alloc: Global,
+    text: &mut Vec<u8>,
+    line: &[u8],
+) -> Result<(), Fail> {
+    let (count, _) = count_and_first(alloc, text.as_slice())?;
+    assert_same(rt, "the last row", &count, &65_536);
+    text.extend_from_slice(line)?;
+    let found = fault_of(alloc, text.as_slice());
+    assert_same(rt, "one more", &found, &Some(TableFault::TooManyRows));
+    Ok(())
 }
 
 #[test]
 fn the_row_after_the_last_is_too_many(rt: HostRuntime) -> Result<(), Fail> {
     let mut text = b"a\n".to_vec(rt.alloc())?;
-    for _ in 0..65_536 {
-        text.extend_from_slice(b"-12\n")?;
-    }
-    let (_, rows) = read_table(rt.alloc(), text.as_slice())?;
-    assert_same(&rt, "the last row", &rows.len(), &65_536);
-    text.extend_from_slice(b"1,2\n")?;
-    let found = fault_of(rt.alloc(), text.as_slice());
-    assert_same(&rt, "one more", &found, &Some(TableFault::TooManyRows));
-    Ok(())
+    add_lines(&mut text, b"-12\n", 65_536)?;
+    check_last_row(&rt, rt.alloc(), &mut text, b"1,2\n")
 }
 
 #[test]
 fn rows_behind_many_plain_ones_count_on(rt: HostRuntime) -> Result<(), Fail> {
     let mut text = b"a\n".to_vec(rt.alloc())?;
-    for _ in 0..65_534 {
-        text.extend_from_slice(b"7\n")?;
-    }
-    text.extend_from_slice(b"\"8\"\n9\n")?;
-    let (_, rows) = read_table(rt.alloc(), text.as_slice())?;
-    assert_same(&rt, "the last row", &rows.len(), &65_536);
-    text.extend_from_slice(b"10\n")?;
-    let found = fault_of(rt.alloc(), text.as_slice());
-    assert_same(&rt, "one more", &found, &Some(TableFault::TooManyRows));
-    Ok(())
+    add_lines(&mut text, b"7\n", 65_534)?;
+    add_lines(&mut text, b"\"8\"\n9\n", 1)?;
+    check_last_row(&rt, rt.alloc(), &mut text, b"10\n")
+}
+
+/// The longest name and a short one.
+fn check_names(rt: &impl Abort, schema: &Schema, longest: &[u8]) {
+    assert_same(rt, "width", &schema.width(), &2);
+    assert_same(rt, "longest", &schema.index_of(longest), &Some(0));
+    assert_same_list(rt, "its name", schema.name(0), longest);
 }
 
 #[test]
 fn names_of_a_schema(rt: HostRuntime) -> Result<(), Fail> {
+    let too_long = [b"abcdefghijklmnopqrstuvwxyz_.01234".as_slice()];
+    let told = Schema::new(rt.alloc(), too_long.as_slice()).err();
+    let wanted = Some(TableFault::BadName { col: 1 });
+    assert_same(&rt, "too long", &told, &wanted);
     let longest = b"abcdefghijklmnopqrstuvwxyz_.0123";
     let names = [longest.as_slice(), b"y_1".as_slice()];
     let schema = Schema::new(rt.alloc(), names.as_slice())?;
-    assert_same(&rt, "width", &schema.width(), &2);
-    assert_same(&rt, "longest", &schema.index_of(longest), &Some(0));
-    assert_same_list(&rt, "its name", schema.name(0), longest.as_slice());
-    let too_long = [b"abcdefghijklmnopqrstuvwxyz_.01234".as_slice()];
-    let told = Schema::new(rt.alloc(), too_long.as_slice()).err();
-    assert_same(
-        &rt,
-        "too long",
-        &told,
-        &Some(TableFault::BadName { col: 1 }),
-    );
+    check_names(&rt, &schema, longest);
+    Ok(())
+}
+
+const LINES: [(&str, Result<[i64; 2], TableFault>); 7] = [
+    (" 3\t,-9223372036854775808", Ok([3, i64::MIN])),
+    (
+        "000000000000000007,999999999999999999",
+        Ok([7, 999_999_999_999_999_999]),
+    ),
+    (
+        "1000000000000000000,9223372036854775807",
+        Ok([1_000_000_000_000_000_000, i64::MAX]),
+    ),
+    ("1", Err(TableFault::Width { row: 0 })),
+    ("", Err(TableFault::Width { row: 0 })),
+    ("1,", Err(TableFault::NotWhole { row: 0, col: 2 })),
+    (
+        "9223372036854775808,1",
+        Err(TableFault::OutOfRange { row: 0, col: 1 }),
+    ),
+];
+
+/// Lines over the columns of a schema, and of each the cells of its row or its fault.
+fn check_lines(
+    rt: &impl Abort,
+    schema: &Schema,
+    lines: &[(&str, Result<[i64; 2], TableFault>)],
+) -> Result<(), Fail> {
+    for (line, cells) in lines {
+        let wanted = match cells {
+            Ok(cells) => Ok(Row::of(schema, cells.as_slice())?),
+            Err(fault) => Err(*fault),
+        };
+        assert_same(rt, *line, &read_row(schema, line.as_bytes()), &wanted);
+    }
+    Ok(())
+}
+
+/// Rows have the cells that they are made of, one for each column.
+fn check_rows_of_cells(rt: &impl Abort, schema: &Schema) -> Result<(), Fail> {
+    let row = Row::of(schema, [3, i64::MIN].as_slice())?;
+    assert_same(rt, "its cells", &pair(&row), &(3, i64::MIN));
+    let short = Row::of(schema, [1].as_slice());
+    assert_same(rt, "one cell", &short, &Err(TableFault::Width { row: 0 }));
     Ok(())
 }
 
@@ -199,76 +275,61 @@ fn names_of_a_schema(rt: HostRuntime) -> Result<(), Fail> {
 fn rows_of_a_line(rt: HostRuntime) -> Result<(), Fail> {
     let names = [b"x".as_slice(), b"y_1".as_slice()];
     let schema = Schema::new(rt.alloc(), names.as_slice())?;
-    let row = Row::of(&schema, [3, i64::MIN].as_slice())?;
-    let nines = Row::of(&schema, [7, 999_999_999_999_999_999].as_slice())?;
-    let largest = Row::of(&schema, [1_000_000_000_000_000_000, i64::MAX].as_slice())?;
-    assert_same(&rt, "its cells", &pair(&row), &(3, i64::MIN));
-    let short = Row::of(&schema, [1].as_slice());
-    assert_same(&rt, "one cell", &short, &Err(TableFault::Width { row: 0 }));
-    let lines = [
-        (" 3\t,-9223372036854775808", Ok(row)),
-        ("000000000000000007,999999999999999999", Ok(nines)),
-        ("1000000000000000000,9223372036854775807", Ok(largest)),
-        ("1", Err(TableFault::Width { row: 0 })),
-        ("", Err(TableFault::Width { row: 0 })),
-        ("1,", Err(TableFault::NotWhole { row: 0, col: 2 })),
-        (
-            "9223372036854775808,1",
-            Err(TableFault::OutOfRange { row: 0, col: 1 }),
-        ),
-    ];
-    for (line, wanted) in lines {
-        assert_same(&rt, line, &read_row(&schema, line.as_bytes()), &wanted);
-    }
-    Ok(())
+    check_rows_of_cells(&rt, &schema)?;
+    check_lines(&rt, &schema, &LINES)
 }
+
+const NAME_BYTES: [(u8, bool); 6] = [
+    (b'a', true),
+    (b'Z', true),
+    (b'0', true),
+    (b'_', true),
+    (b'.', true),
+    (b'-', false),
+];
+
+const SIGNED_DIGITS: [(bool, &str, Option<i64>); 4] = [
+    (true, "007", Some(-7)),
+    (true, "9223372036854775808", Some(i64::MIN)),
+    (false, "9223372036854775808", None),
+    (false, "7.", None),
+];
 
 #[test]
 fn parts_that_questions_share(rt: HostRuntime) {
     assert_same(&rt, "blanks", &blanks_length(b" \t x "), &3);
-    for (byte, wanted) in [
-        (b'a', true),
-        (b'Z', true),
-        (b'0', true),
-        (b'_', true),
-        (b'.', true),
-        (b'-', false),
-    ] {
-        assert_same(&rt, byte, &is_name_byte(byte), &wanted);
+    for (byte, wanted) in &NAME_BYTES {
+        assert_same(&rt, *byte, &is_name_byte(*byte), wanted);
     }
-    for (is_minus, digits, wanted) in [
-        (true, "007", Some(-7)),
-        (true, "9223372036854775808", Some(i64::MIN)),
-        (false, "9223372036854775808", None),
-        (false, "7.", None),
-    ] {
-        let found = signed_number(is_minus, digits.as_bytes());
-        assert_same(&rt, digits, &found, &wanted);
+    for (is_minus, digits, wanted) in &SIGNED_DIGITS {
+        let found = signed_number(*is_minus, digits.as_bytes());
+        assert_same(&rt, *digits, &found, wanted);
     }
 }
 
+const MESSAGES: [(TableFault, &str); 9] = [
+    (TableFault::NoColumns, "no columns"),
+    (TableFault::TooManyColumns, "too many columns"),
+    (TableFault::BadName { col: 3 }, "bad name col 3"),
+    (TableFault::SameName { col: 4 }, "same name col 4"),
+    (TableFault::Width { row: 5 }, "width row 5"),
+    (
+        TableFault::NotWhole { row: 6, col: 1 },
+        "not whole row 6 col 1",
+    ),
+    (
+        TableFault::OutOfRange { row: 7, col: 2 },
+        "out of range row 7 col 2",
+    ),
+    (TableFault::TooManyRows, "too many rows"),
+    (TableFault::OutOfMemory, "out of memory"),
+];
+
 #[test]
 fn messages(rt: HostRuntime) -> Result<(), Fail> {
-    let cases = [
-        (TableFault::NoColumns, "no columns"),
-        (TableFault::TooManyColumns, "too many columns"),
-        (TableFault::BadName { col: 3 }, "bad name col 3"),
-        (TableFault::SameName { col: 4 }, "same name col 4"),
-        (TableFault::Width { row: 5 }, "width row 5"),
-        (
-            TableFault::NotWhole { row: 6, col: 1 },
-            "not whole row 6 col 1",
-        ),
-        (
-            TableFault::OutOfRange { row: 7, col: 2 },
-            "out of range row 7 col 2",
-        ),
-        (TableFault::TooManyRows, "too many rows"),
-        (TableFault::OutOfMemory, "out of memory"),
-    ];
-    for (fault, text) in cases {
+    for (fault, text) in &MESSAGES {
         let message = fault.to_string(rt.alloc())?;
-        assert_same_text(&rt, text, message.as_str(), text);
+        assert_same_text(&rt, *text, message.as_str(), text);
     }
     Ok(())
 }

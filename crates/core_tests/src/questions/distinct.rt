@@ -1,216 +1,224 @@
 //! Skyline clauses with the word `distinct`, and columns that are called so.
+ghost use Rattle.std.specs.Prelude.{length};
+ghost use Rattle.pref_term.specs.Question.{FitsWidth};
+
+use super::{X, XYZ, are_equal, ask_over, check_refused, row_over};
 use crate::same::{assert_same, assert_same_list};
-use pref_table::{Row, Schema};
+use pref_table::Schema;
 use pref_term::{Ask, Dominance, TermFault, read_ask, show};
 use std::alloc::Global;
 use std::process::Abort;
 use std::test::Fail;
 
-const X: [&[u8]; 1] = [b"x"];
-
 /// Columns that are called as words of a clause.
 const WORDS: [&[u8]; 6] = [b"distinct", b"x", b"min", b"max", b"diff", b"of"];
 
-/// Texts over these columns, and the fault of each.
-fn check_refused(
+const REFUSED: [(&str, TermFault); 13] = [
+    (
+        "skyline of distinct , min",
+        TermFault::Unexpected { at: 20 },
+    ),
+    (
+        "skyline of distinct 5 min",
+        TermFault::Unexpected { at: 20 },
+    ),
+    (
+        "skyline of distinct ? min",
+        TermFault::Unexpected { at: 20 },
+    ),
+    ("skyline of distinct", TermFault::UnknownColumn { at: 11 }),
+    ("skyline of distinct x", TermFault::UnknownColumn { at: 11 }),
+    (
+        "skyline of distinct x ?",
+        TermFault::UnknownColumn { at: 11 },
+    ),
+    (
+        "skyline of distinct x , x min",
+        TermFault::UnknownColumn { at: 11 },
+    ),
+    (
+        "skyline of distinct x foo",
+        TermFault::Unexpected { at: 22 },
+    ),
+    (
+        "skyline of distinct z foo",
+        TermFault::UnknownColumn { at: 20 },
+    ),
+    (
+        "skyline of distinct distinct x min",
+        TermFault::UnknownColumn { at: 20 },
+    ),
+    ("skyline of distinct x diff", TermFault::NoMinOrMax),
+    ("best distinct low(x)", TermFault::Unexpected { at: 5 }),
+    ("skyline distinct of x min", TermFault::Unexpected { at: 8 }),
+];
+
+#[test]
+fn the_second_token_behind_it_tells_the_word_from_a_column(rt: HostRuntime) {
+    check_refused(&rt, rt.alloc(), &X, &REFUSED);
+}
+
+const REFUSED_OVER_WORDS: [(&str, TermFault); 7] = [
+    (
+        "skyline of distinct , min",
+        TermFault::Unexpected { at: 20 },
+    ),
+    ("skyline of distinct x", TermFault::Unexpected { at: 20 }),
+    ("skyline of distinct x ?", TermFault::Unexpected { at: 20 }),
+    (
+        "skyline of distinct x , x min",
+        TermFault::Unexpected { at: 20 },
+    ),
+    (
+        "skyline of distinct distinct distinct min",
+        TermFault::Unexpected { at: 29 },
+    ),
+    (
+        "skyline of of distinct min",
+        TermFault::Unexpected { at: 14 },
+    ),
+    ("skyline of distinct diff, x diff", TermFault::NoMinOrMax),
+];
+
+#[test]
+fn the_same_where_a_column_is_called_distinct(rt: HostRuntime) {
+    check_refused(&rt, rt.alloc(), &WORDS, &REFUSED_OVER_WORDS);
+}
+
+const CLAUSES: [(&str, bool, &str); 10] = [
+    ("skyline of distinct min", false, "best low(distinct)"),
+    ("Skyline Of distinct Min", false, "best low(distinct)"),
+    (
+        "skyline of distinct min, x max",
+        false,
+        "best low(distinct) * high(x)",
+    ),
+    (
+        "skyline of distinct max , distinct min",
+        false,
+        "best high(distinct) * low(distinct)",
+    ),
+    (
+        "skyline of x min, distinct diff",
+        false,
+        "best low(x) by distinct",
+    ),
+    (
+        "skyline of Distinct x min",
+        true,
+        "skyline of distinct x min",
+    ),
+    (
+        "SKYLINE OF DISTINCT distinct MIN, x DIFF",
+        true,
+        "skyline of distinct distinct min, x diff",
+    ),
+    (
+        "skyline of distinct min min",
+        true,
+        "skyline of distinct min min",
+    ),
+    (
+        "skyline of distinct diff diff, max max",
+        true,
+        "skyline of distinct max max, diff diff",
+    ),
+    (
+        "skyline of DISTINCT of max, x Diff, min MIN , of diff, x max",
+        true,
+        "skyline of distinct of max, min min, x max, x diff, of diff",
+    ),
+];
+
+/// A text, whether of equal rows one is kept by the question that it spells, and what is shown of that question, which is read again.
+fn check_shown(
     rt: &impl Abort,
     alloc: Global,
-    names: &[&[u8]],
-    cases: &[(&str, TermFault)],
+    schema: &Schema,
+    ask: &Ask,
+    case: &(&str, bool, &str),
+) -> Result<(), Fail>
+    requires { FitsWidth (length schema.now) ask.now }
+{
+    let (text, distinct, wanted) = *case;
+    assert_same(rt, text, &ask.distinct(), &distinct);
+    let shown = show(alloc, schema, ask)?;
+    assert_same_list(rt, text, shown.as_slice(), wanted.as_bytes());
+    let again = read_ask(alloc, schema, shown.as_slice())?;
+    assert_same(rt, wanted, &(again == *ask), &true);
+    Ok(())
+}
+
+fn check_clauses(
+    rt: &impl Abort,
+    alloc: Global,
+    schema: &Schema,
+    cases: &[(&str, bool, &str)],
 ) -> Result<(), Fail> {
-    let schema = Schema::new(alloc, names)?;
-    for (text, wanted) in cases {
-        match read_ask(alloc, &schema, text.as_bytes()) {
-            Ok(_) => assert_same(rt, *text, &"accepted", &"refused"),
-            Err(fault) => assert_same(rt, *text, &fault, wanted),
-        }
+    for case in cases {
+        let ask = read_ask(alloc, schema, case.0.as_bytes())?;
+        check_shown(rt, alloc, schema, &ask, case)?;
     }
     Ok(())
 }
 
-#[test]
-fn the_second_token_behind_it_tells_the_word_from_a_column(rt: HostRuntime) -> Result<(), Fail> {
-    let cases = [
-        (
-            "skyline of distinct , min",
-            TermFault::Unexpected { at: 20 },
-        ),
-        (
-            "skyline of distinct 5 min",
-            TermFault::Unexpected { at: 20 },
-        ),
-        (
-            "skyline of distinct ? min",
-            TermFault::Unexpected { at: 20 },
-        ),
-        ("skyline of distinct", TermFault::UnknownColumn { at: 11 }),
-        ("skyline of distinct x", TermFault::UnknownColumn { at: 11 }),
-        (
-            "skyline of distinct x ?",
-            TermFault::UnknownColumn { at: 11 },
-        ),
-        (
-            "skyline of distinct x , x min",
-            TermFault::UnknownColumn { at: 11 },
-        ),
-        (
-            "skyline of distinct x foo",
-            TermFault::Unexpected { at: 22 },
-        ),
-        (
-            "skyline of distinct z foo",
-            TermFault::UnknownColumn { at: 20 },
-        ),
-        (
-            "skyline of distinct distinct x min",
-            TermFault::UnknownColumn { at: 20 },
-        ),
-        ("skyline of distinct x diff", TermFault::NoMinOrMax),
-        ("best distinct low(x)", TermFault::Unexpected { at: 5 }),
-        ("skyline distinct of x min", TermFault::Unexpected { at: 8 }),
-    ];
-    check_refused(&rt, rt.alloc(), &X, &cases)
-}
-
-#[test]
-fn the_same_where_a_column_is_called_distinct(rt: HostRuntime) -> Result<(), Fail> {
-    let cases = [
-        (
-            "skyline of distinct , min",
-            TermFault::Unexpected { at: 20 },
-        ),
-        ("skyline of distinct x", TermFault::Unexpected { at: 20 }),
-        ("skyline of distinct x ?", TermFault::Unexpected { at: 20 }),
-        (
-            "skyline of distinct x , x min",
-            TermFault::Unexpected { at: 20 },
-        ),
-        (
-            "skyline of distinct distinct distinct min",
-            TermFault::Unexpected { at: 29 },
-        ),
-        (
-            "skyline of of distinct min",
-            TermFault::Unexpected { at: 14 },
-        ),
-        ("skyline of distinct diff, x diff", TermFault::NoMinOrMax),
-    ];
-    check_refused(&rt, rt.alloc(), &WORDS, &cases)
-}
-
-/// Texts, whether of equal rows one is kept, how many columns group the rows, and what is shown.
 #[test]
 fn the_word_and_a_column_of_that_name(rt: HostRuntime) -> Result<(), Fail> {
-    let alloc = rt.alloc();
-    let schema = Schema::new(alloc, &WORDS)?;
-    let cases = [
-        ("skyline of distinct min", false, "best low(distinct)"),
-        ("Skyline Of distinct Min", false, "best low(distinct)"),
-        (
-            "skyline of distinct min, x max",
-            false,
-            "best low(distinct) * high(x)",
-        ),
-        (
-            "skyline of distinct max , distinct min",
-            false,
-            "best high(distinct) * low(distinct)",
-        ),
-        (
-            "skyline of x min, distinct diff",
-            false,
-            "best low(x) by distinct",
-        ),
-        (
-            "skyline of Distinct x min",
-            true,
-            "skyline of distinct x min",
-        ),
-        (
-            "SKYLINE OF DISTINCT distinct MIN, x DIFF",
-            true,
-            "skyline of distinct distinct min, x diff",
-        ),
-        (
-            "skyline of distinct min min",
-            true,
-            "skyline of distinct min min",
-        ),
-        (
-            "skyline of distinct diff diff, max max",
-            true,
-            "skyline of distinct max max, diff diff",
-        ),
-        (
-            "skyline of DISTINCT of max, x Diff, min MIN , of diff, x max",
-            true,
-            "skyline of distinct of max, min min, x max, x diff, of diff",
-        ),
-    ];
-    for (text, distinct, wanted) in cases {
-        let ask = read_ask(alloc, &schema, text.as_bytes())?;
-        assert_same(&rt, text, &ask.distinct(), &distinct);
-        let shown = show(alloc, &schema, &ask)?;
-        assert_same_list(&rt, text, shown.as_slice(), wanted.as_bytes());
-        let again = read_ask(alloc, &schema, shown.as_slice())?;
-        assert_same(&rt, wanted, &(again == ask), &true);
-    }
-    Ok(())
+    let schema = Schema::new(rt.alloc(), &WORDS)?;
+    check_clauses(&rt, rt.alloc(), &schema, &CLAUSES)
 }
 
 #[test]
 fn a_distinct_clause_is_another_question(rt: HostRuntime) -> Result<(), Fail> {
-    let alloc = rt.alloc();
-    let schema = Schema::new(alloc, &WORDS)?;
-    let plain = read_ask(alloc, &schema, b"skyline of x min")?;
-    let distinct = read_ask(alloc, &schema, b"skyline of distinct x min")?;
-    assert_same(&rt, "one of the two", &(plain == distinct), &false);
+    let plain = b"skyline of x min";
+    let distinct = b"skyline of distinct x min";
+    let equal = are_equal(rt.alloc(), &WORDS, plain, distinct)?;
+    assert_same(&rt, "one of the two", &equal, &false);
     Ok(())
 }
 
 /// Whether two rows over the columns x, y and z are twins.
 fn are_twins(alloc: Global, text: &[u8], a: &[i64; 3], b: &[i64; 3]) -> Result<bool, Fail> {
-    let names: [&[u8]; 3] = [b"x", b"y", b"z"];
-    let schema = Schema::new(alloc, &names)?;
-    let ask: Ask = read_ask(alloc, &schema, text)?;
-    let first = Row::of(&schema, a.as_slice())?;
-    let second = Row::of(&schema, b.as_slice())?;
+    let first = row_over(alloc, &XYZ, a)?;
+    let second = row_over(alloc, &XYZ, b)?;
+    let ask = ask_over(alloc, &XYZ, text)?;
     Ok(ask.twin(&first, &second))
 }
 
+const TWINS: [(&str, [i64; 3], [i64; 3], bool); 6] = [
+    (
+        "skyline of distinct x min, y diff",
+        [1, 2, 3],
+        [1, 2, 4],
+        true,
+    ),
+    (
+        "skyline of distinct x min, y diff",
+        [1, 2, 3],
+        [1, 3, 3],
+        false,
+    ),
+    (
+        "skyline of distinct x min, y max",
+        [1, 2, 3],
+        [1, 2, 4],
+        true,
+    ),
+    (
+        "skyline of distinct x min, y max",
+        [1, 2, 3],
+        [2, 3, 3],
+        false,
+    ),
+    ("skyline of x min, y diff", [1, 2, 3], [1, 2, 3], false),
+    ("best low(x)", [1, 2, 3], [1, 2, 3], false),
+];
+
 #[test]
 fn twins_are_equal_in_each_column_of_the_clause(rt: HostRuntime) -> Result<(), Fail> {
-    let cases = [
-        (
-            "skyline of distinct x min, y diff",
-            [1, 2, 3],
-            [1, 2, 4],
-            true,
-        ),
-        (
-            "skyline of distinct x min, y diff",
-            [1, 2, 3],
-            [1, 3, 3],
-            false,
-        ),
-        (
-            "skyline of distinct x min, y max",
-            [1, 2, 3],
-            [1, 2, 4],
-            true,
-        ),
-        (
-            "skyline of distinct x min, y max",
-            [1, 2, 3],
-            [2, 3, 3],
-            false,
-        ),
-        ("skyline of x min, y diff", [1, 2, 3], [1, 2, 3], false),
-        ("best low(x)", [1, 2, 3], [1, 2, 3], false),
-    ];
-    for (text, first, second, wanted) in cases {
-        let found = are_twins(rt.alloc(), text.as_bytes(), &first, &second)?;
-        assert_same(&rt, (text, first, second), &found, &wanted);
+    for (text, first, second, wanted) in &TWINS {
+        let found = are_twins(rt.alloc(), text.as_bytes(), first, second)?;
+        assert_same(&rt, (*text, first, second), &found, wanted);
     }
     Ok(())
 }

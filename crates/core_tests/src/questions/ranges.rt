@@ -1,116 +1,113 @@
 //! Questions with a range: where it is empty, and how far rows lie outside it.
-use super::{check_standings, fault};
-use crate::same::assert_same;
+use super::{X, check_refused, check_standings};
 use pref_term::{Relation, TermFault};
 use std::test::Fail;
+
+const REFUSED: [(&str, TermFault); 14] = [
+    ("best between(x, 5, 4)", TermFault::EmptyRange { at: 19 }),
+    ("best between(x, 5, -5)", TermFault::EmptyRange { at: 19 }),
+    ("best between(x, -5, - 6)", TermFault::EmptyRange { at: 20 }),
+    ("best between(x, 5, 4", TermFault::EmptyRange { at: 19 }),
+    ("best between(x, 5, 4, 3)", TermFault::EmptyRange { at: 19 }),
+    (
+        "best low(x) * between(x, -1, -2) by q",
+        TermFault::EmptyRange { at: 29 },
+    ),
+    (
+        "best between(x, 9223372036854775808, 5)",
+        TermFault::NumberRange { at: 16 },
+    ),
+    (
+        "best between(x, 5, 9223372036854775808)",
+        TermFault::NumberRange { at: 19 },
+    ),
+    (
+        "best between(x, 5, -9223372036854775809)",
+        TermFault::NumberRange { at: 19 },
+    ),
+    ("best between(x, 5, 05) +", TermFault::Unexpected { at: 23 }),
+    ("best between(x, 5)", TermFault::Unexpected { at: 17 }),
+    ("best between(x, 5, -", TermFault::Unexpected { at: 20 }),
+    ("best between(z, 5, 4)", TermFault::UnknownColumn { at: 13 }),
+    ("best Between(x, 1, 2)", TermFault::Unexpected { at: 5 }),
+];
 
 /// Reported at the right end, when its digits are read; a number out of range is reported before.
 #[test]
 fn an_empty_range_is_told_at_its_right_end(rt: HostRuntime) {
-    let cases = [
-        ("best between(x, 5, 4)", TermFault::EmptyRange { at: 19 }),
-        ("best between(x, 5, -5)", TermFault::EmptyRange { at: 19 }),
-        ("best between(x, -5, - 6)", TermFault::EmptyRange { at: 20 }),
-        ("best between(x, 5, 4", TermFault::EmptyRange { at: 19 }),
-        ("best between(x, 5, 4, 3)", TermFault::EmptyRange { at: 19 }),
-        (
-            "best low(x) * between(x, -1, -2) by q",
-            TermFault::EmptyRange { at: 29 },
-        ),
-        (
-            "best between(x, 9223372036854775808, 5)",
-            TermFault::NumberRange { at: 16 },
-        ),
-        (
-            "best between(x, 5, 9223372036854775808)",
-            TermFault::NumberRange { at: 19 },
-        ),
-        (
-            "best between(x, 5, -9223372036854775809)",
-            TermFault::NumberRange { at: 19 },
-        ),
-        ("best between(x, 5, 05) +", TermFault::Unexpected { at: 23 }),
-        ("best between(x, 5)", TermFault::Unexpected { at: 17 }),
-        ("best between(x, 5, -", TermFault::Unexpected { at: 20 }),
-        ("best between(z, 5, 4)", TermFault::UnknownColumn { at: 13 }),
-        ("best Between(x, 1, 2)", TermFault::Unexpected { at: 5 }),
-    ];
-    for (text, wanted) in cases {
-        let found = fault(rt.alloc(), text.as_bytes());
-        assert_same(&rt, text, &found, &Some(wanted));
-    }
+    check_refused(&rt, rt.alloc(), &X, &REFUSED);
 }
+
+const STANDINGS: [(&str, [i64; 3], [i64; 3], Relation); 11] = [
+    (
+        "best between(x, 5, 9)",
+        [4, 0, 0],
+        [12, 0, 0],
+        Relation::Better,
+    ),
+    (
+        "best between(x, 5, 9)",
+        [1, 0, 0],
+        [12, 0, 0],
+        Relation::Worse,
+    ),
+    (
+        "best between(x, 5, 9)",
+        [5, 0, 0],
+        [9, 0, 0],
+        Relation::Same,
+    ),
+    (
+        "best between(x, 5, 9)",
+        [9, 0, 0],
+        [10, 0, 0],
+        Relation::Better,
+    ),
+    (
+        "best between(x, 5, 9)",
+        [5, 0, 0],
+        [4, 0, 0],
+        Relation::Better,
+    ),
+    (
+        "best between(x, 5, 9)",
+        [3, 0, 0],
+        [11, 0, 0],
+        Relation::Same,
+    ),
+    (
+        "best between(x, 9223372036854775807, 9223372036854775807)",
+        [i64::MIN + 1, 0, 0],
+        [i64::MIN, 0, 0],
+        Relation::Better,
+    ),
+    (
+        "best between(x, -9223372036854775808, -9223372036854775808)",
+        [i64::MAX, 0, 0],
+        [i64::MAX - 1, 0, 0],
+        Relation::Worse,
+    ),
+    (
+        "best between(x, -9223372036854775808, 9223372036854775807)",
+        [i64::MIN, 0, 0],
+        [i64::MAX, 0, 0],
+        Relation::Same,
+    ),
+    (
+        "best -between(x, 4, 6) & low(y)",
+        [12, 0, 0],
+        [0, 1, 0],
+        Relation::Better,
+    ),
+    (
+        "best between(x, 4, 6) by y",
+        [5, 1, 0],
+        [9, 2, 0],
+        Relation::Neither,
+    ),
+];
 
 #[test]
 fn rows_stand_by_how_far_they_lie_outside(rt: HostRuntime) -> Result<(), Fail> {
-    let (least, most) = (i64::MIN, i64::MAX);
-    let cases = [
-        (
-            "best between(x, 5, 9)",
-            [4, 0, 0],
-            [12, 0, 0],
-            Relation::Better,
-        ),
-        (
-            "best between(x, 5, 9)",
-            [1, 0, 0],
-            [12, 0, 0],
-            Relation::Worse,
-        ),
-        (
-            "best between(x, 5, 9)",
-            [5, 0, 0],
-            [9, 0, 0],
-            Relation::Same,
-        ),
-        (
-            "best between(x, 5, 9)",
-            [9, 0, 0],
-            [10, 0, 0],
-            Relation::Better,
-        ),
-        (
-            "best between(x, 5, 9)",
-            [5, 0, 0],
-            [4, 0, 0],
-            Relation::Better,
-        ),
-        (
-            "best between(x, 5, 9)",
-            [3, 0, 0],
-            [11, 0, 0],
-            Relation::Same,
-        ),
-        (
-            "best between(x, 9223372036854775807, 9223372036854775807)",
-            [least + 1, 0, 0],
-            [least, 0, 0],
-            Relation::Better,
-        ),
-        (
-            "best between(x, -9223372036854775808, -9223372036854775808)",
-            [most, 0, 0],
-            [most - 1, 0, 0],
-            Relation::Worse,
-        ),
-        (
-            "best between(x, -9223372036854775808, 9223372036854775807)",
-            [least, 0, 0],
-            [most, 0, 0],
-            Relation::Same,
-        ),
-        (
-            "best -between(x, 4, 6) & low(y)",
-            [12, 0, 0],
-            [0, 1, 0],
-            Relation::Better,
-        ),
-        (
-            "best between(x, 4, 6) by y",
-            [5, 1, 0],
-            [9, 2, 0],
-            Relation::Neither,
-        ),
-    ];
-    check_standings(&rt, rt.alloc(), &cases)
+    check_standings(&rt, rt.alloc(), &STANDINGS)
 }

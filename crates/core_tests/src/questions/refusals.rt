@@ -1,24 +1,28 @@
 //! Requests for memory that are refused. `tests/refuse_each_allocation.sh` runs these tests once for each of their requests,
 //! and refuses it; where none is refused they show that the calls succeed.
+ghost use Rattle.std.specs.Prelude.{length};
+ghost use Rattle.pref_term.specs.Question.{FitsWidth};
+
+use super::{XYG, row_over};
 use crate::same::{assert_same, assert_same_list};
-use pref_table::{Row, Schema};
+use pref_table::Schema;
 use pref_term::{Ask, Dominance, Mode, Relation, TermFault, read_ask, show};
 use std::alloc::Global;
 use std::process::Abort;
 use std::test::Fail;
 
 fn columns(alloc: Global) -> Result<Schema, Fail> {
-    let names = [b"x".as_slice(), b"y".as_slice(), b"g".as_slice()];
-    Ok(Schema::new(alloc, names.as_slice())?)
+    Ok(Schema::new(alloc, &XYG)?)
 }
 
-/// A question that is read, again where memory was refused.
-fn read_in_the_end(rt: &impl Abort, alloc: Global, schema: &Schema, question: &[u8]) -> Ask {
-    match read_ask(alloc, schema, question) {
-        Ok(ask) => ask,
+/// A question over these columns that is read, again where memory was refused.
+fn read_in_the_end(rt: &impl Abort, alloc: Global, question: &[u8]) -> Result<Ask, Fail> {
+    let schema = columns(alloc)?;
+    match read_ask(alloc, &schema, question) {
+        Ok(ask) => Ok(ask),
         Err(fault) => {
             assert_same(rt, "refused", &fault, &TermFault::OutOfMemory);
-            read_ask(alloc, schema, question).expect(rt, "memory")
+            Ok(read_ask(alloc, &schema, question).expect(rt, "memory"))
         }
     }
 }
@@ -28,9 +32,7 @@ const QUESTION: &[u8] =
 
 #[test]
 fn a_refused_reading_of_a_question_is_told_and_made_again(rt: HostRuntime) -> Result<(), Fail> {
-    let alloc = rt.alloc();
-    let schema = columns(alloc)?;
-    let ask = read_in_the_end(&rt, alloc, &schema, QUESTION);
+    let ask = read_in_the_end(&rt, rt.alloc(), QUESTION)?;
     assert_same(&rt, "mode", &ask.mode(), &Mode::AtLeast(20));
     assert_same_list(&rt, "group", ask.group(), [2, 0].as_slice());
     Ok(())
@@ -38,12 +40,10 @@ fn a_refused_reading_of_a_question_is_told_and_made_again(rt: HostRuntime) -> Re
 
 #[test]
 fn a_refused_reading_of_a_product_is_told_and_made_again(rt: HostRuntime) -> Result<(), Fail> {
-    let alloc = rt.alloc();
-    let schema = columns(alloc)?;
     let question = b"best low(x) * -around(y, -3) * high(g) * between(g, 1, 2)";
-    let ask = read_in_the_end(&rt, alloc, &schema, question);
-    let first = Row::of(&schema, [1, 0, 2].as_slice())?;
-    let second = Row::of(&schema, [1, -2, 2].as_slice())?;
+    let first = row_over(rt.alloc(), &XYG, &[1, 0, 2])?;
+    let second = row_over(rt.alloc(), &XYG, &[1, -2, 2])?;
+    let ask = read_in_the_end(&rt, rt.alloc(), question)?;
     let relation = ask.compare(&first, &second);
     assert_same(&rt, "rows", &relation, &Relation::Better);
     Ok(())
@@ -53,24 +53,28 @@ fn a_refused_reading_of_a_product_is_told_and_made_again(rt: HostRuntime) -> Res
 fn a_refused_reading_of_a_distinct_clause_is_told_and_made_again(
     rt: HostRuntime,
 ) -> Result<(), Fail> {
-    let alloc = rt.alloc();
-    let schema = columns(alloc)?;
     let question = b"skyline of distinct x min, g diff, y max";
-    let ask = read_in_the_end(&rt, alloc, &schema, question);
+    let ask = read_in_the_end(&rt, rt.alloc(), question)?;
     assert_same(&rt, "distinct", &ask.distinct(), &true);
     assert_same_list(&rt, "group", ask.group(), [2].as_slice());
     Ok(())
 }
 
+/// What is shown of the question, again where memory was refused.
+fn check_showing(rt: &impl Abort, alloc: Global, schema: &Schema, ask: &Ask)
+    requires { FitsWidth (length schema.now) ask.now }
+{
+    let text = match show(alloc, schema, ask) {
+        Ok(text) => text,
+        Err(_) => show(alloc, schema, ask).expect(rt, "memory"),
+    };
+    assert_same_list(rt, "text", text.as_slice(), QUESTION);
+}
+
 #[test]
 fn a_refused_showing_is_told_and_made_again(rt: HostRuntime) -> Result<(), Fail> {
-    let alloc = rt.alloc();
-    let schema = columns(alloc)?;
-    let ask = read_ask(alloc, &schema, QUESTION)?;
-    let text = match show(alloc, &schema, &ask) {
-        Ok(text) => text,
-        Err(_) => show(alloc, &schema, &ask).expect(&rt, "memory"),
-    };
-    assert_same_list(&rt, "text", text.as_slice(), QUESTION);
+    let schema = columns(rt.alloc())?;
+    let ask = read_ask(rt.alloc(), &schema, QUESTION)?;
+    check_showing(&rt, rt.alloc(), &schema, &ask);
     Ok(())
 }

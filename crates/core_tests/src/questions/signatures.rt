@@ -1,63 +1,128 @@
 //! Signatures of rows, by the cuts that questions make and take.
+use super::{XY, ask_over, row_over};
 use crate::same::assert_same;
-use pref_table::{Row, Schema};
-use pref_term::{Dominance, Relation, is_within, read_ask};
+use pref_table::Row;
+use pref_term::{Ask, Cuts, Dominance, Relation, is_within};
 use std::alloc::Global;
+use std::process::Abort;
 use std::test::Fail;
 
-/// The columns x and y.
-fn two_columns(alloc: Global) -> Result<Schema, Fail> {
-    let names = [b"x".as_slice(), b"y".as_slice()];
-    Ok(Schema::new(alloc, names.as_slice())?)
-}
-
 /// All rows with cells from -1 to 1.
-fn small_rows(alloc: Global, schema: &Schema) -> Result<Vec<Row>, Fail> {
+pub(super) fn small_rows(alloc: Global) -> Result<Vec<Row>, Fail> {
     let mut rows = Vec::new(alloc);
     for place in 0..9 {
-        rows.push(Row::of(schema, [place % 3 - 1, place / 3 - 1].as_slice())?)?;
+        let cells = [place % 3 - 1, place / 3 - 1];
+        rows.push(row_over(alloc, &XY, &cells)?)?;
     }
     Ok(rows)
+}
+
+const LEADING_PARTS: [(&str, &str); 8] = [
+    ("best low(x) * high(y)", "best low(x) * high(y)"),
+    (
+        "best around(x, 1) * -around(y, 0)",
+        "best around(x, 1) * -around(y, 0)",
+    ),
+    (
+        "best between(x, 0, 1) * -between(y, 0, 1)",
+        "best between(x, 0, 1) * -between(y, 0, 1)",
+    ),
+    ("best low(x) & high(y)", "best low(x)"),
+    ("best -(high(x) & low(y))", "best low(x)"),
+    ("best low(x) * pos(y, 0)", "best low(x)"),
+    ("at_least 3 -low(x) by y", "best high(x) by y"),
+    (
+        "skyline of distinct x min, y diff",
+        "skyline of x min, y diff",
+    ),
+];
+
+/// The cuts that a question makes from these rows.
+fn cuts_of(alloc: Global, rows: &[Row], text: &[u8]) -> Result<Cuts, Fail> {
+    Ok(ask_over(alloc, &XY, text)?.cuts(alloc, rows)?)
+}
+
+/// Whether a question suits the cuts that another one makes from these rows.
+fn suits_cuts_of(alloc: Global, rows: &[Row], text: &[u8], other: &[u8]) -> Result<bool, Fail> {
+    let cuts = cuts_of(alloc, rows, other)?;
+    Ok(ask_over(alloc, &XY, text)?.suits(&cuts))
+}
+
+/// Of all pairs of these rows the signature of the first is within that of the second just where the first is not worse.
+fn check_pairs(rt: &impl Abort, text: &str, ask: &Ask, cuts: &Cuts, rows: &[Row]) {
+    for first in rows {
+        for second in rows {
+            let within = is_within(cuts.signature(first), cuts.signature(second));
+            let relation = ask.compare(first, second);
+            let wanted = matches!(relation, Relation::Better | Relation::Same);
+            assert_same(rt, (text, first, second), &within, &wanted);
+        }
+    }
+}
+
+/// A question suits the cuts that it makes from a sample, and they tell the rows apart as its leading part does.
+fn check_signatures(
+    rt: &impl Abort,
+    alloc: Global,
+    (text, leading): (&str, &str),
+    sample: &[Row],
+    rows: &[Row],
+) -> Result<(), Fail> {
+    let (question, leading) = (text.as_bytes(), leading.as_bytes());
+    let suits = suits_cuts_of(alloc, sample, question, question)?;
+    assert_same(rt, text, &suits, &true);
+    let cuts = cuts_of(alloc, sample, question)?;
+    let part = ask_over(alloc, &XY, leading)?;
+    check_pairs(rt, text, &part, &cuts, rows);
+    Ok(())
+}
+
+/// Questions and their leading parts, each with the cuts that it makes from these rows.
+fn check_leading_parts(
+    rt: &impl Abort,
+    alloc: Global,
+    rows: &[Row],
+    cases: &[(&str, &str)],
+) -> Result<(), Fail> {
+    for case in cases {
+        check_signatures(rt, alloc, *case, rows, rows)?;
+    }
+    Ok(())
 }
 
 /// Where there is a cut at each value, a signature is within another just where its row is worse in no leading part.
 #[test]
 fn few_values_are_told_apart(rt: HostRuntime) -> Result<(), Fail> {
-    let alloc = rt.alloc();
-    let schema = two_columns(alloc)?;
-    let rows = small_rows(alloc, &schema)?;
-    let cases = [
-        ("best low(x) * high(y)", "best low(x) * high(y)"),
-        (
-            "best around(x, 1) * -around(y, 0)",
-            "best around(x, 1) * -around(y, 0)",
-        ),
-        (
-            "best between(x, 0, 1) * -between(y, 0, 1)",
-            "best between(x, 0, 1) * -between(y, 0, 1)",
-        ),
-        ("best low(x) & high(y)", "best low(x)"),
-        ("best -(high(x) & low(y))", "best low(x)"),
-        ("best low(x) * pos(y, 0)", "best low(x)"),
-        ("at_least 3 -low(x) by y", "best high(x) by y"),
-        (
-            "skyline of distinct x min, y diff",
-            "skyline of x min, y diff",
-        ),
-    ];
-    for (text, leading) in cases {
-        let ask = read_ask(alloc, &schema, text.as_bytes())?;
-        let parts = read_ask(alloc, &schema, leading.as_bytes())?;
-        let cuts = ask.cuts(alloc, &rows)?;
-        assert_same(&rt, text, &ask.suits(&cuts), &true);
-        for first in &rows {
-            for second in &rows {
-                let within = is_within(cuts.signature(first), cuts.signature(second));
-                let relation = parts.compare(first, second);
-                let wanted = matches!(relation, Relation::Better | Relation::Same);
-                assert_same(&rt, (text, first, second), &within, &wanted);
-            }
-        }
+    let rows = small_rows(rt.alloc())?;
+    check_leading_parts(&rt, rt.alloc(), &rows, &LEADING_PARTS)
+}
+
+const TAKERS: [(&str, &str, bool); 13] = [
+    ("best low(x) * low(y)", "best low(y)", true),
+    ("best low(x) & low(y)", "best low(x)", true),
+    ("best low(x) & low(y)", "best low(y)", false),
+    ("best low(x)", "best high(x)", false),
+    ("best -low(x)", "best low(x)", false),
+    ("best -(low(x) * -low(y))", "best low(y)", true),
+    ("best between(x, 1, 1)", "best around(x, 1)", true),
+    ("best around(x, 1)", "best around(x, 2)", false),
+    ("best low(x) by y", "best -low(y)", true),
+    ("best low(x) by x, y", "best low(y) by x", true),
+    ("best low(x) by y", "best low(x) by x", false),
+    ("best low(x)", "best low(x) by y", false),
+    ("best low(x)", "best pos(x, 1)", true),
+];
+
+/// Two questions each, and whether the first takes the cuts that the second makes from these rows.
+fn check_takers(
+    rt: &impl Abort,
+    alloc: Global,
+    rows: &[Row],
+    cases: &[(&str, &str, bool)],
+) -> Result<(), Fail> {
+    for (text, other, wanted) in cases {
+        let found = suits_cuts_of(alloc, rows, text.as_bytes(), other.as_bytes())?;
+        assert_same(rt, (*text, *other), &found, wanted);
     }
     Ok(())
 }
@@ -65,51 +130,24 @@ fn few_values_are_told_apart(rt: HostRuntime) -> Result<(), Fail> {
 /// Whether a question takes the cuts of another.
 #[test]
 fn cuts_of_other_questions(rt: HostRuntime) -> Result<(), Fail> {
-    let alloc = rt.alloc();
-    let schema = two_columns(alloc)?;
-    let rows = small_rows(alloc, &schema)?;
-    let cases = [
-        ("best low(x) * low(y)", "best low(y)", true),
-        ("best low(x) & low(y)", "best low(x)", true),
-        ("best low(x) & low(y)", "best low(y)", false),
-        ("best low(x)", "best high(x)", false),
-        ("best -low(x)", "best low(x)", false),
-        ("best -(low(x) * -low(y))", "best low(y)", true),
-        ("best between(x, 1, 1)", "best around(x, 1)", true),
-        ("best around(x, 1)", "best around(x, 2)", false),
-        ("best low(x) by y", "best -low(y)", true),
-        ("best low(x) by x, y", "best low(y) by x", true),
-        ("best low(x) by y", "best low(x) by x", false),
-        ("best low(x)", "best low(x) by y", false),
-        ("best low(x)", "best pos(x, 1)", true),
-    ];
-    for (text, other, wanted) in cases {
-        let ask = read_ask(alloc, &schema, text.as_bytes())?;
-        let cuts = read_ask(alloc, &schema, other.as_bytes())?.cuts(alloc, &rows)?;
-        assert_same(&rt, (text, other), &ask.suits(&cuts), &wanted);
+    let rows = small_rows(rt.alloc())?;
+    check_takers(&rt, rt.alloc(), &rows, &TAKERS)
+}
+
+/// The rows of 40 groups of two.
+fn rows_of_groups(alloc: Global) -> Result<Vec<Row>, Fail> {
+    let mut rows = Vec::new(alloc);
+    for place in 0..80 {
+        rows.push(row_over(alloc, &XY, &[place % 2, place / 2])?)?;
     }
-    Ok(())
+    Ok(rows)
 }
 
 /// Rows of different groups are distinguished both ways, also by cuts from rows of few groups; those of one group by the term.
 #[test]
 fn groups_are_told_apart(rt: HostRuntime) -> Result<(), Fail> {
-    let alloc = rt.alloc();
-    let schema = two_columns(alloc)?;
-    let mut rows = Vec::new(alloc);
-    for place in 0..80 {
-        rows.push(Row::of(&schema, [place % 2, place / 2].as_slice())?)?;
-    }
-    let ask = read_ask(alloc, &schema, b"best low(x) by y")?;
-    let cuts = ask.cuts(alloc, &small_rows(alloc, &schema)?)?;
-    assert_same(&rt, "suits", &ask.suits(&cuts), &true);
-    for first in &rows {
-        for second in &rows {
-            let within = is_within(cuts.signature(first), cuts.signature(second));
-            let relation = ask.compare(first, second);
-            let wanted = matches!(relation, Relation::Better | Relation::Same);
-            assert_same(&rt, (first, second), &within, &wanted);
-        }
-    }
-    Ok(())
+    let question = "best low(x) by y";
+    let sample = small_rows(rt.alloc())?;
+    let rows = rows_of_groups(rt.alloc())?;
+    check_signatures(&rt, rt.alloc(), (question, question), &sample, &rows)
 }

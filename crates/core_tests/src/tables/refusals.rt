@@ -1,39 +1,56 @@
 //! Requests for memory that are refused. `tests/refuse_each_allocation.sh` runs these tests once for each of their requests,
 //! and refuses it; where none is refused they show that the calls succeed.
+use super::pair;
 use crate::same::assert_same;
-use pref_table::{Schema, TableFault, read_table};
+use pref_table::{Row, Schema, TableFault, read_table};
+use std::alloc::Global;
+use std::process::Abort;
+
+/// A table text that is read, again where memory was refused.
+fn read_in_the_end(rt: &impl Abort, alloc: Global, text: &[u8]) -> (Schema, Vec<Row>) {
+    match read_table(alloc, text) {
+        Ok(table) => table,
+        Err(fault) => {
+            assert_same(rt, "refused", &fault, &TableFault::OutOfMemory);
+            read_table(alloc, text).expect(rt, "memory")
+        }
+    }
+}
+
+fn check_columns(rt: &impl Abort, schema: &Schema) {
+    assert_same(rt, "width", &schema.width(), &2);
+    assert_same(rt, "city", &schema.index_of(b"city"), &Some(1));
+}
+
+/// There are five rows; the second and the last are looked at.
+fn check_rows(rt: &impl Abort, rows: &[Row]) {
+    assert_same(rt, "rows", &rows.len(), &5);
+    let cells = (rows.get(1).map(pair), rows.get(4).map(pair));
+    assert_same(rt, "cells", &cells, &(Some((-3, 4)), Some((9, 10))));
+}
 
 #[test]
 fn a_refused_reading_of_a_table_is_told_and_made_again(rt: HostRuntime) {
-    let alloc = rt.alloc();
     let text = b"price,\"city\"\n1,2\n\"-3\",4\n5,6\n7,8\n9,10\n";
-    let (schema, rows) = match read_table(alloc, text) {
-        Ok(table) => table,
+    let (schema, rows) = read_in_the_end(&rt, rt.alloc(), text);
+    check_columns(&rt, &schema);
+    check_rows(&rt, rows.as_slice());
+}
+
+/// A schema of these columns, made again where memory was refused.
+fn schema_in_the_end(rt: &impl Abort, alloc: Global, names: &[&[u8]]) -> Schema {
+    match Schema::new(alloc, names) {
+        Ok(schema) => schema,
         Err(fault) => {
-            assert_same(&rt, "refused", &fault, &TableFault::OutOfMemory);
-            read_table(alloc, text).expect(&rt, "memory")
+            assert_same(rt, "refused", &fault, &TableFault::OutOfMemory);
+            Schema::new(alloc, names).expect(rt, "memory")
         }
-    };
-    assert_same(&rt, "width", &schema.width(), &2);
-    assert_same(&rt, "city", &schema.index_of(b"city"), &Some(1));
-    assert_same(&rt, "rows", &rows.len(), &5);
-    let cells = (
-        rows.get(1).map(|row| row.cell(0)),
-        rows.get(4).map(|row| row.cell(1)),
-    );
-    assert_same(&rt, "cells", &cells, &(Some(-3), Some(10)));
+    }
 }
 
 #[test]
 fn a_refused_schema_is_told_and_made_again(rt: HostRuntime) {
-    let alloc = rt.alloc();
     let names = [b"x".as_slice(), b"y".as_slice(), b"z".as_slice()];
-    let schema = match Schema::new(alloc, names.as_slice()) {
-        Ok(schema) => schema,
-        Err(fault) => {
-            assert_same(&rt, "refused", &fault, &TableFault::OutOfMemory);
-            Schema::new(alloc, names.as_slice()).expect(&rt, "memory")
-        }
-    };
+    let schema = schema_in_the_end(&rt, rt.alloc(), names.as_slice());
     assert_same(&rt, "z", &schema.index_of(b"z"), &Some(2));
 }
