@@ -13,9 +13,10 @@ use pref_core::{
     Act, BoxedCommit, Change, Commit, Committed, CoreFault, Event, Machine, RankedList, Reply,
     Setup, Store, replay, replay_part,
 };
+use pref_sky::Ranked;
 use pref_table::{Row, Schema};
 use pref_term::read_ask;
-use std::alloc::Global;
+use std::alloc::{AllocError, Global};
 use std::process::Abort;
 use std::test::Fail;
 
@@ -55,12 +56,22 @@ fn row(schema: &Schema, value: i64) -> Result<Row, Fail> {
     Ok(Row::of(schema, cells.as_slice())?)
 }
 
+/// A row of the column x alone, for those who need no schema beside it.
+fn row_of(alloc: Global, value: i64) -> Result<Row, Fail> {
+    row(&columns(alloc)?, value)
+}
+
 fn rows(alloc: Global, schema: &Schema, values: &[i64]) -> Result<Vec<Row>, Fail> {
     let mut made = Vec::new(alloc);
     for value in values {
         made.push(row(schema, *value)?)?;
     }
     Ok(made)
+}
+
+/// The same for rows.
+fn opening_rows(alloc: Global, values: &[i64]) -> Result<Vec<Row>, Fail> {
+    rows(alloc, &columns(alloc)?, values)
 }
 
 fn change(schema: &Schema, changes: Changes) -> Result<Change, Fail> {
@@ -84,14 +95,18 @@ fn commit_act(alloc: Global, changes: &[Change]) -> Result<Act, Fail> {
     Ok(Act::Commit(BoxedCommit::new(alloc, commit)?))
 }
 
+fn begin_act(alloc: Global, schema: &Schema, question: &[u8]) -> Result<Act, Fail> {
+    Ok(Act::Begin(read_ask(alloc, schema, question)?))
+}
+
 fn act(alloc: Global, schema: &Schema, does: Does) -> Result<Act, Fail> {
     Ok(match does {
         Does::Inserts(value) => Act::Insert(row(schema, value)?),
         Does::Updates(id, value) => Act::Update(id, row(schema, value)?),
         Does::Deletes(id) => Act::Delete(id),
-        Does::Commits(list) => commit_act(alloc, &changes_of(alloc, schema, list)?)?,
-        Does::Begins => Act::Begin(read_ask(alloc, schema, b"best low(x)")?),
-        Does::Asks(question) => Act::Begin(read_ask(alloc, schema, question)?),
+        Does::Commits(list) => return commit_act(alloc, &changes_of(alloc, schema, list)?),
+        Does::Begins => return begin_act(alloc, schema, b"best low(x)"),
+        Does::Asks(question) => return begin_act(alloc, schema, question),
         Does::Scans => Act::Scan,
         Does::Finishes => Act::Finish,
         Does::Abandons => Act::Abandon,
@@ -100,43 +115,52 @@ fn act(alloc: Global, schema: &Schema, does: Does) -> Result<Act, Fail> {
     })
 }
 
+/// A row of an answer: its level, its id and its x.
+fn push_ranked_text(alloc: Global, text: &mut String, ranked: &Ranked) -> Result<(), AllocError> {
+    let level = ranked.level;
+    let id = ranked.id;
+    let value = ranked.row.cell(0);
+    text.push_str(format!(in alloc; " level {level} id {id}: {value}")?.as_str())
+}
+
 /// The rows of an answer: of each its level, its id and its x.
-fn answer_text(alloc: Global, list: &RankedList) -> Result<String, Fail> {
+fn answer_text(alloc: Global, list: &RankedList) -> Result<String, AllocError> {
     let mut text = format!(in alloc; "answer")?;
     for ranked in list.as_slice() {
-        let level = ranked.level;
-        let id = ranked.id;
-        let value = ranked.row.cell(0);
-        text.push_str(format!(in alloc; " level {level} id {id}: {value}")?.as_str())?;
+        push_ranked_text(alloc, &mut text, ranked)?;
     }
     Ok(text)
 }
 
-fn reply_text(alloc: Global, reply: &Reply) -> Result<String, Fail> {
-    Ok(match reply {
-        Reply::Inserted(id) => format!(in alloc; "inserted {id}")?,
-        Reply::Updated(id) => format!(in alloc; "updated {id}")?,
-        Reply::Deleted(id) => format!(in alloc; "deleted {id}")?,
-        Reply::Committed(told) => committed_text(alloc, told)?,
-        Reply::Begun(blocks) => format!(in alloc; "begun {blocks}")?,
-        Reply::Left(blocks) => format!(in alloc; "left {blocks}")?,
-        Reply::Answer(list) => answer_text(alloc, list)?,
-        Reply::Abandoned => format!(in alloc; "abandoned")?,
-        Reply::Found(id, row) => found_text(alloc, *id, row)?,
-        Reply::Room(room) => format!(in alloc; "room {room}")?,
-        Reply::Refused(fault) => format!(in alloc; "refused: {fault}")?,
-    })
+fn counted_text(alloc: Global, word: &str, number: u64) -> Result<String, AllocError> {
+    format!(in alloc; "{word} {number}")
 }
 
-fn committed_text(alloc: Global, told: &Committed) -> Result<String, Fail> {
+fn reply_text(alloc: Global, reply: &Reply) -> Result<String, AllocError> {
+    match reply {
+        Reply::Inserted(id) => counted_text(alloc, "inserted", *id),
+        Reply::Updated(id) => counted_text(alloc, "updated", *id),
+        Reply::Deleted(id) => counted_text(alloc, "deleted", *id),
+        Reply::Committed(told) => committed_text(alloc, told),
+        Reply::Begun(blocks) => counted_text(alloc, "begun", u64::from(*blocks)),
+        Reply::Left(blocks) => counted_text(alloc, "left", u64::from(*blocks)),
+        Reply::Answer(list) => answer_text(alloc, list),
+        Reply::Abandoned => format!(in alloc; "abandoned"),
+        Reply::Found(id, row) => found_text(alloc, *id, row),
+        Reply::Room(room) => counted_text(alloc, "room", u64::from(*room)),
+        Reply::Refused(fault) => format!(in alloc; "refused: {fault}"),
+    }
+}
+
+fn committed_text(alloc: Global, told: &Committed) -> Result<String, AllocError> {
     let changes = told.changes;
     let first = told.first;
-    Ok(format!(in alloc; "committed {changes} first {first}")?)
+    format!(in alloc; "committed {changes} first {first}")
 }
 
-fn found_text(alloc: Global, id: u64, row: &Row) -> Result<String, Fail> {
+fn found_text(alloc: Global, id: u64, row: &Row) -> Result<String, AllocError> {
     let value = row.cell(0);
-    Ok(format!(in alloc; "row {id}: {value}")?)
+    format!(in alloc; "row {id}: {value}")
 }
 
 fn events_of(alloc: Global, schema: &Schema, run: &[(u8, Does)]) -> Result<Vec<Event>, Fail> {
@@ -150,11 +174,9 @@ fn events_of(alloc: Global, schema: &Schema, run: &[(u8, Does)]) -> Result<Vec<E
     Ok(events)
 }
 
-fn push_reply_text(alloc: Global, text: &mut String, reply: &Reply) -> Result<(), Fail> {
-    let told = reply_text(alloc, reply)?;
-    text.push_str(told.as_str())?;
-    text.push_str(" / ")?;
-    Ok(())
+fn push_reply_text(alloc: Global, text: &mut String, reply: &Reply) -> Result<(), AllocError> {
+    text.push_str(reply_text(alloc, reply)?.as_str())?;
+    text.push_str(" / ")
 }
 
 /// The replies, one after the other.
@@ -164,6 +186,17 @@ fn replies_text(alloc: Global, replies: &[Reply]) -> Result<String, Fail> {
         push_reply_text(alloc, &mut text, reply)?;
     }
     Ok(text)
+}
+
+/// The replies to a run over a table with these rows.
+fn replies_to(
+    alloc: Global,
+    setup: Setup,
+    values: &[i64],
+    run: &[(u8, Does)],
+) -> Result<Vec<Reply>, Fail> {
+    let events = events_of(alloc, &columns(alloc)?, run)?;
+    Ok(replay(alloc, setup, &opening_rows(alloc, values)?, events)?)
 }
 
 /// The replies to a run of eight clients are these.
@@ -176,14 +209,16 @@ fn check_told(
     run: &[(u8, Does)],
     wanted: &str,
 ) -> Result<(), Fail> {
-    let schema = columns(alloc)?;
     let setup = Setup::new(8, capacity, block, 64).ok_or("setup")?;
-    let opening = rows(alloc, &schema, values)?;
-    let events = events_of(alloc, &schema, run)?;
-    let replies = replay(alloc, setup, &opening, events)?;
-    let told = replies_text(alloc, &replies)?;
+    let told = replies_text(alloc, &replies_to(alloc, setup, values, run)?)?;
     assert_same_text(rt, (capacity, values), told.as_str(), wanted);
     Ok(())
+}
+
+/// A store of three slots with these rows, for two clients.
+fn opened_store(alloc: Global, values: &[i64]) -> Result<Store, Fail> {
+    let setup = Setup::new(2, 3, 2, 1).ok_or("setup")?;
+    Ok(Store::new(alloc, &setup, &opening_rows(alloc, values)?)?)
 }
 
 /// Lends a store of three slots with these rows, for two clients, and its schema. A proof pays for each way out of a function that owns
@@ -196,9 +231,14 @@ fn with_store<L: FnOnce(&Schema, &mut Store) -> Result<(), Fail>>(
     requires { L.IsAlwaysCallable look }
 {
     let schema = columns(alloc)?;
-    let setup = Setup::new(2, 3, 2, 1).ok_or("setup")?;
-    let mut store = Store::new(alloc, &setup, &rows(alloc, &schema, values)?)?;
+    let mut store = opened_store(alloc, values)?;
     look(&schema, &mut store)
+}
+
+/// A machine of four slots with two rows, for two clients.
+fn opened_machine(alloc: Global) -> Result<Machine, Fail> {
+    let setup = Setup::new(2, 4, 2, 64).ok_or("setup")?;
+    Ok(Machine::new(alloc, setup, &opening_rows(alloc, &[5, 7])?)?)
 }
 
 /// Lends a machine of four slots with two rows, for two clients, and its schema.
@@ -209,8 +249,7 @@ fn with_machine<L: FnOnce(&Schema, &mut Machine) -> Result<(), Fail>>(
     requires { L.IsAlwaysCallable look }
 {
     let schema = columns(alloc)?;
-    let setup = Setup::new(2, 4, 2, 64).ok_or("setup")?;
-    let mut machine = Machine::new(alloc, setup, &rows(alloc, &schema, &[5, 7])?)?;
+    let mut machine = opened_machine(alloc)?;
     look(&schema, &mut machine)
 }
 
@@ -373,16 +412,22 @@ fn run_at_eight_stamps(alloc: Global) -> Result<Vec<(u8, Does)>, Fail> {
     Ok(run)
 }
 
+/// The replies to that run.
+fn told_at_eight_stamps(alloc: Global) -> Result<String, AllocError> {
+    let mut told = "begun 1 / updated 1 / ".repeat(alloc, 8)?;
+    let finished =
+        "left 0 / answer level 1 id 1: 0 / left 0 / answer level 1 id 1: 1 / left 0 / answer level 1 id 1: 2 / left 0 / answer level 1 id 1: 3 / left 0 / answer level 1 id 1: 4 / left 0 / answer level 1 id 1: 5 / left 0 / answer level 1 id 1: 6 / left 0 / answer level 1 id 1: 7 / room 8 / ";
+    told.push_str(finished)?;
+    Ok(told)
+}
+
 /// Client K begins after K - 1 updates of the one row, and is answered with the row as it was then, while the slots of
 /// the others are needed and used.
 #[test]
 fn eight_clients_ask_at_eight_stamps(rt: HostRuntime) -> Result<(), Fail> {
     let alloc = rt.alloc();
+    let told = told_at_eight_stamps(alloc)?;
     let run = run_at_eight_stamps(alloc)?;
-    let mut told = "begun 1 / updated 1 / ".repeat(alloc, 8)?;
-    let finished =
-        "left 0 / answer level 1 id 1: 0 / left 0 / answer level 1 id 1: 1 / left 0 / answer level 1 id 1: 2 / left 0 / answer level 1 id 1: 3 / left 0 / answer level 1 id 1: 4 / left 0 / answer level 1 id 1: 5 / left 0 / answer level 1 id 1: 6 / left 0 / answer level 1 id 1: 7 / room 8 / ";
-    told.push_str(finished)?;
     check_told(&rt, alloc, 9, 9, &[0], run.as_slice(), told.as_str())
 }
 
@@ -428,9 +473,8 @@ fn a_part_is_the_whole_where_memory_is_there(rt: HostRuntime) -> Result<(), Fail
 #[test]
 fn too_many_opening_rows_are_refused(rt: HostRuntime) -> Result<(), Fail> {
     let alloc = rt.alloc();
-    let schema = columns(alloc)?;
     let setup = Setup::new(1, 2, 1, 1).ok_or("setup")?;
-    let opening = rows(alloc, &schema, &[1, 2, 3])?;
+    let opening = opening_rows(alloc, &[1, 2, 3])?;
     let told = replay(alloc, setup, &opening, Vec::new(alloc)).err();
     assert_same(&rt, "whole", &told, &Some(CoreFault::Full { needed: 3 }));
     let told = replay_part(alloc, setup, &opening, Vec::new(alloc)).err();
@@ -438,14 +482,24 @@ fn too_many_opening_rows_are_refused(rt: HostRuntime) -> Result<(), Fail> {
     Ok(())
 }
 
+/// A setup of eight clients, ten slots, blocks of four and a window of one says so.
+fn check_numbers(rt: &impl Abort, setup: &Setup) {
+    let numbers = [
+        ("clients", u32::from(setup.clients()), 8),
+        ("capacity", setup.capacity(), 10),
+        ("block", setup.block(), 4),
+        ("window", setup.window(), 1),
+        ("blocks", setup.blocks(), 3),
+    ];
+    for (case, found, wanted) in numbers {
+        assert_same(rt, case, &found, &wanted);
+    }
+}
+
 #[test]
 fn a_setup_has_its_limits(rt: HostRuntime) -> Result<(), Fail> {
     let setup = Setup::new(8, 10, 4, 1).ok_or("setup")?;
-    assert_same(&rt, "clients", &setup.clients(), &8);
-    assert_same(&rt, "capacity", &setup.capacity(), &10);
-    assert_same(&rt, "block", &setup.block(), &4);
-    assert_same(&rt, "window", &setup.window(), &1);
-    assert_same(&rt, "blocks", &setup.blocks(), &3);
+    check_numbers(&rt, &setup);
     for (clients, capacity, block, window) in [
         (0, 1, 1, 1),
         (9, 1, 1, 1),

@@ -2,9 +2,11 @@
 
 use super::Changes::{Adds, Removes, Sets};
 use super::Does::{Abandons, Asks, AsksRoom, Begins, Commits, Finishes, Gets, Inserts, Scans};
-use super::{Changes, Does, changes_of, check_told, columns, row};
+use super::{Changes, Does, changes_of, check_told, columns, row_of};
 use crate::same::{assert_same, assert_same_list};
 use pref_core::{Change, Commit, CoreFault};
+use pref_table::Schema;
+use std::alloc::Global;
 use std::test::Fail;
 
 /// Lists of changes, and the refusal that each meets.
@@ -297,8 +299,8 @@ static RUNS: [Run; 12] = [
 
 #[test]
 fn a_commit_has_its_changes_as_they_stand(rt: HostRuntime) -> Result<(), Fail> {
-    let schema = columns(rt.alloc())?;
-    let adds = [Change::Add(row(&schema, 5)?); 8];
+    let added = row_of(rt.alloc(), 5)?;
+    let adds = [Change::Add(added); 8];
     for count in 1..9 {
         let commit = Commit::of(&adds[..count])?;
         assert_same_list(&rt, count, commit.as_slice(), &adds[..count]);
@@ -306,13 +308,18 @@ fn a_commit_has_its_changes_as_they_stand(rt: HostRuntime) -> Result<(), Fail> {
     Ok(())
 }
 
+/// The refusal that a list of changes meets, or none.
+fn refusal_of(alloc: Global, schema: &Schema, list: &[Changes]) -> Result<Option<CoreFault>, Fail> {
+    Ok(Commit::of(&changes_of(alloc, schema, list)?).err())
+}
+
 #[test]
 fn what_is_no_commit_is_refused(rt: HostRuntime) -> Result<(), Fail> {
     let alloc = rt.alloc();
     let schema = columns(alloc)?;
     for (case, (list, wanted)) in LISTS.iter().enumerate() {
-        let changes = changes_of(alloc, &schema, list)?;
-        assert_same(&rt, case, &Commit::of(&changes).err(), wanted);
+        let refusal = refusal_of(alloc, &schema, list)?;
+        assert_same(&rt, case, &refusal, wanted);
     }
     Ok(())
 }

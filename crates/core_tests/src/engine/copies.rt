@@ -2,10 +2,17 @@
 
 use super::{row, with_store};
 use crate::same::assert_same;
-use pref_core::{Call, Store};
-use pref_table::Schema;
+use pref_core::{Call, CoreFault, Store};
+use pref_table::{Row, Schema};
 use std::process::Abort;
 use std::test::Fail;
+
+/// The row takes the place of row 1 in the copy.
+fn update_copy(copy: &mut Store, new: Row) -> Result<(), CoreFault> {
+    let op = copy.plan(1, Call::Update(1, new))?;
+    copy.apply(&op);
+    Ok(())
+}
 
 fn goes_its_own_way(
     rt: &impl Abort,
@@ -13,11 +20,12 @@ fn goes_its_own_way(
     store: &Store,
     copy: &mut Store,
 ) -> Result<(), Fail> {
+    let old = row(schema, 4)?;
+    let new = row(schema, 5)?;
     assert_same(rt, "copied", &copy.get(1), &store.get(1));
-    let op = copy.plan(1, Call::Update(1, row(schema, 5)?))?;
-    copy.apply(&op);
-    assert_same(rt, "copy", &copy.get(1), &Some(row(schema, 5)?));
-    assert_same(rt, "store", &store.get(1), &Some(row(schema, 4)?));
+    update_copy(copy, new)?;
+    assert_same(rt, "copy", &copy.get(1), &Some(new));
+    assert_same(rt, "store", &store.get(1), &Some(old));
     Ok(())
 }
 

@@ -64,12 +64,11 @@ fn has_an_added_row(
 ) -> Result<(), Fail>
     requires { IsIndexOf store.old index.old }
 {
-    let insert = Call::Insert(row(schema, 6)?);
-    let outcome = done(alloc, store, index, 1, &insert)?;
+    let new = row(schema, 6)?;
+    let outcome = done(alloc, store, index, 1, &Call::Insert(new))?;
     assert_same(rt, "outcome", &outcome, &Outcome::Added(3));
     assert_same(rt, "slot", &index.slot(3), &Some(2));
-    let found = store.get_at(index, 3);
-    assert_same(rt, "row", &found, &Some(row(schema, 6)?));
+    assert_same(rt, "row", &store.get_at(index, 3), &Some(new));
     Ok(())
 }
 

@@ -3,7 +3,7 @@
 use super::{row, with_store};
 use crate::same::assert_same;
 use pref_core::{Call, Store};
-use pref_table::Schema;
+use pref_table::{Row, Schema};
 use std::process::Abort;
 use std::test::Fail;
 
@@ -56,9 +56,10 @@ fn brings_a_moved_row_home(
 ) -> Result<(), Fail> {
     move_a_row(schema, store)?;
     done(store, 1, Call::Abandon)?;
-    let place = done(store, 2, Call::Update(1, row(schema, 7)?))?;
+    let new = row(schema, 7)?;
+    let place = done(store, 2, Call::Update(1, new))?;
     assert_same(rt, "home", &place, &Some(0));
-    assert_same(rt, "row", &store.get(1), &Some(row(schema, 7)?));
+    assert_same(rt, "row", &store.get(1), &Some(new));
     Ok(())
 }
 
@@ -79,15 +80,21 @@ fn share_a_home(schema: &Schema, store: &mut Store) -> Result<(), Fail> {
     Ok(())
 }
 
+/// The table has these rows 1 and 4, and none of a third id.
+fn check_two_rows(rt: &impl Abort, store: &Store, first: Row, fourth: Row, missing: u64) {
+    let cases = [(1, Some(first)), (4, Some(fourth)), (missing, None)];
+    for (id, wanted) in cases {
+        assert_same(rt, ("row", id), &store.get(id), &wanted);
+    }
+}
+
 fn finds_two_rows_of_one_home(
     rt: &impl Abort,
     schema: &Schema,
     store: &mut Store,
 ) -> Result<(), Fail> {
     share_a_home(schema, store)?;
-    assert_same(rt, "row 1", &store.get(1), &Some(row(schema, 4)?));
-    assert_same(rt, "row 4", &store.get(4), &Some(row(schema, 6)?));
-    assert_same(rt, "row 7", &store.get(7), &None);
+    check_two_rows(rt, store, row(schema, 4)?, row(schema, 6)?, 7);
     Ok(())
 }
 
@@ -108,9 +115,7 @@ fn move_two_rows(schema: &Schema, store: &mut Store) -> Result<(), Fail> {
 
 fn finds_two_moved_rows(rt: &impl Abort, schema: &Schema, store: &mut Store) -> Result<(), Fail> {
     move_two_rows(schema, store)?;
-    assert_same(rt, "row 1", &store.get(1), &Some(row(schema, 7)?));
-    assert_same(rt, "row 4", &store.get(4), &Some(row(schema, 6)?));
-    assert_same(rt, "row 3", &store.get(3), &None);
+    check_two_rows(rt, store, row(schema, 7)?, row(schema, 6)?, 3);
     Ok(())
 }
 

@@ -3,7 +3,7 @@
 use super::{row, with_store};
 use crate::same::{assert_same, assert_same_list};
 use pref_core::{Call, Change, Commit, CoreFault, Op, Outcome, QueryState, Store};
-use pref_table::Schema;
+use pref_table::{Row, Schema};
 use std::alloc::Global;
 use std::process::Abort;
 use std::test::Fail;
@@ -46,6 +46,19 @@ fn shown_ids(alloc: Global, store: &Store, block: u32, stamp: u64) -> Result<Vec
     Ok(ids)
 }
 
+/// The second block shows these ids at a stamp.
+fn check_shown(
+    rt: &impl Abort,
+    alloc: Global,
+    store: &Store,
+    stamp: u64,
+    wanted: &[u64],
+) -> Result<(), Fail> {
+    let ids = shown_ids(alloc, store, 1, stamp)?;
+    assert_same_list(rt, ("at stamp", stamp), ids.as_slice(), wanted);
+    Ok(())
+}
+
 fn is_shown_in_its_block(
     rt: &impl Abort,
     alloc: Global,
@@ -54,11 +67,8 @@ fn is_shown_in_its_block(
 ) -> Result<(), Fail> {
     add_a_third(schema, store)?;
     assert_same(rt, "row", &store.get(3), &Some(row(schema, 5)?));
-    let ids = shown_ids(alloc, store, 1, 3)?;
-    assert_same_list(rt, "at stamp 3", ids.as_slice(), [3].as_slice());
-    let ids = shown_ids(alloc, store, 1, 2)?;
-    assert_same(rt, "at stamp 2", &ids.len(), &0);
-    Ok(())
+    check_shown(rt, alloc, store, 3, &[3])?;
+    check_shown(rt, alloc, store, 2, &[])
 }
 
 #[test]
@@ -89,20 +99,28 @@ fn a_plan_tells_what_becomes_of_a_call(rt: HostRuntime) -> Result<(), Fail> {
     })
 }
 
+/// A call that leaves row 2 as this one takes the store to a stamp.
+fn takes_a_stamp(
+    rt: &impl Abort,
+    store: &mut Store,
+    call: Call,
+    wanted: (Outcome, u64, Option<Row>),
+) -> Result<(), Fail> {
+    let op = store.plan(1, call)?;
+    store.apply(&op);
+    let found = (op.outcome, store.stamp(), store.get(2));
+    assert_same(rt, wanted.1, &found, &wanted);
+    Ok(())
+}
+
 /// An update, and a commit of three changes: each is one commit.
 fn take_one_stamp_each(rt: &impl Abort, schema: &Schema, store: &mut Store) -> Result<(), Fail> {
     let new = row(schema, 5)?;
+    let update = Call::Update(2, new);
+    takes_a_stamp(rt, store, update, (Outcome::Done, 3, Some(new)))?;
     let changes = [Change::Remove(1), Change::Add(new), Change::Set(2, new)];
-    let calls = [
-        (Call::Update(2, new), Outcome::Done, 3),
-        (Call::Commit(Commit::of(&changes)?), Outcome::Added(3), 4),
-    ];
-    for (call, outcome, stamp) in calls {
-        let op = store.plan(1, call)?;
-        store.apply(&op);
-        let found = (op.outcome, store.stamp(), store.get(2));
-        assert_same(rt, stamp, &found, &(outcome, stamp, Some(new)));
-    }
+    let commit = Call::Commit(Commit::of(&changes)?);
+    takes_a_stamp(rt, store, commit, (Outcome::Added(3), 4, Some(new)))?;
     assert_same(rt, "room", &store.room(), &1);
     Ok(())
 }

@@ -3,34 +3,26 @@
 ghost use Rattle.pref_core.specs.Scans.{NextIsNew};
 
 use super::{
-    Does, act, answer_text, columns, commit_act, events_of, reply_text, row, rows, with_machine,
+    Does, act, answer_text, columns, commit_act, events_of, opening_rows, reply_text, row_of, rows,
+    with_machine,
 };
 use crate::same::{assert_same, assert_same_text};
 use pref_core::{
-    Act, Call, Change, Commit, Committed, CoreFault, Event, Index, Machine, Part, Planned, Query,
-    RankedList, Reply, Setup, StepFault, Store, replay_part,
+    Act, Call, Change, Commit, Committed, CoreFault, Event, Index, Machine, Op, Part, Planned,
+    Query, RankedList, Reply, Setup, StepFault, Store, replay_part,
 };
 use pref_sky::Ranked;
 use pref_table::{Row, Schema};
-use pref_term::read_ask;
-use std::alloc::Global;
+use pref_term::{Ask, read_ask};
+use std::alloc::{AllocError, Global};
 use std::process::Abort;
 use std::test::Fail;
 
 /// How often eight rows come in the place of eight others: the index, which has room for 18, has to grow by then.
 const ROUNDS: u8 = 30;
 
-/// What a step returns in the end: a step that memory is refused to hands its event back, and is made again.
-fn told_in_the_end(rt: &impl Abort, alloc: Global, machine: &mut Machine, event: Event) -> Reply {
-    let event = match machine.step(alloc, event) {
-        Ok(reply) => return reply,
-        Err(StepFault { fault, event }) => {
-            if fault != CoreFault::OutOfMemory {
-                return Reply::Refused(fault);
-            }
-            event
-        }
-    };
+/// What a step returns that memory was refused to before.
+fn told_at_last(rt: &impl Abort, alloc: Global, machine: &mut Machine, event: Event) -> Reply {
     match machine.step(alloc, event) {
         Ok(reply) => reply,
         Err(StepFault { fault, .. }) => {
@@ -38,6 +30,29 @@ fn told_in_the_end(rt: &impl Abort, alloc: Global, machine: &mut Machine, event:
             Reply::Refused(fault)
         }
     }
+}
+
+/// What a step returns in the end: a step that memory is refused to hands its event back, and is made again.
+fn told_in_the_end(rt: &impl Abort, alloc: Global, machine: &mut Machine, event: Event) -> Reply {
+    match machine.step(alloc, event) {
+        Ok(reply) => reply,
+        Err(StepFault { fault, event }) => {
+            if fault != CoreFault::OutOfMemory {
+                return Reply::Refused(fault);
+            }
+            told_at_last(rt, alloc, machine, event)
+        }
+    }
+}
+
+/// What a step returns in the end, as a text.
+fn text_in_the_end(
+    rt: &impl Abort,
+    alloc: Global,
+    machine: &mut Machine,
+    event: Event,
+) -> Result<String, AllocError> {
+    reply_text(alloc, &told_in_the_end(rt, alloc, machine, event))
 }
 
 /// Each act of a run, again where memory was refused: what it returns in the end.
@@ -62,12 +77,8 @@ fn go_through_a_run(
         (1, Does::Finishes, "refused: no query"),
     ];
     for (client, does, wanted) in run {
-        let event = Event {
-            client,
-            act: act(alloc, schema, does)?,
-        };
-        let reply = told_in_the_end(rt, alloc, machine, event);
-        let told = reply_text(alloc, &reply)?;
+        let act = act(alloc, schema, does)?;
+        let told = text_in_the_end(rt, alloc, machine, Event { client, act })?;
         assert_same_text(rt, client, told.as_str(), wanted);
     }
     Ok(())
@@ -91,19 +102,27 @@ fn removes_of(rounds: u8) -> [Change; 8] {
     removes
 }
 
-/// No row of this id is there, and there is room for eight rows.
-fn has_room_for_eight(rt: &impl Abort, alloc: Global, machine: &mut Machine, id: u64) {
-    let get = Event {
+/// Why client 2 is refused a row, or none.
+fn refusal_of_a_row(alloc: Global, machine: &mut Machine, id: u64) -> Option<CoreFault> {
+    let event = Event {
         client: 2,
         act: Act::Get(id),
     };
+    match machine.step(alloc, event) {
+        Ok(_reply) => None,
+        Err(refused) => Some(refused.fault),
+    }
+}
+
+/// No row of this id is there, and there is room for eight rows.
+fn has_room_for_eight(rt: &impl Abort, alloc: Global, machine: &mut Machine, id: u64) {
+    let missing = CoreFault::NoSuchRow { id };
+    let got = refusal_of_a_row(alloc, machine, id);
+    assert_same(rt, id, &got, &Some(missing));
     let room = Event {
         client: 2,
         act: Act::Room,
     };
-    let missing = CoreFault::NoSuchRow { id };
-    let got = machine.step(alloc, get).err().map(|refused| refused.fault);
-    assert_same(rt, id, &got, &Some(missing));
     let has_room = matches!(machine.step(alloc, room), Ok(Reply::Room(8)));
     assert_same(rt, id, &has_room, &true);
 }
@@ -130,29 +149,56 @@ fn added_in_the_end(
     }
 }
 
+/// Removes the eight oldest rows of a full table.
+fn remove_eight_rows(
+    rt: &impl Abort,
+    alloc: Global,
+    machine: &mut Machine,
+    round: u8,
+) -> Result<(), Fail> {
+    let removes = Event {
+        client: 1,
+        act: commit_act(alloc, &removes_of(round))?,
+    };
+    machine
+        .reply(alloc, removes)
+        .expect(rt, "a remove takes no memory");
+    Ok(())
+}
+
+/// Adds eight rows in their place.
+fn add_eight_rows(
+    rt: &impl Abort,
+    alloc: Global,
+    machine: &mut Machine,
+    added: Row,
+    round: u8,
+) -> Result<(), Fail> {
+    let event = Event {
+        client: 1,
+        act: commit_act(alloc, &[Change::Add(added); 8])?,
+    };
+    let first = 8 * u64::from(round) + 19;
+    let committed = added_in_the_end(rt, alloc, machine, event, first);
+    assert_same(
+        rt,
+        round,
+        &committed,
+        &Some(Committed { changes: 8, first }),
+    );
+    Ok(())
+}
+
 /// Eight rows in place of the eight oldest of a full table, again and again, until the index has to grow.
 fn replace_eight_rows(
     rt: &impl Abort,
     alloc: Global,
-    schema: &Schema,
     machine: &mut Machine,
+    added: Row,
 ) -> Result<(), Fail> {
-    let adds = [Change::Add(row(schema, 6)?); 8];
     for round in 0..ROUNDS {
-        let removes = Event {
-            client: 1,
-            act: commit_act(alloc, &removes_of(round))?,
-        };
-        machine
-            .reply(alloc, removes)
-            .expect(rt, "a remove takes no memory");
-        let event = Event {
-            client: 1,
-            act: commit_act(alloc, &adds)?,
-        };
-        let first = 8 * u64::from(round) + 19;
-        let added = added_in_the_end(rt, alloc, machine, event, first);
-        assert_same(rt, round, &added, &Some(Committed { changes: 8, first }));
+        remove_eight_rows(rt, alloc, machine, round)?;
+        add_eight_rows(rt, alloc, machine, added, round)?;
     }
     Ok(())
 }
@@ -160,10 +206,11 @@ fn replace_eight_rows(
 #[test]
 fn a_commit_that_makes_the_index_grow_is_made_again(rt: HostRuntime) -> Result<(), Fail> {
     let alloc = rt.alloc();
-    let schema = columns(alloc)?;
+    let opening = [row_of(alloc, 5)?; 18];
+    let added = row_of(alloc, 6)?;
     let setup = Setup::new(2, 18, 6, 64).ok_or("setup")?;
-    let mut machine = Machine::new(alloc, setup, &[row(&schema, 5)?; 18])?;
-    replace_eight_rows(&rt, alloc, &schema, &mut machine)
+    let mut machine = Machine::new(alloc, setup, &opening)?;
+    replace_eight_rows(&rt, alloc, &mut machine, added)
 }
 
 fn check_slots(rt: &impl Abort, index: &Index, slots: [Option<usize>; 8]) {
@@ -180,18 +227,27 @@ fn prepare_in_the_end(rt: &impl Abort, alloc: Global, index: &mut Index, op: &Pl
     }
 }
 
+/// An index with room for one row.
+fn narrow_index(alloc: Global) -> Result<Index, Fail> {
+    let narrow = Setup::new(1, 1, 1, 1).ok_or("setup")?;
+    Ok(Index::new(alloc, &Store::new(alloc, &narrow, &[])?)?)
+}
+
+/// The op of a commit that adds eight rows to an empty store.
+fn op_that_adds_eight(alloc: Global) -> Result<Op, Fail> {
+    let commit = Commit::of(&[Change::Add(row_of(alloc, 5)?); 8])?;
+    let setup = Setup::new(1, 8, 8, 1).ok_or("setup")?;
+    let store = Store::new(alloc, &setup, &[])?;
+    Ok(store.plan(1, Call::Commit(commit))?)
+}
+
 /// An index with room for one row grows while it takes eight.
 #[test]
 fn an_index_has_all_rows_of_a_commit_or_none(rt: HostRuntime) -> Result<(), Fail> {
     let alloc = rt.alloc();
-    let schema = columns(alloc)?;
-    let narrow = Setup::new(1, 1, 1, 1).ok_or("setup")?;
-    let setup = Setup::new(1, 8, 8, 1).ok_or("setup")?;
-    let mut index = Index::new(alloc, &Store::new(alloc, &narrow, &[])?)?;
-    let store = Store::new(alloc, &setup, &[])?;
-    let commit = Commit::of(&[Change::Add(row(&schema, 5)?); 8])?;
-    let op = store.plan(1, Call::Commit(commit))?;
+    let op = op_that_adds_eight(alloc)?;
     let lent = op.call.lent();
+    let mut index = narrow_index(alloc)?;
     prepare_in_the_end(&rt, alloc, &mut index, &op.planned(&lent));
     let slots = [
         Some(0),
@@ -233,6 +289,15 @@ fn answer_in_the_end(rt: &impl Abort, alloc: Global, query: &Query) -> Vec<Ranke
     }
 }
 
+/// The answer has three rows on two levels.
+fn check_two_levels(rt: &impl Abort, alloc: Global, query: &Query) -> Result<(), Fail> {
+    let ranked = RankedList::of(answer_in_the_end(rt, alloc, query));
+    let told = answer_text(alloc, &ranked)?;
+    let wanted = "answer level 1 id 1: 4 level 1 id 3: 4 level 2 id 2: 6";
+    assert_same_text(rt, "answer", told.as_str(), wanted);
+    Ok(())
+}
+
 /// Scans the one block of a query, and asks for its answer before and after.
 fn scan_and_answer(
     rt: &impl Abort,
@@ -247,23 +312,29 @@ fn scan_and_answer(
     assert_same(rt, "early", &early, &Some(CoreFault::NotDone { left: 1 }));
     let left = scan_in_the_end(rt, alloc, query, store);
     assert_same(rt, "scanned", &left, &0);
-    let ranked = RankedList::of(answer_in_the_end(rt, alloc, query));
-    let told = answer_text(alloc, &ranked)?;
-    let wanted = "answer level 1 id 1: 4 level 1 id 3: 4 level 2 id 2: 6";
-    assert_same_text(rt, "answer", told.as_str(), wanted);
-    Ok(())
+    check_two_levels(rt, alloc, query)
+}
+
+fn two_levels(alloc: Global) -> Result<Ask, Fail> {
+    let schema = columns(alloc)?;
+    Ok(read_ask(alloc, &schema, b"top_level 2 low(x)")?)
 }
 
 #[test]
 fn a_query_is_scanned_and_answered_again_after_a_refusal(rt: HostRuntime) -> Result<(), Fail> {
     let alloc = rt.alloc();
-    let schema = columns(alloc)?;
     let setup = Setup::new(1, 3, 3, 1).ok_or("setup")?;
     assert_same(&rt, "blocks", &setup.blocks(), &1);
-    let ask = read_ask(alloc, &schema, b"top_level 2 low(x)")?;
-    let store = Store::new(alloc, &setup, &rows(alloc, &schema, &[4, 6, 4])?)?;
+    let store = Store::new(alloc, &setup, &opening_rows(alloc, &[4, 6, 4])?)?;
+    let ask = two_levels(alloc)?;
     let mut query = Query::begin(ask, store.stamp(), &setup);
     scan_and_answer(&rt, alloc, &mut query, &store)
+}
+
+fn check_reply(rt: &impl Abort, alloc: Global, reply: &Reply, wanted: &str) -> Result<(), Fail> {
+    let told = reply_text(alloc, reply)?;
+    assert_same_text(rt, wanted, told.as_str(), wanted);
+    Ok(())
 }
 
 /// The replies of a part are the first of these, and where it stopped some are left.
@@ -271,22 +342,15 @@ fn are_first(rt: &impl Abort, alloc: Global, part: &Part, replies: &[&str]) -> R
     let is_short = part.replies.len() < replies.len();
     assert_same(rt, "stopped", &part.stopped, &is_short);
     for (reply, wanted) in part.replies.iter().zip(replies) {
-        let told = reply_text(alloc, reply)?;
-        assert_same_text(rt, *wanted, told.as_str(), *wanted);
+        check_reply(rt, alloc, reply, *wanted)?;
     }
     Ok(())
 }
 
 /// Whether a run came to its end. The replies that it has are the first of these.
-fn is_whole(
-    rt: &impl Abort,
-    alloc: Global,
-    setup: Setup,
-    opening: &[Row],
-    events: Vec<Event>,
-    replies: &[&str],
-) -> Result<bool, Fail> {
-    let part = match replay_part(alloc, setup, opening, events) {
+fn is_whole(rt: &impl Abort, alloc: Global, run: &Run<'_>, replies: &[&str]) -> Result<bool, Fail> {
+    let events = events_of(alloc, run.schema, run.acts)?;
+    let part = match replay_part(alloc, run.setup, run.opening, events) {
         Ok(part) => part,
         Err(fault) => {
             assert_same(rt, "refused", &fault, &CoreFault::OutOfMemory);
@@ -297,19 +361,19 @@ fn is_whole(
     Ok(!part.stopped)
 }
 
-/// Plays a run, again where it was stopped.
-fn check_run<E: Fn() -> Result<Vec<Event>, Fail>>(
-    rt: &impl Abort,
-    alloc: Global,
+/// A run over a table with these rows.
+#[derive(Clone, Copy)]
+struct Run<'a> {
+    schema: &'a Schema,
     setup: Setup,
-    opening: &[Row],
-    events: E,
-    replies: &[&str],
-) -> Result<(), Fail>
-    requires { E.IsAlwaysCallable events }
-{
-    if !is_whole(rt, alloc, setup, opening, events()?, replies)? {
-        let is_whole_then = is_whole(rt, alloc, setup, opening, events()?, replies)?;
+    opening: &'a [Row],
+    acts: &'a [(u8, Does)],
+}
+
+/// Plays a run, again where it was stopped.
+fn check_run(rt: &impl Abort, alloc: Global, run: &Run<'_>, replies: &[&str]) -> Result<(), Fail> {
+    if !is_whole(rt, alloc, run, replies)? {
+        let is_whole_then = is_whole(rt, alloc, run, replies)?;
         assert_same(rt, "made again", &is_whole_then, &true);
     }
     Ok(())
@@ -321,20 +385,19 @@ fn check_run_of_two(
     alloc: Global,
     capacity: u32,
     values: &[i64],
-    run: &[(u8, Does)],
+    acts: &[(u8, Does)],
     replies: &[&str],
 ) -> Result<(), Fail> {
-    let schema = columns(alloc)?;
     let setup = Setup::new(2, capacity, 2, 64).ok_or("setup")?;
+    let schema = columns(alloc)?;
     let opening = rows(alloc, &schema, values)?;
-    check_run(
-        rt,
-        alloc,
+    let run = Run {
+        schema: &schema,
         setup,
-        &opening,
-        || events_of(alloc, &schema, run),
-        replies,
-    )
+        opening: &opening,
+        acts,
+    };
+    check_run(rt, alloc, &run, replies)
 }
 
 #[test]
@@ -399,24 +462,8 @@ fn a_stopped_run_keeps_its_first_replies_while_a_row_is_updated(
     check_run_of_two(&rt, rt.alloc(), 3, &[5], &run, &replies)
 }
 
-/// A begin, its two scans and its finish.
-fn asked(alloc: Global, schema: &Schema, text: &[u8]) -> Result<Vec<Event>, Fail> {
-    let begin = Act::Begin(read_ask(alloc, schema, text)?);
-    let mut events = Vec::new(alloc);
-    for act in [begin, Act::Scan, Act::Scan, Act::Finish] {
-        events.push(Event { client: 1, act })?;
-    }
-    Ok(events)
-}
-
-#[test]
-fn a_stopped_run_keeps_its_first_replies_before_an_answer_of_three_levels(
-    rt: HostRuntime,
-) -> Result<(), Fail> {
-    let alloc = rt.alloc();
-    let names = [b"x".as_slice(), b"y".as_slice()];
-    let schema = Schema::new(alloc, names.as_slice())?;
-    let setup = Setup::new(1, 12, 6, 64).ok_or("setup")?;
+/// Nine rows of two columns, the best of which are on three levels.
+fn rows_on_three_levels(alloc: Global, schema: &Schema) -> Result<Vec<Row>, Fail> {
     let mut opening = Vec::new(alloc);
     for cells in [
         [20, 1],
@@ -429,21 +476,38 @@ fn a_stopped_run_keeps_its_first_replies_before_an_answer_of_three_levels(
         [2, 11],
         [3, 12],
     ] {
-        opening.push(Row::of(&schema, &cells)?)?;
+        opening.push(Row::of(schema, &cells)?)?;
     }
+    Ok(opening)
+}
+
+/// A begin, its two scans and its finish.
+static ASKS_FOR_FIVE: [(u8, Does); 4] = [
+    (1, Does::Asks(b"at_least 5 low(x) * low(y)")),
+    (1, Does::Scans),
+    (1, Does::Scans),
+    (1, Does::Finishes),
+];
+
+#[test]
+fn a_stopped_run_keeps_its_first_replies_before_an_answer_of_three_levels(
+    rt: HostRuntime,
+) -> Result<(), Fail> {
+    let alloc = rt.alloc();
     let replies = [
         "begun 2",
         "left 1",
         "left 0",
         "answer level 1 id 1: 20 level 1 id 7: 1 level 2 id 6: 21 level 2 id 8: 2 level 3 id 9: 3",
     ];
-    let question = b"at_least 5 low(x) * low(y)";
-    check_run(
-        &rt,
-        alloc,
+    let setup = Setup::new(1, 12, 6, 64).ok_or("setup")?;
+    let schema = Schema::new(alloc, &[b"x".as_slice(), b"y".as_slice()])?;
+    let opening = rows_on_three_levels(alloc, &schema)?;
+    let run = Run {
+        schema: &schema,
         setup,
-        &opening,
-        || asked(alloc, &schema, question),
-        &replies,
-    )
+        opening: &opening,
+        acts: &ASKS_FOR_FIVE,
+    };
+    check_run(&rt, alloc, &run, &replies)
 }

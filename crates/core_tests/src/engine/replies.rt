@@ -1,29 +1,34 @@
 //! Replies of a machine to one event after another, refusals among them.
 
-use super::{Does, act, reply_text, with_machine};
+use super::{Does, act, begin_act, reply_text, with_machine};
 use crate::same::{assert_same, assert_same_text};
-use pref_core::{Act, CoreFault, Event, Machine};
+use pref_core::{Act, CoreFault, Event, Machine, StepFault};
 use pref_table::Schema;
-use pref_term::read_ask;
-use std::alloc::Global;
+use std::alloc::{AllocError, Global};
 use std::process::Abort;
 use std::test::Fail;
+
+/// What a machine replies to an event.
+fn told(alloc: Global, machine: &mut Machine, event: Event) -> Result<String, AllocError> {
+    reply_text(alloc, &machine.reply(alloc, event)?)
+}
 
 fn tells_what_is_refused(
     rt: &impl Abort,
     alloc: Global,
+    schema: &Schema,
     machine: &mut Machine,
 ) -> Result<(), Fail> {
     let run = [
-        (2, Act::Get(1), "row 1: 5"),
-        (1, Act::Scan, "refused: no query"),
-        (9, Act::Room, "refused: no such client"),
-        (1, Act::Delete(1), "deleted 1"),
-        (2, Act::Get(1), "refused: no such row 1"),
+        (2, Does::Gets(1), "row 1: 5"),
+        (1, Does::Scans, "refused: no query"),
+        (9, Does::AsksRoom, "refused: no such client"),
+        (1, Does::Deletes(1), "deleted 1"),
+        (2, Does::Gets(1), "refused: no such row 1"),
     ];
-    for (client, act, wanted) in run {
-        let reply = machine.reply(alloc, Event { client, act })?;
-        let told = reply_text(alloc, &reply)?;
+    for (client, does, wanted) in run {
+        let act = act(alloc, schema, does)?;
+        let told = told(alloc, machine, Event { client, act })?;
         assert_same_text(rt, client, told.as_str(), wanted);
     }
     Ok(())
@@ -32,8 +37,8 @@ fn tells_what_is_refused(
 #[test]
 fn a_refusal_is_a_reply(rt: HostRuntime) -> Result<(), Fail> {
     let alloc = rt.alloc();
-    with_machine(alloc, |_schema, machine| {
-        tells_what_is_refused(&rt, alloc, machine)
+    with_machine(alloc, |schema, machine| {
+        tells_what_is_refused(&rt, alloc, schema, machine)
     })
 }
 
@@ -45,32 +50,38 @@ fn cut_handed_back(event: &Event) -> Option<u32> {
     }
 }
 
+fn check_handed_back(rt: &impl Abort, refused: &StepFault) {
+    assert_same(rt, "fault", &refused.fault, &CoreFault::QueryOpen);
+    assert_same(rt, "client", &refused.event.client, &1);
+    let cut = cut_handed_back(&refused.event);
+    assert_same(rt, "cut", &cut, &Some(3));
+}
+
+/// A begin of client 1.
+fn begin(alloc: Global, schema: &Schema, question: &[u8]) -> Result<Event, Fail> {
+    Ok(Event {
+        client: 1,
+        act: begin_act(alloc, schema, question)?,
+    })
+}
+
 fn hands_its_ask_back(
     rt: &impl Abort,
     alloc: Global,
     schema: &Schema,
     machine: &mut Machine,
 ) -> Result<(), Fail> {
-    let first = Event {
-        client: 1,
-        act: act(alloc, schema, Does::Begins)?,
-    };
+    let first = begin(alloc, schema, b"best low(x)")?;
     let begun = machine.step(alloc, first).is_ok();
     assert_same(rt, "begun", &begun, &true);
-    let second = Event {
-        client: 1,
-        act: Act::Begin(read_ask(alloc, schema, b"top_level 3 low(x)")?),
-    };
+    let second = begin(alloc, schema, b"top_level 3 low(x)")?;
     match machine.step(alloc, second) {
-        Ok(_reply) => return Err("let in".into()),
+        Ok(_reply) => Err("let in".into()),
         Err(refused) => {
-            assert_same(rt, "fault", &refused.fault, &CoreFault::QueryOpen);
-            assert_same(rt, "client", &refused.event.client, &1);
-            let cut = cut_handed_back(&refused.event);
-            assert_same(rt, "cut", &cut, &Some(3));
+            check_handed_back(rt, &refused);
+            Ok(())
         }
     }
-    Ok(())
 }
 
 #[test]
