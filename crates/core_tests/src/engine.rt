@@ -199,6 +199,16 @@ fn replies_to(
     Ok(replay(alloc, setup, &opening_rows(alloc, values)?, events)?)
 }
 
+/// The same as a text.
+fn text_of_replies(
+    alloc: Global,
+    setup: Setup,
+    values: &[i64],
+    run: &[(u8, Does)],
+) -> Result<String, Fail> {
+    replies_text(alloc, &replies_to(alloc, setup, values, run)?)
+}
+
 /// The replies to a run of eight clients are these.
 fn check_told(
     rt: &impl Abort,
@@ -210,7 +220,7 @@ fn check_told(
     wanted: &str,
 ) -> Result<(), Fail> {
     let setup = Setup::new(8, capacity, block, 64).ok_or("setup")?;
-    let told = replies_text(alloc, &replies_to(alloc, setup, values, run)?)?;
+    let told = text_of_replies(alloc, setup, values, run)?;
     assert_same_text(rt, (capacity, values), told.as_str(), wanted);
     Ok(())
 }
@@ -235,10 +245,9 @@ fn with_store<L: FnOnce(&Schema, &mut Store) -> Result<(), Fail>>(
     look(&schema, &mut store)
 }
 
-/// A machine of four slots with two rows, for two clients.
-fn opened_machine(alloc: Global) -> Result<Machine, Fail> {
-    let setup = Setup::new(2, 4, 2, 64).ok_or("setup")?;
-    Ok(Machine::new(alloc, setup, &opening_rows(alloc, &[5, 7])?)?)
+/// A machine with these rows.
+fn opened_machine(alloc: Global, setup: Setup, values: &[i64]) -> Result<Machine, Fail> {
+    Ok(Machine::new(alloc, setup, &opening_rows(alloc, values)?)?)
 }
 
 /// Lends a machine of four slots with two rows, for two clients, and its schema.
@@ -248,8 +257,9 @@ fn with_machine<L: FnOnce(&Schema, &mut Machine) -> Result<(), Fail>>(
 ) -> Result<(), Fail>
     requires { L.IsAlwaysCallable look }
 {
+    let setup = Setup::new(2, 4, 2, 64).ok_or("setup")?;
     let schema = columns(alloc)?;
-    let mut machine = opened_machine(alloc)?;
+    let mut machine = opened_machine(alloc, setup, &[5, 7])?;
     look(&schema, &mut machine)
 }
 
@@ -470,15 +480,19 @@ fn a_part_is_the_whole_where_memory_is_there(rt: HostRuntime) -> Result<(), Fail
     Ok(())
 }
 
+/// These three rows are refused for want of room.
+fn check_too_many(rt: &impl Abort, alloc: Global, setup: Setup, opening: &[Row]) {
+    let told = replay(alloc, setup, opening, Vec::new(alloc)).err();
+    assert_same(rt, "whole", &told, &Some(CoreFault::Full { needed: 3 }));
+    let told = replay_part(alloc, setup, opening, Vec::new(alloc)).err();
+    assert_same(rt, "part", &told, &Some(CoreFault::Full { needed: 3 }));
+}
+
 #[test]
 fn too_many_opening_rows_are_refused(rt: HostRuntime) -> Result<(), Fail> {
     let alloc = rt.alloc();
     let setup = Setup::new(1, 2, 1, 1).ok_or("setup")?;
-    let opening = opening_rows(alloc, &[1, 2, 3])?;
-    let told = replay(alloc, setup, &opening, Vec::new(alloc)).err();
-    assert_same(&rt, "whole", &told, &Some(CoreFault::Full { needed: 3 }));
-    let told = replay_part(alloc, setup, &opening, Vec::new(alloc)).err();
-    assert_same(&rt, "part", &told, &Some(CoreFault::Full { needed: 3 }));
+    check_too_many(&rt, alloc, setup, &opening_rows(alloc, &[1, 2, 3])?);
     Ok(())
 }
 

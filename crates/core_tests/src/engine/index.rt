@@ -4,7 +4,7 @@ ghost use Rattle.pref_core.specs.Indexes.{IsIndexOf};
 
 use super::{columns, row, rows};
 use crate::same::assert_same;
-use pref_core::{Call, Index, Outcome, Setup, Store};
+use pref_core::{Call, Index, Outcome, Planned, Setup, Store};
 use pref_table::Schema;
 use std::alloc::Global;
 use std::process::Abort;
@@ -125,6 +125,20 @@ fn an_index_has_no_deleted_row(rt: HostRuntime) -> Result<(), Fail> {
     })
 }
 
+/// The row that an op adds is put, and taken out again.
+fn check_withdrawn(
+    rt: &impl Abort,
+    alloc: Global,
+    index: &mut Index,
+    op: &Planned<'_>,
+) -> Result<(), Fail> {
+    index.prepare(alloc, op)?;
+    assert_same(rt, "prepared", &index.slot(3), &Some(2));
+    index.withdraw(op);
+    assert_same(rt, "withdrawn", &index.slot(3), &None);
+    Ok(())
+}
+
 fn withdraws_a_row(
     rt: &impl Abort,
     alloc: Global,
@@ -136,15 +150,10 @@ fn withdraws_a_row(
 {
     let insert = Call::Insert(row(schema, 6)?);
     let lent = insert.lent();
-    let op = match store.plan_at(index, 1, &lent) {
-        Ok(op) => op,
-        Err(fault) => return Err(Fail::from(fault)),
-    };
-    index.prepare(alloc, &op)?;
-    assert_same(rt, "prepared", &index.slot(3), &Some(2));
-    index.withdraw(&op);
-    assert_same(rt, "withdrawn", &index.slot(3), &None);
-    Ok(())
+    match store.plan_at(index, 1, &lent) {
+        Ok(op) => check_withdrawn(rt, alloc, index, &op),
+        Err(fault) => Err(Fail::from(fault)),
+    }
 }
 
 #[test]

@@ -3,8 +3,8 @@
 ghost use Rattle.pref_core.specs.Scans.{NextIsNew};
 
 use super::{
-    Does, act, answer_text, columns, commit_act, events_of, opening_rows, reply_text, row_of, rows,
-    with_machine,
+    Does, act, answer_text, columns, commit_act, events_of, opened_machine, opening_rows,
+    reply_text, row_of, with_machine,
 };
 use crate::same::{assert_same, assert_same_text};
 use pref_core::{
@@ -55,6 +55,22 @@ fn text_in_the_end(
     reply_text(alloc, &told_in_the_end(rt, alloc, machine, event))
 }
 
+/// What clients do one after the other, and what they are told.
+static ACTS: [(u8, Does, &str); 12] = [
+    (1, Does::Begins, "begun 2"),
+    (1, Does::Scans, "left 1"),
+    (2, Does::Inserts(1), "inserted 3"),
+    (2, Does::Updates(2, 3), "updated 2"),
+    (2, Does::Deletes(1), "deleted 1"),
+    (2, Does::Gets(2), "row 2: 3"),
+    (2, Does::AsksRoom, "room 0"),
+    (1, Does::Scans, "left 0"),
+    (1, Does::Finishes, "answer level 1 id 1: 5"),
+    (1, Does::Begins, "begun 2"),
+    (1, Does::Abandons, "abandoned"),
+    (1, Does::Finishes, "refused: no query"),
+];
+
 /// Each act of a run, again where memory was refused: what it returns in the end.
 fn go_through_a_run(
     rt: &impl Abort,
@@ -62,24 +78,13 @@ fn go_through_a_run(
     schema: &Schema,
     machine: &mut Machine,
 ) -> Result<(), Fail> {
-    let run = [
-        (1, Does::Begins, "begun 2"),
-        (1, Does::Scans, "left 1"),
-        (2, Does::Inserts(1), "inserted 3"),
-        (2, Does::Updates(2, 3), "updated 2"),
-        (2, Does::Deletes(1), "deleted 1"),
-        (2, Does::Gets(2), "row 2: 3"),
-        (2, Does::AsksRoom, "room 0"),
-        (1, Does::Scans, "left 0"),
-        (1, Does::Finishes, "answer level 1 id 1: 5"),
-        (1, Does::Begins, "begun 2"),
-        (1, Does::Abandons, "abandoned"),
-        (1, Does::Finishes, "refused: no query"),
-    ];
-    for (client, does, wanted) in run {
-        let act = act(alloc, schema, does)?;
-        let told = text_in_the_end(rt, alloc, machine, Event { client, act })?;
-        assert_same_text(rt, client, told.as_str(), wanted);
+    for (client, does, wanted) in &ACTS {
+        let event = Event {
+            client: *client,
+            act: act(alloc, schema, *does)?,
+        };
+        let told = text_in_the_end(rt, alloc, machine, event)?;
+        assert_same_text(rt, *client, told.as_str(), *wanted);
     }
     Ok(())
 }
@@ -206,23 +211,34 @@ fn replace_eight_rows(
 #[test]
 fn a_commit_that_makes_the_index_grow_is_made_again(rt: HostRuntime) -> Result<(), Fail> {
     let alloc = rt.alloc();
-    let opening = [row_of(alloc, 5)?; 18];
     let added = row_of(alloc, 6)?;
     let setup = Setup::new(2, 18, 6, 64).ok_or("setup")?;
-    let mut machine = Machine::new(alloc, setup, &opening)?;
+    let mut machine = opened_machine(alloc, setup, &[5; 18])?;
     replace_eight_rows(&rt, alloc, &mut machine, added)
 }
 
-fn check_slots(rt: &impl Abort, index: &Index, slots: [Option<usize>; 8]) {
+/// The slots of the first eight rows of a table.
+static FIRST_SLOTS: [Option<usize>; 8] = [
+    Some(0),
+    Some(1),
+    Some(2),
+    Some(3),
+    Some(4),
+    Some(5),
+    Some(6),
+    Some(7),
+];
+
+fn check_slots(rt: &impl Abort, index: &Index, slots: &[Option<usize>]) {
     for (id, slot) in (1..9).zip(slots) {
-        assert_same(rt, id, &index.slot(id), &slot);
+        assert_same(rt, id, &index.slot(id), slot);
     }
 }
 
 /// Puts the eight rows that an op adds, again where memory was refused: until then the index has none of them.
 fn prepare_in_the_end(rt: &impl Abort, alloc: Global, index: &mut Index, op: &Planned<'_>) {
     if index.prepare(alloc, op).is_err() {
-        check_slots(rt, index, [None; 8]);
+        check_slots(rt, index, &[None; 8]);
         index.prepare(alloc, op).expect(rt, "memory");
     }
 }
@@ -233,9 +249,14 @@ fn narrow_index(alloc: Global) -> Result<Index, Fail> {
     Ok(Index::new(alloc, &Store::new(alloc, &narrow, &[])?)?)
 }
 
-/// The op of a commit that adds eight rows to an empty store.
+/// A commit that adds eight rows.
+fn eight_adds(alloc: Global) -> Result<Commit, Fail> {
+    Ok(Commit::of(&[Change::Add(row_of(alloc, 5)?); 8])?)
+}
+
+/// Its op in an empty store.
 fn op_that_adds_eight(alloc: Global) -> Result<Op, Fail> {
-    let commit = Commit::of(&[Change::Add(row_of(alloc, 5)?); 8])?;
+    let commit = eight_adds(alloc)?;
     let setup = Setup::new(1, 8, 8, 1).ok_or("setup")?;
     let store = Store::new(alloc, &setup, &[])?;
     Ok(store.plan(1, Call::Commit(commit))?)
@@ -249,17 +270,7 @@ fn an_index_has_all_rows_of_a_commit_or_none(rt: HostRuntime) -> Result<(), Fail
     let lent = op.call.lent();
     let mut index = narrow_index(alloc)?;
     prepare_in_the_end(&rt, alloc, &mut index, &op.planned(&lent));
-    let slots = [
-        Some(0),
-        Some(1),
-        Some(2),
-        Some(3),
-        Some(4),
-        Some(5),
-        Some(6),
-        Some(7),
-    ];
-    check_slots(&rt, &index, slots);
+    check_slots(&rt, &index, &FIRST_SLOTS);
     Ok(())
 }
 
@@ -331,6 +342,117 @@ fn a_query_is_scanned_and_answered_again_after_a_refusal(rt: HostRuntime) -> Res
     scan_and_answer(&rt, alloc, &mut query, &store)
 }
 
+/// A run over a table of these columns and rows, and the replies to it.
+struct Run {
+    columns: &'static [&'static [u8]],
+    opening: &'static [&'static [i64]],
+    acts: &'static [(u8, Does)],
+    replies: &'static [&'static str],
+}
+
+static SLOTS_ARE_USED_AGAIN: Run = Run {
+    columns: &[b"x"],
+    opening: &[&[5], &[7], &[9]],
+    acts: &[
+        (1, Does::Begins),
+        (1, Does::Scans),
+        (2, Does::Deletes(1)),
+        (2, Does::Inserts(1)),
+        (2, Does::AsksRoom),
+        (1, Does::Scans),
+        (1, Does::Finishes),
+        (2, Does::Begins),
+        (2, Does::Scans),
+        (2, Does::Scans),
+        (2, Does::Finishes),
+    ],
+    replies: &[
+        "begun 2",
+        "left 1",
+        "deleted 1",
+        "inserted 4",
+        "room 0",
+        "left 0",
+        "answer level 1 id 1: 5",
+        "begun 2",
+        "left 1",
+        "left 0",
+        "answer level 1 id 4: 1",
+    ],
+};
+
+static A_ROW_IS_UPDATED: Run = Run {
+    columns: &[b"x"],
+    opening: &[&[5]],
+    acts: &[
+        (1, Does::Begins),
+        (2, Does::Updates(1, 1)),
+        (2, Does::Updates(1, 2)),
+        (2, Does::AsksRoom),
+        (1, Does::Scans),
+        (1, Does::Scans),
+        (1, Does::Finishes),
+        (2, Does::AsksRoom),
+        (2, Does::Gets(1)),
+    ],
+    replies: &[
+        "begun 2",
+        "updated 1",
+        "updated 1",
+        "room 1",
+        "left 1",
+        "left 0",
+        "answer level 1 id 1: 5",
+        "room 2",
+        "row 1: 2",
+    ],
+};
+
+static AN_ANSWER_HAS_THREE_LEVELS: Run = Run {
+    columns: &[b"x", b"y"],
+    opening: &[
+        &[20, 1],
+        &[4, 16],
+        &[5, 15],
+        &[6, 14],
+        &[7, 13],
+        &[21, 2],
+        &[1, 10],
+        &[2, 11],
+        &[3, 12],
+    ],
+    acts: &[
+        (1, Does::Asks(b"at_least 5 low(x) * low(y)")),
+        (1, Does::Scans),
+        (1, Does::Scans),
+        (1, Does::Finishes),
+    ],
+    replies: &[
+        "begun 2",
+        "left 1",
+        "left 0",
+        "answer level 1 id 1: 20 level 1 id 7: 1 level 2 id 6: 21 level 2 id 8: 2 level 3 id 9: 3",
+    ],
+};
+
+fn events_of_run(alloc: Global, run: &Run) -> Result<Vec<Event>, Fail> {
+    let schema = Schema::new(alloc, run.columns)?;
+    events_of(alloc, &schema, run.acts)
+}
+
+fn rows_of_cells(alloc: Global, schema: &Schema, lines: &[&[i64]]) -> Result<Vec<Row>, Fail> {
+    let mut made = Vec::new(alloc);
+    for cells in lines {
+        made.push(Row::of(schema, *cells)?)?;
+    }
+    Ok(made)
+}
+
+fn opening_of_run(alloc: Global, run: &Run) -> Result<Vec<Row>, Fail> {
+    let schema = Schema::new(alloc, run.columns)?;
+    rows_of_cells(alloc, &schema, run.opening)
+}
+
 fn check_reply(rt: &impl Abort, alloc: Global, reply: &Reply, wanted: &str) -> Result<(), Fail> {
     let told = reply_text(alloc, reply)?;
     assert_same_text(rt, wanted, told.as_str(), wanted);
@@ -348,166 +470,56 @@ fn are_first(rt: &impl Abort, alloc: Global, part: &Part, replies: &[&str]) -> R
 }
 
 /// Whether a run came to its end. The replies that it has are the first of these.
-fn is_whole(rt: &impl Abort, alloc: Global, run: &Run<'_>, replies: &[&str]) -> Result<bool, Fail> {
-    let events = events_of(alloc, run.schema, run.acts)?;
-    let part = match replay_part(alloc, run.setup, run.opening, events) {
-        Ok(part) => part,
+fn is_whole(
+    rt: &impl Abort,
+    alloc: Global,
+    setup: Setup,
+    opening: &[Row],
+    run: &Run,
+) -> Result<bool, Fail> {
+    let events = events_of_run(alloc, run)?;
+    match replay_part(alloc, setup, opening, events) {
+        Ok(part) => {
+            are_first(rt, alloc, &part, run.replies)?;
+            Ok(!part.stopped)
+        }
         Err(fault) => {
             assert_same(rt, "refused", &fault, &CoreFault::OutOfMemory);
-            return Ok(false);
+            Ok(false)
         }
-    };
-    are_first(rt, alloc, &part, replies)?;
-    Ok(!part.stopped)
-}
-
-/// A run over a table with these rows.
-#[derive(Clone, Copy)]
-struct Run<'a> {
-    schema: &'a Schema,
-    setup: Setup,
-    opening: &'a [Row],
-    acts: &'a [(u8, Does)],
+    }
 }
 
 /// Plays a run, again where it was stopped.
-fn check_run(rt: &impl Abort, alloc: Global, run: &Run<'_>, replies: &[&str]) -> Result<(), Fail> {
-    if !is_whole(rt, alloc, run, replies)? {
-        let is_whole_then = is_whole(rt, alloc, run, replies)?;
+fn check_run(rt: &impl Abort, alloc: Global, setup: Setup, run: &Run) -> Result<(), Fail> {
+    let opening = opening_of_run(alloc, run)?;
+    if !is_whole(rt, alloc, setup, &opening, run)? {
+        let is_whole_then = is_whole(rt, alloc, setup, &opening, run)?;
         assert_same(rt, "made again", &is_whole_then, &true);
     }
     Ok(())
-}
-
-/// Plays a run of two clients over the column x.
-fn check_run_of_two(
-    rt: &impl Abort,
-    alloc: Global,
-    capacity: u32,
-    values: &[i64],
-    acts: &[(u8, Does)],
-    replies: &[&str],
-) -> Result<(), Fail> {
-    let setup = Setup::new(2, capacity, 2, 64).ok_or("setup")?;
-    let schema = columns(alloc)?;
-    let opening = rows(alloc, &schema, values)?;
-    let run = Run {
-        schema: &schema,
-        setup,
-        opening: &opening,
-        acts,
-    };
-    check_run(rt, alloc, &run, replies)
 }
 
 #[test]
 fn a_stopped_run_keeps_its_first_replies_while_slots_are_used_again(
     rt: HostRuntime,
 ) -> Result<(), Fail> {
-    let run = [
-        (1, Does::Begins),
-        (1, Does::Scans),
-        (2, Does::Deletes(1)),
-        (2, Does::Inserts(1)),
-        (2, Does::AsksRoom),
-        (1, Does::Scans),
-        (1, Does::Finishes),
-        (2, Does::Begins),
-        (2, Does::Scans),
-        (2, Does::Scans),
-        (2, Does::Finishes),
-    ];
-    let replies = [
-        "begun 2",
-        "left 1",
-        "deleted 1",
-        "inserted 4",
-        "room 0",
-        "left 0",
-        "answer level 1 id 1: 5",
-        "begun 2",
-        "left 1",
-        "left 0",
-        "answer level 1 id 4: 1",
-    ];
-    check_run_of_two(&rt, rt.alloc(), 4, &[5, 7, 9], &run, &replies)
+    let setup = Setup::new(2, 4, 2, 64).ok_or("setup")?;
+    check_run(&rt, rt.alloc(), setup, &SLOTS_ARE_USED_AGAIN)
 }
 
 #[test]
 fn a_stopped_run_keeps_its_first_replies_while_a_row_is_updated(
     rt: HostRuntime,
 ) -> Result<(), Fail> {
-    let run = [
-        (1, Does::Begins),
-        (2, Does::Updates(1, 1)),
-        (2, Does::Updates(1, 2)),
-        (2, Does::AsksRoom),
-        (1, Does::Scans),
-        (1, Does::Scans),
-        (1, Does::Finishes),
-        (2, Does::AsksRoom),
-        (2, Does::Gets(1)),
-    ];
-    let replies = [
-        "begun 2",
-        "updated 1",
-        "updated 1",
-        "room 1",
-        "left 1",
-        "left 0",
-        "answer level 1 id 1: 5",
-        "room 2",
-        "row 1: 2",
-    ];
-    check_run_of_two(&rt, rt.alloc(), 3, &[5], &run, &replies)
+    let setup = Setup::new(2, 3, 2, 64).ok_or("setup")?;
+    check_run(&rt, rt.alloc(), setup, &A_ROW_IS_UPDATED)
 }
-
-/// Nine rows of two columns, the best of which are on three levels.
-fn rows_on_three_levels(alloc: Global, schema: &Schema) -> Result<Vec<Row>, Fail> {
-    let mut opening = Vec::new(alloc);
-    for cells in [
-        [20, 1],
-        [4, 16],
-        [5, 15],
-        [6, 14],
-        [7, 13],
-        [21, 2],
-        [1, 10],
-        [2, 11],
-        [3, 12],
-    ] {
-        opening.push(Row::of(schema, &cells)?)?;
-    }
-    Ok(opening)
-}
-
-/// A begin, its two scans and its finish.
-static ASKS_FOR_FIVE: [(u8, Does); 4] = [
-    (1, Does::Asks(b"at_least 5 low(x) * low(y)")),
-    (1, Does::Scans),
-    (1, Does::Scans),
-    (1, Does::Finishes),
-];
 
 #[test]
 fn a_stopped_run_keeps_its_first_replies_before_an_answer_of_three_levels(
     rt: HostRuntime,
 ) -> Result<(), Fail> {
-    let alloc = rt.alloc();
-    let replies = [
-        "begun 2",
-        "left 1",
-        "left 0",
-        "answer level 1 id 1: 20 level 1 id 7: 1 level 2 id 6: 21 level 2 id 8: 2 level 3 id 9: 3",
-    ];
     let setup = Setup::new(1, 12, 6, 64).ok_or("setup")?;
-    let schema = Schema::new(alloc, &[b"x".as_slice(), b"y".as_slice()])?;
-    let opening = rows_on_three_levels(alloc, &schema)?;
-    let run = Run {
-        schema: &schema,
-        setup,
-        opening: &opening,
-        acts: &ASKS_FOR_FIVE,
-    };
-    check_run(&rt, alloc, &run, &replies)
+    check_run(&rt, rt.alloc(), setup, &AN_ANSWER_HAS_THREE_LEVELS)
 }

@@ -13,23 +13,28 @@ fn told(alloc: Global, machine: &mut Machine, event: Event) -> Result<String, Al
     reply_text(alloc, &machine.reply(alloc, event)?)
 }
 
+/// What clients do, and what they are told.
+static RUN: [(u8, Does, &str); 5] = [
+    (2, Does::Gets(1), "row 1: 5"),
+    (1, Does::Scans, "refused: no query"),
+    (9, Does::AsksRoom, "refused: no such client"),
+    (1, Does::Deletes(1), "deleted 1"),
+    (2, Does::Gets(1), "refused: no such row 1"),
+];
+
 fn tells_what_is_refused(
     rt: &impl Abort,
     alloc: Global,
     schema: &Schema,
     machine: &mut Machine,
 ) -> Result<(), Fail> {
-    let run = [
-        (2, Does::Gets(1), "row 1: 5"),
-        (1, Does::Scans, "refused: no query"),
-        (9, Does::AsksRoom, "refused: no such client"),
-        (1, Does::Deletes(1), "deleted 1"),
-        (2, Does::Gets(1), "refused: no such row 1"),
-    ];
-    for (client, does, wanted) in run {
-        let act = act(alloc, schema, does)?;
-        let told = told(alloc, machine, Event { client, act })?;
-        assert_same_text(rt, client, told.as_str(), wanted);
+    for (client, does, wanted) in &RUN {
+        let event = Event {
+            client: *client,
+            act: act(alloc, schema, *does)?,
+        };
+        let told = told(alloc, machine, event)?;
+        assert_same_text(rt, *client, told.as_str(), *wanted);
     }
     Ok(())
 }
@@ -65,17 +70,22 @@ fn begin(alloc: Global, schema: &Schema, question: &[u8]) -> Result<Event, Fail>
     })
 }
 
+/// Whether a begin of client 1 is let in.
+fn is_let_in(alloc: Global, schema: &Schema, machine: &mut Machine) -> Result<bool, Fail> {
+    let event = begin(alloc, schema, b"best low(x)")?;
+    Ok(machine.step(alloc, event).is_ok())
+}
+
 fn hands_its_ask_back(
     rt: &impl Abort,
     alloc: Global,
     schema: &Schema,
     machine: &mut Machine,
 ) -> Result<(), Fail> {
-    let first = begin(alloc, schema, b"best low(x)")?;
-    let begun = machine.step(alloc, first).is_ok();
+    let begun = is_let_in(alloc, schema, machine)?;
     assert_same(rt, "begun", &begun, &true);
-    let second = begin(alloc, schema, b"top_level 3 low(x)")?;
-    match machine.step(alloc, second) {
+    let event = begin(alloc, schema, b"top_level 3 low(x)")?;
+    match machine.step(alloc, event) {
         Ok(_reply) => Err("let in".into()),
         Err(refused) => {
             check_handed_back(rt, &refused);
