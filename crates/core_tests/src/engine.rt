@@ -45,6 +45,11 @@ enum Does {
     AsksRoom,
 }
 
+/// A setup of numbers that are allowed.
+fn setup_of(clients: u8, capacity: u32, block: u32, window: u32) -> Result<Setup, Fail> {
+    Ok(Setup::new(clients, capacity, block, window).ok_or("setup")?)
+}
+
 /// The column x alone.
 fn columns(alloc: Global) -> Result<Schema, Fail> {
     let names = [b"x".as_slice()];
@@ -219,7 +224,7 @@ fn check_told(
     run: &[(u8, Does)],
     wanted: &str,
 ) -> Result<(), Fail> {
-    let setup = Setup::new(8, capacity, block, 64).ok_or("setup")?;
+    let setup = setup_of(8, capacity, block, 64)?;
     let told = text_of_replies(alloc, setup, values, run)?;
     assert_same_text(rt, (capacity, values), told.as_str(), wanted);
     Ok(())
@@ -227,7 +232,7 @@ fn check_told(
 
 /// A store of three slots with these rows, for two clients.
 fn opened_store(alloc: Global, values: &[i64]) -> Result<Store, Fail> {
-    let setup = Setup::new(2, 3, 2, 1).ok_or("setup")?;
+    let setup = setup_of(2, 3, 2, 1)?;
     Ok(Store::new(alloc, &setup, &opening_rows(alloc, values)?)?)
 }
 
@@ -257,7 +262,7 @@ fn with_machine<L: FnOnce(&Schema, &mut Machine) -> Result<(), Fail>>(
 ) -> Result<(), Fail>
     requires { L.IsAlwaysCallable look }
 {
-    let setup = Setup::new(2, 4, 2, 64).ok_or("setup")?;
+    let setup = setup_of(2, 4, 2, 64)?;
     let schema = columns(alloc)?;
     let mut machine = opened_machine(alloc, setup, &[5, 7])?;
     look(&schema, &mut machine)
@@ -463,7 +468,7 @@ fn check_all_room(rt: &impl Abort, replies: &[Reply], count: usize) {
 #[test]
 fn a_million_events_are_answered_in_turn(rt: HostRuntime) -> Result<(), Fail> {
     let alloc = rt.alloc();
-    let setup = Setup::new(1, 1, 1, 1).ok_or("setup")?;
+    let setup = setup_of(1, 1, 1, 1)?;
     let events = asks_for_room(alloc, 1_000_000)?;
     let replies = replay(alloc, setup, &[], events)?;
     check_all_room(&rt, &replies, 1_000_000);
@@ -473,7 +478,7 @@ fn a_million_events_are_answered_in_turn(rt: HostRuntime) -> Result<(), Fail> {
 #[test]
 fn a_part_is_the_whole_where_memory_is_there(rt: HostRuntime) -> Result<(), Fail> {
     let alloc = rt.alloc();
-    let setup = Setup::new(1, 1, 1, 1).ok_or("setup")?;
+    let setup = setup_of(1, 1, 1, 1)?;
     let part = replay_part(alloc, setup, &[], asks_for_room(alloc, 3)?)?;
     assert_same(&rt, "stopped", &part.stopped, &false);
     check_all_room(&rt, &part.replies, 3);
@@ -491,7 +496,7 @@ fn check_too_many(rt: &impl Abort, alloc: Global, setup: Setup, opening: &[Row])
 #[test]
 fn too_many_opening_rows_are_refused(rt: HostRuntime) -> Result<(), Fail> {
     let alloc = rt.alloc();
-    let setup = Setup::new(1, 2, 1, 1).ok_or("setup")?;
+    let setup = setup_of(1, 2, 1, 1)?;
     check_too_many(&rt, alloc, setup, &opening_rows(alloc, &[1, 2, 3])?);
     Ok(())
 }

@@ -2,9 +2,9 @@
 ghost use Rattle.std.specs.Prelude.{IfOk, OnOk};
 ghost use Rattle.pref_core.specs.Indexes.{IsIndexOf};
 
-use super::{columns, row, rows};
+use super::{columns, row, rows, setup_of};
 use crate::same::assert_same;
-use pref_core::{Call, Index, Outcome, Planned, Setup, Store};
+use pref_core::{Call, Index, Outcome, Planned, Store};
 use pref_table::Schema;
 use std::alloc::Global;
 use std::process::Abort;
@@ -35,7 +35,7 @@ fn done(
 fn opened(alloc: Global, schema: &Schema, values: &[i64]) -> Result<(Store, Index), Fail>
     ensures { IfOk result (λ both. IsIndexOf both.0 both.1) }
 {
-    let setup = Setup::new(2, 4, 2, 1).ok_or("setup")?;
+    let setup = setup_of(2, 4, 2, 1)?;
     let store = Store::new(alloc, &setup, &rows(alloc, schema, values)?)?;
     let index = Index::new(alloc, &store)?;
     Ok((store, index))

@@ -4,7 +4,7 @@ ghost use Rattle.pref_core.specs.Scans.{NextIsNew};
 
 use super::{
     Does, act, answer_text, columns, commit_act, events_of, opened_machine, opening_rows,
-    reply_text, row_of, with_machine,
+    reply_text, row_of, setup_of, with_machine,
 };
 use crate::same::{assert_same, assert_same_text};
 use pref_core::{
@@ -212,7 +212,7 @@ fn replace_eight_rows(
 fn a_commit_that_makes_the_index_grow_is_made_again(rt: HostRuntime) -> Result<(), Fail> {
     let alloc = rt.alloc();
     let added = row_of(alloc, 6)?;
-    let setup = Setup::new(2, 18, 6, 64).ok_or("setup")?;
+    let setup = setup_of(2, 18, 6, 64)?;
     let mut machine = opened_machine(alloc, setup, &[5; 18])?;
     replace_eight_rows(&rt, alloc, &mut machine, added)
 }
@@ -245,7 +245,7 @@ fn prepare_in_the_end(rt: &impl Abort, alloc: Global, index: &mut Index, op: &Pl
 
 /// An index with room for one row.
 fn narrow_index(alloc: Global) -> Result<Index, Fail> {
-    let narrow = Setup::new(1, 1, 1, 1).ok_or("setup")?;
+    let narrow = setup_of(1, 1, 1, 1)?;
     Ok(Index::new(alloc, &Store::new(alloc, &narrow, &[])?)?)
 }
 
@@ -257,7 +257,7 @@ fn eight_adds(alloc: Global) -> Result<Commit, Fail> {
 /// Its op in an empty store.
 fn op_that_adds_eight(alloc: Global) -> Result<Op, Fail> {
     let commit = eight_adds(alloc)?;
-    let setup = Setup::new(1, 8, 8, 1).ok_or("setup")?;
+    let setup = setup_of(1, 8, 8, 1)?;
     let store = Store::new(alloc, &setup, &[])?;
     Ok(store.plan(1, Call::Commit(commit))?)
 }
@@ -334,7 +334,7 @@ fn two_levels(alloc: Global) -> Result<Ask, Fail> {
 #[test]
 fn a_query_is_scanned_and_answered_again_after_a_refusal(rt: HostRuntime) -> Result<(), Fail> {
     let alloc = rt.alloc();
-    let setup = Setup::new(1, 3, 3, 1).ok_or("setup")?;
+    let setup = setup_of(1, 3, 3, 1)?;
     assert_same(&rt, "blocks", &setup.blocks(), &1);
     let store = Store::new(alloc, &setup, &opening_rows(alloc, &[4, 6, 4])?)?;
     let ask = two_levels(alloc)?;
@@ -504,7 +504,7 @@ fn check_run(rt: &impl Abort, alloc: Global, setup: Setup, run: &Run) -> Result<
 fn a_stopped_run_keeps_its_first_replies_while_slots_are_used_again(
     rt: HostRuntime,
 ) -> Result<(), Fail> {
-    let setup = Setup::new(2, 4, 2, 64).ok_or("setup")?;
+    let setup = setup_of(2, 4, 2, 64)?;
     check_run(&rt, rt.alloc(), setup, &SLOTS_ARE_USED_AGAIN)
 }
 
@@ -512,7 +512,7 @@ fn a_stopped_run_keeps_its_first_replies_while_slots_are_used_again(
 fn a_stopped_run_keeps_its_first_replies_while_a_row_is_updated(
     rt: HostRuntime,
 ) -> Result<(), Fail> {
-    let setup = Setup::new(2, 3, 2, 64).ok_or("setup")?;
+    let setup = setup_of(2, 3, 2, 64)?;
     check_run(&rt, rt.alloc(), setup, &A_ROW_IS_UPDATED)
 }
 
@@ -520,6 +520,6 @@ fn a_stopped_run_keeps_its_first_replies_while_a_row_is_updated(
 fn a_stopped_run_keeps_its_first_replies_before_an_answer_of_three_levels(
     rt: HostRuntime,
 ) -> Result<(), Fail> {
-    let setup = Setup::new(1, 12, 6, 64).ok_or("setup")?;
+    let setup = setup_of(1, 12, 6, 64)?;
     check_run(&rt, rt.alloc(), setup, &AN_ANSWER_HAS_THREE_LEVELS)
 }
