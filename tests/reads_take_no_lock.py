@@ -16,7 +16,7 @@ HELD = {
     "pref_share/src/lib.rt": [("\nmod master;", "\npub mod master;")],
     "pref_share/src/master.rt": [("pub(crate) struct Master<J: Naming>", "pub struct Master<J: Naming>")],
     "share_tests/src/reads.rt": [
-        ("let told = read(alloc, client);", "let taken = board.master.lock(rt); let told = read(alloc, client); drop(taken);"),
+        ("Ok(read(alloc, client))", "let taken = board.master.lock(rt); let told = read(alloc, client); drop(taken); Ok(told)"),
     ],
 }
 REFUSES_GET = "ensures refused { IfErr result (λ fault. RefusesGet J.opening self.old id fault self.new) }"

@@ -1,10 +1,11 @@
 //! What clients do, over a table with the column x alone, and the replies to them, as texts.
 
-use pref_core::{Act, BoxedCommit, Change, Commit, Reply, Setup};
+use pref_core::{Act, BoxedCommit, Change, Commit, Committed, Reply, Setup};
 use pref_sky::Ranked;
 use pref_table::{Row, Schema};
-use pref_term::read_ask;
+use pref_term::{Ask, read_ask};
 use std::alloc::Global;
+use std::fmt::Display;
 use std::test::Fail;
 
 /// A change of a commit.
@@ -42,6 +43,21 @@ pub fn row(schema: &Schema, value: i64) -> Result<Row, Fail> {
     Ok(Row::of(schema, cells.as_slice())?)
 }
 
+/// A row, without a schema of one's own.
+pub fn row_of(alloc: Global, value: i64) -> Result<Row, Fail> {
+    row(&columns(alloc)?, value)
+}
+
+/// Three rows, in an array, which takes no memory to keep.
+pub fn three_rows(alloc: Global, values: (i64, i64, i64)) -> Result<[Row; 3], Fail> {
+    let schema = columns(alloc)?;
+    Ok([
+        row(&schema, values.0)?,
+        row(&schema, values.1)?,
+        row(&schema, values.2)?,
+    ])
+}
+
 pub fn rows(alloc: Global, values: &[i64]) -> Result<Vec<Row>, Fail> {
     let schema = columns(alloc)?;
     let mut made = Vec::new(alloc);
@@ -53,6 +69,11 @@ pub fn rows(alloc: Global, values: &[i64]) -> Result<Vec<Row>, Fail> {
 
 pub fn setup(clients: u8, capacity: u32, block: u32) -> Result<Setup, Fail> {
     Ok(Setup::new(clients, capacity, block, 64).ok_or("setup")?)
+}
+
+/// The question that is asked where none is told.
+pub fn best_low(alloc: Global) -> Result<Ask, Fail> {
+    Ok(read_ask(alloc, &columns(alloc)?, b"best low(x)")?)
 }
 
 /// The rows of an answer: of each its level, its id and its x.
@@ -89,7 +110,7 @@ pub fn commit_act(alloc: Global, schema: &Schema, list: &[Changes]) -> Result<Ac
     Ok(Act::Commit(BoxedCommit::new(alloc, commit)?))
 }
 
-pub fn act(alloc: Global, schema: &Schema, does: Does) -> Result<Act, Fail> {
+fn act(alloc: Global, schema: &Schema, does: Does) -> Result<Act, Fail> {
     Ok(match does {
         Does::Inserts(value) => Act::Insert(row(schema, value)?),
         Does::Updates(id, value) => Act::Update(id, row(schema, value)?),
@@ -105,32 +126,58 @@ pub fn act(alloc: Global, schema: &Schema, does: Does) -> Result<Act, Fail> {
     })
 }
 
-pub fn acts_of(alloc: Global, schema: &Schema, run: &[Does]) -> Result<Vec<Act>, Fail> {
+/// The act of what a client does.
+pub fn act_of(alloc: Global, does: Does) -> Result<Act, Fail> {
+    act(alloc, &columns(alloc)?, does)
+}
+
+pub fn acts_of(alloc: Global, run: &[Does]) -> Result<Vec<Act>, Fail> {
     let mut acts = Vec::new(alloc);
     for does in run {
-        acts.push(act(alloc, schema, *does)?)?;
+        acts.push(act_of(alloc, *does)?)?;
     }
     Ok(acts)
 }
 
+/// The acts of all clients, client after client.
+pub fn lists_of(alloc: Global, runs: &[&[Does]]) -> Result<Vec<Vec<Act>>, Fail> {
+    let mut lists = Vec::new(alloc);
+    for run in runs {
+        lists.push(acts_of(alloc, run)?)?;
+    }
+    Ok(lists)
+}
+
+/// A word, then a number.
+fn numbered(alloc: Global, word: &str, number: u64) -> Result<String, Fail> {
+    Ok(format!(in alloc; "{word} {number}")?)
+}
+
+fn committed_text(alloc: Global, told: &Committed) -> Result<String, Fail> {
+    let changes = told.changes;
+    let first = told.first;
+    Ok(format!(in alloc; "committed {changes} first {first}")?)
+}
+
+/// The text of a refusal, by the table or by the board.
+pub fn refused_text(alloc: Global, fault: &impl Display) -> Result<String, Fail> {
+    Ok(format!(in alloc; "refused: {fault}")?)
+}
+
 pub fn reply_text(alloc: Global, reply: &Reply) -> Result<String, Fail> {
-    Ok(match reply {
-        Reply::Inserted(id) => format!(in alloc; "inserted {id}")?,
-        Reply::Updated(id) => format!(in alloc; "updated {id}")?,
-        Reply::Deleted(id) => format!(in alloc; "deleted {id}")?,
-        Reply::Committed(told) => {
-            let changes = told.changes;
-            let first = told.first;
-            format!(in alloc; "committed {changes} first {first}")?
-        }
-        Reply::Begun(blocks) => format!(in alloc; "begun {blocks}")?,
-        Reply::Left(blocks) => format!(in alloc; "left {blocks}")?,
-        Reply::Answer(list) => answer_text(alloc, list.as_slice())?,
-        Reply::Abandoned => format!(in alloc; "abandoned")?,
-        Reply::Found(id, row) => found_text(alloc, *id, row)?,
-        Reply::Room(room) => format!(in alloc; "room {room}")?,
-        Reply::Refused(fault) => format!(in alloc; "refused: {fault}")?,
-    })
+    match reply {
+        Reply::Inserted(id) => numbered(alloc, "inserted", *id),
+        Reply::Updated(id) => numbered(alloc, "updated", *id),
+        Reply::Deleted(id) => numbered(alloc, "deleted", *id),
+        Reply::Committed(told) => committed_text(alloc, told),
+        Reply::Begun(blocks) => numbered(alloc, "begun", u64::from(*blocks)),
+        Reply::Left(blocks) => numbered(alloc, "left", u64::from(*blocks)),
+        Reply::Answer(list) => answer_text(alloc, list.as_slice()),
+        Reply::Abandoned => Ok(format!(in alloc; "abandoned")?),
+        Reply::Found(id, row) => found_text(alloc, *id, row),
+        Reply::Room(room) => numbered(alloc, "room", u64::from(*room)),
+        Reply::Refused(fault) => refused_text(alloc, fault),
+    }
 }
 
 fn found_text(alloc: Global, id: u64, row: &Row) -> Result<String, Fail> {

@@ -2,6 +2,7 @@
 
 ghost use Rattle.std.specs.Prelude.{◌≡◌};
 
+use crate::acts::best_low;
 use pref_core::{Act, Reply, Setup};
 use pref_share::{Board, Client, Gate, Name, Naming, ShareFault, open_board, run_all};
 use pref_table::Row;
@@ -9,6 +10,7 @@ use pref_term::Ask;
 use std::alloc::Global;
 use std::process::Abort;
 use std::sync::Wait;
+use std::test::Fail;
 use std::thread::Threads;
 
 /// The first two clients of a board. Lent, since a proof pays for each way out of a function that owns a client of its own.
@@ -47,6 +49,16 @@ pub fn begin<J: Naming, R: Wait + Abort>(
         Ok(blocks) => blocks,
         Err(_) => panic!(rt; "it begins"),
     }
+}
+
+/// Begins a query for the rows with the smallest x, and returns how many blocks it has.
+pub fn begin_low<J: Naming, R: Wait + Abort>(
+    rt: &R,
+    alloc: Global,
+    board: &Board<J>,
+    client: &mut Client<J>,
+) -> Result<u32, Fail> {
+    Ok(begin(rt, alloc, board, client, best_low(alloc)?))
 }
 
 /// The replies to all clients of a new board, each on a thread of its own.

@@ -2,13 +2,12 @@
 
 ghost use Rattle.std.specs.Prelude.{◌≡◌};
 
-use crate::acts::{Does, act, columns, replies_text, reply_text, rows, setup};
-use crate::boards::begin;
+use crate::acts::{Does, act_of, refused_text, replies_text, reply_text, row_of, rows, setup};
+use crate::boards::{begin_low, first_two};
 use crate::same::assert_same;
 use pref_core::{Act, Event, RankedList, Reply, Setup, replay};
 use pref_share::{Board, Client, Name, Naming, ShareFault, open_board};
 use pref_table::Row;
-use pref_term::read_ask;
 use std::alloc::Global;
 use std::marker::Brand;
 use std::process::Abort;
@@ -51,6 +50,24 @@ fn reply_to<J: Naming, R: Wait>(
     })
 }
 
+/// Adds the reply to one call of a client to a text.
+fn push_told<J: Naming, R: Wait>(
+    rt: &R,
+    alloc: Global,
+    board: &Board<J>,
+    client: &mut Client<J>,
+    does: Does,
+    text: &mut String,
+) -> Result<(), Fail> {
+    let reply = match reply_to(rt, alloc, board, client, act_of(alloc, does)?) {
+        Ok(reply) => reply_text(alloc, &reply),
+        Err(fault) => refused_text(alloc, &fault),
+    };
+    text.push_str(reply?.as_str())?;
+    text.push_str(" / ")?;
+    Ok(())
+}
+
 /// The replies to the clients of a board, one call after the other.
 fn told<J: Naming, R: Wait>(
     rt: &R,
@@ -59,17 +76,10 @@ fn told<J: Naming, R: Wait>(
     clients: &mut [Client<J>],
     run: &[(u8, Does)],
 ) -> Result<String, Fail> {
-    let schema = columns(alloc)?;
     let mut text = String::new(alloc);
     for (number, does) in run {
-        let act = act(alloc, &schema, *does)?;
         let client = clients.get_mut(*number as usize).ok_or("client")?;
-        let reply = match reply_to(rt, alloc, board, client, act) {
-            Ok(reply) => reply_text(alloc, &reply)?,
-            Err(fault) => format!(in alloc; "refused: {fault}")?,
-        };
-        text.push_str(reply.as_str())?;
-        text.push_str(" / ")?;
+        push_told(rt, alloc, board, client, *does, &mut text)?;
     }
     Ok(text)
 }
@@ -195,7 +205,21 @@ fn two_updates_under_an_open_query(rt: HostRuntime) -> Result<(), Fail> {
     check_told(&rt, &opening, setup, &run, wanted)
 }
 
-/// How many blocks the begin of the last client of a new board returns, and the replies to the others once it was dropped.
+/// How many blocks the begin of the second client returns, who is the last, and the replies to the first once the second was dropped.
+fn begun_and_told<J: Naming, R: Wait + Abort>(
+    rt: &R,
+    alloc: Global,
+    board: &Board<J>,
+    clients: &mut Vec<Client<J>>,
+    run: &[(u8, Does)],
+) -> Result<(u32, String), Fail> {
+    let (_first, last) = first_two(rt, clients);
+    let blocks = begin_low(rt, alloc, board, last)?;
+    drop(clients.pop());
+    Ok((blocks, told(rt, alloc, board, clients, run)?))
+}
+
+/// The same on a new board.
 fn told_after_a_drop<J: Naming, R: Wait + Abort>(
     rt: &R,
     alloc: Global,
@@ -207,35 +231,34 @@ fn told_after_a_drop<J: Naming, R: Wait + Abort>(
     requires book { name.seen.book ≡ J.book }
     requires opening { J.opening ≡ record { limits = setup; rows = rows.now } }
 {
-    let ask = read_ask(alloc, &columns(alloc)?, b"best low(x)")?;
     let (board, mut clients) = open_board::<J, R>(rt, alloc, name, setup, rows)?;
-    let Some(mut last) = clients.pop() else {
-        panic!(rt; "there are clients");
-    };
-    let blocks = begin(rt, alloc, &board, &mut last, ask);
-    drop(last);
-    let text = told(rt, alloc, &board, &mut clients, run);
+    let told = begun_and_told(rt, alloc, &board, &mut clients, run);
     board.close(rt);
-    Ok((blocks, text?))
+    told
 }
 
-/// The replies of the sequential table to its clients, who count from 1.
-fn replayed(alloc: Global, setup: Setup, rows: &[Row], run: &[(u8, Does)]) -> Result<String, Fail> {
-    let schema = columns(alloc)?;
+/// What the clients do, who count from 1.
+fn events_of(alloc: Global, run: &[(u8, Does)]) -> Result<Vec<Event>, Fail> {
     let mut events = Vec::new(alloc);
     for (client, does) in run {
         events.push(Event {
             client: *client,
-            act: act(alloc, &schema, *does)?,
+            act: act_of(alloc, *does)?,
         })?;
     }
+    Ok(events)
+}
+
+/// The replies of the sequential table to its clients.
+fn replayed(alloc: Global, setup: Setup, rows: &[Row], run: &[(u8, Does)]) -> Result<String, Fail> {
+    let events = events_of(alloc, run)?;
     replies_text(alloc, &replay(alloc, setup, rows, events)?)
 }
 
 #[test]
 fn dropped_open(rt: HostRuntime) -> Result<(), Fail> {
     let alloc = rt.alloc();
-    let opening = rows(alloc, &[5])?;
+    let opening = [row_of(alloc, 5)?];
     let setup = setup(2, 2, 2)?;
     let run = [
         (0, Does::Updates(1, 6)),
@@ -264,7 +287,7 @@ fn dropped_open(rt: HostRuntime) -> Result<(), Fail> {
 #[test]
 fn the_sequential_table_tells_the_same_of_an_open_query(rt: HostRuntime) -> Result<(), Fail> {
     let alloc = rt.alloc();
-    let opening = rows(alloc, &[5])?;
+    let opening = [row_of(alloc, 5)?];
     let run = [
         (1, Does::Begins),
         (2, Does::Updates(1, 6)),

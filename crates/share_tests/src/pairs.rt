@@ -2,7 +2,7 @@
 
 ghost use Rattle.std.specs.Prelude.{◌≡◌};
 
-use crate::acts::{Changes, Does, acts_of, columns, commit_act, rows, setup};
+use crate::acts::{Changes, Does, acts_of, columns, commit_act, row_of, setup};
 use crate::boards::{Open, replies_of_a_run};
 use crate::same::assert_same;
 use pref_core::{Act, Reply};
@@ -14,13 +14,9 @@ use std::marker::Brand;
 use std::test::Fail;
 
 /// A query of the whole table.
-fn push_query(alloc: Global, schema: &Schema, acts: &mut Vec<Act>) -> Result<(), Fail> {
+fn push_query(alloc: Global, acts: &mut Vec<Act>) -> Result<(), Fail> {
     let asks = Does::Asks(b"top_level 16 low(x)");
-    for step in acts_of(
-        alloc,
-        schema,
-        &[asks, Does::Scans, Does::Scans, Does::Finishes],
-    )? {
+    for step in acts_of(alloc, &[asks, Does::Scans, Does::Scans, Does::Finishes])? {
         acts.push(step)?;
     }
     Ok(())
@@ -35,7 +31,7 @@ fn acts_of_a_pair(alloc: Global, schema: &Schema, first: u64) -> Result<Vec<Act>
         let other = Changes::Sets(first.wrapping_add(1), -value);
         acts.push(commit_act(alloc, schema, &[one, other])?)?;
         if turn % 4 == 0 {
-            push_query(alloc, schema, &mut acts)?;
+            push_query(alloc, &mut acts)?;
         }
     }
     Ok(acts)
@@ -103,7 +99,7 @@ fn counts(lists: &[Vec<Reply>]) -> (usize, usize) {
 #[test]
 fn no_answer_sees_half_a_commit(rt: HostRuntime) -> Result<(), Fail> {
     let alloc = rt.alloc();
-    let opening = rows(alloc, &[0; 16])?;
+    let opening = [row_of(alloc, 0)?; 16];
     let setup = setup(8, 256, 128)?;
     let acts = acts_of_all(alloc)?;
     let lists = replies_of_a_run::<Brand, _, _>(

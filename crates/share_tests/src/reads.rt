@@ -2,13 +2,12 @@
 
 ghost use Rattle.std.specs.Prelude.{◌≡◌};
 
-use crate::acts::{columns, row, rows, setup};
-use crate::boards::{begin, first_two};
+use crate::acts::{setup, three_rows};
+use crate::boards::{begin_low, first_two};
 use crate::same::assert_same;
 use pref_core::Setup;
-use pref_share::{Client, Name, Naming, ShareFault, open_board};
+use pref_share::{Board, Client, Name, Naming, ShareFault, open_board};
 use pref_table::Row;
-use pref_term::{Ask, read_ask};
 use std::alloc::Global;
 use std::marker::Brand;
 use std::process::Abort;
@@ -28,6 +27,17 @@ fn read<J: Naming>(alloc: Global, client: &mut Client<J>) -> Reads {
     (client.get(1), client.room(), client.scan(alloc))
 }
 
+/// What a client reads after it has begun a query.
+fn begin_and_read<J: Naming, R: Wait + Abort>(
+    rt: &R,
+    alloc: Global,
+    board: &Board<J>,
+    client: &mut Client<J>,
+) -> Result<Reads, Fail> {
+    begin_low(rt, alloc, board, client)?;
+    Ok(read(alloc, client))
+}
+
 /// What a client with an open query reads.
 fn read_of_an_open_board<J: Naming, R: Wait + Abort>(
     rt: &R,
@@ -35,28 +45,24 @@ fn read_of_an_open_board<J: Naming, R: Wait + Abort>(
     name: Name,
     setup: Setup,
     rows: &[Row],
-    ask: Ask,
 ) -> Result<Reads, Fail>
     requires book { name.seen.book ≡ J.book }
     requires opening { J.opening ≡ record { limits = setup; rows = rows.now } }
 {
     let (board, mut clients) = open_board::<J, R>(rt, alloc, name, setup, rows)?;
     let (client, _other) = first_two(rt, &mut clients);
-    begin(rt, alloc, &board, client, ask);
-    let told = read(alloc, client);
+    let told = begin_and_read(rt, alloc, &board, client);
     board.close(rt);
-    Ok(told)
+    told
 }
 
 #[test]
 fn reads_of_an_open_board(rt: HostRuntime) -> Result<(), Fail> {
     let alloc = rt.alloc();
-    let schema = columns(alloc)?;
-    let opening = rows(alloc, &[5, 4, 6])?;
+    let opening = three_rows(alloc, (5, 4, 6))?;
     let setup = setup(2, 4, 2)?;
-    let ask = read_ask(alloc, &schema, b"best low(x)")?;
-    let told = read_of_an_open_board::<Brand, _>(&rt, alloc, Name::new(), setup, &opening, ask)?;
-    let wanted = (Ok(row(&schema, 5)?), Ok(1), Ok(1));
+    let told = read_of_an_open_board::<Brand, _>(&rt, alloc, Name::new(), setup, &opening)?;
+    let wanted = (Ok(opening[0]), Ok(1), Ok(1));
     assert_same(&rt, "an open board", &told, &wanted);
     Ok(())
 }
@@ -68,26 +74,24 @@ fn read_of_a_closed_board<J: Naming, R: Wait + Abort>(
     name: Name,
     setup: Setup,
     rows: &[Row],
-    ask: Ask,
 ) -> Result<(Reads, u64), Fail>
     requires book { name.seen.book ≡ J.book }
     requires opening { J.opening ≡ record { limits = setup; rows = rows.now } }
 {
     let (board, mut clients) = open_board::<J, R>(rt, alloc, name, setup, rows)?;
     let (client, _other) = first_two(rt, &mut clients);
-    begin(rt, alloc, &board, client, ask);
+    let begun = begin_low(rt, alloc, &board, client);
     board.close(rt);
+    begun?;
     Ok((read(alloc, client), client.seen()))
 }
 
 #[test]
 fn a_closed_board_lets_nobody_in(rt: HostRuntime) -> Result<(), Fail> {
     let alloc = rt.alloc();
-    let schema = columns(alloc)?;
-    let opening = rows(alloc, &[5, 4, 6])?;
+    let opening = three_rows(alloc, (5, 4, 6))?;
     let setup = setup(2, 4, 2)?;
-    let ask = read_ask(alloc, &schema, b"best low(x)")?;
-    let told = read_of_a_closed_board::<Brand, _>(&rt, alloc, Name::new(), setup, &opening, ask)?;
+    let told = read_of_a_closed_board::<Brand, _>(&rt, alloc, Name::new(), setup, &opening)?;
     let closed = ShareFault::Closed;
     let wanted = ((Err(closed), Err(closed), Err(closed)), 1);
     assert_same(&rt, "a closed board", &told, &wanted);

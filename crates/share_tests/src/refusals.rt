@@ -3,19 +3,20 @@
 
 ghost use Rattle.std.specs.Prelude.{◌≡◌};
 
-use crate::acts::{Does, acts_of, answer_text, columns, lists_text, row, rows, setup};
+use crate::acts::{Does, answer_text, best_low, lists_of, lists_text, row_of, setup, three_rows};
 use crate::boards::{Open, first_two, replies_of_a_run};
 use crate::same::assert_same;
-use pref_core::{Act, Change, Commit, Committed, CoreFault, Setup};
+use pref_core::{Act, Change, Commit, Committed, CoreFault, Reply, Setup};
 use pref_share::{BeginFault, Board, Client, Name, Naming, ShareFault, open_board};
 use pref_sky::Ranked;
-use pref_table::{Row, Schema};
-use pref_term::{Ask, read_ask};
+use pref_table::Row;
+use pref_term::Ask;
 use std::alloc::Global;
 use std::marker::Brand;
 use std::process::Abort;
 use std::sync::Wait;
 use std::test::Fail;
+use std::thread::Threads;
 
 /// How often eight rows come in the place of eight others: the index, which has room for 18, has to grow by then.
 const ROUNDS: u8 = 30;
@@ -38,20 +39,24 @@ fn clients_of_an_opening<J: Naming, R: Wait>(
     Ok(clients.len())
 }
 
-#[test]
-fn an_opening_refused_then_again(rt: HostRuntime) -> Result<(), Fail> {
+/// The same, opened again where memory was refused.
+fn clients_in_the_end(rt: &(impl Wait + Abort + AllocGlobal), setup: Setup, rows: &[Row]) -> usize {
     let alloc = rt.alloc();
-    let rows = rows(alloc, &[5, 4, 6])?;
-    let setup = setup(2, 4, 2)?;
-    let clients = match clients_of_an_opening::<Brand, _>(&rt, alloc, Name::new(), setup, &rows) {
+    match clients_of_an_opening::<Brand, _>(rt, alloc, Name::new(), setup, rows) {
         Ok(clients) => clients,
         Err(fault) => {
-            assert_same(&rt, "an opening", &fault, &OUT_OF_MEMORY);
-            clients_of_an_opening::<Brand, _>(&rt, alloc, Name::new(), setup, &rows).expect(
-                &rt, "memory",
+            assert_same(rt, "an opening", &fault, &OUT_OF_MEMORY);
+            clients_of_an_opening::<Brand, _>(rt, alloc, Name::new(), setup, rows).expect(
+                rt, "memory",
             )
         }
-    };
+    }
+}
+
+#[test]
+fn an_opening_refused_then_again(rt: HostRuntime) -> Result<(), Fail> {
+    let rows = three_rows(rt.alloc(), (5, 4, 6))?;
+    let clients = clients_in_the_end(&rt, setup(2, 4, 2)?, &rows);
     assert_same(&rt, "clients", &clients, &2);
     Ok(())
 }
@@ -103,6 +108,19 @@ fn begin_in_the_end<J: Naming, R: Wait + Abort>(
     }
 }
 
+/// Inserts a row, again where memory was refused: it gets this id.
+fn insert_in_the_end<J: Naming, R: Wait + Abort>(
+    rt: &R,
+    alloc: Global,
+    board: &Board<J>,
+    client: &mut Client<J>,
+    row: &Row,
+    id: u64,
+) {
+    let inserted = in_the_end!(rt, client, client.insert(rt, alloc, board, *row));
+    assert_same(rt, "an insert", &inserted, &id);
+}
+
 /// Fills a table of 18 slots that has the one row of id 1.
 fn fill<J: Naming, R: Wait + Abort>(
     rt: &R,
@@ -112,8 +130,7 @@ fn fill<J: Naming, R: Wait + Abort>(
     row: &Row,
 ) {
     for id in 2..19 {
-        let inserted = in_the_end!(rt, client, client.insert(rt, alloc, board, *row));
-        assert_same(rt, "an insert", &inserted, &id);
+        insert_in_the_end(rt, alloc, board, client, row, id);
     }
 }
 
@@ -127,12 +144,26 @@ fn change_and_read<J: Naming, R: Wait + Abort>(
 ) {
     for id in 2..200 {
         in_the_end!(rt, client, client.delete(rt, alloc, board, id));
-        let inserted = in_the_end!(rt, client, client.insert(rt, alloc, board, *row));
-        assert_same(rt, "an insert", &inserted, &(id + 17));
+        insert_in_the_end(rt, alloc, board, client, row, id + 17);
     }
     in_the_end!(rt, client, client.update(rt, alloc, board, 1, *row));
     let wanted = (Ok(*row), Ok(0));
     assert_same(rt, "reads", &(client.get(1), client.room()), &wanted);
+}
+
+/// Changes a table as one client, and reads it as another who heard of it.
+fn change_and_hear<J: Naming, R: Wait + Abort>(
+    rt: &R,
+    alloc: Global,
+    board: &Board<J>,
+    client: &mut Client<J>,
+    other: &mut Client<J>,
+    row: &Row,
+) {
+    fill(rt, alloc, board, client, row);
+    change_and_read(rt, alloc, board, client, row);
+    other.hear(client.word());
+    assert_same(rt, "what is heard", &other.get(1), &Ok(*row));
 }
 
 fn changed_and_heard<J: Naming, R: Wait + Abort>(
@@ -142,16 +173,13 @@ fn changed_and_heard<J: Naming, R: Wait + Abort>(
     setup: Setup,
     rows: &[Row],
     row: &Row,
-) -> Result<(), Fail>
+) -> Result<(), ShareFault>
     requires book { name.seen.book ≡ J.book }
     requires opening { J.opening ≡ record { limits = setup; rows = rows.now } }
 {
     let (board, mut clients) = open_board::<J, R>(rt, alloc, name, setup, rows)?;
     let (client, other) = first_two(rt, &mut clients);
-    fill(rt, alloc, &board, client, row);
-    change_and_read(rt, alloc, &board, client, row);
-    other.hear(client.word());
-    assert_same(rt, "what is heard", &other.get(1), &Ok(*row));
+    change_and_hear(rt, alloc, &board, client, other, row);
     board.close(rt);
     Ok(())
 }
@@ -159,11 +187,11 @@ fn changed_and_heard<J: Naming, R: Wait + Abort>(
 #[test]
 fn changes_refused_then_again(rt: HostRuntime) -> Result<(), Fail> {
     let alloc = rt.alloc();
-    let schema = columns(alloc)?;
-    let opening = rows(alloc, &[5])?;
-    let changed = row(&schema, 6)?;
+    let opening = [row_of(alloc, 5)?];
+    let changed = row_of(alloc, 6)?;
     let setup = setup(2, 18, 6)?;
-    changed_and_heard::<Brand, _>(&rt, alloc, Name::new(), setup, &opening, &changed)
+    changed_and_heard::<Brand, _>(&rt, alloc, Name::new(), setup, &opening, &changed)?;
+    Ok(())
 }
 
 /// The commit of removes of the eight oldest rows of a table of 18, in whose place eight new ones came this often.
@@ -239,29 +267,54 @@ fn replaced<J: Naming, R: Wait + Abort>(
 #[test]
 fn a_commit_refused_then_again(rt: HostRuntime) -> Result<(), Fail> {
     let alloc = rt.alloc();
-    let schema = columns(alloc)?;
-    let opening = [row(&schema, 5)?; 18];
-    let adds = Commit::of(&[Change::Add(row(&schema, 6)?); 8])?;
+    let opening = [row_of(alloc, 5)?; 18];
+    let adds = Commit::of(&[Change::Add(row_of(alloc, 6)?); 8])?;
     let setup = setup(2, 18, 6)?;
     replaced::<Brand, _>(&rt, alloc, Name::new(), setup, &opening, adds)
 }
 
-/// Abandons a query of two blocks, and asks it again to its end.
+/// Begins a query of two blocks, and abandons it.
+fn abandon_in_the_end<J: Naming, R: Wait + Abort>(
+    rt: &R,
+    alloc: Global,
+    board: &Board<J>,
+    client: &mut Client<J>,
+    ask: Ask,
+) {
+    let begun = begin_in_the_end(rt, alloc, board, client, ask);
+    assert_same(rt, "blocks of an abandoned query", &begun, &2);
+    in_the_end!(rt, client, client.abandon(rt, alloc, board));
+}
+
+/// How many blocks are left after a scan, made again where memory was refused.
+fn scan_in_the_end<J: Naming>(rt: &impl Abort, alloc: Global, client: &mut Client<J>) -> u32 {
+    in_the_end!(rt, client, client.scan(alloc))
+}
+
+/// Asks a query of two blocks to its end.
+fn ask_in_the_end<J: Naming, R: Wait + Abort>(
+    rt: &R,
+    alloc: Global,
+    board: &Board<J>,
+    client: &mut Client<J>,
+    ask: Ask,
+) -> Vec<Ranked> {
+    let begun = begin_in_the_end(rt, alloc, board, client, ask);
+    let first = scan_in_the_end(rt, alloc, client);
+    let second = scan_in_the_end(rt, alloc, client);
+    assert_same(rt, "blocks", &(begun, first, second), &(2, 1, 0));
+    in_the_end!(rt, client, client.finish(rt, alloc, board))
+}
+
+/// Abandons a query, and asks it again to its end.
 fn abandon_and_ask<J: Naming, R: Wait + Abort>(
     rt: &R,
     alloc: Global,
     board: &Board<J>,
     client: &mut Client<J>,
-    asks: (Ask, Ask),
-) -> Vec<Ranked> {
-    let abandoned = begin_in_the_end(rt, alloc, board, client, asks.0);
-    in_the_end!(rt, client, client.abandon(rt, alloc, board));
-    let asked = begin_in_the_end(rt, alloc, board, client, asks.1);
-    let first = in_the_end!(rt, client, client.scan(alloc));
-    let second = in_the_end!(rt, client, client.scan(alloc));
-    let blocks = (abandoned, asked, first, second);
-    assert_same(rt, "blocks", &blocks, &(2, 2, 1, 0));
-    in_the_end!(rt, client, client.finish(rt, alloc, board))
+) -> Result<Vec<Ranked>, Fail> {
+    abandon_in_the_end(rt, alloc, board, client, best_low(alloc)?);
+    Ok(ask_in_the_end(rt, alloc, board, client, best_low(alloc)?))
 }
 
 fn answered<J: Naming, R: Wait + Abort>(
@@ -270,36 +323,33 @@ fn answered<J: Naming, R: Wait + Abort>(
     name: Name,
     setup: Setup,
     rows: &[Row],
-    asks: (Ask, Ask),
 ) -> Result<Vec<Ranked>, Fail>
     requires book { name.seen.book ≡ J.book }
     requires opening { J.opening ≡ record { limits = setup; rows = rows.now } }
 {
     let (board, mut clients) = open_board::<J, R>(rt, alloc, name, setup, rows)?;
     let (client, _other) = first_two(rt, &mut clients);
-    let ranked = abandon_and_ask(rt, alloc, &board, client, asks);
+    let ranked = abandon_and_ask(rt, alloc, &board, client);
     board.close(rt);
-    Ok(ranked)
+    ranked
 }
 
 #[test]
 fn a_query_refused_then_again(rt: HostRuntime) -> Result<(), Fail> {
     let alloc = rt.alloc();
-    let schema = columns(alloc)?;
-    let opening = rows(alloc, &[5, 4, 6])?;
-    let asks = (
-        read_ask(alloc, &schema, b"best low(x)")?,
-        read_ask(alloc, &schema, b"best low(x)")?,
-    );
+    let opening = three_rows(alloc, (5, 4, 6))?;
     let setup = setup(2, 4, 2)?;
-    let ranked = answered::<Brand, _>(&rt, alloc, Name::new(), setup, &opening, asks)?;
-    let text = answer_text(alloc, &ranked)?;
+    let name = Name::new();
+    let text = answer_text(
+        alloc,
+        &answered::<Brand, _>(&rt, alloc, name, setup, &opening)?,
+    )?;
     assert_same(&rt, "an answer", &text.as_str(), &"answer level 1 id 2: 4");
     Ok(())
 }
 
 /// The acts of one client.
-fn acts_of_one(alloc: Global, schema: &Schema) -> Result<Vec<Vec<Act>>, Fail> {
+fn acts_of_one(alloc: Global) -> Result<Vec<Vec<Act>>, Fail> {
     let run = [
         Does::Inserts(3),
         Does::Begins,
@@ -308,46 +358,34 @@ fn acts_of_one(alloc: Global, schema: &Schema) -> Result<Vec<Vec<Act>>, Fail> {
         Does::Finishes,
         Does::Gets(2),
     ];
-    let mut lists = Vec::new(alloc);
-    lists.push(acts_of(alloc, schema, &run)?)?;
-    Ok(lists)
+    lists_of(alloc, &[&run])
+}
+
+/// The replies to a run, and where memory was refused those to a second one.
+fn replies_in_the_end(
+    rt: &(impl Threads + Wait + Abort + AllocGlobal + Sync),
+    setup: Setup,
+    rows: &[Row],
+) -> Result<Vec<Vec<Reply>>, Fail> {
+    let alloc = rt.alloc();
+    let acts = acts_of_one(alloc)?;
+    match replies_of_a_run::<Brand, _, _>(rt, alloc, Name::new(), setup, rows, acts, &Open) {
+        Ok(replies) => return Ok(replies),
+        Err(fault) => assert_same(rt, "a run", &fault, &OUT_OF_MEMORY),
+    }
+    let again = acts_of_one(alloc)?;
+    match replies_of_a_run::<Brand, _, _>(rt, alloc, Name::new(), setup, rows, again, &Open) {
+        Ok(replies) => Ok(replies),
+        Err(_) => panic!(rt; "memory"),
+    }
 }
 
 #[test]
 fn a_run_refused_then_again(rt: HostRuntime) -> Result<(), Fail> {
     let alloc = rt.alloc();
-    let schema = columns(alloc)?;
-    let opening = rows(alloc, &[5])?;
+    let opening = [row_of(alloc, 5)?];
     let setup = setup(1, 4, 2)?;
-    let first = acts_of_one(alloc, &schema)?;
-    let second = acts_of_one(alloc, &schema)?;
-    let replies = match replies_of_a_run::<Brand, _, _>(
-        &rt,
-        alloc,
-        Name::new(),
-        setup,
-        &opening,
-        first,
-        &Open,
-    ) {
-        Ok(replies) => replies,
-        Err(fault) => {
-            assert_same(&rt, "a run", &fault, &OUT_OF_MEMORY);
-            match replies_of_a_run::<Brand, _, _>(
-                &rt,
-                alloc,
-                Name::new(),
-                setup,
-                &opening,
-                second,
-                &Open,
-            ) {
-                Ok(replies) => replies,
-                Err(_) => panic!(rt; "memory"),
-            }
-        }
-    };
-    let text = lists_text(alloc, &replies)?;
+    let text = lists_text(alloc, &replies_in_the_end(&rt, setup, &opening)?)?;
     let wanted = "inserted 2 / begun 2 / left 1 / left 0 / answer level 1 id 2: 3 / row 2: 3 / ";
     assert_same(&rt, "replies", &text.as_str(), &wanted);
     Ok(())

@@ -2,10 +2,10 @@
 
 ghost use Rattle.std.specs.Prelude.{◌≡◌};
 
-use crate::acts::{Does, acts_of, columns, replies_text, rows, setup};
+use crate::acts::{Does, lists_of, replies_text, row_of, setup};
 use crate::boards::Open;
 use crate::same::assert_same;
-use pref_core::{Act, Setup};
+use pref_core::Setup;
 use pref_share::{Board, Client, Gate, Name, Naming, Report, open_board, run_each};
 use pref_table::Row;
 use std::alloc::Global;
@@ -34,22 +34,27 @@ impl Gate for HoldsAt {
     fn after(&self, _client: u8, _turn: usize) {}
 }
 
-/// Adds the replies of a report to a text, and why its client stopped; gives the client.
-fn client_of<J: Naming>(
+/// Adds the replies of each report to a text, and why its client stopped.
+fn push_reports<J: Naming>(
     alloc: Global,
     text: &mut String,
-    report: Report<J>,
-) -> Result<Client<J>, Fail> {
-    let Report {
-        client,
-        replies,
-        stopped,
-    } = report;
-    text.push_str(replies_text(alloc, &replies)?.as_str())?;
-    if let Some(fault) = stopped {
-        text.push_str(format!(in alloc; "{fault} / ")?.as_str())?;
+    reports: &[Report<J>],
+) -> Result<(), Fail> {
+    for report in reports {
+        text.push_str(replies_text(alloc, &report.replies)?.as_str())?;
+        if let Some(fault) = report.stopped {
+            text.push_str(format!(in alloc; "{fault} / ")?.as_str())?;
+        }
     }
-    Ok(client)
+    Ok(())
+}
+
+fn clients_of<J: Naming>(alloc: Global, reports: Vec<Report<J>>) -> Result<Vec<Client<J>>, Fail> {
+    let mut clients = Vec::new(alloc);
+    for report in reports {
+        clients.push(report.client)?;
+    }
+    Ok(clients)
 }
 
 /// Runs acts of clients, adds what is reported to a text, and gives the clients.
@@ -58,18 +63,17 @@ fn run<J: Naming + Send + Sync, R: Threads + Wait + Abort + Sync, G: Gate + Sync
     alloc: Global,
     board: &Board<J>,
     clients: Vec<Client<J>>,
-    acts: Vec<Vec<Act>>,
+    runs: &[&[Does]],
     gate: &G,
     text: &mut String,
 ) -> Result<Vec<Client<J>>, Fail> {
+    let acts = lists_of(alloc, runs)?;
     if acts.len() != clients.len() {
         panic!(rt; "there is a list for each");
     }
-    let mut back = Vec::new(alloc);
-    for report in run_each(rt, alloc, board, clients, acts, gate)? {
-        back.push(client_of(alloc, text, report)?)?;
-    }
-    Ok(back)
+    let reports = run_each(rt, alloc, board, clients, acts, gate)?;
+    push_reports(alloc, text, &reports)?;
+    clients_of(alloc, reports)
 }
 
 /// What is reported of a run, and of a second one of the same clients, which no gate holds.
@@ -78,8 +82,8 @@ fn run_twice<J: Naming + Send + Sync, R: Threads + Wait + Abort + Sync, G: Gate 
     alloc: Global,
     board: &Board<J>,
     clients: Vec<Client<J>>,
-    first: Vec<Vec<Act>>,
-    second: Vec<Vec<Act>>,
+    first: &[&[Does]],
+    second: &[&[Does]],
     gate: &G,
 ) -> Result<String, Fail> {
     let mut text = String::new(alloc);
@@ -95,8 +99,8 @@ fn two_runs<J: Naming + Send + Sync, R: Threads + Wait + Abort + Sync, G: Gate +
     name: Name,
     setup: Setup,
     rows: &[Row],
-    first: Vec<Vec<Act>>,
-    second: Vec<Vec<Act>>,
+    first: &[&[Does]],
+    second: &[&[Does]],
     gate: &G,
 ) -> Result<String, Fail>
     requires book { name.seen.book ≡ J.book }
@@ -108,60 +112,52 @@ fn two_runs<J: Naming + Send + Sync, R: Threads + Wait + Abort + Sync, G: Gate +
     text
 }
 
-fn lists_of(alloc: Global, first: &[Does], second: &[Does]) -> Result<Vec<Vec<Act>>, Fail> {
-    let schema = columns(alloc)?;
-    let mut lists = Vec::new(alloc);
-    lists.push(acts_of(alloc, &schema, first)?)?;
-    lists.push(acts_of(alloc, &schema, second)?)?;
-    Ok(lists)
+/// Asserts what is reported of two runs of the two clients of a new board, whose table has one row.
+fn check_two_runs<G: Gate + Sync>(
+    rt: &(impl Threads + Wait + Abort + AllocGlobal + Sync),
+    case: &str,
+    first: &[&[Does]],
+    second: &[&[Does]],
+    gate: &G,
+    wanted: &str,
+) -> Result<(), Fail> {
+    let alloc = rt.alloc();
+    let opening = [row_of(alloc, 3)?];
+    let setup = setup(2, 4, 4)?;
+    let text = two_runs::<Brand, _, _>(
+        rt,
+        alloc,
+        Name::new(),
+        setup,
+        &opening,
+        first,
+        second,
+        gate,
+    )?;
+    assert_same(rt, case, &text.as_str(), &wanted);
+    Ok(())
 }
 
 #[test]
 fn held_clients_come_back(rt: HostRuntime) -> Result<(), Fail> {
-    let alloc = rt.alloc();
-    let opening = rows(alloc, &[3])?;
-    let setup = setup(2, 4, 4)?;
-    let first = lists_of(
-        alloc,
-        &[Does::Updates(1, 5)],
-        &[Does::AsksRoom, Does::Gets(1)],
-    )?;
-    let second = lists_of(alloc, &[], &[Does::Gets(1), Does::Deletes(1)])?;
-    let gate = HoldsAt { held: 2, at: 1 };
-    let text = two_runs::<Brand, _, _>(
+    check_two_runs(
         &rt,
-        alloc,
-        Name::new(),
-        setup,
-        &opening,
-        first,
-        second,
-        &gate,
-    )?;
-    let wanted = "updated 1 / room 3 / held client 2 / row 1: 5 / deleted 1 / ";
-    assert_same(&rt, "client 2 is held", &text.as_str(), &wanted);
-    Ok(())
+        "client 2 is held",
+        &[&[Does::Updates(1, 5)], &[Does::AsksRoom, Does::Gets(1)]],
+        &[&[], &[Does::Gets(1), Does::Deletes(1)]],
+        &HoldsAt { held: 2, at: 1 },
+        "updated 1 / room 3 / held client 2 / row 1: 5 / deleted 1 / ",
+    )
 }
 
 #[test]
 fn a_query_goes_on_in_another_run(rt: HostRuntime) -> Result<(), Fail> {
-    let alloc = rt.alloc();
-    let opening = rows(alloc, &[3])?;
-    let setup = setup(2, 4, 4)?;
-    let first = lists_of(alloc, &[Does::Begins, Does::Scans], &[Does::Gets(2)])?;
-    let second = lists_of(alloc, &[Does::Finishes], &[Does::Updates(1, 5)])?;
-    let text = two_runs::<Brand, _, _>(
+    check_two_runs(
         &rt,
-        alloc,
-        Name::new(),
-        setup,
-        &opening,
-        first,
-        second,
+        "client 1 asks",
+        &[&[Does::Begins, Does::Scans], &[Does::Gets(2)]],
+        &[&[Does::Finishes], &[Does::Updates(1, 5)]],
         &Open,
-    )?;
-    let wanted =
-        "begun 1 / left 0 / refused: no such row 2 / answer level 1 id 1: 3 / updated 1 / ";
-    assert_same(&rt, "client 1 asks", &text.as_str(), &wanted);
-    Ok(())
+        "begun 1 / left 0 / refused: no such row 2 / answer level 1 id 1: 3 / updated 1 / ",
+    )
 }

@@ -3,12 +3,12 @@
 
 ghost use Rattle.std.specs.Prelude.{◌≡◌};
 
-use crate::acts::{columns, rows, setup};
+use crate::acts::{best_low, rows, setup};
 use crate::boards::{begin, first_two};
 use pref_core::Setup;
 use pref_share::{Board, Client, Name, Naming, open_board};
-use pref_table::{Row, Schema};
-use pref_term::{Ask, read_ask};
+use pref_table::Row;
+use pref_term::Ask;
 use std::alloc::Global;
 use std::io::Print;
 use std::marker::Brand;
@@ -18,10 +18,10 @@ use std::test::Fail;
 
 const ROUNDS: usize = 20;
 
-fn asks(alloc: Global, schema: &Schema) -> Result<Vec<Ask>, Fail> {
+fn asks(alloc: Global) -> Result<Vec<Ask>, Fail> {
     let mut asks = Vec::new(alloc);
     for _round in 0..ROUNDS {
-        asks.push(read_ask(alloc, schema, b"best low(x)")?)?;
+        asks.push(best_low(alloc)?)?;
     }
     Ok(asks)
 }
@@ -65,9 +65,8 @@ fn on_a_new_board<J: Naming, R: Wait + Print + Abort>(
 #[test]
 fn rounds_of_begin_and_abandon(rt: HostRuntime) -> Result<(), Fail> {
     let alloc = rt.alloc();
-    let schema = columns(alloc)?;
-    let opening = rows(alloc, &[5, 4, 6, 3, 7, 2, 8, 1])?;
-    let asks = asks(alloc, &schema)?;
     let setup = setup(2, 16, 4)?;
+    let opening = rows(alloc, &[5, 4, 6, 3, 7, 2, 8, 1])?;
+    let asks = asks(alloc)?;
     on_a_new_board::<Brand, _>(&rt, alloc, Name::new(), setup, &opening, asks)
 }

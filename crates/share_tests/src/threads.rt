@@ -2,12 +2,12 @@
 
 ghost use Rattle.std.specs.Prelude.{◌≡◌};
 
-use crate::acts::{Does, act, acts_of, columns, lists_text, rows, setup};
+use crate::acts::{Does, act_of, acts_of, lists_of, lists_text, row_of, rows, setup};
 use crate::boards::replies_of_a_run;
 use crate::same::assert_same;
 use pref_core::{Act, Setup};
 use pref_share::{Gate, Name, Naming};
-use pref_table::{Row, Schema};
+use pref_table::Row;
 use std::alloc::Global;
 use std::marker::Brand;
 use std::process::Abort;
@@ -130,27 +130,17 @@ fn run<J: Naming + Send + Sync, R: Threads + Wait + Abort + Sync, G: Gate + Sync
     }
 }
 
-fn same_acts(alloc: Global, clients: u8, run: &[Does]) -> Result<Vec<Vec<Act>>, Fail> {
-    let schema = columns(alloc)?;
-    let mut lists = Vec::new(alloc);
-    for _client in 0..clients {
-        lists.push(acts_of(alloc, &schema, run)?)?;
-    }
-    Ok(lists)
-}
-
 /// Updates of one row to -1, -2, .., -160.
-fn updates_of(alloc: Global, schema: &Schema, id: u64) -> Result<Vec<Act>, Fail> {
+fn updates_of(alloc: Global, id: u64) -> Result<Vec<Act>, Fail> {
     let mut acts = Vec::new(alloc);
     for value in 1..161u8 {
-        acts.push(act(alloc, schema, Does::Updates(id, -i64::from(value)))?)?;
+        acts.push(act_of(alloc, Does::Updates(id, -i64::from(value)))?)?;
     }
     Ok(acts)
 }
 
 /// A query by client 1, while each of the other seven updates a row.
 fn a_query_among_updates(alloc: Global) -> Result<Vec<Vec<Act>>, Fail> {
-    let schema = columns(alloc)?;
     let query = [
         Does::Begins,
         Does::Scans,
@@ -162,20 +152,19 @@ fn a_query_among_updates(alloc: Global) -> Result<Vec<Vec<Act>>, Fail> {
         Does::Gets(7),
     ];
     let mut lists = Vec::new(alloc);
-    lists.push(acts_of(alloc, &schema, &query)?)?;
+    lists.push(acts_of(alloc, &query)?)?;
     for id in 1..8 {
-        lists.push(updates_of(alloc, &schema, id)?)?;
+        lists.push(updates_of(alloc, id)?)?;
     }
     Ok(lists)
 }
 
-/// The text, then 160 times that this row is updated.
-fn with_updates(alloc: Global, text: String, id: u64) -> Result<String, Fail> {
-    let mut text = text;
+/// Adds to a text 160 times that this row is updated.
+fn push_updates(alloc: Global, text: &mut String, id: u64) -> Result<(), Fail> {
     for _ in 0..160 {
         text.push_str(format!(in alloc; "updated {id} / ")?.as_str())?;
     }
-    Ok(text)
+    Ok(())
 }
 
 /// The replies to the clients of a query among updates.
@@ -184,48 +173,60 @@ fn answer_and_updates(alloc: Global) -> Result<String, Fail> {
         "begun 4 / left 3 / left 2 / left 1 / left 0 / answer level 1 id 1: 1 / room 9 / row 7: -160 / "
     )?;
     for id in 1..8 {
-        text = with_updates(alloc, text, id)?;
+        push_updates(alloc, &mut text, id)?;
     }
     Ok(text)
+}
+
+/// Asserts the replies to all clients of a new board, whose table has these opening rows.
+fn check_run<G: Gate + Sync>(
+    rt: &(impl Threads + Wait + Abort + AllocGlobal + Sync),
+    case: &str,
+    rows: &[Row],
+    setup: Setup,
+    acts: Vec<Vec<Act>>,
+    gate: &G,
+    wanted: &str,
+) -> Result<(), Fail> {
+    let alloc = rt.alloc();
+    let text = run::<Brand, _, _>(rt, alloc, Name::new(), setup, rows, acts, gate)?;
+    assert_same(rt, case, &text.as_str(), &wanted);
+    Ok(())
 }
 
 #[test]
 fn two_clients_at_once(rt: HostRuntime) -> Result<(), Fail> {
     let alloc = rt.alloc();
-    let opening = rows(alloc, &[3])?;
+    let opening = [row_of(alloc, 3)?];
     let setup = setup(2, 4, 4)?;
-    for (held, until) in [(1, 2), (2, 1)] {
-        let acts = same_acts(alloc, 2, &[Does::Gets(1)])?;
+    for (case, held, until) in [("1 waits for 2", 1, 2), ("2 waits for 1", 2, 1)] {
+        let acts = lists_of(alloc, &[[Does::Gets(1)].as_slice(); 2])?;
         let gate = held_until(held, until);
-        let text = run::<Brand, _, _>(&rt, alloc, Name::new(), setup, &opening, acts, &gate)?;
-        assert_same(&rt, held, &text.as_str(), &"row 1: 3 / row 1: 3 / ");
+        let wanted = "row 1: 3 / row 1: 3 / ";
+        check_run(&rt, case, &opening, setup, acts, &gate, wanted)?;
     }
     Ok(())
 }
 
 #[test]
 fn held_least(rt: HostRuntime) -> Result<(), Fail> {
-    let alloc = rt.alloc();
-    let opening = rows(alloc, &[])?;
     let setup = setup(8, 4, 4)?;
-    let acts = same_acts(alloc, 8, &[Does::AsksRoom, Does::AsksRoom, Does::AsksRoom])?;
-    let text = run::<Brand, _, _>(&rt, alloc, Name::new(), setup, &opening, acts, &HoldsTwo)?;
-    assert_same(&rt, "two are held", &text.as_str(), &"held client 3");
-    Ok(())
+    let acts = lists_of(rt.alloc(), &[[Does::AsksRoom; 3].as_slice(); 8])?;
+    let wanted = "held client 3";
+    check_run(&rt, "two are held", &[], setup, acts, &HoldsTwo, wanted)
 }
 
 #[test]
 fn held_open(rt: HostRuntime) -> Result<(), Fail> {
     let alloc = rt.alloc();
-    let opening = rows(alloc, &[1, 2, 3, 4, 5, 6, 7])?;
     let setup = setup(8, 16, 4)?;
+    let opening = rows(alloc, &[1, 2, 3, 4, 5, 6, 7])?;
+    let wanted = answer_and_updates(alloc)?;
     let acts = a_query_among_updates(alloc)?;
     let gate = HoldsScans {
         begun: AtomicU64::new(0),
         updated: AtomicU64::new(0),
     };
-    let text = run::<Brand, _, _>(&rt, alloc, Name::new(), setup, &opening, acts, &gate)?;
-    let wanted = answer_and_updates(alloc)?;
-    assert_same(&rt, "scans are held", &text, &wanted);
-    Ok(())
+    let case = "scans are held";
+    check_run(&rt, case, &opening, setup, acts, &gate, wanted.as_str())
 }

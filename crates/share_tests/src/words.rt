@@ -2,7 +2,7 @@
 
 ghost use Rattle.std.specs.Prelude.{◌≡◌};
 
-use crate::acts::{columns, row, setup};
+use crate::acts::{row_of, setup};
 use crate::boards::first_two;
 use crate::same::assert_same;
 use pref_core::Setup;
@@ -32,67 +32,87 @@ fn word_of_an_insert<J: Naming, R: Wait>(
 fn got_after_a_word<J: Naming + Send + Sync, R: Threads + Wait + Abort + Sync>(
     rt: &R,
     alloc: Global,
-    name: Name,
-    setup: Setup,
-    rows: &[Row],
+    board: &Board<J>,
+    hearer: &mut Client<J>,
+    speaker: &mut Client<J>,
     row: Row,
-) -> Result<Row, Fail>
-    requires book { name.seen.book ≡ J.book }
-    requires opening { J.opening ≡ record { limits = setup; rows = rows.now } }
-{
-    let (board, mut clients) = open_board::<J, R>(rt, alloc, name, setup, rows)?;
-    let (first, second) = first_two(rt, &mut clients);
-    let shared = &board;
+) -> Result<Row, ShareFault> {
     let (word, ()) = thread::join(
         rt,
-        move || word_of_an_insert(rt, alloc, shared, second, row),
+        move || word_of_an_insert(rt, alloc, board, speaker, row),
         || (),
     );
-    first.hear(word.expect(rt, "it inserts"));
-    let got = first.get(1);
-    board.close(rt);
-    Ok(got?)
+    hearer.hear(word.expect(rt, "it inserts"));
+    hearer.get(1)
 }
 
-#[test]
-fn word_crosses(rt: HostRuntime) -> Result<(), Fail> {
-    let alloc = rt.alloc();
-    let schema = columns(alloc)?;
-    let inserted = row(&schema, 4)?;
-    let setup = setup(2, 4, 4)?;
-    let got = got_after_a_word::<Brand, _>(&rt, alloc, Name::new(), setup, &[], inserted)?;
-    assert_same(&rt, "a thread", &got, &inserted);
-    Ok(())
-}
-
-/// How much a client has seen before it hears another that made one call, and after.
-fn seen_before_and_after<J: Naming, R: Wait + Abort>(
+/// The same by the first client of a new board, who hears the second.
+fn got_on_a_new_board<J: Naming + Send + Sync, R: Threads + Wait + Abort + Sync>(
     rt: &R,
     alloc: Global,
     name: Name,
     setup: Setup,
     rows: &[Row],
-) -> Result<(u64, u64), Fail>
+    row: Row,
+) -> Result<Row, ShareFault>
     requires book { name.seen.book ≡ J.book }
     requires opening { J.opening ≡ record { limits = setup; rows = rows.now } }
 {
     let (board, mut clients) = open_board::<J, R>(rt, alloc, name, setup, rows)?;
     let (first, second) = first_two(rt, &mut clients);
-    let before = first.seen();
-    let deleted = second.delete(rt, alloc, &board, 1);
-    first.hear(second.word());
+    let got = got_after_a_word(rt, alloc, &board, first, second, row);
     board.close(rt);
-    deleted?;
-    Ok((before, first.seen()))
+    got
+}
+
+#[test]
+fn word_crosses(rt: HostRuntime) -> Result<(), Fail> {
+    let alloc = rt.alloc();
+    let inserted = row_of(alloc, 4)?;
+    let setup = setup(2, 4, 4)?;
+    let got = got_on_a_new_board::<Brand, _>(&rt, alloc, Name::new(), setup, &[], inserted)?;
+    assert_same(&rt, "a thread", &got, &inserted);
+    Ok(())
+}
+
+/// How much a client has seen before it hears another that made one call, and after.
+fn seen_before_and_after<J: Naming, R: Wait>(
+    rt: &R,
+    alloc: Global,
+    board: &Board<J>,
+    hearer: &mut Client<J>,
+    speaker: &mut Client<J>,
+) -> Result<(u64, u64), ShareFault> {
+    let before = hearer.seen();
+    speaker.delete(rt, alloc, board, 1)?;
+    hearer.hear(speaker.word());
+    Ok((before, hearer.seen()))
+}
+
+/// The same of the first client of a new board, who hears the second.
+fn seen_on_a_new_board<J: Naming, R: Wait + Abort>(
+    rt: &R,
+    alloc: Global,
+    name: Name,
+    setup: Setup,
+    rows: &[Row],
+) -> Result<(u64, u64), ShareFault>
+    requires book { name.seen.book ≡ J.book }
+    requires opening { J.opening ≡ record { limits = setup; rows = rows.now } }
+{
+    let (board, mut clients) = open_board::<J, R>(rt, alloc, name, setup, rows)?;
+    let (first, second) = first_two(rt, &mut clients);
+    let seen = seen_before_and_after(rt, alloc, &board, first, second);
+    board.close(rt);
+    seen
 }
 
 #[test]
 fn a_word_is_heard(rt: HostRuntime) -> Result<(), Fail> {
     let alloc = rt.alloc();
-    let schema = columns(alloc)?;
-    let opening = [row(&schema, 5)?];
+    let opening = [row_of(alloc, 5)?];
     let setup = setup(2, 4, 4)?;
-    let seen = seen_before_and_after::<Brand, _>(&rt, alloc, Name::new(), setup, &opening)?;
+    let seen = seen_on_a_new_board::<Brand, _>(&rt, alloc, Name::new(), setup, &opening)?;
     assert_same(&rt, "one call", &seen, &(0, 1));
     Ok(())
 }

@@ -1,5 +1,5 @@
 use Rattle.share_tests.proofs.words.word_crosses.Given as goal
 
 -- the board that is opened
-abbrev pub ghosts-got_after_a_word : goal.ghosts-got_after_a_word
-ghosts-got_after_a_word g a = record { book = a.name.seen.book; opening = record { limits = a.setup; rows = a.rows.now } }
+abbrev pub ghosts-got_on_a_new_board : goal.ghosts-got_on_a_new_board
+ghosts-got_on_a_new_board g a = record { book = a.name.seen.book; opening = record { limits = a.setup; rows = a.rows.now } }

@@ -1,4 +1,4 @@
-use Rattle.share_tests.proofs.reports.a_query_goes_on_in_another_run.Given as goal
+use Rattle.share_tests.proofs.reports.check_two_runs.Given as goal
 
 -- the board that is opened
 abbrev pub ghosts-two_runs : goal.ghosts-two_runs

@@ -1,4 +1,4 @@
-use Rattle.share_tests.proofs.threads.held_least.Given as goal
+use Rattle.share_tests.proofs.threads.check_run.Given as goal
 
 -- the board that is opened
 abbrev pub ghosts-run : goal.ghosts-run

@@ -1,4 +1,4 @@
-use Rattle.share_tests.proofs.refusals.a_run_refused_then_again.Given as goal
+use Rattle.share_tests.proofs.refusals.replies_in_the_end.Given as goal
 
 -- the board that is opened
 abbrev pub ghosts-replies_of_a_run : goal.ghosts-replies_of_a_run

@@ -1,4 +1,4 @@
-use Rattle.share_tests.proofs.refusals.an_opening_refused_then_again.Given as goal
+use Rattle.share_tests.proofs.refusals.clients_in_the_end.Given as goal
 
 -- the board that is opened
 abbrev pub ghosts-clients_of_an_opening : goal.ghosts-clients_of_an_opening

@@ -1,5 +1,0 @@
-use Rattle.share_tests.proofs.reports.held_clients_come_back.Given as goal
-
--- the board that is opened
-abbrev pub ghosts-two_runs : goal.ghosts-two_runs
-ghosts-two_runs g a = record { book = a.name.seen.book; opening = record { limits = a.setup; rows = a.rows.now } }

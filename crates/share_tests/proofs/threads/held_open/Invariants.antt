@@ -1,5 +1,0 @@
-use Rattle.share_tests.proofs.threads.held_open.Given as goal
-
--- the board that is opened
-abbrev pub ghosts-run : goal.ghosts-run
-ghosts-run g a = record { book = a.name.seen.book; opening = record { limits = a.setup; rows = a.rows.now } }
