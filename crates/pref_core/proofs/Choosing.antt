@@ -2,12 +2,12 @@
 use Rattle.std.proofs.Common.{◌≡◌, ℕ, suc, ◌+◌, ◌<◌, ◌≤◌, Bool, true, false, ◌&&◌, cond, List, [], ◌∷◌, ◌++◌, map, length, Option, Some, None, Result, Ok, Err, is_some, slice_set, refl, sym, ap, ◌∙◌, arith}
 use Rattle.std.specs.List.{count_by}
 use Rattle.std.proofs.lemmas.List.{length-map, length-append, append-nil, append_assoc}
-use Rattle.std.proofs.lemmas.Bool.{lt-ltb, le-ltb}
+use Rattle.std.proofs.lemmas.Bool.{le-ltb}
 use Rattle.pref_core.specs.declared.store.version.Version.{Version}
 use Rattle.pref_core.specs.declared.call.Call.{Call}
 use Rattle.pref_core.specs.declared.call.Op.{Op}
 use Rattle.pref_core.specs.declared.call.Outcome.{Outcome}
-use Rattle.pref_core.specs.declared.call.Outcome.TheVariants.{NoSuchRow, Full}
+use Rattle.pref_core.specs.declared.call.Outcome.TheVariants.{NoSuchRow}
 use Rattle.pref_sky.specs.declared.entry.Entry.{Entry}
 use Rattle.pref_core.specs.declared.changes.Change.{Change}
 use Rattle.pref_core.specs.declared.changes.Change.TheVariants.{Add, Set, Remove}
@@ -51,12 +51,6 @@ missing_quiet contents op (Err id) finds not told = go (is_change op.call) refl
     go : (b : Bool) → is_change op.call ≡ b → (is_change op.call && succeeds op.outcome) ≡ false
     go false c = ap (λ b. b && succeeds op.outcome) c
     go true c = ap (λ b. b && succeeds op.outcome) c ∙ ap succeeds (told ∙ sym (outcome_missing contents op.call id c finds))
-
-pub outcome_full : (contents : Contents) (call : Call) (size : ℕ) → is_change call ≡ true → missing (ended call) (visible contents.stamp contents.slots) ≡ None → begins_row call ≡ true → size ≡ used (grown call contents) → length contents.slots < size → Full size ≡ outcome_at contents call
-outcome_full contents call size c none row is large =
-    let more : length contents.slots < used (grown call contents) = omega arith in
-    let past = lt-ltb (length contents.slots) (used (grown call contents)) more in
-    rw (c, none, row, past) (ap Full is)
 
 pub outcome_fits : (contents : Contents) (call : Call) (size : ℕ) → is_change call ≡ true → missing (ended call) (visible contents.stamp contents.slots) ≡ None → begins_row call ≡ true → size ≡ used (grown call contents) → size ≤ length contents.slots → granted contents.next_id call ≡ outcome_at contents call
 outcome_fits contents call size c none row is small =

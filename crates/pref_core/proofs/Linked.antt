@@ -65,9 +65,6 @@ ids_next : (next now : ℕ) (slots : List (Option Version)) → AllByRecursion (
 ids_next next now [] h = refl
 ids_next next now (slot ∷ slots) h = ap₂ ◌∷◌ (shown_next next now slot h.0) (ids_next next now slots h.1)
 
-pub links_next : (next now made : ℕ) (slots : List (Option Version)) (links : List ℕ) → AllByRecursion (IsWithin next now) slots → suc now ≡ made → AreLinks (ids_of now slots) links → AreLinks (ids_of made slots) links
-links_next next now made slots links within is h = subst (λ m. AreLinks (ids_of m slots) links) is (subst (λ ids. AreLinks ids links) (sym (ids_next next now slots within)) h)
-
 -- A free slot shows no id.
 pub free_shows_none : (made : ℕ) (ns : List ℕ) (slots : List (Option Version)) (place : ℕ) → is_free (made ∷ ns) slots place ≡ true → id_at (ids_of made slots) place ≡ None
 free_shows_none made ns [] place h = refl

@@ -12,10 +12,6 @@ some_same a b e = cc
 pub none_some : (a : ℕ) → ◌≡◌ {A = Option ℕ} None (Some a) → ⊥
 none_some a e = cc
 
--- A home is a node behind which all rows of the home stand.
-pub home_node : (limit capacity : ℕ) (homes : ℕ → ℕ) (ids : ℕ → Option ℕ) (home : ℕ) → IsNode limit capacity homes ids home limit (capacity + home)
-home_node limit capacity homes ids home = inl (refl, refl)
-
 pub before_from : (limit capacity : ℕ) (homes : ℕ → ℕ) (ids : ℕ → Option ℕ) (links : ℕ → ℕ) (id bound node : ℕ) → AreLinked limit capacity homes ids links → homes id < capacity
     → IsNode limit capacity homes ids (homes id) bound node → id < bound → is_above id (ids (links node)) ≡ false → IsBefore limit capacity homes ids id node
 before_from limit capacity homes ids links id bound node linked inside is above stops =

@@ -1,15 +1,15 @@
 -- The zones of slots, and how many are free.
-use Rattle.std.proofs.Common.{◌≡◌, ℕ, zero, suc, ◌+◌, ◌<◌, Bool, true, false, not, ◌&&◌, ◌||◌, cond, eqb, List, [], ◌∷◌, map, length, set, Option, Some, None, slice_get, refl, sym, ap, ◌∙◌, subst, arith}
+use Rattle.std.proofs.Common.{◌≡◌, ℕ, zero, suc, ◌+◌, ◌<◌, Bool, true, false, not, ◌&&◌, ◌||◌, cond, eqb, List, [], ◌∷◌, map, length, set, Option, Some, None, slice_get, refl, ap, ◌∙◌, subst, arith}
 use Rattle.std.specs.List.{count_by, cons_option, AllByRecursion}
 use Rattle.std.proofs.lemmas.List.Sums.{sum_by-cons}
-use Rattle.std.proofs.lemmas.Bool.{le-leb, and_parts, eqb-true, eq-eqb, or_right}
+use Rattle.std.proofs.lemmas.Bool.{le-leb, and_parts, or_right}
 use Rattle.pref_core.specs.declared.store.version.Version.{Version}
-use Rattle.pref_core.specs.declared.store.places.Zone.TheVariants.{Free, Ended, Live}
+use Rattle.pref_core.specs.declared.store.places.Zone.TheVariants.{Free, Ended}
 use Rattle.pref_core.specs.Table.{Line, among, has}
 use Rattle.pref_core.specs.Slots.{is_visible, seen, visible, line, is_needed, IsWithin, EndsBy}
 use Rattle.pref_core.specs.Operations.{close, close_at, is_free}
 use Rattle.pref_core.specs.Places.{is_free_zone, free_at, zone_of}
-use Rattle.pref_core.specs.Indexes.{is_row, row_at}
+use Rattle.pref_core.specs.Indexes.{row_at}
 use Rattle.pref_core.proofs.Counting.{is_needed-empty}
 
 pub count_by-cons : {X : Type 0} (p : X → Bool) (x : X) (xs : List X) → count_by p (x ∷ xs) ≡ cond (p x) 1 0 + count_by p xs
@@ -81,9 +81,6 @@ abbrev pub live : List ℕ → Option Version → Bool
 live ids None = false
 live ids (Some version) = live_by ids version.id version.death
 
-pub one_yes : (b : Bool) → b ≡ true → ◌≡◌ {A = ℕ} (cond b 1 0) 1
-one_yes b e = ap (λ t. cond t 1 0) e
-
 pub one_no : (b : Bool) → b ≡ false → ◌≡◌ {A = ℕ} (cond b 1 0) 0
 one_no b e = ap (λ t. cond t 1 0) e
 
@@ -94,18 +91,6 @@ close_idle ids made (Some version) h = at_death version.death h
     at_death : (death : Option ℕ) → live_by ids version.id death ≡ false → ◌≡◌ {A = Option Version} (Some (record version { death = close_at made (among ids version.id) death })) (Some (record version { death = death }))
     at_death (Some death) h = refl
     at_death None h = ap (λ b. Some (record version { death = close_at made b None })) h
-
--- A slot that shows an id's row now is live.
-pub row_live : (next now id : ℕ) (ns : List ℕ) (slot : Option Version) → IsWithin next now slot → is_row now id slot ≡ true → (live (id ∷ []) slot ≡ true) × (zone_of ns slot ≡ Live)
-row_live next now id ns None h r = absurd (cc)
-row_live next now id ns (Some version) h r =
-    let parts = and_parts (eqb version.id id) (is_visible now version) r in
-    at_death version.death h.2 (eqb-true _ _ parts.0) parts.1
-  where
-    at_death : (death : Option ℕ) → EndsBy now death → version.id ≡ id → is_visible now (record version { death = death }) ≡ true
-        → (live_by (id ∷ []) version.id death ≡ true) × (zone_of ns (Some (record version { death = death })) ≡ Live)
-    at_death None ends e v = (ap (λ b. b || false) (eq-eqb id version.id (sym e)), refl)
-    at_death (Some death) ends e v = absurd (let w = rw (le-leb version.birth now h.1, le-leb death now ends) at v in cc)
 
 -- A place that shows an id's row is in the table.
 pub has_row_at : (stamp id : ℕ) (slots : List (Option Version)) (place : ℕ) → row_at stamp id slots place ≡ true → has (visible stamp slots) id ≡ true

@@ -1,13 +1,12 @@
 -- Bytes that are read and written part by part.
-use Rattle.std.proofs.Common.{◌≡◌, ◌++◌, [], ◌∙◌, ℕ, ◌+◌, ◌-◌, ◌<◌, ◌≤◌, List, length, take, drop, ap, refl, sym, subst, arith, Option, Some, None, ◌∷◌, ℤ, pos, map, get_or, append_assoc}
-use Rattle.std.specs.Prelude.{IfSome}
-use Rattle.std.specs.Io.KnownBytes.{Appends, Consumes}
+use Rattle.std.proofs.Common.{◌≡◌, ◌++◌, [], ◌∙◌, ℕ, ◌+◌, ◌-◌, ◌<◌, ◌≤◌, List, length, take, drop, ap, refl, sym, subst, arith, Option, ◌∷◌, ℤ, pos, map, get_or, append_assoc}
+use Rattle.std.specs.Io.KnownBytes.{Appends}
 use Rattle.std.proofs.KnownBytes.{Appends-trans}
 use Rattle.std.specs.Fmt.{signed_decimal}
 use Rattle.std.specs.List.{join_with_byte, range_with_len}
 use Rattle.std.proofs.lemmas.List.FromFn.{length-map-range_with_len, map-range_with_len_more}
 use Rattle.pref_script.specs.Text.{row_text}
-use Rattle.std.proofs.lemmas.List.{drop-drop, take_all, length-append, length-drop}
+use Rattle.std.proofs.lemmas.List.{drop-drop, take_all, length-drop}
 use Rattle.std.proofs.Math.Seq.{take-add}
 
 -- one write more
@@ -22,12 +21,6 @@ written_more a b c bytes rest done count inside parts few before now =
     let next = ap (drop count) parts ∙ drop-drop count done bytes in
     let wrote = subst (λ (t : List ℕ). Appends b c (take count t)) parts now in
     (omega arith, tail ∙ next, rw both (Appends-trans a b c (take done bytes) (take count (drop done bytes)) before wrote))
-
--- more than so many bytes were there
-pub had_more : (n : ℕ) (a b : Option (List ℕ)) (bytes : List ℕ) → n < length bytes → Consumes a b bytes → IfSome a (λ had. n < length had)
-had_more n None b bytes h e = tt
-had_more n (Some xs) None bytes h e = absurd e
-had_more n (Some xs) (Some ys) bytes h e = omega (arith, ap length e, length-append bytes ys)
 
 -- one more of some parts that are joined by a byte
 pub join-push : (c : ℕ) (parts : List (List ℕ)) (part : List ℕ) → 0 < length parts → join_with_byte c (parts ++ part ∷ []) ≡ join_with_byte c parts ++ (c ∷ part)

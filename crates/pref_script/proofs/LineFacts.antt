@@ -13,10 +13,6 @@ use Rattle.pref_script.specs.declared.read_ahead.ReadAhead.{ReadAhead}
 use Rattle.pref_script.specs.declared.fault.RunFault.{RunFault}
 use Rattle.pref_script.proofs.ScriptFacts.{lines_at, lines_last, lines_none}
 
--- nothing was read
-pub behind_none : (a : Option (List ℕ)) (x : ReadAhead) → ReadBehind a a x x
-behind_none a x = record { bytes = []; consumed = Consumes-nil a; behind = sym (append-nil (unread x)); no_more = λ e. (refl, e); at_end = λ before e. before e }
-
 -- something was read, and then something more
 pub behind_more : (a b c : Option (List ℕ)) (x y z : ReadAhead) → ReadBehind a b x y → ReadBehind b c y z → ReadBehind a c x z
 behind_more a b c x y z first next = record {
@@ -25,14 +21,6 @@ behind_more a b c x y z first next = record {
   behind = next.behind ∙ ap (λ (t : List ℕ). t ++ next.bytes) first.behind ∙ append_assoc (unread x) first.bytes next.bytes;
   no_more = λ e. let (none, still) = first.no_more e in let (empty, last) = next.no_more still in (rw (none, empty) refl, last);
   at_end = λ before e. next.at_end (first.at_end before) e;
-}
-
--- some bytes were read behind, or behind what was read before
-pub some_behind : (a b : Option (List ℕ)) (x y : ReadAhead) → ReadBehind a b x y → ReadSome a b x
-some_behind a b x y read = record {
-  bytes = read.bytes;
-  consumed = read.consumed;
-  no_more = λ e. let (none, still) = read.no_more e in (none, λ end. read.at_end (λ _. end) still);
 }
 
 pub some_more : (a b c : Option (List ℕ)) (x y : ReadAhead) → ReadBehind a b x y → ReadSome b c y → ReadSome a c x

@@ -20,9 +20,6 @@ use Rattle.pref_share.specs.Views.{stamped, HoldsHistory, Fits, Kept, newcomer, 
 fits_newcomer : (opening : Contents) (book : Book) → Fits opening book newcomer
 fits_newcomer opening book = record { has_opening = (λ b e. absurd cc); has_book = (λ b e. absurd cc) }
 
-AllFit : Contents → Book → List View → Type 0
-AllFit opening book views = (seat : ℕ) (v : View) → get_elem? views seat ≡ some v → Fits opening book v
-
 set_fits : (opening : Contents) (book : Book) (views : List View) (seat : ℕ) (w : View) → Fits opening book w → ((k : ℕ) (v : View) → get_elem? views k ≡ some v → Fits opening book v)
     → (k : ℕ) (v : View) → get_elem? (set views seat w) k ≡ some v → Fits opening book v
 set_fits opening book views seat w fit each k v e =

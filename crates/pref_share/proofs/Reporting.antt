@@ -16,19 +16,11 @@ use Rattle.pref_share.specs.Openings.{Opening, IsLegalFrom, HasCall, calls_at}
 use Rattle.pref_share.specs.Standing.{Standing, newcomer, newcomers}
 use Rattle.pref_share.specs.Clients.{Sees}
 use Rattle.pref_share.specs.Runs.{RunsTo, StopsAt, IsJointRun, IsPart}
-use Rattle.pref_share.specs.Performing.{nobody}
 use Rattle.pref_share.specs.Reports.{Ends, Did, IsWithin, AreReports, HasTurn, Stops}
 use Rattle.pref_share.specs.Settling.{Settles, IsFirstStopped}
 use Rattle.pref_share.proofs.Prefixes.{prefix_self, prefix_trans}
 use Rattle.pref_share.proofs.Interleavings.{length-newcomers, newcomer_at}
 use Rattle.pref_share.proofs.Running.{there, mapped, length_map, behind, given_at, same_number}
-
--- what stops a client at its last act stops it at an act with more left
-pub stops_with_more : (held : ℕ → Type 0) (s : Standing) (act : Act) (more : List Act) (fault : ShareFault) → StopsAt nobody s (act ∷ []) fault → StopsAt held s (act ∷ more) fault
-stops_with_more held s act more (Core why) h = h
-stops_with_more held s act more (ClientInUse number) h = h
-stops_with_more held s act more (Held client) h = absurd h.2
-stops_with_more held s act more Closed h = h
 
 sees_on : (o : Opening) (s t u : Standing) → Sees o s t → Sees o t u → Sees o s u
 sees_on o s t u a b = record {

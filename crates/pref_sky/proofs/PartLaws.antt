@@ -322,9 +322,6 @@ mixed_below : (word : ℕ) (columns : List ℕ) (row : List ℤ) → word < 2 ^ 
 mixed_below word [] row below = below
 mixed_below word (col ∷ columns) row below = mixed_below (mixed word (cell row col)) columns row (omega arith)
 
-pub part_below : (columns : List ℕ) (e : Entry) → part_of columns e < 1024
-part_below columns e = let below = mixed_below 0 columns e.row (omega arith) in omega (arith, below)
-
 -- parts without entries
 depth_none : (parts : List Part) → ((part : ℕ) → levels_of part parts ≡ []) → depth parts ≡ 0
 depth_none [] none = refl
@@ -332,9 +329,6 @@ depth_none (first ∷ others) none = ap (λ n. max n (depth others)) (ap length 
 
 pub nothing_held : (parts : List Part) → ((part : ℕ) → levels_of part parts ≡ []) → ranked_parts parts ≡ []
 nothing_held parts none = ap (ranked_upto (all_at parts)) (depth_none parts none)
-
-pub nothing_parted : (number : Entry → ℕ) (parts : List Part) → ((part : ℕ) → levels_of part parts ≡ []) → ArePartedBy number parts
-nothing_parted number parts none part r m = absurd (subst (λ held. Among r (ranked_from 1 held)) (none part) m)
 
 -- no part has more levels than a level's number can tell
 pub depth_bound : (parts : List Part) → depth parts < 2 ^ 32

@@ -6,8 +6,7 @@ use Rattle.pref_sky.specs.declared.entry.Entry.{Entry}
 use Rattle.pref_sky.specs.declared.level.Level.{Level}
 use Rattle.pref_sky.specs.declared.part.Part.{Part}
 use Rattle.pref_sky.specs.Partials.{held_at, ranked_from}
-use Rattle.pref_sky.specs.Parts.{ArePartedBy, all_at, coming_of, is_in, levels_of, ranked_upto}
-use Rattle.pref_sky.proofs.Members.{Among}
+use Rattle.pref_sky.specs.Parts.{all_at, coming_of, is_in, ranked_upto}
 use Rattle.pref_sky.proofs.Listings.{same_or_not, listed_at, listed_set_here, listed_set_other}
 use Rattle.pref_sky.proofs.RankedLevels.{one_level, ranked_push}
 use Rattle.pref_sky.proofs.Staying.{leaves, stays}
@@ -56,7 +55,3 @@ level_together parts place levels level long is before =
     ranked_push 1 (suc place) levels level (omega (arith, long))
     ∙ (ap (λ l. l ++ one_level (suc place) level.entries.items) before
     ∙ (ap (λ e. ranked_upto (all_at parts) place ++ one_level (suc place) e) is ∙ ap (ranked_upto (all_at parts)) (sym (add-one place))))
-
--- what is the same stays in its parts
-pub parted_same : (number : Entry → ℕ) (old new : List Part) → ArePartedBy number old → ((part : ℕ) → ranked_from 1 (levels_of part new) ≡ ranked_from 1 (levels_of part old)) → ArePartedBy number new
-parted_same number old new parted same part r m = parted part r (subst (Among r) (same part) m)

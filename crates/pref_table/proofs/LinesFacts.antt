@@ -3,7 +3,7 @@ use Rattle.std.proofs.Common.{◌≡◌, ◌∙◌, ℕ, zero, suc, ◌+◌, ◌
 use Rattle.std.specs.Prelude.{◌==◌}
 use Rattle.std.specs.List.{onto_first, slice_split}
 use Rattle.std.proofs.lemmas.Bool.{eq-eqb, eqb-true, ne_eqb}
-use Rattle.std.proofs.lemmas.List.{append-nil, drop_more, get_or-take, get_or_append_left, length-append, length-take, take-append-drop, take_all, take_more}
+use Rattle.std.proofs.lemmas.List.{append-nil, drop_more, get_or-take, get_or_append_left, length-append, length-take, take-append-drop, take_all}
 use Rattle.std.proofs.Math.ListN.{drop_of_length-le}
 use Rattle.std.proofs.lemmas.List.Splits.{length-slice_split}
 use Rattle.csv.specs.Machine.{Read, ends_at_end, in_field, next_record, start_field, step}
@@ -238,11 +238,6 @@ strip-header text header after (inr parts) h = strip-front header (13 ∷ after)
 pub strip-line_end : (after : List ℕ) → IsLineEnd after → strip_bom after ≡ after
 strip-line_end after (inl none) = rw none strip-none
 strip-line_end after (inr (left, feed)) = rw feed (strip-feed left)
-
--- a line without the carriage return at its end
-pub line-return : (line : List ℕ) (last : ℕ) → 0 < length line → last ≡ length line - 1 → get_or line last 0 ≡ 13 → IsLineBefore line (take last line) []
-line-return line last some at return =
-    inr (sym (take_all (last + 1) line (omega arith)) ∙ take_more line last 0 (omega arith) ∙ ap (λ (b : ℕ). take last line ++ b ∷ []) return)
 
 pub line-whole : (line : List ℕ) → IsLineBefore line line []
 line-whole line = inl (sym (append-nil line))

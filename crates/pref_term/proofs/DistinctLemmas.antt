@@ -15,7 +15,7 @@ use Rattle.pref_term.specs.Distinct.{is_in_any_case, is_distinct_ahead, says_dis
 use Rattle.pref_term.specs.Spells.{Names, column_at, order_by, orders_of, groups_of, product_of, tokens_in, tokens_on, IsGood, Spells, question}
 use Rattle.pref_term.specs.Asked.{meant, ordered}
 use Rattle.pref_term.specs.Reading.{start, skyline_named, dim_due, begun, of_named, run}
-use Rattle.pref_term.specs.Led.{word_ahead, Asks, AsksNothing, AsksWhole, AsksWholeNothing, AsksClause, AsksClauseNothing, IsBehindDistinct, ReadsClause, FailsClause}
+use Rattle.pref_term.specs.Led.{word_ahead, AsksWholeNothing, AsksClause, AsksClauseNothing, IsBehindDistinct, ReadsClause, FailsClause}
 use Rattle.pref_term.specs.Preference.{Preference, scored, pareto, prior, reverse}
 use Rattle.pref_term.specs.Question.{Question, IsClause, IsDimension}
 use Rattle.pref_term.specs.declared.ask.Mode.TheVariants.{Best}
@@ -71,21 +71,9 @@ ahead_distinct ts us vs ws d w t pd pt pw e f g h =
 
 -- ---- whole questions
 
-pub whole_clause : (names : Names) (ts us : List Placed) (q : Question) → IsBehindDistinct ts us → AsksClause names true us q → AsksWhole names ts q
-whole_clause names ts us q b h = ap (λ d. meant names d (run names (plain ts) 0 start)) b.said ∙ (ap (meant names true) (b.leads names) ∙ h b.skyline_is b.of_is b.place)
-
 pub whole_clause_nothing : (names : Names) (ts us : List Placed) (f : TermFault) → IsBehindDistinct ts us → AsksClauseNothing names true us f → AsksWholeNothing names ts f
 whole_clause_nothing names ts us f b h =
     unless_map f (λ k. ap (λ d. meant names d (run names (plain ts) 0 start)) b.said ∙ (ap (meant names true) (b.leads names) ∙ k b.place)) (h b.skyline_is b.of_is)
-
-plain_same : (names : Names) (ts : List Placed) → says_distinct ts ≡ false → meant names (says_distinct ts) (run names (plain ts) 0 start) ≡ meant names false (run names ts 0 start)
-plain_same names ts e = ap (λ d. meant names d (run names (cond d (without_third ts) ts) 0 start)) e
-
-pub whole_plain : (names : Names) (ts : List Placed) (q : Question) → says_distinct ts ≡ false → Asks names start ts q → AsksWhole names ts q
-whole_plain names ts q e h = plain_same names ts e ∙ h 0
-
-pub whole_plain_nothing : (names : Names) (ts : List Placed) (f : TermFault) → says_distinct ts ≡ false → AsksNothing names start ts f → AsksWholeNothing names ts f
-whole_plain_nothing names ts f e h = unless_map f (λ k. plain_same names ts e ∙ k 0) h
 
 -- ---- a clause
 

@@ -146,9 +146,6 @@ end_read names ts us least value n above =
 pub end_refused : (names : Names) (ts us : List Placed) (least value : ℤ) → ReadsNumber names ts value us → int_lt value least ≡ true → FailsEnd names least ts (EmptyRange (first_place ts))
 end_refused names ts us least value n under h column l e = n.refused h (end_of column l) (ap (below (Some l)) n.value_is ∙ below_of l value least true e under)
 
-pub end_fails : (names : Names) (ts : List Placed) (least : ℤ) (f : TermFault) → FailsNumber names ts f → FailsEnd names least ts f
-end_fails names ts least f n h column l e = n h (end_of column l)
-
 -- what was taken, where the token is known
 pub taken_is : (ts : List Placed) (t : Taken) (k : code.Token) → ts ≡ taken t → t.token ≡ k → ts ≡ at_place (seen k) t.at ∷ behind_token k (ahead t.next)
 taken_is ts t k e f = e ∙ ap (λ (x : code.Token). at_place (seen x) t.at ∷ behind_token x (ahead t.next)) f

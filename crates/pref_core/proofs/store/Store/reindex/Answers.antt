@@ -1,4 +1,4 @@
-use Rattle.std.proofs.Common.{◌≡◌, ap, ◌∙◌, subst, true}
+use Rattle.std.proofs.Common.{ap, ◌∙◌, subst}
 use Rattle.pref_core.specs.Kept.{IsKept}
 use Rattle.pref_core.specs.Operations.{is_next}
 use Rattle.pref_core.specs.Planned.{op_of}
