@@ -115,7 +115,7 @@ fn standing_of_negated(alloc: Global, times: usize) -> Result<Relation, Fail> {
     standing(alloc, text.as_slice(), &[1, 0, 0], &[2, 0, 0])
 }
 
-const REFUSED: [(&str, TermFault); 16] = [
+const REFUSED: [(&str, TermFault); 17] = [
     ("best low(z)", TermFault::UnknownColumn { at: 9 }),
     ("best low(z", TermFault::UnknownColumn { at: 9 }),
     ("best low(x", TermFault::Unexpected { at: 10 }),
@@ -138,6 +138,7 @@ const REFUSED: [(&str, TermFault); 16] = [
     ("Best low(x)", TermFault::Unexpected { at: 0 }),
     ("best pos(x)", TermFault::Unexpected { at: 10 }),
     ("skyline of z min", TermFault::UnknownColumn { at: 11 }),
+    ("skyline of z", TermFault::UnknownColumn { at: 11 }),
 ];
 
 #[test]
