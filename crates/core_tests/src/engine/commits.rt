@@ -1,8 +1,10 @@
 //! Commits of several changes.
 
-use super::Changes::{Adds, Removes, Sets};
-use super::Does::{Abandons, Asks, AsksRoom, Begins, Commits, Finishes, Gets, Inserts, Scans};
-use super::{Changes, Does, changes_of, check_told, columns, row_of};
+use super::fixtures::Changes::{Adds, Removes, Sets};
+use super::fixtures::Does::{
+    Abandons, Asks, AsksRoom, Begins, Commits, Finishes, Gets, Inserts, Scans,
+};
+use super::fixtures::{Changes, Does, changes_of, check_told, columns, row_of};
 use crate::same::{assert_same, assert_same_list};
 use pref_core::{Change, Commit, CoreFault};
 use pref_table::Schema;

@@ -1,6 +1,6 @@
 //! A store and its copy.
 
-use super::{row, with_store};
+use super::fixtures::{row, with_store};
 use crate::same::assert_same;
 use pref_core::{Call, CoreFault, Store};
 use pref_table::{Row, Schema};

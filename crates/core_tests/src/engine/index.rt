@@ -2,7 +2,7 @@
 ghost use Rattle.std.specs.Prelude.{IfOk, OnOk};
 ghost use Rattle.pref_core.specs.Indexes.{IsIndexOf};
 
-use super::{columns, row, rows, setup_of};
+use super::fixtures::{columns, row, rows, setup_of};
 use crate::same::assert_same;
 use pref_core::{Call, Index, Outcome, Planned, Store};
 use pref_table::Schema;

@@ -1,6 +1,6 @@
 //! Rows that had to move to another slot because an open query needs their old version.
 
-use super::{row, with_store};
+use super::fixtures::{row, with_store};
 use crate::same::assert_same;
 use pref_core::{Call, Store};
 use pref_table::{Row, Schema};

@@ -1,6 +1,6 @@
 //! Calls that a store plans and does.
 
-use super::{row, with_store};
+use super::fixtures::{row, with_store};
 use crate::same::{assert_same, assert_same_list};
 use pref_core::{Call, Change, Commit, CoreFault, Op, Outcome, QueryState, Store};
 use pref_table::{Row, Schema};

@@ -1,6 +1,6 @@
 //! Replies of a machine to one event after another, refusals among them.
 
-use super::{Does, act, begin_act, reply_text, with_machine};
+use super::fixtures::{Does, act, begin_act, reply_text, with_machine};
 use crate::same::{assert_same, assert_same_text};
 use pref_core::{Act, CoreFault, Event, Machine, StepFault};
 use pref_table::Schema;
