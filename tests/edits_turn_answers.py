@@ -4,8 +4,9 @@ names beside it, and sees it fail.
 
     python3 tests/edits_turn_answers.py [CRATE | CRATE/EDIT ..]
 
-A line whose third column begins with `TESTS::NAME` names the test NAME of the crate TESTS, one that begins with `tests/scripts/NAME` that script;
-of other lines it tells what stands there. One edit takes about half a minute: for a release, and for the crates that a change touches. Needs the Rattle kit and Python 3.9.
+A line whose third column begins with `TESTS::NAME` names the test NAME of the crate TESTS, and perhaps the number of its request for memory
+that is refused; one that begins with `tests/scripts/NAME` names that script; of other lines it tells what stands there. One edit takes about half
+a minute: for a release, and for the crates that a change touches. Needs the Rattle kit and Python 3.9.
 """
 import re
 import shutil
@@ -16,7 +17,7 @@ from pathlib import Path
 
 TOP = Path(__file__).resolve().parent.parent
 LINE = re.compile(r"^\| `(\w+)` \| .*? \| (.*?) \| .*? \|$")
-TEST = re.compile(r"`(\w+?)::([\w:]+)`")
+TEST = re.compile(r"`(\w+?)::([\w:]+)`(?: where request (\d+) is refused)?")
 SCRIPT = re.compile(r"`tests/scripts/(\w+)`")
 
 
@@ -58,7 +59,14 @@ def fails(crate, edit, shown):
         apply(TOP / f"crates/{crate}/must-fail/{edit}.edit", Path(room, "crates", crate))
         if script:
             return script_differs(room, script[1])
-        return f"test {test[2]} ... FAILED" in tried(f"{room}/crates/{test[1]}", "--test")
+        return test_fails(f"{room}/crates/{test[1]}", test[2], test[3])
+
+
+def test_fails(folder, name, request):
+    """Whether a test fails. Where a request is refused, an assertion has to fail: an error is of the test's own preparation, and shows nothing."""
+    if request:
+        return "assertion " in tried(folder, "--test", "--fail-alloc", request, "--", name)
+    return f"test {name} ... FAILED" in tried(folder, "--test")
 
 
 def script_differs(room, name):

@@ -37,6 +37,7 @@ refuse_in_turn() { # crate, test
         esac
     done
     echo "$1 $2: $((number - 1)) requests refused in turn, $prepared of them of the test's own preparation"
+    [ "$prepared" -lt $((number - 1)) ] || { echo "$1 $2: no call of it was refused memory, so it shows nothing" >&2; exit 1; }
 }
 
 crates=("$@")

@@ -219,52 +219,41 @@ fn a_commit_that_makes_the_index_grow_is_made_again(rt: HostRuntime) -> Result<(
     replace_eight_rows(&rt, alloc, &mut machine, added)
 }
 
-/// The slots of the first eight rows of a table.
-static FIRST_SLOTS: [Option<usize>; 8] = [
-    Some(0),
-    Some(1),
-    Some(2),
-    Some(3),
-    Some(4),
-    Some(5),
-    Some(6),
-    Some(7),
-];
-
-fn check_slots(rt: &impl Abort, index: &Index, slots: &[Option<usize>]) {
-    for (id, slot) in (1..9).zip(slots) {
-        assert_same(rt, id, &index.slot(id), slot);
+/// The index has the first rows of a table, this many, at the slots 0, 1, .., and no other up to the tenth.
+fn check_first_rows(rt: &impl Abort, index: &Index, rows: usize) {
+    for slot in 0..10usize {
+        let wanted = if slot < rows { Some(slot) } else { None };
+        assert_same(rt, slot, &index.slot(slot as u64 + 1), &wanted);
     }
 }
 
-/// Puts the eight rows that an op adds, again where memory was refused: until then the index has none of them.
+/// Puts the eight rows that an op adds to two, again where memory was refused: until then the index has the two alone.
 fn prepare_in_the_end(rt: &impl Abort, alloc: Global, index: &mut Index, op: &Planned<'_>) {
     if index.prepare(alloc, op).is_err() {
-        check_slots(rt, index, &[None; 8]);
+        check_first_rows(rt, index, 2);
         index.prepare(alloc, op).expect(rt, "memory");
     }
 }
 
-/// An index with room for one row.
+/// A store of two rows.
+fn store_of_two(alloc: Global, capacity: u32) -> Result<Store, Fail> {
+    let setup = setup_of(1, capacity, 1, 1)?;
+    Ok(Store::new(alloc, &setup, &opening_rows(alloc, &[5, 7])?)?)
+}
+
+/// An index with two rows, and room for seven more.
 fn narrow_index(alloc: Global) -> Result<Index, Fail> {
-    let narrow = setup_of(1, 1, 1, 1)?;
-    Ok(Index::new(alloc, &Store::new(alloc, &narrow, &[])?)?)
+    Ok(Index::new(alloc, &store_of_two(alloc, 2)?)?)
 }
 
-/// A commit that adds eight rows.
-fn eight_adds(alloc: Global) -> Result<Commit, Fail> {
-    Ok(Commit::of(&[Change::Add(row_of(alloc, 5)?); 8])?)
-}
-
-/// Its op in an empty store.
+/// An op that adds eight rows to two.
 fn op_that_adds_eight(alloc: Global) -> Result<Op, Fail> {
-    let commit = eight_adds(alloc)?;
-    let setup = setup_of(1, 8, 8, 1)?;
-    let store = Store::new(alloc, &setup, &[])?;
+    let commit = Commit::of(&[Change::Add(row_of(alloc, 5)?); 8])?;
+    let store = store_of_two(alloc, 10)?;
     Ok(store.plan(1, Call::Commit(commit))?)
 }
 
-/// An index with room for one row grows while it takes eight.
+/// An index with room for nine rows grows while it takes eight beside its two.
 #[test]
 fn an_index_has_all_rows_of_a_commit_or_none(rt: HostRuntime) -> Result<(), Fail> {
     let alloc = rt.alloc();
@@ -272,7 +261,7 @@ fn an_index_has_all_rows_of_a_commit_or_none(rt: HostRuntime) -> Result<(), Fail
     let lent = op.call.lent();
     let mut index = narrow_index(alloc)?;
     prepare_in_the_end(&rt, alloc, &mut index, &op.planned(&lent));
-    check_slots(&rt, &index, &FIRST_SLOTS);
+    check_first_rows(&rt, &index, 10);
     Ok(())
 }
 
