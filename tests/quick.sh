@@ -41,19 +41,32 @@ report() {
     [ ${#failed[@]} = 0 ]
 }
 
-# In a copy, `rt fmt` must change nothing.
-layout() {
-    tar -c --exclude=out crates crates.txt HANDLES | tar -x -C "$room"
-    local crate
-    for crate in crates/*; do
-        (cd "$room/$crate" && rt fmt)
-    done
-    diff -r --exclude=out crates "$room/crates"
+# Copies the crates, without what was built, to a folder.
+copy_crates() { # folder
+    mkdir "$1" && tar -c --exclude=out crates crates.txt HANDLES | tar -x -C "$1"
 }
 
-# The tests of a crate, without their proofs.
-tests_of() { # crate
-    cd "crates/$1" && rt try --test
+# In a copy, `rt fmt` must change nothing.
+layout() {
+    copy_crates "$room/formatted" || return 1
+    local crate
+    for crate in crates/*; do
+        (cd "$room/formatted/$crate" && rt fmt) || return 1
+    done
+    diff -r --exclude=out crates "$room/formatted/crates"
+}
+
+# All tests, without their proofs. In a copy, the crates of tests are modules of one crate, so that the libraries are compiled once.
+tests() {
+    copy_crates "$room/joined" && cd "$room/joined/crates" && mkdir -p joined/src || return 1
+    local crate
+    for crate in *_tests; do
+        cp -r "$crate/src" "joined/src/$crate" && mv "joined/src/$crate/lib.rt" "joined/src/$crate.rt" || return 1
+        find "joined/src/$crate" "joined/src/$crate.rt" -name '*.rt' -exec sed -i "/^#!\[/d; s/\bcrate::/crate::$crate::/g" {} +
+        echo "mod $crate;" >>joined/src/lib.rt
+    done
+    echo "joined: $(sed -n 's/^[a-z]*_tests: //p' ../crates.txt | tr ' ' '\n' | sort -u | tr '\n' ' ')" >>../crates.txt
+    cd joined && rt try --test
 }
 
 # The program on its stored run, on every script, every example and all that the documents show, and on lists of arguments.
@@ -67,9 +80,7 @@ scripts() {
 
 # The longest first.
 start 'stored run, scripts, examples, documents' scripts
-for crate in core_tests share_tests script_tests; do
-    start "tests of $crate, not proved" tests_of "$crate"
-done
+start 'all tests, not proved' tests
 start 'layout of the files' layout
 start 'list of definitions' python3 tests/definitions.py
 wait
