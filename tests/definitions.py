@@ -1,11 +1,15 @@
 #!/usr/bin/env python3
 """Shows that docs/DEFINITIONS.md lists each definition that a public contract cites, and that it counts lines right.
 
-    python3 tests/definitions.py
+    python3 tests/definitions.py            says what is wrong
+    python3 tests/definitions.py --write    writes the right numbers into the document first
 
-A section of DEFINITIONS.md names its folder in its heading. Its line `From .., so N lines` names definitions of that folder, and N is the
-number of lines of these and of all that they cite in turn, without comments, imports and what stands in a line `Not counted: ..` of the
-section. Public contracts are those of what a library exports, and of what is inside pref_script and in SPOKEN_OF. Needs Python 3.8.
+Listed has to be each definition that a public contract cites; and of those that it cites in turn, each one inside a `mutual`, and each type
+of the code that they are about. Public contracts are those of what a library exports, and of what is inside pref_script and in SPOKEN_OF.
+
+A section of DEFINITIONS.md names its folder in its heading. Its line `From .., so N lines: 1 of CRATE, 2 of CRATE` names definitions of
+that folder, and N is the number of lines of these and of all that they cite in turn, by crate, without comments, imports and what stands
+in a line `Not counted: ..` of the section. Needs Python 3.8.
 """
 import re
 import sys
@@ -19,6 +23,7 @@ SPOKEN_OF = {"read_input", "write_told", "LiveTable"}
 HEAD = re.compile(r"(?:(?:abbrev|unfoldable|pub|record|data)\s+)+([^\s:(]+)")
 IMPORT = re.compile(r"use Rattle\.(\w+)\.specs\.([\w.]+?)(?:\.\{([^}]*)\}| as (\w+))(?=[\s;]|$)")
 ITEM = re.compile(r"^(?:impl(?:<[^>]*>)? (?:[\w<>: ]+ for )?(\w+)|pub trait (\w+)|( *)(?:pub )?fn (\w+))", re.MULTILINE)
+MUTUAL = re.compile(r"(?:(?:abbrev|unfoldable)\s+)?mutual\s*$")
 WORD = re.compile(r"[A-Za-z_]\w*|<>|>>=")
 
 
@@ -34,30 +39,45 @@ def imports(text):
     return found
 
 
+def definitions_of(text):
+    """The lines of each definition of a file by its name, and the names of those inside a `mutual`."""
+    lines, mutual, name, inside = {}, set(), None, False
+    for line in text.splitlines():
+        if not line.strip():
+            continue
+        inside = (inside and line.startswith(" ")) or bool(MUTUAL.match(line))
+        said = line[2:] if inside else line
+        if MUTUAL.match(line) or said.startswith(("use ", "infix", "ghost ")) or said.lstrip().startswith("--"):
+            continue
+        head = HEAD.match(said)
+        if head:
+            name = head[1].strip("◌")
+        if head and inside:
+            mutual.add(name)
+        if name:
+            lines.setdefault(name, []).append(line)
+    return lines, mutual
+
+
 def read_definitions():
-    """Each definition with its lines, the imports of each file, and the files that need no reading."""
-    lines, brought, private = {}, {}, set()
+    """Each definition with its lines, the imports of each file, the files that need no reading, and the definitions inside a `mutual`."""
+    lines, brought, private, mutual = {}, {}, set(), set()
     for crate in CRATES:
         for path in sorted((TOP / "crates" / crate / "specs").glob("*.antt")):
-            text, at, current = path.read_text(), (crate, path.stem), None
+            text, at = path.read_text(), (crate, path.stem)
             brought[at] = imports(text)
             if "No public contract cites this" in text:
                 private.add(at)
-            for line in text.splitlines():
-                if not line.strip() or line.startswith(("--", "use ", "infix", "ghost ")):
-                    continue
-                head = HEAD.match(line)
-                if head:
-                    current = (*at, head[1].strip("◌"))
-                if current:
-                    lines.setdefault(current, []).append(line)
-    return lines, brought, private
+            found, inside = definitions_of(text)
+            lines.update({(*at, name): body for name, body in found.items()})
+            mutual |= {(*at, name) for name in inside}
+    return lines, brought, private, mutual
 
 
 def cited_in(text, crate, file, lines, brought):
-    """The definitions that a text of this file cites."""
+    """The definitions that a text of this file cites; a `do` cites the `>>=` that it stands for."""
     found = set()
-    for word in set(WORD.findall(text)):
+    for word in {">>=" if word == "do" else word for word in WORD.findall(text)}:
         for key in ((crate, file, word), brought.get(word)):
             if key in lines:
                 found.add(key)
@@ -76,6 +96,17 @@ def behind(keys, without, lines, brought):
             seen.add(key)
             left += cited_in("\n".join(lines[key]), *key[:2], lines, brought[key[:2]]) - {key}
     return seen
+
+
+def types_in(keys, lines, brought):
+    """The names of the types of the code that definitions are about, whose names the code's contracts declare in files of their own."""
+    found = set()
+    for key in keys:
+        for word in set(WORD.findall("\n".join(lines[key]))):
+            crate, file, _ = brought[key[:2]].get(word, ("", "", ""))
+            if crate in CRATES and file.startswith("declared."):
+                found.add(file.replace(".TheVariants", "").rpartition(".")[2])
+    return found
 
 
 def exported(crate):
@@ -116,23 +147,49 @@ def keys_named(text, crate, lines):
         yield max(found, key=lambda key: CRATES.index(key[0]))
 
 
-def main():
-    lines, brought, private = read_definitions()
-    document = DOCUMENT.read_text()
+def not_listed(document, without, lines, brought, private, mutual):
+    """What public contracts cite and the document does not list, each with a function that cites it, and so inside a `mutual`, but for what is behind some."""
     listed = set(re.findall(r"`([^`\s]+)`", document))
-    wrong = []
-    for key, by in sorted(cited_by_contracts(lines).items()):
+    cited = cited_by_contracts(lines)
+    for key, by in sorted(cited.items()):
         if key[:2] in private:
-            wrong.append(f"{by} cites {key[2]}, which stands in {key[0]} {key[1]}, a file that says that none does")
+            yield f"{by} cites {key[2]}, which stands in {key[0]} {key[1]}, a file that says that none does"
         elif key[2] not in listed:
-            wrong.append(f"{by} cites {key[2]} of {key[0]} {key[1]}, which is not listed")
-    for heading, section in re.findall(r"^## ([^\n]*)\n(.*?)(?=^## |\Z)", document, re.MULTILINE | re.DOTALL):
-        crate = re.search(r"crates/(\w+)/specs", heading)
-        without = [key for rest in re.findall(r"Not counted: (.*?)\.", section) for key in keys_named(rest, crate[1], lines)]
-        for roots, count in re.findall(r"^From (.*?), so (\d+) lines", section, re.MULTILINE | re.DOTALL):
-            counted = sum(len(lines[key]) for key in behind(keys_named(roots, crate[1], lines), without, lines, brought))
-            if counted != int(count):
-                wrong.append(f"{heading}: from {roots} there are {counted} lines, not {count}")
+            yield f"{by} cites {key[2]} of {key[0]} {key[1]}, which is not listed"
+    counted = behind(cited, without, lines, brought)
+    for key in sorted(counted & mutual):
+        if key[2] not in listed and key not in cited:
+            yield f"{key[2]} of {key[0]} {key[1]}, inside a `mutual`, is not listed"
+    for name in sorted(types_in(counted, lines, brought) - listed):
+        yield f"{name}, a type of the code, is not listed"
+
+
+def counts(section, crate, without, lines, brought):
+    """Each count of a section, as it is written and as it should be."""
+    for start, roots, count in re.findall(r"^(From (.*?), so )(\d+ lines(?:: [^.]*)?)\.", section, re.MULTILINE | re.DOTALL):
+        by_crate = {}
+        for key in behind(keys_named(roots, crate, lines), without, lines, brought):
+            by_crate[key[0]] = by_crate.get(key[0], 0) + len(lines[key])
+        right = f"{sum(by_crate.values())} lines"
+        if len(by_crate) > 1:
+            right += ": " + ", ".join(f"{by_crate[name]} of {name}" for name in reversed(CRATES) if name in by_crate)
+        yield start + count, start + right
+
+
+def main():
+    lines, brought, private, mutual = read_definitions()
+    document, wrong, uncounted = DOCUMENT.read_text(), [], []
+    for crate, section in re.findall(r"^## [^\n]*\(crates/(\w+)/specs\)\n(.*?)(?=^## |\Z)", document, re.MULTILINE | re.DOTALL):
+        without = [key for rest in re.findall(r"Not counted: (.*?)\.", section) for key in keys_named(rest, crate, lines)]
+        uncounted += without
+        for written, right in counts(section, crate, without, lines, brought):
+            if sys.argv[1:] == ["--write"]:
+                document = document.replace(written, right)
+            elif written != right:
+                wrong.append(f"{crate}: not \"{written}\", but \"{right}\"")
+    if sys.argv[1:] == ["--write"]:
+        DOCUMENT.write_text(document)
+    wrong += not_listed(document, uncounted, lines, brought, private, mutual)
     print(*wrong, f"{len(wrong)} wrong", sep="\n")
     sys.exit(1 if wrong else 0)
 
