@@ -9,7 +9,8 @@ use Rattle.pref_core.specs.declared.call.Call.TheVariants.{Insert, Update, Delet
 use Rattle.pref_core.specs.declared.call.Outcome.{Outcome}
 use Rattle.pref_core.specs.declared.call.Outcome.TheVariants.{Added, Done, NoSuchRow, Full}
 use Rattle.pref_core.specs.declared.call.Op.{Op}
-use Rattle.pref_core.specs.State.{State, Client, Snapshot, with_seat, is_change, missing, ended, begun, granted, outcome, outcome_of, succeeds, committed, begun_after, counted, after, is_formed}
+use Rattle.pref_core.specs.State.{State, Client, Snapshot, with_seat, is_change, missing, ended, begun, begins_row, needed_after, granted, outcome, succeeds, committed, begun_after, counted, after, is_formed}
+use Rattle.pref_core.specs.Parts.{outcome_of}
 use Rattle.pref_core.specs.Slots.{Contents, StandsFor, StandsForClient, ShowsBegin, stamps, caller_calls}
 use Rattle.pref_core.specs.Operations.{grown, filled, begin_after, callers_after, is_next, same_number, same_outcome, outcome_at, refusal_at, slots_after, stepped}
 use Rattle.pref_core.proofs.Committing.{grown_stands}
@@ -137,7 +138,7 @@ stepped_stands contents state op slots h next fits = go (is_change op.call) refl
         rw (c, o, refused) (quiet (rw (c, o) at fits))
     go true c true o =
         let granted_too = rw c at (ap succeeds (sym same) ∙ o) in
-        let none = succeeds-missing _ _ (missing (ended op.call) state.table) _ _ granted_too in
+        let none = succeeds-missing (length contents.slots) (begins_row op.call) (missing (ended op.call) state.table) (needed_after state op.call) (granted state.next_id op.call) granted_too in
         let grows = grown_stands contents state op.call c (IsAllowed-from contents op next).formed none h in
         let placed = filled_stands (grown op.call contents) (committed op.call state) (suc contents.stamp) op.slots (begun contents.next_id op.call) _ slots (rw (c, o) at fits) grows in
         let counts = counted_stands _ _ op.client op.call placed in

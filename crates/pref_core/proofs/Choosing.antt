@@ -1,5 +1,5 @@
 -- The slots of the rows that a call begins, chosen one after the other.
-use Rattle.std.proofs.Common.{◌≡◌, ℕ, suc, ◌+◌, ◌<◌, ◌≤◌, Bool, true, false, ◌&&◌, cond, List, [], ◌∷◌, ◌++◌, map, length, Option, Some, None, Result, Ok, Err, is_some, slice_set, refl, sym, ap, ◌∙◌, arith}
+use Rattle.std.proofs.Common.{◌≡◌, ℕ, suc, ◌+◌, ◌<◌, ◌≤◌, Bool, true, false, ◌&&◌, cond, List, [], ◌∷◌, ◌++◌, map, length, Option, Some, None, Result, Ok, Err, is_some, slice_set, refl, sym, ap, ◌∙◌, subst, arith}
 use Rattle.std.specs.List.{count_by}
 use Rattle.std.proofs.lemmas.List.{length-map, length-append, append-nil, append_assoc}
 use Rattle.std.proofs.lemmas.Bool.{le-ltb}
@@ -16,6 +16,7 @@ use Rattle.pref_core.specs.Table.{among}
 use Rattle.pref_core.specs.State.{changes_of, ended, begun, begins_row, is_change, missing, granted, succeeds}
 use Rattle.pref_core.specs.Slots.{Contents, begins, born, visible}
 use Rattle.pref_core.specs.Operations.{close, filled, placed, used, grown, is_free, outcome_at}
+use Rattle.pref_core.specs.Parts.{outcome_of}
 use Rattle.pref_core.specs.Places.{is_free_zone}
 use Rattle.pref_core.specs.Kept.{IsFreed, FindsFreed, is_open, zones_of}
 use Rattle.pref_core.proofs.Changing.{begun_few}
@@ -112,7 +113,8 @@ pub one_left : (contents : Contents) (call : Call) (fresh : Entry) (rest : List 
     → is_change call ≡ true → succeeds (outcome_at contents call) ≡ true → ((place : ℕ) → is_open (zones_of contents) freed place ≡ true → among chosen place ≡ true) → ChosenUpTo contents call (fresh ∷ rest) chosen → ⊥
 one_left contents call fresh rest chosen freed finds c ok taken h =
     some_left (suc contents.stamp) (begins contents.callers) chosen h.done (closed_slots contents (ended call)) h.now h.fills
-    (let size = succeeds-fits (length contents.slots) (missing (ended call) (visible contents.stamp contents.slots)) (used (grown call contents)) (granted contents.next_id call) (rw (c, begins_one) at ok) in
+    (let size = succeeds-fits (length contents.slots) (missing (ended call) (visible contents.stamp contents.slots)) (used (grown call contents)) (granted contents.next_id call)
+        (subst (λ b. succeeds (outcome_of (length contents.slots) b (missing (ended call) (visible contents.stamp contents.slots)) (used (grown call contents)) (granted contents.next_id call)) ≡ true) begins_one (rw c at ok)) in
     let more = count_grown (suc contents.stamp) (begins contents.callers) (begun contents.next_id call) (closed_slots contents (ended call)) in
     let long = length-map contents.slots (close (ended call) (suc contents.stamp)) in
     let all = ap length h.all ∙ length-append h.done (fresh ∷ rest) in

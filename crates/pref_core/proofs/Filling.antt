@@ -15,9 +15,9 @@ use Rattle.pref_core.specs.declared.call.Op.{Op}
 use Rattle.pref_core.specs.declared.call.Call.{Call}
 use Rattle.pref_core.specs.declared.call.Call.TheVariants.{Update}
 use Rattle.pref_core.specs.declared.call.Outcome.{Outcome}
-use Rattle.pref_core.specs.State.{State, ended, begun, added, missing, is_change, succeeds}
+use Rattle.pref_core.specs.State.{State, ended, begun, begins_row, added, missing, granted, is_change, succeeds}
 use Rattle.pref_core.specs.Slots.{Contents, StandsFor, IsWithin, EndsBy, is_visible, begins, stamps, born, visible}
-use Rattle.pref_core.specs.Operations.{close, close_at, is_free, filled, outcome_at, is_next, slots_after}
+use Rattle.pref_core.specs.Operations.{close, close_at, grown, is_free, filled, outcome_at, is_next, slots_after, used}
 use Rattle.pref_core.specs.Places.{is_free_zone, free_at, zone_of}
 use Rattle.pref_core.specs.Indexes.{is_row, row_at, IsPlaceOf}
 use Rattle.pref_core.specs.Links.{shown, ids_of, id_at, AreIds, AreLinks}
@@ -369,7 +369,7 @@ abbrev pub begun_commit : Contents → ℕ → Contents
 begun_commit contents more = record { slots = contents.slots; stamp = suc contents.stamp; next_id = contents.next_id + more; callers = contents.callers }
 
 pub none_missing : (contents : Contents) (call : Call) (outcome : Outcome) → outcome ≡ outcome_at contents call → succeeds outcome ≡ true → is_change call ≡ true → missing (ended call) (visible contents.stamp contents.slots) ≡ None
-none_missing contents call outcome told ok c = succeeds-missing _ _ (missing (ended call) (visible contents.stamp contents.slots)) _ _ (rw c at (ap succeeds (sym told) ∙ ok))
+none_missing contents call outcome told ok c = succeeds-missing (length contents.slots) (begins_row call) (missing (ended call) (visible contents.stamp contents.slots)) (used (grown call contents)) (granted contents.next_id call) (rw c at (ap succeeds (sym told) ∙ ok))
 
 pub commit_fresh : (now start closed : Contents) (state : State) (op : Op) (first : ℕ) → start ≡ begun_commit now (added op.call) → first ≡ now.next_id → closed ≡ with_slots (map (close (ended op.call) start.stamp) start.slots) start
     → StandsFor now state → is_next now op ≡ true → is_change op.call ≡ true → succeeds op.outcome ≡ true → AreFresh closed.next_id (visible closed.stamp closed.slots) (begun first op.call)

@@ -5,7 +5,8 @@ use Rattle.std.proofs.lemmas.List.Sums.{count_by-le-length}
 use Rattle.pref_core.specs.declared.call.Call.{Call}
 use Rattle.pref_core.specs.declared.call.Call.TheVariants.{Insert, Update, Delete, Commit, Begin, Finish, Abandon}
 use Rattle.pref_core.specs.Table.{Line, Key, holds_key, keys}
-use Rattle.pref_core.specs.State.{State, Client, Snapshot, found_tables, needed, is_change, missing, ended, granted, outcome, outcome_of, succeeds, begins_row, committed, begun_after, counted, after}
+use Rattle.pref_core.specs.State.{State, Client, Snapshot, found_tables, needed, is_change, missing, ended, granted, outcome, succeeds, begins_row, committed, begun_after, counted, after}
+use Rattle.pref_core.specs.Parts.{outcome_of}
 use Rattle.pref_core.specs.Slots.{is_needed, stamps}
 use Rattle.pref_core.specs.Laws.{NeededFits, NeededFitsSlots}
 use Rattle.pref_core.proofs.Counting.{length-needed, holds_key-different, AreDifferent-different, holds_key-keys-append}

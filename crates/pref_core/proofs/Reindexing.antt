@@ -13,7 +13,8 @@ use Rattle.pref_core.specs.declared.call.Op.{Op}
 use Rattle.pref_sky.specs.declared.entry.Entry.{Entry}
 use Rattle.pref_core.specs.Changes.{ended_by, begun_by, added_by}
 use Rattle.pref_core.specs.Table.{among, has}
-use Rattle.pref_core.specs.State.{outcome_of, missing, granted, is_change, succeeds, added, begins_row, changes_of, ended, begun}
+use Rattle.pref_core.specs.State.{missing, granted, is_change, succeeds, added, begins_row, changes_of, ended, begun}
+use Rattle.pref_core.specs.Parts.{outcome_of}
 use Rattle.pref_core.specs.Slots.{Contents, IsWithin, visible, begins, born}
 use Rattle.pref_core.specs.Operations.{close, is_free, filled, used, grown, slots_after, is_next, applied}
 use Rattle.pref_core.specs.Indexes.{slot_of, Points, given, added_slots, placed_from, placed_by, added_rows, moved, moved_rows, Withdraws, Moves, adds, IsPlaceOf, IsIndexOf, IsReady}

@@ -15,13 +15,13 @@ use Rattle.pref_core.specs.declared.event.Reply.{Reply}
 use Rattle.pref_core.specs.declared.event.Reply.TheVariants.{Begun}
 use Rattle.pref_core.specs.Limits.{Limits, AreAllowed, blocks}
 use Rattle.pref_core.specs.State.{State, is_change, seat, with_seat, refusal, refusal_of, refusal_by_query, begun_after, outcome}
-use Rattle.pref_core.specs.Step.{Open, Member, System, Step, snapshot, state_of, refused, counted_with, changed, change, numbered, step_of, step}
+use Rattle.pref_core.specs.Step.{Open, Member, System, Step, snapshot, state_of, refused, counted_with, changed, change, step}
 use Rattle.pref_core.specs.Slots.{Contents, StandsFor}
 use Rattle.pref_core.specs.Indexes.{adds}
 use Rattle.pref_core.specs.Operations.{PlansIn, applied}
 use Rattle.pref_core.specs.Scans.{Scan, begin}
 use Rattle.pref_core.specs.Systems.{Running, StandsForSystem, is_refusal, Tells}
-use Rattle.pref_core.specs.Parts.{change_of, told_of}
+use Rattle.pref_core.specs.Parts.{change_of, told_of, numbered, step_of}
 use Rattle.pref_core.proofs.Shown.{length-applied}
 use Rattle.pref_core.proofs.Systems.{refusal_there, refusal_nobody, IsThere, IsThere-from, IsLetIn, IsLetIn-from, changed_stands, queried_stands, follows_begun}
 

@@ -1,5 +1,5 @@
 -- What an operation does to a store, and when it is legal there. (this project)
-use Rattle.std.specs.Prelude.{◌≡◌, ℕ, suc, ◌+◌, List, [], ◌∷◌, ◌++◌, map, length, Bool, true, false, not, ◌&&◌, ◌==◌, Option, Some, None, is_some, Result, MatchResult, if◌then◌else◌, slice_get, slice_set}
+use Rattle.std.specs.Prelude.{◌≡◌, ℕ, suc, ◌+◌, List, [], ◌∷◌, ◌++◌, map, length, Bool, true, false, not, ◌&&◌, ◌==◌, Option, Some, None, is_some, Result, MatchResult, nat_lt, if◌then◌else◌, slice_get, slice_set}
 use Rattle.std.specs.List.{count_by}
 use Rattle.pref_core.specs.declared.store.version.Version.{Version}
 use Rattle.pref_core.specs.declared.store.caller.Caller.{Caller}
@@ -11,7 +11,7 @@ use Rattle.pref_core.specs.declared.fault.CoreFault.{CoreFault}
 use Rattle.pref_core.specs.declared.call.Op.{Op}
 use Rattle.pref_sky.specs.declared.entry.Entry.{Entry}
 use Rattle.pref_core.specs.Table.{among}
-use Rattle.pref_core.specs.State.{State, seat, with_seat, refusal_of, refusal, calls_of, ended, begun, begins_row, added, is_change, missing, granted, outcome_of, outcome, succeeds, after, is_formed}
+use Rattle.pref_core.specs.State.{State, seat, with_seat, refusal_of, refusal, calls_of, ended, begun, begins_row, added, is_change, missing, granted, outcome, succeeds, after, is_formed}
 use Rattle.pref_core.specs.Slots.{Contents, StandsFor, visible, is_needed, stamps, born, caller_calls, caller_begun}
 
 -- how many slots can't be used again
@@ -54,10 +54,13 @@ filled stamps made (place ∷ places) [] slots = None
 abbrev pub refusal_at : Contents → ℕ → Call → Option CoreFault
 refusal_at contents client call = refusal_of (caller_calls contents client) (is_some (caller_begun contents client)) call
 
--- what becomes of a call that gets one
+-- the outcome of a call that gets one, as `outcome` has it, from the slots
 abbrev pub outcome_at : Contents → Call → Outcome
 outcome_at contents call = if is_change call
-    then outcome_of (length contents.slots) (begins_row call) (missing (ended call) (visible contents.stamp contents.slots)) (used (grown call contents)) (granted contents.next_id call)
+    then elim (missing (ended call) (visible contents.stamp contents.slots)) [
+      | Some id ↦ NoSuchRow id
+      | None ↦ if begins_row call && nat_lt (length contents.slots) (used (grown call contents)) then Full (used (grown call contents)) else granted contents.next_id call
+    ]
     else Done
 
 -- whether two outcomes are one

@@ -149,15 +149,18 @@ granted next_id call = if nat_lt 0 (added call) then Added next_id else Done
 abbrev pub begins_row : Call → Bool
 begins_row call = begins_any (changes_of call)
 
--- the outcome of a change by whether it begins a row, the first id that it misses and the size of `needed` after it
-abbrev pub outcome_of : ℕ → Bool → Option ℕ → ℕ → Outcome → Outcome
-outcome_of capacity begins (Some id) after granted = NoSuchRow id
-outcome_of capacity begins None after granted = if begins && nat_lt capacity after then Full after else granted
+-- how many versions are needed after a change
+abbrev pub needed_after : State → Call → ℕ
+needed_after state call = length (needed (committed call state))
 
--- the outcome of a call that gets a number; the first number is the capacity
-abbrev pub outcome : ℕ → State → Call → Outcome
+-- The outcome of a numbered call. Of a change: the first id that it names and the table lacks; else, where it begins a row, that it needs more versions than
+-- there are slots; else that it is made. Any other call is done.
+abbrev pub outcome : (capacity : ℕ) → State → Call → Outcome
 outcome capacity state call = if is_change call
-    then outcome_of capacity (begins_row call) (missing (ended call) state.table) (length (needed (committed call state))) (granted state.next_id call)
+    then elim (missing (ended call) state.table) [
+      | Some id ↦ NoSuchRow id
+      | None ↦ if begins_row call && nat_lt capacity (needed_after state call) then Full (needed_after state call) else granted state.next_id call
+    ]
     else Done
 
 -- whether the call did what it asked

@@ -1,5 +1,5 @@
 -- The sequential table, event by event: the reply to each, and the state after it. (this project)
-use Rattle.std.specs.Prelude.{ℕ, suc, ◌+◌, ◌-◌, ◌^◌, List, [], ◌∷◌, map, length, nat_lt, if◌then◌else◌, Option, Some, None, replicate}
+use Rattle.std.specs.Prelude.{ℕ, suc, ◌+◌, ◌-◌, ◌^◌, List, [], ◌∷◌, map, length, Bool, true, false, ◌||◌, nat_lt, if◌then◌else◌, Option, Some, None, replicate}
 use Rattle.std.specs.Option.{option_map}
 use Rattle.pref_term.specs.Question.{Question}
 use Rattle.pref_sky.specs.Answers.{answer_of}
@@ -93,10 +93,6 @@ change limits system client member call done = changed (outcome limits.capacity 
 abbrev pub told_of_commit : ℕ → List Change → Committed
 told_of_commit next_id changes = record { changes = length changes; first = if nat_lt 0 (added_by changes) then next_id else 0 }
 
--- a call that is numbered: a client makes 2^56 at most
-abbrev pub numbered : Member → System → Step → Step
-numbered member system step = if nat_lt member.calls (2 ^ 56) then step else refused Spent system
-
 -- a query ends with its answer once no block is left
 abbrev pub finish : ℕ → Member → System → Open → Step
 finish client member system query = if nat_lt 0 query.left
@@ -109,31 +105,41 @@ scan client member system query = if nat_lt 0 query.left
     then record { reply = Left (query.left - 1); next = scanned_with (one_less query) client member system }
     else refused AllScanned system
 
--- what comes of a client's act, by its open query
-abbrev pub step_of : Limits → System → ℕ → Member → Act → Option Open → Step
-step_of limits system client member (Insert row) query = numbered member system (change limits system client member (CallInsert row) (Inserted system.next_id))
-step_of limits system client member (Update id row) query = numbered member system (change limits system client member (CallUpdate id row) (Updated id))
-step_of limits system client member (Delete id) query = numbered member system (change limits system client member (CallDelete id) (Deleted id))
-step_of limits system client member (Commit changes) query = numbered member system (change limits system client member (CallCommit changes) (CommittedIs (told_of_commit system.next_id changes)))
-step_of limits system client member (Begin ask) None = numbered member system (record {
-  reply = Begun (blocks limits);
-  next = counted_with (Some (record { ask = ask; table = system.table; commits = system.commits; left = blocks limits })) client member system;
-})
-step_of limits system client member (Begin ask) (Some query) = numbered member system (refused QueryOpen system)
-step_of limits system client member Scan None = refused NoQuery system
-step_of limits system client member Scan (Some query) = scan client member system query
-step_of limits system client member Finish None = numbered member system (refused NoQuery system)
-step_of limits system client member Finish (Some query) = numbered member system (finish client member system query)
-step_of limits system client member Abandon None = numbered member system (refused NoQuery system)
-step_of limits system client member Abandon (Some query) = numbered member system (record { reply = Abandoned; next = counted_with None client member system })
-step_of limits system client member (Get id) query = record { reply = elim (line_of system.table id) [ None ↦ Refused (MissingRow id) | Some line ↦ Found id line.row ]; next = system }
-step_of limits system client member Room query = record { reply = RoomIs (limits.capacity - length (needed (state_of system))); next = system }
+-- a query as it begins: it has the table of then, and no block of it is scanned
+abbrev pub query_of : Question → Limits → System → Open
+query_of ask limits system = record { ask = ask; table = system.table; commits = system.commits; left = blocks limits }
 
--- what comes of an event
+-- what comes of an act that a client may make, by its open query
+abbrev pub acted : Limits → System → ℕ → Member → Act → Option Open → Step
+acted limits system client member (Insert row) query = change limits system client member (CallInsert row) (Inserted system.next_id)
+acted limits system client member (Update id row) query = change limits system client member (CallUpdate id row) (Updated id)
+acted limits system client member (Delete id) query = change limits system client member (CallDelete id) (Deleted id)
+acted limits system client member (Commit changes) query = change limits system client member (CallCommit changes) (CommittedIs (told_of_commit system.next_id changes))
+acted limits system client member (Begin ask) None = record { reply = Begun (blocks limits); next = counted_with (Some (query_of ask limits system)) client member system }
+acted limits system client member (Begin ask) (Some query) = refused QueryOpen system
+acted limits system client member Scan None = refused NoQuery system
+acted limits system client member Scan (Some query) = scan client member system query
+acted limits system client member Finish None = refused NoQuery system
+acted limits system client member Finish (Some query) = finish client member system query
+acted limits system client member Abandon None = refused NoQuery system
+acted limits system client member Abandon (Some query) = record { reply = Abandoned; next = counted_with None client member system }
+acted limits system client member (Get id) query = record { reply = elim (line_of system.table id) [ None ↦ Refused (MissingRow id) | Some line ↦ Found id line.row ]; next = system }
+acted limits system client member Room query = record { reply = RoomIs (limits.capacity - length (needed (state_of system))); next = system }
+
+-- the acts that are reads; all others are numbered
+abbrev pub is_read : Act → Bool
+is_read Scan = true
+is_read (Get id) = true
+is_read Room = true
+is_read act = false
+
+-- what comes of an event: there has to be such a client, and it makes 2^56 numbered calls at most
 abbrev pub step : Limits → System → Event → Step
 step limits system event = elim (seat event.client system.members) [
   | None ↦ refused NoSuchClient system
-  | Some member ↦ step_of limits system event.client member event.act member.query
+  | Some member ↦ if is_read event.act || nat_lt member.calls (2 ^ 56)
+      then acted limits system event.client member event.act member.query
+      else refused Spent system
 ]
 
 -- the opening rows as commits 1, 2, .. with ids 1, 2, .., and no call made

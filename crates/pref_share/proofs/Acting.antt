@@ -20,8 +20,9 @@ use Rattle.pref_core.specs.declared.fault.CoreFault.TheVariants.{Spent, QueryOpe
 use Rattle.pref_core.specs.Limits.{Limits, blocks}
 use Rattle.pref_core.specs.Table.{Line, line_of, entries}
 use Rattle.pref_core.specs.Changes.{added_by}
-use Rattle.pref_core.specs.State.{State, Snapshot, seat, with_seat, is_change, begins_row, committed, ended, granted, missing, needed, outcome, outcome_of, after, begun_after, refusal_of, refusal_by_query}
-use Rattle.pref_core.specs.Step.{Open, Member, System, Step, snapshot, client_of, state_of, refused, counted_with, one_less, scanned_with, told_of_commit, changed, change, numbered, step_of}
+use Rattle.pref_core.specs.State.{State, Snapshot, seat, with_seat, is_change, begins_row, committed, ended, granted, missing, needed, outcome, after, begun_after, refusal_of, refusal_by_query}
+use Rattle.pref_core.specs.Step.{Open, Member, System, Step, snapshot, client_of, state_of, refused, counted_with, one_less, scanned_with, told_of_commit, changed, change}
+use Rattle.pref_core.specs.Parts.{outcome_of, numbered, step_of}
 use Rattle.pref_core.proofs.Stability.{seat-with_seat_same}
 use Rattle.pref_core.proofs.Seats.{with_seat_self, with_seat-map}
 use Rattle.pref_core.proofs.Steps.{somebody_steps, let_in_steps}

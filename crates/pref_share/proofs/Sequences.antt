@@ -12,7 +12,8 @@ use Rattle.pref_core.specs.Limits.{Limits}
 use Rattle.pref_core.specs.Table.{entries}
 use Rattle.pref_sky.specs.Answers.{answer_of}
 use Rattle.pref_core.specs.State.{seat, outcome, idle_clients}
-use Rattle.pref_core.specs.Step.{Open, Member, System, Step, told_of_commit, client_of, state_of, refused, counted_with, scanned_with, one_less, change, numbered, finish, scan, step_of, step, replies_from}
+use Rattle.pref_core.specs.Step.{Open, Member, System, Step, told_of_commit, client_of, state_of, refused, counted_with, scanned_with, one_less, change, finish, scan, step, replies_from}
+use Rattle.pref_core.specs.Parts.{numbered, step_of}
 use Rattle.pref_core.proofs.Stability.{seat-with_seat_other}
 use Rattle.pref_core.proofs.Systems.{members-changed}
 
