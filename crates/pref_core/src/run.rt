@@ -1,6 +1,6 @@
 //! The replies to a list of events.
 
-ghost use Rattle.std.specs.Prelude.{◌≡◌, ◌<◌, nat_lt, length, take, Err, IfOk, IfErr, ◌⊎◌, ◌↔◌};
+ghost use Rattle.std.specs.Prelude.{[], ◌≡◌, ◌<◌, nat_lt, length, take, Err, IfOk, IfErr, ◌⊎◌, ◌↔◌};
 ghost use Rattle.pref_core.specs.Step.{replies};
 ghost use Rattle.pref_core.specs.Parts.{AddsReply};
 
@@ -11,7 +11,7 @@ use crate::setup::Setup;
 use pref_table::Row;
 use std::alloc::{AllocError, Global};
 
-/// The replies up to the first event that ran out of memory, or all of them.
+/// The replies up to the first event that there was no memory for, or all of them.
 #[derive(Drop)]
 pub struct Part {
     /// One reply to each of the first events, in their order.
@@ -22,9 +22,9 @@ pub struct Part {
 
 /// The replies to the first events of a list, as many as memory is there for: those that the sequential table gives.
 ///
-/// It stops at the first event that runs out of memory, keeps the replies before it, and says so. Refused `Full`
-/// where there are more opening rows than slots, else `OutOfMemory` where there is no memory for the opening table,
-/// before the first event. No reply is `OutOfMemory`. Cost: that of each event, and one list of replies.
+/// Refused `Full` where there are more opening rows than slots, and never else. Out of memory, it stops, keeps the
+/// replies so far and says so: none, where there is no memory for the opening table. No reply is `OutOfMemory`.
+/// Cost: that of each event, and one list of replies.
 ///
 /// ```text
 /// let part = replay_part(alloc, setup, &rows, events)?;
@@ -41,9 +41,13 @@ pub fn replay_part(
     ensures replies { IfOk result (λ part. part.replies.items ≡ take (length part.replies.items) (replies setup rows.now events.items)) }
     ensures stopped { IfOk result (λ part. part.stopped ≡ nat_lt (length part.replies.items) (length events.items)) }
     ensures full { result ≡ Err (CoreFault.Full (length rows.now)) ↔ (setup.capacity < length rows.now) }
-    ensures other { IfErr result (λ fault. (fault ≡ CoreFault.OutOfMemory) ⊎ (setup.capacity < length rows.now)) }
+    ensures other { IfErr result (λ fault. setup.capacity < length rows.now) }
 {
-    let mut machine = Machine::new(alloc, setup, rows)?;
+    let mut machine = match Machine::new(alloc, setup, rows) {
+        Ok(machine) => machine,
+        Err(CoreFault::OutOfMemory) => return Ok(no_replies(alloc, &events)),
+        Err(fault) => return Err(fault),
+    };
     let mut told = Vec::new(alloc);
     for event in events {
         let reply = machine.reply(alloc, event);
@@ -84,6 +88,17 @@ pub fn replay(
         return Err(CoreFault::OutOfMemory);
     }
     Ok(part.replies)
+}
+
+/// The replies to the first events, where there is no memory for a table.
+fn no_replies(alloc: Global, events: &[Event]) -> Part
+    ensures replies { result.replies.items ≡ [] }
+    ensures stopped { result.stopped ≡ nat_lt 0 (length events.now) }
+{
+    Part {
+        replies: Vec::new(alloc),
+        stopped: !events.is_empty(),
+    }
 }
 
 /// Adds a reply. Out of memory, for the reply or for the list, adds none.

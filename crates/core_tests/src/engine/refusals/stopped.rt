@@ -2,7 +2,7 @@
 
 use crate::engine::fixtures::{Does, events_of, reply_text, setup_of};
 use crate::same::{assert_same, assert_same_text};
-use pref_core::{CoreFault, Event, Part, Reply, Setup, replay_part};
+use pref_core::{Event, Part, Reply, Setup, replay_part};
 use pref_table::{Row, Schema};
 use std::alloc::Global;
 use std::process::Abort;
@@ -135,7 +135,7 @@ fn are_first(rt: &impl Abort, alloc: Global, part: &Part, replies: &[&str]) -> R
     Ok(())
 }
 
-/// Whether a run came to its end. The replies that it has are the first of these.
+/// Whether a run came to its end. It is never refused, and the replies that it has are the first of these.
 fn is_whole(
     rt: &impl Abort,
     alloc: Global,
@@ -150,7 +150,7 @@ fn is_whole(
             Ok(!part.stopped)
         }
         Err(fault) => {
-            assert_same(rt, "refused", &fault, &CoreFault::OutOfMemory);
+            assert_same(rt, "refused", &Some(fault), &None);
             Ok(false)
         }
     }
