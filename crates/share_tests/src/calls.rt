@@ -119,8 +119,7 @@ pub fn check_told(
     Ok(())
 }
 
-#[test]
-fn the_stored_run(rt: HostRuntime) -> Result<(), Fail> {
+fn the_stored_run(rt: &(impl Wait + Abort + AllocGlobal)) -> Result<(), Fail> {
     let setup = setup(4, 1024, 1024)?;
     let run = [
         (0, Does::Inserts(30)),
@@ -135,11 +134,10 @@ fn the_stored_run(rt: HostRuntime) -> Result<(), Fail> {
     ];
     let wanted =
         "inserted 1 / inserted 2 / inserted 3 / begun 1 / inserted 4 / left 0 / answer level 1 id 2: 10 / row 4: 5 / room 1020 / ";
-    check_told(&rt, &[], setup, &run, wanted)
+    check_told(rt, &[], setup, &run, wanted)
 }
 
-#[test]
-fn an_answer_is_of_the_begin(rt: HostRuntime) -> Result<(), Fail> {
+fn an_answer_is_of_the_begin(rt: &(impl Wait + Abort + AllocGlobal)) -> Result<(), Fail> {
     let opening = [5, 7, 9];
     let setup = setup(4, 4, 2)?;
     let run = [
@@ -157,11 +155,10 @@ fn an_answer_is_of_the_begin(rt: HostRuntime) -> Result<(), Fail> {
     ];
     let wanted =
         "begun 2 / left 1 / deleted 1 / inserted 4 / room 0 / left 0 / answer level 1 id 1: 5 / begun 2 / left 1 / left 0 / answer level 1 id 4: 1 / ";
-    check_told(&rt, &opening, setup, &run, wanted)
+    check_told(rt, &opening, setup, &run, wanted)
 }
 
-#[test]
-fn room_is_exact(rt: HostRuntime) -> Result<(), Fail> {
+fn room_is_exact(rt: &(impl Wait + Abort + AllocGlobal)) -> Result<(), Fail> {
     let opening = [1, 2];
     let setup = setup(4, 2, 2)?;
     let first = [
@@ -173,7 +170,7 @@ fn room_is_exact(rt: HostRuntime) -> Result<(), Fail> {
         (1, Does::AsksRoom),
     ];
     let wanted = "begun 1 / refused: full needed 3 / abandoned / updated 1 / row 1: 9 / room 0 / ";
-    check_told(&rt, &opening, setup, &first, wanted)?;
+    check_told(rt, &opening, setup, &first, wanted)?;
     let second = [
         (0, Does::Updates(2, 6)),
         (0, Does::AsksRoom),
@@ -183,11 +180,10 @@ fn room_is_exact(rt: HostRuntime) -> Result<(), Fail> {
         (0, Does::Inserts(8)),
     ];
     let wanted = "updated 2 / room 0 / refused: full needed 3 / deleted 2 / room 1 / inserted 3 / ";
-    check_told(&rt, &opening, setup, &second, wanted)
+    check_told(rt, &opening, setup, &second, wanted)
 }
 
-#[test]
-fn two_updates_under_an_open_query(rt: HostRuntime) -> Result<(), Fail> {
+fn two_updates_under_an_open_query(rt: &(impl Wait + Abort + AllocGlobal)) -> Result<(), Fail> {
     let opening = [5];
     let setup = setup(4, 3, 3)?;
     let run = [
@@ -202,7 +198,16 @@ fn two_updates_under_an_open_query(rt: HostRuntime) -> Result<(), Fail> {
     ];
     let wanted =
         "begun 1 / updated 1 / updated 1 / room 1 / left 0 / answer level 1 id 1: 5 / room 2 / row 1: 2 / ";
-    check_told(&rt, &opening, setup, &run, wanted)
+    check_told(rt, &opening, setup, &run, wanted)
+}
+
+/// The clients of a board, one call after the other.
+#[test]
+fn rows_by_clients(rt: HostRuntime) -> Result<(), Fail> {
+    the_stored_run(&rt)?;
+    an_answer_is_of_the_begin(&rt)?;
+    room_is_exact(&rt)?;
+    two_updates_under_an_open_query(&rt)
 }
 
 /// How many blocks the begin of the second client returns, who is the last, and the replies to the first once the second was dropped.

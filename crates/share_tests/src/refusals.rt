@@ -184,13 +184,12 @@ fn changed_and_heard<J: Naming, R: Wait + Abort>(
     Ok(())
 }
 
-#[test]
-fn changes_refused_then_again(rt: HostRuntime) -> Result<(), Fail> {
+fn changes_refused_then_again(rt: &(impl Wait + Abort + AllocGlobal)) -> Result<(), Fail> {
     let alloc = rt.alloc();
     let opening = [row_of(alloc, 5)?];
     let changed = row_of(alloc, 6)?;
     let setup = setup(2, 18, 6)?;
-    changed_and_heard::<Brand, _>(&rt, alloc, Name::new(), setup, &opening, &changed)?;
+    changed_and_heard::<Brand, _>(rt, alloc, Name::new(), setup, &opening, &changed)?;
     Ok(())
 }
 
@@ -264,13 +263,12 @@ fn replaced<J: Naming, R: Wait + Abort>(
     told
 }
 
-#[test]
-fn a_commit_refused_then_again(rt: HostRuntime) -> Result<(), Fail> {
+fn a_commit_refused_then_again(rt: &(impl Wait + Abort + AllocGlobal)) -> Result<(), Fail> {
     let alloc = rt.alloc();
     let opening = [row_of(alloc, 5)?; 18];
     let adds = Commit::of(&[Change::Add(row_of(alloc, 6)?); 8])?;
     let setup = setup(2, 18, 6)?;
-    replaced::<Brand, _>(&rt, alloc, Name::new(), setup, &opening, adds)
+    replaced::<Brand, _>(rt, alloc, Name::new(), setup, &opening, adds)
 }
 
 /// Begins a query of two blocks, and abandons it.
@@ -334,18 +332,25 @@ fn answered<J: Naming, R: Wait + Abort>(
     ranked
 }
 
-#[test]
-fn a_query_refused_then_again(rt: HostRuntime) -> Result<(), Fail> {
+fn a_query_refused_then_again(rt: &(impl Wait + Abort + AllocGlobal)) -> Result<(), Fail> {
     let alloc = rt.alloc();
     let opening = three_rows(alloc, (5, 4, 6))?;
     let setup = setup(2, 4, 2)?;
     let name = Name::new();
     let text = answer_text(
         alloc,
-        &answered::<Brand, _>(&rt, alloc, name, setup, &opening)?,
+        &answered::<Brand, _>(rt, alloc, name, setup, &opening)?,
     )?;
-    assert_same(&rt, "an answer", &text.as_str(), &"answer level 1 id 2: 4");
+    assert_same(rt, "an answer", &text.as_str(), &"answer level 1 id 2: 4");
     Ok(())
+}
+
+/// Each call of a client, again where memory was refused.
+#[test]
+fn refused_then_again(rt: HostRuntime) -> Result<(), Fail> {
+    changes_refused_then_again(&rt)?;
+    a_commit_refused_then_again(&rt)?;
+    a_query_refused_then_again(&rt)
 }
 
 /// The acts of one client.
