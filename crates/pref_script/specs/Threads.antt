@@ -1,6 +1,7 @@
 -- The output of a script whose clients run on threads. (this project)
-use Rattle.std.specs.Prelude.{ℕ, suc, ◌≡◌, ◌+◌, ◌&&◌, List, [], ◌∷◌, length, Bool, nat_le, nat_lt, if◌then◌else◌, Some, Result, Ok, Err, slice_get}
+use Rattle.std.specs.Prelude.{ℕ, suc, ◌≡◌, ◌+◌, ◌&&◌, ◌⊎◌, List, [], ◌∷◌, length, Bool, nat_le, nat_lt, if◌then◌else◌, Some, Result, Ok, Err, slice_get}
 use Rattle.std.specs.Global.{Vec}
+use Rattle.std.specs.declared.marker.Brand.{Brand}
 use Rattle.pref_core.specs.Limits.{Limits}
 use Rattle.pref_core.specs.declared.event.Act.{Act}
 use Rattle.pref_core.specs.declared.event.Event.{Event}
@@ -10,7 +11,7 @@ use Rattle.pref_core.specs.declared.fault.CoreFault.TheVariants.{NoSuchClient}
 use Rattle.pref_share.specs.Openings.{Opening}
 use Rattle.pref_share.specs.Interleavings.{IsSequential, acts_of}
 use Rattle.pref_share.specs.Runs.{IsJointRun}
-use Rattle.pref_share.specs.Reports.{Stops}
+use Rattle.pref_share.specs.Reports.{RefusesRun}
 use Rattle.pref_share.specs.Standing.{newcomers}
 use Rattle.pref_share.specs.declared.fault.ShareFault.{ShareFault}
 use Rattle.pref_share.specs.declared.fault.ShareFault.TheVariants as share
@@ -61,21 +62,20 @@ pub record TellsJointRun (limits : Limits) (script : Script) (text : List ℕ) :
   pub sequential : IsSequential (opening_of limits script) acts replies
   pub told : text ≡ threads_text limits script replies
 
--- why clients did not do all their acts: the board was not opened, or closed, or they were stopped
-abbrev pub ClosesOrStops : (ℕ → ℕ → Type 0) → List (Vec Act) → ShareFault → Type 0
-ClosesOrStops may_hold acts share.Closed = Unit {0}
-ClosesOrStops may_hold acts why = Stops may_hold acts why
+-- why the acts have no replies: the board was not opened, or the run of its clients is refused
+abbrev pub ClosesOrStops : (J : Type 0) → Opening → (ℕ → ℕ → Type 0) → List (Vec Act) → ShareFault → Type 0
+ClosesOrStops J o may_hold acts why = (why ≡ share.Closed) ⊎ RefusesRun J o may_hold (newcomers o.limits.clients) acts why
 
--- the same, for another reason than out of memory
-abbrev pub StopsClients : (ℕ → ℕ → Type 0) → List (Vec Act) → ShareFault → Type 0
-StopsClients may_hold acts (share.Core why) = ⊥
-StopsClients may_hold acts why = ClosesOrStops may_hold acts why
+-- the same of a board that is named by `Brand`, for another reason than out of memory
+abbrev pub StopsClients : Opening → (ℕ → ℕ → Type 0) → List (Vec Act) → ShareFault → Type 0
+StopsClients o may_hold acts (share.Core why) = ⊥
+StopsClients o may_hold acts why = ClosesOrStops Brand o may_hold acts why
 
 -- The clients of a script were stopped, behind a gate that says this of each turn at which it holds a client.
 pub record WereStopped (limits : Limits) (may_hold : ℕ → ℕ → Type 0) (script : Script) (why : ShareFault) : Type 0 where
   pub acts : List (Vec Act)
   pub of_script : AreActs limits.clients (accepted_events script.commands) acts
-  pub stops : StopsClients may_hold acts why
+  pub stops : StopsClients (opening_of limits script) may_hold acts why
 
 -- what an input gives whose clients run on threads behind such a gate: the text of a joint run, a fault, or why they were stopped
 abbrev pub TellsOnThreads : Limits → (ℕ → ℕ → Type 0) → List ℕ → Result (List ℕ) RunFault → Type 0

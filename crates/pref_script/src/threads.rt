@@ -56,7 +56,7 @@ fn joint_replies<J: Naming + Send + Sync, R: Threads + Wait + Sync, G: Gate + Sy
     ensures sequential { IfOk result (λ replies. IsSequential (record { limits = setup; rows = rows.now }) acts.items replies.items) }
     ensures room { IfOk result (λ replies. setup.capacity < length rows.now → ⊥) }
     ensures stops { IfErr result (λ why. (setup.capacity < length rows.now) × (why ≡ ShareFault.Core (core.Full (length rows.now)))
-        ⊎ (setup.capacity < length rows.now → ⊥) × ClosesOrStops (G.may_hold gate.now) acts.items why) }
+        ⊎ (setup.capacity < length rows.now → ⊥) × ClosesOrStops J (record { limits = setup; rows = rows.now }) (G.may_hold gate.now) acts.items why) }
 {
     let (board, clients) = open_board::<J, R>(rt, alloc, name, setup, rows)?;
     let replies = run_all(rt, alloc, &board, clients, acts, gate);

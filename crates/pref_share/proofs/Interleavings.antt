@@ -77,6 +77,7 @@ pub joint_runs_are_sequential : JointRunsAreSequential
 joint_runs_are_sequential o acts told many joint = record {
   run = r.run;
   interleaving = record {
+    lists = as_many ∙ sym many;
     acts_in_order = λ place list e. acts_of-events (suc place) r.run ∙ r.acts (suc place) (one_of place (omega (arith, slice_get_within acts place list e, many))) ∙ (found o acts told joint many place).acts_are list e;
     replies_in_order = λ place list e. r.told (suc place) (one_of place (omega (arith, slice_get_within told place list e, as_many))) ∙ (found o acts told joint many place).told_are list e;
     nobody_else = subst (λ n. All (λ (x : Answered). (0 < x.event.client) × (x.event.client ≤ n)) r.run) (sym many) r.nobody_else;

@@ -34,7 +34,7 @@ wants_memory (Get id) call e h = absurd (cc)
 wants_memory Room call e h = absurd (cc)
 
 -- a client that is in use stops
-stops_in_use : (o : Opening) (s t : Standing) (number : ℕ) → IsInUse o s number t → Sees o s t × ((number ≡ suc t.counter) × HasCall t.seen t.number number)
+pub stops_in_use : (o : Opening) (s t : Standing) (number : ℕ) → IsInUse o s number t → Sees o s t × ((number ≡ suc t.counter) × HasCall t.seen t.number number)
 stops_in_use o s t number h = (h.sees, (h.next ∙ ap suc (sym h.sees.counted), subst (λ n. HasCall t.seen n number) (sym h.sees.same) h.holds))
 
 by_itself : (o : Opening) (s t : Standing) (act : Act) (call : Call) (fault : CoreFault) → IsLegalFrom o s.seen → call_of act ≡ Some call → Refused o s call fault t → Performs o s act (reply_or_stop_core fault) t

@@ -1,5 +1,6 @@
 -- The reports of clients, and what follows from them of the whole run.
-use Rattle.std.proofs.Common.{◌≡◌, ℕ, suc, ◌<◌, List, [], ◌∷◌, ◌++◌, length, map, get_or, Option, Some, None, slice_get, refl, sym, ap, ◌∙◌, subst, arith, inl, inr, ⊎_elim}
+use Rattle.std.proofs.Common.{◌≡◌, ℕ, suc, ◌<◌, true, List, [], ◌++◌, length, map, get_or, Option, Some, None, slice_get, refl, sym, ap, ◌∙◌, subst, arith, inl, inr, ⊎_elim}
+use Rattle.std.specs.Option.{is_some, option_or}
 use Rattle.std.specs.List.{All}
 use Rattle.std.proofs.lemmas.List.{append-nil}
 use Rattle.std.proofs.lemmas.List.Elements.{All-get_or}
@@ -13,14 +14,14 @@ use Rattle.pref_share.specs.declared.fault.ShareFault.{ShareFault}
 use Rattle.pref_share.specs.declared.fault.ShareFault.TheVariants.{Core, ClientInUse, Held, Closed}
 use Rattle.pref_share.specs.declared.run.Report.{Report}
 use Rattle.pref_share.specs.Openings.{Opening, IsLegalFrom, HasCall, calls_at}
-use Rattle.pref_share.specs.Standing.{Standing, newcomer, newcomers}
-use Rattle.pref_share.specs.Clients.{Sees}
+use Rattle.pref_share.specs.Standing.{Standing}
+use Rattle.pref_share.specs.Clients.{Sees, IsInUse}
 use Rattle.pref_share.specs.Runs.{RunsTo, StopsAt, IsJointRun, IsPart}
-use Rattle.pref_share.specs.Reports.{Ends, Did, IsWithin, AreReports, HasTurn, Stops}
-use Rattle.pref_share.specs.Settling.{Settles, IsFirstStopped}
+use Rattle.pref_share.specs.Reports.{Ends, Did, IsFoundInUse, IsWithin, AreReports, IsFirstStopped}
+use Rattle.pref_share.specs.Settling.{Settles}
 use Rattle.pref_share.proofs.Prefixes.{prefix_self, prefix_trans}
-use Rattle.pref_share.proofs.Interleavings.{length-newcomers, newcomer_at}
-use Rattle.pref_share.proofs.Running.{there, mapped, length_map, behind, given_at, same_number}
+use Rattle.pref_share.proofs.Refusing.{stops_in_use}
+use Rattle.pref_share.proofs.Running.{there, mapped, length_map, behind, given_at}
 
 sees_on : (o : Opening) (s t u : Standing) → Sees o s t → Sees o t u → Sees o s u
 sees_on o s t u a b = record {
@@ -31,11 +32,28 @@ sees_on o s t u a b = record {
   query = b.query ∙ a.query;
 }
 
+-- why a client stopped that is found in use is so still, and where it had not stopped it is that it is in use
+ends_in_use : (o : Opening) (held : ℕ → Type 0) (s t : Standing) (rest : List Act) (stopped : Option ShareFault) → IsInUse o s (suc s.counter) t → Ends held s rest stopped
+    → Ends held t rest (option_or stopped (Some (ClientInUse (suc s.counter))))
+ends_in_use o held s t rest None in_use h = (stops_in_use o s t (suc s.counter) in_use).1
+ends_in_use o held s t rest (Some fault) in_use h = stays fault h
+  where
+    stays : (fault : ShareFault) → StopsAt held s rest fault → StopsAt held t rest fault
+    stays (Core fault) h = h
+    stays (ClientInUse number) h = subst (λ n. (n ≡ suc t.counter) × HasCall t.seen t.number n) (sym h.0) (stops_in_use o s t (suc s.counter) in_use).1
+    stays (Held client) h = (h.0 ∙ sym in_use.sees.same, h.1, h.2)
+    stays Closed h = h
+
+-- a client that is found in use has stopped
+is_stopped : (stopped : Option ShareFault) (fault : ShareFault) → is_some (option_or stopped (Some fault)) ≡ true
+is_stopped None fault = refl
+is_stopped (Some other) fault = refl
+
 -- what a client did is so still where its report is settled, which says then that it shares the history, or is in use
 did_settled : {J : Type 0} (o : Opening) (may_hold : ℕ → ℕ → Type 0) (s : Standing) (acts : List Act) (history : List Op) (old new : Report J) → Did o may_hold s acts old → Settles o history old new → Did o may_hold s acts new × IsWithin o history new
 did_settled {J} o may_hold s acts history old new d (inl h) = (
   subst (λ (r : Report J). Did o may_hold s acts r) (sym h.same) d,
-  subst (λ (r : Report J). IsWithin o history r) (sym h.same) (record { inside = h.is_in.inside; alone = inr h.is_in.alone }),
+  subst (λ (r : Report J). IsWithin o history r) (sym h.same) (record { inside = h.is_in.inside; alone = inl h.is_in.alone }),
 )
 did_settled {J} o may_hold s acts history old new d (inr h) = (
   record {
@@ -45,13 +63,13 @@ did_settled {J} o may_hold s acts history old new d (inr h) = (
     last = d.last;
     runs = subst (λ (v : Vec Reply). RunsTo o s d.done v.items d.last) (sym h.replies) d.runs;
     since = sees_on o d.last old.client new.client d.since h.in_use.sees;
-    ends = subst (λ (x : Option ShareFault). Ends (λ client. may_hold client (length d.done)) new.client d.rest x) (sym h.stopped) holds;
+    ends = subst (λ (x : Option ShareFault). Ends (λ client. may_hold client (length d.done)) new.client d.rest x) (sym h.stopped) (ends_in_use o (λ client. may_hold client (length d.done)) old.client new.client d.rest old.stopped h.in_use d.ends);
   },
-  record { inside = subst (λ (l : List Op). IsPrefix l history) (sym h.seen) (prefix_self history); alone = inl (suc old.client.counter, h.stopped) },
+  record { inside = subst (λ (l : List Op). IsPrefix l history) (sym h.seen) (prefix_self history); alone = inr (ap is_some h.stopped ∙ is_stopped old.stopped (ClientInUse (suc old.client.counter)), h.seen, holds) },
 )
   where
-    holds : (suc old.client.counter ≡ suc new.client.counter) × HasCall new.client.seen new.client.number (suc old.client.counter)
-    holds = (ap suc (sym h.in_use.sees.counted), subst (λ n. HasCall new.client.seen n (suc old.client.counter)) (sym h.in_use.sees.same) h.in_use.holds)
+    holds : HasCall history new.client.number (suc new.client.counter)
+    holds = let in_use = (stops_in_use o old.client new.client (suc old.client.counter) h.in_use).1 in subst (λ n. HasCall history new.client.number n) in_use.0 (subst (λ (l : List Op). HasCall l new.client.number (suc old.client.counter)) h.seen in_use.1)
 
 -- The reports of all clients, from what each worker did and what was found after the joins.
 pub are_reports : {A J : Type 0} (o : Opening) (may_hold : ℕ → ℕ → Type 0) (history : List Op) (client : A → Standing) (acts : A → Vec Act) (jobs : List A) (before after : List (Report J)) (clients : List Standing) (lists : List (Vec Act))
@@ -95,7 +113,7 @@ joint {J} o may_hold clients lists reports out all none given = record {
         let went_on : r.stopped ≡ None = subst (λ (x : Report J). x.stopped ≡ None) (get_or_from_slice_get reports i r r r_at) (All-get_or (λ (x : Report J). x.stopped ≡ None) reports i r (slice_get_within reports i r r_at) none) in
         let nothing_left : did.rest ≡ [] = subst (λ (x : Option ShareFault). Ends (λ client. may_hold client (length did.done)) r.client did.rest x) went_on did.ends in
         let did_all : did.done ≡ list.items = sym (did.in_order ∙ ap (λ rest. did.done ++ rest) nothing_left ∙ append-nil did.done) in
-        let alone : calls_at o all.history r.client.number ≡ Some r.client.counter = ⊎_elim (λ (x : (number : ℕ) × (r.stopped ≡ Some (ClientInUse number))). let apart : Some (ClientInUse x.0) ≡ None = sym x.1 ∙ went_on in absurd (cc)) (λ e. e) within.alone in (
+        let alone : calls_at o all.history r.client.number ≡ Some r.client.counter = ⊎_elim (λ e. e) (λ (x : IsFoundInUse all.history r). let apart : true ≡ is_some {T = ShareFault} None = sym x.0 ∙ ap is_some went_on in absurd (cc)) within.alone in (
           r.replies,
           ap (λ (l : List (Vec Reply)). slice_get l i) given ∙ mapped (λ x. x.replies) reports i r r_at,
           record {
@@ -106,38 +124,17 @@ joint {J} o may_hold clients lists reports out all none given = record {
           },
         )
 
--- the next act of a client
-has_turn : (lists : List (Vec Act)) (place : ℕ) (list : Vec Act) (done : List Act) (act : Act) (more : List Act) → slice_get lists place ≡ Some list → list.items ≡ done ++ act ∷ more → HasTurn lists (suc place) (length done) act
-has_turn lists place list done act more there in_order = record {
-  place = place;
-  number = refl;
-  list = list;
-  there = there;
-  at_turn = ap (λ (l : List Act). slice_get l (length done)) in_order ∙ behind done more act;
-}
-
--- why a client stopped is why the run is refused
-run_stops : (may_hold : ℕ → ℕ → Type 0) (lists : List (Vec Act)) (place : ℕ) (list : Vec Act) (now : Standing) (done rest : List Act) (fault : ShareFault)
-    → slice_get lists place ≡ Some list → list.items ≡ done ++ rest → now.number ≡ suc place → StopsAt (λ client. may_hold client (length done)) now rest fault → Stops may_hold lists fault
-run_stops may_hold lists place list now done rest (Core why) there in_order number h = h.0
-run_stops may_hold lists place list now done rest (ClientInUse n) there in_order number h = tt
-run_stops may_hold lists place list now done [] (Held client) there in_order number h = absurd (omega (arith, h.1))
-run_stops may_hold lists place list now done (act ∷ more) (Held client) there in_order number h =
-    (length done, act, subst (λ n. HasTurn lists n (length done) act) (sym (h.0 ∙ number)) (has_turn lists place list done act more there in_order), h.2)
-run_stops may_hold lists place list now done [] Closed there in_order number h = absurd h
-run_stops may_hold lists place list now done (act ∷ more) Closed there in_order number h = (suc place, length done, act, has_turn lists place list done act more there in_order, h)
-
--- Why a run of new clients is refused, by what stopped the first of them that did.
-pub first_stops : {J : Type 0} (o : Opening) (may_hold : ℕ → ℕ → Type 0) (clients : ℕ) (lists : List (Vec Act)) (reports : List (Report J)) (fault : ShareFault)
-    → AreReports o may_hold (newcomers clients) lists reports → length lists ≡ clients → IsFirstStopped reports fault → Stops may_hold lists fault
+-- Why the first of these clients stopped that did, as each client may stop: with these acts left, and held only where its gate may hold it.
+pub first_stops : {J : Type 0} (o : Opening) (may_hold : ℕ → ℕ → Type 0) (clients : List Standing) (lists : List (Vec Act)) (reports : List (Report J)) (fault : ShareFault)
+    → AreReports o may_hold clients lists reports → length lists ≡ length clients → IsFirstStopped reports fault → (s : Standing) × (rest : List Act) × (turn : ℕ) × StopsAt (λ client. may_hold client turn) s rest fault
 first_stops {J} o may_hold clients lists reports fault all many first =
     let place : ℕ = length first.before in
     let here : slice_get reports place ≡ Some first.report = ap (λ (l : List (Report J)). slice_get l place) first.in_order ∙ behind first.before first.after first.report in
-    let short : place < clients = omega (arith, slice_get_within reports place first.report here, all.reported, length-newcomers clients) in
+    let short : place < length clients = omega (arith, slice_get_within reports place first.report here, all.reported) in
+    let client = there clients place short in
     let list = there lists place (omega (arith, short, many)) in
-    let (r, r_at, did, within) = all.each place (newcomer (suc place)) list.0 (newcomer_at clients place short) list.1 in
+    let (r, r_at, did, within) = all.each place client.0 list.0 client.1 list.1 in
     let found : Some r ≡ Some first.report = sym r_at ∙ here in
     let same : r ≡ first.report = cc in
     let stopped : r.stopped ≡ Some fault = ap (λ (x : Report J). x.stopped) same ∙ first.stopped in
-    let why = subst (λ (x : Option ShareFault). Ends (λ client. may_hold client (length did.done)) r.client did.rest x) stopped did.ends in
-    run_stops may_hold lists place list.0 r.client did.done did.rest fault list.1 did.in_order (did.since.same ∙ same_number o (newcomer (suc place)) did.last did.done r.replies.items did.runs) why
+    (r.client, did.rest, length did.done, subst (λ (x : Option ShareFault). Ends (λ client. may_hold client (length did.done)) r.client did.rest x) stopped did.ends)

@@ -30,9 +30,10 @@ acts_of client events = map (λ event. event.act) (filter (λ event. event.clien
 abbrev pub part_of : ℕ → List Answered → List Answered
 part_of client run = filter (λ answered. answered.event.client == client) run
 
--- The run has each act of each client once, in the client's order, with the reply that the client got, and nothing else. The
--- first lists are those of client 1.
+-- The run has each act of each client once, in the client's order, with the reply that the client got, and nothing else. There is
+-- a list of replies for each list of acts, and the first lists are those of client 1.
 pub record IsInterleaving (acts : List (Vec Act)) (told : List (Vec Reply)) (run : List Answered) : Type 0 where
+  pub lists : length told ≡ length acts
   pub acts_in_order : (place : ℕ) (list : Vec Act) → slice_get acts place ≡ Some list → acts_of (suc place) (events_of run) ≡ list.items
   pub replies_in_order : (place : ℕ) (list : Vec Reply) → slice_get told place ≡ Some list → replies_of (part_of (suc place) run) ≡ list.items
   pub nobody_else : All (λ answered. (0 < answered.event.client) × (answered.event.client ≤ length acts)) run

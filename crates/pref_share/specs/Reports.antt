@@ -1,17 +1,17 @@
 -- What is reported of clients that ran acts on threads, and why a run is refused. (this project)
-use Rattle.std.specs.Prelude.{◌≡◌, ℕ, suc, List, [], ◌++◌, length, slice_get, Option, Some, None, ◌⊎◌}
+use Rattle.std.specs.Prelude.{◌≡◌, ℕ, suc, true, List, [], ◌∷◌, ◌++◌, length, All, slice_get, Option, Some, None, is_some, ◌⊎◌}
 use Rattle.std.specs.Global.{Vec}
 use mathlib.Core.List.{IsPrefix}
 use Rattle.pref_core.specs.declared.call.Op.{Op}
 use Rattle.pref_core.specs.declared.event.Act.{Act}
 use Rattle.pref_core.specs.declared.fault.CoreFault.TheVariants.{OutOfMemory}
 use Rattle.pref_share.specs.declared.fault.ShareFault.{ShareFault}
-use Rattle.pref_share.specs.declared.fault.ShareFault.TheVariants.{Core, ClientInUse, Held, Closed}
+use Rattle.pref_share.specs.declared.fault.ShareFault.TheVariants.{Core}
 use Rattle.pref_share.specs.declared.run.Report.{Report}
-use Rattle.pref_share.specs.Openings.{Opening, IsLegalFrom, calls_at}
+use Rattle.pref_share.specs.Openings.{Opening, IsLegalFrom, HasCall, calls_at}
 use Rattle.pref_share.specs.Standing.{Standing}
 use Rattle.pref_share.specs.Clients.{Sees}
-use Rattle.pref_share.specs.Runs.{RunsTo, StopsAt, call_of}
+use Rattle.pref_share.specs.Runs.{RunsTo, StopsAt}
 
 -- the client did all its acts, or this is why it stopped
 abbrev pub Ends : (ℕ → Type 0) → Standing → List Act → Option ShareFault → Type 0
@@ -29,10 +29,14 @@ pub record Did {J : Type 0} (o : Opening) (may_hold : ℕ → ℕ → Type 0) (s
   pub since : Sees o last report.client
   pub ends : Ends (λ client. may_hold client (length done)) report.client rest report.stopped
 
+-- The client is in use: it stopped, and has seen the whole history, which holds its next call, though it has not made it.
+abbrev pub IsFoundInUse : {J : Type 0} → List Op → Report J → Type 0
+IsFoundInUse history report = (is_some report.stopped ≡ true) × (report.client.seen ≡ history) × HasCall history report.client.number (suc report.client.counter)
+
 -- The client has seen a beginning of the history, which holds just the calls that it made, unless it is in use.
 pub record IsWithin {J : Type 0} (o : Opening) (history : List Op) (report : Report J) : Type 0 where
   pub inside : IsPrefix report.client.seen history
-  pub alone : ((number : ℕ) × (report.stopped ≡ Some (ClientInUse number))) ⊎ (calls_at o history report.client.number ≡ Some report.client.counter)
+  pub alone : (calls_at o history report.client.number ≡ Some report.client.counter) ⊎ IsFoundInUse history report
 
 -- What came of the acts of all clients, one list for each: there is one legal history of which all have seen a beginning.
 pub record AreReports {J : Type 0} (o : Opening) (may_hold : ℕ → ℕ → Type 0) (clients : List Standing) (acts : List (Vec Act)) (reports : List (Report J)) : Type 0 where
@@ -42,18 +46,15 @@ pub record AreReports {J : Type 0} (o : Opening) (may_hold : ℕ → ℕ → Typ
   pub each : (i : ℕ) (client : Standing) (list : Vec Act) → slice_get clients i ≡ Some client → slice_get acts i ≡ Some list
       → (report : Report J) × (slice_get reports i ≡ Some report) × Did o may_hold client list.items report × IsWithin o history report
 
--- Client `client` has this act at this turn. The first list is that of client 1.
-pub record HasTurn (lists : List (Vec Act)) (client turn : ℕ) (act : Act) : Type 0 where
-  pub place : ℕ
-  pub number : client ≡ suc place
-  pub list : Vec Act
-  pub there : slice_get lists place ≡ Some list
-  pub at_turn : slice_get list.items turn ≡ Some act
+-- why the first of these clients stopped that did not do all its acts
+pub record IsFirstStopped {J : Type 0} (reports : List (Report J)) (fault : ShareFault) : Type 0 where
+  pub before : List (Report J)
+  pub report : Report J
+  pub after : List (Report J)
+  pub in_order : reports ≡ before ++ report ∷ after
+  pub went_on : All (λ r. r.stopped ≡ None) before
+  pub stopped : report.stopped ≡ Some fault
 
--- Why a run of these lists is refused: out of memory, at a turn at which the gate may hold its client, or closed, where one of the acts
--- is no numbered call. That a client is in use is said by its report alone.
-abbrev pub Stops : (ℕ → ℕ → Type 0) → List (Vec Act) → ShareFault → Type 0
-Stops may_hold lists (Core fault) = fault ≡ OutOfMemory
-Stops may_hold lists (ClientInUse number) = Unit {0}
-Stops may_hold lists (Held client) = (turn : ℕ) × (act : Act) × HasTurn lists client turn act × may_hold client turn
-Stops may_hold lists Closed = (client turn : ℕ) × (act : Act) × HasTurn lists client turn act × (call_of act ≡ None)
+-- Why a run is refused that gives no reports: out of memory; or there are right reports, and the first client stopped for this that stopped.
+abbrev pub RefusesRun : (J : Type 0) → Opening → (ℕ → ℕ → Type 0) → List Standing → List (Vec Act) → ShareFault → Type 0
+RefusesRun J o may_hold clients acts fault = (fault ≡ Core OutOfMemory) ⊎ ((reports : List (Report J)) × AreReports o may_hold clients acts reports × IsFirstStopped reports fault)

@@ -1,9 +1,9 @@
 -- No public contract cites this.
 -- What the parts of a run know of its jobs and its reports.
-use Rattle.std.specs.Prelude.{◌≡◌, suc, ◌≤◌, List, [], ◌∷◌, ◌++◌, All, Some, None, vec_len, ◌⊎◌}
+use Rattle.std.specs.Prelude.{◌≡◌, suc, ◌≤◌, List, [], Some, vec_len, ◌⊎◌}
+use Rattle.std.specs.Option.{option_or}
 use Rattle.std.specs.Vec.{vec_capacity}
 use Rattle.pref_core.specs.declared.call.Op.{Op}
-use Rattle.pref_share.specs.declared.fault.ShareFault.{ShareFault}
 use Rattle.pref_share.specs.declared.fault.ShareFault.TheVariants.{ClientInUse}
 use Rattle.pref_share.specs.declared.run.Job.{Job}
 use Rattle.pref_share.specs.declared.run.Report.{Report}
@@ -21,22 +21,13 @@ pub record Stays {J : Type 0} (o : Opening) (history : List Op) (old new : Repor
   pub same : new ≡ old
   pub is_in : IsIn o history old.client
 
--- its client is in use
+-- its client is in use, which is reported where it had not stopped
 pub record TurnsInUse {J : Type 0} (o : Opening) (history : List Op) (old new : Report J) : Type 0 where
   pub replies : new.replies ≡ old.replies
-  pub stopped : new.stopped ≡ Some (ClientInUse (suc old.client.counter))
+  pub stopped : new.stopped ≡ option_or old.stopped (Some (ClientInUse (suc old.client.counter)))
   pub in_use : IsInUse o old.client (suc old.client.counter) new.client
   pub seen : new.client.seen ≡ history
 
 -- what becomes of a report by the whole history
 abbrev pub Settles : {J : Type 0} → Opening → List Op → Report J → Report J → Type 0
 Settles o history old new = Stays o history old new ⊎ TurnsInUse o history old new
-
--- why the first of these clients stopped that did
-pub record IsFirstStopped {J : Type 0} (reports : List (Report J)) (fault : ShareFault) : Type 0 where
-  pub before : List (Report J)
-  pub report : Report J
-  pub after : List (Report J)
-  pub in_order : reports ≡ before ++ report ∷ after
-  pub went_on : All (λ r. r.stopped ≡ None) before
-  pub stopped : report.stopped ≡ Some fault

@@ -8,8 +8,8 @@ ghost use Rattle.pref_share.specs.Openings.{IsLegalFrom};
 ghost use Rattle.pref_share.specs.Standing.{newcomers};
 ghost use Rattle.pref_share.specs.Runs.{IsJointRun};
 ghost use Rattle.pref_share.specs.Interleavings.{IsSequential};
-ghost use Rattle.pref_share.specs.Reports.{AreReports, Did, Stops};
-ghost use Rattle.pref_share.specs.Settling.{HasRoom, Settles, IsFirstStopped};
+ghost use Rattle.pref_share.specs.Reports.{AreReports, Did, IsFirstStopped, RefusesRun};
+ghost use Rattle.pref_share.specs.Settling.{HasRoom, Settles};
 
 use crate::board::Board;
 use crate::book::Naming;
@@ -115,7 +115,7 @@ pub fn run_all<J: Naming + Send + Sync, R: Threads + Wait + Sync, G: Gate + Sync
     requires lists { vec_len acts ≡ vec_len clients }
     ensures joint { IfOk result (λ replies. IsJointRun J.opening clients.items acts.items replies.items) }
     ensures sequential { IfOk result (λ replies. IsSequential J.opening acts.items replies.items) }
-    ensures refused { IfErr result (Stops (G.may_hold gate.now) acts.items) }
+    ensures refused { IfErr result (RefusesRun J J.opening (G.may_hold gate.now) clients.items acts.items) }
 {
     let reports = run_each(rt, alloc, board, clients, acts, gate)?;
     let replies = replies_of(alloc, reports)?;
@@ -228,13 +228,13 @@ fn settle_each<J: Naming>(master: &mut Master<J>, reports: &mut [Report<J>])
     }
 }
 
-/// A client is in use where the whole history holds a call of it that it has not made, and else as reported.
+/// A client is in use where the whole history holds a call of it that it has not made. That is reported where it has not stopped.
 fn settle<J: Naming>(master: &mut Master<J>, report: &mut Report<J>)
     ensures same { master.new ≡ master.old }
     ensures settled { Settles J.opening master.old report.old report.new }
 {
     if let Err(fault) = report.client.settle(master) {
-        report.stopped = Some(fault);
+        report.stopped = report.stopped.or(Some(fault));
     }
 }
 

@@ -1,11 +1,12 @@
-use Rattle.std.proofs.Common.{◌≡◌, ℕ, List, Err, IfErr, ⊎_elim, ap, arith, length, refl, rules, subst, sym}
+use Rattle.std.proofs.Common.{◌≡◌, ℕ, List, Err, IfErr, ⊎_elim, ap, arith, inl, inr, length, rules, subst, sym}
 use Rattle.pref_core.specs.declared.fault.CoreFault.TheVariants.{OutOfMemory}
+use Rattle.pref_share.specs.declared.fault.ShareFault.{ShareFault}
 use Rattle.pref_share.specs.declared.fault.ShareFault.TheVariants.{Core}
-use Rattle.pref_share.specs.Reports.{AreReports, Stops}
+use Rattle.pref_share.specs.Reports.{IsFirstStopped, RefusesRun}
 use Rattle.pref_share.specs.Runs.{IsJointRun}
 use Rattle.pref_share.specs.Standing.{Standing}
 use Rattle.pref_share.proofs.Interleavings.{joint_runs_are_sequential, length-newcomers}
-use Rattle.pref_share.proofs.Reporting.{first_stops, joint}
+use Rattle.pref_share.proofs.Reporting.{joint}
 use Rattle.pref_share.proofs.run.run_all.Goals as goal
 
 pub returns-clause-joint : goal.returns-clause-joint
@@ -23,11 +24,8 @@ pub returns-in_err-replies-clause-refused : goal.returns-in_err-replies-clause-r
 returns-in_err-replies-clause-refused g c =
     let o = g.J.Naming.opening in
     let may_hold : ℕ → ℕ → Type 0 = g.G.Gate.may_hold c.args.gate.now in
-    let lists = c.args.acts.items in
-    let reports = c.in_ok-reports.reports.items in
+    let Refused : ShareFault → Type 0 = RefusesRun g.row.J.Denot o may_hold c.args.clients.items c.args.acts.items in
     let fault = c.in_err-replies.field-0.0 in
-    let many : length lists ≡ o.limits.clients = omega (arith, c.args.acts.ok.0, c.args.clients.ok.0, c.requires.lists, ap length c.requires.clients, length-newcomers o.limits.clients) in
-    let all = subst (λ (clients : List Standing). AreReports o may_hold clients lists reports) c.requires.clients c.in_ok-reports.ensures in
-    let stops : Stops may_hold lists fault = ⊎_elim (first_stops o may_hold o.limits.clients lists reports fault all many) (λ (memory : fault ≡ Core OutOfMemory). subst (Stops may_hold lists) (sym memory) refl) c.in_err-replies.ensures.first in
+    let refused : Refused fault = ⊎_elim (λ (first : IsFirstStopped c.in_ok-reports.reports.items fault). inr (c.in_ok-reports.reports.items, c.in_ok-reports.ensures, first)) (λ (memory : fault ≡ Core OutOfMemory). inl memory) c.in_err-replies.ensures.first in
     let is : c.from_residual-in_err-replies.result ≡ Err fault = search rules in
-    subst (λ r. IfErr r (Stops may_hold lists)) (sym is) stops
+    subst (λ r. IfErr r Refused) (sym is) refused
