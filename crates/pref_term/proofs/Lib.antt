@@ -1,6 +1,6 @@
 pub mod Sizes
 pub mod WalkLaws
-pub mod FactorLaws
+pub mod KeyLaws
 pub mod SignatureWords
 pub mod SignatureLaws
 pub mod WorkedTerms

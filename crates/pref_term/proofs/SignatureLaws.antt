@@ -1,173 +1,112 @@
 -- Of two rows of which the first is over the second, or its twin, the first reaches no mark that the second does not reach.
-use Rattle.std.proofs.Common.{◌≡◌, ℕ, ℤ, List, [], ◌∷◌, Bool, true, false, map, not, inl, inr, refl, sym, ap, ◌∙◌, subst, arith, eqb-true, pos}
-use Rattle.std.specs.Prelude.{bit_and, int_lt, neg_ℤ, ◌-ℤ◌, unsigned_abs, ◌&&◌, ◌||◌, ◌==◌, if◌then◌else◌}
-use Rattle.std.specs.List.{flat_map, list_all, list_any}
+use Rattle.std.proofs.Common.{◌≡◌, ℕ, ℤ, pos, List, [], ◌∷◌, Bool, true, false, map, not, inl, inr, refl, sym, ap, ◌∙◌, subst, arith, if◌then◌else◌}
+use Rattle.std.specs.Prelude.{All, bit_and, int_lt, ◌==◌}
+use Rattle.std.specs.List.{flat_map}
 use Rattle.std.specs.Ordering.{int_eq}
 use Rattle.std.proofs.lemmas.Bool.{false≢true}
 use Rattle.std.proofs.lemmas.Bool.Decides.{Decides-int_eq}
 use Rattle.std.proofs.lemmas.Int.{ints}
+use Rattle.std.proofs.lemmas.List.Elements.{All-append, All-cons, All-contains, All-nil}
 use Rattle.pref_term.specs.AskOrder.{order_of}
-use Rattle.pref_term.specs.Better.{better, in_same_group, cell, outside, same, score}
-use Rattle.pref_term.specs.Factors.{opposite}
-use Rattle.pref_term.specs.Leading.{is_by_distance, is_by_value, leads, measures_base, scale_leads, suits}
-use Rattle.pref_term.specs.OrderLaws.{and_parts, better_order, or_parts}
-use Rattle.pref_term.specs.Preference.{Base, low, high, around, between, one_of, layered, Preference, scored, pareto, prior, reverse}
+use Rattle.pref_term.specs.Better.{better, in_same_group, cell, same}
+use Rattle.pref_term.specs.Keys.{from_zero, key_for, keyed, leading, opposed}
+use Rattle.pref_term.specs.Leading.{Suits}
+use Rattle.pref_term.specs.Order.{is_better, is_same}
+use Rattle.pref_term.specs.OrderLaws.{and_parts}
+use Rattle.pref_term.specs.Preference.{Preference, scored, pareto, prior, reverse}
 use Rattle.pref_term.specs.Question.{Question}
-use Rattle.pref_term.specs.Signatures.{Suit, bits_by, hash, lowered, measure_column, measured, opposed, scale_column}
+use Rattle.pref_term.specs.Signatures.{Suit, bits_by, is_within, mixed, scale_column, signature}
 use Rattle.pref_term.specs.TwinLaws.{twins_alike}
-use Rattle.pref_term.specs.declared.factor.Sense.{Sense}
-use Rattle.pref_term.specs.declared.factor.Sense.TheVariants.{Direct, Reversed}
-use Rattle.pref_term.specs.declared.signature.measure.Measure.{Measure}
-use Rattle.pref_term.specs.declared.signature.measure.Measure.TheVariants.{Low, High, Near, Far}
+use Rattle.pref_term.specs.Walk.{by_scores, in_priority, in_product, walked}
+use Rattle.pref_term.specs.declared.key.Key.{Key}
+use Rattle.pref_term.specs.declared.relation.Relation.{Relation}
+use Rattle.pref_term.specs.declared.relation.Relation.TheVariants.{Better, Worse, Same, Neither}
 use Rattle.pref_term.specs.declared.signature.scale.Scale.{Scale}
 use Rattle.pref_term.specs.declared.signature.scale.Scale.TheVariants.{Marks, Hashes}
+use Rattle.pref_term.proofs.KeyLaws.{directed, directed_priority, directed_product, directed_reverse, key_law}
 use Rattle.pref_term.proofs.SignatureWords.{Implied, implied_flat, implied_itself, implied_map, signed_within}
+use Rattle.pref_term.proofs.WalkLaws.{walked-better, walked-same}
 
--- in this sense the second row measures no less than the first, in the other sense no more
-Keeps : Sense → Measure → List ℤ → List ℤ → Type 0
-Keeps Direct m a b = int_lt (measured m b) (measured m a) ≡ false
-Keeps Reversed m a b = int_lt (measured m a) (measured m b) ≡ false
+-- ---- rows of which the first is better, or the same
 
-turn : (s : Sense) (m : Measure) (a b : List ℤ) → Keeps (opposite s) m b a → Keeps s m a b
-unfolding Keeps
-turn Direct m a b h = h
-turn Reversed m a b h = h
+fits : Relation → Bool
+fits Better = true
+fits Worse = false
+fits Same = true
+fits Neither = false
 
--- ---- one base term, of which the second row does not score lower
+better_fits : (r : Relation) → is_better r ≡ true → fits r ≡ true
+unfolding fits
+better_fits Better h = refl
+better_fits Worse h = h
+better_fits Same h = refl
+better_fits Neither h = h
 
-flipped : (x y : ℤ) → int_lt y x ≡ false → int_lt (opposed x) (opposed y) ≡ false
-flipped x y h = grind (arith, ints)
+same_fits : (r : Relation) → is_same r ≡ true → fits r ≡ true
+unfolding fits
+same_fits Better h = refl
+same_fits Worse h = h
+same_fits Same h = refl
+same_fits Neither h = h
 
-shifted : (x y : ℤ) → int_lt y x ≡ false → int_lt (lowered y) (lowered x) ≡ false
-shifted x y h = grind (arith, ints)
+product_fits : (r s : Relation) → fits (in_product r s) ≡ true → (fits r ≡ true) × (fits s ≡ true)
+unfolding fits
+product_fits Better Better h = (refl, refl)
+product_fits Better Worse h = (refl, h)
+product_fits Better Same h = (refl, refl)
+product_fits Better Neither h = (refl, h)
+product_fits Worse Better h = (h, refl)
+product_fits Worse Worse h = (h, h)
+product_fits Worse Same h = (h, refl)
+product_fits Worse Neither h = (h, h)
+product_fits Same s h = (refl, h)
+product_fits Neither s h = absurd (false≢true h)
 
-by_value : (s : Sense) (col : ℕ) (m : Measure) (a b : List ℤ) → is_by_value col s m ≡ true → int_lt (cell b col) (cell a col) ≡ false → Keeps s m a b
-unfolding Keeps
-by_value Direct col (Low c) a b is above = subst (λ k. int_lt (cell b k) (cell a k) ≡ false) (sym (eqb-true c col is)) above
-by_value Reversed col (High c) a b is above =
-    flipped (cell a c) (cell b c) (subst (λ k. int_lt (cell b k) (cell a k) ≡ false) (sym (eqb-true c col is)) above)
-by_value Direct col (High c) a b is above = absurd (false≢true is)
-by_value Direct col (Near c l r) a b is above = absurd (false≢true is)
-by_value Direct col (Far c l r) a b is above = absurd (false≢true is)
-by_value Reversed col (Low c) a b is above = absurd (false≢true is)
-by_value Reversed col (Near c l r) a b is above = absurd (false≢true is)
-by_value Reversed col (Far c l r) a b is above = absurd (false≢true is)
+priority_fits : (r s : Relation) → fits (in_priority r s) ≡ true → fits r ≡ true
+unfolding fits
+priority_fits Better s h = refl
+priority_fits Worse s h = h
+priority_fits Same s h = refl
+priority_fits Neither s h = h
 
--- the same range, and the same column
-same_range : (c col : ℕ) (l left r right : ℤ) (a b : List ℤ) → ((c == col) && (int_eq l left && int_eq r right)) ≡ true → int_lt (outside left right (cell b col)) (outside left right (cell a col)) ≡ false → int_lt (outside l r (cell b c)) (outside l r (cell a c)) ≡ false
-same_range c col l left r right a b is above =
-    let parts = and_parts (c == col) (int_eq l left && int_eq r right) is in
-    let ends = and_parts (int_eq l left) (int_eq r right) parts.1 in
-    let at : c ≡ col = eqb-true c col parts.0 in
-    let first : l ≡ left = (Decides-int_eq l left).0 ends.0 in
-    let last : r ≡ right = (Decides-int_eq r right).0 ends.1 in
-    (λ i. int_lt (outside (first i) (last i) (cell b (at i))) (outside (first i) (last i) (cell a (at i)))) ∙ above
+no_lower : (x y : ℤ) → int_lt x y ≡ true → int_lt y x ≡ false
+no_lower x y h = grind (arith, ints)
 
-by_distance : (s : Sense) (col : ℕ) (left right : ℤ) (m : Measure) (a b : List ℤ) → is_by_distance col left right s m ≡ true → int_lt (outside left right (cell b col)) (outside left right (cell a col)) ≡ false → Keeps s m a b
-unfolding Keeps
-by_distance Direct col left right (Near c l r) a b is above =
-    shifted (outside l r (cell a c)) (outside l r (cell b c)) (same_range c col l left r right a b is above)
-by_distance Reversed col left right (Far c l r) a b is above =
-    flipped (lowered (outside l r (cell a c))) (lowered (outside l r (cell b c)))
-    (shifted (outside l r (cell a c)) (outside l r (cell b c)) (same_range c col l left r right a b is above))
-by_distance Direct col left right (Low c) a b is above = absurd (false≢true is)
-by_distance Direct col left right (High c) a b is above = absurd (false≢true is)
-by_distance Direct col left right (Far c l r) a b is above = absurd (false≢true is)
-by_distance Reversed col left right (Low c) a b is above = absurd (false≢true is)
-by_distance Reversed col left right (High c) a b is above = absurd (false≢true is)
-by_distance Reversed col left right (Near c l r) a b is above = absurd (false≢true is)
-
-turned : (x y : ℤ) → int_lt (neg_ℤ y) (neg_ℤ x) ≡ false → int_lt x y ≡ false
-turned x y h = grind (arith, ints)
-
--- a distance from a centre is one from a range of one value
-below_centre : (c v : ℤ) → int_lt v c ≡ true → (c -ℤ v) ≡ pos (unsigned_abs (v -ℤ c))
-below_centre c v h = grind (arith, ints)
-
-above_centre : (c v : ℤ) → int_lt v c ≡ false → int_lt c v ≡ true → (v -ℤ c) ≡ pos (unsigned_abs (v -ℤ c))
-above_centre c v h k = grind (arith, ints)
-
-at_centre : (c v : ℤ) → int_lt v c ≡ false → int_lt c v ≡ false → pos 0 ≡ pos (unsigned_abs (v -ℤ c))
-at_centre c v h k = grind (arith, ints)
-
-centred : (c v : ℤ) → outside c c v ≡ pos (unsigned_abs (v -ℤ c))
-centred c v = go (int_lt v c) (int_lt c v) refl refl
+scores_fit : (x y : ℤ) → fits (by_scores x y) ≡ true → int_lt y x ≡ false
+unfolding fits
+scores_fit x y h = go (int_lt x y) (int_lt y x) refl refl h
   where
-    go : (p q : Bool) → int_lt v c ≡ p → int_lt c v ≡ q → (if p then c -ℤ v else if q then v -ℤ c else pos 0) ≡ pos (unsigned_abs (v -ℤ c))
-    go true q e f = below_centre c v e
-    go false true e f = above_centre c v e f
-    go false false e f = at_centre c v e f
+    go : (p q : Bool) → int_lt x y ≡ p → int_lt y x ≡ q → fits (if p then Better else if q then Worse else Same) ≡ true → int_lt y x ≡ false
+    go true q e f h = no_lower x y e
+    go false true e f h = absurd (false≢true h)
+    go false false e f h = f
 
-base_keeps : (t : Base) (s : Sense) (m : Measure) (a b : List ℤ) → measures_base t s m ≡ true → int_lt (score t b) (score t a) ≡ false → Keeps s m a b
-base_keeps (low col) s m a b is above = by_value s col m a b is above
-base_keeps (high col) s m a b is above = turn s m a b (by_value (opposite s) col m b a is (turned (cell a col) (cell b col) above))
-base_keeps (around col centre) s m a b is above =
-    by_distance s col centre centre m a b is ((λ i. int_lt (centred centre (cell b col) i) (centred centre (cell a col) i)) ∙ above)
-base_keeps (between col left right) s m a b is above = by_distance s col left right m a b is above
-base_keeps (one_of col set) s m a b is above = absurd (false≢true is)
-base_keeps (layered col sets) s m a b is above = absurd (false≢true is)
+-- the second row has no smaller key
+Keeps : List ℤ → List ℤ → Key → Type 0
+Keeps a b k = int_lt (keyed k b) (keyed k a) ≡ false
 
--- ---- a preference
-
-lower : (x y : ℤ) → int_lt x y ≡ true → int_lt y x ≡ false
-lower x y h = grind (arith, ints)
-
-level : (x y : ℤ) → int_eq x y ≡ true → int_lt y x ≡ false
-level x y h = grind (arith, ints)
-
-same_keeps : (p : Preference) (s : Sense) (m : Measure) (a b : List ℤ) → leads p s m ≡ true → same p a b ≡ true → Keeps s m a b
-same_keeps (scored t) s m a b is h = base_keeps t s m a b is (level (score t a) (score t b) h)
-same_keeps (pareto p q) s m a b is h =
-    let both = and_parts (same p a b) (same q a b) h in
-    elim (or_parts (leads p s m) (leads q s m) is) [ inl x ↦ same_keeps p s m a b x both.0 | inr x ↦ same_keeps q s m a b x both.1 ]
-same_keeps (prior p q) s m a b is h = same_keeps p s m a b is (and_parts (same p a b) (same q a b) h).0
-same_keeps (reverse p) s m a b is h = turn s m a b (same_keeps p (opposite s) m b a is ((better_order p).alike_back a b h))
-
-better_keeps : (p : Preference) (s : Sense) (m : Measure) (a b : List ℤ) → leads p s m ≡ true → better p a b ≡ true → Keeps s m a b
-better_keeps (scored t) s m a b is h = base_keeps t s m a b is (lower (score t a) (score t b) h)
-better_keeps (pareto p q) s m a b is h =
-    elim (or_parts (better p a b && (better q a b || same q a b)) (better q a b && (better p a b || same p a b)) h) [
-      | inl x ↦
-          let both = and_parts (better p a b) (better q a b || same q a b) x in
-          elim (or_parts (leads p s m) (leads q s m) is) [
-            | inl l ↦ better_keeps p s m a b l both.0
-            | inr l ↦ elim (or_parts (better q a b) (same q a b) both.1) [ inl y ↦ better_keeps q s m a b l y | inr y ↦ same_keeps q s m a b l y ]
-          ]
-      | inr x ↦
-          let both = and_parts (better q a b) (better p a b || same p a b) x in
-          elim (or_parts (leads p s m) (leads q s m) is) [
-            | inl l ↦ elim (or_parts (better p a b) (same p a b) both.1) [ inl y ↦ better_keeps p s m a b l y | inr y ↦ same_keeps p s m a b l y ]
-            | inr l ↦ better_keeps q s m a b l both.0
-          ]
-    ]
-better_keeps (prior p q) s m a b is h =
-    elim (or_parts (better p a b) (same p a b && better q a b) h) [
-      | inl x ↦ better_keeps p s m a b is x
-      | inr x ↦ same_keeps p s m a b is (and_parts (same p a b) (better q a b) x).0
-    ]
-better_keeps (reverse p) s m a b is h = turn s m a b (better_keeps p (opposite s) m b a is h)
+keep : (p : Preference) (s : Bool) (a b : List ℤ) → fits (directed s p a b) ≡ true → All (Keeps a b) (leading p s)
+unfolding Keeps
+keep (scored t) s a b h =
+    All-cons (Keeps a b) (key_for t s) [] (scores_fit (keyed (key_for t s) a) (keyed (key_for t s) b) (ap fits (key_law t s a b) ∙ h)) (All-nil (Keeps a b))
+keep (pareto p q) s a b h =
+    let parts = product_fits (directed s p a b) (directed s q a b) (sym (ap fits (directed_product s p q a b)) ∙ h) in
+    All-append (Keeps a b) (leading p s) (leading q s) (keep p s a b parts.0) (keep q s a b parts.1)
+keep (prior p q) s a b h = keep p s a b (priority_fits (directed s p a b) (directed s q a b) (sym (ap fits (directed_priority s p q a b)) ∙ h))
+keep (reverse p) s a b h = keep p (not s) a b (ap fits (directed_reverse s p a b) ∙ h)
 
 -- ---- a group
 
-group_cell : (group : List ℕ) (c : ℕ) (a b : List ℤ) → list_any (λ col. c == col) group ≡ true → in_same_group group a b ≡ true → cell a c ≡ cell b c
-group_cell [] c a b some h = absurd (false≢true some)
-group_cell (col ∷ cols) c a b some h =
+group_cells : (group : List ℕ) (a b : List ℤ) → in_same_group group a b ≡ true → All (λ c. cell a c ≡ cell b c) group
+group_cells [] a b h = All-nil (λ c. cell a c ≡ cell b c)
+group_cells (col ∷ cols) a b h =
     let both = and_parts (int_eq (cell a col) (cell b col)) (in_same_group cols a b) h in
-    elim (or_parts (c == col) (list_any (λ k. c == k) cols) some) [
-      | inl x ↦ subst (λ k. cell a k ≡ cell b k) (sym (eqb-true c col x)) ((Decides-int_eq (cell a col) (cell b col)).0 both.0)
-      | inr x ↦ group_cell cols c a b x both.1
-    ]
-
-measured_as : (m : Measure) (a b : List ℤ) → cell a (measure_column m) ≡ cell b (measure_column m) → measured m a ≡ measured m b
-measured_as (Low c) a b e = e
-measured_as (High c) a b e = ap opposed e
-measured_as (Near c l r) a b e = ap (λ x. lowered (outside l r x)) e
-measured_as (Far c l r) a b e = ap (λ x. opposed (lowered (outside l r x))) e
+    All-cons (λ c. cell a c ≡ cell b c) col cols ((Decides-int_eq (cell a col) (cell b col)).0 both.0) (group_cells cols a b both.1)
 
 bits_as : (scale : Scale) (a b : List ℤ) → cell a (scale_column scale) ≡ cell b (scale_column scale) → bits_by scale a ≡ bits_by scale b
-bits_as (Marks m marks) a b e = ap (λ x. map (λ mark. not (int_lt x mark)) marks.items) (measured_as m a b e)
+bits_as (Marks k marks) a b e = ap (λ x. map (λ mark. not (int_lt (opposed k.turned (from_zero k.score x)) (pos mark))) marks.items) e
 bits_as (Hashes c masks) a b e =
-    ap (λ x. flat_map (λ mask. (bit_and (hash x) mask == mask) ∷ (bit_and (hash x) mask == 0) ∷ []) masks.items) e
+    ap (λ x. flat_map (λ mask. (bit_and (mixed 0 x) mask == mask) ∷ (bit_and (mixed 0 x) mask == 0) ∷ []) masks.items) e
 
 -- ---- a scale
 
@@ -178,35 +117,36 @@ not_false : (b : Bool) → not b ≡ true → b ≡ false
 not_false true h = absurd (false≢true h)
 not_false false h = refl
 
--- where the second row measures no less, it reaches each mark that the first reaches
-reached : (m : Measure) (marks : List ℤ) (a b : List ℤ) → Keeps Direct m a b → Implied (map (λ mark. not (int_lt (measured m a) mark)) marks) (map (λ mark. not (int_lt (measured m b) mark)) marks)
+-- where the second row has no smaller key, it reaches each mark that the first reaches
+reached : (k : Key) (marks : List ℕ) (a b : List ℤ) → Keeps a b k
+    → Implied (map (λ mark. not (int_lt (keyed k a) (pos mark))) marks) (map (λ mark. not (int_lt (keyed k b) (pos mark))) marks)
 unfolding Keeps
-reached m marks a b keeps =
-    implied_map (λ mark. not (int_lt (measured m a) mark)) (λ mark. not (int_lt (measured m b) mark)) (λ mark h. ap not (up (measured m a) (measured m b) mark keeps (not_false (int_lt (measured m a) mark) h))) marks
+reached k marks a b keeps =
+    implied_map (λ mark. not (int_lt (keyed k a) (pos mark))) (λ mark. not (int_lt (keyed k b) (pos mark)))
+    (λ mark h. ap not (up (keyed k a) (keyed k b) (pos mark) keeps (not_false (int_lt (keyed k a) (pos mark)) h))) marks
 
--- a scale of a group's column, or of what leads the preference: by which way the first row is not worse does not matter
-suiting_keeps : (q : Question) (scale : Scale) (a b : List ℤ) → ((m : Measure) → leads q.preference Direct m ≡ true → Keeps Direct m a b) → in_same_group q.group a b ≡ true → suits q.preference q.group scale ≡ true → Implied (bits_by scale a) (bits_by scale b)
-suiting_keeps q scale a b keeps near is =
-    elim (or_parts (list_any (λ col. scale_column scale == col) q.group) (scale_leads q.preference scale) is) [
-      | inl x ↦ subst (λ bits. Implied (bits_by scale a) bits) (bits_as scale a b (group_cell q.group (scale_column scale) a b x near)) (implied_itself (bits_by scale a))
-      | inr x ↦ led scale x
-    ]
-  where
-    led : (s : Scale) → scale_leads q.preference s ≡ true → Implied (bits_by s a) (bits_by s b)
-    led (Marks m marks) x = reached m marks.items a b (keeps m x)
-    led (Hashes c masks) x = absurd (false≢true x)
+suiting : (keys : List Key) (group : List ℕ) (scale : Scale) (a b : List ℤ) → All (Keeps a b) keys → in_same_group group a b ≡ true
+    → Suits keys group scale → Implied (bits_by scale a) (bits_by scale b)
+suiting keys group scale a b keeps near (inl in_group) =
+    subst (λ bits. Implied (bits_by scale a) bits) (bits_as scale a b (All-contains (λ c. cell a c ≡ cell b c) group (scale_column scale) (group_cells group a b near) in_group))
+    (implied_itself (bits_by scale a))
+suiting keys group (Marks k marks) a b keeps near (inr led) = reached k marks.items a b (All-contains (Keeps a b) keys k keeps led)
+suiting keys group (Hashes c masks) a b keeps near (inr led) = absurd led
 
--- ---- the laws
+-- ---- the law
 
--- scales that suit an ask's preference and group suit its order
-pub suiting_cuts : (q : Question) (cuts : List Scale) → list_all (suits q.preference q.group) cuts ≡ true → Suit (order_of q) cuts
-suiting_cuts q cuts suiting = record {
+-- scales that suit the keys that lead an ask's preference, and its group, suit its order
+pub suiting_cuts : (q : Question) (cuts : List Scale) → All (Suits (leading q.preference false) q.group) cuts → Suit (order_of q) cuts
+suiting_cuts q cuts suit = record {
   over = λ a b h.
       let both = and_parts (in_same_group q.group a b) (better q.preference a b) h in
-      signed_within _ _ (implied_flat (suits q.preference q.group) (λ scale. bits_by scale a) (λ scale. bits_by scale b)
-      (λ scale. suiting_keeps q scale a b (λ m is. better_keeps q.preference Direct m a b is both.1) both.0) cuts suiting);
+      within a b (better_fits (walked q.preference a b) (walked-better q.preference a b ∙ both.1)) both.0;
   twin = λ a b h.
       let both = and_parts (in_same_group q.group a b) (same q.preference a b) (twins_alike q a b h) in
-      signed_within _ _ (implied_flat (suits q.preference q.group) (λ scale. bits_by scale a) (λ scale. bits_by scale b)
-      (λ scale. suiting_keeps q scale a b (λ m is. same_keeps q.preference Direct m a b is both.1) both.0) cuts suiting);
+      within a b (same_fits (walked q.preference a b) (walked-same q.preference a b ∙ both.1)) both.0;
 }
+  where
+    within : (a b : List ℤ) → fits (walked q.preference a b) ≡ true → in_same_group q.group a b ≡ true → is_within (signature cuts a) (signature cuts b) ≡ true
+    within a b h near =
+        signed_within _ _ (implied_flat (Suits (leading q.preference false) q.group) (λ scale. bits_by scale a) (λ scale. bits_by scale b)
+        (λ scale. suiting (leading q.preference false) q.group scale a b (keep q.preference false a b h) near) cuts suit)

@@ -1,12 +1,12 @@
 -- Words of bits: where each bit of a word is one of another, the first is within the second.
 use Rattle.std.proofs.Common.{◌≡◌, ◌<◌, ◌≤◌, ◌+◌, ◌*◌, ◌^◌, ◌%◌, ◌/◌, ℕ, zero, suc, List, [], ◌∷◌, ◌++◌, map, Bool, true, false, refl, sym, ap, ◌∙◌, arith, eq-eqb, w64}
-use Rattle.std.specs.Prelude.{bit_and, min}
-use Rattle.std.specs.List.{flat_map, list_all}
+use Rattle.std.specs.Prelude.{All, bit_and, min}
+use Rattle.std.specs.List.{flat_map}
+use Rattle.std.proofs.lemmas.List.Elements.{All-head, All-tail}
 use Rattle.std.specs.Int.{bit_at, bit_not, from_bool}
 use Rattle.std.proofs.lemmas.Nat.{and_le_l}
 use lib.Bits.{or_lt}
 use Rattle.std.proofs.lemmas.Nat.Bits.{bit_at_and, bit_at_or, bit_at_not, bit_at_lowest, bit_at-suc, bit_at-zero, bit_at-lt, bit_at_cat_low, same_from_bits_below}
-use Rattle.pref_term.specs.OrderLaws.{and_parts}
 use Rattle.pref_term.specs.Signatures.{is_within, signed_onto, with_bit}
 
 -- each of the 64 bits of the first word is one of the second
@@ -72,12 +72,11 @@ implied_append [] (b ∷ bs) ys cs h k = absurd h
 implied_append (x ∷ xs) [] ys cs h k = absurd h
 implied_append (x ∷ xs) (b ∷ bs) ys cs h k = (h.0, implied_append xs bs ys cs h.1 k)
 
-pub implied_flat : {E : Type 0} (test : E → Bool) (f g : E → List Bool) → ((x : E) → test x ≡ true → Implied (f x) (g x)) → (xs : List E) → list_all test xs ≡ true → Implied (flat_map f xs) (flat_map g xs)
+pub implied_flat : {E : Type 0} (P : E → Type 0) (f g : E → List Bool) → ((x : E) → P x → Implied (f x) (g x)) → (xs : List E) → All P xs → Implied (flat_map f xs) (flat_map g xs)
 unfolding Implied
-implied_flat test f g each [] all_pass = tt
-implied_flat test f g each (x ∷ xs) all_pass =
-    let both = and_parts (test x) (list_all test xs) all_pass in
-    implied_append (f x) (g x) (flat_map f xs) (flat_map g xs) (each x both.0) (implied_flat test f g each xs both.1)
+implied_flat P f g each [] all_pass = tt
+implied_flat P f g each (x ∷ xs) all_pass =
+    implied_append (f x) (g x) (flat_map f xs) (flat_map g xs) (each x (All-head P x xs all_pass)) (implied_flat P f g each xs (All-tail P x xs all_pass))
 
 signed_covered : (bs cs : List Bool) → Implied bs cs → (x y : ℕ) → Covered x y → Covered (signed_onto x bs) (signed_onto y cs)
 unfolding Implied

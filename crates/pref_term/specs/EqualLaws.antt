@@ -18,7 +18,7 @@ use Rattle.pref_term.specs.declared.ask.Mode.{Mode}
 use Rattle.pref_term.specs.declared.ask.Mode.TheVariants.{Best, TopLevel, AtLeast}
 
 -- lists of sets
-set_lists : (s t : List (List ℤ)) → Decides (pointwise (pointwise int_eq) s t) (s ≡ t)
+pub set_lists : (s t : List (List ℤ)) → Decides (pointwise (pointwise int_eq) s t) (s ≡ t)
 set_lists s t = slice_eq-Decides signed_items s t _ refl
 
 -- where a test is true, the two are the same

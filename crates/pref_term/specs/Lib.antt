@@ -11,7 +11,7 @@ pub mod Equal
 pub mod EqualLaws
 pub mod PreferenceCode
 pub mod Walk
-pub mod Factors
+pub mod Keys
 pub mod Signatures
 pub mod Leading
 pub mod Token

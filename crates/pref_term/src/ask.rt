@@ -3,7 +3,8 @@ ghost use Rattle.std.specs.Prelude.{◌≡◌, ◌<◌, true, All, IfOk};
 ghost use Rattle.pref_term.specs.Better.{in_same_group};
 
 use crate::dominance::Dominance;
-use crate::factor::{Factor, compare_by_factors, factors_of};
+use crate::key::Key;
+use crate::keys::{compare_by_keys, in_same_group, is_product, leading_keys};
 use crate::relation::Relation;
 use crate::signature::{Cuts, cuts_for};
 use crate::term::Term;
@@ -26,8 +27,10 @@ pub enum Mode {
 /// A question. Contracts see its preference, its group, its mode and whether of equal rows one is kept, and asks are equal where they see the same.
 pub struct Ask {
     term: Term,
-    // The term's factors, where it is a product of base terms without a set: a comparison goes over them and not over the term.
-    factors: Option<Vec<Factor>>,
+    // The keys that lead the term.
+    keys: Vec<Key>,
+    // Whether they are its whole order: a comparison goes over them then, and not over the term.
+    flat: bool,
     group: Vec<usize>,
     mode: Mode,
     // Whether of equal rows one is kept.
@@ -35,8 +38,8 @@ pub struct Ask {
 }
 
 impl Model for Ask {
-    ghost use Rattle.std.specs.Option.{IfSome};
-    ghost use Rattle.pref_term.specs.Factors.{AreFactorsOf};
+    ghost use Rattle.std.specs.Prelude.{◌≡◌, false};
+    ghost use Rattle.pref_term.specs.Keys.{is_product, leading};
     ghost use Rattle.pref_term.specs.Preference.{preference_of};
     ghost use Rattle.pref_term.specs.PreferenceCode.{coded_question};
     ghost use Rattle.pref_term.specs.Question.{Question, IsAsk};
@@ -48,7 +51,7 @@ impl Model for Ask {
     ghost view = { λ a. record { preference = preference_of a.term; group = a.group.items; mode = a.mode; distinct = a.distinct } };
 
     ghost invariant = { λ a. IsAsk (record { preference = preference_of a.term; group = a.group.items; mode = a.mode; distinct = a.distinct })
-        × IfSome a.factors (λ factors. AreFactorsOf (preference_of a.term) factors.items) };
+        × (a.keys.items ≡ leading (preference_of a.term) false) × (a.flat ≡ is_product (preference_of a.term)) };
 }
 
 // By hand, so that letting one go is a call: a derived `drop` is written out, and proved, at each way out of each function that owns one.
@@ -56,7 +59,8 @@ impl Drop for Ask {
     fn drop(self) {
         let Ask {
             term: _,
-            factors: _,
+            keys: _,
+            flat: _,
             group: _,
             mode: _,
             distinct: _,
@@ -70,7 +74,7 @@ impl Ask {
     ghost use Rattle.pref_term.specs.Preference.{preference_of};
     ghost use Rattle.pref_term.specs.Question.{IsAsk, IsCount, FitsWidth, cut_of};
 
-    /// An ask of these parts. Takes memory for the list of the term's factors, once.
+    /// An ask of these parts. Takes memory for the list of the keys that lead the term, once.
     pub(crate) fn new(
         alloc: Global,
         term: Term,
@@ -81,10 +85,12 @@ impl Ask {
         requires { IsAsk (record { preference = preference_of term; group = group.items; mode = mode; distinct = distinct }) }
         ensures { IfOk result (λ ask. ask ≡ record { preference = preference_of term; group = group.items; mode = mode; distinct = distinct }) }
     {
-        let factors = factors_of(alloc, &term)?;
+        let keys = leading_keys(alloc, &term)?;
+        let flat = is_product(&term);
         Ok(Ask {
             term,
-            factors,
+            keys,
+            flat,
             group,
             mode,
             distinct,
@@ -143,9 +149,10 @@ impl Ask {
         ensures worse { is_worse result ≡ better self.now.preference b.now a.now }
         ensures same { is_same result ≡ same self.now.preference a.now b.now }
     {
-        match &self.factors {
-            Some(factors) => compare_by_factors(factors, a, b),
-            None => compare(&self.term, a, b),
+        if self.flat {
+            compare_by_keys(&self.keys, a, b)
+        } else {
+            compare(&self.term, a, b)
         }
     }
 }
@@ -173,20 +180,6 @@ impl Eq for Ask {
     ghost laws = { questions_equal };
 }
 
-/// Whether two rows have equal cells in each of these columns. Takes no memory.
-#[inline(always)]
-pub fn in_same_group(columns: &[usize], a: &Row, b: &Row) -> bool
-    requires { All (λ col. col < 16) columns.now }
-    ensures { result ≡ in_same_group columns.now a.now b.now }
-{
-    for col in columns {
-        if a.cell(*col) != b.cell(*col) {
-            return false;
-        }
-    }
-    true
-}
-
 impl Dominance for Ask {
     ghost use Rattle.pref_term.specs.AskOrder.{order_of, order_of_is_row_order};
     ghost use Rattle.pref_term.specs.Order.{StandAlike, is_better, is_same, is_worse};
@@ -212,8 +205,8 @@ impl Dominance for Ask {
 
     /// Compares the group's columns first. Rows of two groups are `Neither`.
     ///
-    /// A product of base terms without a set is compared in one loop over its factors, up to the first after which neither row
-    /// can be better; any other term in one walk. Takes no memory.
+    /// A product of base terms is one loop over its keys, up to the first after which neither row can be better; another term is walked.
+    /// Takes no memory.
     #[inline(always)]
     fn compare(&self, a: &Row, b: &Row) -> Relation
         ensures better { is_better result ≡ over self.now a.now b.now }
@@ -232,11 +225,11 @@ impl Dominance for Ask {
 
     /// Whether each cut goes through the scores of a part that leads the term, or reads a column of the group. Takes no memory.
     fn suits(&self, cuts: &Cuts) -> bool {
-        cuts.suit(&self.term, &self.group)
+        cuts.suit(&self.keys, &self.group)
     }
 
     fn cuts(&self, alloc: Global, sample: &[Row]) -> Result<Cuts, AllocError> {
-        cuts_for(alloc, &self.term, &self.group, sample)
+        cuts_for(alloc, &self.keys, &self.group, sample)
     }
 
     fn groups(&self) -> &[usize] {

@@ -7,9 +7,10 @@
 mod ask;
 mod cursor;
 mod dominance;
-mod factor;
 mod fault;
 mod front;
+mod key;
+mod keys;
 pub mod laws;
 mod number;
 mod read;
@@ -20,12 +21,13 @@ mod term;
 mod token;
 mod walk;
 
-pub use ask::{Ask, Mode, in_same_group};
+pub use ask::{Ask, Mode};
 pub use dominance::Dominance;
 pub use fault::TermFault;
+pub use keys::in_same_group;
 pub use read::read_ask;
 pub use relation::Relation;
 pub use shown::show;
-pub use signature::{Cuts, is_within};
+pub use signature::{Cuts, is_within, mixed};
 pub use term::{NumberSets, Numbers, Term};
 pub use walk::{better, compare, same};

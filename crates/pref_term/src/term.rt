@@ -1,6 +1,7 @@
 //! Preference terms, as the rPref manual has them.
-ghost use Rattle.std.specs.Prelude.{◌≡◌, List, ℤ};
+ghost use Rattle.std.specs.Prelude.{◌≡◌, IfOk, List, ℤ, [], ◌∷◌};
 
+use std::alloc::{AllocError, Global};
 use std::marker::Model;
 
 /// The numbers of a set, in the order in which they were given. Contracts see the list of them.
@@ -28,6 +29,13 @@ impl Numbers {
         ensures { result.now ≡ self.now }
     {
         self.numbers.as_slice()
+    }
+
+    /// The same numbers again. Takes memory for their list.
+    fn copy(&self) -> Result<Numbers, AllocError>
+        ensures { IfOk result (λ copied. copied ≡ self.now) }
+    {
+        Ok(Numbers::of(self.numbers.clone()?))
     }
 }
 
@@ -78,6 +86,26 @@ impl NumberSets {
         ensures { result.now ≡ self.now }
     {
         self.sets.as_slice()
+    }
+
+    /// One set, again. Takes memory for the lists.
+    pub(crate) fn one(alloc: Global, set: &Numbers) -> Result<NumberSets, AllocError>
+        ensures { IfOk result (λ sets. sets ≡ set.now ∷ []) }
+    {
+        let mut sets = Vec::new(alloc);
+        sets.push(set.copy()?)?;
+        Ok(NumberSets { sets })
+    }
+
+    /// The same sets again. Takes memory for the lists.
+    pub(crate) fn copy(&self, alloc: Global) -> Result<NumberSets, AllocError>
+        ensures { IfOk result (λ copied. copied ≡ self.now) }
+    {
+        let mut sets = Vec::new(alloc);
+        for set in self.as_slice() {
+            sets.push(set.copy()?)?;
+        }
+        Ok(NumberSets { sets })
     }
 }
 

@@ -1,14 +1,12 @@
 //! When a row is better than another: one walk over a term for each pair of rows.
 ghost use Rattle.std.specs.Prelude.{◌≡◌, pos};
-ghost use Rattle.std.specs.List.{list_any};
-ghost use Rattle.std.specs.Ordering.{int_eq};
 ghost use Rattle.pref_term.specs.Better as better;
 ghost use Rattle.pref_term.specs.Columns.{ReadsBelow};
 ghost use Rattle.pref_term.specs.Order.{is_better, is_same, is_worse};
 ghost use Rattle.pref_term.specs.Preference.{preference_of};
 ghost use Rattle.pref_term.specs.Walk.{by_scores, in_priority, in_product, walked};
 
-use crate::factor::{Factor, Sense};
+use crate::key::{is_member, outside, sets_before};
 use crate::relation::Relation;
 use crate::term::{NumberSets, Numbers, Term};
 use pref_table::Row;
@@ -42,7 +40,7 @@ pub fn same(term: &Term, a: &Row, b: &Row) -> bool
     compare(term, a, b).is_same()
 }
 
-/// A base term is compared as a factor, or by its sets; composed ones walk their parts.
+/// A base term is compared by its keys; composed ones walk their parts.
 #[cycle(walk)]
 #[inline(always)]
 fn walk(term: &Term, a: &Row, b: &Row) -> Relation
@@ -50,21 +48,16 @@ fn walk(term: &Term, a: &Row, b: &Row) -> Relation
     ensures { result ≡ walked (preference_of term.now) a.now b.now }
 {
     match term {
-        Term::Low { col } => Factor::Low { col: *col }.compare(a, b),
-        Term::High { col } => Factor::High { col: *col }.compare(a, b),
-        Term::Around { col, centre } => Factor::Distance {
-            col: *col,
-            centre: *centre,
-            sense: Sense::Direct,
-        }
-        .compare(a, b),
-        Term::Between { col, left, right } => Factor::Range {
-            col: *col,
-            left: *left,
-            right: *right,
-            sense: Sense::Direct,
-        }
-        .compare(a, b),
+        Term::Low { col } => by_values(a.cell(*col), b.cell(*col)),
+        Term::High { col } => by_values(b.cell(*col), a.cell(*col)),
+        Term::Around { col, centre } => by_keys(
+            outside(a.cell(*col), *centre, *centre),
+            outside(b.cell(*col), *centre, *centre),
+        ),
+        Term::Between { col, left, right } => by_keys(
+            outside(a.cell(*col), *left, *right),
+            outside(b.cell(*col), *left, *right),
+        ),
         Term::Pos { col, set } => by_member(a.cell(*col), b.cell(*col), set),
         Term::Layered { col, sets } => by_layer(a.cell(*col), b.cell(*col), sets),
         Term::Pareto(p, q) => product(Relation::Same, p, q, a, b),
@@ -76,6 +69,7 @@ fn walk(term: &Term, a: &Row, b: &Row) -> Relation
 /// By the product of two terms, beside what the rest of a longer product says. The second term comes first, so that a product, which groups
 /// to the left, is gone through part by part, and left where neither row can be better any more.
 #[cycle(walk)]
+#[inline(never)]
 fn product(rest: Relation, p: &Term, q: &Term, a: &Row, b: &Row) -> Relation
     requires first { ReadsBelow 16 (preference_of p.now) }
     requires second { ReadsBelow 16 (preference_of q.now) }
@@ -93,6 +87,7 @@ fn product(rest: Relation, p: &Term, q: &Term, a: &Row, b: &Row) -> Relation
 
 /// By the first of two terms, and where it sees no difference by the second.
 #[cycle(walk)]
+#[inline(never)]
 fn priority(p: &Term, q: &Term, a: &Row, b: &Row) -> Relation
     requires first { ReadsBelow 16 (preference_of p.now) }
     requires second { ReadsBelow 16 (preference_of q.now) }
@@ -100,14 +95,13 @@ fn priority(p: &Term, q: &Term, a: &Row, b: &Row) -> Relation
 {
     match walk(p, a, b) {
         Relation::Same => walk(q, a, b),
-        Relation::Better => Relation::Better,
-        Relation::Worse => Relation::Worse,
-        Relation::Neither => Relation::Neither,
+        decided => decided,
     }
 }
 
 /// By the converse of a term.
 #[cycle(walk)]
+#[inline(never)]
 fn converse(p: &Term, a: &Row, b: &Row) -> Relation
     requires { ReadsBelow 16 (preference_of p.now) }
     ensures { result ≡ walked (preference_of p.now) b.now a.now }
@@ -115,37 +109,38 @@ fn converse(p: &Term, a: &Row, b: &Row) -> Relation
     walk(p, b, a)
 }
 
+/// The smaller value is better.
+#[inline(always)]
+fn by_values(a: i64, b: i64) -> Relation
+    ensures { result ≡ by_scores a b }
+{
+    Relation::by_sides(a < b, b < a)
+}
+
 /// A value in the set is better than one outside it.
+#[inline(never)]
 fn by_member(a: i64, b: i64, set: &Numbers) -> Relation
     ensures { result ≡ by_scores (better.missed set.now a) (better.missed set.now b) }
 {
-    match (is_member(set, a), is_member(set, b)) {
-        (true, false) => Relation::Better,
-        (false, true) => Relation::Worse,
-        _ => Relation::Same,
-    }
+    let first = !is_member(set, a);
+    let second = !is_member(set, b);
+    by_keys(u64::from(first), u64::from(second))
 }
 
 /// A value in an earlier set is better than one in a later set, or in none.
+#[inline(never)]
 fn by_layer(a: i64, b: i64, sets: &NumberSets) -> Relation
     ensures { result ≡ by_scores (pos (better.sets_before sets.now a)) (pos (better.sets_before sets.now b)) }
 {
     let first = sets_before(sets.as_slice(), a);
     let second = sets_before(sets.as_slice(), b);
-    Relation::by_sides(first < second, second < first)
+    by_keys(first as u64, second as u64)
 }
 
-/// How many sets come before the first that holds the value; all, where none does.
-fn sets_before(sets: &[Numbers], value: i64) -> usize
-    ensures { result ≡ better.sets_before sets.now value }
+/// The smaller key is better.
+#[inline(always)]
+fn by_keys(a: u64, b: u64) -> Relation
+    ensures { result ≡ by_scores (pos a) (pos b) }
 {
-    sets.iter()
-        .position(|set| is_member(set, value))
-        .unwrap_or(sets.len())
-}
-
-fn is_member(set: &Numbers, value: i64) -> bool
-    ensures { result ≡ list_any (int_eq value) set.now }
-{
-    set.as_slice().contains(&value)
+    Relation::by_sides(a < b, b < a)
 }

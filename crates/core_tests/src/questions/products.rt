@@ -1,4 +1,4 @@
-//! Products of base terms, which are compared in one loop over their factors, beside terms that are walked.
+//! Products of base terms, which are compared in one loop over their keys, beside terms that are walked.
 use super::signatures::small_rows;
 use super::{XY, ask_over, check_standings};
 use crate::same::assert_same;

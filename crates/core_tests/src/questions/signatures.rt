@@ -17,7 +17,7 @@ pub(super) fn small_rows(alloc: Global) -> Result<Vec<Row>, Fail> {
     Ok(rows)
 }
 
-const LEADING_PARTS: [(&str, &str); 8] = [
+const LEADING_PARTS: [(&str, &str); 10] = [
     ("best low(x) * high(y)", "best low(x) * high(y)"),
     (
         "best around(x, 1) * -around(y, 0)",
@@ -29,7 +29,9 @@ const LEADING_PARTS: [(&str, &str); 8] = [
     ),
     ("best low(x) & high(y)", "best low(x)"),
     ("best -(high(x) & low(y))", "best low(x)"),
-    ("best low(x) * pos(y, 0)", "best low(x)"),
+    ("best low(x) * pos(y, 0)", "best low(x) * pos(y, 0)"),
+    ("best -pos(x, 0, 1) & low(y)", "best -pos(x, 0, 1)"),
+    ("best layered(x, {1}, {-1}) * high(y)", "best layered(x, {1}, {-1}) * high(y)"),
     ("at_least 3 -low(x) by y", "best high(x) by y"),
     (
         "skyline of distinct x min, y diff",
@@ -97,7 +99,7 @@ fn few_values_are_told_apart(rt: HostRuntime) -> Result<(), Fail> {
     check_leading_parts(&rt, rt.alloc(), &rows, &LEADING_PARTS)
 }
 
-const TAKERS: [(&str, &str, bool); 13] = [
+const TAKERS: [(&str, &str, bool); 18] = [
     ("best low(x) * low(y)", "best low(y)", true),
     ("best low(x) & low(y)", "best low(x)", true),
     ("best low(x) & low(y)", "best low(y)", false),
@@ -110,7 +112,12 @@ const TAKERS: [(&str, &str, bool); 13] = [
     ("best low(x) by x, y", "best low(y) by x", true),
     ("best low(x) by y", "best low(x) by x", false),
     ("best low(x)", "best low(x) by y", false),
-    ("best low(x)", "best pos(x, 1)", true),
+    ("best low(x)", "best pos(x, 1)", false),
+    ("best pos(x, 1) * low(y)", "best pos(x, 1)", true),
+    ("best -pos(x, 1)", "best pos(x, 1)", false),
+    ("best pos(x, 1)", "best pos(x, 0)", false),
+    ("best layered(x, {1}) & low(y)", "best pos(x, 1)", true),
+    ("best layered(x, {1}, {0})", "best pos(x, 1)", false),
 ];
 
 /// Two questions each, and whether the first takes the cuts that the second makes from these rows.

@@ -1,14 +1,10 @@
 //! Cuts for an ask, from a sample of rows. Any marks on scales of leading parts or of the group's columns are right, so nothing about them is proved.
 ghost use Rattle.std.specs.Prelude.{◌<◌, All, IfOk, OnOk};
-ghost use Rattle.pref_term.specs.Columns.{ReadsBelow};
-ghost use Rattle.pref_term.specs.Preference.{preference_of};
-ghost use Rattle.pref_term.specs.Signatures.{measure_column, scale_column};
+ghost use Rattle.pref_term.specs.Signatures.{scale_column};
 
-use crate::factor::Sense;
+use crate::key::Key;
 use crate::signature::cuts::Cuts;
-use crate::signature::measure::Measure;
 use crate::signature::scale::Scale;
-use crate::term::Term;
 use pref_table::Row;
 use std::alloc::{AllocError, Global};
 
@@ -25,44 +21,13 @@ const FIRST_BIT: u64 = 1 << 63;
 /// In fewer than twice as many groups, marks on scores are worth all the bits that the group leaves.
 const FEW_GROUPS: usize = 8;
 
-/// Puts the measures of the base terms that lead the term, in this sense, behind these.
-fn push_leading(parts: &mut Vec<Measure>, term: &Term, sense: Sense) -> Result<(), AllocError>
-    requires term { ReadsBelow 16 (preference_of term.now) }
-    requires within { All (λ part. measure_column part < 16) parts.old.items }
-    ensures { OnOk result (All (λ part. measure_column part < 16) parts.new.items) }
-{
-    let measure = match term {
-        Term::Low { col } => Measure::Low { col: *col },
-        Term::High { col } => Measure::High { col: *col },
-        Term::Around { col, centre } => Measure::Near {
-            col: *col,
-            left: *centre,
-            right: *centre,
-        },
-        Term::Between { col, left, right } => Measure::Near {
-            col: *col,
-            left: *left,
-            right: *right,
-        },
-        Term::Pos { .. } | Term::Layered { .. } => return Ok(()),
-        Term::Pareto(p, q) => {
-            push_leading(parts, p, sense)?;
-            return push_leading(parts, q, sense);
-        }
-        Term::Prior(p, _) => return push_leading(parts, p, sense),
-        Term::Reverse(p) => return push_leading(parts, p, sense.opposite()),
-    };
-    parts.push(measure.in_sense(sense))?;
-    Ok(())
-}
-
 /// The different numbers of the sample's rows, in order.
-fn numbers_of(alloc: Global, measure: Measure, sample: &[Row]) -> Result<Vec<i64>, AllocError>
-    requires { measure_column measure < 16 }
+fn numbers_of(alloc: Global, key: &Key, sample: &[Row]) -> Result<Vec<u64>, AllocError>
+    requires { key.now.col < 16 }
 {
     let mut numbers = Vec::new(alloc);
     for row in sample {
-        numbers.push(measure.of(row))?;
+        numbers.push(key.of(row))?;
     }
     numbers.sort_unstable();
     numbers.dedup();
@@ -70,7 +35,7 @@ fn numbers_of(alloc: Global, measure: Measure, sample: &[Row]) -> Result<Vec<i64
 }
 
 /// The number in the middle of each of this many equal shares of these; each of them where there are no more.
-fn middles_of(alloc: Global, numbers: &[i64], shares: usize) -> Result<Vec<i64>, AllocError>
+fn middles_of(alloc: Global, numbers: &[u64], shares: usize) -> Result<Vec<u64>, AllocError>
     requires { 0 < shares }
 {
     let share = numbers.len().div_ceil(shares).max(1);
@@ -84,19 +49,15 @@ fn middles_of(alloc: Global, numbers: &[i64], shares: usize) -> Result<Vec<i64>,
 }
 
 /// A scale with so many marks at most, which divide the sample into equal shares.
-fn scale_of(
-    alloc: Global,
-    measure: Measure,
-    sample: &[Row],
-    shares: usize,
-) -> Result<Scale, AllocError>
-    requires column { measure_column measure < 16 }
+fn scale_of(alloc: Global, key: &Key, sample: &[Row], shares: usize) -> Result<Scale, AllocError>
+    requires column { key.now.col < 16 }
     requires shares { 0 < shares }
     ensures { IfOk result (λ scale. scale_column scale < 16) }
 {
-    let numbers = numbers_of(alloc, measure, sample)?;
+    let numbers = numbers_of(alloc, key, sample)?;
     let marks = middles_of(alloc, &numbers, shares)?;
-    Ok(Scale::Marks { measure, marks })
+    let key = key.copy(alloc)?;
+    Ok(Scale::Marks { key, marks })
 }
 
 /// Masks of the first bits of a hash, each of one bit.
@@ -135,33 +96,31 @@ fn groups_in(alloc: Global, group: &[usize], sample: &[Row]) -> Result<usize, Al
 {
     let mut groups = 1;
     for col in group {
-        let values = numbers_of(alloc, Measure::Low { col: *col }, sample)?;
+        let values = numbers_of(alloc, &Key::of_column(*col), sample)?;
         groups = groups.max(values.len());
     }
     Ok(groups)
 }
 
-/// Cuts for a term and the columns of a group. The bits of a signature that the group leaves are dealt out evenly among the parts that lead
-/// the term, and a part's marks divide the sample into equal shares. In many groups few pairs are left to these, so they are fewer.
-/// Takes memory for the parts, a part's numbers and the scales.
+/// Cuts for an order within these groups that these keys lead. The bits of a signature that the group leaves are dealt out evenly among the
+/// keys, and a key's marks divide the sample into equal shares. In many groups few pairs are left to these, so they are fewer.
+/// Takes memory for a key's numbers and for the scales.
 pub(crate) fn cuts_for(
     alloc: Global,
-    term: &Term,
+    keys: &[Key],
     group: &[usize],
     sample: &[Row],
 ) -> Result<Cuts, AllocError>
-    requires term { ReadsBelow 16 (preference_of term.now) }
+    requires keys { All (λ key. key.col < 16) keys.now }
     requires group { All (λ col. col < 16) group.now }
 {
-    let mut parts = Vec::new(alloc);
-    push_leading(&mut parts, term, Sense::Direct)?;
     let bits = HASH_BITS.div_ceil(group.len().max(1));
     let hashed = group.len().saturating_mul(2 * bits);
     let thinning = (groups_in(alloc, group, sample)? / FEW_GROUPS).max(1);
-    let shares = BITS.saturating_sub(hashed) / thinning / parts.len().max(1);
+    let shares = BITS.saturating_sub(hashed) / thinning / keys.len().max(1);
     let mut scales = Vec::new(alloc);
-    for part in &parts {
-        scales.push(scale_of(alloc, *part, sample, shares.max(1))?)?;
+    for key in keys {
+        scales.push(scale_of(alloc, key, sample, shares.max(1))?)?;
     }
     push_group(alloc, &mut scales, group, bits)?;
     Ok(Cuts::of(scales))

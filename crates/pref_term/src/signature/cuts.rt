@@ -1,12 +1,10 @@
 //! Lists of scales, by which rows are signed.
 ghost use Rattle.std.specs.Prelude.{◌≡◌, ◌<◌, true, All, List, []};
-ghost use Rattle.std.specs.List.{list_all};
-ghost use Rattle.pref_term.specs.Leading.{suits};
-ghost use Rattle.pref_term.specs.Preference.{preference_of};
+ghost use Rattle.pref_term.specs.Leading.{Suits};
 ghost use Rattle.pref_term.specs.Signatures.{scale_column, signature};
 
+use crate::key::Key;
 use crate::signature::scale::Scale;
-use crate::term::Term;
 use pref_table::Row;
 use std::marker::Model;
 
@@ -78,10 +76,15 @@ impl Cuts {
         bits
     }
 
-    /// Whether all suit the order that a term gives the rows of one group.
-    pub(crate) fn suit(&self, term: &Term, group: &[usize]) -> bool
-        ensures { result ≡ list_all (suits (preference_of term.now) group.now) self.now }
+    /// Whether all suit an order within these groups that these keys lead.
+    pub(crate) fn suit(&self, keys: &[Key], group: &[usize]) -> bool
+        ensures { result ≡ true → All (Suits keys.now group.now) self.now }
     {
-        self.as_slice().iter().all(|scale| scale.suits(term, group))
+        for scale in self.as_slice() {
+            if !scale.suits(keys, group) {
+                return false;
+            }
+        }
+        true
     }
 }

@@ -1,38 +1,27 @@
 //! Scales: the bits that a signature has of one column.
 ghost use Rattle.std.specs.List.{flat_map};
-ghost use Rattle.std.specs.Prelude.{◌≡◌, ◌<◌, ◌==◌, [], ◌∷◌, bit_and, int_lt, map, not};
-ghost use Rattle.pref_term.specs.Leading.{scale_leads, suits};
-ghost use Rattle.pref_term.specs.Preference.{preference_of};
-ghost use Rattle.pref_term.specs.Signatures.{bits_by, hash, scale_column, signed_onto};
+ghost use Rattle.std.specs.Prelude.{◌≡◌, ◌<◌, ◌==◌, [], ◌∷◌, bit_and, int_lt, map, not, pos, true};
+ghost use Rattle.pref_term.specs.Leading.{Leads, Suits};
+ghost use Rattle.pref_term.specs.Signatures.{bits_by, scale_column, signed_onto};
 
-use crate::factor::Sense;
-use crate::signature::measure::Measure;
-use crate::term::Term;
+use crate::key::Key;
+use crate::keys::contains;
+use crate::signature::mixed;
 use pref_table::Row;
 
 /// Some bits of a signature, by one column.
 #[derive(Drop)]
 pub enum Scale {
-    /// For each mark a bit: whether the row reaches it, which is whether it measures no less.
-    Marks { measure: Measure, marks: Vec<i64> },
+    /// For each mark a bit: whether the row reaches it, which is whether its key is no less.
+    Marks { key: Key, marks: Vec<u64> },
     /// For each mask two bits: whether the hash of the row's cell has all bits of the mask, and whether it has none. It serves for a
     /// column of the group, where equal cells have the same hash.
     Hashes { col: usize, masks: Vec<u64> },
 }
 
-/// The multiplier of [`hash`]: 2^64 divided by the golden ratio, to the nearest odd number.
-const GOLDEN: u64 = 0x9E37_79B9_7F4A_7C15;
-
-/// A number whose upper bits distinguish values: those of values that follow one another are far apart.
-fn hash(value: i64) -> u64
-    ensures { result ≡ hash value }
-{
-    value.cast_unsigned().wrapping_mul(GOLDEN)
-}
-
 /// Puts a bit for each mark behind a word's: whether this number is no less.
-fn reached_onto(word: u64, number: i64, marks: &[i64]) -> u64
-    ensures { result ≡ signed_onto word (map (λ mark. not (int_lt number mark)) marks.now) }
+fn reached_onto(word: u64, number: u64, marks: &[u64]) -> u64
+    ensures { result ≡ signed_onto word (map (λ mark. not (int_lt (pos number) (pos mark))) marks.now) }
 {
     let mut bits = word;
     for mark in marks {
@@ -59,7 +48,7 @@ impl Scale {
         ensures { result ≡ scale_column self.now }
     {
         match self {
-            Scale::Marks { measure, .. } => measure.column(),
+            Scale::Marks { key, .. } => key.col,
             Scale::Hashes { col, .. } => *col,
         }
     }
@@ -70,26 +59,26 @@ impl Scale {
         ensures { result ≡ signed_onto word (bits_by self.now row.now) }
     {
         match self {
-            Scale::Marks { measure, marks } => reached_onto(word, measure.of(row), marks),
-            Scale::Hashes { col, masks } => hashed_onto(word, hash(row.cell(*col)), masks),
+            Scale::Marks { key, marks } => reached_onto(word, key.of(row), marks),
+            Scale::Hashes { col, masks } => hashed_onto(word, mixed(0, row.cell(*col)), masks),
         }
     }
 
-    /// Whether no row that the term finds better reaches a mark of it that the other row doesn't reach.
-    fn leads(&self, term: &Term) -> bool
-        ensures { result ≡ scale_leads (preference_of term.now) self.now }
+    /// Whether its key is one of these.
+    fn leads(&self, keys: &[Key]) -> bool
+        ensures { result ≡ true → Leads keys.now self.now }
     {
         match self {
-            Scale::Marks { measure, .. } => measure.leads(term, Sense::Direct),
+            Scale::Marks { key, .. } => contains(keys, key),
             Scale::Hashes { .. } => false,
         }
     }
 
-    /// Whether rows of one group of which the first is better or the same have no bit of it that the second lacks: it reads a column
-    /// of the group, or measures what leads the term.
-    pub(super) fn suits(&self, term: &Term, group: &[usize]) -> bool
-        ensures { result ≡ suits (preference_of term.now) group.now self.now }
+    /// Whether rows of one group of which the first is better or the same, in an order that these keys lead, have no bit of it that the
+    /// second lacks: it reads a column of the group, or its key is one of these.
+    pub(super) fn suits(&self, keys: &[Key], group: &[usize]) -> bool
+        ensures { result ≡ true → Suits keys.now group.now self.now }
     {
-        group.contains(&self.column()) || self.leads(term)
+        group.contains(&self.column()) || self.leads(keys)
     }
 }

@@ -2,13 +2,12 @@ use Rattle.std.proofs.Common.{◌≡◌, w64, rules, to_z, of_z, pos, ◌∙◌}
 use Rattle.std.proofs.lemmas.Int.{to_z-of_z}
 use Rattle.pref_term.specs.Better.{sets_before}
 use Rattle.pref_term.specs.Walk.{by_scores}
-use Rattle.pref_term.proofs.FactorLaws.{by_numbers}
 use Rattle.pref_term.proofs.walk.by_layer.Goals as goal
 
 pub returns : goal.returns
 returns c =
     let a : to_z w64 (of_z w64 c.args.a) ≡ c.args.a = to_z-of_z w64 c.args.a (search rules) in
     let b : to_z w64 (of_z w64 c.args.b) ≡ c.args.b = to_z-of_z w64 c.args.b (search rules) in
-    let first : c.sets_before-first.result ≡ sets_before c.args.sets.now c.args.a = c.sets_before-first.ensures ∙ (λ i. sets_before (c.as_slice.ensures i) (a i)) in
-    let second : c.sets_before-second.result ≡ sets_before c.args.sets.now c.args.b = c.sets_before-second.ensures ∙ (λ i. sets_before (c.as_slice-2.ensures i) (b i)) in
-    c.by_sides.ensures ∙ (by_numbers c.sets_before-first.result c.sets_before-second.result ∙ (λ i. by_scores (pos (first i)) (pos (second i))))
+    let first = c.sets_before-first.ensures ∙ (λ i. sets_before (c.as_slice.ensures i) (a i)) in
+    let second = c.sets_before-second.ensures ∙ (λ i. sets_before (c.as_slice-2.ensures i) (b i)) in
+    c.by_keys.ensures ∙ (λ i. by_scores (pos (first i)) (pos (second i)))

@@ -1,24 +1,33 @@
-use Rattle.std.proofs.Common.{◌≡◌, ap, ◌∙◌}
+use Rattle.std.proofs.Common.{◌≡◌, ◌<◌, false, ap, sym, ◌∙◌}
+use Rattle.std.proofs.lemmas.List.Elements.{All-same}
+use Rattle.pref_term.specs.Keys.{by_keys}
 use Rattle.pref_term.specs.Order.{is_better, is_same, is_worse}
 use Rattle.pref_term.specs.Preference.{preference_of}
 use Rattle.pref_term.specs.Walk.{walked}
+use Rattle.pref_term.proofs.KeyLaws.{leading_in_row, product_law}
 use Rattle.pref_term.proofs.WalkLaws.{walked-better, walked-same, walked-worse}
 use Rattle.pref_term.proofs.ask.Ask.compare_in_group.Goals as goal
 
--- the factors compare the rows as a walk does
-by_a_walk : (c : goal.After-compare_by_factors) → c.compare_by_factors.result ≡ walked (preference_of c.self.inside.term) c.args.a.now c.args.b.now
-by_a_walk c =
-    let known = rw c.in-Some.is at c.self.invariant.1 in
-    cc (known.alike c.args.a.now c.args.b.now)
+pub compare_by_keys-requires : goal.compare_by_keys-requires
+compare_by_keys-requires c =
+    All-same (λ key. key.col < 16) _ _ (c.deref.ensures.value ∙ c.self.invariant.1)
+    (leading_in_row (preference_of c.self.inside.term) false c.self.invariant.0.columns.preference)
 
-pub returns-in-Some-clause-better : goal.returns-in-Some-clause-better
-returns-in-Some-clause-better c =
+-- the keys compare the rows as a walk does
+by_a_walk : (c : goal.After-compare_by_keys) → c.compare_by_keys.result ≡ walked (preference_of c.self.inside.term) c.args.a.now c.args.b.now
+by_a_walk c =
+    c.compare_by_keys.ensures
+    ∙ (ap (λ keys. by_keys keys c.args.a.now c.args.b.now) (c.deref.ensures.value ∙ c.self.invariant.1)
+    ∙ product_law (preference_of c.self.inside.term) c.args.a.now c.args.b.now (sym c.self.invariant.2 ∙ c.if-self.true))
+
+pub returns-then-self-clause-better : goal.returns-then-self-clause-better
+returns-then-self-clause-better c =
     rw (← c.self.view_is) (ap is_better (by_a_walk c) ∙ walked-better (preference_of c.self.inside.term) c.args.a.now c.args.b.now)
 
-pub returns-in-Some-clause-worse : goal.returns-in-Some-clause-worse
-returns-in-Some-clause-worse c =
+pub returns-then-self-clause-worse : goal.returns-then-self-clause-worse
+returns-then-self-clause-worse c =
     rw (← c.self.view_is) (ap is_worse (by_a_walk c) ∙ walked-worse (preference_of c.self.inside.term) c.args.a.now c.args.b.now)
 
-pub returns-in-Some-clause-same : goal.returns-in-Some-clause-same
-returns-in-Some-clause-same c =
+pub returns-then-self-clause-same : goal.returns-then-self-clause-same
+returns-then-self-clause-same c =
     rw (← c.self.view_is) (ap is_same (by_a_walk c) ∙ walked-same (preference_of c.self.inside.term) c.args.a.now c.args.b.now)

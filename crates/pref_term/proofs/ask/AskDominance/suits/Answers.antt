@@ -1,6 +1,7 @@
-use Rattle.std.proofs.Common.{◌≡◌, ap, sym, ◌∙◌}
-use Rattle.std.specs.List.{list_all}
-use Rattle.pref_term.specs.Leading.{suits}
+use Rattle.std.proofs.Common.{◌≡◌, ap, ◌∙◌, subst, false}
+use Rattle.std.specs.Prelude.{All}
+use Rattle.pref_term.specs.Keys.{leading}
+use Rattle.pref_term.specs.Leading.{Suits}
 use Rattle.pref_term.specs.Preference.{preference_of}
 use Rattle.pref_term.specs.Question.{Question}
 use Rattle.pref_term.proofs.SignatureLaws.{suiting_cuts}
@@ -9,6 +10,9 @@ use Rattle.pref_term.proofs.ask.AskDominance.suits.Goals as goal
 pub returns : goal.returns
 returns c told =
     let q = c.args.self.now in
-    let preference : preference_of c.self.inside.term ≡ q.preference = ap (λ (s : Question). s.preference) c.self.view_is in
-    let group : c.deref.result.now ≡ q.group = c.deref.ensures.value ∙ ap (λ (s : Question). s.group) c.self.view_is in
-    suiting_cuts q c.args.cuts.now ((λ i. list_all (suits (sym preference i) (sym group i)) c.args.cuts.now) ∙ (sym c.suit.ensures ∙ told))
+    let p : preference_of c.self.inside.term ≡ q.preference = ap (λ (s : Question). s.preference) c.self.view_is in
+    let g : c.deref-2.result.now ≡ q.group = c.deref-2.ensures.value ∙ ap (λ (s : Question). s.group) c.self.view_is in
+    let keys : c.deref.result.now ≡ leading q.preference false = c.deref.ensures.value ∙ (c.self.invariant.1 ∙ ap (λ r. leading r false) p) in
+    suiting_cuts q c.args.cuts.now
+    (subst (λ group. All (Suits (leading q.preference false) group) c.args.cuts.now) g
+    (subst (λ ks. All (Suits ks c.deref-2.result.now) c.args.cuts.now) keys (c.suit.ensures told)))

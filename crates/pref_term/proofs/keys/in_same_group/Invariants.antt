@@ -1,6 +1,6 @@
 use Rattle.std.proofs.Common.{◌≡◌, drop}
 use Rattle.pref_term.specs.Better.{in_same_group}
-use Rattle.pref_term.proofs.ask.in_same_group.Given as goal
+use Rattle.pref_term.proofs.keys.in_same_group.Given as goal
 
 -- the columns that are left decide
 abbrev pub invariant-loop-col : goal.invariant-loop-col

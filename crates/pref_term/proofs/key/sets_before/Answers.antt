@@ -7,7 +7,7 @@ use Rattle.std.proofs.lemmas.Int.{to_z-of_z}
 use Rattle.std.proofs.lemmas.Iterator.{YieldsList-from_slice}
 use Rattle.std.proofs.lemmas.Iterator.Search.{position_from_yields_List}
 use Rattle.pref_term.specs.Better.{sets_before}
-use Rattle.pref_term.proofs.walk.sets_before.Goals as goal
+use Rattle.pref_term.proofs.key.sets_before.Goals as goal
 
 first_within : {X : Type 0} (test : X → Bool) (xs : List X) → position_or_len test xs ≤ length xs
 first_within test [] = omega arith

@@ -1,0 +1,165 @@
+-- The key law: keys compare rows as scores do; and the product of the keys that lead a preference without a priority is its order.
+use Rattle.std.proofs.Common.{◌≡◌, ◌<◌, ℤ, pos, Bool, true, false, not, int_lt, if◌then◌else◌, List, [], ◌∷◌, ◌++◌, refl, sym, ap, subst, ◌∙◌, arith}
+use Rattle.std.specs.Prelude.{◌^◌, ◌-◌, ◌-ℤ◌, ◌+ℤ◌, neg_ℤ, unsigned_abs, All}
+use Rattle.std.specs.List.{list_any}
+use Rattle.std.specs.Ordering.{int_eq}
+use Rattle.std.proofs.lemmas.Bool.{false≢true}
+use Rattle.std.proofs.lemmas.Int.{ints}
+use Rattle.std.proofs.lemmas.List.Elements.{All-append, All-cons, All-nil}
+use Rattle.pref_term.specs.Better.{cell, missed, outside, score, sets_before}
+use Rattle.pref_term.specs.Columns.{ReadsBelow, column}
+use Rattle.pref_term.specs.Keys.{by_key, by_keys, is_product, key_for, leading, opposed}
+use Rattle.pref_term.specs.OrderLaws.{and_parts}
+use Rattle.pref_term.specs.Preference.{Base, low, high, around, between, one_of, layered, Preference, scored, pareto, prior, reverse}
+use Rattle.pref_term.specs.Walk.{by_scores, in_priority, in_product, walked}
+use Rattle.pref_term.specs.declared.key.Key.{Key}
+use Rattle.pref_term.specs.declared.relation.Relation.{Relation}
+use Rattle.pref_term.specs.declared.relation.Relation.TheVariants.{Better, Worse, Same, Neither}
+
+-- how a preference, or its converse, compares two rows
+abbrev pub directed : Bool → Preference → List ℤ → List ℤ → Relation
+directed false p a b = walked p a b
+directed true p a b = walked p b a
+
+alike_scores : (x y u v : ℤ) → int_lt x y ≡ int_lt u v → int_lt y x ≡ int_lt v u → by_scores x y ≡ by_scores u v
+alike_scores x y u v h k = rw (h, k) refl
+
+lt_raised : (x y : ℤ) → int_lt (x +ℤ pos (2 ^ 63)) (y +ℤ pos (2 ^ 63)) ≡ int_lt x y
+lt_raised x y = grind (arith, ints)
+
+lt_opposed : (x y : ℤ) → int_lt (pos (2 ^ 64 - 1) -ℤ x) (pos (2 ^ 64 - 1) -ℤ y) ≡ int_lt y x
+lt_opposed x y = grind (arith, ints)
+
+lt_negated : (x y : ℤ) → int_lt (neg_ℤ x) (neg_ℤ y) ≡ int_lt y x
+lt_negated x y = grind (arith, ints)
+
+raised : (x y : ℤ) → by_scores (x +ℤ pos (2 ^ 63)) (y +ℤ pos (2 ^ 63)) ≡ by_scores x y
+raised x y = alike_scores (x +ℤ pos (2 ^ 63)) (y +ℤ pos (2 ^ 63)) x y (lt_raised x y) (lt_raised y x)
+
+turned : (x y : ℤ) → by_scores (opposed true x) (opposed true y) ≡ by_scores y x
+turned x y = alike_scores (opposed true x) (opposed true y) y x (lt_opposed x y) (lt_opposed y x)
+
+negated : (x y : ℤ) → by_scores (neg_ℤ x) (neg_ℤ y) ≡ by_scores y x
+negated x y = alike_scores (neg_ℤ x) (neg_ℤ y) y x (lt_negated x y) (lt_negated y x)
+
+-- a distance from a centre is one from a range of one value
+below_centre : (c v : ℤ) → int_lt v c ≡ true → (c -ℤ v) ≡ pos (unsigned_abs (v -ℤ c))
+below_centre c v h = grind (arith, ints)
+
+above_centre : (c v : ℤ) → int_lt v c ≡ false → int_lt c v ≡ true → (v -ℤ c) ≡ pos (unsigned_abs (v -ℤ c))
+above_centre c v h k = grind (arith, ints)
+
+at_centre : (c v : ℤ) → int_lt v c ≡ false → int_lt c v ≡ false → pos 0 ≡ pos (unsigned_abs (v -ℤ c))
+at_centre c v h k = grind (arith, ints)
+
+pub centred : (c v : ℤ) → outside c c v ≡ pos (unsigned_abs (v -ℤ c))
+centred c v = go (int_lt v c) (int_lt c v) refl refl
+  where
+    go : (p q : Bool) → int_lt v c ≡ p → int_lt c v ≡ q → (if p then c -ℤ v else if q then v -ℤ c else pos 0) ≡ pos (unsigned_abs (v -ℤ c))
+    go true q e f = below_centre c v e
+    go false true e f = above_centre c v e f
+    go false false e f = at_centre c v e f
+
+-- one set is a list of sets
+one_missed : (set : List ℤ) (v : ℤ) → pos (sets_before (set ∷ []) v) ≡ missed set v
+one_missed set v = go (list_any (int_eq v) set) refl
+  where
+    go : (p : Bool) → list_any (int_eq v) set ≡ p → pos (sets_before (set ∷ []) v) ≡ (if p then pos 0 else pos 1)
+    go true e = rw e refl
+    go false e = rw e refl
+
+-- where the keys of a base term compare rows as its scores do, those of its converse do so too
+both_ways : (t : Base) (x y : ℤ) (a b : List ℤ) → by_scores x y ≡ by_scores (score t a) (score t b) → by_scores y x ≡ by_scores (score t b) (score t a)
+    → (s : Bool) → by_scores (opposed s x) (opposed s y) ≡ directed s (scored t) a b
+both_ways t x y a b h k false = h
+both_ways t x y a b h k true = turned x y ∙ k
+
+-- the key law
+pub key_law : (t : Base) (s : Bool) (a b : List ℤ) → by_key (key_for t s) a b ≡ directed s (scored t) a b
+key_law (low col) s a b = both_ways (low col) (cell a col +ℤ pos (2 ^ 63)) (cell b col +ℤ pos (2 ^ 63)) a b (raised (cell a col) (cell b col)) (raised (cell b col) (cell a col)) s
+key_law (high col) false a b = turned (cell a col +ℤ pos (2 ^ 63)) (cell b col +ℤ pos (2 ^ 63)) ∙ (raised (cell b col) (cell a col) ∙ sym (negated (cell a col) (cell b col)))
+key_law (high col) true a b = raised (cell a col) (cell b col) ∙ sym (negated (cell b col) (cell a col))
+key_law (around col c) s a b =
+    both_ways (around col c) (outside c c (cell a col)) (outside c c (cell b col)) a b (λ i. by_scores (centred c (cell a col) i) (centred c (cell b col) i)) (λ i. by_scores (centred c (cell b col) i) (centred c (cell a col) i)) s
+key_law (between col left right) s a b = both_ways (between col left right) (outside left right (cell a col)) (outside left right (cell b col)) a b refl refl s
+key_law (one_of col set) s a b =
+    both_ways (one_of col set) (pos (sets_before (set ∷ []) (cell a col))) (pos (sets_before (set ∷ []) (cell b col))) a b (λ i. by_scores (one_missed set (cell a col) i) (one_missed set (cell b col) i)) (λ i. by_scores (one_missed set (cell b col) i) (one_missed set (cell a col) i)) s
+key_law (layered col sets) s a b = both_ways (layered col sets) (pos (sets_before sets (cell a col))) (pos (sets_before sets (cell b col))) a b refl refl s
+
+-- ---- converses
+
+pub directed_priority : (s : Bool) (p q : Preference) (a b : List ℤ) → directed s (prior p q) a b ≡ in_priority (directed s p a b) (directed s q a b)
+directed_priority true p q a b = refl
+directed_priority false p q a b = refl
+
+pub directed_product : (s : Bool) (p q : Preference) (a b : List ℤ) → directed s (pareto p q) a b ≡ in_product (directed s p a b) (directed s q a b)
+directed_product true p q a b = refl
+directed_product false p q a b = refl
+
+pub directed_reverse : (s : Bool) (p : Preference) (a b : List ℤ) → directed (not s) p a b ≡ directed s (reverse p) a b
+directed_reverse true p a b = refl
+directed_reverse false p a b = refl
+
+-- ---- the keys that lead a preference
+
+key_column : (t : Base) (s : Bool) → (key_for t s).col ≡ column t
+key_column (low col) s = refl
+key_column (high col) s = refl
+key_column (around col centre) s = refl
+key_column (between col left right) s = refl
+key_column (one_of col set) s = refl
+key_column (layered col sets) s = refl
+
+-- they read its columns
+pub leading_in_row : (p : Preference) (s : Bool) → ReadsBelow 16 p → All (λ key. key.col < 16) (leading p s)
+leading_in_row (scored t) s h = All-cons (λ key. key.col < 16) (key_for t s) [] (subst (λ n. n < 16) (sym (key_column t s)) h) (All-nil (λ key. key.col < 16))
+leading_in_row (pareto p q) s h = All-append (λ key. key.col < 16) (leading p s) (leading q s) (leading_in_row p s h.0) (leading_in_row q s h.1)
+leading_in_row (prior p q) s h = leading_in_row p s h.0
+leading_in_row (reverse p) s h = leading_in_row p (not s) h
+
+product-assoc : (r s t : Relation) → in_product (in_product r s) t ≡ in_product r (in_product s t)
+product-assoc Same s t = refl
+product-assoc Neither s t = refl
+product-assoc Better Better Better = refl
+product-assoc Better Better Worse = refl
+product-assoc Better Better Same = refl
+product-assoc Better Better Neither = refl
+product-assoc Better Worse Better = refl
+product-assoc Better Worse Worse = refl
+product-assoc Better Worse Same = refl
+product-assoc Better Worse Neither = refl
+product-assoc Better Same t = refl
+product-assoc Better Neither t = refl
+product-assoc Worse Better Better = refl
+product-assoc Worse Better Worse = refl
+product-assoc Worse Better Same = refl
+product-assoc Worse Better Neither = refl
+product-assoc Worse Worse Better = refl
+product-assoc Worse Worse Worse = refl
+product-assoc Worse Worse Same = refl
+product-assoc Worse Worse Neither = refl
+product-assoc Worse Same t = refl
+product-assoc Worse Neither t = refl
+
+product_same : (r : Relation) → in_product r Same ≡ r
+product_same Better = refl
+product_same Worse = refl
+product_same Same = refl
+product_same Neither = refl
+
+keys-append : (xs ys : List Key) (a b : List ℤ) → by_keys (xs ++ ys) a b ≡ in_product (by_keys xs a b) (by_keys ys a b)
+keys-append [] ys a b = refl
+keys-append (x ∷ xs) ys a b = ap (in_product (by_key x a b)) (keys-append xs ys a b) ∙ sym (product-assoc (by_key x a b) (by_keys xs a b) (by_keys ys a b))
+
+-- of a product they are the whole order
+leading_law : (p : Preference) (s : Bool) (a b : List ℤ) → is_product p ≡ true → by_keys (leading p s) a b ≡ directed s p a b
+leading_law (scored t) s a b h = product_same (by_key (key_for t s) a b) ∙ key_law t s a b
+leading_law (pareto p q) s a b h =
+    let both = and_parts (is_product p) (is_product q) h in
+    keys-append (leading p s) (leading q s) a b
+    ∙ ((λ i. in_product (leading_law p s a b both.0 i) (leading_law q s a b both.1 i)) ∙ sym (directed_product s p q a b))
+leading_law (prior p q) s a b h = absurd (false≢true h)
+leading_law (reverse p) s a b h = leading_law p (not s) a b h ∙ directed_reverse s p a b
+
+pub product_law : (p : Preference) (a b : List ℤ) → is_product p ≡ true → by_keys (leading p false) a b ≡ walked p a b
+product_law p a b h = leading_law p false a b h

@@ -1,0 +1,10 @@
+use Rattle.std.proofs.Common.{◌<◌, false, ◌∙◌}
+use Rattle.std.proofs.lemmas.List.Elements.{All-same}
+use Rattle.pref_term.specs.Preference.{preference_of}
+use Rattle.pref_term.proofs.KeyLaws.{leading_in_row}
+use Rattle.pref_term.proofs.ask.AskDominance.cuts.Goals as goal
+
+pub cuts_for-requires-clause-keys : goal.cuts_for-requires-clause-keys
+cuts_for-requires-clause-keys c =
+    All-same (λ key. key.col < 16) _ _ (c.deref.ensures.value ∙ c.self.invariant.1)
+    (leading_in_row (preference_of c.self.inside.term) false c.self.invariant.0.columns.preference)

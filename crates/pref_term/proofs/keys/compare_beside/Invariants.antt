@@ -1,0 +1,10 @@
+use Rattle.std.proofs.Common.{◌≡◌, drop}
+use Rattle.pref_term.specs.Keys.{by_keys}
+use Rattle.pref_term.specs.Walk.{by_sides, in_product}
+use Rattle.pref_term.proofs.keys.compare_beside.Given as goal
+
+-- what the keys so far say with the others, beside the keys that are left
+abbrev pub invariant-loop-key : goal.invariant-loop-key
+invariant-loop-key l =
+    in_product (by_sides l.better l.worse) (by_keys (drop l.key-index l.keys) l.a l.b)
+    ≡ in_product (by_sides l.fn.better l.fn.worse) (by_keys l.keys l.a l.b)

@@ -1,0 +1,211 @@
+//! Keys: a number without sign for each row, by which a base term or its converse ranks rows. Less is better.
+ghost use Rattle.std.specs.Prelude.{◌≡◌, ◌<◌, ◌+ℤ◌, ◌-ℤ◌, ◌^◌, IfOk, pos, true};
+ghost use Rattle.std.specs.List.{list_any};
+ghost use Rattle.std.specs.Ordering.{int_eq};
+ghost use Rattle.pref_term.specs.Better.{outside, sets_before};
+ghost use Rattle.pref_term.specs.Keys.{by_key, from_zero, keyed};
+ghost use Rattle.pref_term.specs.Walk.{by_sides};
+
+use crate::term::{NumberSets, Numbers, Term};
+use pref_table::Row;
+use std::alloc::{AllocError, Global};
+
+/// How a value is scored. Less is better.
+#[derive(Drop)]
+pub(crate) enum Score {
+    /// As it is.
+    Value,
+    /// By how far it lies outside the range.
+    Distance { left: i64, right: i64 },
+    /// By how many sets come before the first that holds it.
+    Sets(NumberSets),
+}
+
+/// A base term, or its converse: the column, how its values are scored, and whether higher scores are better. A column counts from 0, and
+/// is below 16.
+#[derive(Drop)]
+pub(crate) struct Key {
+    pub(crate) col: usize,
+    pub(crate) score: Score,
+    pub(crate) turned: bool,
+}
+
+/// The value in the same order, from 0 on.
+#[inline(always)]
+fn from_zero(value: i64) -> u64
+    ensures { pos result ≡ (value +ℤ pos (2 ^ 63)) }
+{
+    value.abs_diff(i64::MIN)
+}
+
+/// How far the value lies outside the range: at most 2^64 - 1, and nothing within it.
+#[inline(always)]
+pub(crate) fn outside(value: i64, left: i64, right: i64) -> u64
+    ensures { pos result ≡ outside left right value }
+{
+    if value < left {
+        left.abs_diff(value)
+    } else if right < value {
+        value.abs_diff(right)
+    } else {
+        0
+    }
+}
+
+/// How many sets come before the first that holds the value; all, where none does.
+#[inline(never)]
+pub(crate) fn sets_before(sets: &[Numbers], value: i64) -> usize
+    ensures { result ≡ sets_before sets.now value }
+{
+    sets.iter()
+        .position(|set| is_member(set, value))
+        .unwrap_or(sets.len())
+}
+
+pub(crate) fn is_member(set: &Numbers, value: i64) -> bool
+    ensures { result ≡ list_any (int_eq value) set.now }
+{
+    set.as_slice().iter().any(|own| *own == value)
+}
+
+impl Score {
+    /// By how far a value lies outside the range.
+    pub(crate) fn distance(left: i64, right: i64) -> Score
+        ensures { result ≡ Score.Distance left right }
+    {
+        Score::Distance { left, right }
+    }
+
+    /// The score of a value, from 0 on.
+    #[inline(always)]
+    fn of(&self, value: i64) -> u64
+        ensures { pos result ≡ from_zero self.now value }
+    {
+        match self {
+            Score::Value => from_zero(value),
+            Score::Distance { left, right } => outside(value, *left, *right),
+            Score::Sets(sets) => sets_before(sets.as_slice(), value) as u64,
+        }
+    }
+
+    /// The same again. Takes memory for its sets.
+    fn copy(&self, alloc: Global) -> Result<Score, AllocError>
+        ensures { IfOk result (λ copied. copied ≡ self.now) }
+    {
+        match self {
+            Score::Value => Ok(Score::Value),
+            Score::Distance { left, right } => Ok(Score::Distance {
+                left: *left,
+                right: *right,
+            }),
+            Score::Sets(sets) => Ok(Score::Sets(sets.copy(alloc)?)),
+        }
+    }
+
+    /// Whether they are the same.
+    fn is(&self, other: &Score) -> bool
+        ensures { result ≡ true → self.now ≡ other.now }
+    {
+        match (self, other) {
+            (Score::Value, Score::Value) => true,
+            (
+                Score::Distance { left, right },
+                Score::Distance {
+                    left: first,
+                    right: last,
+                },
+            ) => *left == *first && *right == *last,
+            (Score::Sets(sets), Score::Sets(others)) => *sets == *others,
+            _ => false,
+        }
+    }
+}
+
+impl Key {
+    /// The values of a column, where smaller ones are better.
+    pub(crate) fn of_column(col: usize) -> Key
+        ensures { result.col ≡ col }
+    {
+        Key {
+            col,
+            score: Score::Value,
+            turned: false,
+        }
+    }
+
+    /// The key of a row.
+    #[inline(always)]
+    pub(crate) fn of(&self, row: &Row) -> u64
+        requires { self.now.col < 16 }
+        ensures { pos result ≡ keyed self.now row.now }
+    {
+        let score = self.score.of(row.cell(self.col));
+        if self.turned { u64::MAX - score } else { score }
+    }
+
+    /// Whether values are compared as they are.
+    #[inline(always)]
+    pub(crate) fn is_value(&self) -> bool
+        ensures { result ≡ true → self.now.score ≡ Score.Value }
+    {
+        matches!(self.score, Score::Value)
+    }
+
+    /// Whether it has sets.
+    #[inline(always)]
+    pub(crate) fn has_sets(&self) -> bool {
+        matches!(self.score, Score::Sets(_))
+    }
+
+    /// The key of a row less 2^63, where values are compared as they are.
+    #[inline(always)]
+    fn lowered(&self, row: &Row) -> i64
+        requires column { self.now.col < 16 }
+        requires value { self.now.score ≡ Score.Value }
+        ensures { result ≡ (keyed self.now row.now -ℤ pos (2 ^ 63)) }
+    {
+        let value = row.cell(self.col);
+        if self.turned { -1 - value } else { value }
+    }
+
+    /// Whether the first row is better and whether the second is, where values are compared as they are.
+    #[inline(always)]
+    pub(crate) fn sides_by_value(&self, a: &Row, b: &Row) -> (bool, bool)
+        requires column { self.now.col < 16 }
+        requires value { self.now.score ≡ Score.Value }
+        ensures { by_sides result.0 result.1 ≡ by_key self.now a.now b.now }
+    {
+        let first = self.lowered(a);
+        let second = self.lowered(b);
+        (first < second, second < first)
+    }
+
+    /// Whether the first row is better and whether the second is.
+    #[inline(always)]
+    pub(crate) fn sides(&self, a: &Row, b: &Row) -> (bool, bool)
+        requires { self.now.col < 16 }
+        ensures { by_sides result.0 result.1 ≡ by_key self.now a.now b.now }
+    {
+        let first = self.of(a);
+        let second = self.of(b);
+        (first < second, second < first)
+    }
+
+    /// The same key again. Takes memory for its sets.
+    pub(crate) fn copy(&self, alloc: Global) -> Result<Key, AllocError>
+        ensures { IfOk result (λ copied. copied ≡ self.now) }
+    {
+        Ok(Key {
+            col: self.col,
+            score: self.score.copy(alloc)?,
+            turned: self.turned,
+        })
+    }
+
+    /// Whether they are the same.
+    pub(crate) fn is(&self, other: &Key) -> bool
+        ensures { result ≡ true → self.now ≡ other.now }
+    {
+        self.col == other.col && self.turned == other.turned && self.score.is(&other.score)
+    }
+}

@@ -1,0 +1,134 @@
+//! The keys that lead a term, and the order of a term whose leading keys are all that it has: a product of base terms and of their
+//! converses.
+ghost use Rattle.std.specs.Prelude.{◌≡◌, ◌<◌, ◌++◌, false, true, All, Contains, IfOk, OnOk};
+ghost use Rattle.pref_term.specs.Better.{in_same_group};
+ghost use Rattle.pref_term.specs.Keys.{by_keys, is_product, leading};
+ghost use Rattle.pref_term.specs.Preference.{preference_of};
+ghost use Rattle.pref_term.specs.Walk.{by_sides, in_product};
+
+use crate::key::{Key, Score};
+use crate::relation::Relation;
+use crate::term::{NumberSets, Term};
+use pref_table::Row;
+use std::alloc::{AllocError, Global};
+
+/// The keys that lead a term: those of each part of a product, and of a priority those of its first part. No better row has a greater
+/// one. Takes memory for the list and for the sets, once.
+pub(crate) fn leading_keys(alloc: Global, term: &Term) -> Result<Vec<Key>, AllocError>
+    ensures { IfOk result (λ keys. keys.items ≡ leading (preference_of term.now) false) }
+{
+    let mut keys = Vec::new(alloc);
+    push_leading(alloc, &mut keys, term, false)?;
+    Ok(keys)
+}
+
+/// Puts the keys that lead a term behind these, or those that lead its converse.
+fn push_leading(
+    alloc: Global,
+    keys: &mut Vec<Key>,
+    term: &Term,
+    turned: bool,
+) -> Result<(), AllocError>
+    ensures { OnOk result (keys.new.items ≡ keys.old.items ++ leading (preference_of term.now) turned) }
+{
+    let (col, score, turned) = match term {
+        Term::Low { col } => (*col, Score::Value, turned),
+        Term::High { col } => (*col, Score::Value, !turned),
+        Term::Around { col, centre } => (*col, Score::distance(*centre, *centre), turned),
+        Term::Between { col, left, right } => (*col, Score::distance(*left, *right), turned),
+        Term::Pos { col, set } => (*col, Score::Sets(NumberSets::one(alloc, set)?), turned),
+        Term::Layered { col, sets } => (*col, Score::Sets(sets.copy(alloc)?), turned),
+        Term::Pareto(p, q) => {
+            push_leading(alloc, keys, p, turned)?;
+            return push_leading(alloc, keys, q, turned);
+        }
+        Term::Prior(p, _) => return push_leading(alloc, keys, p, turned),
+        Term::Reverse(p) => return push_leading(alloc, keys, p, !turned),
+    };
+    keys.push(Key { col, score, turned })?;
+    Ok(())
+}
+
+/// Whether this is one of the keys.
+pub(crate) fn contains(keys: &[Key], key: &Key) -> bool
+    ensures { result ≡ true → Contains keys.now key.now }
+{
+    for own in keys {
+        if own.is(key) {
+            return true;
+        }
+    }
+    false
+}
+
+/// Whether the term has no priority in it, so that its leading keys are its whole order.
+pub(crate) fn is_product(term: &Term) -> bool
+    ensures { result ≡ is_product (preference_of term.now) }
+{
+    match term {
+        Term::Pareto(p, q) => is_product(p) && is_product(q),
+        Term::Prior(..) => false,
+        Term::Reverse(p) => is_product(p),
+        _ => true,
+    }
+}
+
+/// Whether two rows have equal cells in each of these columns. Takes no memory.
+#[inline(always)]
+pub fn in_same_group(columns: &[usize], a: &Row, b: &Row) -> bool
+    requires { All (λ col. col < 16) columns.now }
+    ensures { result ≡ in_same_group columns.now a.now b.now }
+{
+    for col in columns {
+        if a.cell(*col) != b.cell(*col) {
+            return false;
+        }
+    }
+    true
+}
+
+/// How the first row compares with the second one by the product of these keys.
+///
+/// One loop, which stops at the first key after which neither row can be better. A key that has sets, and those behind it, are left to
+/// a call, so that the loop over numbers keeps all that it needs in few registers. Takes no memory.
+#[inline]
+pub(crate) fn compare_by_keys(keys: &[Key], a: &Row, b: &Row) -> Relation
+    requires { All (λ key. key.col < 16) keys.now }
+    ensures { result ≡ by_keys keys.now a.now b.now }
+{
+    let mut better = false;
+    let mut worse = false;
+    for (place, key) in keys.iter().enumerate() {
+        let (first, second) = if key.is_value() {
+            key.sides_by_value(a, b)
+        } else if key.has_sets() {
+            return compare_beside(better, worse, &keys[place..], a, b);
+        } else {
+            key.sides(a, b)
+        };
+        better |= first;
+        worse |= second;
+        if better && worse {
+            return Relation::Neither;
+        }
+    }
+    Relation::by_sides(better, worse)
+}
+
+/// How the first row compares with the second one by the product of these keys with others, by which the first row is better or the
+/// second is.
+#[inline(never)]
+fn compare_beside(mut better: bool, mut worse: bool, keys: &[Key], a: &Row, b: &Row) -> Relation
+    requires { All (λ key. key.col < 16) keys.now }
+    ensures { result ≡ in_product (by_sides better worse) (by_keys keys.now a.now b.now) }
+{
+    for key in keys {
+        let sides = key.sides(a, b);
+        better |= sides.0;
+        worse |= sides.1;
+        if better && worse {
+            break;
+        }
+    }
+    Relation::by_sides(better, worse)
+}
