@@ -8,13 +8,14 @@ use Rattle.std.proofs.lemmas.List.Sums.{sum_by-append, length-filter}
 use Rattle.std.proofs.Math.Nat.{le-max_left, le-max_right, max-le}
 use Rattle.pref_term.specs.Better.{cell, in_same_group}
 use Rattle.pref_term.specs.Order.{RowOrder, StaysWithin}
+use Rattle.pref_term.specs.Signatures.{mixed}
 use Rattle.pref_sky.specs.declared.entry.Entry.{Entry}
 use Rattle.pref_sky.specs.declared.level.Level.{Level}
 use Rattle.pref_sky.specs.declared.part.Part.{Part}
 use Rattle.pref_sky.specs.Best.{best, is_beaten, rest, without_best}
 use Rattle.pref_sky.specs.Levels.{HaveDifferentIds, at_level, entry_of, entry_order, levels}
 use Rattle.pref_sky.specs.Partials.{held_at, ranked_from}
-use Rattle.pref_sky.specs.Parts.{ArePartedBy, all_at, depth, is_in, levels_of, mixed, mixed_onto, part_of, ranked_parts, ranked_upto}
+use Rattle.pref_sky.specs.Parts.{ArePartedBy, all_at, depth, is_in, levels_of, mixed_onto, part_of, ranked_parts, ranked_upto}
 use Rattle.pref_sky.proofs.Members.{Among, any_from, any_gives, in_filter, from_filter, in_left, in_right, in_either, from_map}
 use Rattle.pref_sky.proofs.Orders.{one_passes}
 use Rattle.pref_sky.proofs.Removals.{filter_filter, same_answer}

@@ -2,8 +2,8 @@
 -- The parts in which a partial result holds its entries where rows are compared within groups alone: a group is in one part.
 use Rattle.std.specs.Prelude.{◌≡◌, ◌+◌, ◌*◌, ◌/◌, ◌%◌, ◌^◌, ◌==◌, Bool, ℕ, zero, suc, ℤ, max, List, [], ◌∷◌, ◌++◌, length, map, Vec}
 use Rattle.std.specs.Global.{Global}
-use Rattle.std.specs.Int.{cast_unsigned, w64}
 use Rattle.pref_term.specs.Better.{cell}
+use Rattle.pref_term.specs.Signatures.{mixed}
 use Rattle.pref_term.specs.declared.signature.scale.Scale.{Scale}
 use Rattle.pref_sky.specs.declared.entry.Entry.{Entry}
 use Rattle.pref_sky.specs.declared.entry.Ranked.{Ranked}
@@ -14,10 +14,7 @@ use Rattle.pref_sky.specs.Levels.{at_level, entry_of, in_order_of_id}
 use Rattle.pref_sky.specs.Members.{Among}
 use Rattle.pref_sky.specs.Partials.{held_at, ranked_from}
 
--- one value more is mixed into a word
-abbrev pub mixed : ℕ → ℤ → ℕ
-mixed word value = (word + cast_unsigned w64 value) % 2 ^ 64 * 11400714819323198485 % 2 ^ 64
-
+-- a word with the values of these columns mixed into it
 abbrev pub mixed_onto : ℕ → List ℕ → List ℤ → ℕ
 mixed_onto word [] row = word
 mixed_onto word (col ∷ columns) row = mixed_onto (mixed word (cell row col)) columns row

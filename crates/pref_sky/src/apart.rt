@@ -14,14 +14,11 @@ use crate::level::{Level, Step, count_of};
 use crate::part::Part;
 use crate::ranking::{push_level, sort_behind};
 use crate::signatures::signatures_of;
-use pref_term::{Cuts, Dominance};
+use pref_term::{Cuts, Dominance, mixed};
 use std::alloc::{AllocError, Global};
 
 /// How many parts there are.
 const PARTS: usize = 1024;
-
-/// A number without pattern, by which words are mixed.
-const MIX: u64 = 11_400_714_819_323_198_485;
 
 /// The part that holds an entry: its cells in these columns, mixed, tell it.
 fn part_of(columns: &[usize], entry: &Entry) -> usize
@@ -29,10 +26,9 @@ fn part_of(columns: &[usize], entry: &Entry) -> usize
     ensures number { result ≡ part_of columns.now entry.now }
     ensures within { result < 1024 }
 {
-    let mut word: u64 = 0;
+    let mut word = 0;
     for col in columns {
-        let value = entry.row.cell(*col).cast_unsigned();
-        word = word.wrapping_add(value).wrapping_mul(MIX);
+        word = mixed(word, entry.row.cell(*col));
     }
     (word >> 54) as usize
 }
