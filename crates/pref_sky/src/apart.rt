@@ -221,6 +221,7 @@ impl Parts {
         Ok(Part {
             levels,
             cuts: Cuts::none(),
+            held_when_signed: 0,
         })
     }
 

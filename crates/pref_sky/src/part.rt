@@ -11,7 +11,7 @@ ghost use Rattle.pref_term.specs.Signatures.{Suit};
 use crate::entry::Entry;
 use crate::level::{Level, Step, count_of};
 use crate::merge::{make_all, plan};
-use crate::signatures::{cuts_of, signatures_of};
+use crate::signatures::{cuts_of, cuts_of_held, signatures_of};
 use pref_term::{Cuts, Dominance};
 use std::alloc::{AllocError, Global};
 
@@ -20,6 +20,8 @@ use std::alloc::{AllocError, Global};
 pub(crate) struct Part {
     pub(crate) levels: Vec<Level>,
     pub(crate) cuts: Cuts,
+    /// How many entries were held when the cuts were made.
+    pub(crate) held_when_signed: usize,
     ghost bound: { length levels.items < 2 ^ 32 },
     ghost signed: { AreSignedBy (signature_by cuts) levels.items } by { AreSignedBy-prop (signature_by cuts) levels.items },
 }
@@ -66,6 +68,16 @@ fn sampled<'held>(held: &'held [Level], entries: &'held [Entry]) -> &'held [Entr
     }
 }
 
+/// How many more entries are held, beside an eighth of them, before cuts are made anew: what comes later may be other than
+/// the first entries were, as in a table that is sorted, and cuts for these then tell nothing of it. Cuts that are made
+/// more often cost more than they spare where entries come in no order.
+const MORE: usize = 1024;
+
+/// Whether the entries that are held are so many more than when cuts were made for them. Any answer is right.
+fn have_grown(held: &[Level], signed: usize) -> bool {
+    count_of(held) > signed.saturating_add(signed / 8).saturating_add(MORE)
+}
+
 /// Cuts that suit the order, for entries like these or those that are held; none where few are held.
 fn cuts_beside<D: Dominance>(
     alloc: Global,
@@ -83,11 +95,12 @@ fn cuts_beside<D: Dominance>(
 }
 
 /// Sees that the levels are signed by cuts that suit the order. Where theirs don't, or tell nothing, they
-/// get some for entries like these, once many are held.
+/// get some for entries like these, once many are held; where many more are held than when theirs were made, some for these.
 fn renew_cuts<D: Dominance>(
     alloc: Global,
     dominance: &D,
     cuts: &mut Cuts,
+    held_when_signed: &mut usize,
     held: &mut Vec<Level>,
     entries: &[Entry],
 ) -> Result<(), AllocError>
@@ -97,11 +110,15 @@ fn renew_cuts<D: Dominance>(
     ensures ranked { ranked_from 1 held.new.items ≡ ranked_from 1 held.old.items }
     ensures len { vec_len held.new ≡ vec_len held.old }
 {
-    if !cuts.is_none() && dominance.suits(cuts) {
+    let new = if cuts.is_none() || !dominance.suits(cuts) {
+        cuts_beside(alloc, dominance, held, entries)?
+    } else if have_grown(held, *held_when_signed) {
+        cuts_of_held(alloc, dominance, held)?
+    } else {
         return Ok(());
-    }
-    let new = cuts_beside(alloc, dominance, held, entries)?;
+    };
     take_cuts(cuts, held, new);
+    *held_when_signed = count_of(held);
     Ok(())
 }
 
@@ -115,6 +132,7 @@ impl Part {
         Part {
             levels: Vec::new(alloc),
             cuts: Cuts::none(),
+            held_when_signed: 0,
         }
     }
 
@@ -139,9 +157,11 @@ impl Part {
     ) -> Result<(), AllocError>
         ensures { ranked_from 1 self.new.levels.items ≡ ranked_from 1 self.old.levels.items }
     {
-        if count_of(&self.levels) >= many {
+        let held = count_of(&self.levels);
+        if held >= many {
             let cuts = cuts_of(alloc, dominance, entries)?;
             take_cuts(&mut self.cuts, &mut self.levels, cuts);
+            self.held_when_signed = held;
         }
         Ok(())
     }
@@ -190,7 +210,14 @@ impl Part {
         if entries.is_empty() {
             return Ok(Vec::new(alloc));
         }
-        renew_cuts(alloc, dominance, &mut self.cuts, &mut self.levels, entries)?;
+        renew_cuts(
+            alloc,
+            dominance,
+            &mut self.cuts,
+            &mut self.held_when_signed,
+            &mut self.levels,
+            entries,
+        )?;
         let signatures = signatures_of(alloc, &self.cuts, entries)?;
         plan(
             alloc,

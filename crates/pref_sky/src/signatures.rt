@@ -1,10 +1,11 @@
 //! Signatures of entries, by which most pairs are decided without a comparison.
 
-ghost use Rattle.std.specs.Prelude.{◌≡◌, ◌≤◌, ◌+◌, ◌++◌, length, map, vec_len, vec_capacity, IfOk};
+ghost use Rattle.std.specs.Prelude.{◌≡◌, ◌≤◌, ◌<◌, ◌+◌, ◌++◌, length, map, vec_len, vec_capacity, IfOk};
 ghost use Rattle.pref_term.specs.Signatures.{Suit};
 ghost use Rattle.pref_sky.specs.Signatures.{signature_by};
 
 use crate::entry::Entry;
+use crate::level::{Level, count_of};
 use crate::room::grow_for;
 use pref_table::Row;
 use pref_term::{Cuts, Dominance};
@@ -64,13 +65,55 @@ const FEWEST: usize = 16;
 /// How many rows a sample has at most: as many as a signature has bits.
 const SAMPLE: usize = 64;
 
+/// Puts the row of one in so many entries into a sample.
+fn push_sample(sample: &mut Vec<Row>, entries: &[Entry], step: usize) -> Result<(), AllocError>
+    requires { 0 < step }
+{
+    for entry in entries.iter().step_by(step) {
+        sample.push(entry.row)?;
+    }
+    Ok(())
+}
+
 /// The rows of some of the entries, evenly spread.
 fn sample_of(alloc: Global, entries: &[Entry]) -> Result<Vec<Row>, AllocError> {
     let mut sample = Vec::new(alloc);
-    for entry in entries.iter().step_by(entries.len() / SAMPLE + 1) {
-        sample.push(entry.row)?;
+    push_sample(&mut sample, entries, entries.len() / SAMPLE + 1)?;
+    Ok(sample)
+}
+
+/// The rows of some of the entries of each level, evenly spread.
+fn sample_of_held(alloc: Global, held: &[Level]) -> Result<Vec<Row>, AllocError> {
+    let mut sample = Vec::new(alloc);
+    let step = count_of(held) / SAMPLE + 1;
+    for level in held {
+        push_sample(&mut sample, &level.entries, step)?;
     }
     Ok(sample)
+}
+
+/// Cuts that suit the order, for rows like these.
+fn cuts_for<D: Dominance>(alloc: Global, dominance: &D, sample: &[Row]) -> Result<Cuts, AllocError>
+    ensures { IfOk result (λ cuts. Suit (D.order dominance.now) cuts) }
+{
+    let cuts = dominance.cuts(alloc, sample)?;
+    if dominance.suits(&cuts) {
+        Ok(cuts)
+    } else {
+        Ok(Cuts::none())
+    }
+}
+
+/// Cuts that suit the order, for entries like those that are held.
+pub(crate) fn cuts_of_held<D: Dominance>(
+    alloc: Global,
+    dominance: &D,
+    held: &[Level],
+) -> Result<Cuts, AllocError>
+    ensures { IfOk result (λ cuts. Suit (D.order dominance.now) cuts) }
+{
+    let sample = sample_of_held(alloc, held)?;
+    cuts_for(alloc, dominance, &sample)
 }
 
 /// Cuts that suit the order, for entries like these; none where they are few.
@@ -85,12 +128,7 @@ pub(crate) fn cuts_of<D: Dominance>(
         return Ok(Cuts::none());
     }
     let sample = sample_of(alloc, entries)?;
-    let cuts = dominance.cuts(alloc, &sample)?;
-    if dominance.suits(&cuts) {
-        Ok(cuts)
-    } else {
-        Ok(Cuts::none())
-    }
+    cuts_for(alloc, dominance, &sample)
 }
 
 /// Puts the signature of each entry behind others, for which there is room. Takes no memory.
