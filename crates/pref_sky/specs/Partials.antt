@@ -79,3 +79,9 @@ pub record IsPlanned (over : Entry → Entry → Bool) (cut : ℕ) (old new : Li
   pub room : HaveRoom new steps
   pub counts : (p : Entry → Bool) → count_by p (map entry_of (ranked_after 1 new steps)) ≤ count_by p (map entry_of (ranked_from 1 old)) + count_by p coming
   pub merged : (before : List Entry) → HaveDifferentIds (before ++ coming) → ranked_from 1 old ≡ levels over before cut → ranked_after 1 new steps ≡ levels over (before ++ coming) cut
+
+-- levels hold the first levels up to the cut of some entries, which have other ids than those that come
+pub record HoldsSome (over : Entry → Entry → Bool) (cut : ℕ) (held : List Level) (coming : List Entry) : Type 0 where
+  pub before : List Entry
+  pub different : HaveDifferentIds (before ++ coming)
+  pub holds : ranked_from 1 held ≡ levels over before cut

@@ -3,7 +3,7 @@
 ghost use Rattle.std.specs.List.{count_by};
 ghost use Rattle.std.specs.Prelude.{◌≡◌, ◌≤◌, ◌<◌, ◌+◌, ◌++◌, ◌^◌, Bool, List, length, map, vec_len, IfOk, OnOk, OnErr};
 ghost use Rattle.pref_sky.specs.Levels.{HaveDifferentIds, entry_of, entry_order, levels};
-ghost use Rattle.pref_sky.specs.Partials.{HaveRoom, IsPlanned, held_at, ranked_after, ranked_from};
+ghost use Rattle.pref_sky.specs.Partials.{HaveRoom, HoldsSome, IsPlanned, held_at, ranked_after, ranked_from};
 ghost use Rattle.pref_sky.specs.Signatures.{AreSignedBy, AreSignedBy-prop, StepsAreSignedBy, signature_by};
 ghost use Rattle.pref_sky.specs.declared.entry.Entry.{Entry};
 ghost use Rattle.pref_term.specs.Signatures.{Suit};
@@ -49,6 +49,9 @@ const MANY: usize = 48;
 
 /// How many of the first entries are added before the others, to see how many of them are held.
 const FIRST: usize = 128;
+
+/// How many entries a piece of the first addition has, at most.
+const PIECE: usize = 1024;
 
 /// How many of the first entries are held, at least, where what comes behind them is signed.
 const MANY_OF_FIRST: usize = 16;
@@ -166,6 +169,32 @@ impl Part {
         Ok(())
     }
 
+    /// Adds entries to the levels of others, in pieces, since the best of a piece are found among few. After an `Err` it holds the levels
+    /// of some of them.
+    fn add_in_pieces<D: Dominance>(
+        &mut self,
+        alloc: Global,
+        dominance: &D,
+        window: usize,
+        cut: u32,
+        entries: &[Entry],
+    ) -> Result<(), AllocError>
+        requires window { 0 < window }
+        requires held { HoldsSome (entry_order (D.order dominance.now)) cut self.old.levels.items entries.now }
+        ensures ids { OnOk result (HaveDifferentIds (map entry_of (ranked_from 1 self.new.levels.items))) }
+        ensures ok { let over = entry_order (D.order dominance.now) in
+            (before : List Entry) → HaveDifferentIds (before ++ entries.now) → ranked_from 1 self.old.levels.items ≡ levels over before cut
+            → OnOk result (ranked_from 1 self.new.levels.items ≡ levels over (before ++ entries.now) cut) }
+    {
+        let mut rest = entries;
+        'each_piece: while !rest.is_empty() {
+            let (piece, others) = rest.split_at(PIECE.min(rest.len()));
+            self.add(alloc, dominance, window, cut, piece)?;
+            rest = others;
+        }
+        Ok(())
+    }
+
     /// The part that holds the levels of these entries.
     ///
     /// The first of them show whether most entries are dominated soon: where an eighth of them is held, what comes
@@ -188,7 +217,7 @@ impl Part {
         let mut part = Part::new(alloc);
         part.add(alloc, dominance, window, cut, first)?;
         part.sign_many(alloc, dominance, MANY_OF_FIRST, others)?;
-        part.add(alloc, dominance, window, cut, others)?;
+        part.add_in_pieces(alloc, dominance, window, cut, others)?;
         Ok(part)
     }
 
