@@ -5,7 +5,7 @@
     python3 tests/definitions.py --write    writes the right numbers into the document first
 
 Listed has to be each definition that a public contract cites; and of those that it cites in turn, each one inside a `mutual`, and each type
-of the code that they are about. Public contracts are those of what a library exports, and of what is inside pref_script and in SPOKEN_OF.
+and constant of the code that they are about. Public contracts are those of what a library exports, and of what is inside pref_script and in SPOKEN_OF.
 
 A section of DEFINITIONS.md names its folder in its heading. Its line `From .., so N lines: 1 of CRATE, 2 of CRATE` names definitions of
 that folder, and N is the number of lines of these and of all that they cite in turn, by crate, without comments, imports and what stands
@@ -99,13 +99,14 @@ def behind(keys, without, lines, brought):
 
 
 def types_in(keys, lines, brought):
-    """The names of the types of the code that definitions are about, whose names the code's contracts declare in files of their own."""
+    """The names of the types and constants of the code that definitions are about, which the code's contracts declare in files of their own."""
     found = set()
     for key in keys:
         for word in set(WORD.findall("\n".join(lines[key]))):
             crate, file, _ = brought[key[:2]].get(word, ("", "", ""))
             if crate in CRATES and file.startswith("declared."):
-                found.add(file.replace(".TheVariants", "").rpartition(".")[2])
+                kind = file.replace(".TheVariants", "").rpartition(".")[2]
+                found.add(word if kind == "TheConstants" else kind)
     return found
 
 
@@ -161,7 +162,7 @@ def not_listed(document, without, lines, brought, private, mutual):
         if key[2] not in listed and key not in cited:
             yield f"{key[2]} of {key[0]} {key[1]}, inside a `mutual`, is not listed"
     for name in sorted(types_in(counted, lines, brought) - listed):
-        yield f"{name}, a type of the code, is not listed"
+        yield f"{name}, a type or a constant of the code, is not listed"
 
 
 def counts(section, crate, without, lines, brought):
