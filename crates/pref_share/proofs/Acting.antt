@@ -229,14 +229,14 @@ pub commits : (o : Opening) (s t : Standing) (commit : List Change) (told : Comm
 commits o s t commit told j =
     let call = CallCommit commit in
     let adds_any = nat_lt 0 (added_by commit) in
-    let state = state_at o j.changes.0.before in
-    let first = same_first o.limits.capacity (begins_row call) (missing (ended call) state.table) (length (needed (committed call state))) j.next_id state.next_id adds_any j.changes.0.reply in
-    changes o s t (Commit commit) call (granted j.next_id call) (λ system. CommittedIs (told_of_commit system.next_id commit)) (CommittedIs told) j.changes refl refl (λ system. refl)
+    let state = state_at o j.0.0.before in
+    let first = same_first o.limits.capacity (begins_row call) (missing (ended call) state.table) (length (needed (committed call state))) told.first state.next_id adds_any j.0.0.reply in
+    changes o s t (Commit commit) call (granted told.first call) (λ system. CommittedIs (told_of_commit system.next_id commit)) (CommittedIs told) j.0 refl refl (λ system. refl)
     (λ system x here.
-    granted_reply j.next_id call (CommittedIs (told_of_commit system.next_id commit)) x adds_any
+    granted_reply told.first call (CommittedIs (told_of_commit system.next_id commit)) x adds_any
     ∙ ap (λ (y : State). CommittedIs (told_of_commit y.next_id commit)) here
     ∙ ap (λ (id : ℕ). CommittedIs (record { changes = length commit; first = id })) first
-    ∙ ap CommittedIs (sym j.told_is))
+    ∙ ap CommittedIs (sym j.1))
 
 -- .. and where they are refused with a number
 pub refused_change : (o : Opening) (s t : Standing) (act : Act) (call : Call) (told : Outcome) (fault : CoreFault) → Changes o s call told t → is_change call ≡ true → call_of act ≡ Some call → ((done : Reply) (x : System) → (changed told done call x).reply ≡ RefusedReply fault) → StepsTo o s act (RefusedReply fault) t

@@ -6,7 +6,6 @@ use Rattle.pref_core.specs.declared.call.Call.TheVariants.{Update as CallUpdate,
 use Rattle.pref_core.specs.declared.call.Outcome.TheVariants.{NoSuchRow as NoRow, Full as NoRoom}
 use Rattle.pref_core.specs.declared.event.Act.{Act}
 use Rattle.pref_core.specs.declared.event.Act.TheVariants.{Insert, Update, Delete, Commit, Begin, Scan, Finish, Abandon, Get, Room}
-use Rattle.pref_core.specs.declared.fault.CoreFault.{CoreFault}
 use Rattle.pref_core.specs.declared.fault.CoreFault.TheVariants.{NoQuery, AllScanned, NotDone, NoSuchRow, Full, OutOfMemory}
 use Rattle.pref_core.specs.State.{is_change}
 use Rattle.pref_core.specs.Systems.{may_want_memory}
@@ -14,10 +13,10 @@ use Rattle.pref_share.specs.declared.fault.ShareFault.{ShareFault}
 use Rattle.pref_share.specs.declared.fault.ShareFault.TheVariants.{Core, ClientInUse, Held, Closed}
 use Rattle.pref_share.specs.Openings.{Opening, IsLegalFrom, HasCall}
 use Rattle.pref_share.specs.Standing.{Standing}
-use Rattle.pref_share.specs.Clients.{Sees, IsInUse, asks_for_memory, Refused, RefusedChange, RefusedFinish, Refuses, RefusesChange, RefusesFinish}
-use Rattle.pref_share.specs.Scanning.{RefusedScan, RefusesScan, RefusesGet}
+use Rattle.pref_share.specs.Clients.{Sees, IsInUse, asks_for_memory, RefusesCall, RefusesChange, RefusesFinish}
+use Rattle.pref_share.specs.Scanning.{RefusesScan, RefusesGet}
 use Rattle.pref_share.specs.Runs.{call_of}
-use Rattle.pref_share.specs.Performing.{Performs, reply_or_stop, reply_or_stop_core}
+use Rattle.pref_share.specs.Performing.{Performs, reply_or_stop}
 use Rattle.pref_share.proofs.Acting.{sees_same, refused_by_itself, refused_change, not_done, got_none, no_query, all_scanned}
 
 -- a call that asks for memory is an act that may
@@ -37,43 +36,32 @@ wants_memory Room call e h = absurd (cc)
 pub stops_in_use : (o : Opening) (s t : Standing) (number : ℕ) → IsInUse o s number t → Sees o s t × ((number ≡ suc t.counter) × HasCall t.seen t.number number)
 stops_in_use o s t number h = (h.sees, (h.next ∙ ap suc (sym h.sees.counted), subst (λ n. HasCall t.seen n number) (sym h.sees.same) h.holds))
 
-by_itself : (o : Opening) (s t : Standing) (act : Act) (call : Call) (fault : CoreFault) → IsLegalFrom o s.seen → call_of act ≡ Some call → Refused o s call fault t → Performs o s act (reply_or_stop_core fault) t
-by_itself o s t act call OutOfMemory l a h = (sees_same o s t l h.2, (refl, wants_memory act call a h.0))
-by_itself o s t act call fault l a h = refused_by_itself o s t act call fault (sees_same o s t l h.1) a h.0
-
-change_by_core : (o : Opening) (s t : Standing) (act : Act) (call : Call) (fault : CoreFault) → IsLegalFrom o s.seen → is_change call ≡ true → call_of act ≡ Some call → RefusedChange o s call fault t → Performs o s act (reply_or_stop_core fault) t
-change_by_core o s t act call (NoSuchRow id) l c a h = refused_change o s t act call (NoRow id) (NoSuchRow id) h c a (λ done x. refl)
-change_by_core o s t act call (Full needed) l c a h = refused_change o s t act call (NoRoom needed) (Full needed) h c a (λ done x. refl)
-change_by_core o s t act call fault l c a h = by_itself o s t act call fault l a h
-
 pub change_refused : (o : Opening) (s t : Standing) (act : Act) (call : Call) (fault : ShareFault) → IsLegalFrom o s.seen → is_change call ≡ true → call_of act ≡ Some call → RefusesChange o s call fault t → Performs o s act (reply_or_stop fault) t
-change_refused o s t act call (Core core) l c a h = change_by_core o s t act call core l c a h
+change_refused o s t act call (Core (NoSuchRow id)) l c a h = refused_change o s t act call (NoRow id) (NoSuchRow id) h c a (λ done x. refl)
+change_refused o s t act call (Core (Full needed)) l c a h = refused_change o s t act call (NoRoom needed) (Full needed) h c a (λ done x. refl)
+change_refused o s t act call (Core OutOfMemory) l c a h = (sees_same o s t l h.2, (refl, wants_memory act call a h.0))
+change_refused o s t act call (Core fault) l c a h = refused_by_itself o s t act call fault (sees_same o s t l h.1) a h.0
 change_refused o s t act call (ClientInUse number) l c a h = stops_in_use o s t number h.1
 change_refused o s t act call fault l c a h = absurd h
 
-pub quiet_refused : (o : Opening) (s t : Standing) (act : Act) (call : Call) (fault : ShareFault) → IsLegalFrom o s.seen → call_of act ≡ Some call → Refuses (λ core. Refused o s call core t) o s call fault t → Performs o s act (reply_or_stop fault) t
-quiet_refused o s t act call (Core core) l a h = by_itself o s t act call core l a h
+pub quiet_refused : (o : Opening) (s t : Standing) (act : Act) (call : Call) (fault : ShareFault) → IsLegalFrom o s.seen → call_of act ≡ Some call → RefusesCall o s call fault t → Performs o s act (reply_or_stop fault) t
+quiet_refused o s t act call (Core OutOfMemory) l a h = absurd h
+quiet_refused o s t act call (Core fault) l a h = refused_by_itself o s t act call fault (sees_same o s t l h.1) a h.0
 quiet_refused o s t act call (ClientInUse number) l a h = stops_in_use o s t number h.1
 quiet_refused o s t act call fault l a h = absurd h
 
-finish_by_core : (o : Opening) (s t : Standing) (fault : CoreFault) → IsLegalFrom o s.seen → RefusedFinish o s fault t → Performs o s Finish (reply_or_stop_core fault) t
-finish_by_core o s t (NotDone left) l h = not_done o s t left (sees_same o s t l h.2) h.0 h.1
-finish_by_core o s t OutOfMemory l h = (sees_same o s t l h.2, (refl, refl))
-finish_by_core o s t fault l h = by_itself o s t Finish CallFinish fault l refl h
-
 pub finish_refused : (o : Opening) (s t : Standing) (fault : ShareFault) → IsLegalFrom o s.seen → RefusesFinish o s fault t → Performs o s Finish (reply_or_stop fault) t
-finish_refused o s t (Core core) l h = finish_by_core o s t core l h
+finish_refused o s t (Core (NotDone left)) l h = not_done o s t left (sees_same o s t l h.2) h.0 h.1
+finish_refused o s t (Core OutOfMemory) l h = (sees_same o s t l h.2, (refl, refl))
+finish_refused o s t (Core fault) l h = refused_by_itself o s t Finish CallFinish fault (sees_same o s t l h.1) refl h.0
 finish_refused o s t (ClientInUse number) l h = stops_in_use o s t number h.2
 finish_refused o s t fault l h = absurd h
 
-scan_by_core : (o : Opening) (s t : Standing) (fault : CoreFault) → IsLegalFrom o s.seen → RefusedScan o s fault t → Performs o s Scan (reply_or_stop_core fault) t
-scan_by_core o s t NoQuery l h = no_query o s t (sees_same o s t l h.1) h.0
-scan_by_core o s t AllScanned l h = all_scanned o s t h.0.asking (sees_same o s t l h.1) h.0.is_open h.0.done
-scan_by_core o s t OutOfMemory l h = (h.1, (refl, refl))
-scan_by_core o s t fault l h = absurd h
-
 pub scan_refused : (o : Opening) (s t : Standing) (fault : ShareFault) → IsLegalFrom o s.seen → RefusesScan o s fault t → Performs o s Scan (reply_or_stop fault) t
-scan_refused o s t (Core core) l h = scan_by_core o s t core l h
+scan_refused o s t (Core NoQuery) l h = no_query o s t (sees_same o s t l h.1) h.0
+scan_refused o s t (Core AllScanned) l h = all_scanned o s t h.0.asking (sees_same o s t l h.1) h.0.is_open h.0.done
+scan_refused o s t (Core OutOfMemory) l h = (h.1, (refl, refl))
+scan_refused o s t (Core fault) l h = absurd h
 scan_refused o s t (ClientInUse number) l h = stops_in_use o s t number h.1
 scan_refused o s t (Held client) l h = absurd h
 scan_refused o s t Closed l h = (sees_same o s t l h.1, refl)

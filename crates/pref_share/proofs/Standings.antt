@@ -1,5 +1,5 @@
 -- What a client's counter and query are along the history that it sees.
-use Rattle.std.proofs.Common.{◌≡◌, ℕ, suc, ◌^◌, ◌<◌, ◌≤◌, Bool, true, false, ◌&&◌, ◌==◌, List, [], ◌∷◌, ◌++◌, Option, Some, None, is_some, Result, Ok, Err, refl, sym, ap, ◌∙◌, subst, arith, inl, inr, MatchResult, IfOk, IfErr}
+use Rattle.std.proofs.Common.{◌≡◌, ℕ, suc, ◌^◌, ◌<◌, ◌≤◌, Bool, true, false, cond, nat_lt, ◌&&◌, ◌==◌, List, [], ◌∷◌, ◌++◌, length, Option, Some, None, is_some, Result, Ok, Err, refl, sym, ap, ◌∙◌, subst, arith, inl, inr, MatchResult, IfOk, IfErr}
 use Rattle.std.specs.List.{AllByRecursion}
 use Rattle.std.specs.Option.{unwrap_or}
 use Rattle.std.specs.Global.{Vec}
@@ -8,13 +8,17 @@ use Rattle.pref_term.specs.Question.{Question}
 use Rattle.pref_sky.specs.declared.entry.Ranked.{Ranked}
 use Rattle.pref_core.specs.declared.store.caller.Caller.{Caller}
 use Rattle.pref_core.specs.declared.call.Call.{Call}
-use Rattle.pref_core.specs.declared.call.Call.TheVariants.{Begin, Finish, Abandon}
+use Rattle.pref_core.specs.declared.call.Call.TheVariants.{Commit, Begin, Finish, Abandon}
 use Rattle.pref_core.specs.declared.call.Op.{Op}
 use Rattle.pref_core.specs.declared.call.Outcome.{Outcome}
 use Rattle.pref_core.specs.declared.call.Outcome.TheVariants.{Added, Done, NoSuchRow, Full}
+use Rattle.pref_core.specs.declared.changes.Change.{Change}
+use Rattle.pref_core.specs.declared.event.Committed.{Committed}
 use Rattle.pref_share.specs.declared.fault.ShareFault.{ShareFault}
 use Rattle.pref_core.specs.declared.fault.CoreFault.{CoreFault}
-use Rattle.pref_core.specs.State.{State, Client, Snapshot, is_change, calls_of, begun_of, begun_after, after, outcome, refusal, refusal_of}
+use Rattle.pref_core.specs.Changes.{added_by}
+use Rattle.pref_core.specs.State.{State, Client, Snapshot, is_change, calls_of, begun_of, begun_after, after, granted, outcome, refusal, refusal_of}
+use Rattle.pref_core.specs.Step.{told_of_commit}
 use Rattle.pref_core.specs.Slots.{Contents, StandsFor, Shows, ShowsBegin}
 use Rattle.std.proofs.lemmas.Bool.{eqb-true}
 use Rattle.pref_core.specs.Operations.{ran, same_number}
@@ -28,7 +32,7 @@ use Rattle.pref_core.proofs.Systems.{begun_after-change}
 use Rattle.pref_core.proofs.Following.{stays_on_its_way, begun_on_its_way, next_is_new_on_its_way, scanned_on_its_way, answers_the_begin}
 use Rattle.pref_share.specs.Openings.{Opening, IsLegalFrom, HasCall, MayFollow, history_of, contents_at, state_at, calls_at, first_state}
 use Rattle.pref_share.specs.Standing.{Asking, Standing}
-use Rattle.pref_share.specs.Clients.{Sees, Joins, Changes, RefusesChange, IsAnswer, own_refusal}
+use Rattle.pref_share.specs.Clients.{Sees, Joins, Changes, Commits, RefusesChange, IsAnswer, own_refusal}
 use Rattle.pref_share.specs.Following.{AsksOrNone, Asks, Stands, IsJoined, GivesNone, snapshot_at, done_or_refused}
 use Rattle.pref_share.proofs.Prefixes.{prefix_self, prefix_trans}
 use Rattle.pref_share.proofs.Histories.{legal-more, legal-prefix, legal_stands, legal_capacity, contents_at-append, state_at-append, history_rest, legal_is_history}
@@ -352,6 +356,22 @@ change_told o old new call told result e j q = subst (λ (r : Result Outcome Sha
     go Done j = ((j, q), tt)
     go (NoSuchRow id) j = (tt, (j, q))
     go (Full needed) j = (tt, (j, q))
+
+-- what a commit tells that is done
+pub commit_told : (o : Opening) (old new : Standing) (commit : List Change) (outcome : Outcome) (told : Committed) (next_id : ℕ) → Changes o old (Commit commit) outcome new → outcome ≡ granted next_id (Commit commit)
+    → told ≡ told_of_commit next_id commit → Commits o old commit told new
+commit_told o old new commit outcome told next_id joined is told_is = (
+  subst (λ (x : Outcome). Changes o old (Commit commit) x new) (is ∙ same_outcome (nat_lt 0 (added_by commit)) ∙ ap (λ (x : Committed). granted x.first (Commit commit)) (sym told_is)) joined,
+  told_is ∙ ap (λ (id : ℕ). record { changes = length commit; first = id }) (same_first (nat_lt 0 (added_by commit))) ∙ ap (λ (x : Committed). told_of_commit x.first commit) (sym told_is),
+)
+  where
+    same_outcome : (adds : Bool) → cond adds (Added next_id) Done ≡ cond adds (Added (cond adds next_id 0)) Done
+    same_outcome true = refl
+    same_outcome false = refl
+
+    same_first : (adds : Bool) → cond adds next_id 0 ≡ cond adds (cond adds next_id 0) 0
+    same_first true = refl
+    same_first false = refl
 
 pub sees : (o : Opening) (old new : Standing) → IsPrefix old.seen new.seen → IsLegalFrom o new.seen → new.counter ≡ old.counter → new.number ≡ old.number → new.query ≡ old.query → Sees o old new
 sees o old new further legal counted same query = record { further = further; legal = legal; counted = counted; same = same; query = query }

@@ -47,11 +47,9 @@ pub record Joins (o : Opening) (old : Standing) (call : Call) (told : Outcome) (
 abbrev pub Changes : Opening → Standing → Call → Outcome → Standing → Type 0
 Changes o old call told new = Joins o old call told new × (new.query ≡ old.query)
 
--- The changes of a commit joined the history as one call: this is the id of the next row at its place, and this is returned of it.
-pub record Commits (o : Opening) (old : Standing) (commit : List Change) (told : Committed) (new : Standing) : Type 0 where
-  pub next_id : ℕ
-  pub changes : Changes o old (Commit commit) (granted next_id (Commit commit)) new
-  pub told_is : told ≡ told_of_commit next_id commit
+-- the changes of a commit joined the history as one call, which added its rows from the returned id on, and this is returned of it
+abbrev pub Commits : Opening → Standing → List Change → Committed → Standing → Type 0
+Commits o old commit told new = Changes o old (Commit commit) (granted told.first (Commit commit)) new × (told ≡ told_of_commit told.first commit)
 
 -- no call was made, and no less was seen
 pub record Sees (o : Opening) (old new : Standing) : Type 0 where
@@ -67,31 +65,31 @@ pub record IsInUse (o : Opening) (old : Standing) (number : ℕ) (new : Standing
   pub holds : HasCall new.seen old.number number
   pub next : number ≡ suc old.counter
 
--- whether a call asks for memory: for the places of new rows in the index (what a finish asks for is said below)
+-- whether a change asks for memory: for the places of new rows in the index
 abbrev pub asks_for_memory : Call → Bool
 asks_for_memory call = nat_lt 0 (added call)
 
--- what a refusal of a numbered call says, where its outcome is no refusal of a change
-abbrev pub Refused : Opening → Standing → Call → CoreFault → Standing → Type 0
-Refused o old call OutOfMemory new = (asks_for_memory call ≡ true) × (own_refusal old call ≡ None) × (new ≡ old)
-Refused o old call fault new = (own_refusal old call ≡ Some fault) × (new ≡ old)
-
--- what a refusal of a change says: a row that is missing, or a full table, is an outcome of a call that joined
-abbrev pub RefusedChange : Opening → Standing → Call → CoreFault → Standing → Type 0
-RefusedChange o old call (MissingRow id) new = Changes o old call (NoSuchRow id) new
-RefusedChange o old call (TooFull needed) new = Changes o old call (Full needed) new
-RefusedChange o old call fault new = Refused o old call fault new
-
--- a refusal, by what the client meets
-abbrev pub Refuses : (CoreFault → Type 0) → Opening → Standing → Call → ShareFault → Standing → Type 0
-Refuses core o old call (Core fault) new = core fault
-Refuses core o old call (ClientInUse number) new = (own_refusal old call ≡ None) × IsInUse o old number new
-Refuses core o old call (Held client) new = ⊥
-Refuses core o old call Closed new = ⊥
-
--- the same, for a change
+-- What a refusal of a change says, and what it leaves. That a row is missing, or the table full, is an outcome of a call that joined.
 abbrev pub RefusesChange : Opening → Standing → Call → ShareFault → Standing → Type 0
-RefusesChange o old call fault new = Refuses (λ core. RefusedChange o old call core new) o old call fault new
+RefusesChange o old call (Core (MissingRow id)) new = Changes o old call (NoSuchRow id) new
+RefusesChange o old call (Core (TooFull needed)) new = Changes o old call (Full needed) new
+RefusesChange o old call (Core OutOfMemory) new = (asks_for_memory call ≡ true) × (own_refusal old call ≡ None) × (new ≡ old)
+RefusesChange o old call (Core fault) new = (own_refusal old call ≡ Some fault) × (new ≡ old)
+RefusesChange o old call (ClientInUse number) new = (own_refusal old call ≡ None) × IsInUse o old number new
+RefusesChange o old call (Held client) new = ⊥
+RefusesChange o old call Closed new = ⊥
+
+-- the same, for a begin and an abandon, which ask for no memory
+abbrev pub RefusesCall : Opening → Standing → Call → ShareFault → Standing → Type 0
+RefusesCall o old call (Core OutOfMemory) new = ⊥
+RefusesCall o old call (Core fault) new = (own_refusal old call ≡ Some fault) × (new ≡ old)
+RefusesCall o old call (ClientInUse number) new = (own_refusal old call ≡ None) × IsInUse o old number new
+RefusesCall o old call (Held client) new = ⊥
+RefusesCall o old call Closed new = ⊥
+
+-- a begin hands its ask back
+abbrev pub RefusesBegin : Opening → Standing → Question → BeginFault → Standing → Type 0
+RefusesBegin o old ask refused new = (refused.ask ≡ ask) × RefusesCall o old Begin refused.fault new
 
 -- A query began: it has scanned nothing, and looks at the table as its begin left it.
 pub record Begins (o : Opening) (old : Standing) (ask : Question) (left : ℕ) (new : Standing) : Type 0 where
@@ -125,19 +123,11 @@ pub record Finishes (o : Opening) (old : Standing) (ranked : List Ranked) (new :
   pub query : new.query ≡ None
   pub answer : IsAnswer o old ranked
 
--- what a refusal of a finish says: memory, and whether the client is in use, are met where no block is left
-abbrev pub RefusedFinish : Opening → Standing → CoreFault → Standing → Type 0
-RefusedFinish o old (NotDone left) new = (own_refusal old Finish ≡ None) × HasLeft old left × (new ≡ old)
-RefusedFinish o old OutOfMemory new = (own_refusal old Finish ≡ None) × HasNoneLeft old × (new ≡ old)
-RefusedFinish o old fault new = (own_refusal old Finish ≡ Some fault) × (new ≡ old)
-
--- the same, by what the client meets
+-- the same, for a finish: memory, and whether the client is in use, are met where no block is left
 abbrev pub RefusesFinish : Opening → Standing → ShareFault → Standing → Type 0
-RefusesFinish o old (Core fault) new = RefusedFinish o old fault new
+RefusesFinish o old (Core (NotDone left)) new = (own_refusal old Finish ≡ None) × HasLeft old left × (new ≡ old)
+RefusesFinish o old (Core OutOfMemory) new = (own_refusal old Finish ≡ None) × HasNoneLeft old × (new ≡ old)
+RefusesFinish o old (Core fault) new = (own_refusal old Finish ≡ Some fault) × (new ≡ old)
 RefusesFinish o old (ClientInUse number) new = (own_refusal old Finish ≡ None) × HasNoneLeft old × IsInUse o old number new
 RefusesFinish o old (Held client) new = ⊥
 RefusesFinish o old Closed new = ⊥
-
--- the same, for a begin, which hands its ask back
-abbrev pub RefusesBegin : Opening → Standing → Question → BeginFault → Standing → Type 0
-RefusesBegin o old ask refused new = (refused.ask ≡ ask) × Refuses (λ core. Refused o old Begin core new) o old Begin refused.fault new

@@ -46,7 +46,7 @@ pub record AreReports {J : Type 0} (o : Opening) (may_hold : ℕ → ℕ → Typ
   pub each : (i : ℕ) (client : Standing) (list : Vec Act) → slice_get clients i ≡ Some client → slice_get acts i ≡ Some list
       → (report : Report J) × (slice_get reports i ≡ Some report) × Did o may_hold client list.items report × IsWithin o history report
 
--- why the first of these clients stopped that did not do all its acts
+-- why the first of these clients stopped that did, in order of number
 pub record IsFirstStopped {J : Type 0} (reports : List (Report J)) (fault : ShareFault) : Type 0 where
   pub before : List (Report J)
   pub report : Report J
@@ -55,6 +55,6 @@ pub record IsFirstStopped {J : Type 0} (reports : List (Report J)) (fault : Shar
   pub went_on : All (λ r. r.stopped ≡ None) before
   pub stopped : report.stopped ≡ Some fault
 
--- Why a run is refused that gives no reports: out of memory; or there are right reports, and the first client stopped for this that stopped.
+-- Why a run is refused, which gives no reports then: out of memory; or there are right reports, and this is why the first client stopped that did.
 abbrev pub RefusesRun : (J : Type 0) → Opening → (ℕ → ℕ → Type 0) → List Standing → List (Vec Act) → ShareFault → Type 0
 RefusesRun J o may_hold clients acts fault = (fault ≡ Core OutOfMemory) ⊎ ((reports : List (Report J)) × AreReports o may_hold clients acts reports × IsFirstStopped reports fault)

@@ -3,7 +3,6 @@ use Rattle.std.specs.Prelude.{◌≡◌, ℕ, ◌-◌, List, length, Option, Som
 use Rattle.std.specs.Option.{option_map}
 use Rattle.pref_core.specs.Rows.{Row}
 use Rattle.pref_core.specs.declared.call.Op.{Op}
-use Rattle.pref_core.specs.declared.fault.CoreFault.{CoreFault}
 use Rattle.pref_core.specs.declared.fault.CoreFault.TheVariants.{NoQuery, AllScanned, NoSuchRow, OutOfMemory}
 use Rattle.pref_core.specs.Table.{line_of}
 use Rattle.pref_core.specs.State.{needed}
@@ -34,14 +33,11 @@ abbrev pub HasMore : Standing → Type 0
 HasMore s = (left : ℕ) × HasLeft s left
 
 -- what a refusal of a scan says: nothing but the client's own query is met where there is no block to scan
-abbrev pub RefusedScan : Opening → Standing → CoreFault → Standing → Type 0
-RefusedScan o old NoQuery new = (old.query ≡ None) × (new ≡ old)
-RefusedScan o old AllScanned new = HasNoneLeft old × (new ≡ old)
-RefusedScan o old OutOfMemory new = HasMore old × Sees o old new
-RefusedScan o old fault new = ⊥
-
 abbrev pub RefusesScan : Opening → Standing → ShareFault → Standing → Type 0
-RefusesScan o old (Core fault) new = RefusedScan o old fault new
+RefusesScan o old (Core NoQuery) new = (old.query ≡ None) × (new ≡ old)
+RefusesScan o old (Core AllScanned) new = HasNoneLeft old × (new ≡ old)
+RefusesScan o old (Core OutOfMemory) new = HasMore old × Sees o old new
+RefusesScan o old (Core fault) new = ⊥
 RefusesScan o old (ClientInUse number) new = HasMore old × IsInUse o old number new
 RefusesScan o old (Held client) new = ⊥
 RefusesScan o old Closed new = HasMore old × (new ≡ old)

@@ -6,7 +6,7 @@ ghost use Rattle.pref_core.specs.State.{added, is_change, granted};
 ghost use Rattle.pref_core.specs.Stability.{is_end};
 ghost use Rattle.pref_share.specs.declared.fault.ShareFault.TheVariants.{ClientInUse};
 ghost use Rattle.pref_core.specs.Step.{told_of_commit};
-ghost use Rattle.pref_share.specs.Clients.{own_refusal, Changes, Commits, Joins, Begins, Finishes, IsAnswer, Refused, Refuses, RefusesChange, RefusesBegin, RefusesFinish, IsInUse};
+ghost use Rattle.pref_share.specs.Clients.{own_refusal, Changes, Commits, Joins, Begins, Finishes, IsAnswer, RefusesChange, RefusesCall, RefusesBegin, RefusesFinish, IsInUse};
 ghost use Rattle.pref_share.specs.Following.{MayJoin, IsAhead, done_or_refused, first_added, GivesNone};
 
 use crate::board::Board;
@@ -212,7 +212,7 @@ impl<J: Naming> Client<J> {
         board: &Board<J>,
     ) -> Result<(), ShareFault>
         ensures abandoned { IfOk result (λ _. Joins J.opening self.old Call.Abandon Done self.new × (self.new.query ≡ None)) }
-        ensures refused { IfErr result (λ fault. Refuses (λ core. Refused J.opening self.old Call.Abandon core self.new) J.opening self.old Call.Abandon fault self.new) }
+        ensures refused { IfErr result (λ fault. RefusesCall J.opening self.old Call.Abandon fault self.new) }
     {
         if let Some(fault) = self.refusal(&LentCall::abandon()) {
             return Err(ShareFault::Core(fault));

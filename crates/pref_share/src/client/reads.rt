@@ -14,7 +14,7 @@ ghost use Rattle.pref_core.specs.State.{State, calls_of, needed};
 ghost use Rattle.pref_core.specs.Table.{line_of};
 ghost use Rattle.pref_share.specs.Openings.{IsLegalFrom, first_contents, contents_at, calls_at};
 ghost use Rattle.pref_share.specs.Clients.{Sees};
-ghost use Rattle.pref_share.specs.Scanning.{Scanned, HasMore, RefusedScan, RefusesScan, RefusesGet, room_at, row_after};
+ghost use Rattle.pref_share.specs.Scanning.{Scanned, HasMore, RefusesScan, RefusesGet, room_at, row_after};
 ghost use Rattle.pref_share.specs.Views.{Knows, HoldsHistory};
 ghost use Rattle.pref_share.specs.declared.fault.ShareFault.TheVariants.{Closed};
 

@@ -1,0 +1,16 @@
+use Rattle.std.proofs.Common.{◌≡◌, ℕ, subst}
+use Rattle.pref_core.specs.declared.call.Call.{Call}
+use Rattle.pref_core.specs.declared.call.Call.TheVariants.{Commit}
+use Rattle.pref_core.specs.State.{granted}
+use Rattle.pref_share.specs.Clients.{Changes}
+use Rattle.pref_share.proofs.Standings.{commit_told}
+use Rattle.pref_share.proofs.client.Client.commit.Goals as goal
+
+pub returns-clause-committed : goal.returns-clause-committed
+returns-clause-committed g c =
+    let o = g.J.Naming.opening in
+    let new = c.change.new.self in
+    let outcome = c.in_ok-outcome.outcome in
+    let joined : Changes o c.args.self.now (Commit c.args.commit) outcome new = subst (λ (call : Call). Changes o c.args.self.now call outcome new) c.commit.ensures c.in_ok-outcome.ensures.changed in
+    let (next_id, is) = subst (λ (call : Call). (id : ℕ) × (outcome ≡ granted id call)) c.commit.ensures c.in_ok-outcome.ensures.granted in
+    commit_told o c.args.self.now new c.args.commit outcome c.told_of_commit.result next_id joined is (c.told_of_commit.ensures next_id is)
