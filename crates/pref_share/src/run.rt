@@ -49,7 +49,7 @@ pub struct Report<J: Naming> {
     pub client: Client<J>,
     /// The reply to each act that it did, in order: the first of its acts.
     pub replies: Vec<Reply>,
-    /// Why it did not do the next, or that it is in use.
+    /// Why it did not do the next, or that it is in use after all of them.
     pub stopped: Option<ShareFault>,
 }
 
@@ -67,7 +67,7 @@ struct Job<J: Naming> {
 /// Acts that the table refuses have its refusal as their reply, and stop no client. A client stops before an act to which the gate answers
 /// false (`Held`), and at one that meets `OutOfMemory`, which only an act that asks for memory does, or `Closed`, which only a scan, a get
 /// or a room does. `ClientInUse` is reported of a client, also after all its acts, whose next call is in what it has seen, though it
-/// has not made it; no run is known to meet it. No client stops another.
+/// has not made it; no run is known to meet it, and a client that stopped for another reason keeps that. No client stops another.
 ///
 /// An `Err` means that there was no memory for the jobs, the replies or the reports. The clients are dropped then, and what had
 /// joined the history stays.
@@ -98,7 +98,7 @@ pub fn run_each<J: Naming + Send + Sync, R: Threads + Wait + Sync, G: Gate + Syn
 /// one legal history, and so of the sequential table for one interleaving of the acts.
 ///
 /// Where a client stopped, the refusal is that of the one with the lowest number that did. The clients and the replies are dropped
-/// then, and what had joined the history stays. Else refused `OutOfMemory`.
+/// then, and what had joined the history stays. Else refused `OutOfMemory`, where there is none for the jobs, the reports or the replies.
 ///
 /// ```text
 /// let replies = run_all(rt, alloc, &board, clients, acts, &gate)?;
