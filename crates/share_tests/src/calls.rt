@@ -210,6 +210,30 @@ fn rows_by_clients(rt: HostRuntime) -> Result<(), Fail> {
     two_updates_under_an_open_query(&rt)
 }
 
+/// A refused call has joined nothing: later calls of the same client succeed, and another client reads the same.
+#[test]
+fn refused_calls_have_not_joined(rt: HostRuntime) -> Result<(), Fail> {
+    let run = [
+        (0, Does::Finishes),
+        (0, Does::Scans),
+        (0, Does::Begins),
+        (0, Does::Begins),
+        (0, Does::Finishes),
+        (0, Does::Scans),
+        (0, Does::Scans),
+        (0, Does::Scans),
+        (0, Does::Finishes),
+        (0, Does::Abandons),
+        (0, Does::Deletes(2)),
+        (0, Does::Updates(1, 3)),
+        (1, Does::Gets(1)),
+        (1, Does::AsksRoom),
+    ];
+    let wanted =
+        "refused: no query / refused: no query / begun 2 / refused: query open / refused: not done left 2 / left 1 / left 0 / refused: all scanned / answer level 1 id 1: 4 / refused: no query / refused: no such row 2 / updated 1 / row 1: 3 / room 1 / ";
+    check_told(&rt, &[4], setup(2, 2, 1)?, &run, wanted)
+}
+
 /// How many blocks the begin of the second client returns, who is the last, and the replies to the first once the second was dropped.
 fn begun_and_told<J: Naming, R: Wait + Abort>(
     rt: &R,
