@@ -56,7 +56,8 @@ layout() {
     diff -r --exclude=out crates "$room/formatted/crates"
 }
 
-# All tests, without their proofs. In a copy, the crates of tests are modules of one crate, so that the libraries are compiled once.
+# All tests, without their proofs. In a copy, the crates of tests and the program's arguments are modules of one crate, so that the libraries are
+# compiled once.
 tests() {
     copy_crates "$room/joined" && cd "$room/joined/crates" && mkdir -p joined/src || return 1
     local crate
@@ -65,7 +66,8 @@ tests() {
         find "joined/src/$crate" "joined/src/$crate.rt" -name '*.rt' -exec sed -i "/^#!\[/d; s/\bcrate::/crate::$crate::/g" {} +
         echo "mod $crate;" >>joined/src/lib.rt
     done
-    echo "joined: $(sed -n 's/^[a-z]*_tests: //p' ../crates.txt | tr ' ' '\n' | sort -u | tr '\n' ' ')" >>../crates.txt
+    cp prefq/src/args.rt joined/src && echo 'mod args;' >>joined/src/lib.rt || return 1
+    echo "joined: $(sed -n 's/^[a-z]*_tests: //p; s/^prefq: //p' ../crates.txt | tr ' ' '\n' | sort -u | tr '\n' ' ')" >>../crates.txt
     cd joined && rt try --test
 }
 
