@@ -2,7 +2,7 @@
 use Rattle.std.specs.Prelude.{ℕ, ◌≡◌, ◌≤◌, Bool, true, List, length, take, Option, Result, Ok, Err, IsOk}
 use Rattle.std.specs.Io.KnownBytes.{Appends, Consumes, IsAtEnd, Keeps}
 use Rattle.pref_script.specs.Input.{HadTooMany}
-use Rattle.pref_script.specs.Output.{text_of}
+use Rattle.pref_script.specs.Output.{fault_text, text_of}
 use Rattle.pref_script.specs.Watched.{has_failed, inside}
 use Rattle.pref_script.specs.declared.fault.RunFault.{RunFault}
 use Rattle.pref_script.specs.declared.fault.RunFault.TheVariants as fault
@@ -50,7 +50,9 @@ ReadAll source P = (bytes : List ℕ) × Consumes source.had source.left bytes �
 
 -- what a run read and wrote, by how it ended, where Tells says which text or which fault an input may give
 abbrev pub Ran : (List ℕ → Result (List ℕ) RunFault → Type 0) → Source → Sink → Result (Unit {0}) RunFault → Type 0
+Ran Tells source sink (Ok done) = ReadAll source (λ bytes. (text : List ℕ) × Tells bytes (Ok text) × WroteAll sink text)
 Ran Tells source sink (Err fault.Read) = (source.failed ≡ true) × NothingWritten sink
 Ran Tells source sink (Err fault.TooLarge) = HadTooMany source.had × NothingWritten sink
 Ran Tells source sink (Err fault.Memory) = NothingWritten sink
-Ran Tells source sink result = ReadAll source (λ bytes. (told : Result (List ℕ) RunFault) × Tells bytes told × Wrote sink told result)
+Ran Tells source sink (Err fault.Write) = (sink.failed ≡ true) × ReadAll source (λ bytes. (told : Result (List ℕ) RunFault) × Tells bytes told × WroteBeginning sink (text_of told))
+Ran Tells source sink (Err why) = ReadAll source (λ bytes. Tells bytes (Err why) × WroteAll sink (fault_text why))
