@@ -25,10 +25,15 @@ fn room_after(len: usize) -> usize
     CHUNK.min(MAX_INPUT + 1 - len)
 }
 
-/// Reads all bytes of a reader, which are at most 16,777,216. It takes no more than these and one byte.
+/// Reads all bytes of a reader, which are at most 16,777,216, up to 8,192 at a time. It takes no more than these and one byte.
 ///
 /// Refused `Read` where the reader fails, `TooLarge` where it has more bytes, and `Memory`. The bytes that were read
 /// are lost then.
+///
+/// ```text
+/// let mut reader = Watched::new(b"table\nx\nend\n".as_slice());
+/// let script = read_input(alloc, &mut reader)?;
+/// ```
 pub fn read_input<R: Read>(alloc: Global, reader: &mut Watched<R>) -> Result<Vec<u8>, RunFault>
     ensures most { (bytes : List ℕ) × Consumes (R.remaining (inside reader.old)) (R.remaining (inside reader.new)) bytes × (length bytes ≤ 16777217) }
     ensures ok { IfOk result (λ input. Consumes (R.remaining (inside reader.old)) (R.remaining (inside reader.new)) input.items × IsAtEnd (R.remaining (inside reader.new)) × (length input.items ≤ 16777216)) }

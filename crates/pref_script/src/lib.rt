@@ -2,7 +2,8 @@
 //!
 //! [`run_script`] reads a whole script and then writes all replies; [`run_live`] replies to each line as it comes;
 //! [`run_script_on_threads`] runs each client's lines on a thread of its own. Each says in its contract which bytes it writes: those of
-//! the sequential table, line by line, or of a joint run of the clients. A run that ends early has a [`RunFault`].
+//! the sequential table, line by line, or of a joint run of the clients. A run that ends early has a [`RunFault`]. [`read_input`] and
+//! [`write_output`] are the first and the last step of a run, for programs that do something else in between.
 #![tactic(auto)]
 
 mod acts;
@@ -29,8 +30,9 @@ mod watched;
 mod words;
 
 pub use fault::RunFault;
+pub use input::read_input;
 pub use live::run_live;
-pub use output::fault_line;
+pub use output::{fault_line, write_output};
 pub use run::run_script;
 pub use threads::{OpenGate, run_script_on_threads, run_threads};
 pub use watched::Watched;

@@ -13,7 +13,12 @@ use std::io::Write;
 
 /// Writes all bytes, in as many writes as the writer needs, and flushes. Takes no memory.
 ///
-/// Refused `Write` where the writer fails or takes no byte; a beginning of the bytes was written then.
+/// Refused `Write` where the writer fails or takes no byte; a beginning of the bytes was written then, perhaps all of them.
+///
+/// ```text
+/// let mut writer = Watched::new(Vec::new(alloc));
+/// write_output(&mut writer, b"1 inserted 2\n")?;
+/// ```
 pub fn write_output<W: Write>(writer: &mut Watched<W>, bytes: &[u8]) -> Result<(), RunFault>
     ensures ok { OnOk result (Appends (W.contents (inside writer.old)) (W.contents (inside writer.new)) bytes.now) }
     ensures fault { IfErr result (λ fault. (fault ≡ RunFault.Write) × (has_failed writer.new ≡ true)

@@ -1,7 +1,7 @@
 //! Readers and writers that move few bytes, fail, or never end.
 use crate::runs::{Full, Narrow, Trickle, defaults, in_steps, roomy, run_through};
 use crate::same::assert_same;
-use pref_script::{RunFault, Watched, run_script};
+use pref_script::{RunFault, Watched, read_input, run_script, write_output};
 use std::io;
 use std::io::Read;
 use std::test::Fail;
@@ -33,6 +33,31 @@ impl Read for Endless {
         self.given = self.given.wrapping_add(buf.len());
         Ok(buf.len())
     }
+}
+
+#[test]
+fn an_input_is_read_whole(rt: HostRuntime) -> Result<(), Fail> {
+    let [(text, _), _] = SCRIPTS;
+    let mut reader = Watched::new(in_steps(text, 7));
+    let input = read_input(rt.alloc(), &mut reader).ok();
+    let found = (
+        input.as_ref().map(|bytes| bytes.as_slice()),
+        reader.failed(),
+    );
+    assert_same(&rt, text.len(), &found, &(Some(text), false));
+    Ok(())
+}
+
+#[test]
+fn an_output_is_written_whole(rt: HostRuntime) -> Result<(), Fail> {
+    let [(_, told), _] = SCRIPTS;
+    let mut writer = Watched::new(roomy(rt.alloc(), 7));
+    let result = write_output(&mut writer, told);
+    let failed = writer.failed();
+    let taken = writer.into_inner().taken;
+    let found = (result, failed, taken.as_slice());
+    assert_same(&rt, told.len(), &found, &(Ok(()), false, told));
+    Ok(())
 }
 
 #[test]
