@@ -1,18 +1,24 @@
 -- The table block, line by line.
-use Rattle.std.proofs.Common.{◌≡◌, ◌∙◌, ℕ, ◌+◌, ◌-◌, ◌<◌, ◌≤◌, true, false, List, [], ◌∷◌, ◌++◌, length, take, drop, get_or, ap, refl, sym, subst, arith, append_assoc, Option, Ok, Err, inl, inr, ◌⊎◌}
-use Rattle.std.proofs.lemmas.Bool.{lt-ltb, le-ltb}
-use Rattle.std.proofs.lemmas.List.{append-nil, drop-append-le, drop-take, drop_all, get_or_append_left, length-append, length-take, take-append-drop, take-append-le, take_all}
-use Rattle.std.proofs.lemmas.List.Sums.{position_or_len_is}
+use Rattle.std.proofs.Common.{◌≡◌, ◌∙◌, ℕ, zero, suc, ◌+◌, ◌-◌, ◌<◌, ◌≤◌, true, false, List, [], ◌∷◌, ◌++◌, length, take, drop, get_or, ap, refl, sym, subst, arith, append_assoc, Option, Some, None, Ok, Err, inl, inr, ◌⊎◌}
+use Rattle.std.proofs.lemmas.Bool.{cases_lt, eqb-true, lt-ltb, le-ltb}
+use Rattle.std.proofs.lemmas.List.{append-nil, drop-append-le, drop-take, drop_all, get_or_append_left, length-append, length-drop, length-take, take-append-drop, take-append-le, take_all, take_at}
+use Rattle.std.proofs.lemmas.List.Sums.{fails_before_first, passes_at_first, position_or_len_is}
+use Rattle.std.proofs.Math.Seq.{get_or-append_seam}
+use Rattle.memchr.specs.Find.{IsFirstByte, is_byte}
+use Rattle.std.proofs.KnownBytes.{Consumes-trans}
 use borrow.Author.Count.{below_more}
+use Rattle.std.specs.Io.KnownBytes.{Consumes}
 use Rattle.std.specs.List.{concat, position_or_len}
-use Rattle.pref_script.specs.Hearing.{IsBlock}
-use Rattle.pref_script.specs.Live.{EndsWithLine}
-use Rattle.pref_script.specs.ReadAhead.{IsLineAt, ReadBehind, between, is_at_end, unread}
-use Rattle.pref_script.specs.Script.{is_end_line, is_table_line, parts_of, raw_lines}
-use Rattle.pref_script.specs.declared.fault.RunFault.TheVariants.{NoEnd, NoTable}
+use Rattle.pref_script.specs.Hearing.{HearsNone, IsBlock, LacksBlock, ReadsBlock}
+use Rattle.pref_script.specs.Live.{EndsWithLine, HeardNone, IsTooLong}
+use Rattle.pref_script.specs.ReadAhead.{IsLineAt, IsLittle, IsLong, LineFault, NoLineFeed, ReadBehind, ReadSome, between, is_at_end, most_ahead, unread}
+use Rattle.pref_script.specs.Run.{Source}
+use Rattle.pref_script.specs.Script.{block_lines, is_end_line, is_table_line, parts_of, raw_lines}
+use Rattle.pref_script.specs.declared.fault.RunFault.{RunFault}
+use Rattle.pref_script.specs.declared.fault.RunFault.TheVariants as fault
 use Rattle.pref_script.specs.declared.read_ahead.ReadAhead.{ReadAhead}
-use Rattle.pref_script.proofs.LineFacts.{ends_more, front_is, front_more, line_at, same_front}
-use Rattle.pref_script.proofs.ScriptFacts.{concat-push, script-none}
+use Rattle.pref_script.proofs.LineFacts.{behind_more, ends_more, front_is, front_more, line_at, little_left, little_none, none_behind, none_in_front, same_front}
+use Rattle.pref_script.proofs.ScriptFacts.{concat-push, lines_at, lines_last, lines_none, script-none}
 
 -- a text is the line `table`, which has this length, and so many lines that are no line `end`
 pub record BlockLines (text : List ℕ) (start count : ℕ) : Type 0 where
@@ -77,14 +83,14 @@ block_found text line start count block ends one is_last =
     ap parts_of all ∙ rw (block.is_first, place, inside, before, after, table, block.counted) refl
 
 -- a text without a line `end`
-block_none : (text : List ℕ) (start count : ℕ) → BlockLines text start count → parts_of (raw_lines text) ≡ Err NoEnd
+block_none : (text : List ℕ) (start count : ℕ) → BlockLines text start count → parts_of (raw_lines text) ≡ Err fault.NoEnd
 block_none text start count block =
     let place : position_or_len is_end_line block.rest ≡ length block.rest = position_or_len_is is_end_line block.rest (length block.rest) [] (omega arith) block.others (λ h. absurd (omega (arith, h))) in
     let over = le-ltb (length block.rest) (length block.rest) (omega arith) in
     ap parts_of block.lines ∙ rw (block.is_first, place, over) refl
 
 -- a text without a line `table`
-no_table : (text line : List ℕ) (more : List (List ℕ)) → raw_lines text ≡ line ∷ more → is_table_line line ≡ false → parts_of (raw_lines text) ≡ Err NoTable
+no_table : (text line : List ℕ) (more : List (List ℕ)) → raw_lines text ≡ line ∷ more → is_table_line line ≡ false → parts_of (raw_lines text) ≡ Err fault.NoTable
 no_table text line more first other = ap parts_of first ∙ rw other refl
 
 -- up to a place of what was read stands the beginning of a table block
@@ -107,24 +113,24 @@ block_open ahead start some inside most line is =
     }
 
 -- the input has no line `table`
-pub table_missing : (ahead : ReadAhead) (start : ℕ) → start ≤ length (unread ahead) → IsLineAt 0 start ahead → is_table_line (take start (unread ahead)) ≡ false → parts_of (raw_lines (unread ahead)) ≡ Err NoTable
+pub table_missing : (ahead : ReadAhead) (start : ℕ) → start ≤ length (unread ahead) → IsLineAt 0 start ahead → is_table_line (take start (unread ahead)) ≡ false → LacksBlock ahead fault.NoTable
 table_missing ahead start inside (inl (some, whole)) other =
+    let line = take start (unread ahead) in
+    let rest = drop start (unread ahead) in
     let first = rw (front_is start (unread ahead)) at whole in
-    no_table (unread ahead) (take start (unread ahead)) (raw_lines (drop start (unread ahead))) (ap raw_lines (sym (take-append-drop start (unread ahead))) ∙ first (drop start (unread ahead))) other
-table_missing ahead start inside (inr (ended, all, last)) other =
-    let whole : take start (unread ahead) ≡ unread ahead = take_all start (unread ahead) (omega (arith, all)) in
-    by (unread ahead) refl
+    inl (λ more. no_table (unread ahead ++ more) line (raw_lines (rest ++ more)) (ap raw_lines (ap (λ (t : List ℕ). t ++ more) (sym (take-append-drop start (unread ahead))) ∙ append_assoc line rest more) ∙ first (rest ++ more)) other)
+table_missing ahead start inside (inr (ended, all, last)) other = inr (ended, by (unread ahead) refl)
   where
-    by : (text : List ℕ) → unread ahead ≡ text → parts_of (raw_lines (unread ahead)) ≡ Err NoTable
+    by : (text : List ℕ) → unread ahead ≡ text → parts_of (raw_lines (unread ahead)) ≡ Err fault.NoTable
     by [] none = script-none (unread ahead) (ap length none)
     by (x ∷ xs) some =
         let whole : between 0 start (unread ahead) ≡ unread ahead = front_is start (unread ahead) ∙ take_all start (unread ahead) (omega (arith, all)) in
         let here = rw whole at (last (omega (arith, all, ap length some))) in
         no_table (unread ahead) (unread ahead) [] here (ap is_table_line (sym (take_all start (unread ahead) (omega (arith, all)))) ∙ other)
 
-pub input_missing : (ahead : ReadAhead) → IsLineAt 0 0 ahead → parts_of (raw_lines (unread ahead)) ≡ Err NoTable
+pub input_missing : (ahead : ReadAhead) → IsLineAt 0 0 ahead → LacksBlock ahead fault.NoTable
 input_missing ahead (inl (some, whole)) = absurd (omega arith)
-input_missing ahead (inr (ended, all, last)) = script-none (unread ahead) (sym all)
+input_missing ahead (inr (ended, all, last)) = inr (ended, script-none (unread ahead) (sym all))
 
 -- before a line more the text ends with a line
 ends_before : (had left : Option (List ℕ)) (old new : ReadAhead) (start stop count end : ℕ) → BlockAt old start stop count → ReadBehind had left old new → stop < end → end ≤ length (unread new) → EndsWithLine (take stop (unread new))
@@ -176,8 +182,184 @@ block_end had left old new start stop count end so_far read line some inside is_
     }
 
 -- the input ends before a line `end`
-pub end_missing : (had left : Option (List ℕ)) (old new : ReadAhead) (start stop count : ℕ) → BlockAt old start stop count → ReadBehind had left old new → IsLineAt stop stop new → parts_of (raw_lines (unread new)) ≡ Err NoEnd
+pub end_missing : (had left : Option (List ℕ)) (old new : ReadAhead) (start stop count : ℕ) → BlockAt old start stop count → ReadBehind had left old new → IsLineAt stop stop new → LacksBlock new fault.NoEnd
 end_missing had left old new start stop count so_far read (inl (some, whole)) = absurd (omega arith)
 end_missing had left old new start stop count so_far read (inr (ended, all, last)) =
     let text : take stop (unread old) ≡ unread new = sym (same_front had left old new stop read so_far.inside) ∙ take_all stop (unread new) (omega (arith, all)) in
-    block_none (unread new) start count (subst (λ (t : List ℕ). BlockLines t start count) text so_far.block)
+    inr (ended, block_none (unread new) start count (subst (λ (t : List ℕ). BlockLines t start count) text so_far.block))
+
+-- ---- lines that are too long
+
+-- the first line feed of a text, if there is one
+first_feed : (text : List ℕ) → (found : Option ℕ) × IsFirstByte (is_byte 10) text found
+first_feed text = elim (cases_lt (position_or_len (is_byte 10) text) (length text)) [
+  | inl inside ↦ (
+    Some (position_or_len (is_byte 10) text),
+    (record { low = omega arith; high = inside; before = λ k low early is. absurd (let not = fails_before_first (is_byte 10) text k 0 early in cc) }, passes_at_first (is_byte 10) text 0 inside),
+  )
+  | inr none ↦ (None, λ k low early is. absurd (let not = fails_before_first (is_byte 10) text k 0 (omega arith) in cc))
+]
+
+-- the first line of a text is longer than this
+long_first : (size : ℕ) (text : List ℕ) → NoLineFeed 0 size text → size < length text → (line : List ℕ) × (rest : List (List ℕ)) × (raw_lines text ≡ line ∷ rest) × (size < length line)
+long_first size text none more = let (found, is) = first_feed text in by found is
+  where
+    by : (found : Option ℕ) → IsFirstByte (is_byte 10) text found → (line : List ℕ) × (rest : List (List ℕ)) × (raw_lines text ≡ line ∷ rest) × (size < length line)
+    by None is = (text, raw_lines [], lines_last text (omega (arith, more)) is, more)
+    by (Some place) is =
+        let inside : place < length text = is.0.high in
+        let late : size ≤ place = elim (cases_lt place size) [ inl early ↦ absurd (none place (omega arith) early (eqb-true _ 10 is.1)) | inr late ↦ late ] in
+        (take (place + 1) text, raw_lines (drop (place + 1) text), lines_at text place is, omega (arith, late, inside, length-take (place + 1) text))
+
+-- the line that stands behind a place, whatever follows
+long_rest : (stop : ℕ) (text more : List ℕ) → IsLong stop text → stop ≤ 16777216 → (line : List ℕ) × (rest : List (List ℕ)) × (raw_lines (drop stop text ++ more) ≡ line ∷ rest) × (16777216 - stop < length line)
+long_rest stop text more (none, long) inside =
+    let size = length-drop stop text in
+    long_first (16777216 - stop) (drop stop text ++ more) (none_in_front 0 (16777216 - stop) (drop stop text) more (none_behind stop 16777216 text none) (omega (arith, long, size))) (omega (arith, long, inside, size, length-append (drop stop text) more))
+
+-- a long line among others
+pub long_among : (text : List ℕ) (before rest : List (List ℕ)) (line : List ℕ) → raw_lines text ≡ before ++ line ∷ rest → 16777216 < length line → IsTooLong text
+long_among text before rest line is long =
+    let size = ap length is in
+    inr (inl (length before, line, omega (arith, size, length-append before (line ∷ rest)), ap (λ (t : List (List ℕ)). get_or t (length before) line) is ∙ get_or-append_seam before line rest line, long))
+
+-- the first line is too long, whatever follows
+pub first_too_long : (text more : List ℕ) → IsLong 0 text → (line : List ℕ) × (rest : List (List ℕ)) × (raw_lines (text ++ more) ≡ line ∷ rest) × (16777216 < length line)
+first_too_long text more long = long_rest 0 text more long (omega arith)
+
+-- more of some lists are together no shorter
+concat_longer : (m n : ℕ) (lists : List (List ℕ)) → m ≤ n → length (concat (take m lists)) ≤ length (concat (take n lists))
+concat_longer zero n lists h = omega arith
+concat_longer (suc m) zero lists h = absurd (omega arith)
+concat_longer (suc m) (suc n) [] h = omega arith
+concat_longer (suc m) (suc n) (list ∷ lists) h =
+    let rest = concat_longer m n lists (omega arith) in
+    omega (arith, rest, length-append list (concat (take m lists)), length-append list (concat (take n lists)))
+
+-- a table block with this line is as long as the lines so far are together
+long_block : (first : List ℕ) (rest more : List (List ℕ)) (line : List ℕ) → is_table_line first ≡ true → ((k : ℕ) → k < length rest → is_end_line (get_or rest k []) ≡ false)
+    → length first + length (concat rest) + length line ≤ length (concat (block_lines (first ∷ (rest ++ line ∷ more))))
+long_block first rest more line is others =
+    let all = rest ++ line ∷ more in
+    let place = position_or_len is_end_line all in
+    let size : length all ≡ length rest + suc (length more) = length-append rest (line ∷ more) in
+    let late : length rest ≤ place = elim (cases_lt place (length rest)) [
+      | inl early ↦ absurd (let at = sym (get_or_append_left rest (line ∷ more) [] place early) in let yes = passes_at_first is_end_line all [] (omega (arith, early, size)) in let no = others place early in cc)
+      | inr late ↦ late
+    ] in
+    let front : take (length rest + 1) all ≡ rest ++ line ∷ [] =
+    ap (take (length rest + 1)) (sym (append_assoc rest (line ∷ []) more)) ∙ take_at (rest ++ line ∷ []) more (length rest + 1) (length-append rest (line ∷ [])) in
+    let longer = concat_longer (length rest + 1) (place + 1) all (omega (arith, late)) in
+    let sum : length (concat (take (length rest + 1) all)) ≡ length (concat rest) + length line = ap (λ (t : List (List ℕ)). length (concat t)) front ∙ ap length (concat-push rest line) ∙ length-append (concat rest) line in
+    rw is (omega (arith, longer, sum, length-append first (concat (take (place + 1) all))))
+
+-- a line of the table block ends too far away
+block_too_long : (had left : Option (List ℕ)) (old new : ReadAhead) (start stop count : ℕ) → BlockAt old start stop count → ReadBehind had left old new → IsLong stop (unread new) → (more : List ℕ) → IsTooLong (unread new ++ more)
+block_too_long had left old new start stop count so_far read long more =
+    let all = unread new in
+    let text = take stop all in
+    let tail = drop stop all ++ more in
+    let ends = ends_before had left old new start stop count (length all) so_far read (omega (arith, so_far.most, long.1)) (omega arith) in
+    let before : BlockLines text start count = subst (λ (t : List ℕ). BlockLines t start count) (sym (same_front had left old new stop read so_far.inside)) so_far.block in
+    let (line, rest, cut, size) = long_rest stop all more long so_far.most in
+    let lines : raw_lines (all ++ more) ≡ before.first ∷ (before.rest ++ line ∷ rest) =
+    ap raw_lines (ap (λ (t : List ℕ). t ++ more) (sym (take-append-drop stop all)) ∙ append_assoc text (drop stop all) more) ∙ ends tail ∙ ap (λ (t : List (List ℕ)). t ++ raw_lines tail) before.lines
+    ∙ ap (λ (t : List (List ℕ)). (before.first ∷ before.rest) ++ t) cut in
+    let front : stop ≡ length before.first + length (concat before.rest) =
+    sym (omega (arith, length-take stop all, so_far.most, long.1)) ∙ ap length before.text_is ∙ length-append before.first (concat before.rest) in
+    inl (rw lines (omega (arith, front, size, so_far.most, long_block before.first before.rest rest line before.is_first before.others)))
+
+-- ---- no line of the block was read
+
+-- the lines of a table block so far are all of its block
+block_part : (text : List ℕ) (start count : ℕ) → BlockLines text start count → block_lines (raw_lines text) ≡ raw_lines text
+block_part text start count block =
+    let place : position_or_len is_end_line block.rest ≡ length block.rest = position_or_len_is is_end_line block.rest (length block.rest) [] (omega arith) block.others (λ h. absurd (omega (arith, h))) in
+    ap block_lines block.lines ∙ rw (block.is_first, place) (ap (λ (t : List (List ℕ)). block.first ∷ t) (take_all (length block.rest + 1) block.rest (omega arith))) ∙ sym block.lines
+
+pub so_far_part : (had left : Option (List ℕ)) (old new : ReadAhead) (start stop count : ℕ) → BlockAt old start stop count → ReadBehind had left old new → block_lines (raw_lines (take stop (unread new))) ≡ raw_lines (take stop (unread new))
+so_far_part had left old new start stop count so_far read =
+    subst (λ (t : List ℕ). block_lines (raw_lines t) ≡ raw_lines t) (sym (same_front had left old new stop read so_far.inside)) (block_part (take stop (unread old)) start count so_far.block)
+
+-- what was read is all that stands there
+pub all_read : (had left : Option (List ℕ)) (old new : ReadAhead) → unread old ≡ [] → ReadBehind had left old new → Consumes had left (unread new)
+all_read had left old new none read = subst (Consumes had left) (sym (read.behind ∙ ap (λ (t : List ℕ). t ++ read.bytes) none)) read.consumed
+
+-- little is there where nothing is
+pub little_at_first : (old : ReadAhead) → unread old ≡ [] → IsLittle 0 (unread old)
+little_at_first old none = subst (IsLittle 0) (sym none) (little_none 0)
+
+-- what was read is lines of a table block up to a place, and little behind it
+pub heard_none : (source : Source) (text : List ℕ) (stop : ℕ) → Consumes source.had source.left text → block_lines (raw_lines (take stop text)) ≡ raw_lines (take stop text) → IsLittle stop text → HeardNone source
+heard_none source text stop consumed lines little =
+    let whole = sym (take-append-drop stop text) in
+    record {
+      block = take stop text;
+      unheard = drop stop text;
+      consumed = subst (Consumes source.had source.left) whole consumed;
+      lines = lines;
+      little = little_left stop text little;
+      most = subst (λ (t : List ℕ). length t ≤ most_ahead) whole little.most;
+    }
+
+no_lines : (text : List ℕ) → block_lines (raw_lines (take 0 text)) ≡ raw_lines (take 0 text)
+no_lines text = ap block_lines lines_none ∙ sym lines_none
+
+-- lines of the block were read up to a place
+pub hears_part : (source : Source) (old new : ReadAhead) (stop : ℕ) → ReadBehind source.had source.left old new → (IsLittle 0 (unread old) → IsLittle stop (unread new)) → block_lines (raw_lines (take stop (unread new))) ≡ raw_lines (take stop (unread new))
+    → HearsNone source old
+hears_part source old new stop read little lines none = heard_none source (unread new) stop (all_read source.had source.left old new none read) lines (little (little_at_first old none))
+
+-- the first line was read, and it is not `table`
+pub hears_first : (source : Source) (old new : ReadAhead) → ReadBehind source.had source.left old new → (IsLittle 0 (unread old) → IsLittle 0 (unread new)) → HearsNone source old
+hears_first source old new read little = hears_part source old new 0 read little (no_lines (unread new))
+
+-- the next line was not read
+hears_no_more : (source : Source) (mid : Option (List ℕ)) (old now : ReadAhead) (start stop count : ℕ) → ReadBehind source.had mid old now → (IsLittle 0 (unread old) → IsLittle stop (unread now)) → BlockAt now start stop count → ReadSome mid source.left stop now
+    → HearsNone source old
+hears_no_more source mid old now start stop count first little so_far next none =
+    let front : take stop (unread now ++ next.bytes) ≡ take stop (unread now) = take-append-le stop (unread now) next.bytes so_far.inside in
+    heard_none source (unread now ++ next.bytes) stop (Consumes-trans source.had mid source.left (unread now) next.bytes (all_read source.had mid old now none first) next.consumed)
+    (subst (λ (t : List ℕ). block_lines (raw_lines t) ≡ raw_lines t) (sym front) (block_part (take stop (unread now)) start count so_far.block)) (next.little (little (little_at_first old none)))
+
+-- the line `table` was not read
+pub first_missing : (source : Source) (old new : ReadAhead) (why : RunFault) → LineFault source 0 old new why → ReadSome source.had source.left 0 old → ReadsBlock source old new (Err why)
+first_missing source old new why is some = by why is
+  where
+    none : HearsNone source old
+    none empty =
+        let same : unread old ++ some.bytes ≡ some.bytes = ap (λ (t : List ℕ). t ++ some.bytes) empty in
+        heard_none source some.bytes 0 some.consumed (no_lines some.bytes) (subst (IsLittle 0) same (some.little (little_at_first old empty)))
+
+    too_long : IsLong 0 (unread new) → (more : List ℕ) → IsTooLong (unread new ++ more)
+    too_long long more = let (line, rest, cut, size) = first_too_long (unread new) more long in long_among (unread new ++ more) [] rest line cut size
+
+    by : (why : RunFault) → LineFault source 0 old new why → ReadsBlock source old new (Err why)
+    by fault.TooLarge (read, long) = (read, too_long long, none)
+    by fault.Read is = (is, none)
+    by fault.Memory is = (is, none)
+    by fault.Write never = absurd never
+    by fault.NoTable never = absurd never
+    by fault.NoEnd never = absurd never
+    by (fault.Table why) never = absurd never
+    by (fault.Opening why) never = absurd never
+    by (fault.Threads why) never = absurd never
+
+-- a line behind it was not read
+pub next_missing : (source : Source) (mid : Option (List ℕ)) (old now new : ReadAhead) (start stop count : ℕ) (why : RunFault) → ReadBehind source.had mid old now → (IsLittle 0 (unread old) → IsLittle stop (unread now)) → BlockAt now start stop count
+    → LineFault (record { had = mid; left = source.left; failed = source.failed }) stop now new why → ReadSome mid source.left stop now → ReadsBlock source old new (Err why)
+next_missing source mid old now new start stop count why first little so_far is some = by why is
+  where
+    none : HearsNone source old
+    none = hears_no_more source mid old now start stop count first little so_far some
+
+    by : (why : RunFault) → LineFault (record { had = mid; left = source.left; failed = source.failed }) stop now new why → ReadsBlock source old new (Err why)
+    by fault.TooLarge (read, long) = (behind_more source.had mid source.left old now new first read, block_too_long mid source.left now new start stop count so_far read long, none)
+    by fault.Read is = (is, none)
+    by fault.Memory is = (is, none)
+    by fault.Write never = absurd never
+    by fault.NoTable never = absurd never
+    by fault.NoEnd never = absurd never
+    by (fault.Table why) never = absurd never
+    by (fault.Opening why) never = absurd never
+    by (fault.Threads why) never = absurd never

@@ -1,30 +1,50 @@
 -- A script that is heard line by line.
-use Rattle.std.proofs.Common.{◌≡◌, ◌∙◌, ℕ, suc, ◌+◌, ◌<◌, true, false, Bool, List, [], ◌∷◌, ◌++◌, length, take, drop, ap, refl, sym, subst, arith, append_assoc, add-zero, Option, Result, Ok, Err, inl, inr, nat_lt}
-use Rattle.std.proofs.KnownBytes.{Appends-trans, Consumes-trans}
+use Rattle.std.proofs.Common.{◌≡◌, ◌∙◌, ℕ, suc, ◌+◌, ◌^◌, ◌<◌, true, false, Bool, List, [], ◌∷◌, ◌++◌, length, take, drop, ap, refl, sym, subst, arith, append_assoc, add-zero, Option, Some, None, Result, Ok, inl, inr, nat_lt}
+use Rattle.std.proofs.KnownBytes.{Appends-trans, Consumes-trans, Consumes-whole}
 use Rattle.std.proofs.lemmas.Bool.{ltb-true, lt-ltb}
-use Rattle.std.proofs.lemmas.List.{append-nil, drop-append-le, drop_all, get_or_append_left, length-append, take-append-drop, take-append-le}
+use Rattle.std.proofs.lemmas.List.{append-nil, drop-append-le, drop_all, get_or_append_left, length-append, length-drop, take-append-drop, take-append-le}
 use Rattle.std.proofs.Math.Seq.{take-append-add}
 use Rattle.std.proofs.lemmas.List.Sums.{fails_before_first, passes_at_first, position_or_len_is}
 use Rattle.std.specs.Io.KnownBytes.{Appends, Consumes, IsAtEnd}
-use Rattle.std.specs.List.{position_or_len}
-use Rattle.std.specs.Prelude.{IsOk}
+use Rattle.std.specs.List.{after_first, before_first, concat, position_or_len}
+use Rattle.std.specs.Prelude.{IfSome, IsOk}
 use Rattle.pref_core.specs.Limits.{Limits}
 use Rattle.pref_core.specs.Step.{opened}
 use Rattle.pref_script.specs.Commands.{Command, accepted_events, commands_in, commands_of}
 use Rattle.pref_script.specs.Hearing.{HeardScript, Hears}
-use Rattle.pref_script.specs.Live.{EndsWithLine, NoneLeft, RanLive, StopsEarly, TellsNext}
+use Rattle.pref_script.specs.Live.{EndsWithLine, IsHeard, IsTooLong, NoneLeft, RanLive, StopsEarly, StopsInLine, TellsNext}
 use Rattle.pref_script.specs.LiveTable.{TellsLine, names_of, next_number}
 use Rattle.pref_script.specs.Output.{command_lines, output, output_of, script_of}
 use Rattle.pref_script.specs.Playing.{told_from}
-use Rattle.pref_script.specs.ReadAhead.{ReadSome, between, is_at_end, unread}
+use Rattle.pref_script.specs.ReadAhead.{IsLittle, IsLong, ReadBehind, ReadSome, between, is_at_end, unread}
 use Rattle.pref_script.specs.Run.{Sink, Source, WroteAll, WroteBeginning}
 use Rattle.pref_script.specs.Script.{Parts, is_end_line, is_table_line, parts_of, raw_lines, without_line_end}
 use Rattle.pref_script.specs.declared.fault.RunFault.{RunFault}
-use Rattle.pref_script.specs.declared.fault.RunFault.TheVariants as fault
 use Rattle.pref_script.specs.declared.live_table.LiveTable.{LiveTable}
 use Rattle.pref_script.specs.declared.read_ahead.ReadAhead.{ReadAhead}
-use Rattle.pref_script.proofs.LineFacts.{ends_more, front_is, line_at}
+use Rattle.pref_script.proofs.BlockFacts.{first_too_long, long_among}
+use Rattle.pref_script.proofs.LineFacts.{ends_more, front_is, line_at, little_later, little_left, some_none}
 use Rattle.pref_script.proofs.OutputFacts.{script-ok}
+
+-- how a script with a table block is cut
+pub record IsCut (lines : List (List ℕ)) (parts : Parts) : Type 0 where
+  pub first : List ℕ
+  pub rest : List (List ℕ)
+  pub lines_are : lines ≡ first ∷ rest
+  pub table : is_table_line first ≡ true
+  pub inside : position_or_len is_end_line rest < length rest
+  pub parts_are : ◌≡◌ {A = Parts} (record { table = concat (before_first is_end_line rest); commands = after_first is_end_line rest; first = position_or_len is_end_line rest + 3 }) parts
+
+pub cut_of : (lines : List (List ℕ)) (parts : Parts) → parts_of lines ≡ Ok parts → IsCut lines parts
+cut_of [] parts h = absurd (cc)
+cut_of (first ∷ rest) parts h = by (is_table_line first) (nat_lt (position_or_len is_end_line rest) (length rest)) refl refl
+  where
+    by : (table end : Bool) → is_table_line first ≡ table → nat_lt (position_or_len is_end_line rest) (length rest) ≡ end → IsCut (first ∷ rest) parts
+    by false end t e = absurd (let no = rw t at h in cc)
+    by true false t e = absurd (let no = rw (t, e) at h in cc)
+    by true true t e =
+        let is = rw (t, e) at h in
+        record { first = first; rest = rest; lines_are = refl; table = t; inside = ltb-true (position_or_len is_end_line rest) (length rest) e; parts_are = cc }
 
 -- the parts of a script, some command lines more
 with_lines : List (List ℕ) → Parts → Result Parts RunFault
@@ -32,24 +52,18 @@ with_lines more parts = Ok (record { table = parts.table; commands = parts.comma
 
 pub parts_more : (lines more : List (List ℕ)) (parts : Parts) → parts_of lines ≡ Ok parts → parts_of (lines ++ more) ≡ Ok (record { table = parts.table; commands = parts.commands ++ more; first = parts.first })
 unfolding with_lines
-parts_more [] more parts h = absurd (cc)
-parts_more (first ∷ rest) more parts h = by (is_table_line first) (nat_lt (position_or_len is_end_line rest) (length rest)) refl refl
-  where
-    by : (table end : Bool) → is_table_line first ≡ table → nat_lt (position_or_len is_end_line rest) (length rest) ≡ end
-        → parts_of (first ∷ (rest ++ more)) ≡ Ok (record { table = parts.table; commands = parts.commands ++ more; first = parts.first })
-    by false end t e = absurd (let no = rw t at h in cc)
-    by true false t e = absurd (let no = rw (t, e) at h in cc)
-    by true true t e =
-        let is = rw (t, e) at h in
-        let place = position_or_len is_end_line rest in
-        let inside : place < length rest = ltb-true place (length rest) e in
-        let same : position_or_len is_end_line (rest ++ more) ≡ place = position_or_len_is is_end_line (rest ++ more) place [] (omega (arith, inside, length-append rest more))
-        (λ k before. ap is_end_line (get_or_append_left rest more [] k (omega (arith, before, inside))) ∙ fails_before_first is_end_line rest k [] before)
-        (λ there. ap is_end_line (get_or_append_left rest more [] place inside) ∙ passes_at_first is_end_line rest [] inside) in
-        let longer = lt-ltb place (length (rest ++ more)) (omega (arith, inside, length-append rest more)) in
-        let before : take place (rest ++ more) ≡ take place rest = take-append-le place rest more (omega (arith, inside)) in
-        let after : drop (place + 1) (rest ++ more) ≡ drop (place + 1) rest ++ more = drop-append-le (place + 1) rest more (omega (arith, inside)) in
-        rw (t, same, longer, before, after) (ap (with_lines more) (let e : _ ≡ parts = cc in e))
+parts_more lines more parts h =
+    let cut = cut_of lines parts h in
+    let rest = cut.rest in
+    let inside = cut.inside in
+    let place = position_or_len is_end_line rest in
+    let same : position_or_len is_end_line (rest ++ more) ≡ place = position_or_len_is is_end_line (rest ++ more) place [] (omega (arith, inside, length-append rest more))
+    (λ k before. ap is_end_line (get_or_append_left rest more [] k (omega (arith, before, inside))) ∙ fails_before_first is_end_line rest k [] before)
+    (λ there. ap is_end_line (get_or_append_left rest more [] place inside) ∙ passes_at_first is_end_line rest [] inside) in
+    let longer = lt-ltb place (length (rest ++ more)) (omega (arith, inside, length-append rest more)) in
+    let before : take place (rest ++ more) ≡ take place rest = take-append-le place rest more (omega (arith, inside)) in
+    let after : drop (place + 1) (rest ++ more) ≡ drop (place + 1) rest ++ more = drop-append-le (place + 1) rest more (omega (arith, inside)) in
+    ap (λ (l : List (List ℕ)). parts_of (l ++ more)) cut.lines_are ∙ rw (cut.table, same, longer, before, after) (ap (with_lines more) cut.parts_are)
 
 -- the commands of some lines, and of one line more
 pub commands_more : (names : List (List ℕ)) (number : ℕ) (lines : List (List ℕ)) (line : List ℕ) → commands_of names number (lines ++ line ∷ []) ≡ commands_of names number lines ++ commands_in names (number + length lines) (without_line_end line)
@@ -99,10 +113,27 @@ heard_output limits heard live text so_far =
     let commands = commands_of (names_of live) so_far.parts.first so_far.parts.commands in
     (rw said refl, ap (output_of limits) said ∙ ap (λ (t : List Command). told_from limits (length (names_of live)) (opened limits so_far.rows) t) (sym (append-nil commands)) ∙ sym (so_far.goes_on []) ∙ append-nil text)
 
+-- where something is ahead, the lines so far end with a line
+heard_ends : (limits : Limits) (had left : Option (List ℕ)) (mid : Option (List ℕ)) (old new : ReadAhead) (live : LiveTable) (text : List ℕ) (so_far : Hears limits had mid old live text) → ReadBehind mid left old new → 0 < length (unread new) → EndsWithLine so_far.heard
+heard_ends limits had left mid old new live text so_far read some = elim so_far.lines [ inl ends ↦ ends | inr last ↦ absurd (nothing_more last) ]
+  where
+    nothing_more : (is_at_end old ≡ true) × (unread old ≡ []) → ⊥
+    nothing_more (ended, none) =
+        let (no_bytes, still) = read.no_more ended in
+        let empty : length (unread new) ≡ 0 = ap length read.behind ∙ ap length (ap (λ (t : List ℕ). t ++ read.bytes) none ∙ no_bytes) in
+        omega (arith, empty, some)
+
+-- one line more was heard
+pub record HearsNext (limits : Limits) (had left : Option (List ℕ)) (heard : List ℕ) (ahead : ReadAhead) (live : LiveTable) (text : List ℕ) : Type 0 where
+  pub line : List ℕ
+  pub is_line : raw_lines (heard ++ line) ≡ raw_lines heard ++ line ∷ []
+  pub hears : Hears limits had left ahead live text
+  pub same : hears.heard ≡ heard ++ line
+
 -- one turn more
-pub hears_more : (limits : Limits) (had : Option (List ℕ)) (source : Source) (old new : ReadAhead) (before after : LiveTable) (text more : List ℕ) → Hears limits had source.had old before text → TellsNext source old new before after more
-    → Hears limits had source.left new after (text ++ more)
-hears_more limits had source old new before after text more so_far next =
+pub hears_next : (limits : Limits) (had : Option (List ℕ)) (source : Source) (old new : ReadAhead) (before after : LiveTable) (text more : List ℕ) (so_far : Hears limits had source.had old before text) → TellsNext source old new before after more
+    → HearsNext limits had source.left so_far.heard new after (text ++ more)
+hears_next limits had source old new before after text more so_far next =
     let all = unread next.mid in
     let line = take next.end all in
     let here : between 0 next.end all ≡ line = front_is next.end all in
@@ -111,20 +142,21 @@ hears_more limits had source old new before after text more so_far next =
     let bytes : (so_far.heard ++ unread old) ++ next.read.bytes ≡ (so_far.heard ++ line) ++ unread new =
     append_assoc so_far.heard (unread old) next.read.bytes ∙ ap (λ (t : List ℕ). so_far.heard ++ t) (sym next.read.behind ∙ sym (take-append-drop next.end all)) ∙ sym (append_assoc so_far.heard line (drop next.end all))
     ∙ ap (λ (t : List ℕ). (so_far.heard ++ line) ++ t) (sym next.taken) in
-    let ends : EndsWithLine so_far.heard = elim so_far.lines [ inl ends ↦ ends | inr last ↦ absurd (nothing_more last) ] in
+    let ends = heard_ends limits had source.left source.had old next.mid before text so_far next.read (omega (arith, next.some, next.inside)) in
+    let is_line : raw_lines (so_far.heard ++ line) ≡ raw_lines so_far.heard ++ line ∷ [] = ends line ∙ ap (λ (t : List (List ℕ)). raw_lines so_far.heard ++ t) at.0 in
     record {
-      heard = so_far.heard ++ line;
-      consumed = subst (Consumes had source.left) bytes consumed;
-      lines = elim at.1 [ inl e ↦ inl (ends_more so_far.heard line ends e) | inr last ↦ inr (next.ended ∙ last.0, next.taken ∙ drop_all next.end all (omega (arith, last.1))) ];
-      at_end = λ e. next.read.at_end so_far.at_end (sym next.ended ∙ e);
-      script = heard_more limits so_far.heard line before after text more so_far.script (ends line ∙ ap (λ (t : List (List ℕ)). raw_lines so_far.heard ++ t) at.0) next.tells;
+      line = line;
+      is_line = is_line;
+      hears = record {
+        heard = so_far.heard ++ line;
+        consumed = subst (Consumes had source.left) bytes consumed;
+        lines = elim at.1 [ inl e ↦ inl (ends_more so_far.heard line ends e) | inr last ↦ inr (next.ended ∙ last.0, next.taken ∙ drop_all next.end all (omega (arith, last.1))) ];
+        at_end = λ e. next.read.at_end so_far.at_end (sym next.ended ∙ e);
+        little = subst (IsLittle 0) (sym next.taken) (little_left next.end all (little_later 0 next.end all (omega arith) (next.little so_far.little)));
+        script = heard_more limits so_far.heard line before after text more so_far.script is_line next.tells;
+      };
+      same = refl;
     }
-  where
-    nothing_more : (is_at_end old ≡ true) × (unread old ≡ []) → ⊥
-    nothing_more (ended, none) =
-        let (no_bytes, still) = next.read.no_more ended in
-        let empty : length (unread next.mid) ≡ 0 = ap length next.read.behind ∙ ap length (ap (λ (t : List ℕ). t ++ next.read.bytes) none ∙ no_bytes) in
-        omega (arith, empty, next.some, next.inside)
 
 -- the reader of a run, from where it began
 abbrev pub since : Option (List ℕ) → Source → Source
@@ -140,32 +172,87 @@ ran_whole limits had source sink old new live text so_far end =
     let (ok, is) = heard_output limits so_far.heard live text so_far.script in
     λ wrote. (so_far.heard, subst (Consumes had source.left) all consumed, end.read.at_end so_far.at_end end.ended, ok, subst (WroteAll sink) (sym is) wrote)
 
--- the lines so far were told, and no more
-pub stops_early : (limits : Limits) (had : Option (List ℕ)) (source : Source) (sink : Sink) (ahead : ReadAhead) (live : LiveTable) (text : List ℕ) → Hears limits had source.had ahead live text → ReadSome source.had source.left ahead → WroteAll sink text
-    → StopsEarly limits (since had source) sink
-stops_early limits had source sink ahead live text so_far some wrote =
+-- the lines so far were heard, and no more
+is_heard : (limits : Limits) (had : Option (List ℕ)) (source : Source) (ahead : ReadAhead) (live : LiveTable) (text : List ℕ) (so_far : Hears limits had source.had ahead live text) → ReadSome source.had source.left 0 ahead
+    → IsHeard limits (since had source) so_far.heard
+is_heard limits had source ahead live text so_far some =
     let consumed = Consumes-trans had source.had source.left (so_far.heard ++ unread ahead) some.bytes so_far.consumed some.consumed in
-    let (ok, is) = heard_output limits so_far.heard live text so_far.script in
-    inr (
-      so_far.heard,
-      record {
-        unheard = unread ahead ++ some.bytes;
-        consumed = subst (Consumes had source.left) (append_assoc so_far.heard (unread ahead) some.bytes) consumed;
-        lines = elim so_far.lines [ inl ends ↦ inl ends | inr last ↦ inr (ended last) ];
-        script = ok;
-      },
-      subst (WroteAll sink) (sym is) wrote,
-    )
+    record {
+      unheard = unread ahead ++ some.bytes;
+      consumed = subst (Consumes had source.left) (append_assoc so_far.heard (unread ahead) some.bytes) consumed;
+      lines = elim so_far.lines [ inl ends ↦ inl ends | inr last ↦ inr (ended last) ];
+      script = (heard_output limits so_far.heard live text so_far.script).0;
+      little = some.little so_far.little;
+    }
   where
     ended : (is_at_end ahead ≡ true) × (unread ahead ≡ []) → (unread ahead ++ some.bytes ≡ []) × IsAtEnd source.left
     ended (at, none) = let (no_bytes, still) = some.no_more at in (ap (λ (t : List ℕ). t ++ some.bytes) none ∙ no_bytes, still (so_far.at_end at))
 
+-- and they were told
+pub stops_early : (limits : Limits) (had : Option (List ℕ)) (source : Source) (sink : Sink) (ahead : ReadAhead) (live : LiveTable) (text : List ℕ) → Hears limits had source.had ahead live text → ReadSome source.had source.left 0 ahead → WroteAll sink text
+    → StopsEarly limits (since had source) sink
+stops_early limits had source sink ahead live text so_far some wrote =
+    let (ok, is) = heard_output limits so_far.heard live text so_far.script in
+    inr (so_far.heard, is_heard limits had source ahead live text so_far some, subst (WroteAll sink) (sym is) wrote)
+
 -- of what the last line was told a beginning was written
-pub stops_writing : (limits : Limits) (had : Option (List ℕ)) (source : Source) (held holds : Option (List ℕ)) (sink : Sink) (old new : ReadAhead) (before after : LiveTable) (text more : List ℕ) → Hears limits had source.had old before text
-    → TellsNext source old new before after more → Appends held holds text → (sink.held ≡ holds) → sink.failed ≡ true → WroteBeginning sink more
-    → RanLive limits (since had source) (record { held = held; holds = sink.holds; failed = sink.failed }) (Err fault.Write)
-stops_writing limits had source held holds sink old new before after text more so_far next first same failed (count, wrote) =
-    let all = hears_more limits had source old new before after text more so_far next in
-    let (ok, is) = heard_output limits all.heard after (text ++ more) all.script in
-    let both = Appends-trans held holds sink.holds text (take count more) first (rw same at wrote) in
-    (failed, all.heard, unread new, all.consumed, (length text + count, subst (λ (t : List ℕ). Appends held sink.holds t) (sym (ap (take (length text + count)) is ∙ take-append-add text more count)) both))
+pub stops_writing : (limits : Limits) (had : Option (List ℕ)) (source : Source) (held : Option (List ℕ)) (sink : Sink) (old new : ReadAhead) (before after : LiveTable) (text more : List ℕ) → Hears limits had source.had old before text
+    → TellsNext source old new before after more → Appends held sink.held text → WroteBeginning sink more → StopsInLine limits (since had source) (record { held = held; holds = sink.holds; failed = sink.failed })
+stops_writing limits had source held sink old new before after text more so_far next first (count, wrote) =
+    let now = hears_next limits had source old new before after text more so_far next in
+    let here = is_heard limits had (record { had = source.left; left = source.left; failed = source.failed }) new after (text ++ more) now.hears (some_none source.left new 0) in
+    let (ok, is) = heard_output limits so_far.heard before text so_far.script in
+    let all : output limits (so_far.heard ++ now.line) ≡ text ++ more = ap (output limits) (sym now.same) ∙ (heard_output limits now.hears.heard after (text ++ more) now.hears.script).1 in
+    let both = Appends-trans held sink.held sink.holds text (take count more) first wrote in
+    record {
+      heard = so_far.heard;
+      line = now.line;
+      is_line = now.is_line;
+      before = ok;
+      after = subst (IsHeard limits (since had source)) now.same here;
+      count = length text + count;
+      wrote = subst (Appends held sink.holds) (sym (ap (take (length text + count)) all ∙ take-append-add text more count)) both;
+      all_before = omega (arith, ap length is);
+    }
+
+-- what holds of what was read, whatever follows, holds of what the reader had
+pub had_all : (had left : Option (List ℕ)) (bytes : List ℕ) (P : List ℕ → Type 0) → Consumes had left bytes → ((more : List ℕ) → P (bytes ++ more)) → IfSome had P
+had_all None left bytes P consumed all = tt
+had_all (Some xs) None bytes P consumed all = absurd consumed
+had_all (Some xs) (Some ys) bytes P consumed all = subst P (sym consumed) (all ys)
+
+-- the line behind those that were heard is too long
+pub heard_too_long : (limits : Limits) (had : Option (List ℕ)) (source : Source) (old new : ReadAhead) (live : LiveTable) (text : List ℕ) → Hears limits had source.had old live text → ReadBehind source.had source.left old new → IsLong 0 (unread new)
+    → IfSome had IsTooLong
+heard_too_long limits had source old new live text so_far read long =
+    let consumed = Consumes-trans had source.had source.left (so_far.heard ++ unread old) read.bytes so_far.consumed read.consumed in
+    let bytes : (so_far.heard ++ unread old) ++ read.bytes ≡ so_far.heard ++ unread new = append_assoc so_far.heard (unread old) read.bytes ∙ ap (λ (t : List ℕ). so_far.heard ++ t) (sym read.behind) in
+    let ends = heard_ends limits had source.left source.had old new live text so_far read (omega (arith, long.1)) in
+    had_all had source.left (so_far.heard ++ unread new) IsTooLong (subst (Consumes had source.left) bytes consumed) (λ more.
+    let (line, rest, cut, size) = first_too_long (unread new) more long in
+    long_among ((so_far.heard ++ unread new) ++ more) (raw_lines so_far.heard) rest line
+    (ap raw_lines (append_assoc so_far.heard (unread new) more) ∙ ends (unread new ++ more) ∙ ap (λ (t : List (List ℕ)). raw_lines so_far.heard ++ t) cut) size)
+
+-- a script's parts have all its lines
+abbrev counted : Parts → ℕ
+counted parts = parts.first + length parts.commands
+
+parts_counted : (lines : List (List ℕ)) (parts : Parts) → parts_of lines ≡ Ok parts → counted parts ≡ length lines + 1
+parts_counted lines parts h =
+    let cut = cut_of lines parts h in
+    omega (arith, ap counted cut.parts_are, cut.inside, length-drop (position_or_len is_end_line cut.rest + 1) cut.rest, ap length cut.lines_are)
+
+-- the number of the next line is by one more than the lines that were heard
+pub heard_number : (limits : Limits) (heard : List ℕ) (live : LiveTable) (text : List ℕ) → HeardScript limits heard live text → next_number live ≡ length (raw_lines heard) + 1
+heard_number limits heard live text so_far = so_far.number ∙ parts_counted (raw_lines heard) so_far.parts so_far.cut
+
+-- so many lines were heard that no run hears more
+pub heard_too_many : (limits : Limits) (had left : Option (List ℕ)) (ahead : ReadAhead) (live : LiveTable) (text : List ℕ) → Hears limits had left ahead live text → 2 ^ 63 < next_number live → IfSome had IsTooLong
+heard_too_many limits had left ahead live text so_far many =
+    let number = heard_number limits so_far.heard live text so_far.script in
+    elim so_far.lines [
+      | inl ends ↦ had_all had left (so_far.heard ++ unread ahead) IsTooLong so_far.consumed (λ more.
+          let lines = ap raw_lines (append_assoc so_far.heard (unread ahead) more) ∙ ends (unread ahead ++ more) in
+          inr (inr (omega (arith, number, many, ap length lines, length-append (raw_lines so_far.heard) (raw_lines (unread ahead ++ more))))))
+      | inr last ↦ Consumes-whole had left so_far.heard IsTooLong (subst (Consumes had left) (ap (λ (t : List ℕ). so_far.heard ++ t) last.1 ∙ append-nil so_far.heard) so_far.consumed) (so_far.at_end last.0) (inr (inr (omega (arith, number, many))))
+    ]

@@ -1,16 +1,18 @@
 -- Lines that are read ahead.
-use Rattle.std.proofs.Common.{◌≡◌, ◌∙◌, ℕ, ◌+◌, ◌-◌, ◌<◌, ◌≤◌, true, List, [], ◌∷◌, ◌++◌, length, take, drop, get_or, ap, refl, sym, subst, arith, append_assoc, Option, Some, None, Result, Ok, Err, inl, inr, ◌⊎◌}
+use Rattle.std.proofs.Common.{◌≡◌, ◌∙◌, ℕ, ◌+◌, ◌-◌, ◌<◌, ◌≤◌, true, false, Bool, List, [], ◌∷◌, ◌++◌, length, take, drop, get_or, ap, refl, sym, subst, arith, append_assoc, eq-eqb, Option, Some, None, Result, Ok, Err, inl, inr, ◌⊎◌}
 use Rattle.std.proofs.KnownBytes.{Consumes-nil, Consumes-trans}
-use Rattle.std.proofs.lemmas.List.{append-nil, drop-append-le, drop_all, get_or-take, get_or_append_left, length-append, length-drop, length-take, take-append-le, take_all}
+use Rattle.std.proofs.lemmas.List.{append-nil, drop-append-le, drop_all, get_or-drop, get_or-take, get_or_append_left, length-append, length-drop, length-take, take-append-le, take_all}
 use Rattle.std.proofs.Math.Seq.{take-add}
 use Rattle.std.proofs.lemmas.Bool.{cases_lt}
-use Rattle.std.specs.Prelude.{IfOk}
+use Rattle.std.specs.Prelude.{IfErr, IfOk, is_some}
 use Rattle.memchr.specs.Find.{IsFirstByte, is_byte}
 use Rattle.pref_script.specs.Live.{EndsWithLine}
-use Rattle.pref_script.specs.ReadAhead.{IsLineAt, IsWhole, ReadBehind, ReadSome, between, is_at_end, unread}
+use Rattle.pref_script.specs.ReadAhead.{IsLineAt, IsLittle, IsWhole, LineFault, NoLineFeed, ReadBehind, ReadOnce, ReadSome, between, is_at_end, unread}
+use Rattle.pref_script.specs.Run.{Source}
 use Rattle.pref_script.specs.Script.{raw_lines}
 use Rattle.pref_script.specs.declared.read_ahead.ReadAhead.{ReadAhead}
 use Rattle.pref_script.specs.declared.fault.RunFault.{RunFault}
+use Rattle.pref_script.specs.declared.fault.RunFault.TheVariants as fault
 use Rattle.pref_script.proofs.ScriptFacts.{lines_at, lines_last, lines_none}
 
 -- something was read, and then something more
@@ -23,11 +25,13 @@ behind_more a b c x y z first next = record {
   at_end = λ before e. next.at_end (first.at_end before) e;
 }
 
-pub some_more : (a b c : Option (List ℕ)) (x y : ReadAhead) → ReadBehind a b x y → ReadSome b c y → ReadSome a c x
-some_more a b c x y first next = record {
-  bytes = first.bytes ++ next.bytes;
-  consumed = Consumes-trans a b c first.bytes next.bytes first.consumed next.consumed;
-  no_more = λ e. let (none, still) = first.no_more e in let (empty, last) = next.no_more still in (rw (none, empty) refl, λ end. last (first.at_end (λ _. end) still));
+-- what was read behind is something, and little of it is there
+pub behind_some : (a b : Option (List ℕ)) (x y : ReadAhead) (from : ℕ) → ReadBehind a b x y → (IsLittle from (unread x) → IsLittle from (unread y)) → ReadSome a b from x
+behind_some a b x y from read little = record {
+  bytes = read.bytes;
+  consumed = read.consumed;
+  no_more = λ e. let (none, still) = read.no_more e in (none, λ end. read.at_end (λ _. end) still);
+  little = λ few. subst (IsLittle from) read.behind (little few);
 }
 
 -- what was read is no shorter than what was there
@@ -66,6 +70,85 @@ last_at a from inside none ended =
     let all : between from (length (unread a)) (unread a) ≡ drop from (unread a) = take_all (length (unread a) - from) (drop from (unread a)) (omega (arith, length-drop from (unread a))) in
     inr (ended, refl, λ some. subst (λ (t : List ℕ). raw_lines t ≡ t ∷ []) (sym all) (rw lines_none at (lines_last (drop from (unread a)) (omega (arith, some, length-drop from (unread a))) none)))
 
+-- ---- line feeds
+
+-- a byte behind a place, from there
+at_place : (text : List ℕ) (from place : ℕ) → from ≤ place → get_or (drop from text) (place - from) 0 ≡ get_or text place 0
+at_place text from place low =
+    let sum : from + (place - from) ≡ place = omega arith in
+    get_or-drop from text (place - from) 0 ∙ ap (λ (n : ℕ). get_or text n 0) sum
+
+-- a search that met no line feed
+pub none_met : (text : List ℕ) (from : ℕ) → IsFirstByte (is_byte 10) (drop from text) None → NoLineFeed from (length text) text
+none_met text from none = λ place low high at. none (place - from) (omega arith) (omega (arith, length-drop from text)) (eq-eqb _ 10 (at_place text from place low ∙ at))
+
+-- the same where the answer says so
+pub none_found : (text : List ℕ) (from : ℕ) (found : Option ℕ) → IsFirstByte (is_byte 10) (drop from text) found → is_some found ≡ false → NoLineFeed from (length text) text
+none_found text from None none nowhere = none_met text from none
+none_found text from (Some place) none nowhere = absurd (cc)
+
+-- a search met none before the first
+none_before : (text : List ℕ) (from first : ℕ) → IsFirstByte (is_byte 10) (drop from text) (Some first) → NoLineFeed from (from + first) text
+none_before text from first found = λ place low high at. found.0.before (place - from) (omega arith) (omega arith) (eq-eqb _ 10 (at_place text from place low ∙ at))
+
+-- none where it went on, and none before that
+pub none_more : (from : ℕ) (old more new : List ℕ) → new ≡ old ++ more → NoLineFeed from (length old) old → NoLineFeed (length old) (length new) new → NoLineFeed from (length new) new
+none_more from old more new is before after = λ place low high at. elim (cases_lt place (length old)) [
+  | inl early ↦ before place low early (sym (ap (λ (t : List ℕ). get_or t place 0) is ∙ get_or_append_left old more 0 place early) ∙ at)
+  | inr late ↦ after place late high at
+]
+
+-- none in a text with others behind it
+pub none_in_front : (from end : ℕ) (text more : List ℕ) → NoLineFeed from end text → end ≤ length text → NoLineFeed from end (text ++ more)
+none_in_front from end text more none inside = λ place low high at. none place low high (sym (get_or_append_left text more 0 place (omega arith)) ∙ at)
+
+-- none in what is left behind a place
+pub none_behind : (from end : ℕ) (text : List ℕ) → NoLineFeed from end text → NoLineFeed 0 (end - from) (drop from text)
+none_behind from end text none = λ place low high at. none (from + place) (omega arith) (omega arith) (sym (get_or-drop from text place 0) ∙ at)
+
+-- ---- how much is there
+
+-- a read more, where no line feed was
+pub little_more : (from : ℕ) (text more : List ℕ) → NoLineFeed from (length text) text → length text ≤ 16777216 → length more ≤ 8192 → IsLittle from (text ++ more)
+little_more from text more none few size =
+    let sum : length (text ++ more) ≡ length text + length more = length-append text more in
+    record {
+      no_line = λ place low high at. let early : place < length text = omega (arith, high, sum, size) in none place low early (sym (get_or_append_left text more 0 place early) ∙ at);
+      most = omega arith;
+    }
+
+-- a read more, where no line feed was
+pub once_more : (a b c : Option (List ℕ)) (x y : ReadAhead) (from : ℕ) → ReadBehind a b x y → ReadOnce b c y → NoLineFeed from (length (unread y)) (unread y) → length (unread y) ≤ 16777216 → ReadSome a c from x
+once_more a b c x y from first next none few = record {
+  bytes = first.bytes ++ next.bytes;
+  consumed = Consumes-trans a b c first.bytes next.bytes first.consumed next.consumed;
+  no_more = λ e. let (empty, still) = first.no_more e in let (nothing, last) = next.no_more still in (rw (empty, nothing) refl, λ end. last (first.at_end (λ _. end) still));
+  little = λ _. subst (IsLittle from) (ap (λ (t : List ℕ). t ++ next.bytes) first.behind ∙ append_assoc (unread x) first.bytes next.bytes) (little_more from (unread y) next.bytes none few next.few);
+}
+
+-- the same of what is there then
+pub little_behind : (a b : Option (List ℕ)) (x y : ReadAhead) (from : ℕ) → ReadBehind a b x y → NoLineFeed from (length (unread x)) (unread x) → length (unread x) ≤ 16777216 → length (unread y) ≤ length (unread x) + 8192 → IsLittle from (unread y)
+little_behind a b x y from read none few more =
+    let size : length read.bytes ≤ 8192 = omega (arith, ap length read.behind, length-append (unread x) read.bytes) in
+    subst (IsLittle from) (sym read.behind) (little_more from (unread x) read.bytes none few size)
+
+-- the same from a later place on
+pub little_later : (from to : ℕ) (text : List ℕ) → from ≤ to → IsLittle from text → IsLittle to text
+little_later from to text later little = record { no_line = λ place low high. little.no_line place (omega arith) high; most = little.most }
+
+-- what is left when the bytes up to that place were taken
+pub little_left : (from : ℕ) (text : List ℕ) → IsLittle from text → IsLittle 0 (drop from text)
+little_left from text little = let size : length (drop from text) ≡ length text - from = length-drop from text in record {
+  no_line = λ place low high at. little.no_line (from + place) (omega arith) (omega (arith, high, size)) (sym (get_or-drop from text place 0) ∙ at);
+  most = omega (arith, size, little.most);
+}
+
+-- nothing is there
+pub little_none : (from : ℕ) → IsLittle from []
+little_none from = record { no_line = λ place low high. absurd (omega (arith, high)); most = omega arith }
+
+-- ---- a line
+
 -- the place where a line was found to end
 pub line_some : (a : ReadAhead) (from place : ℕ) (result : Result ℕ RunFault) → IsFirstByte (is_byte 10) (drop from (unread a)) (Some place)
     → IfOk result (λ same. (same ≡ from + place + 1) × (from + place + 1 ≤ 16777216)) → IfOk result (λ end. IsLineAt from end a)
@@ -76,6 +159,28 @@ pub line_none : (a : ReadAhead) (from : ℕ) (result : Result ℕ RunFault) → 
     → IfOk result (λ end. (is_at_end a ≡ true) × (end ≡ length (unread a)) × (end ≤ 16777216)) → IfOk result (λ end. IsLineAt from end a)
 line_none a from (Ok end) inside none (ended, is, few) = rw is (last_at a from inside none ended)
 line_none a from (Err why) inside none h = tt
+
+-- the line that was found ends too far away
+pub long_some : (source : Source) (old new : ReadAhead) (from place : ℕ) (result : Result ℕ RunFault) → ReadBehind source.had source.left old new → IsFirstByte (is_byte 10) (drop from (unread new)) (Some place)
+    → IfErr result (λ why. (why ≡ fault.TooLarge) × (16777216 < from + place + 1)) → IfErr result (λ why. LineFault source from old new why)
+long_some source old new from place (Ok end) read found h = tt
+long_some source old new from place (Err why) read found (is, long) =
+    let high : place < length (drop from (unread new)) = found.0.high in
+    rw is (read, (λ k low below at. none_before (unread new) from place found k low (omega (arith, below, long)) at, omega (arith, high, long, length-drop from (unread new))))
+
+-- no line end was found, and more is there than a line has
+pub long_none : (source : Source) (old new : ReadAhead) (from : ℕ) (result : Result ℕ RunFault) → ReadBehind source.had source.left old new → IsFirstByte (is_byte 10) (drop from (unread new)) None
+    → (NoLineFeed from (length (unread new)) (unread new) → is_at_end new ≡ false → 16777216 < length (unread new)) → IfErr result (λ why. (why ≡ fault.TooLarge) × (is_at_end new ≡ true → 16777216 < length (unread new)))
+    → IfErr result (λ why. LineFault source from old new why)
+long_none source old new from (Ok end) read none not_ended ended = tt
+long_none source old new from (Err why) read none not_ended (is, ended) =
+    let nowhere = none_met (unread new) from none in
+    let long : 16777216 < length (unread new) = by (is_at_end new) refl (not_ended nowhere) ended in
+    rw is (read, (λ k low below at. nowhere k low (omega (arith, below, long)) at, long))
+  where
+    by : (end : Bool) → is_at_end new ≡ end → (is_at_end new ≡ false → 16777216 < length (unread new)) → (is_at_end new ≡ true → 16777216 < length (unread new)) → 16777216 < length (unread new)
+    by true e not_yet at_end = at_end e
+    by false e not_yet at_end = not_yet e
 
 pub inside_some : (a : ReadAhead) (from place : ℕ) (result : Result ℕ RunFault) → IsFirstByte (is_byte 10) (drop from (unread a)) (Some place)
     → IfOk result (λ same. (same ≡ from + place + 1) × (from + place + 1 ≤ 16777216)) → IfOk result (λ end. (from ≤ end) × (end ≤ length (unread a)))
@@ -122,8 +227,8 @@ line_at a from end (inl (some, whole)) inside = (one_line (between from end (unr
 line_at a from end (inr (ended, all, last)) inside = (last inside, inr (ended, all))
 
 -- nothing was read
-pub some_none : (a : Option (List ℕ)) (x : ReadAhead) → ReadSome a a x
-some_none a x = record { bytes = []; consumed = Consumes-nil a; no_more = λ e. (refl, λ end. end) }
+pub some_none : (a : Option (List ℕ)) (x : ReadAhead) (from : ℕ) → ReadSome a a from x
+some_none a x from = record { bytes = []; consumed = Consumes-nil a; no_more = λ e. (refl, λ end. end); little = λ few. subst (IsLittle from) (sym (append-nil (unread x))) few }
 
 -- a place that is not the one before is further on
 pub further : (a b : ℕ) → a ≤ b → (b ≡ a → ⊥) → a < b

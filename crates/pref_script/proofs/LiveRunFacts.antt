@@ -1,99 +1,114 @@
 -- A run that tells each line as it comes: how it begins, goes on and ends.
-use Rattle.std.proofs.Common.{◌≡◌, ◌∙◌, ℕ, ◌≤◌, true, false, List, [], ◌++◌, length, take, drop, ap, refl, sym, subst, arith, Option, Result, Ok, Err, inl, inr}
+use Rattle.std.proofs.Common.{◌≡◌, ◌∙◌, ◌⊎◌, ℕ, ◌+◌, ◌≤◌, true, false, List, [], ◌∷◌, ◌++◌, length, take, drop, ap, refl, sym, subst, arith, append_assoc, Option, Result, Ok, Err, inl, inr}
 use Rattle.std.proofs.KnownBytes.{Appends-kept, Appends-trans}
-use Rattle.std.proofs.lemmas.List.{append-nil, drop_all, take-append-drop, take_all}
-use Rattle.std.specs.Io.KnownBytes.{Appends, Consumes}
+use Rattle.std.proofs.lemmas.List.{drop_all, length-drop, take-append-drop, take_all}
+use Rattle.std.specs.Io.KnownBytes.{Appends, Consumes, IsAtEnd}
+use Rattle.std.specs.List.{position_or_len}
 use Rattle.pref_core.specs.Limits.{Limits}
 use Rattle.pref_core.specs.Step.{opened}
 use Rattle.pref_script.specs.Commands.{commands_of}
-use Rattle.pref_script.specs.Hearing.{Consumed, Hears, IsBlock, OpensLive, ReadsBlock}
-use Rattle.pref_script.specs.Live.{RanLive, StopsEarly, TellsNext, Turns}
+use Rattle.pref_script.specs.Hearing.{Hears, IsBlock, LacksBlock, OpensLive, ReadsBlock}
+use Rattle.pref_script.specs.Live.{EndsWithLine, HeardNone, IsTooLong, RanLive, ShowsFault, StopsEarly, TellsNext, Turns}
 use Rattle.pref_script.specs.LiveTable.{IsOpened, OpeningFault, next_number}
-use Rattle.pref_script.specs.Output.{ScriptFault, fault_text, output, output_of, script_of}
-use Rattle.pref_script.specs.ReadAhead.{LineFault, ReadBehind, ReadSome, between, is_at_end, unread}
+use Rattle.pref_script.specs.Output.{ScriptFault, fault_text, script_of}
+use Rattle.pref_script.specs.ReadAhead.{IsLittle, ReadBehind, ReadSome, between, is_at_end, unread}
 use Rattle.pref_script.specs.Run.{NothingWritten, Sink, Source, WroteAll, WroteBeginning, Wrote}
-use Rattle.pref_script.specs.Script.{Parts, parts_of, raw_lines}
+use Rattle.pref_script.specs.Script.{Parts, block_lines, is_end_line, parts_of, raw_lines}
 use Rattle.pref_script.specs.declared.fault.RunFault.{RunFault}
 use Rattle.pref_script.specs.declared.fault.RunFault.TheVariants as fault
 use Rattle.pref_script.specs.declared.live.TableBlock.{TableBlock}
 use Rattle.pref_script.specs.declared.live_table.LiveTable.{LiveTable}
 use Rattle.pref_script.specs.declared.read_ahead.ReadAhead.{ReadAhead}
-use Rattle.pref_script.proofs.HeardFacts.{hears_more, parts_more, since, stops_early, stops_writing}
+use Rattle.pref_script.proofs.BlockFacts.{all_read, hears_part, little_at_first}
+use Rattle.pref_script.proofs.HeardFacts.{cut_of, had_all, heard_too_long, hears_next, parts_more, since, stops_early, stops_writing}
+use Rattle.pref_script.proofs.LineFacts.{little_left}
 use Rattle.pref_script.proofs.OutputFacts.{script-parts}
 use Rattle.pref_script.proofs.RunFacts.{nothing-written}
 
--- what was read is all that stands there
-all_read : (had left : Option (List ℕ)) (old new : ReadAhead) → unread old ≡ [] → ReadBehind had left old new → Consumes had left (unread new)
-all_read had left old new none read = subst (Consumes had left) (sym (read.behind ∙ ap (λ (t : List ℕ). t ++ read.bytes) none)) read.consumed
+-- the reader has come to its end
+at_end : (had left : Option (List ℕ)) (old new : ReadAhead) → is_at_end old ≡ false → ReadBehind had left old new → is_at_end new ≡ true → IsAtEnd left
+at_end had left old new fresh read ended = read.at_end (λ before. absurd (let both = sym fresh ∙ before in cc)) ended
 
--- a line of the table block was not read
-pub line_missing : (source : Source) (old new : ReadAhead) (why : RunFault) → LineFault source.failed why → ReadSome source.had source.left old → ReadsBlock source old new (Err why)
-line_missing source old new fault.Read is some = (is, some)
-line_missing source old new fault.TooLarge is some = (is, some)
-line_missing source old new fault.Memory is some = (is, some)
-line_missing source old new fault.Write never some = absurd never
-line_missing source old new fault.NoTable never some = absurd never
-line_missing source old new fault.NoEnd never some = absurd never
-line_missing source old new (fault.Table why) never some = absurd never
-line_missing source old new (fault.Opening why) never some = absurd never
-line_missing source old new (fault.Threads why) never some = absurd never
+-- what was read has no table block
+lacks_block : (limits : Limits) (source : Source) (old new : ReadAhead) (why : RunFault) → unread old ≡ [] → is_at_end old ≡ false → ReadBehind source.had source.left old new → HeardNone source → LacksBlock new why → ShowsFault limits source why
+lacks_block limits source old new why none fresh read heard lacks = (
+  heard,
+  unread new,
+  all_read source.had source.left old new none read,
+  elim lacks [
+    | inl all ↦ inl (λ more. script-parts limits (unread new ++ more) why (all more))
+    | inr last ↦ inr (at_end source.had source.left old new fresh read last.0, script-parts limits (unread new) why last.1)
+  ],
+)
 
 -- no table block was read
-pub refused_block : (limits : Limits) (source : Source) (old new : ReadAhead) (why : RunFault) → unread old ≡ [] → ReadsBlock source old new (Err why) → OpensLive limits source new (Err why)
-refused_block limits source old new fault.NoTable none (read, cut) = (unread new, all_read source.had source.left old new none read, script-parts limits (unread new) fault.NoTable cut)
-refused_block limits source old new fault.NoEnd none (read, cut) = (unread new, all_read source.had source.left old new none read, script-parts limits (unread new) fault.NoEnd cut)
-refused_block limits source old new fault.Read none (failed, some) = (failed, (some.bytes, some.consumed))
-refused_block limits source old new fault.TooLarge none (fits, some) = (some.bytes, some.consumed)
-refused_block limits source old new fault.Memory none (fits, some) = (some.bytes, some.consumed)
-refused_block limits source old new fault.Write none (never, some) = absurd never
-refused_block limits source old new (fault.Table why) none (never, some) = absurd never
-refused_block limits source old new (fault.Opening why) none (never, some) = absurd never
-refused_block limits source old new (fault.Threads why) none (never, some) = absurd never
+pub refused_block : (limits : Limits) (source : Source) (old new : ReadAhead) (why : RunFault) → unread old ≡ [] → is_at_end old ≡ false → ReadsBlock source old new (Err why) → OpensLive limits source new (Err why)
+refused_block limits source old new fault.NoTable none fresh (read, heard, lacks) = lacks_block limits source old new fault.NoTable none fresh read (heard none) lacks
+refused_block limits source old new fault.NoEnd none fresh (read, heard, lacks) = lacks_block limits source old new fault.NoEnd none fresh read (heard none) lacks
+refused_block limits source old new fault.TooLarge none fresh (read, long, heard) = (had_all source.had source.left (unread new) IsTooLong (all_read source.had source.left old new none read) long, heard none)
+refused_block limits source old new fault.Read none fresh (failed, heard) = (failed, heard none)
+refused_block limits source old new fault.Memory none fresh (fits, heard) = heard none
+refused_block limits source old new fault.Write none fresh (never, heard) = absurd never
+refused_block limits source old new (fault.Table why) none fresh (never, heard) = absurd never
+refused_block limits source old new (fault.Opening why) none fresh (never, heard) = absurd never
+refused_block limits source old new (fault.Threads why) none fresh (never, heard) = absurd never
 
--- the table text of a block, with what stands behind the block
-block_of : (block : TableBlock) (ahead : ReadAhead) → IsBlock block ahead → (parts : Parts) × (parts_of (raw_lines (unread ahead)) ≡ Ok parts) × (parts.table ≡ between block.start block.stop (unread ahead))
-block_of block ahead is = elim is.lines [
-  | inl ends ↦ (
-    record { table = between block.start block.stop (unread ahead); commands = raw_lines (drop block.end (unread ahead)); first = block.first },
-    ap parts_of (ap raw_lines (sym (take-append-drop block.end (unread ahead))) ∙ ends (drop block.end (unread ahead))) ∙ parts_more (raw_lines (take block.end (unread ahead))) (raw_lines (drop block.end (unread ahead))) _ is.cut,
-    refl,
-  )
-  | inr last ↦ (
-    record { table = between block.start block.stop (unread ahead); commands = []; first = block.first },
-    ap (λ (t : List ℕ). parts_of (raw_lines t)) (sym (take_all block.end (unread ahead) (omega (arith, last.1)))) ∙ is.cut,
-    refl,
-  )
-]
+-- the parts of what was read, where lines of their own follow the block
+block_with : (block : TableBlock) (ahead : ReadAhead) (more : List ℕ) → IsBlock block ahead → EndsWithLine (take block.end (unread ahead))
+    → parts_of (raw_lines (unread ahead ++ more)) ≡ Ok (record { table = between block.start block.stop (unread ahead); commands = raw_lines (drop block.end (unread ahead) ++ more); first = block.first })
+block_with block ahead more is ends =
+    let front = take block.end (unread ahead) in
+    let rest = drop block.end (unread ahead) in
+    ap parts_of (ap raw_lines (ap (λ (t : List ℕ). t ++ more) (sym (take-append-drop block.end (unread ahead))) ∙ append_assoc front rest more) ∙ ends (rest ++ more)) ∙ parts_more (raw_lines front) (raw_lines (rest ++ more)) _ is.cut
 
--- the fault of a script that was read
-opening_refused : (limits : Limits) (source : Source) (new : ReadAhead) (why : RunFault) (bytes : List ℕ) → Consumes source.had source.left bytes → ScriptFault why (script_of limits bytes) → OpensLive limits source new (Err why)
-opening_refused limits source new fault.Memory bytes consumed is = (bytes, consumed)
-opening_refused limits source new fault.NoTable bytes consumed is = (bytes, consumed, is)
-opening_refused limits source new fault.NoEnd bytes consumed is = (bytes, consumed, is)
-opening_refused limits source new (fault.Table why) bytes consumed is = (bytes, consumed, is)
-opening_refused limits source new (fault.Opening why) bytes consumed is = (bytes, consumed, is)
-opening_refused limits source new fault.Read bytes consumed is = absurd is
-opening_refused limits source new fault.Write bytes consumed is = absurd is
-opening_refused limits source new fault.TooLarge bytes consumed is = absurd is
-opening_refused limits source new (fault.Threads why) bytes consumed is = absurd is
+-- the parts of what was read, where the block is all of it
+block_alone : (block : TableBlock) (ahead : ReadAhead) → IsBlock block ahead → block.end ≡ length (unread ahead)
+    → parts_of (raw_lines (unread ahead)) ≡ Ok (record { table = between block.start block.stop (unread ahead); commands = []; first = block.first })
+block_alone block ahead is all = ap (λ (t : List ℕ). parts_of (raw_lines t)) (sym (take_all block.end (unread ahead) (omega (arith, all)))) ∙ is.cut
+
+-- the fault of a script that was read, whatever follows
+opening_refused : (limits : Limits) (source : Source) (new : ReadAhead) (why : RunFault) (bytes : List ℕ) → HeardNone source → Consumes source.had source.left bytes
+    → ((more : List ℕ) → ScriptFault why (script_of limits (bytes ++ more))) ⊎ IsAtEnd source.left × ScriptFault why (script_of limits bytes) → OpensLive limits source new (Err why)
+opening_refused limits source new fault.Memory bytes heard consumed is = heard
+opening_refused limits source new fault.NoTable bytes heard consumed is = (heard, bytes, consumed, is)
+opening_refused limits source new fault.NoEnd bytes heard consumed is = (heard, bytes, consumed, is)
+opening_refused limits source new (fault.Table why) bytes heard consumed is = (heard, bytes, consumed, is)
+opening_refused limits source new (fault.Opening why) bytes heard consumed is = (heard, bytes, consumed, is)
+opening_refused limits source new fault.Read bytes heard consumed is = absurd (elim is [ inl all ↦ all [] | inr last ↦ last.1 ])
+opening_refused limits source new fault.Write bytes heard consumed is = absurd (elim is [ inl all ↦ all [] | inr last ↦ last.1 ])
+opening_refused limits source new fault.TooLarge bytes heard consumed is = absurd (elim is [ inl all ↦ all [] | inr last ↦ last.1 ])
+opening_refused limits source new (fault.Threads why) bytes heard consumed is = absurd (elim is [ inl all ↦ all [] | inr last ↦ last.1 ])
+
+-- the lines of a script that has no command lines are those of its block
+block_whole : (lines : List (List ℕ)) (parts : Parts) → parts_of lines ≡ Ok parts → parts.commands ≡ [] → block_lines lines ≡ lines
+block_whole lines parts h none =
+    let cut = cut_of lines parts h in
+    let place = position_or_len is_end_line cut.rest in
+    let left : drop (place + 1) cut.rest ≡ [] = ap (λ (p : Parts). p.commands) cut.parts_are ∙ none in
+    let all = take_all (place + 1) cut.rest (omega (arith, ap length left, length-drop (place + 1) cut.rest)) in
+    ap block_lines cut.lines_are ∙ rw cut.table (ap (λ (l : List (List ℕ)). cut.first ∷ l) all) ∙ sym cut.lines_are
 
 -- the table of the block was refused
-pub refused_table : (limits : Limits) (source : Source) (old new : ReadAhead) (block : TableBlock) (why : RunFault) → unread old ≡ [] → ReadBehind source.had source.left old new → IsBlock block new
-    → OpeningFault limits (between block.start block.stop (unread new)) why → OpensLive limits source new (Err why)
-refused_table limits source old new block why none read is refused =
-    let (parts, cut, table) = block_of block new is in
-    opening_refused limits source new why (unread new) (all_read source.had source.left old new none read) (refused (unread new) parts cut table)
+pub refused_table : (limits : Limits) (source : Source) (old new : ReadAhead) (block : TableBlock) (why : RunFault) → unread old ≡ [] → is_at_end old ≡ false → ReadBehind source.had source.left old new
+    → (IsLittle 0 (unread old) → IsLittle block.end (unread new)) → IsBlock block new → OpeningFault limits (between block.start block.stop (unread new)) why → OpensLive limits source new (Err why)
+refused_table limits source old new block why none fresh read little is refused =
+    let heard = hears_part source old new block.end read little (block_whole (raw_lines (take block.end (unread new))) _ is.cut refl) none in
+    opening_refused limits source new why (unread new) heard (all_read source.had source.left old new none read) (elim is.lines [
+      | inl ends ↦ inl (λ more. refused (unread new ++ more) _ (block_with block new more is ends) refl)
+      | inr last ↦ inr (at_end source.had source.left old new fresh read last.0, refused (unread new) _ (block_alone block new is last.1) refl)
+    ])
 
 -- the table of the block was opened
-pub opened_live : (limits : Limits) (had left : Option (List ℕ)) (old mid new : ReadAhead) (block : TableBlock) (live : LiveTable) → unread old ≡ [] → is_at_end old ≡ false → ReadBehind had left old mid → IsBlock block mid
+pub opened_live : (limits : Limits) (had left : Option (List ℕ)) (old mid new : ReadAhead) (block : TableBlock) (live : LiveTable) → unread old ≡ [] → is_at_end old ≡ false → ReadBehind had left old mid → (IsLittle 0 (unread old) → IsLittle block.end (unread mid)) → IsBlock block mid
     → IsOpened limits (between block.start block.stop (unread mid)) block.first live → unread new ≡ drop block.end (unread mid) → is_at_end new ≡ is_at_end mid → Hears limits had left new live [] × (next_number live ≤ 16777219)
 unfolding commands_of
-opened_live limits had left old mid new block live none fresh read is opens taken ended = (
+opened_live limits had left old mid new block live none fresh read little is opens taken ended = (
   record {
     heard = take block.end (unread mid);
     consumed = subst (Consumes had left) (sym (take-append-drop block.end (unread mid)) ∙ ap (λ (t : List ℕ). take block.end (unread mid) ++ t) (sym taken)) (all_read had left old mid none read);
     lines = elim is.lines [ inl ends ↦ inl ends | inr last ↦ inr (ended ∙ last.0, taken ∙ drop_whole block.end (unread mid) last.1) ];
-    at_end = λ e. read.at_end (λ before. absurd (let both = sym fresh ∙ before in cc)) (sym ended ∙ e);
+    at_end = λ e. at_end had left old mid fresh read (sym ended ∙ e);
+    little = subst (IsLittle 0) (sym taken) (little_left block.end (unread mid) (little (little_at_first old none)));
     script = record {
       parts = record { table = between block.start block.stop (unread mid); commands = []; first = block.first };
       rows = opens.rows;
@@ -124,11 +139,11 @@ pub telling_more : (limits : Limits) (had held : Option (List ℕ)) (source : So
     → WroteAll sink text → Telling limits had source.left held sink.holds new after
 telling_more limits had held source sink old new before after text so_far next wrote = record {
   text = so_far.text ++ text;
-  hears = hears_more limits had source old new before after so_far.text text so_far.hears next;
+  hears = (hears_next limits had source old new before after so_far.text text so_far.hears next).hears;
   wrote = Appends-trans held sink.held sink.holds so_far.text text so_far.wrote wrote;
 }
 
-stopped : (limits : Limits) (had held : Option (List ℕ)) (source : Source) (sink : Sink) (ahead : ReadAhead) (live : LiveTable) → Telling limits had source.had held sink.held ahead live → ReadSome source.had source.left ahead → NothingWritten sink
+stopped : (limits : Limits) (had held : Option (List ℕ)) (source : Source) (sink : Sink) (ahead : ReadAhead) (live : LiveTable) → Telling limits had source.had held sink.held ahead live → ReadSome source.had source.left 0 ahead → NothingWritten sink
     → StopsEarly limits (since had source) (record { held = held; holds = sink.holds; failed = sink.failed })
 stopped limits had held source sink ahead live so_far some kept =
     stops_early limits had source (record { held = held; holds = sink.holds; failed = sink.failed }) ahead live so_far.text so_far.hears some (Appends-kept held sink.held sink.holds so_far.text so_far.wrote kept)
@@ -137,9 +152,10 @@ stopped limits had held source sink ahead live so_far some kept =
 pub turn_failed : (limits : Limits) (had held : Option (List ℕ)) (source : Source) (sink : Sink) (old new : ReadAhead) (before after : LiveTable) (why : RunFault) → Telling limits had source.had held sink.held old before
     → Turns source sink old new before after (Err why) → RanLive limits (since had source) (record { held = held; holds = sink.holds; failed = sink.failed }) (Err why)
 turn_failed limits had held source sink old new before after fault.Write so_far (failed, text, next, part) =
-    stops_writing limits had source held sink.held sink old new before after so_far.text text so_far.hears next so_far.wrote refl failed part
+    (failed, inl (stops_writing limits had source held sink old new before after so_far.text text so_far.hears next so_far.wrote part))
 turn_failed limits had held source sink old new before after fault.Read so_far (failed, some, kept) = (failed, stopped limits had held source sink old before so_far some kept)
-turn_failed limits had held source sink old new before after fault.TooLarge so_far (some, kept) = stopped limits had held source sink old before so_far some kept
+turn_failed limits had held source sink old new before after fault.TooLarge so_far (line, some, kept) =
+    (heard_too_long limits had source old new before so_far.text so_far.hears line.0 line.1, stopped limits had held source sink old before so_far some kept)
 turn_failed limits had held source sink old new before after fault.Memory so_far (some, kept) = stopped limits had held source sink old before so_far some kept
 turn_failed limits had held source sink old new before after fault.NoTable so_far never = absurd never
 turn_failed limits had held source sink old new before after fault.NoEnd so_far never = absurd never
@@ -147,39 +163,44 @@ turn_failed limits had held source sink old new before after (fault.Table why) s
 turn_failed limits had held source sink old new before after (fault.Opening why) so_far never = absurd never
 turn_failed limits had held source sink old new before after (fault.Threads why) so_far never = absurd never
 
+-- how much was read where the table was refused
+none_heard : (limits : Limits) (source : Source) (ahead : ReadAhead) (why : RunFault) → OpensLive limits source ahead (Err why) → HeardNone source
+none_heard limits source ahead fault.Read (failed, heard) = heard
+none_heard limits source ahead fault.TooLarge (long, heard) = heard
+none_heard limits source ahead fault.Memory heard = heard
+none_heard limits source ahead fault.Write never = absurd never
+none_heard limits source ahead (fault.Threads why) never = absurd never
+none_heard limits source ahead fault.NoTable shows = shows.0
+none_heard limits source ahead fault.NoEnd shows = shows.0
+none_heard limits source ahead (fault.Table why) shows = shows.0
+none_heard limits source ahead (fault.Opening why) shows = shows.0
+
 -- the table was refused, and that was written
 refused_with : (limits : Limits) (source : Source) (sink : Sink) (ahead : ReadAhead) (why : RunFault) → OpensLive limits source ahead (Err why) → WroteAll sink (fault_text why) → RanLive limits source sink (Err why)
-refused_with limits source sink ahead fault.Read (failed, some) wrote = (failed, inl (nothing-written sink.held sink.holds wrote))
-refused_with limits source sink ahead fault.TooLarge some wrote = inl (nothing-written sink.held sink.holds wrote)
-refused_with limits source sink ahead fault.Memory some wrote = inl (nothing-written sink.held sink.holds wrote)
+refused_with limits source sink ahead fault.Read (failed, heard) wrote = (failed, inl (heard, nothing-written sink.held sink.holds wrote))
+refused_with limits source sink ahead fault.TooLarge (long, heard) wrote = (long, inl (heard, nothing-written sink.held sink.holds wrote))
+refused_with limits source sink ahead fault.Memory heard wrote = inl (heard, nothing-written sink.held sink.holds wrote)
 refused_with limits source sink ahead fault.Write never wrote = absurd never
 refused_with limits source sink ahead (fault.Threads why) never wrote = absurd never
-refused_with limits source sink ahead fault.NoTable (bytes, consumed, is) wrote = (bytes, consumed, is, wrote)
-refused_with limits source sink ahead fault.NoEnd (bytes, consumed, is) wrote = (bytes, consumed, is, wrote)
-refused_with limits source sink ahead (fault.Table why) (bytes, consumed, is) wrote = (bytes, consumed, is, wrote)
-refused_with limits source sink ahead (fault.Opening why) (bytes, consumed, is) wrote = (bytes, consumed, is, wrote)
+refused_with limits source sink ahead fault.NoTable shows wrote = (shows, wrote)
+refused_with limits source sink ahead fault.NoEnd shows wrote = (shows, wrote)
+refused_with limits source sink ahead (fault.Table why) shows wrote = (shows, wrote)
+refused_with limits source sink ahead (fault.Opening why) shows wrote = (shows, wrote)
 
 -- of a refusal's line a beginning was written
-begun_line : (limits : Limits) (source : Source) (sink : Sink) (why : RunFault) (bytes : List ℕ) → Consumes source.had source.left bytes → script_of limits bytes ≡ Err why → output_of limits (Err why) ≡ fault_text why → sink.failed ≡ true
-    → WroteBeginning sink (fault_text why) → RanLive limits source sink (Err fault.Write)
-begun_line limits source sink why bytes consumed is line failed (count, part) =
-    let all : output limits bytes ≡ fault_text why = ap (output_of limits) is ∙ line in
-    (failed, bytes, [], subst (Consumes source.had source.left) (sym (append-nil bytes)) consumed, (count, subst (λ (t : List ℕ). Appends sink.held sink.holds (take count t)) (sym all) part))
-
-none_of_line : (limits : Limits) (source : Source) (sink : Sink) → Consumed source → sink.failed ≡ true → WroteBeginning sink [] → RanLive limits source sink (Err fault.Write)
-none_of_line limits source sink (bytes, consumed) failed (count, part) =
-    (failed, [], bytes, consumed, (0, subst (λ (t : List ℕ). Appends sink.held sink.holds t) (take_all count [] (omega arith)) part))
+none_begun : (limits : Limits) (source : Source) (sink : Sink) → HeardNone source → sink.failed ≡ true → WroteBeginning sink [] → RanLive limits source sink (Err fault.Write)
+none_begun limits source sink heard failed (count, part) = (failed, inr (inl (heard, nothing-written sink.held sink.holds (subst (Appends sink.held sink.holds) (take_all count [] (omega arith)) part))))
 
 refused_write : (limits : Limits) (source : Source) (sink : Sink) (ahead : ReadAhead) (why : RunFault) → OpensLive limits source ahead (Err why) → sink.failed ≡ true → WroteBeginning sink (fault_text why) → RanLive limits source sink (Err fault.Write)
-refused_write limits source sink ahead fault.Read (at, some) failed part = none_of_line limits source sink some failed part
-refused_write limits source sink ahead fault.TooLarge some failed part = none_of_line limits source sink some failed part
-refused_write limits source sink ahead fault.Memory some failed part = none_of_line limits source sink some failed part
+refused_write limits source sink ahead fault.Read (at, heard) failed part = none_begun limits source sink heard failed part
+refused_write limits source sink ahead fault.TooLarge (long, heard) failed part = none_begun limits source sink heard failed part
+refused_write limits source sink ahead fault.Memory heard failed part = none_begun limits source sink heard failed part
 refused_write limits source sink ahead fault.Write never failed part = absurd never
 refused_write limits source sink ahead (fault.Threads why) never failed part = absurd never
-refused_write limits source sink ahead fault.NoTable (bytes, consumed, is) failed part = begun_line limits source sink fault.NoTable bytes consumed is refl failed part
-refused_write limits source sink ahead fault.NoEnd (bytes, consumed, is) failed part = begun_line limits source sink fault.NoEnd bytes consumed is refl failed part
-refused_write limits source sink ahead (fault.Table why) (bytes, consumed, is) failed part = begun_line limits source sink (fault.Table why) bytes consumed is refl failed part
-refused_write limits source sink ahead (fault.Opening why) (bytes, consumed, is) failed part = begun_line limits source sink (fault.Opening why) bytes consumed is refl failed part
+refused_write limits source sink ahead fault.NoTable shows failed part = (failed, inr (inr (fault.NoTable, shows, part)))
+refused_write limits source sink ahead fault.NoEnd shows failed part = (failed, inr (inr (fault.NoEnd, shows, part)))
+refused_write limits source sink ahead (fault.Table why) shows failed part = (failed, inr (inr (fault.Table why, shows, part)))
+refused_write limits source sink ahead (fault.Opening why) shows failed part = (failed, inr (inr (fault.Opening why, shows, part)))
 
 -- a refused table, by what was written of its line
 same_fault : (limits : Limits) (source : Source) (sink : Sink) (ahead : ReadAhead) (why other : RunFault) → OpensLive limits source ahead (Err why) → why ≡ other → WroteAll sink (fault_text why) → RanLive limits source sink (Err other)
@@ -188,7 +209,7 @@ same_fault limits source sink ahead why other opens is wrote = subst (λ (w : Ru
 pub refused_live : (limits : Limits) (source : Source) (sink : Sink) (ahead : ReadAhead) (why : RunFault) (result : Result (Unit {0}) RunFault) → OpensLive limits source ahead (Err why) → Wrote sink (Err why) result → RanLive limits source sink result
 refused_live limits source sink ahead why (Ok done) opens (ok, all) = absurd (cc)
 refused_live limits source sink ahead why (Err fault.Write) opens (failed, part) = refused_write limits source sink ahead why opens failed part
-refused_live limits source sink ahead why (Err fault.Memory) opens kept = inl kept
+refused_live limits source sink ahead why (Err fault.Memory) opens kept = inl (none_heard limits source ahead why opens, kept)
 refused_live limits source sink ahead why (Err fault.Read) opens (same, all) = same_fault limits source sink ahead why fault.Read opens (cc) all
 refused_live limits source sink ahead why (Err fault.TooLarge) opens (same, all) = same_fault limits source sink ahead why fault.TooLarge opens (cc) all
 refused_live limits source sink ahead why (Err fault.NoTable) opens (same, all) = same_fault limits source sink ahead why fault.NoTable opens (cc) all

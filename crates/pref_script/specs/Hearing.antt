@@ -1,17 +1,16 @@
 -- No public contract cites this.
 -- A script that is heard line by line. (this project)
-use Rattle.std.specs.Prelude.{ℕ, ℤ, ◌≡◌, ◌≤◌, ◌<◌, ◌+◌, ◌⊎◌, true, List, [], ◌++◌, length, take, Option, Result, Ok, Err}
+use Rattle.std.specs.Prelude.{ℕ, ℤ, ◌≡◌, ◌≤◌, ◌<◌, ◌+◌, ◌⊎◌, true, List, [], ◌++◌, length, take, Option, IfSome, Result, Ok, Err}
 use Rattle.std.specs.Io.KnownBytes.{Consumes, IsAtEnd}
 use Rattle.pref_table.specs.Tables.{table_of}
 use Rattle.pref_core.specs.Limits.{Limits}
 use Rattle.pref_core.specs.Step.{System, opened}
 use Rattle.pref_core.specs.Systems.{StandsForSystem}
 use Rattle.pref_script.specs.Commands.{Command, commands_of}
-use Rattle.pref_script.specs.Live.{EndsWithLine}
+use Rattle.pref_script.specs.Live.{EndsWithLine, IsTooLong, HeardNone, ShowsFault}
 use Rattle.pref_script.specs.LiveTable.{names_of, next_number, running_of}
-use Rattle.pref_script.specs.Output.{script_of}
 use Rattle.pref_script.specs.Playing.{told_from}
-use Rattle.pref_script.specs.ReadAhead.{LineFault, ReadBehind, ReadSome, between, is_at_end, unread}
+use Rattle.pref_script.specs.ReadAhead.{IsLittle, ReadBehind, ReadFault, between, is_at_end, unread}
 use Rattle.pref_script.specs.Run.{Source}
 use Rattle.pref_script.specs.Script.{Parts, parts_of, raw_lines}
 use Rattle.pref_script.specs.declared.fault.RunFault.{RunFault}
@@ -28,12 +27,21 @@ pub record IsBlock (block : TableBlock) (ahead : ReadAhead) : Type 0 where
   pub cut : parts_of (raw_lines (take block.end (unread ahead))) ≡ Ok (record { table = between block.start block.stop (unread ahead); commands = []; first = block.first })
   pub lines : EndsWithLine (take block.end (unread ahead)) ⊎ (is_at_end ahead ≡ true) × (block.end ≡ length (unread ahead))
 
+-- no command line was heard, where nothing was there before
+abbrev pub HearsNone : Source → ReadAhead → Type 0
+HearsNone source old = unread old ≡ [] → HeardNone source
+
+-- what was read has no table block for this reason, whatever follows it, or it is all that there was
+abbrev pub LacksBlock : ReadAhead → RunFault → Type 0
+LacksBlock ahead why = ((more : List ℕ) → parts_of (raw_lines (unread ahead ++ more)) ≡ Err why) ⊎ (is_at_end ahead ≡ true) × (parts_of (raw_lines (unread ahead)) ≡ Err why)
+
 -- the table block was read, or why there is none
 abbrev pub ReadsBlock : Source → ReadAhead → ReadAhead → Result TableBlock RunFault → Type 0
-ReadsBlock source old new (Ok block) = ReadBehind source.had source.left old new × IsBlock block new
-ReadsBlock source old new (Err fault.NoTable) = ReadBehind source.had source.left old new × (parts_of (raw_lines (unread new)) ≡ Err fault.NoTable)
-ReadsBlock source old new (Err fault.NoEnd) = ReadBehind source.had source.left old new × (parts_of (raw_lines (unread new)) ≡ Err fault.NoEnd)
-ReadsBlock source old new (Err why) = LineFault source.failed why × ReadSome source.had source.left old
+ReadsBlock source old new (Ok block) = ReadBehind source.had source.left old new × (IsLittle 0 (unread old) → IsLittle block.end (unread new)) × IsBlock block new
+ReadsBlock source old new (Err fault.NoTable) = ReadBehind source.had source.left old new × HearsNone source old × LacksBlock new fault.NoTable
+ReadsBlock source old new (Err fault.NoEnd) = ReadBehind source.had source.left old new × HearsNone source old × LacksBlock new fault.NoEnd
+ReadsBlock source old new (Err fault.TooLarge) = ReadBehind source.had source.left old new × ((more : List ℕ) → IsTooLong (unread new ++ more)) × HearsNone source old
+ReadsBlock source old new (Err why) = ReadFault source.failed why × HearsNone source old
 
 -- the script of the lines that were read so far, with the table after them
 pub record HeardScript (limits : Limits) (heard : List ℕ) (live : LiveTable) (text : List ℕ) : Type 0 where
@@ -55,18 +63,15 @@ pub record Hears (limits : Limits) (had left : Option (List ℕ)) (ahead : ReadA
   pub consumed : Consumes had left (heard ++ unread ahead)
   pub lines : EndsWithLine heard ⊎ (is_at_end ahead ≡ true) × (unread ahead ≡ [])
   pub at_end : is_at_end ahead ≡ true → IsAtEnd left
+  pub little : IsLittle 0 (unread ahead)
   pub script : HeardScript limits heard live text
-
--- some bytes were read
-abbrev pub Consumed : Source → Type 0
-Consumed source = (bytes : List ℕ) × Consumes source.had source.left bytes
 
 -- the table was opened, or why it was not
 abbrev pub OpensLive : Limits → Source → ReadAhead → Result LiveTable RunFault → Type 0
 OpensLive limits source new (Ok live) = Hears limits source.had source.left new live [] × (next_number live ≤ 16777219)
-OpensLive limits source new (Err fault.Read) = (source.failed ≡ true) × Consumed source
-OpensLive limits source new (Err fault.TooLarge) = Consumed source
-OpensLive limits source new (Err fault.Memory) = Consumed source
+OpensLive limits source new (Err fault.Read) = (source.failed ≡ true) × HeardNone source
+OpensLive limits source new (Err fault.TooLarge) = IfSome source.had IsTooLong × HeardNone source
+OpensLive limits source new (Err fault.Memory) = HeardNone source
 OpensLive limits source new (Err fault.Write) = ⊥
 OpensLive limits source new (Err (fault.Threads why)) = ⊥
-OpensLive limits source new (Err why) = (bytes : List ℕ) × Consumes source.had source.left bytes × (script_of limits bytes ≡ Err why)
+OpensLive limits source new (Err why) = ShowsFault limits source why

@@ -47,3 +47,8 @@ parts_of (first ∷ rest) =
     then Ok (record { table = concat (before_first is_end_line rest); commands = after_first is_end_line rest; first = position_or_len is_end_line rest + 3 })
     else Err NoEnd)
     else Err NoTable
+
+-- the lines of the table block: from the line `table` up to the first line `end`
+abbrev pub block_lines : List (List ℕ) → List (List ℕ)
+block_lines [] = []
+block_lines (first ∷ rest) = if is_table_line first then first ∷ take (position_or_len is_end_line rest + 1) rest else []

@@ -18,7 +18,7 @@ pub enum RunFault {
     /// The writer failed, or took no byte. A beginning of the output was written.
     #[error("write")]
     Write,
-    /// The input has more than 16,777,216 bytes; of a run that replies to each line as it comes, its table block or a line.
+    /// The input has more than 16,777,216 bytes; of a run that replies to each line as it comes, its table block or a line, or it has 2^63 lines.
     #[error("too large")]
     TooLarge,
     /// There was no memory.

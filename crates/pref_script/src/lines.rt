@@ -1,6 +1,7 @@
 //! Lines as they come: what a reader gives is kept until its line is taken.
 ghost use Rattle.std.specs.Prelude.{◌≡◌, ◌≤◌, ◌<◌, ◌+◌, ◌++◌, [], true, false, length, take, drop, vec_len, IfOk, IfErr, OnOk};
-ghost use Rattle.pref_script.specs.ReadAhead.{IsLineAt, LineFault, ReadBehind, ReadSome, is_at_end, unread};
+ghost use Rattle.pref_script.specs.ReadAhead.{IsLineAt, IsLittle, LineFault, NoLineFeed, ReadBehind, ReadFault, ReadOnce, ReadSome, is_at_end, unread};
+ghost use Rattle.pref_script.specs.Run.{source_of};
 ghost use Rattle.pref_script.specs.Watched.{has_failed, inside};
 
 use crate::fault::RunFault;
@@ -75,8 +76,8 @@ impl ReadAhead {
         ensures ok { OnOk result (ReadBehind (R.remaining (inside reader.old)) (R.remaining (inside reader.new)) self.old self.new) }
         ensures grows { OnOk result (is_at_end self.new ≡ false → length (unread self.old) < length (unread self.new)) }
         ensures few { OnOk result (length (unread self.new) ≤ length (unread self.old) + 8192) }
-        ensures fault { IfErr result (λ fault. LineFault (has_failed reader.new) fault) }
-        ensures read { ReadSome (R.remaining (inside reader.old)) (R.remaining (inside reader.new)) self.old }
+        ensures fault { IfErr result (λ fault. ReadFault (has_failed reader.new) fault) }
+        ensures read { ReadOnce (R.remaining (inside reader.old)) (R.remaining (inside reader.new)) self.old }
     {
         if self.ended {
             return Ok(());
@@ -102,8 +103,10 @@ impl ReadAhead {
     ) -> Result<(), RunFault>
         requires { from ≤ length (unread self.old) }
         ensures ok { OnOk result (ReadBehind (R.remaining (inside reader.old)) (R.remaining (inside reader.new)) self.old self.new) }
-        ensures fault { IfErr result (λ fault. LineFault (has_failed reader.new) fault) }
-        ensures read { ReadSome (R.remaining (inside reader.old)) (R.remaining (inside reader.new)) self.old }
+        ensures long { OnOk result (NoLineFeed from (length (unread self.new)) (unread self.new) → is_at_end self.new ≡ false → 16777216 < length (unread self.new)) }
+        ensures little { OnOk result (IsLittle from (unread self.old) → IsLittle from (unread self.new)) }
+        ensures fault { IfErr result (λ fault. ReadFault (has_failed reader.new) fault) }
+        ensures read { ReadSome (R.remaining (inside reader.old)) (R.remaining (inside reader.new)) from self.old }
     {
         if memchr(b'\n', &self.as_slice()[from..]).is_some() {
             return Ok(());
@@ -121,7 +124,7 @@ impl ReadAhead {
 
     /// Where the line ends that begins behind this many bytes: after its line feed, or where the input ends.
     ///
-    /// No byte is read where the line is there already, and none after the read that brought its end.
+    /// No byte is read where the line is there already, and none after the read that brought its end, which brings at most 8,192 bytes.
     /// Refused `TooLarge` where the line ends behind 16,777,216 bytes.
     pub fn read_line<R: Read>(
         &mut self,
@@ -134,8 +137,9 @@ impl ReadAhead {
         ensures line { IfOk result (λ end. IsLineAt from end self.new) }
         ensures inside { IfOk result (λ end. (from ≤ end) × (end ≤ length (unread self.new))) }
         ensures most { IfOk result (λ end. end ≤ 16777216) }
-        ensures fault { IfErr result (λ fault. LineFault (has_failed reader.new) fault) }
-        ensures read { ReadSome (R.remaining (inside reader.old)) (R.remaining (inside reader.new)) self.old }
+        ensures little { OnOk result (IsLittle from (unread self.old) → IsLittle from (unread self.new)) }
+        ensures fault { IfErr result (λ fault. LineFault (source_of R.remaining reader.old reader.new) from self.old self.new fault) }
+        ensures read { ReadSome (R.remaining (inside reader.old)) (R.remaining (inside reader.new)) from self.old }
     {
         self.read_on(alloc, reader, from)?;
         match memchr(b'\n', &self.as_slice()[from..]) {
@@ -147,7 +151,7 @@ impl ReadAhead {
     /// Where the input ends, if it has.
     fn last_end(&self) -> Result<usize, RunFault>
         ensures ok { IfOk result (λ end. (is_at_end self.now ≡ true) × (end ≡ length (unread self.now)) × (end ≤ 16777216)) }
-        ensures fault { IfErr result (λ fault. fault ≡ RunFault.TooLarge) }
+        ensures fault { IfErr result (λ fault. (fault ≡ RunFault.TooLarge) × (is_at_end self.now ≡ true → 16777216 < length (unread self.now))) }
     {
         if self.ended {
             end_within(self.as_slice().len())
@@ -160,7 +164,7 @@ impl ReadAhead {
 /// The end of a line, where it isn't too far away.
 fn end_within(end: usize) -> Result<usize, RunFault>
     ensures ok { IfOk result (λ same. (same ≡ end) × (end ≤ 16777216)) }
-    ensures fault { IfErr result (λ fault. (fault ≡ RunFault.TooLarge)) }
+    ensures fault { IfErr result (λ fault. (fault ≡ RunFault.TooLarge) × (16777216 < end)) }
 {
     if end <= MAX_LINE {
         Ok(end)

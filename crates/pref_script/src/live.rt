@@ -18,7 +18,7 @@ use pref_core::Setup;
 use std::alloc::Global;
 use std::io::{Read, Write};
 
-/// More lines than any input has.
+/// The most lines that are heard after the table block.
 const MAX_LINES: u64 = 1 << 63;
 
 /// How a turn ends.
@@ -144,10 +144,11 @@ fn tell_all<R: Read, W: Write>(
 
 /// Reads a script, runs it under a setup, and replies to each of its lines as it comes: a line's replies are written and flushed before
 /// the next line is waited for. The input has no bound; the table block has 16,777,216 bytes at most, and so has each line after it
-/// with its end.
+/// with its end. Behind the lines that were replied to, at most the beginning of one line and 8,192 bytes are read.
 ///
-/// Refused `NoTable`, `NoEnd`, `Table` or `Opening` as soon as the table block shows it; its one line was written then. After `Read`, `TooLarge` and
-/// `Memory` the replies to the lines before were written, and after `Write` a beginning of the output.
+/// Refused `NoTable`, `NoEnd`, `Table` or `Opening` as soon as the table block shows it, whatever follows; its one line was written then.
+/// Refused `TooLarge` where the table block or a line is longer, or there are 2^63 lines. After `Read`, `TooLarge` and `Memory` the replies to the
+/// lines before were written, and after `Write` all replies to the lines before the last one, and a beginning of those to it.
 pub fn run_live<R: Read, W: Write>(
     alloc: Global,
     reader: &mut Watched<R>,

@@ -10,7 +10,7 @@ pub returns-in_err-block : goal.returns-in_err-block
 returns-in_err-block g c =
     let source = source_of g.R.Read.remaining c.args.reader.now c.read_block.new.reader in
     let p = err_from_is_err_and c.from_residual.result c.from_residual.ensures.1 in
-    rw (p.1, p.2) (refused_block c.args.setup source c.args.ahead.now c.read_block.new.ahead c.in_err-block.field-0.0 c.requires.empty c.in_err-block.ensures)
+    rw (p.1, p.2) (refused_block c.args.setup source c.args.ahead.now c.read_block.new.ahead c.in_err-block.field-0.0 c.requires.empty c.requires.fresh c.in_err-block.ensures)
 
 pub returns-in_err-live : goal.returns-in_err-live
 returns-in_err-live g c =
@@ -18,7 +18,7 @@ returns-in_err-live g c =
     let block = c.in_ok-block.block in
     let refused = subst (λ (t : List ℕ). OpeningFault c.args.setup (between block.start block.stop t) c.in_err-live.field-0.0) c.as_slice.ensures c.in_err-live.ensures.fault in
     let p = err_from_is_err_and c.from_residual-in_err-live.result c.from_residual-in_err-live.ensures.1 in
-    rw (p.1, p.2) (refused_table c.args.setup source c.args.ahead.now c.read_block.new.ahead block c.in_err-live.field-0.0 c.requires.empty c.in_ok-block.ensures.0 c.in_ok-block.ensures.1 refused)
+    rw (p.1, p.2) (refused_table c.args.setup source c.args.ahead.now c.read_block.new.ahead block c.in_err-live.field-0.0 c.requires.empty c.requires.fresh c.in_ok-block.ensures.0 c.in_ok-block.ensures.1 c.in_ok-block.ensures.2 refused)
 
 pub returns : goal.returns
 returns g c =
@@ -26,4 +26,4 @@ returns g c =
     let left = g.R.Read.remaining c.read_block.new.reader.inner in
     let block = c.in_ok-block.block in
     let opens = subst (λ (t : List ℕ). IsOpened c.args.setup (between block.start block.stop t) block.first c.in_ok-live.live) c.as_slice.ensures c.in_ok-live.ensures.opened in
-    opened_live c.args.setup had left c.args.ahead.now c.read_block.new.ahead c.take.new.self block c.in_ok-live.live c.requires.empty c.requires.fresh c.in_ok-block.ensures.0 c.in_ok-block.ensures.1 opens c.take.ensures.unread c.take.ensures.ended
+    opened_live c.args.setup had left c.args.ahead.now c.read_block.new.ahead c.take.new.self block c.in_ok-live.live c.requires.empty c.requires.fresh c.in_ok-block.ensures.0 c.in_ok-block.ensures.1 c.in_ok-block.ensures.2 opens c.take.ensures.unread c.take.ensures.ended

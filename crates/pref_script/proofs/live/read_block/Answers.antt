@@ -1,10 +1,9 @@
 use Rattle.std.proofs.Common.{ℕ, sym, subst, ◌∙◌}
 use Rattle.std.proofs.lemmas.Result.{err_from_is_err_and}
-use Rattle.pref_script.specs.ReadAhead.{IsLineAt}
+use Rattle.pref_script.specs.ReadAhead.{IsLineAt, unread}
 use Rattle.pref_script.specs.Run.{source_of}
-use Rattle.pref_script.proofs.BlockFacts.{block_end, block_next, block_open, end_missing, input_missing, table_missing}
-use Rattle.pref_script.proofs.LineFacts.{behind_more, further, some_more}
-use Rattle.pref_script.proofs.LiveRunFacts.{line_missing}
+use Rattle.pref_script.proofs.BlockFacts.{block_end, block_next, block_open, end_missing, first_missing, hears_first, hears_part, input_missing, next_missing, so_far_part, table_missing}
+use Rattle.pref_script.proofs.LineFacts.{behind_more, further, little_later}
 use Rattle.pref_script.proofs.live.read_block.Goals as goal
 
 pub loop-end-init : goal.loop-end-init
@@ -14,6 +13,7 @@ loop-end-init g c =
     record {
       read = c.in_ok-start.ensures.behind;
       block = block_open c.read_line.new.self c.in_ok-start.start some c.in_ok-start.ensures.inside.1 c.in_ok-start.ensures.most c.in_ok-start.ensures.line is;
+      little = λ few. little_later 0 c.in_ok-start.start (unread c.read_line.new.self) c.in_ok-start.ensures.inside.0 (c.in_ok-start.ensures.little few);
     }
 
 pub loop-end-preserved : goal.loop-end-preserved
@@ -26,36 +26,45 @@ loop-end-preserved g c =
       read = behind_more _ had left c.args.ahead.now c.loop-end.ahead c.read_line-in-loop-end.new.self c.loop-end.invariant.read c.in_ok-end.ensures.behind;
       block = block_next had left c.loop-end.ahead c.read_line-in-loop-end.new.self c.in_ok-start.start c.loop-end.stop c.loop-end.count c.in_ok-end.end c.loop-end.invariant.block c.in_ok-end.ensures.behind c.in_ok-end.ensures.line some
           c.in_ok-end.ensures.inside.1 c.in_ok-end.ensures.most other;
+      little = λ few. little_later c.loop-end.stop c.in_ok-end.end (unread c.read_line-in-loop-end.new.self) c.in_ok-end.ensures.inside.0 (c.in_ok-end.ensures.little (c.loop-end.invariant.little few));
     }
 
 pub returns-in_err-start : goal.returns-in_err-start
 returns-in_err-start g c =
     let source = source_of g.R.Read.remaining c.args.reader.now c.read_line.new.reader in
     let p = err_from_is_err_and c.from_residual.result c.from_residual.ensures.1 in
-    rw (p.1, p.2) (line_missing source c.args.ahead.now c.read_line.new.self c.in_err-start.field-0.0 c.in_err-start.ensures.fault c.in_err-start.ensures.read)
+    rw (p.1, p.2) (first_missing source c.args.ahead.now c.read_line.new.self c.in_err-start.field-0.0 c.in_err-start.ensures.fault c.in_err-start.ensures.read)
 
 pub returns-then-start-eq0 : goal.returns-then-start-eq0
 returns-then-start-eq0 g c =
-    (c.in_ok-start.ensures.behind, input_missing c.read_line.new.self (subst (λ (n : ℕ). IsLineAt 0 n c.read_line.new.self) c.if-start-eq0.true c.in_ok-start.ensures.line))
+    (c.in_ok-start.ensures.behind, hears_first (source_of g.R.Read.remaining c.args.reader.now c.read_line.new.reader) c.args.ahead.now c.read_line.new.self c.in_ok-start.ensures.behind c.in_ok-start.ensures.little, input_missing c.read_line.new.self (subst (λ (n : ℕ). IsLineAt 0 n c.read_line.new.self) c.if-start-eq0.true c.in_ok-start.ensures.line))
 
 pub returns-then-not-is_table_line : goal.returns-then-not-is_table_line
 returns-then-not-is_table_line g c =
     let other = sym (rw c.as_slice.ensures at c.is_table_line.ensures) ∙ c.if-not-is_table_line.true in
-    (c.in_ok-start.ensures.behind, table_missing c.read_line.new.self c.in_ok-start.start c.in_ok-start.ensures.inside.1 c.in_ok-start.ensures.line other)
+    (c.in_ok-start.ensures.behind, hears_first (source_of g.R.Read.remaining c.args.reader.now c.read_line.new.reader) c.args.ahead.now c.read_line.new.self c.in_ok-start.ensures.behind c.in_ok-start.ensures.little, table_missing c.read_line.new.self c.in_ok-start.start c.in_ok-start.ensures.inside.1 c.in_ok-start.ensures.line other)
 
 pub returns-in_err-end : goal.returns-in_err-end
 returns-in_err-end g c =
     let source = source_of g.R.Read.remaining c.args.reader.now c.read_line-in-loop-end.new.reader in
+    let mid = g.R.Read.remaining c.loop-end.reader.inner in
+    let so_far = c.loop-end.invariant in
     let p = err_from_is_err_and c.from_residual-in_err-end.result c.from_residual-in_err-end.ensures.1 in
     rw (p.1, p.2)
-    (line_missing source c.args.ahead.now c.read_line-in-loop-end.new.self c.in_err-end.field-0.0 c.in_err-end.ensures.fault (some_more _ _ _ c.args.ahead.now c.loop-end.ahead c.loop-end.invariant.read c.in_err-end.ensures.read))
+    (next_missing source mid c.args.ahead.now c.loop-end.ahead c.read_line-in-loop-end.new.self c.in_ok-start.start c.loop-end.stop c.loop-end.count c.in_err-end.field-0.0 so_far.read so_far.little so_far.block c.in_err-end.ensures.fault
+    c.in_err-end.ensures.read)
 
 pub returns-then-end-stop : goal.returns-then-end-stop
 returns-then-end-stop g c =
     let had = g.R.Read.remaining c.loop-end.reader.inner in
     let left = g.R.Read.remaining c.read_line-in-loop-end.new.reader.inner in
-    let line = subst (λ (n : ℕ). IsLineAt c.loop-end.stop n c.read_line-in-loop-end.new.self) c.if-end-stop.true c.in_ok-end.ensures.line in (
-      behind_more _ had left c.args.ahead.now c.loop-end.ahead c.read_line-in-loop-end.new.self c.loop-end.invariant.read c.in_ok-end.ensures.behind,
+    let new = c.read_line-in-loop-end.new.self in
+    let so_far = c.loop-end.invariant in
+    let source = source_of g.R.Read.remaining c.args.reader.now c.read_line-in-loop-end.new.reader in
+    let behind = behind_more source.had had left c.args.ahead.now c.loop-end.ahead new so_far.read c.in_ok-end.ensures.behind in
+    let line = subst (λ (n : ℕ). IsLineAt c.loop-end.stop n new) c.if-end-stop.true c.in_ok-end.ensures.line in (
+      behind,
+      hears_part source c.args.ahead.now new c.loop-end.stop behind (λ few. c.in_ok-end.ensures.little (so_far.little few)) (so_far_part had left c.loop-end.ahead new c.in_ok-start.start c.loop-end.stop c.loop-end.count so_far.block c.in_ok-end.ensures.behind),
       end_missing had left c.loop-end.ahead c.read_line-in-loop-end.new.self c.in_ok-start.start c.loop-end.stop c.loop-end.count c.loop-end.invariant.block c.in_ok-end.ensures.behind line,
     )
 
@@ -66,6 +75,7 @@ returns-then-is_end_line g c =
     let some = further c.loop-end.stop c.in_ok-end.end c.in_ok-end.ensures.inside.0 c.if-end-stop.false in
     let is = sym (rw c.as_slice-in-loop-end.ensures at c.is_end_line.ensures) ∙ c.if-is_end_line.true in (
       behind_more _ had left c.args.ahead.now c.loop-end.ahead c.read_line-in-loop-end.new.self c.loop-end.invariant.read c.in_ok-end.ensures.behind,
+      λ few. little_later c.loop-end.stop c.in_ok-end.end (unread c.read_line-in-loop-end.new.self) c.in_ok-end.ensures.inside.0 (c.in_ok-end.ensures.little (c.loop-end.invariant.little few)),
       block_end had left c.loop-end.ahead c.read_line-in-loop-end.new.self c.in_ok-start.start c.loop-end.stop c.loop-end.count c.in_ok-end.end c.loop-end.invariant.block c.in_ok-end.ensures.behind c.in_ok-end.ensures.line some
           c.in_ok-end.ensures.inside.1 is,
     )

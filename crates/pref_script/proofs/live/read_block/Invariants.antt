@@ -1,5 +1,5 @@
 use Rattle.std.proofs.Common.{◌-◌}
-use Rattle.pref_script.specs.ReadAhead.{ReadBehind}
+use Rattle.pref_script.specs.ReadAhead.{IsLittle, ReadBehind, unread}
 use Rattle.pref_script.proofs.BlockFacts.{BlockAt}
 use Rattle.pref_script.proofs.live.read_block.Given as goal
 
@@ -8,6 +8,7 @@ invariant-loop-end g l =
     let remaining = g.R.Read.remaining in record {
       read : ReadBehind (remaining l.fn.reader.inner) (remaining l.reader.inner) l.fn.ahead l.ahead;
       block : BlockAt l.ahead l.start l.stop l.count;
+      little : IsLittle 0 (unread l.fn.ahead) → IsLittle l.stop (unread l.ahead);
     }
 
 abbrev pub decreases-loop-end : goal.decreases-loop-end

@@ -4,7 +4,7 @@ use Rattle.std.proofs.lemmas.Result.{err_from_is_err_and}
 use Rattle.pref_script.specs.Live.{Turns}
 use Rattle.pref_script.specs.Run.{sink_of, source_of}
 use Rattle.pref_script.specs.declared.live.Turn.{Turn}
-use Rattle.pref_script.proofs.HeardFacts.{ran_whole, stops_early}
+use Rattle.pref_script.proofs.HeardFacts.{heard_number, heard_too_many, ran_whole, stops_early}
 use Rattle.pref_script.proofs.LineFacts.{some_none}
 use Rattle.pref_script.proofs.LiveRunFacts.{telling_more, turn_failed}
 use Rattle.pref_script.proofs.live.tell_all.Goals as goal
@@ -16,7 +16,7 @@ loop-line-init g c = record {
 }
 
 pub take_turn-requires : goal.take_turn-requires
-take_turn-requires g c = omega (arith, c.loop-line.invariant.number, c.loop-line-test.true)
+take_turn-requires g c = omega (arith, c.requires, c.loop-line.invariant.number, c.loop-line-test.true)
 
 pub loop-line-preserved : goal.loop-line-preserved
 loop-line-preserved g c =
@@ -54,4 +54,7 @@ returns g c =
     let all = sink_of g.W.Write.contents c.args.writer.now c.loop-line.writer in
     λ limits had h.
     let so_far = c.loop-line.invariant.telling limits had h in
-    stops_early limits had source all c.loop-line.ahead c.loop-line.live so_far.text so_far.hears (some_none source.had c.loop-line.ahead) so_far.wrote
+    let number = heard_number limits h.heard c.args.live.now [] h.script in (
+      heard_too_many limits had source.had c.loop-line.ahead c.loop-line.live so_far.text so_far.hears (omega (arith, c.loop-line.invariant.number, number, c.loop-line-test.false)),
+      stops_early limits had source all c.loop-line.ahead c.loop-line.live so_far.text so_far.hears (some_none source.had c.loop-line.ahead 0) so_far.wrote,
+    )

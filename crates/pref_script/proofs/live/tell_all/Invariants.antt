@@ -1,4 +1,4 @@
-use Rattle.std.proofs.Common.{ℕ, ◌+◌, ◌≤◌, List, [], Option}
+use Rattle.std.proofs.Common.{◌≡◌, ℕ, ◌+◌, List, [], Option}
 use Rattle.pref_core.specs.Limits.{Limits}
 use Rattle.pref_script.specs.Hearing.{Hears}
 use Rattle.pref_script.specs.LiveTable.{next_number}
@@ -9,7 +9,7 @@ abbrev pub invariant-loop-line : goal.invariant-loop-line
 invariant-loop-line g l =
     let remaining = g.R.Read.remaining in
     let contents = g.W.Write.contents in record {
-      number : next_number l.live ≤ 16777219 + l._line;
+      number : next_number l.live ≡ next_number l.fn.live + l._line;
       telling : (limits : Limits) (had : Option (List ℕ)) → Hears limits had (remaining l.fn.reader.inner) l.fn.ahead l.fn.live []
           → Telling limits had (remaining l.reader.inner) (contents l.fn.writer.inner) (contents l.writer.inner) l.ahead l.live;
     }

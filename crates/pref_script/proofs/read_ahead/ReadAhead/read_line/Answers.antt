@@ -1,6 +1,7 @@
 use Rattle.std.proofs.lemmas.List.{take_rest}
 use Rattle.pref_script.specs.ReadAhead.{unread}
-use Rattle.pref_script.proofs.LineFacts.{behind_longer, inside_none, inside_some, line_none, line_some}
+use Rattle.pref_script.specs.Run.{source_of}
+use Rattle.pref_script.proofs.LineFacts.{behind_longer, inside_none, inside_some, line_none, line_some, long_none, long_some}
 use Rattle.pref_script.proofs.read_ahead.ReadAhead.read_line.Goals as goal
 
 pub returns-in-Some-clause-line : goal.returns-in-Some-clause-line
@@ -18,3 +19,14 @@ returns-in-Some-clause-inside g c =
 pub returns-in-None-clause-inside : goal.returns-in-None-clause-inside
 returns-in-None-clause-inside g c =
     inside_none c.read_on.new.self c.args.from c.last_end.result (behind_longer _ _ _ _ c.args.from c.in_ok-read_on.ensures.ok c.requires) c.last_end.ensures.ok
+
+pub returns-in-Some-clause-fault : goal.returns-in-Some-clause-fault
+returns-in-Some-clause-fault g c =
+    let source = source_of g.R.Read.remaining c.args.reader.now c.read_on.new.reader in
+    long_some source c.args.self.now c.read_on.new.self c.args.from c.in-Some.place c.end_within.result c.in_ok-read_on.ensures.ok (rw (take_rest (unread c.read_on.new.self) c.args.from) at (rw c.as_slice.ensures at c.in-Some.ensures)) c.end_within.ensures.fault
+
+pub returns-in-None-clause-fault : goal.returns-in-None-clause-fault
+returns-in-None-clause-fault g c =
+    let source = source_of g.R.Read.remaining c.args.reader.now c.read_on.new.reader in
+    long_none source c.args.self.now c.read_on.new.self c.args.from c.last_end.result c.in_ok-read_on.ensures.ok (rw (take_rest (unread c.read_on.new.self) c.args.from) at (rw c.as_slice.ensures at c.in-None.ensures)) c.in_ok-read_on.ensures.long
+    c.last_end.ensures.fault

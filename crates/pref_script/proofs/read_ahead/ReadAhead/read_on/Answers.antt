@@ -1,8 +1,46 @@
-use Rattle.pref_script.proofs.LineFacts.{some_more}
+use Rattle.std.proofs.Common.{◌∙◌, ap, arith, length, rules, sym}
+use Rattle.std.proofs.lemmas.List.{take_rest}
+use Rattle.pref_script.specs.ReadAhead.{unread}
+use Rattle.pref_script.proofs.LineFacts.{behind_more, behind_some, little_behind, none_found, none_more, once_more}
 use Rattle.pref_script.proofs.read_ahead.ReadAhead.read_on.Goals as goal
 
+pub loop-seen-init : goal.loop-seen-init
+loop-seen-init g c =
+    let found = rw (take_rest (unread c.args.self.now) c.args.from) at (rw c.as_slice.ensures at c.memchr.ensures) in
+    record {
+      all = ap length c.as_slice-seen.ensures;
+      behind = search rules;
+      none = none_found (unread c.args.self.now) c.args.from c.memchr.result found (sym c.is_some.ensures ∙ c.if-is_some.false);
+      little = λ few. few;
+    }
+
+pub loop-seen-preserved : goal.loop-seen-preserved
+loop-seen-preserved g c =
+    let a = g.R.Read.remaining c.args.reader.now.inner in
+    let b = g.R.Read.remaining c.loop-seen.reader.inner in
+    let d = g.R.Read.remaining c.read_more.new.reader.inner in
+    let now = unread c.read_more.new.self in
+    let read = c.in_ok-read_more.ensures.ok in
+    let so_far = c.loop-seen.invariant in
+    let found = rw (take_rest now c.loop-seen.seen) at (rw c.as_slice-else-self.ensures at c.memchr-else-self.ensures) in
+    record {
+      all = ap length c.as_slice-seen-in-loop-seen.ensures;
+      behind = behind_more a b d c.args.self.now c.loop-seen.self c.read_more.new.self so_far.behind read;
+      none = none_more c.args.from (unread c.loop-seen.self) read.bytes now read.behind so_far.none (rw so_far.all at (none_found now c.loop-seen.seen c.memchr-else-self.result found (sym c.is_some-else-self.ensures ∙ c.if-is_some-2.false)));
+      little = λ _. little_behind b d c.loop-seen.self c.read_more.new.self c.args.from read so_far.none (grind arith) c.in_ok-read_more.ensures.few;
+    }
+
 pub returns-in_err-read_more-clause-read : goal.returns-in_err-read_more-clause-read
-returns-in_err-read_more-clause-read g c = some_more _ _ _ _ _ c.loop-seen.invariant.behind c.read_more.ensures.read
+returns-in_err-read_more-clause-read g c = once_more _ _ _ _ _ c.args.from c.loop-seen.invariant.behind c.read_more.ensures.read c.loop-seen.invariant.none (grind arith)
+
+pub returns-then-self-clause-ok : goal.returns-then-self-clause-ok
+returns-then-self-clause-ok g c = behind_more _ _ _ _ _ _ c.loop-seen.invariant.behind c.in_ok-read_more.ensures.ok
+
+pub returns-then-self-clause-little : goal.returns-then-self-clause-little
+returns-then-self-clause-little g c = λ _. little_behind _ _ _ _ c.args.from c.in_ok-read_more.ensures.ok c.loop-seen.invariant.none (grind arith) c.in_ok-read_more.ensures.few
 
 pub returns-then-self-clause-read : goal.returns-then-self-clause-read
-returns-then-self-clause-read g c = some_more _ _ _ _ _ c.loop-seen.invariant.behind c.read_more.ensures.read
+returns-then-self-clause-read g c = once_more _ _ _ _ _ c.args.from c.loop-seen.invariant.behind c.read_more.ensures.read c.loop-seen.invariant.none (grind arith)
+
+pub returns-clause-read : goal.returns-clause-read
+returns-clause-read g c = behind_some _ _ _ _ c.args.from c.loop-seen.invariant.behind c.loop-seen.invariant.little

@@ -1,5 +1,5 @@
 use Rattle.std.proofs.Common.{◌≡◌, ◌-◌, length}
-use Rattle.pref_script.specs.ReadAhead.{ReadBehind, unread}
+use Rattle.pref_script.specs.ReadAhead.{IsLittle, NoLineFeed, ReadBehind, unread}
 use Rattle.pref_script.proofs.read_ahead.ReadAhead.read_on.Given as goal
 
 abbrev pub invariant-loop-seen : goal.invariant-loop-seen
@@ -7,6 +7,8 @@ invariant-loop-seen g l =
     let remaining = g.R.Read.remaining in record {
       all : l.seen ≡ length (unread l.self);
       behind : ReadBehind (remaining l.fn.reader.inner) (remaining l.reader.inner) l.fn.self l.self;
+      none : NoLineFeed l.from (length (unread l.self)) (unread l.self);
+      little : IsLittle l.from (unread l.fn.self) → IsLittle l.from (unread l.self);
     }
 
 abbrev pub decreases-loop-seen : goal.decreases-loop-seen
