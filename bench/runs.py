@@ -5,6 +5,8 @@ import hashlib
 import json
 import os
 import re
+import resource
+import signal
 import subprocess
 import tempfile
 from concurrent.futures import ThreadPoolExecutor
@@ -25,6 +27,7 @@ class Run:
 
     seconds: float
     processor: float = 0.0
+    user: float = 0.0
     digest: Optional[str] = None
     megabytes: Optional[float] = None
     stopped: bool = False
@@ -39,22 +42,29 @@ def build():
         subprocess.run(["cc", "-O2", "-o", PEAK, source], check=True)
 
 
-def run(command, script, most):
-    """Runs a command with a script as its input, for so many seconds at most."""
+def limit_of(processor):
+    """What a new process has to do so that it's stopped after so many seconds of processor time."""
+    return processor and (lambda: resource.setrlimit(resource.RLIMIT_CPU, (processor, processor + 1)))
+
+
+def run(command, script, most, processor=None):
+    """Runs a command with a script as its input, for so many seconds at most, and so many of processor time where that is given."""
     with open(script, "rb") as source, tempfile.TemporaryFile() as out, tempfile.NamedTemporaryFile() as report:
         # the launcher is what is killed, and its child dies with it
-        launcher = subprocess.Popen([PEAK, report.name, *command], stdin=source, stdout=out, stderr=subprocess.DEVNULL)
+        launcher = subprocess.Popen([PEAK, report.name, *command], stdin=source, stdout=out, stderr=subprocess.DEVNULL, preexec_fn=limit_of(processor))
         try:
             launcher.wait(most)
         except subprocess.TimeoutExpired:
             launcher.kill()
             launcher.wait()
             return Run(most, most, stopped=True)
-        kilobytes, seconds, processor, status = report.read().split()
+        kilobytes, *seconds, status = report.read().split()
         code = os.waitstatus_to_exitcode(int(status))
+        if code == -signal.SIGXCPU:
+            return Run(*map(float, seconds), stopped=True)
         out.seek(0)
         digest = hashlib.sha256(out.read()).hexdigest()
-        return Run(float(seconds), float(processor), digest, int(kilobytes) / 1024, fault=f"status {code}" if code else None)
+        return Run(*map(float, seconds), digest, int(kilobytes) / 1024, fault=f"status {code}" if code else None)
 
 
 def instructions(command, script, most=None):

@@ -221,6 +221,91 @@ def many_factors(n, factors):
     return table(["x", "y", "c"], [[x, -x, 0] for x in rows]) + query(1, ask, -(-n // 1024)), options(n)
 
 
+def front(n):
+    """The smaller one column the larger the other: each row is best. Five groups."""
+    return [[i, n - i, 0, 0, i % 5, i] for i in range(n)]
+
+
+def front_of_three(n):
+    """Three random columns of one sum, up to rounding: each row is best, or nearly each."""
+    r = random.Random("front of three")
+    rows = []
+    for i in range(n):
+        cells = [r.random() for _ in range(3)]
+        rows.append([int(c / sum(cells) * SCALE) for c in cells] + [0, r.randrange(5), i])
+    return sorted(rows)
+
+
+def distinct(n):
+    """Each row has values of its own, and all columns say the same order. Five groups."""
+    return [[i, i, i, i, i % 5, i] for i in range(n)]
+
+
+def unrelated(n):
+    """Random numbers, in a hundred groups."""
+    r = random.Random("unrelated")
+    return sorted([r.randrange(SCALE) for _ in range(4)] + [r.randrange(100), i] for i in range(n))
+
+
+def few_values(n):
+    """Four values a column: of two columns 16 rows differ, of four 256."""
+    r = random.Random("few values")
+    return sorted([r.randrange(4) for _ in range(4)] + [r.randrange(5), i] for i in range(n))
+
+
+ARRIVALS = ["sorted", "reversed", "shuffled"]
+
+
+def arrived(rows, arrival):
+    """Sorted rows in the order in which they are to come."""
+    if arrival == "reversed":
+        return rows[::-1]
+    if arrival == "shuffled":
+        return random.Random("shuffled").sample(rows, len(rows))
+    return rows
+
+
+# blocks and windows that a shape is asked with
+ALL_ROWS = 65_536
+BLOCKS = [1, 16, 1024, ALL_ROWS]
+WINDOWS = [1, 64, ALL_ROWS]
+
+# shapes of data: rows in order of their columns, and what is asked of them
+SHAPES = {
+    "front": (front, "best low(a) * low(b)"),
+    "front-tie": (front, "best (low(a) * low(b)) & low(c)"),
+    "front-levels": (front, "top_level 5 low(a) * low(b)"),
+    "front-groups": (front, "best low(a) * low(b) by g"),
+    "front-constant": (front, "best low(a) * low(b) * low(c) * low(d)"),
+    "front-d3": (front_of_three, "best low(a) * low(b) * low(c)"),
+    "score": (distinct, "top_level 1000 low(a)"),
+    "score-groups": (distinct, "top_level 1000 low(a) by g"),
+    "priority": (unrelated, "at_least 1000 low(a) & low(b)"),
+    "levels": (unrelated, "top_level 1000 low(a) * low(b)"),
+    "groups": (unrelated, "best low(a) * low(b) by g"),
+    "own-groups": (unrelated, "best low(a) by id"),
+    "unrelated-d4": (unrelated, "best low(a) * low(b) * low(c) * low(d)"),
+    "ties": (few_values, "best pos(g, 9)"),
+    "few-values": (few_values, "top_level 5 low(a) * low(b)"),
+    "few-values-d4": (few_values, "best low(a) * low(b) * low(c) * low(d)"),
+}
+
+
+def table_of_shape(name, arrival, n):
+    rows, _ = SHAPES[name]
+    return table(["a", "b", "c", "d", "g", "id"], arrived(rows(n), arrival))
+
+
+def shape(name, arrival, n, block=1024, window=64):
+    _, ask = SHAPES[name]
+    return table_of_shape(name, arrival, n) + query(1, ask, -(-n // block)), options(n, block, window)
+
+
+def blocks_and_windows(blocks, windows):
+    """The pairs that differ: a block of one row goes through each window alike."""
+    return [(block, window) for block in blocks for window in (windows if block > 1 else windows[:1])]
+
+
 def churn(commands, cap):
     """A table seven eighths full where rows come and go at random: ids run far past the capacity."""
     r = random.Random("churn")
@@ -272,6 +357,14 @@ GROWING = {
     "own-groups": lambda n: rated(n, "best low(price) by id"),
     "wide": wide,
     "one-by-one": one_by_one,
+    "front-sorted": lambda n: shape("front", "sorted", n),
+    "front-reversed": lambda n: shape("front", "reversed", n),
+    "front-shuffled": lambda n: shape("front", "shuffled", n),
+    "front-d3-sorted": lambda n: shape("front-d3", "sorted", n),
+    "score-reversed": lambda n: shape("score", "reversed", n),
+    "priority-reversed": lambda n: shape("priority", "reversed", n),
+    "levels-reversed": lambda n: shape("levels", "reversed", n),
+    "few-values-reversed": lambda n: shape("few-values", "reversed", n),
 }
 SIZES = [1 << k for k in range(10, 17)]
 AGES = [0, 100_000, 400_000, 800_000]
@@ -353,6 +446,8 @@ ALL |= {f"churn-after-{changes}": lambda c=changes: churn(c, 30_000) for age in 
 ALL |= {f"gets-{kind}": lambda k=kind: gets(k, GETS) for kind in ("home", "moved", "deleted", "never")}
 ALL["gets-none"] = lambda: gets("home", 0)
 ALL |= {f"choice-{name}": make for name, (_, make) in CHOICES.items()}
+ALL |= {f"shape-{name}-{arrival}-b{block}-w{window}": lambda name=name, arrival=arrival, b=block, w=window: shape(name, arrival, ALL_ROWS, b, w)
+        for name in SHAPES for arrival in ARRIVALS for block, window in blocks_and_windows(BLOCKS, WINDOWS)}
 
 
 def write(folder, name):

@@ -1,5 +1,5 @@
-/* peak REPORT COMMAND..: runs the command, then writes its peak memory in KB, its seconds, its processor seconds and its wait status
-   into the file REPORT. The system never reports a child's peak as less than its parent's: so the parent has to be as small as this. */
+/* peak REPORT COMMAND..: runs the command, then writes its peak memory in KB, its seconds, its processor seconds, those of them in
+   user mode and its wait status into the file REPORT. The system never reports a child's peak as less than its parent's: so the parent has to be as small as this. */
 #include <signal.h>
 #include <stdio.h>
 #include <sys/prctl.h>
@@ -25,7 +25,8 @@ int main(int count, char **words) {
     FILE *report = fopen(words[1], "w");
     if (!report) return 1;
     double seconds = to.tv_sec - from.tv_sec + (to.tv_nsec - from.tv_nsec) / 1e9;
-    double processor = used.ru_utime.tv_sec + used.ru_stime.tv_sec + (used.ru_utime.tv_usec + used.ru_stime.tv_usec) / 1e6;
-    fprintf(report, "%ld %.6f %.6f %d\n", used.ru_maxrss, seconds, processor, status);
+    double user = used.ru_utime.tv_sec + used.ru_utime.tv_usec / 1e6;
+    double processor = user + used.ru_stime.tv_sec + used.ru_stime.tv_usec / 1e6;
+    fprintf(report, "%ld %.6f %.6f %.6f %d\n", used.ru_maxrss, seconds, processor, user, status);
     return fclose(report) != 0;
 }
