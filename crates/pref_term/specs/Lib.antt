@@ -12,6 +12,7 @@ pub mod EqualLaws
 pub mod PreferenceCode
 pub mod Walk
 pub mod Keys
+pub mod Chains
 pub mod Signatures
 pub mod Leading
 pub mod Token

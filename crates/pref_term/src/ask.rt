@@ -2,6 +2,7 @@
 ghost use Rattle.std.specs.Prelude.{◌≡◌, ◌<◌, true, All, IfOk};
 ghost use Rattle.pref_term.specs.Better.{in_same_group};
 
+use crate::chains::Chains;
 use crate::dominance::Dominance;
 use crate::key::Key;
 use crate::keys::{compare_by_keys, in_same_group, is_product, leading_keys};
@@ -31,6 +32,8 @@ pub struct Ask {
     keys: Vec<Key>,
     // Whether they are its whole order: a comparison goes over them then, and not over the term.
     flat: bool,
+    // The chains whose product the term is.
+    chains: Option<Chains>,
     group: Vec<usize>,
     mode: Mode,
     // Whether of equal rows one is kept.
@@ -38,7 +41,8 @@ pub struct Ask {
 }
 
 impl Model for Ask {
-    ghost use Rattle.std.specs.Prelude.{◌≡◌, false};
+    ghost use Rattle.std.specs.Prelude.{◌≡◌, false, IfSome};
+    ghost use Rattle.pref_term.specs.Chains.{AreChainsOf};
     ghost use Rattle.pref_term.specs.Keys.{is_product, leading};
     ghost use Rattle.pref_term.specs.Preference.{preference_of};
     ghost use Rattle.pref_term.specs.PreferenceCode.{coded_question};
@@ -51,7 +55,8 @@ impl Model for Ask {
     ghost view = { λ a. record { preference = preference_of a.term; group = a.group.items; mode = a.mode; distinct = a.distinct } };
 
     ghost invariant = { λ a. IsAsk (record { preference = preference_of a.term; group = a.group.items; mode = a.mode; distinct = a.distinct })
-        × (a.keys.items ≡ leading (preference_of a.term) false) × (a.flat ≡ is_product (preference_of a.term)) };
+        × (a.keys.items ≡ leading (preference_of a.term) false) × (a.flat ≡ is_product (preference_of a.term))
+        × (IfSome a.chains (AreChainsOf (preference_of a.term))) };
 }
 
 // By hand, so that letting one go is a call: a derived `drop` is written out, and proved, at each way out of each function that owns one.
@@ -61,6 +66,7 @@ impl Drop for Ask {
             term: _,
             keys: _,
             flat: _,
+            chains: _,
             group: _,
             mode: _,
             distinct: _,
@@ -74,7 +80,7 @@ impl Ask {
     ghost use Rattle.pref_term.specs.Preference.{preference_of};
     ghost use Rattle.pref_term.specs.Question.{IsAsk, IsCount, FitsWidth, cut_of};
 
-    /// An ask of these parts. Takes memory for the list of the keys that lead the term, once.
+    /// An ask of these parts. Takes memory for the keys that lead the term and for its chains, once.
     pub(crate) fn new(
         alloc: Global,
         term: Term,
@@ -87,10 +93,12 @@ impl Ask {
     {
         let keys = leading_keys(alloc, &term)?;
         let flat = is_product(&term);
+        let chains = Chains::of(alloc, &term)?;
         Ok(Ask {
             term,
             keys,
             flat,
+            chains,
             group,
             mode,
             distinct,
@@ -234,5 +242,12 @@ impl Dominance for Ask {
 
     fn groups(&self) -> &[usize] {
         self.group()
+    }
+
+    fn chains(&self) -> Option<(&[usize], &Chains)> {
+        match &self.chains {
+            Some(chains) => Some((self.group(), chains)),
+            None => None,
+        }
     }
 }

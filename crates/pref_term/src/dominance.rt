@@ -1,8 +1,10 @@
 //! Strict orders of rows.
-ghost use Rattle.std.specs.Prelude.{◌≡◌, true};
+ghost use Rattle.std.specs.Prelude.{◌≡◌, true, IfSome};
+ghost use Rattle.pref_term.specs.Chains.{IsProductOf};
 ghost use Rattle.pref_term.specs.Order.{IsRowOrder, RowOrder, StandAlike, StaysWithin, is_better, is_same, is_worse};
 ghost use Rattle.pref_term.specs.Signatures.{Suit};
 
+use crate::chains::Chains;
 use crate::relation::Relation;
 use crate::signature::Cuts;
 use pref_table::Row;
@@ -70,6 +72,15 @@ pub trait Dominance {
         ensures { StaysWithin (order self.now) result.now }
     {
         &[]
+    }
+
+    /// The order as a product of two chains, within the groups of some columns: of rows that are equal in these, one dominates the other
+    /// just where it is better in one chain and better or the same in the other. `None` where it is no such product, or where it doesn't
+    /// say; this body says nothing.
+    fn chains(&self) -> Option<(&[usize], &Chains)>
+        ensures { IfSome result (λ found. IsProductOf (order self.now) found.0.now found.1.now) }
+    {
+        None
     }
 
     ghost laws: { (d : Self) → IsRowOrder (order d) };

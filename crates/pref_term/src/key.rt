@@ -6,7 +6,8 @@ ghost use Rattle.pref_term.specs.Better.{outside, sets_before};
 ghost use Rattle.pref_term.specs.Keys.{by_key, from_zero, keyed};
 ghost use Rattle.pref_term.specs.Walk.{by_sides};
 
-use crate::term::{NumberSets, Numbers, Term};
+use crate::relation::Relation;
+use crate::term::{NumberSets, Numbers};
 use pref_table::Row;
 use std::alloc::{AllocError, Global};
 
@@ -189,6 +190,16 @@ impl Key {
         let first = self.of(a);
         let second = self.of(b);
         (first < second, second < first)
+    }
+
+    /// How the first row compares with the second one.
+    #[inline(always)]
+    pub(crate) fn compare(&self, a: &Row, b: &Row) -> Relation
+        requires { self.now.col < 16 }
+        ensures { result ≡ by_key self.now a.now b.now }
+    {
+        let (better, worse) = self.sides(a, b);
+        Relation::by_sides(better, worse)
     }
 
     /// The same key again. Takes memory for its sets.

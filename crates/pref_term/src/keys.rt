@@ -23,7 +23,7 @@ pub(crate) fn leading_keys(alloc: Global, term: &Term) -> Result<Vec<Key>, Alloc
 }
 
 /// Puts the keys that lead a term behind these, or those that lead its converse.
-fn push_leading(
+pub(crate) fn push_leading(
     alloc: Global,
     keys: &mut Vec<Key>,
     term: &Term,

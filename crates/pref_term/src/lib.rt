@@ -5,6 +5,7 @@
 #![tactic(auto)]
 
 mod ask;
+mod chains;
 mod cursor;
 mod dominance;
 mod fault;
@@ -22,6 +23,7 @@ mod token;
 mod walk;
 
 pub use ask::{Ask, Mode};
+pub use chains::Chains;
 pub use dominance::Dominance;
 pub use fault::TermFault;
 pub use keys::in_same_group;

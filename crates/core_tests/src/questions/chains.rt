@@ -1,0 +1,99 @@
+//! Questions that are products of two chains, of which a plain chain is one.
+use super::signatures::small_rows;
+use super::{XY, ask_over};
+use crate::same::assert_same;
+use pref_table::Row;
+use pref_term::{Ask, Dominance, Relation, in_same_group};
+use std::alloc::Global;
+use std::process::Abort;
+use std::test::Fail;
+
+/// Questions, and whether they are no product of two chains (`None`), one chain, or two.
+const QUESTIONS: [(&str, Option<bool>); 16] = [
+    ("best low(x)", Some(true)),
+    ("best -pos(x, 0) & low(y) & high(x)", Some(true)),
+    ("best low(x) & -(high(y) & low(x))", Some(true)),
+    ("best low(x) by y", Some(true)),
+    ("best low(x) * high(y)", Some(false)),
+    ("best -(low(x) * layered(y, {0}, {1}))", Some(false)),
+    (
+        "best (low(x) & low(y)) * (around(y, 0) & high(x))",
+        Some(false),
+    ),
+    ("best low(x) & (low(x) * high(y))", Some(false)),
+    (
+        "best -(low(x) & (high(y) & (low(y) * -low(x))))",
+        Some(false),
+    ),
+    ("skyline of distinct x min, y max", Some(false)),
+    ("skyline of x min, y diff", Some(true)),
+    ("best low(x) * low(y) * high(x)", None),
+    ("best (low(x) * low(y)) & high(x)", None),
+    ("best low(x) * (low(y) & (low(x) * low(y)))", None),
+    ("skyline of x min, y max, x max", None),
+    ("best low(x) & (low(x) * low(y)) & low(y)", None),
+];
+
+/// How two rows compare by the product of two relations.
+fn product(first: Relation, second: Relation) -> Relation {
+    match (first, second) {
+        (Relation::Same, decided) | (decided, Relation::Same) => decided,
+        (Relation::Better, Relation::Better) => Relation::Better,
+        (Relation::Worse, Relation::Worse) => Relation::Worse,
+        _ => Relation::Neither,
+    }
+}
+
+/// How two rows of one group compare by the product of a question's chains; `None` where it has none.
+fn by_chains(ask: &Ask, a: &Row, b: &Row) -> Option<Relation> {
+    match ask.chains() {
+        Some((_, chains)) => Some(product(
+            chains.compare_in_first(a, b),
+            chains.compare_in_second(a, b),
+        )),
+        None => None,
+    }
+}
+
+/// All pairs of these rows compare by the product of the question's chains as by the question, in one group.
+fn check_pairs(rt: &impl Abort, question: &str, ask: &Ask, rows: &[Row]) {
+    for first in rows {
+        for second in rows {
+            let found = by_chains(ask, first, second);
+            let near = in_same_group(ask.group(), first, second);
+            if near && found.is_some() {
+                let wanted = ask.compare(first, second);
+                assert_same(rt, (question, first, second), &found, &Some(wanted));
+            }
+        }
+    }
+}
+
+/// Whether a question is one chain, where it is a product of two.
+fn is_one(ask: &Ask) -> Option<bool> {
+    match ask.chains() {
+        Some((_, chains)) => Some(chains.is_one()),
+        None => None,
+    }
+}
+
+fn check_chains(
+    rt: &impl Abort,
+    alloc: Global,
+    rows: &[Row],
+    cases: &[(&str, Option<bool>)],
+) -> Result<(), Fail> {
+    for (question, wanted) in cases {
+        let ask = ask_over(alloc, &XY, question.as_bytes())?;
+        assert_same(rt, *question, &is_one(&ask), wanted);
+        check_pairs(rt, question, &ask, rows);
+    }
+    Ok(())
+}
+
+/// All pairs of rows over x and y with cells from -1 to 1.
+#[test]
+fn a_product_of_two_chains_compares_in_each(rt: HostRuntime) -> Result<(), Fail> {
+    let rows = small_rows(rt.alloc())?;
+    check_chains(&rt, rt.alloc(), &rows, &QUESTIONS)
+}
