@@ -107,3 +107,23 @@ fn a_writer_that_fails_has_a_beginning(rt: HostRuntime) -> Result<(), Fail> {
     }
     Ok(())
 }
+
+#[test]
+fn no_line_is_read_far_ahead_of_the_replies(rt: HostRuntime) -> Result<(), Fail> {
+    let mut script = Vec::new(rt.alloc());
+    script.extend_from_slice(b"table\nx\nend\n")?;
+    for _line in 0..2000 {
+        script.extend_from_slice(b"as 1 room\n")?;
+    }
+    let mut reader = Watched::new(in_steps(script.as_slice(), 65_536));
+    let mut writer = Watched::new(Narrow {
+        taken: Vec::new(rt.alloc()),
+        step: 8192,
+        room: 0,
+        full: Full::Fails,
+    });
+    let end = run_live(rt.alloc(), &mut reader, &mut writer, defaults()?);
+    let found = (end, reader.into_inner().given);
+    assert_same(&rt, script.len(), &found, &(Err(RunFault::Write), 8192));
+    Ok(())
+}
