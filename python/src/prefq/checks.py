@@ -1,0 +1,91 @@
+"""Tests of arguments, and rows as the program reads them."""
+import csv
+import io
+import operator
+import re
+from collections.abc import Iterable, Mapping, Set
+from typing import Any, List, Optional, Sequence, Tuple
+
+from .errors import Refused
+
+LEAST, MOST = -2**63, 2**63 - 1
+MOST_IDS = 2**64 - 1
+MOST_ROWS = 65_536
+MOST_COLUMNS = 16
+NAME = re.compile(r"[A-Za-z][A-Za-z0-9_.]{0,31}")
+
+
+def whole(value: Any, what: str, least: int, most: int) -> int:
+    """The value as a whole number within these limits. Numbers of numpy are whole if they are integers; True and False are none."""
+    if isinstance(value, bool):
+        raise TypeError(f"{what} is {value!r}, not a whole number")
+    try:
+        number = operator.index(value)
+    except TypeError:
+        raise TypeError(f"{what} is {value!r}, of type {type(value).__name__}: not a whole number") from None
+    if not least <= number <= most:
+        raise ValueError(f"{what} is {number}: not from {least} to {most}")
+    return number
+
+
+def seconds(timeout: Any) -> Optional[float]:
+    if timeout is None:
+        return None
+    if isinstance(timeout, bool) or not isinstance(timeout, (int, float)):
+        raise TypeError(f"timeout is {timeout!r}: not a number of seconds, or None")
+    if not 0 < timeout <= 1_000_000:
+        raise ValueError(f"timeout is {timeout}: not more than 0 and at most 1000000 seconds")
+    return timeout
+
+
+def names(columns: Any) -> Tuple[str, ...]:
+    """The names of the columns, each of which the program accepts."""
+    if isinstance(columns, (str, bytes)) or not isinstance(columns, Iterable):
+        raise TypeError(f"columns is {columns!r}: not a list of names")
+    found = tuple(columns)
+    if not 1 <= len(found) <= MOST_COLUMNS:
+        raise ValueError(f"there are {len(found)} columns: not from 1 to {MOST_COLUMNS}")
+    for place, name in enumerate(found, 1):
+        if not isinstance(name, str):
+            raise TypeError(f"the name of column {place} is {name!r}: not a text")
+        if not NAME.fullmatch(name):
+            raise ValueError(f"the name of column {place} is {name!r}: not a letter, then letters, digits, _ or ., 32 of them at most (prefq.Frame takes any name)")
+        if name in found[:place - 1]:
+            raise ValueError(f"the name of column {place} is {name!r}, as is that of column {found.index(name) + 1}")
+    return found
+
+
+def header(columns: Sequence[str]) -> str:
+    text = io.StringIO()
+    csv.writer(text, quoting=csv.QUOTE_ALL, lineterminator="\n").writerow(columns)
+    return text.getvalue()
+
+
+def text_of_question(question: Any) -> str:
+    if not isinstance(question, str):
+        raise TypeError(f"a question is a text, not {question!r}")
+    ends = [place for place in (question.find("\n"), question.find("\r")) if place >= 0]
+    if ends:
+        raise Refused("a question is one line", "term", 1, len(question[:min(ends)].encode(errors="replace")), question)
+    if not question.strip(" \t"):
+        raise Refused("a question begins with best, top_level, at_least or skyline of", "term", 1, 0, question)
+    return question
+
+
+def lines(rows: Any, columns: Sequence[str], first: int = 1) -> List[str]:
+    """Each row as the program reads it. Rows are counted from `first` in what is wrong."""
+    if isinstance(rows, (str, bytes, Mapping)) or not isinstance(rows, Iterable):
+        raise TypeError(f"rows is of type {type(rows).__name__}: not a list of rows")
+    return [line(row, columns, f"row {number}, ") for number, row in enumerate(rows, first)]
+
+
+def line(row: Any, columns: Sequence[str], where: str = "") -> str:
+    """The values of a row as the program reads them."""
+    if isinstance(row, (str, bytes, Mapping, Set)) or not isinstance(row, Iterable):
+        raise TypeError(f"{where}{row!r} is of type {type(row).__name__}: not a list of the values of {', '.join(columns)}")
+    cells = tuple(row)
+    if len(cells) != len(columns):
+        raise ValueError(f"{where}{len(cells)} values: not {len(columns)}, those of {', '.join(columns)}")
+    if {int}.issuperset(map(type, cells)) and LEAST <= min(cells) and max(cells) <= MOST:
+        return ",".join(map(str, cells))
+    return ",".join(str(whole(cell, f"{where}column {name}", LEAST, MOST)) for name, cell in zip(columns, cells))

@@ -1,0 +1,112 @@
+"""What goes wrong, as exceptions with one base class."""
+import re
+from typing import Optional
+
+FORM = re.compile(r"(?:(?P<line>line) \d+ )?(?:(?P<who>\d+|table|opening|script|arguments) )?refused:?(?: |$)"
+                  r"(?:(?P<what>table|term|commit) )?(?:(?P<number>\d+): )?(?P<text>.*)")
+PLACE = re.compile(r" (?:at|col|place) (\d+)$")
+
+# What to do about a refusal, by its kind and number.
+ADVICE = {
+    ("client", 2): "take another client",
+    ("client", 3): "finish or abandon that query, or take another client",
+    ("client", 4): "begin a query first",
+    ("client", 5): "ask for the answer now",
+    ("client", 6): "scan the blocks that are left, then finish",
+    ("client", 8): "delete a row, end an open query, or open the table with a larger capacity",
+    ("opening", 8): "open the table with a larger capacity, or give none, which makes it fit",
+    ("commit", 12): "make one change for each row, the last one",
+    ("term", 4): "leave out parentheses that change nothing",
+    ("term", 5): "a question has at most 4096 bytes",
+    ("term", 6): "a count is from 1 to 1000",
+    ("term", 7): "add a column with min or max",
+    ("term", 9): "write the smaller end of the range first",
+}
+
+
+class Error(Exception):
+    """What every exception of this package is, so that `except prefq.Error` catches all of them.
+
+    `kind` says what was wrong, `number` is the refusal's number in docs/GUIDE.md, and `place` the byte of a question, the column of a row (from 1) or
+    the change of a commit (from 1), where there is one.
+
+    >>> issubclass(Refused, Error) and issubclass(Ended, Error)
+    True
+    """
+
+    def __init__(self, message: str, kind: str = "", number: Optional[int] = None, place: Optional[int] = None, question: Optional[str] = None) -> None:
+        super().__init__(message)
+        self.kind = kind
+        self.number = number
+        self.place = place
+        self.question = question
+
+    def __reduce__(self):  # type: ignore[no-untyped-def]
+        return type(self), (self.args[0], self.kind, self.number, self.place, self.question)
+
+
+class Refused(Error):
+    """The table refuses a call, and is as it was before.
+
+    `kind` is "term" (a question), "client" (what a client wants cannot be done now), "commit" (its changes), "table" (names or rows), "opening", "script",
+    "command" or "arguments". `question` is the question, where there is one.
+
+    >>> why = Refused("unknown column at 9", "term", 2, 9, "best low(prise)")
+    >>> print(why)
+    unknown column at 9
+        best low(prise)
+                 ^
+    >>> why.kind, why.number, why.place
+    ('term', 2, 9)
+    """
+
+    def __str__(self) -> str:
+        message = str(self.args[0])
+        advice = ADVICE.get((self.kind, self.number or 0))
+        if advice:
+            message += f": {advice}"
+        if self.question is not None:
+            message += "\n" + pointed(self.question, self.place)
+        return message
+
+
+class Ended(Error):
+    """The table has ended: it was closed, its program died, a call was interrupted, a reply did not come in time, or this is another process.
+
+    No call on it will succeed; open a new one.
+
+    >>> raise Ended("the table was closed", "closed")
+    Traceback (most recent call last):
+    prefq.errors.Ended: the table was closed
+    """
+
+
+class ProgramNotFound(Error):
+    """The program `prefq` is not there; the message says how to build it.
+
+    >>> raise ProgramNotFound("the program prefq is not there")
+    Traceback (most recent call last):
+    prefq.errors.ProgramNotFound: the program prefq is not there
+    """
+
+
+def refused(line: str, question: Optional[str] = None) -> Refused:
+    """A line of the program that refuses, as an exception. A question belongs to what is wrong with its text alone."""
+    found = FORM.fullmatch(line)
+    if not found:
+        return Refused(line, "script")
+    who = found["who"] or ""
+    kind = found["what"] or ("command" if found["line"] else "client" if who.isdigit() else who)
+    place = PLACE.search(line)
+    return Refused(found["text"] or line, kind, int(found["number"]) if found["number"] else None, int(place[1]) if place else None,
+                   question if kind == "term" else None)
+
+
+def pointed(question: str, place: Optional[int]) -> str:
+    """The question on a line, and a caret below its byte `place`, counted from 0."""
+    shown = "    " + re.sub(r"[\x00-\x08\x0a-\x1f\x7f]", "\N{REPLACEMENT CHARACTER}", question)
+    if place is None:
+        return shown
+    before = question.encode(errors="replace")[:place].decode(errors="ignore")
+    blank = re.sub(r"[^\t]", " ", before)
+    return f"{shown}\n    {blank}^"

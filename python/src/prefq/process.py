@@ -1,0 +1,144 @@
+"""A process of `prefq live` and its two pipes."""
+import os
+import select
+import signal
+import subprocess
+import weakref
+from typing import List, Optional
+
+from .errors import Ended, ProgramNotFound
+
+PIECE = 65_536
+SECONDS_TO_END = 5.0
+
+
+class Process:
+    """A running program, and what it has written and nobody has read yet.
+
+    `timeout` is how many seconds may go by without a byte written or read while something is waited for; None waits for ever.
+    """
+
+    def __init__(self, words: List[str], timeout: Optional[float]) -> None:
+        self._timeout = timeout
+        self._read = bytearray()
+        try:
+            # A session of its own, so that Ctrl-C at the terminal reaches Python alone. No buffers, so that a fork has nothing to flush.
+            self._popen = subprocess.Popen(words, stdin=subprocess.PIPE, stdout=subprocess.PIPE, bufsize=0, start_new_session=True)
+        except OSError as why:
+            raise ProgramNotFound(f"{words[0]} cannot be started: {why}", "program") from why
+        assert self._popen.stdin is not None and self._popen.stdout is not None
+        self._in, self._out = self._popen.stdin, self._popen.stdout
+        os.set_blocking(self._in.fileno(), False)
+        self._poll = select.poll()
+        self._poll.register(self._out, select.POLLIN)
+        self.kill = weakref.finalize(self, _kill, self._popen, os.getpid())
+        _running.add(self)
+
+    @property
+    def pid(self) -> int:
+        return self._popen.pid
+
+    def is_dead(self) -> bool:
+        return self._popen.poll() is not None
+
+    def send(self, text: bytes) -> None:
+        """Writes the text, and meanwhile reads what comes, so that neither waits for the other."""
+        left = self._write(memoryview(text))
+        while left:
+            self._poll.register(self._in, select.POLLOUT)
+            try:
+                self._wait()
+            finally:
+                self._poll.unregister(self._in)
+            left = self._write(left)
+
+    def line(self) -> str:
+        """The next line."""
+        while (end := self._read.find(b"\n")) < 0:
+            self._wait()
+        line = bytes(self._read[:end])
+        del self._read[:end + 1]
+        return line.decode(errors="replace")
+
+    def rest(self, count: int) -> bytes:
+        """So many lines, which have to be all that is written."""
+        found = self._read.count(b"\n")
+        while found < count:
+            before = len(self._read)
+            self._wait()
+            found += self._read.count(b"\n", before)
+        if found > count or self._read and not self._read.endswith(b"\n"):
+            raise Ended(f"the program writes more than {count} lines where it was asked for as many", "reply")
+        read, self._read = bytes(self._read), bytearray()
+        return read
+
+    def death(self, last: str = "") -> Ended:
+        """How the program ended, with its last line, which may have been read. Its end is waited for, a moment at most."""
+        while self._readable() and (piece := os.read(self._out.fileno(), PIECE)):
+            self._read += piece
+        try:
+            status = self._popen.wait(SECONDS_TO_END)
+        except subprocess.TimeoutExpired:
+            return Ended("the program closed its output and goes on", "died")
+        how = f"was killed by {signal.Signals(-status).name}" if status < 0 else f"ended with status {status}"
+        said = f"{last}\n{self._read.decode(errors='replace')}".strip().splitlines()
+        return Ended(f"the program {how}" + (f"; its last line is: {said[-1]}" if said else "; it said nothing more"), "died")
+
+    def close(self) -> None:
+        """Kills the program, if it runs, and closes the pipes."""
+        self.kill()
+        self._in.close()
+        self._out.close()
+        _running.discard(self)
+
+    def forget(self) -> None:
+        """In a fork: closes its copies of the pipes, so that it keeps the program of its parent from nothing."""
+        self.kill.detach()
+        self._popen.returncode = 0
+        self._in.close()
+        self._out.close()
+
+    def _write(self, left: memoryview) -> memoryview:
+        """Writes as much as there is room for, and returns what is left; nothing, where the program reads no more."""
+        try:
+            while left:
+                left = left[os.write(self._in.fileno(), left[:PIECE]):]
+        except BlockingIOError:
+            pass
+        except BrokenPipeError:
+            return left[:0]
+        return left
+
+    def _readable(self) -> bool:
+        return any(fd == self._out.fileno() for fd, _ in self._poll.poll(0))
+
+    def _wait(self) -> None:
+        """Waits until something can be written or read, and reads it."""
+        events = self._poll.poll(None if self._timeout is None else self._timeout * 1000)
+        if not events:
+            raise Ended(f"the program has not replied within {self._timeout} seconds", "timeout")
+        for fd, _ in events:
+            if fd == self._out.fileno():
+                piece = os.read(fd, PIECE)
+                if not piece:
+                    raise self.death()
+                self._read += piece
+
+
+_running: "weakref.WeakSet[Process]" = weakref.WeakSet()
+
+
+def _kill(popen: "subprocess.Popen[bytes]", owner: int) -> None:
+    """Ends a program of this process, and takes its status."""
+    if os.getpid() == owner and popen.poll() is None:
+        popen.kill()
+        popen.wait()
+
+
+def _forget_all() -> None:
+    for process in list(_running):
+        process.forget()
+    _running.clear()
+
+
+os.register_at_fork(after_in_child=_forget_all)

@@ -1,0 +1,39 @@
+"""Finds the program `prefq`."""
+import os
+import shutil
+from pathlib import Path
+from typing import Optional, Union
+
+from .errors import ProgramNotFound
+
+BUNDLED = Path(__file__).with_name("bin") / "prefq"
+BUILD = ("Build it in the repository by `(cd crates/prefq && rt run prefq < stdin)`, then install the package again (`pip install ./python`), "
+         "or let the environment variable PREFQ_PROGRAM name it: crates/prefq/out/prefq")
+
+
+def find_program(program: Union[str, "os.PathLike[str]", None] = None) -> str:
+    """The path of the program: the given one, else the one in this package, else that of the environment variable PREFQ_PROGRAM, else `prefq` on the PATH.
+
+    >>> find_program("no/such/program")
+    Traceback (most recent call last):
+    prefq.errors.ProgramNotFound: no/such/program is not there. Build it ...
+    """
+    if program is not None:
+        return _runs(os.fspath(program))
+    if BUNDLED.is_file():
+        return _runs(str(BUNDLED))
+    named = os.environ.get("PREFQ_PROGRAM")
+    if named:
+        return _runs(named)
+    found = shutil.which("prefq")
+    if found is None:
+        raise ProgramNotFound(f"the program prefq is not there: not in this package, not by PREFQ_PROGRAM, not on the PATH. {BUILD}", "program")
+    return found
+
+
+def _runs(path: str) -> str:
+    """The path, if there is a program."""
+    if shutil.which(path):
+        return path
+    what = "is a folder" if Path(path).is_dir() else "cannot be executed" if Path(path).exists() else "is not there"
+    raise ProgramNotFound(f"{path} {what}. {BUILD}", "program")
