@@ -7,12 +7,14 @@ from typing import Optional, Union
 from .errors import ProgramNotFound
 
 BUNDLED = Path(__file__).with_name("bin") / "prefq"
+BUILT = Path(__file__).resolve().parents[3] / "crates/prefq/out/prefq"
 BUILD = ("Build it in the repository by `(cd crates/prefq && rt run prefq < stdin)`, then install the package again (`pip install ./python`), "
          "or let the environment variable PREFQ_PROGRAM name it: crates/prefq/out/prefq")
 
 
 def find_program(program: Union[str, "os.PathLike[str]", None] = None) -> str:
-    """The path of the program: the given one, else the one in this package, else that of the environment variable PREFQ_PROGRAM, else `prefq` on the PATH.
+    """The path of the program: the given one, else the one in this package, else that of the environment variable PREFQ_PROGRAM, else `prefq` on the PATH, else
+    the one that is built in the repository, if this package lies there.
 
     >>> find_program("no/such/program")
     Traceback (most recent call last):
@@ -25,7 +27,7 @@ def find_program(program: Union[str, "os.PathLike[str]", None] = None) -> str:
     named = os.environ.get("PREFQ_PROGRAM")
     if named:
         return _runs(named)
-    found = shutil.which("prefq")
+    found = shutil.which("prefq") or (str(BUILT) if BUILT.is_file() else None)
     if found is None:
         raise ProgramNotFound(f"the program prefq is not there: not in this package, not by PREFQ_PROGRAM, not on the PATH. {BUILD}", "program")
     return found
