@@ -7,10 +7,12 @@
 1 1 [50, 8]
 1 2 [80, 2]
 """
+from .asynchronous import AsyncQuery, AsyncTable
 from .errors import Ended, Error, ProgramNotFound, Refused
 from .program import find_program
-from .query import Query, Row
+from .query import Query
+from .rows import Row
 from .table import Table
 
 __version__ = "0.1.0"
-__all__ = ["Ended", "Error", "ProgramNotFound", "Query", "Refused", "Row", "Table", "find_program"]
+__all__ = ["AsyncQuery", "AsyncTable", "Ended", "Error", "ProgramNotFound", "Query", "Refused", "Row", "Table", "find_program"]

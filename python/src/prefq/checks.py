@@ -1,10 +1,10 @@
-"""Tests of arguments, and rows as the program reads them."""
+"""Tests of arguments, with the limits in what is said."""
 import csv
 import io
 import operator
 import re
-from collections.abc import Iterable, Mapping, Set
-from typing import Any, List, Optional, Sequence, Tuple
+from collections.abc import Iterable
+from typing import Any, Optional, Sequence, Tuple
 
 from .errors import Refused
 
@@ -70,22 +70,3 @@ def text_of_question(question: Any) -> str:
     if not question.strip(" \t"):
         raise Refused("a question begins with best, top_level, at_least or skyline of", "term", 1, 0, question)
     return question
-
-
-def lines(rows: Any, columns: Sequence[str], first: int = 1) -> List[str]:
-    """Each row as the program reads it. Rows are counted from `first` in what is wrong."""
-    if isinstance(rows, (str, bytes, Mapping)) or not isinstance(rows, Iterable):
-        raise TypeError(f"rows is of type {type(rows).__name__}: not a list of rows")
-    return [line(row, columns, f"row {number}, ") for number, row in enumerate(rows, first)]
-
-
-def line(row: Any, columns: Sequence[str], where: str = "") -> str:
-    """The values of a row as the program reads them."""
-    if isinstance(row, (str, bytes, Mapping, Set)) or not isinstance(row, Iterable):
-        raise TypeError(f"{where}{row!r} is of type {type(row).__name__}: not a list of the values of {', '.join(columns)}")
-    cells = tuple(row)
-    if len(cells) != len(columns):
-        raise ValueError(f"{where}{len(cells)} values: not {len(columns)}, those of {', '.join(columns)}")
-    if {int}.issuperset(map(type, cells)) and LEAST <= min(cells) and max(cells) <= MOST:
-        return ",".join(map(str, cells))
-    return ",".join(str(whole(cell, f"{where}column {name}", LEAST, MOST)) for name, cell in zip(columns, cells))

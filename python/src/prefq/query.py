@@ -1,43 +1,14 @@
 """A query: a question that is asked of the table as it was when the query began."""
 import threading
 import weakref
-from typing import TYPE_CHECKING, List, NamedTuple, Optional, Type
+from typing import TYPE_CHECKING, List, Optional, Type
 
 from .errors import Ended, Refused
+from .rows import Row, rows_of
 
 if TYPE_CHECKING:
     from .clients import Clients
     from .exchange import Exchange
-
-# What stands round the numbers in the line of a row, `level 1 id 3: 45,9`, is blank here.
-BLANKS = bytes.maketrans(b"levidrow:,\n", b" " * 11)
-
-
-class Row(NamedTuple):
-    """A row of an answer: its level (1 is the best), its id and its values in the order of the columns.
-
-    >>> row = Row(1, 3, [45, 9])
-    >>> row.level, row.id, row.values
-    (1, 3, [45, 9])
-    """
-
-    level: int
-    id: int
-    values: List[int]
-
-
-def rows_of(text: bytes, width: int) -> List[Row]:
-    """The rows of the lines of an answer."""
-    rows: List[Row] = []
-    begin = 0
-    # Piece by piece, so that other threads get their turn in between.
-    while begin < len(text):
-        end = text.find(b"\n", begin + 16_384) + 1 or len(text)
-        numbers = list(map(int, text[begin:end].translate(BLANKS).split()))
-        rows += [Row(numbers[at], numbers[at + 1], numbers[at + 2:at + 2 + width]) for at in range(0, len(numbers), 2 + width)]
-        begin = end
-    return rows
-
 
 class Query:
     """An open query, which `Table.query` begins. `left` is how many blocks are still to be scanned.

@@ -7,7 +7,8 @@ from .clients import Clients
 from .errors import Ended, Refused
 from .exchange import Exchange
 from .program import find_program
-from .query import Query, Row
+from .query import Query
+from .rows import Row, line, lines as lines_of
 
 Values = Iterable[int]
 # The program reads a table of so many bytes; the rows behind are inserted.
@@ -37,9 +38,7 @@ class Table:
     def __init__(self, columns: Iterable[str], rows: Iterable[Values] = (), *, capacity: Optional[int] = None, clients: int = 8, block: int = 1024,
                  window: int = 64, timeout: Optional[float] = None, program: Union[str, "os.PathLike[str]", None] = None) -> None:
         self.columns = checks.names(columns)
-        lines = checks.lines(rows, self.columns)
-        if len(lines) > checks.MOST_ROWS:
-            raise ValueError(f"there are {len(lines)} rows: not from 0 to {checks.MOST_ROWS} (prefq.parts.best asks more)")
+        lines = lines_of(rows, self.columns)
         if capacity is None:
             capacity = min(checks.MOST_ROWS, max(1024, 2 * len(lines)))
         self.capacity = checks.whole(capacity, "capacity", 1, checks.MOST_ROWS)
@@ -69,7 +68,7 @@ class Table:
     def __exit__(self, failed: Optional[Type[BaseException]], *_: object) -> None:
         try:
             if failed is None:
-                self._exchange.check()
+                self.check()
         finally:
             self.close()
 
@@ -81,8 +80,25 @@ class Table:
 
     def __len__(self) -> int:
         """The number of rows."""
-        self._exchange.check()
+        self.check()
+        return self.count
+
+    def __bool__(self) -> bool:
+        return True
+
+    @property
+    def count(self) -> int:
+        """The number of rows after the last call that changed it, without a wait for one that is under way."""
         return self._exchange.rows
+
+    @property
+    def pid(self) -> int:
+        """The number of the program's process."""
+        return self._exchange.pid
+
+    def check(self) -> None:
+        """Raises `Ended` if the table has ended; a program that died between two calls is found out."""
+        self._exchange.check()
 
     def __iter__(self) -> Iterator[Tuple[int, List[int]]]:
         """Each row as its id and its values, as `rows` has them."""
@@ -103,7 +119,7 @@ class Table:
         1
         """
         who = self._client(client)
-        return int(self._exchange.ask(f"as {who} insert {checks.line(values, self.columns)}", f"{who} inserted ", rows=1))
+        return int(self._exchange.ask(f"as {who} insert {line(values, self.columns)}", f"{who} inserted ", rows=1))
 
     def insert_many(self, rows: Iterable[Values], client: Optional[int] = None) -> range:
         """Adds rows at one moment, and returns their ids; all of them or, where there is no room, none.
@@ -112,7 +128,7 @@ class Table:
         ...     hotels.insert_many([[40, 9], [60, 3]])
         range(1, 3)
         """
-        return self._insert_lines(checks.lines(rows, self.columns), self._client(client))
+        return self._insert_lines(lines_of(rows, self.columns), self._client(client))
 
     def _insert_lines(self, lines: List[str], who: int = 1) -> range:
         if not lines:
@@ -136,7 +152,7 @@ class Table:
         [45, 9]
         """
         who, row = self._client(client), _id(id)
-        self._exchange.ask(f"as {who} update {row} {checks.line(values, self.columns)}", f"{who} updated {row}")
+        self._exchange.ask(f"as {who} update {row} {line(values, self.columns)}", f"{who} updated {row}")
 
     def delete(self, id: int, client: Optional[int] = None) -> None:
         """Deletes a row; its id is never used again. Refused where there is no such row.
@@ -192,8 +208,12 @@ class Table:
         ...     hotels.rows()
         [(1, [50]), (2, [80])]
         """
-        # Under this question all rows are the same.
-        return [(row.id, row.values) for row in self.best(f"best between({self.columns[0]}, {checks.LEAST}, {checks.MOST})")]
+        return [(row.id, row.values) for row in self.best(self.all_rows)]
+
+    @property
+    def all_rows(self) -> str:
+        """A question under which all rows are the same, whatever they are."""
+        return f"best between({self.columns[0]}, {checks.LEAST}, {checks.MOST})"
 
     def query(self, question: str, client: Optional[int] = None) -> Query:
         """Begins a query, which asks the table as it is now. Without a number it takes a client that has no open query, and waits for one if need be.
@@ -233,5 +253,5 @@ def _change(change: Any, columns: Sequence[str], where: str) -> str:
     verb, *rest = change
     words = [verb] if verb == "insert" else [verb, str(checks.whole(rest[0], f"{where}id", 0, checks.MOST_IDS))]
     if verb != "delete":
-        words.append(checks.line(rest[-1], columns, where))
+        words.append(line(rest[-1], columns, where))
     return " ".join(words)

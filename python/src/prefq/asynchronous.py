@@ -1,0 +1,220 @@
+"""The table for asyncio: the same calls, awaited."""
+import asyncio
+import weakref
+from concurrent.futures import Future, ThreadPoolExecutor
+from functools import partial
+from typing import Any, Callable, Generator, Iterable, List, Optional, Sequence, Tuple, Type, TypeVar
+
+from .errors import Ended, Refused
+from .query import Query
+from .rows import Row
+from .table import Table, Values
+
+Result = TypeVar("Result")
+
+
+class AsyncTable:
+    """A live table whose calls are awaited. They are made one after the other, in the order in which they were asked for, on a thread of the table's own, so the
+    event loop goes on.
+
+    `open` takes what `prefq.Table` takes. A task that is cancelled while it awaits a call leaves the table as it is: a call that has not begun is not
+    made, and one that has is made whole, though nobody gets its reply. A query of a cancelled task is abandoned.
+
+    >>> async def main():
+    ...     async with await AsyncTable.open(["price", "dist"], [[50, 8], [80, 2], [90, 9]]) as hotels:
+    ...         await hotels.insert([40, 9])
+    ...         return await hotels.best("best low(price) & low(dist)")
+    >>> asyncio.run(main())
+    [Row(level=1, id=4, values=[40, 9])]
+    """
+
+    def __init__(self, table: Table, executor: ThreadPoolExecutor) -> None:
+        """Use `open`."""
+        self.columns = table.columns
+        self._table, self._executor = table, executor
+        self._closed = False
+        self._free: "asyncio.Queue[int]" = asyncio.Queue()
+        for client in range(1, table.clients + 1):
+            self._free.put_nowait(client)
+
+    @classmethod
+    async def open(cls, columns: Iterable[str], rows: Iterable[Values] = (), **options: Any) -> "AsyncTable":
+        """Opens a table as `prefq.Table(columns, rows, **options)` does."""
+        executor = ThreadPoolExecutor(1, "prefq")
+        try:
+            return cls(await asyncio.wrap_future(executor.submit(partial(Table, columns, rows, **options))), executor)
+        except BaseException:
+            executor.shutdown(wait=False)
+            raise
+
+    async def __aenter__(self) -> "AsyncTable":
+        return self
+
+    async def __aexit__(self, failed: Optional[Type[BaseException]], *_: object) -> None:
+        try:
+            if failed is None:
+                await self._call(self._table.check)
+        finally:
+            await self.close()
+
+    def __repr__(self) -> str:
+        return f"<prefq.AsyncTable of {', '.join(self.columns)}>"
+
+    def __len__(self) -> int:
+        """The number of rows, without a wait."""
+        return self._table.count
+
+    def __bool__(self) -> bool:
+        return True
+
+    async def close(self) -> None:
+        """Ends the table; a call that is under way raises `Ended`."""
+        self._closed = True
+        await asyncio.get_running_loop().run_in_executor(None, self._table.close)
+        self._executor.shutdown(wait=False)
+
+    async def insert(self, values: Values) -> int:
+        """See `Table.insert`."""
+        return await self._call(self._table.insert, values)
+
+    async def insert_many(self, rows: Iterable[Values]) -> range:
+        """See `Table.insert_many`."""
+        return await self._call(self._table.insert_many, rows)
+
+    async def update(self, id: int, values: Values) -> None:
+        """See `Table.update`."""
+        await self._call(self._table.update, id, values)
+
+    async def delete(self, id: int) -> None:
+        """See `Table.delete`."""
+        await self._call(self._table.delete, id)
+
+    async def commit(self, *changes: Sequence[Any]) -> int:
+        """See `Table.commit`."""
+        return await self._call(self._table.commit, *changes)
+
+    async def get(self, id: int) -> List[int]:
+        """See `Table.get`."""
+        return await self._call(self._table.get, id)
+
+    async def room(self) -> int:
+        """See `Table.room`."""
+        return await self._call(self._table.room)
+
+    async def rows(self) -> List[Tuple[int, List[int]]]:
+        """See `Table.rows`."""
+        return [(row.id, row.values) for row in await self.best(self._table.all_rows)]
+
+    async def best(self, question: str) -> List[Row]:
+        """See `Table.best`. Other tasks' calls may come between the blocks that it scans."""
+        async with self.query(question) as query:
+            return await query.answer()
+
+    def query(self, question: str) -> "AsyncQuery":
+        """A query, which begins where it is awaited, `query = await table.query(question)`, or entered, `async with table.query(question) as query`.
+
+        It waits until one of the clients has no open query.
+        """
+        return AsyncQuery(self, question)
+
+    def _submit(self, function: Callable[..., Result], *words: Any) -> "Future[Result]":
+        if self._closed:
+            raise Ended("the table was closed", "closed")
+        return self._executor.submit(function, *words)
+
+    async def _call(self, function: Callable[..., Result], *words: Any) -> Result:
+        return await asyncio.wrap_future(self._submit(function, *words))
+
+
+class AsyncQuery:
+    """A query of an `AsyncTable`; see `Query`. It is abandoned where its `async with` block ends without an answer, or where nobody has it any more.
+
+    >>> async def main():
+    ...     async with await AsyncTable.open(["price"], [[50], [80]]) as hotels:
+    ...         async with hotels.query("best low(price)") as query:
+    ...             await hotels.delete(1)      # after the begin, so the answer still has the row
+    ...             return await query.answer()
+    >>> asyncio.run(main())
+    [Row(level=1, id=1, values=[50])]
+    """
+
+    def __init__(self, table: AsyncTable, question: str) -> None:
+        self.question = question
+        self._table = table
+        self._query: Optional[Query] = None
+
+    def __repr__(self) -> str:
+        return f"<prefq.AsyncQuery {self.question!r}>"
+
+    def __await__(self) -> Generator[Any, None, "AsyncQuery"]:
+        return self._begin().__await__()
+
+    async def __aenter__(self) -> "AsyncQuery":
+        return await self
+
+    async def __aexit__(self, failed: Optional[Type[BaseException]], *_: object) -> None:
+        try:
+            await self.abandon()
+        except Ended:
+            if failed is None:
+                raise
+
+    @property
+    def left(self) -> int:
+        """How many blocks are still to be scanned."""
+        return self._begun().left
+
+    async def scan(self) -> int:
+        """See `Query.scan`."""
+        return await self._table._call(self._begun().scan)
+
+    async def answer(self) -> List[Row]:
+        """See `Query.answer`."""
+        query = self._begun()
+        while query.left:
+            await self._table._call(query.scan)
+        rows = await self._table._call(query.answer)
+        self._give_back()
+        return rows
+
+    async def abandon(self) -> None:
+        """See `Query.abandon`."""
+        await self._table._call(self._begun().abandon)
+        self._give_back()
+
+    def _begun(self) -> Query:
+        if self._query is None:
+            raise Refused("this query has not begun: await it, or enter it by `async with`", "client", 4)
+        return self._query
+
+    async def _begin(self) -> "AsyncQuery":
+        free, loop = self._table._free, asyncio.get_running_loop()
+        client = await free.get()
+        try:
+            job = self._table._submit(self._table._table.query, self.question, client)
+        except BaseException:
+            free.put_nowait(client)
+            raise
+        try:
+            self._query = await asyncio.wrap_future(job)
+        except BaseException:
+            job.add_done_callback(partial(_give_up, loop, free, client))
+            raise
+        self._give_back = weakref.finalize(self, _put_back, loop, free, client)
+        return self
+
+
+def _give_up(loop: asyncio.AbstractEventLoop, free: "asyncio.Queue[int]", client: int, job: "Future[Query]") -> None:
+    """Nobody waits for this query any more: if it has begun, it is abandoned."""
+    if not job.cancelled() and job.exception() is None:
+        try:
+            job.result().abandon()
+        except Ended:
+            return
+    _put_back(loop, free, client)
+
+
+def _put_back(loop: asyncio.AbstractEventLoop, free: "asyncio.Queue[int]", client: int) -> None:
+    """From whatever thread; a loop that is closed has no use for a client."""
+    if not loop.is_closed():
+        loop.call_soon_threadsafe(free.put_nowait, client)

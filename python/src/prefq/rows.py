@@ -1,0 +1,73 @@
+"""Rows as the program reads and writes them."""
+from collections.abc import Iterable, Mapping, Set
+from itertools import chain, islice
+from typing import Any, List, NamedTuple, Optional, Sequence
+
+from .checks import LEAST, MOST, MOST_ROWS, whole
+
+TOGETHER = 256
+ANSWER_PIECE = 16_384
+# What stands round the numbers in the line of a row, `level 1 id 3: 45,9`, is blank here.
+BLANKS = bytes.maketrans(b"levid:,\n", b" " * 8)
+
+
+class Row(NamedTuple):
+    """A row of an answer: its level (1 is the best), its id and its values in the order of the columns.
+
+    >>> row = Row(1, 3, [45, 9])
+    >>> row.level, row.id, row.values
+    (1, 3, [45, 9])
+    """
+
+    level: int
+    id: int
+    values: List[int]
+
+
+def rows_of(text: bytes, width: int) -> List[Row]:
+    """The rows of the lines of an answer."""
+    rows: List[Row] = []
+    begin = 0
+    # Piece by piece, so that other threads get their turn in between.
+    while begin < len(text):
+        end = text.find(b"\n", begin + ANSWER_PIECE) + 1 or len(text)
+        numbers = list(map(int, text[begin:end].translate(BLANKS).split()))
+        rows += [Row(numbers[at], numbers[at + 1], numbers[at + 2:at + 2 + width]) for at in range(0, len(numbers), 2 + width)]
+        begin = end
+    return rows
+
+
+def lines(rows: Any, columns: Sequence[str]) -> List[str]:
+    """Each row as the program reads it. Rows are counted from 1 in what is wrong."""
+    if isinstance(rows, (str, bytes, Mapping)) or not isinstance(rows, Iterable):
+        raise TypeError(f"rows is of type {type(rows).__name__}: not a list of rows")
+    if hasattr(rows, "tolist"):
+        rows = rows.tolist()
+    found: List[str] = []
+    rest = iter(rows)
+    while piece := list(islice(rest, TOGETHER)):
+        found += _at_once(piece, len(columns)) or [line(row, columns, f"row {number}, ") for number, row in enumerate(piece, len(found) + 1)]
+        if len(found) > MOST_ROWS:
+            raise ValueError(f"there are more than {MOST_ROWS} rows: no table holds them (prefq.parts.best asks more)")
+    return found
+
+
+def line(row: Any, columns: Sequence[str], where: str = "") -> str:
+    """The values of a row as the program reads them."""
+    if isinstance(row, (str, bytes, Mapping, Set)) or not isinstance(row, Iterable):
+        raise TypeError(f"{where}{row!r} is of type {type(row).__name__}: not a list of the values of {', '.join(columns)}")
+    cells = tuple(row)
+    if len(cells) != len(columns):
+        raise ValueError(f"{where}{len(cells)} values: not {len(columns)}, those of {', '.join(columns)}")
+    return ",".join(str(whole(cell, f"{where}column {name}", LEAST, MOST)) for name, cell in zip(columns, cells))
+
+
+def _at_once(rows: Sequence[Any], width: int) -> Optional[List[str]]:
+    """Rows that are lists or tuples of Python's own whole numbers, without a look at each; None where they are not, or where something is wrong."""
+    if not {list, tuple}.issuperset(map(type, rows)) or set(map(len, rows)) != {width}:
+        return None
+    cells = tuple(chain.from_iterable(rows))
+    if set(map(type, cells)) != {int} or min(cells) < LEAST or max(cells) > MOST:
+        return None
+    form = ",".join(["%d"] * width) + "\n"
+    return (form * len(rows) % cells).split("\n")[:-1]

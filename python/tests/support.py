@@ -1,0 +1,98 @@
+"""What several tests use."""
+import os
+import signal
+import stat
+import tempfile
+import textwrap
+import time
+import unittest
+from contextlib import contextmanager
+from pathlib import Path
+
+import prefq
+
+HOTELS = [[50, 8], [60, 5], [80, 2], [70, 6], [90, 2], [100, 1], [110, 9]]
+SKYLINE = [1, 2, 3, 6]
+QUESTION = "best low(price) * low(dist)"
+
+
+def hotels(**options):
+    """A table of seven hotels."""
+    return prefq.Table(["price", "dist"], HOTELS, **options)
+
+
+def numbers(count, **options):
+    """A table of one column, whose row k has the value k * 11."""
+    return prefq.Table(["x"], [[11 * id] for id in range(1, count + 1)], **options)
+
+
+@contextmanager
+def standing_still(table):
+    """The table's program is stopped for a while."""
+    os.kill(table.pid, signal.SIGSTOP)
+    try:
+        yield
+    finally:
+        try:
+            os.kill(table.pid, signal.SIGCONT)
+        except ProcessLookupError:
+            pass
+
+
+@contextmanager
+def raised_after(seconds, exception):
+    """An exception comes from a signal after so many seconds, as that of Ctrl-C does."""
+    def raises(*_):
+        raise exception
+    before = signal.signal(signal.SIGALRM, raises)
+    signal.setitimer(signal.ITIMER_REAL, seconds)
+    try:
+        yield
+    finally:
+        signal.setitimer(signal.ITIMER_REAL, 0)
+        signal.signal(signal.SIGALRM, before)
+
+
+@contextmanager
+def program(text):
+    """The path of a shell script that takes the place of the program."""
+    with tempfile.TemporaryDirectory() as folder:
+        path = Path(folder, "program")
+        path.write_text("#!/bin/sh\n" + textwrap.dedent(text))
+        path.chmod(path.stat().st_mode | stat.S_IXUSR)
+        yield str(path)
+
+
+def kill(table):
+    """Kills the table's program, and waits until it is dead."""
+    os.kill(table.pid, signal.SIGKILL)
+    os.waitid(os.P_PID, table.pid, os.WEXITED | os.WNOWAIT)
+
+
+def is_running(pid):
+    try:
+        os.kill(pid, 0)
+    except ProcessLookupError:
+        return False
+    return True
+
+
+class TestCase(unittest.TestCase):
+    """Tests that also look at what an exception says, and how long a call takes."""
+
+    @contextmanager
+    def refuses(self, exception, *words, kind=None, number=None, place=None):
+        """The block raises this exception, whose message has these words."""
+        with self.assertRaises(exception) as caught:
+            yield
+        for word in words:
+            self.assertIn(word, str(caught.exception))
+        for name, wanted in [("kind", kind), ("number", number), ("place", place)]:
+            if wanted is not None:
+                self.assertEqual(getattr(caught.exception, name), wanted)
+
+    @contextmanager
+    def within(self, seconds):
+        begun = time.monotonic()
+        yield
+        self.assertLess(time.monotonic() - begun, seconds)
