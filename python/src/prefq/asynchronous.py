@@ -103,7 +103,8 @@ class AsyncTable:
 
     async def rows(self) -> List[Tuple[int, List[int]]]:
         """See `Table.rows`."""
-        return [(row.id, row.values) for row in await self.best(self._table.all_rows)]
+        async with self.query(self._table.all_rows) as query:
+            return await query.pairs()
 
     async def best(self, question: str) -> List[Row]:
         """See `Table.best`. Other tasks' calls may come between the blocks that it scans."""
@@ -170,12 +171,20 @@ class AsyncQuery:
 
     async def answer(self) -> List[Row]:
         """See `Query.answer`."""
+        return await self._finish(self._begun().answer)
+
+    async def pairs(self) -> List[Tuple[int, List[int]]]:
+        """See `Query.pairs`."""
+        return await self._finish(self._begun().pairs)
+
+    async def _finish(self, answer: Callable[[], Result]) -> Result:
+        """Scans block by block, so that other tasks' calls come in between, and finishes."""
         query = self._begun()
         while query.left:
             await self._table._call(query.scan)
-        rows = await self._table._call(query.answer)
+        result = await self._table._call(answer)
         self._give_back()
-        return rows
+        return result
 
     async def abandon(self) -> None:
         """See `Query.abandon`."""

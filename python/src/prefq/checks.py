@@ -17,12 +17,13 @@ NAME = re.compile(r"[A-Za-z][A-Za-z0-9_.]{0,31}")
 
 def whole(value: Any, what: str, least: int, most: int) -> int:
     """The value as a whole number within these limits. Numbers of numpy are whole if they are integers; True and False are none."""
-    if isinstance(value, bool):
-        raise TypeError(f"{what} is {value!r}, not a whole number")
     try:
-        number = operator.index(value)
+        # The truth values of numpy have an index, as Python's own have.
+        number = None if type(value).__name__ in ("bool", "bool_") else operator.index(value)
     except TypeError:
-        raise TypeError(f"{what} is {value!r}, of type {type(value).__name__}: not a whole number") from None
+        number = None
+    if number is None:
+        raise TypeError(f"{what} is {value!r}, of type {type(value).__name__}: not a whole number")
     if not least <= number <= most:
         raise ValueError(f"{what} is {number}: not from {least} to {most}")
     return number

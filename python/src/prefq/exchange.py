@@ -12,7 +12,8 @@ from .errors import Ended, Refused, refused
 from .process import Process
 
 Result = TypeVar("Result")
-UNDER_WAY = Ended("a call was interrupted, or is still under way in this thread", "interrupted")
+# Why a table has ended, and its kind. This one stands while an exchange is under way, and stays if nothing more can be done about it.
+UNDER_WAY = ("a call was interrupted, or is still under way in this thread", "interrupted")
 
 
 class Exchange:
@@ -28,7 +29,7 @@ class Exchange:
         self.rows = 0
         self._owner = os.getpid()
         self._closing = False
-        self._ended: Optional[Ended] = None
+        self._ended: Optional[Tuple[str, str]] = None
         self._process = Process(words, timeout)
 
     @property
@@ -56,7 +57,8 @@ class Exchange:
         self._ours()
         with self.lock:
             if self._ended is None and self._process.is_dead():
-                self._end(self._process.death())
+                why = self._process.death()
+                self._end(str(why), why.kind)
             self._not_ended()
 
     def close(self) -> None:
@@ -67,7 +69,7 @@ class Exchange:
         self._process.kill()
         with self.lock:
             if self._ended is not UNDER_WAY:
-                self._end(Ended("the table was closed", "closed"))
+                self._end("the table was closed", "closed")
 
     def _ours(self) -> None:
         """Without the lock, which a fork may have copied while it was held."""
@@ -76,7 +78,7 @@ class Exchange:
 
     def _not_ended(self) -> None:
         if self._ended is not None:
-            raise Ended(*self._ended.args, self._ended.kind)
+            raise Ended(*self._ended) from None
 
     def _whole(self, talk: Callable[[], Result]) -> Result:
         """What an exchange returns, if it is made whole. Until then the table counts as ended, whatever happens."""
@@ -90,17 +92,18 @@ class Exchange:
                 result = talk()
                 self._ended = None
                 return result
+            except Ended as why:
+                raise self._end(str(why), why.kind) from None
             except BaseException as why:
-                self._end(why)
+                self._end(f"a call was interrupted by {type(why).__name__}, and its reply was not read: open the table again", "interrupted")
                 raise
 
-    def _end(self, why: BaseException) -> None:
-        """Gives the process up; the first reason stays."""
-        if self._closing:
-            why = Ended("the table was closed", "closed")
+    def _end(self, why: str, kind: str) -> Ended:
+        """Gives the process up; the first reason stays, and is returned."""
         if self._ended is None or self._ended is UNDER_WAY:
-            self._ended = why if isinstance(why, Ended) else Ended(f"a call was interrupted ({type(why).__name__}), so its reply was not read: open the table again", "interrupted")
+            self._ended = ("the table was closed", "closed") if self._closing else (why, kind)
         self._process.close()
+        return Ended(*self._ended)
 
     def _one(self, command: str, reply: str, rows: int, question: Optional[str]) -> Union[Tuple[str, bytes], Refused]:
         self._process.send(command.encode() + b"\n")

@@ -31,7 +31,7 @@ class Process:
         os.set_blocking(self._in.fileno(), False)
         self._poll = select.poll()
         self._poll.register(self._out, select.POLLIN)
-        self.kill = weakref.finalize(self, _kill, self._popen, os.getpid())
+        self._finish = weakref.finalize(self, _finish, self._popen, os.getpid())
         _running.add(self)
 
     @property
@@ -84,16 +84,20 @@ class Process:
         said = f"{last}\n{self._read.decode(errors='replace')}".strip().splitlines()
         return Ended(f"the program {how}" + (f"; its last line is: {said[-1]}" if said else "; it said nothing more"), "died")
 
+    def kill(self) -> None:
+        """Kills the program, if it runs. Whoever waits for its output reads the end of it."""
+        if not self.is_dead():
+            self._popen.kill()
+            self._popen.wait()
+
     def close(self) -> None:
-        """Kills the program, if it runs, and closes the pipes."""
-        self.kill()
-        self._in.close()
-        self._out.close()
+        """Kills the program, and closes the pipes, which nobody may be reading."""
+        self._finish()
         _running.discard(self)
 
     def forget(self) -> None:
-        """In a fork: closes its copies of the pipes, so that it keeps the program of its parent from nothing."""
-        self.kill.detach()
+        """In a fork: closes its copies of the pipes, so that the program ends when its owner closes them."""
+        self._finish.detach()
         self._popen.returncode = 0
         self._in.close()
         self._out.close()
@@ -128,11 +132,16 @@ class Process:
 _running: "weakref.WeakSet[Process]" = weakref.WeakSet()
 
 
-def _kill(popen: "subprocess.Popen[bytes]", owner: int) -> None:
-    """Ends a program of this process, and takes its status."""
-    if os.getpid() == owner and popen.poll() is None:
+def _finish(popen: "subprocess.Popen[bytes]", owner: int) -> None:
+    """Ends a program of this process, which nobody uses any more."""
+    if os.getpid() != owner:
+        return
+    if popen.poll() is None:
         popen.kill()
         popen.wait()
+    for pipe in (popen.stdin, popen.stdout):
+        if pipe is not None:
+            pipe.close()
 
 
 def _forget_all() -> None:

@@ -1,7 +1,7 @@
 """A query: a question that is asked of the table as it was when the query began."""
 import threading
 import weakref
-from typing import TYPE_CHECKING, List, Optional, Type
+from typing import TYPE_CHECKING, List, Optional, Tuple, Type
 
 from .errors import Ended, Refused
 from .rows import Row, rows_of
@@ -64,6 +64,10 @@ class Query:
             _, below = self._exchange.ask_for_rows(f"as {self.client} finish", f"{self.client} answer ")
             self._ended()
         return rows_of(below, self._width)
+
+    def pairs(self) -> List[Tuple[int, List[int]]]:
+        """The answer as pairs of an id and its values."""
+        return [(row.id, row.values) for row in self.answer()]
 
     def abandon(self) -> None:
         """Ends the query without an answer; nothing is done where it has ended."""

@@ -208,7 +208,8 @@ class Table:
         ...     hotels.rows()
         [(1, [50]), (2, [80])]
         """
-        return [(row.id, row.values) for row in self.best(self.all_rows)]
+        with self.query(self.all_rows) as query:
+            return query.pairs()
 
     @property
     def all_rows(self) -> str:
@@ -248,7 +249,7 @@ def _id(id: Any) -> int:
 def _change(change: Any, columns: Sequence[str], where: str) -> str:
     """A change as a piece of a commit."""
     forms = {"insert": 2, "update": 3, "delete": 2}
-    if not isinstance(change, (tuple, list)) or not change or change[0] not in forms or len(change) != forms[change[0]]:
+    if not isinstance(change, (tuple, list)) or not change or not isinstance(change[0], str) or len(change) != forms.get(change[0]):
         raise TypeError(f'{where}{change!r}: not ("insert", values), ("update", id, values) or ("delete", id)')
     verb, *rest = change
     words = [verb] if verb == "insert" else [verb, str(checks.whole(rest[0], f"{where}id", 0, checks.MOST_IDS))]

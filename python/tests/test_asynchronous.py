@@ -1,0 +1,198 @@
+"""The table for asyncio."""
+import asyncio
+import gc
+import os
+import random
+import signal
+import sys
+import time
+import unittest
+
+import prefq
+from support import HOTELS, QUESTION, SKYLINE, TestCase, is_running, kill
+
+SECONDS = 120
+
+
+class Tasks(TestCase):
+    def run_async(self, function):
+        return asyncio.run(asyncio.wait_for(function(), SECONDS))
+
+    def open(self, **options):
+        return prefq.AsyncTable.open(["price", "dist"], HOTELS, **options)
+
+    def test_calls(self):
+        async def main():
+            async with await self.open() as table:
+                self.assertEqual((await table.insert([55, 1]), len(table), await table.room()), (8, 8, 1016))
+                await table.update(8, [56, 1])
+                self.assertEqual(await table.get(8), [56, 1])
+                await table.delete(8)
+                self.assertEqual(await table.commit(("insert", [200, 200]), ("delete", 7)), 9)
+                self.assertEqual(await table.insert_many([[300, 300]] * 20), range(10, 30))
+                self.assertEqual([row.id for row in await table.best(QUESTION)], SKYLINE)
+                self.assertEqual(len(await table.rows()), len(table))
+                self.assertEqual(repr(table), "<prefq.AsyncTable of price, dist>")
+        self.run_async(main)
+
+    def test_queries(self):
+        async def main():
+            async with await self.open(block=2, capacity=16) as table:
+                query = await table.query(QUESTION)
+                self.assertEqual((query.left, await query.scan()), (8, 7))
+                await table.insert([1, 1])
+                self.assertEqual([row.id for row in await query.answer()], SKYLINE)
+                async with table.query(QUESTION) as query:
+                    pass
+                with self.refuses(prefq.Refused, "ended", number=4):
+                    await query.answer()
+                with self.refuses(prefq.Refused, "has not begun"):
+                    await table.query(QUESTION).scan()
+                with self.refuses(prefq.Refused, kind="term", place=9):
+                    await table.best("best low(prise)")
+                with self.refuses(TypeError, "column price"):
+                    await table.insert([1.5, 2])
+        self.run_async(main)
+
+    def test_two_hundred_requests_of_twenty_tasks(self):
+        async def main():
+            done = 0
+            async with await prefq.AsyncTable.open(["task", "value"], capacity=8192, clients=3) as table:
+                async def work(number):
+                    nonlocal done
+                    chance, mine = random.Random(number), {}
+                    for _ in range(10):
+                        values = [number, chance.randrange(1000)]
+                        if chance.random() < 0.5 or not mine:
+                            mine[await table.insert(values)] = values
+                        elif chance.random() < 0.5:
+                            id = chance.choice(sorted(mine))
+                            self.assertEqual(await table.get(id), mine[id])
+                        else:
+                            best = [row for row in await table.best("best low(value) by task") if row.values[0] == number]
+                            least = min(value for _, value in mine.values())
+                            self.assertEqual({row.id: row.values for row in best}, {id: values for id, values in mine.items() if values[1] == least})
+                        done += 1
+                    return mine
+                rows = await asyncio.gather(*(work(number) for number in range(20)))
+                self.assertEqual((done, dict(await table.rows())), (200, {id: values for mine in rows for id, values in mine.items()}))
+        self.run_async(main)
+
+    def test_more_open_queries_than_clients(self):
+        async def main():
+            async with await self.open(clients=2) as table:
+                async def work():
+                    async with table.query(QUESTION) as query:
+                        await asyncio.sleep(0.001)
+                        return len(await query.answer())
+                self.assertEqual(await asyncio.gather(*(work() for _ in range(50))), [4] * 50)
+        self.run_async(main)
+
+    def test_a_cancelled_task_leaves_the_table_as_it_is(self):
+        async def main():
+            async with await self.open(clients=2, block=16) as table:
+                chance = random.Random(1)
+                for _ in range(40):
+                    calls = [table.best(QUESTION), table.insert([200, 200]), table.query(QUESTION).__aenter__(), table.get(2), table.room()]
+                    tasks = [asyncio.ensure_future(call) for call in calls]
+                    await asyncio.sleep(chance.random() * 0.01)
+                    for task in tasks:
+                        task.cancel()
+                    await asyncio.gather(*tasks, return_exceptions=True)
+                    del tasks, calls, task
+                    self.assertEqual(await table.get(2), [60, 5])
+                gc.collect()
+                self.assertEqual([row.id for row in await table.best(QUESTION)], SKYLINE)
+                self.assertEqual(await asyncio.gather(*(table.best(QUESTION) for _ in range(4))), [await table.best(QUESTION)] * 4)
+                self.assertEqual(await table.room(), 1024 - len(table))
+                self.assertEqual(len(await table.rows()), len(table))
+        self.run_async(main)
+
+    def test_a_call_that_was_cancelled_before_it_began_is_not_made(self):
+        async def main():
+            async with await self.open() as table:
+                os.kill(table._table.pid, signal.SIGSTOP)
+                first, second = asyncio.ensure_future(table.get(1)), asyncio.ensure_future(table.insert([1, 1]))
+                await asyncio.sleep(0.1)
+                first.cancel()
+                second.cancel()
+                await asyncio.gather(first, second, return_exceptions=True)
+                os.kill(table._table.pid, signal.SIGCONT)
+                self.assertEqual((await table.get(2), len(table)), ([60, 5], 7))
+        self.run_async(main)
+
+    def test_dropped_queries(self):
+        async def main():
+            async with await self.open(clients=2) as table:
+                for _ in range(10):
+                    await table.query(QUESTION)
+                    gc.collect()
+                self.assertEqual(len(await table.best(QUESTION)), 4)
+        self.run_async(main)
+
+    def test_dead_and_closed(self):
+        async def main():
+            table = await self.open()
+            kill(table._table)
+            with self.refuses(prefq.Ended, "SIGKILL"):
+                await table.get(1)
+            await table.close()
+            with self.refuses(prefq.Ended, "closed"):
+                await table.get(1)
+            with self.refuses(prefq.Ended, "SIGKILL"):
+                async with await self.open() as table:
+                    kill(table._table)
+            table = await self.open(timeout=0.3)
+            os.kill(table._table.pid, signal.SIGSTOP)
+            with self.refuses(prefq.Ended, kind="timeout"):
+                await table.get(1)
+            self.assertFalse(is_running(table._table.pid))
+            await table.close()
+        self.run_async(main)
+
+    def test_closed_while_the_program_stands_still(self):
+        async def main():
+            table = await self.open()
+            os.kill(table._table.pid, signal.SIGSTOP)
+            call = asyncio.ensure_future(table.get(1))
+            await asyncio.sleep(0.1)
+            with self.within(5):
+                await table.close()
+            with self.refuses(prefq.Ended, "closed"):
+                await call
+        self.run_async(main)
+
+    def test_the_opening_is_refused(self):
+        async def main():
+            with self.refuses(TypeError, "row 1, column price"):
+                await prefq.AsyncTable.open(["price"], [[0.5]])
+            with self.refuses(prefq.Refused, kind="opening"):
+                await self.open(capacity=3)
+        self.run_async(main)
+
+    def test_the_loop_goes_on(self):
+        """While 60,000 rows are put in, asked for and read, the longest stall of the loop is a few milliseconds, in the best of some series."""
+        rows = [[number, -number, number % 7, number % 11] for number in range(60_000)]
+
+        async def longest(calls):
+            stalls, last = [], time.perf_counter()
+            task = asyncio.ensure_future(calls)
+            while not task.done():
+                await asyncio.sleep(0.001)
+                now = time.perf_counter()
+                stalls.append(now - last)
+                last = now
+            self.assertEqual(len(await task), len(rows))
+            return max(stalls)
+
+        async def series():
+            async with await prefq.AsyncTable.open(list("abcd"), capacity=65_536) as table:
+                return await longest(table.insert_many(rows)), await longest(table.rows()), await longest(asyncio.sleep(0.2, rows))
+
+        best = [min(stalls) for stalls in zip(*(asyncio.run(series()) for _ in range(3)))]
+        print("\nthe longest stall of the loop: {:.1f} ms by insert_many, {:.1f} ms by rows, {:.1f} ms by nothing".format(*(1000 * stall for stall in best)), file=sys.stderr)
+        self.assertLess(max(best), 0.05)
+
+
+if __name__ == "__main__":
+    unittest.main()

@@ -1,0 +1,113 @@
+"""Many threads over one table: no request is lost, and no answer is wrong."""
+import random
+import threading
+
+import prefq
+from support import QUESTION, TestCase, hotels
+
+
+def all_of(count, function):
+    """Runs the function on so many threads, each with its number, and returns what they raised."""
+    raised = []
+
+    def run(number):
+        try:
+            function(number)
+        except BaseException as why:
+            raised.append(why)
+
+    threads = [threading.Thread(target=run, args=(number,)) for number in range(count)]
+    for thread in threads:
+        thread.start()
+    for thread in threads:
+        thread.join(120)
+    assert not any(thread.is_alive() for thread in threads), "a thread hangs"
+    return raised
+
+
+class Threads(TestCase):
+    def test_a_thousand_requests_from_twenty_threads(self):
+        done = []
+        with prefq.Table(["thread", "value"], [[-1, 0]], capacity=8192) as table:
+            def work(number):
+                chance, mine = random.Random(number), {}
+                for _ in range(50):
+                    kind = chance.choice(["insert", "update", "delete", "get", "best", "many"])
+                    values = [number, chance.randrange(1000)]
+                    if kind == "insert" or not mine:
+                        mine[table.insert(values)] = values
+                    elif kind == "many":
+                        mine.update((id, values) for id in table.insert_many([values] * 20))
+                    elif kind == "update":
+                        id = chance.choice(sorted(mine))
+                        table.update(id, values)
+                        mine[id] = values
+                    elif kind == "delete":
+                        id = chance.choice(sorted(mine))
+                        table.delete(id)
+                        del mine[id]
+                    elif kind == "get":
+                        id = chance.choice(sorted(mine))
+                        self.assertEqual(table.get(id), mine[id])
+                    elif kind == "best":
+                        best = [row for row in table.best("best low(value) by thread") if row.values[0] == number]
+                        least = min(value for _, value in mine.values())
+                        self.assertEqual({row.id: row.values for row in best}, {id: values for id, values in mine.items() if values[1] == least})
+                    done.append(kind)
+                done.append(mine)
+
+            self.assertEqual(all_of(20, work), [])
+            self.assertEqual(len([kind for kind in done if isinstance(kind, str)]), 1000)
+            rows = {id: values for mine in done if isinstance(mine, dict) for id, values in mine.items()}
+            self.assertEqual(dict(table.rows()), {1: [-1, 0], **rows})
+            self.assertEqual(len(table), 1 + len(rows))
+            self.assertEqual(table.room(), 8192 - len(table))
+
+    def test_one_query_from_many_threads(self):
+        answers = []
+        with hotels(block=1, capacity=64) as table:
+            query = table.query(QUESTION)
+
+            def work(number):
+                try:
+                    answers.append([row.id for row in query.answer()])
+                except prefq.Refused as why:
+                    answers.append(why.number)
+
+            self.assertEqual(all_of(8, work), [])
+            self.assertEqual(sorted(answers, key=str), [4] * 7 + [[1, 2, 3, 6]])
+
+    def test_more_queries_than_clients(self):
+        with hotels(clients=2, block=16) as table:
+            def work(number):
+                for _ in range(5):
+                    self.assertEqual([row.id for row in table.best(QUESTION)], [1, 2, 3, 6])
+            self.assertEqual(all_of(12, work), [])
+
+    def test_a_client_is_waited_for(self):
+        with hotels(clients=1) as table:
+            query = table.query(QUESTION)
+            timer = threading.Timer(0.2, query.abandon)
+            other = []
+            asks = threading.Thread(target=lambda: other.append(len(table.best(QUESTION))))
+            timer.start()
+            asks.start()
+            asks.join(30)
+            self.assertEqual(other, [4])
+
+    def test_killed_under_many_threads(self):
+        table = hotels(block=16)
+        started = threading.Barrier(21)
+
+        def work(number):
+            started.wait()
+            with self.assertRaises(prefq.Ended):
+                while True:
+                    table.best(QUESTION)
+
+        def kills(_):
+            started.wait()
+            table._exchange._process._popen.kill()
+
+        with self.within(60):
+            self.assertEqual(all_of(21, lambda number: kills(number) if number == 20 else work(number)), [])
