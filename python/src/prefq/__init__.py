@@ -7,12 +7,18 @@
 1 1 [50, 8]
 1 2 [80, 2]
 """
+from .answer import Answer
 from .asynchronous import AsyncQuery, AsyncTable
+from .columns import Column
 from .errors import Ended, Error, ProgramNotFound, Refused
+from .frame import Frame, UnknownValue
 from .program import find_program
 from .query import Query
+from .records import Record
 from .rows import Row
+from .select import psel
 from .table import Table
 
 __version__ = "0.1.0"
-__all__ = ["AsyncQuery", "AsyncTable", "Ended", "Error", "ProgramNotFound", "Query", "Refused", "Row", "Table", "find_program"]
+__all__ = ["Answer", "AsyncQuery", "AsyncTable", "Column", "Ended", "Error", "Frame", "ProgramNotFound", "Query", "Record", "Refused", "Row", "Table",
+           "UnknownValue", "find_program", "psel"]

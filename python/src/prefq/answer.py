@@ -1,0 +1,171 @@
+"""The answer to a question: a list of records, and how it is shown, written and drawn."""
+import csv
+import html
+import io
+import json
+import math
+import os
+from decimal import Decimal
+from typing import Any, Callable, Iterable, List, Optional, Sequence, TextIO, Union
+
+from .columns import Column
+from .records import Record
+
+Target = Union[str, "os.PathLike[str]", TextIO, None]
+ROWS_SHOWN = 20
+ROWS_IN_A_NOTEBOOK = 200
+WIDEST = 40
+
+
+class Answer(List[Record]):
+    """The rows of an answer, by level and then by id: a list of records, each with its `level` and `id`.
+
+    `question` is what was asked, and `columns` are the columns of the rows. At a prompt and in a notebook it is shown as a table.
+
+    >>> import prefq
+    >>> with prefq.Frame.from_records([{"City": "Lyon", "Price": 60}, {"City": "Bern", "Price": 90}]) as hotels:
+    ...     answer = hotels.best("best low(Price)")
+    >>> answer
+    level  id  City  Price
+        1   1  Lyon     60
+    >>> answer[0].City, answer.levels
+    ('Lyon', [1])
+    >>> print(answer.to_csv(), end="")
+    level,id,City,Price
+    1,1,Lyon,60
+    >>> print(answer.to_json(), end="")
+    [{"level": 1, "id": 1, "City": "Lyon", "Price": 60}]
+    """
+
+    def __init__(self, question: str, columns: Iterable[Column], records: Iterable[Record], *, others: Optional[Callable[[], Iterable[Record]]] = None,
+                 labels: Optional[Callable[[Record], Any]] = None) -> None:
+        super().__init__(records)
+        self.question = question
+        self.columns = tuple(columns)
+        self._others = others
+        self._labels = labels
+
+    @property
+    def names(self) -> List[str]:
+        """The names of the columns."""
+        return [column.name for column in self.columns]
+
+    @property
+    def ids(self) -> List[Optional[int]]:
+        """The id of each row."""
+        return [record.id for record in self]
+
+    @property
+    def levels(self) -> List[Optional[int]]:
+        """The level of each row."""
+        return [record.level for record in self]
+
+    @property
+    def heading(self) -> List[str]:
+        """The names with those of level and id in front; with a point where the file has such a name itself."""
+        taken = self.names
+        return [*(f".{name}" if name in taken else name for name in ("level", "id")), *taken]
+
+    def cells(self, record: Record) -> List[str]:
+        """A row as texts."""
+        return [*("" if number is None else str(number) for number in (record.level, record.id)),
+                *(column.text(record.get(column.name)) for column in self.columns)]
+
+    def __repr__(self) -> str:
+        more = len(self) - ROWS_SHOWN
+        return self._lines(self[:ROWS_SHOWN]) + (f"\n.. and {more} rows more" if more > 0 else "")
+
+    def to_text(self) -> str:
+        """All rows as a table of text."""
+        return self._lines(self)
+
+    def _lines(self, records: Sequence[Record]) -> str:
+        shown = [[_short(cell) for cell in row] for row in [self.heading, *map(self.cells, records)]]
+        widths = [max(map(len, cells)) for cells in zip(*shown)]
+        right = [True, True, *(column.kind.name in ("whole", "decimal", "float") for column in self.columns)]
+        return "\n".join("  ".join(cell.rjust(width) if side else cell.ljust(width) for cell, width, side in zip(row, widths, right)).rstrip() for row in shown)
+
+    def _repr_html_(self) -> str:
+        more = len(self) - ROWS_IN_A_NOTEBOOK
+        return self._table(self[:ROWS_IN_A_NOTEBOOK]) + (f"<p>.. and {more} rows more</p>" if more > 0 else "")
+
+    def to_html(self) -> str:
+        """All rows as a table of HTML."""
+        return self._table(self)
+
+    def _table(self, records: Sequence[Record]) -> str:
+        def row(cells: Iterable[str], tag: str) -> str:
+            return "<tr>" + "".join(f"<{tag}>{html.escape(cell)}</{tag}>" for cell in cells) + "</tr>\n"
+
+        head, body = row(self.heading, "th"), "".join(row(self.cells(record), "td") for record in records)
+        return f'<table class="prefq">\n<caption>{html.escape(self.question)}</caption>\n<thead>\n{head}</thead>\n<tbody>\n{body}</tbody>\n</table>'
+
+    def to_csv(self, target: Target = None) -> Optional[str]:
+        """Comma-separated values, with the names in front: into a file, or as a text where none is given."""
+        text = io.StringIO(newline="")
+        writer = csv.writer(text, lineterminator="\n")
+        writer.writerow(self.heading)
+        writer.writerows(map(self.cells, self))
+        return _given(text.getvalue(), target)
+
+    def to_json(self, target: Target = None, *, indent: Optional[int] = None) -> Optional[str]:
+        """A list of objects: into a file, or as a text where none is given. Decimals keep all their digits, dates are texts, and what is missing is null."""
+        apart, begin, end = (", ", "", "") if indent is None else (",\n" + 2 * indent * " ", "\n" + 2 * indent * " ", "\n" + indent * " ")
+        line = "" if indent is None else "\n" + indent * " "
+        objects = []
+        for record in self:
+            values = [record.level, record.id, *(record.get(name) for name in self.names)]
+            pairs = [f"{json.dumps(name, ensure_ascii=False)}: {_json(value, self._column(place))}" for place, (name, value) in enumerate(zip(self.heading, values))]
+            objects.append("{" + begin + apart.join(pairs) + end + "}")
+        between = ", " if indent is None else f",{line}"
+        return _given("[" + (line if objects else "") + between.join(objects) + ("\n" if indent is not None and objects else "") + "]\n", target)
+
+    def _column(self, place: int) -> Optional[Column]:
+        return self.columns[place - 2] if place >= 2 else None
+
+    def to_dataframe(self) -> Any:
+        """A DataFrame of pandas: a column `.level`, then the columns of the rows; its index is that of the frame it came from, else the ids."""
+        from .pandas_frames import dataframe_of
+        return dataframe_of(self, self._labels)
+
+    def plot(self, x: Optional[str] = None, y: Optional[str] = None, ax: Any = None) -> Any:
+        """Draws the rows by two columns, first of all the two that the question orders: by matplotlib (the axes are returned), or where that is not
+        installed as a picture with `save(path)`, which a notebook shows."""
+        from .plot import plotted
+        return plotted(self, x, y, ax)
+
+    def to_svg(self, target: Target = None, *, x: Optional[str] = None, y: Optional[str] = None) -> Optional[str]:
+        """The same picture as SVG, without matplotlib: into a file, or as a text where none is given."""
+        from .plot import svg_of
+        return _given(svg_of(self, x, y), target)
+
+    def all_records(self) -> List[Record]:
+        """The rows behind the answer, as they are now, where they can still be had; else those of the answer."""
+        return list(self if self._others is None else self._others())
+
+
+def _short(cell: str) -> str:
+    line = " ".join(cell.split())
+    return line if len(line) <= WIDEST else line[:WIDEST - 1] + "…"
+
+
+def _given(text: str, target: Target) -> Optional[str]:
+    """The text, or None once it is written."""
+    if target is None:
+        return text
+    if isinstance(target, (str, os.PathLike)):
+        with open(target, "w", encoding="utf-8", newline="") as file:
+            file.write(text)
+    else:
+        target.write(text)
+    return None
+
+
+def _json(value: Any, column: Optional[Column]) -> str:
+    if value is None or isinstance(value, (bool, str, int)):
+        return json.dumps(value, ensure_ascii=False)
+    if isinstance(value, Decimal):
+        return format(value, "f")
+    if isinstance(value, float) and math.isfinite(value):
+        return repr(float(value))
+    return json.dumps(column.text(value) if column else str(value), ensure_ascii=False)

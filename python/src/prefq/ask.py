@@ -1,0 +1,164 @@
+"""`python -m prefq ask FILE.csv QUESTION`: the best rows of a file, in its own names and values."""
+import argparse
+import html
+import os
+import sys
+import time
+import warnings
+from typing import Any, Dict, List, Optional, Sequence, Tuple
+
+from .answer import Answer
+from .columns import MISSING_WORDS, Column
+from .errors import Ended, Error
+from .frame import UnknownValue, column_of_texts, encoded
+from .reading import Cells, read_csv
+from .records import Record
+from .select import selected
+
+EXAMPLES = """examples:
+  python -m prefq ask hotels.csv "best low(Price) * high(Stars)"
+  python -m prefq ask hotels.csv "best pos(City, 'Lyon') & low(\\"Price (EUR)\\")" --csv > best.csv
+  python -m prefq ask hotels.csv "top_level 3 low(Price) * low(Distance) by City" --plot best.svg
+  python -m prefq ask hotels.csv          prints the columns of the file
+
+A question: best TERM, top_level K TERM, at_least K TERM, each with `by COLUMN, ..` behind it or without, or skyline of COLUMN min, COLUMN max, COLUMN diff.
+A term: low(x), high(x), around(x, 5), between(x, 1, 5), pos(x, 'a', 'b'), layered(x, {'a'}, {'b'}), -t, t * u (both at once), t & u (t decides first).
+"""
+
+
+def parser() -> argparse.ArgumentParser:
+    """What the command line has."""
+    found = argparse.ArgumentParser(prog="python -m prefq ask", description="Prints the best rows of a CSV file: level, id (the number of the row), and the row as it stands there.",
+                                    epilog=EXAMPLES, formatter_class=argparse.RawDescriptionHelpFormatter)
+    found.add_argument("file", metavar="FILE.csv", help="comma-separated values with names in the first line; - is standard input")
+    found.add_argument("question", metavar="QUESTION", nargs="?", help="in the names and values of the file; without one, the columns are printed")
+    form = found.add_mutually_exclusive_group()
+    form.add_argument("--csv", dest="form", action="store_const", const="csv", help="print CSV")
+    form.add_argument("--json", dest="form", action="store_const", const="json", help="print JSON")
+    form.add_argument("--html", dest="form", action="store_const", const="html", help="print a page of HTML")
+    found.add_argument("--plot", metavar="OUT.svg", help="draw the answer by its first two criteria into this file")
+    found.add_argument("--kind", metavar="COLUMN=KIND", action="append", default=[], help="what a column is: whole, decimal(2), float, bool, date, time, text, choice(a, b, c)")
+    found.add_argument("--encoding", default="utf-8-sig", help="of the file (utf-8)")
+    found.add_argument("--delimiter", help="between the cells of the file (the one of , ; tab | that stands most often in its first line)")
+    found.add_argument("--decimal", default=".", help="the sign before decimal digits (.)")
+    return found
+
+
+def main(arguments: Optional[Sequence[str]] = None) -> int:
+    """Runs the command; returns its status: 0, 2 where something is refused, 1 where the program fails."""
+    options = parser().parse_args(arguments)
+    try:
+        with warnings.catch_warnings():
+            warnings.showwarning = lambda message, *_: print(f"prefq: {message}", file=sys.stderr)
+            warnings.simplefilter("always", UnknownValue)
+            run(options)
+    except BrokenPipeError:
+        # Nobody reads any more, as behind `| head`.
+        os.dup2(os.open(os.devnull, os.O_WRONLY), sys.stdout.fileno())
+        return 1
+    except KeyboardInterrupt:
+        return 130
+    except (Error, OSError, ValueError, TypeError, LookupError) as why:
+        print(f"prefq: {why}", file=sys.stderr)
+        return 1 if isinstance(why, Ended) else 2
+    return 0
+
+
+def run(options: argparse.Namespace) -> None:
+    """Reads the file, asks, and prints."""
+    progress = Progress()
+    progress("reading", 0, 0)
+    file = File(read_csv(sys.stdin if options.file == "-" else options.file, options.encoding, options.delimiter), kinds_of(options.kind), options.decimal)
+    if options.question is None:
+        for name in file.cells.names:
+            print(f"{name}: {file.column(name)[0].kind}" + (f" ({file.column(name)[0].oddity})" if file.column(name)[0].oddity else ""))
+        return
+    answer = file.answer(options.question, progress)
+    progress.end()
+    if options.plot:
+        answer.to_svg(options.plot)
+    sys.stdout.write(written(answer, options.form))
+    sys.stdout.flush()
+
+
+class File:
+    """The cells of a file, of which a column is only understood once it is needed."""
+
+    def __init__(self, cells: Cells, kinds: Dict[str, str], decimal: str) -> None:
+        self.cells = cells
+        self._kinds, self._decimal = kinds, decimal
+        self._columns: Dict[str, Tuple[Column, List[int]]] = {}
+        for name in kinds:
+            if name not in cells.names:
+                raise LookupError(f"--kind: no column {name!r}")
+
+    def column(self, name: str) -> Tuple[Column, List[int]]:
+        """A column, and its numbers."""
+        if name not in self._columns:
+            place = self.cells.names.index(name)
+            column, texts = column_of_texts(name, [row[place] for row in self.cells.rows], self._kinds, MISSING_WORDS, self._decimal)
+            self._columns[name] = column, encoded(column, texts, first=2)
+        return self._columns[name]
+
+    def answer(self, question: str, progress: "Progress") -> Answer:
+        """The answer, whose rows are those of the file."""
+        rows = selected(question, None, self.cells.names, self.column, progress=progress)
+        columns = [self.column(name)[0] for name in self.cells.names]
+        records = [self._record(row.id, row.level) for row in rows]
+        return FileAnswer(question, columns, records, others=lambda: map(self._record, range(1, len(self.cells.rows) + 1)), rows=self.cells.rows)
+
+    def _record(self, id: int, level: Optional[int] = None) -> Record:
+        found = ((name, self.column(name)) for name in self.cells.names)
+        return Record(((name, column.decode(numbers[id - 1])) for name, (column, numbers) in found), id=id, level=level)
+
+
+class FileAnswer(Answer):
+    """An answer that writes the cells of the file as they stand there."""
+
+    def __init__(self, *arguments: Any, rows: List[List[str]], **more: Any) -> None:
+        super().__init__(*arguments, **more)
+        self._rows = rows
+
+    def cells(self, record: Record) -> List[str]:
+        return [str(record.level), str(record.id), *self._rows[(record.id or 1) - 1]]
+
+
+class Progress:
+    """Says on standard error what is done, where that takes longer than a second and a person watches."""
+
+    def __init__(self) -> None:
+        self._begun = time.monotonic()
+        self._shown = False
+
+    def __call__(self, what: str, done: int, total: int) -> None:
+        if time.monotonic() - self._begun > 1 and sys.stderr.isatty():
+            print(f"\r\x1b[K{what}" + (f" {100 * done // total} %" if total else ""), end="", file=sys.stderr, flush=True)
+            self._shown = True
+
+    def end(self) -> None:
+        """Takes away what was said."""
+        if self._shown:
+            print("\r\x1b[K", end="", file=sys.stderr, flush=True)
+
+
+def kinds_of(words: Sequence[str]) -> Dict[str, str]:
+    """The kinds that the command line gives."""
+    found = {}
+    for word in words:
+        name, sign, kind = word.rpartition("=")
+        if not sign:
+            raise ValueError(f"--kind {word}: write COLUMN=KIND, as in --kind 'Stars=decimal(1)'")
+        found[name] = kind
+    return found
+
+
+def written(answer: Answer, form: Optional[str]) -> str:
+    """The answer in a form."""
+    if form == "csv":
+        return answer.to_csv() or ""
+    if form == "json":
+        return answer.to_json(indent=1) or ""
+    if form == "html":
+        title = html.escape(answer.question)
+        return f'<!doctype html>\n<html lang="en">\n<head><meta charset="utf-8"><title>{title}</title></head>\n<body>\n{answer.to_html()}\n</body>\n</html>\n'
+    return answer.to_text() + "\n"

@@ -1,0 +1,143 @@
+"""DataFrames of pandas: their columns as those of a table, and answers as DataFrames. Only imported where pandas is there."""
+import datetime
+from typing import Any, Callable, List, Mapping, Optional, Sequence, Tuple
+
+from .columns import Column
+from .errors import Refused
+from .infer import kind_of_values
+from .kinds import GREATEST, LEAST, Booleans, Choices, Dates, Decimals, Floats, Kind, Texts, Times, Whole
+from .records import Record
+
+
+class Timestamps(Times):
+    """Times of pandas, exact to a nanosecond."""
+
+    def encode(self, value: Any) -> int:
+        import pandas
+        stamp = pandas.Timestamp(super().decode(super().encode(value)) if isinstance(value, str) else value)
+        if (stamp.tzinfo is None) != (self.zone is None):
+            raise ValueError(f"{value} has {'a' if stamp.tzinfo else 'no'} time zone, other than the rest of the column")
+        return int(stamp.value)
+
+    def decode(self, number: int) -> Any:
+        import pandas
+        return pandas.Timestamp(number, tz="UTC").tz_convert(self.zone) if self.zone else pandas.Timestamp(number)
+
+
+def encoded_series(series: Any, name: str, kinds: Optional[Mapping[str, str]] = None) -> Tuple[Column, List[int]]:
+    """A column of a DataFrame, and its numbers. The column keeps the type of pandas as `dtype`."""
+    if kinds and name in kinds:
+        column, numbers = _by_values(series, Column(name, kinds[name]))
+    else:
+        kind, codes = _by_type(series, name)
+        column, numbers = (_by_values(series, Column(name, kind)) if codes is None else (Column(name, kind), codes))
+    column.has_gaps = column.has_gaps or LEAST in numbers
+    column.dtype = series.dtype
+    return column, numbers
+
+
+def _by_values(series: Any, column: Column) -> Tuple[Column, List[int]]:
+    from .frame import encoded
+    return column, encoded(column, series.tolist())
+
+
+def _by_type(series: Any, name: str) -> Tuple[Kind, Optional[List[int]]]:
+    """The kind of a type of pandas, and the numbers of its values where they are found all at once."""
+    import pandas
+    types = pandas.api.types
+    if types.is_bool_dtype(series.dtype) and not isinstance(series.dtype, pandas.CategoricalDtype):
+        return Booleans(), _numbers(series.astype("boolean"))
+    if types.is_integer_dtype(series.dtype):
+        return Whole(), _whole(series, name)
+    if types.is_float_dtype(series.dtype):
+        return Floats(), _floats(series)
+    if types.is_datetime64_any_dtype(series.dtype):
+        zone = getattr(series.dtype, "tz", None)
+        plain = series if zone is None else series.dt.tz_convert("UTC").dt.tz_localize(None)
+        return Timestamps(zone), plain.to_numpy(dtype="datetime64[ns]").view("int64").tolist()
+    if isinstance(series.dtype, pandas.CategoricalDtype):
+        return _categories(series, name)
+    kind = kind_of_values(name, series.tolist())
+    return kind, _codes(series, kind) if isinstance(kind, Texts) else None
+
+
+def _numbers(series: Any) -> List[int]:
+    """The whole numbers of a series that may have gaps."""
+    gaps = series.isna().to_numpy()
+    numbers = series.fillna(False if series.dtype == "boolean" else 0).to_numpy(dtype="int64").copy()
+    numbers[gaps] = LEAST
+    return list(numbers.tolist())
+
+
+def _whole(series: Any, name: str) -> List[int]:
+    present = series.dropna()
+    if len(present) and not (LEAST < int(present.min()) and int(present.max()) <= GREATEST):
+        raise Refused(f"column {name!r} has numbers from {present.min()} to {present.max()}: a column has whole numbers from {LEAST + 1} to {GREATEST}; "
+                      "leave it out by columns=[..], or make it floats or texts", "table")
+    return _numbers(series)
+
+
+def _floats(series: Any) -> List[int]:
+    import numpy
+    values = series.to_numpy(dtype="float64", na_value=numpy.nan) + 0.0
+    bits = values.view("int64")
+    numbers = numpy.where(bits < 0, numpy.int64(LEAST) - bits, bits)
+    numbers[numpy.isnan(values)] = LEAST
+    return list(numbers.tolist())
+
+
+def _categories(series: Any, name: str) -> Tuple[Kind, Optional[List[int]]]:
+    categories = list(series.cat.categories)
+    if not all(isinstance(category, str) for category in categories):
+        return kind_of_values(name, series.tolist()), None
+    kind: Kind = Choices(categories) if series.cat.ordered else _text_kind(categories)
+    return kind, [code + 1 if code >= 0 else LEAST for code in series.cat.codes.tolist()]
+
+
+def _codes(series: Any, kind: Texts) -> List[int]:
+    import pandas
+    codes, texts = pandas.factorize(series)
+    for text in texts:
+        kind.encode(text)
+    return [code + 1 if code >= 0 else LEAST for code in codes.tolist()]
+
+
+def _text_kind(texts: Sequence[str]) -> Texts:
+    kind = Texts()
+    for text in texts:
+        kind.encode(text)
+    return kind
+
+
+def dataframe_of(answer: Any, label: Optional[Callable[[Record], Any]]) -> Any:
+    """An answer as a DataFrame."""
+    import pandas
+    index = pandas.Index([record.id if label is None else label(record) for record in answer], name=None if label is not None else "id")
+    found = pandas.DataFrame({".level": pandas.Series(answer.levels, index=index, dtype="int64" if None not in answer.levels else "Int64")}, index=index)
+    for column in answer.columns:
+        found[column.name] = _series([record[column.name] for record in answer], column, index)
+    return found
+
+
+def _series(values: List[Any], column: Column, index: Any) -> Any:
+    """The values of a column with the type that they had in pandas, or that pandas has for them."""
+    import pandas
+    dtype = column.dtype if column.dtype is not None else _dtype(values, column)
+    try:
+        return pandas.Series(values, index=index, dtype=dtype)
+    except (TypeError, ValueError, OverflowError):
+        return pandas.Series(values, index=index, dtype="object")
+
+
+def _dtype(values: List[Any], column: Column) -> str:
+    gaps = None in values
+    kind = column.kind
+    if isinstance(kind, Decimals) or isinstance(kind, Floats):
+        return "float64"
+    if isinstance(kind, Whole):
+        return "Int64" if gaps else "int64"
+    if isinstance(kind, Booleans):
+        return "boolean" if gaps else "bool"
+    if isinstance(kind, Dates) or isinstance(kind, Times) and kind.zone is None:
+        return "datetime64[ns]"
+    return "object"

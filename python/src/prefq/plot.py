@@ -1,0 +1,296 @@
+"""Pictures of an answer: its rows among the others, by two columns, and the front as a staircase."""
+import datetime
+import html
+import math
+import os
+from decimal import Decimal
+from typing import Any, Dict, List, NamedTuple, Optional, Sequence, Tuple, Union
+
+from .answer import Answer
+from .columns import Column
+from .errors import Refused
+from .hints import unknown_column
+from .kinds import Booleans, Choices, Texts
+from .questions import Base, Converse, Product, Question, Term, read_question
+
+WIDTH, HEIGHT = 720, 480
+LEFT, RIGHT, TOP, BOTTOM = 80, 150, 44, 56
+COLOURS = ("#1f6fb4", "#e07b1a", "#3a9a4b", "#b03a7a", "#7a5bb0", "#8a6d3b")
+GREY = "#b8bec6"
+
+
+class Axis(NamedTuple):
+    """A column as an axis: whether the question prefers its large values (None where it orders it in no such way)."""
+
+    column: Column
+    high: Optional[bool]
+
+
+class Point(NamedTuple):
+    """A row as a point."""
+
+    x: float
+    y: float
+    level: Optional[int]
+    id: Optional[int]
+    group: Tuple[Any, ...]
+
+
+class Drawing(NamedTuple):
+    """What is drawn."""
+
+    title: str
+    x: Axis
+    y: Axis
+    others: List[Point]
+    points: List[Point]
+    fronts: List[List[Tuple[float, float]]]
+
+
+class Picture:
+    """A picture as SVG, which a notebook shows.
+
+    >>> Picture("<svg></svg>")
+    <prefq.Picture of 11 characters>
+    """
+
+    def __init__(self, svg: str) -> None:
+        self.svg = svg
+
+    def __repr__(self) -> str:
+        return f"<prefq.Picture of {len(self.svg)} characters>"
+
+    def _repr_svg_(self) -> str:
+        return self.svg
+
+    def save(self, path: Union[str, "os.PathLike[str]"]) -> None:
+        """Writes the picture into a file."""
+        with open(path, "w", encoding="utf-8") as file:
+            file.write(self.svg)
+
+
+def drawing(answer: Answer, x: Optional[str], y: Optional[str]) -> Drawing:
+    """What is drawn of an answer."""
+    question = _question(answer)
+    ways = ways_of(question.term) if question else {}
+    across, along = (_axis(answer, name, ways) for name in _names(answer, x, y, ways))
+    groups = [column.name for column in question.by] if question else []
+    shown = [_point(record, across, along, groups) for record in answer]
+    points = [point for point in shown if point is not None]
+    ids = {record.id for record in answer}
+    behind = [_point(record, across, along, groups) for record in answer.all_records() if record.id not in ids]
+    fronts = _fronts(points, across, along) if question and is_of_two(question.term, across, along) else []
+    return Drawing(answer.question, across, along, [point for point in behind if point is not None], points, fronts)
+
+
+def _question(answer: Answer) -> Optional[Question]:
+    columns = {column.name: column for column in answer.columns}
+    try:
+        return read_question(answer.question, columns.get, answer.names, ("best", 1))
+    except Refused:
+        return None
+
+
+def ways_of(term: Term, turned: bool = False) -> Dict[str, bool]:
+    """The columns that a term orders by low or high, and whether it prefers large values."""
+    if isinstance(term, Converse):
+        return ways_of(term.part, not turned)
+    if isinstance(term, Product):
+        found: Dict[str, bool] = {}
+        for part in term.parts:
+            found = {**ways_of(part, turned), **found}
+        return found
+    return {term.column.name: (term.word == "high") != turned} if isinstance(term, Base) and term.word in ("low", "high") else {}
+
+
+def is_of_two(term: Term, across: Axis, along: Axis) -> bool:
+    """Whether a term is the product of low or high of these two columns, so that its front is a staircase."""
+    while isinstance(term, Converse):
+        term = term.part
+    if not isinstance(term, Product) or term.sign != "*" or len(term.parts) != 2:
+        return False
+    ways = ways_of(term)
+    return set(ways) == {across.column.name, along.column.name} and len(ways) == 2
+
+
+def _names(answer: Answer, x: Optional[str], y: Optional[str], ways: Dict[str, bool]) -> Tuple[str, str]:
+    for name in (x, y):
+        if name is not None and name not in answer.names:
+            raise Refused(unknown_column(name, answer.names), "arguments")
+    candidates = [name for name in answer.names if name in ways] + [column.name for column in answer.columns if column.kind.ordered and column.name not in ways]
+    candidates += [name for name in answer.names if name not in candidates]
+    free = [name for name in candidates if name not in (x, y)]
+    first = x if x is not None else free.pop(0)
+    return first, y if y is not None else (free.pop(0) if free else first)
+
+
+def _axis(answer: Answer, name: str, ways: Dict[str, bool]) -> Axis:
+    return Axis(next(column for column in answer.columns if column.name == name), ways.get(name))
+
+
+def _point(record: Any, across: Axis, along: Axis, groups: Sequence[str]) -> Optional[Point]:
+    x, y = (place_of(axis.column, record.get(axis.column.name)) for axis in (across, along))
+    if x is None or y is None:
+        return None
+    return Point(x, y, record.level, record.id, tuple(record.get(name) for name in groups))
+
+
+def place_of(column: Column, value: Any) -> Optional[float]:
+    """Where a value stands on an axis; None where it is missing or infinite."""
+    if value is None:
+        return None
+    if isinstance(value, datetime.datetime):
+        naive = value.astimezone(datetime.timezone.utc).replace(tzinfo=None) if value.tzinfo else value
+        return (naive - datetime.datetime(1970, 1, 1)) / datetime.timedelta(days=1)
+    if isinstance(value, datetime.date):
+        return float((value - datetime.date(1970, 1, 1)).days)
+    place = float(column.kind.encode(value)) if isinstance(column.kind, (Texts, Booleans)) else float(value)
+    return place if math.isfinite(place) else None
+
+
+def _fronts(points: List[Point], across: Axis, along: Axis) -> List[List[Tuple[float, float]]]:
+    """The staircase of the first level, in each group."""
+    groups: Dict[Tuple[Any, ...], List[Tuple[float, float]]] = {}
+    for point in points:
+        if point.level == 1:
+            groups.setdefault(point.group, []).append((point.x, point.y))
+    return [staircase(sorted(set(found)), bool(across.high)) for found in groups.values()]
+
+
+def staircase(points: List[Tuple[float, float]], high: bool) -> List[Tuple[float, float]]:
+    """The points with the corners between them: what lies behind the line is dominated."""
+    line: List[Tuple[float, float]] = []
+    for before, after in zip(points, points[1:]):
+        line += [before, (before[0], after[1]) if high else (after[0], before[1])]
+    return [*line, *points[-1:]]
+
+
+def plotted(answer: Answer, x: Optional[str], y: Optional[str], ax: Any) -> Any:
+    """The picture by matplotlib, or as SVG where that is not installed."""
+    try:
+        from matplotlib import pyplot
+    except ImportError:
+        return Picture(svg_of(answer, x, y))
+    what = drawing(answer, x, y)
+    if ax is None:
+        ax = pyplot.subplots()[1]
+    ax.scatter([point.x for point in what.others], [point.y for point in what.others], s=9, color=GREY, label="other rows" if what.others else None)
+    for level in _levels(what):
+        some = [point for point in what.points if point.level == level]
+        ax.scatter([point.x for point in some], [point.y for point in some], s=30, color=_colour(level), label=_name_of(level), zorder=3)
+    for line in what.fronts:
+        ax.plot([x for x, _ in line], [y for _, y in line], color=_colour(1), linewidth=1.2, zorder=2)
+    for axis, set_label, set_ticks, places in ((what.x, ax.set_xlabel, ax.set_xticks, [point.x for point in what.points + what.others]),
+                                               (what.y, ax.set_ylabel, ax.set_yticks, [point.y for point in what.points + what.others])):
+        set_label(label_of(axis))
+        ticks = ticks_of(axis.column, places)
+        set_ticks([place for place, _ in ticks], [text for _, text in ticks])
+    ax.set_title(what.title, fontsize=10)
+    ax.legend(loc="best", fontsize=8)
+    return ax
+
+
+def svg_of(answer: Answer, x: Optional[str], y: Optional[str]) -> str:
+    """The picture as SVG."""
+    what = drawing(answer, x, y)
+    every = what.points + what.others
+    xs, ys = Scale([point.x for point in every], LEFT, WIDTH - RIGHT), Scale([point.y for point in every], HEIGHT - BOTTOM, TOP)
+    parts = [f'<svg xmlns="http://www.w3.org/2000/svg" width="{WIDTH}" height="{HEIGHT}" viewBox="0 0 {WIDTH} {HEIGHT}" font-family="sans-serif" font-size="12">',
+             f'<rect width="{WIDTH}" height="{HEIGHT}" fill="white"/>', _text(LEFT, 22, what.title, size=14)]
+    parts += _svg_axes(what, xs, ys)
+    parts += [_circle(point, xs, ys, 2, GREY) for point in what.others]
+    for line in what.fronts:
+        places = " ".join(f"{xs.at(x):.1f},{ys.at(y):.1f}" for x, y in line)
+        parts.append(f'<polyline class="front" points="{places}" fill="none" stroke="{_colour(1)}" stroke-width="1.5"/>')
+    parts += [_circle(point, xs, ys, 4.5, _colour(point.level)) for point in reversed(what.points)]
+    return "\n".join([*parts, *_svg_legend(what), "</svg>\n"])
+
+
+class Scale:
+    """From places of values to places of a picture."""
+
+    def __init__(self, places: Sequence[float], begin: float, end: float) -> None:
+        self.low, self.high = (min(places), max(places)) if places else (0.0, 1.0)
+        if self.low == self.high:
+            self.low, self.high = self.low - 1, self.high + 1
+        self._begin, self._end = begin, end
+
+    def at(self, place: float) -> float:
+        part = (place - self.low) / (self.high - self.low)
+        return self._begin + (0.02 + 0.96 * part) * (self._end - self._begin)
+
+
+def _svg_axes(what: Drawing, xs: Scale, ys: Scale) -> List[str]:
+    left, bottom = LEFT, HEIGHT - BOTTOM
+    parts = [f'<path d="M{left} {TOP}V{bottom}H{WIDTH - RIGHT}" fill="none" stroke="#444"/>']
+    for place, text in ticks_of(what.x.column, [xs.low, xs.high]):
+        parts += [f'<path d="M{xs.at(place):.1f} {bottom}v5" stroke="#444"/>', _text(xs.at(place), bottom + 19, text, anchor="middle")]
+    for place, text in ticks_of(what.y.column, [ys.low, ys.high]):
+        parts += [f'<path d="M{left} {ys.at(place):.1f}h-5" stroke="#444"/>', _text(left - 8, ys.at(place) + 4, text, anchor="end")]
+    middle = (TOP + bottom) / 2
+    return [*parts, _text((left + WIDTH - RIGHT) / 2, HEIGHT - 12, label_of(what.x), anchor="middle"),
+            f'<text x="18" y="{middle}" text-anchor="middle" transform="rotate(-90 18 {middle})">{html.escape(label_of(what.y))}</text>']
+
+
+def _svg_legend(what: Drawing) -> List[str]:
+    rows = [(_colour(level), f"{_name_of(level)} ({sum(point.level == level for point in what.points)})") for level in _levels(what)]
+    rows += [(GREY, f"other rows ({len(what.others)})")] if what.others else []
+    parts = []
+    for place, (colour, text) in enumerate(rows[:20]):
+        y = TOP + 8 + 18 * place
+        parts += [f'<rect x="{WIDTH - RIGHT + 14}" y="{y - 5}" width="10" height="10" fill="{colour}"/>', _text(WIDTH - RIGHT + 30, y + 4, text)]
+    return parts
+
+
+def _circle(point: Point, xs: Scale, ys: Scale, radius: float, colour: str) -> str:
+    level = "" if point.level is None else f", level {point.level}"
+    return f'<circle cx="{xs.at(point.x):.1f}" cy="{ys.at(point.y):.1f}" r="{radius}" fill="{colour}"><title>id {point.id}{level}</title></circle>'
+
+
+def _text(x: float, y: float, text: str, anchor: str = "start", size: int = 12) -> str:
+    return f'<text x="{x:.1f}" y="{y:.1f}" text-anchor="{anchor}" font-size="{size}">{html.escape(text)}</text>'
+
+
+def _levels(what: Drawing) -> List[Optional[int]]:
+    return sorted({point.level for point in what.points}, key=lambda level: level or math.inf)
+
+
+def _colour(level: Optional[int]) -> str:
+    return "#555" if level is None else COLOURS[(level - 1) % len(COLOURS)]
+
+
+def _name_of(level: Optional[int]) -> str:
+    return "further levels" if level is None else f"level {level}"
+
+
+def label_of(axis: Axis) -> str:
+    """The label of an axis: its name, and which end is the better one."""
+    return axis.column.name + ("" if axis.high is None else " (more is better)" if axis.high else " (less is better)")
+
+
+def ticks_of(column: Column, places: Sequence[float]) -> List[Tuple[float, str]]:
+    """Where an axis has its marks, and what stands there."""
+    if not places:
+        return []
+    low, high = min(places), max(places)
+    if isinstance(column.kind, Booleans):
+        return [(float(value), column.kind.text(bool(value))) for value in (0, 1) if low <= value <= high]
+    if isinstance(column.kind, Texts):
+        texts = column.kind.texts
+        step = max(1, len(texts) // 8)
+        return [(float(code), text) for code, text in list(enumerate(texts, 1))[::step] if low <= code <= high]
+    marks = round_marks(low, high)
+    if column.kind.name in ("date", "time"):
+        return [(mark, (datetime.datetime(1970, 1, 1) + datetime.timedelta(days=mark)).strftime("%Y-%m-%d" if marks[-1] - marks[0] >= 2 else "%m-%d %H:%M"))
+                for mark in marks]
+    return [(mark, f"{mark:,.10g}") for mark in marks]
+
+
+def round_marks(low: float, high: float) -> List[float]:
+    """Some five round numbers between two."""
+    if not high > low:
+        return [low]
+    step = 10 ** math.floor(math.log10((high - low) / 5))
+    step *= next(times for times in (1, 2, 5, 10) if (high - low) / (step * times) <= 6)
+    first = math.ceil(low / step)
+    return [round(step * number, 12) for number in range(first, math.floor(high / step) + 1)]

@@ -1,0 +1,317 @@
+"""Questions in a file's own names and values: their tokens, and the tree that they spell.
+
+The grammar is that of docs/GUIDE.md. Beside it, a name may stand in double quotes or backticks, and a value may be a number with decimals, a date, true or
+false, or a text in quotes. Whatever is wrong is refused at its place, with what could stand there.
+"""
+import re
+from dataclasses import dataclass
+from typing import Callable, List, NamedTuple, NoReturn, Optional, Sequence, Tuple, Union
+
+from .columns import Column
+from .errors import Refused
+from .hints import hint_for, hint_for_mode, unknown_column
+
+UNEXPECTED, UNKNOWN_COLUMN, NUMBER_RANGE, TOO_DEEP, TOO_LONG, BAD_COUNT, NO_MIN_OR_MAX, EMPTY_RANGE = 1, 2, 3, 4, 5, 6, 7, 9
+DEEPEST = 64
+TERMS = "low(..), high(..), around(..), between(..), pos(..), layered(..), reverse(..), - or ("
+SIGNS = "* (both at once), & (the first decides)"
+TOKEN = re.compile(r"""(?P<blank>[ \t]+)
+    |(?P<name>"(?:[^"]|"")*"|`(?:[^`]|``)*`)
+    |(?P<text>'(?:[^']|'')*')
+    |(?P<date>\d{4}-\d\d-\d\d(?:T\d\d:\d\d(?::\d\d(?:\.\d+)?)?(?:Z|[+-]\d\d:?\d\d)?)?(?!\w))
+    |(?P<number>\d+(?:\.\d+)?(?:[eE][+-]?\d+(?!\w))?)
+    |(?P<word>[^\W\d][\w.]*)
+    |(?P<sign>[(),*&{}-])
+    |(?P<strange>.)""", re.VERBOSE | re.DOTALL)
+
+
+class Token(NamedTuple):
+    """A piece of a question: its kind, what it means, and where it stands, in characters."""
+
+    kind: str
+    text: str
+    place: int
+    length: int
+
+    def is_name(self) -> bool:
+        return self.kind in ("word", "name", "text")
+
+
+class Value(NamedTuple):
+    """A value of a question as it is written, without its quotes."""
+
+    text: str
+    place: int
+
+
+@dataclass(frozen=True)
+class Base:
+    """A base term: its word, its column, and its values in sets (one for each but layered)."""
+
+    word: str
+    column: Column
+    sets: Tuple[Tuple[Value, ...], ...]
+    place: int
+
+
+@dataclass(frozen=True)
+class Product:
+    """Terms of which all count (`*`), or of which the first that sees a difference decides (`&`)."""
+
+    sign: str
+    parts: Tuple["Term", ...]
+
+
+@dataclass(frozen=True)
+class Converse:
+    """A term the other way round."""
+
+    part: "Term"
+
+
+Term = Union[Base, Product, Converse]
+# best, top_level or at_least, and its count, which is 1 for best.
+Mode = Tuple[str, int]
+
+
+@dataclass(frozen=True)
+class Question:
+    """A question: its mode with a count where it has one, its term, its groups; and whether of equal rows one is kept."""
+
+    mode: str
+    count: int
+    term: Term
+    by: Tuple[Column, ...]
+    distinct: bool = False
+
+
+def refuse(question: str, place: int, message: str, number: int = UNEXPECTED) -> NoReturn:
+    """Refuses a question at a character of it."""
+    raise Refused(message, "term", number, len(question[:place].encode(errors="replace")), question)
+
+
+def tokens_of(question: str) -> List[Token]:
+    """The tokens of a question, and one for its end."""
+    tokens = []
+    for found in TOKEN.finditer(question):
+        kind, text = found.lastgroup or "", found[0]
+        if kind in ("name", "text"):
+            text = text[1:-1].replace(text[0] * 2, text[0])
+        if kind != "blank":
+            tokens.append(Token(kind, text, found.start(), len(found[0])))
+    return [*tokens, Token("end", "", len(question), 0)]
+
+
+def read_question(question: str, column: Callable[[str], Optional[Column]], names: Sequence[str], mode: Optional[Mode] = None) -> Question:
+    """The tree of a question. Where a mode is given, the question may do without one."""
+    if not isinstance(question, str):
+        raise TypeError(f"a question is a text, not {question!r}")
+    return Reader(question, column, names).question(mode)
+
+
+class Reader:
+    """Reads a question from the left."""
+
+    def __init__(self, question: str, column: Callable[[str], Optional[Column]], names: Sequence[str]) -> None:
+        self._question, self._column, self._names = question, column, names
+        self._tokens = tokens_of(question)
+        self._at = 0
+        self._depth = 0
+
+    @property
+    def _next(self) -> Token:
+        return self._tokens[self._at]
+
+    def _ahead(self, steps: int) -> Token:
+        return self._tokens[min(self._at + steps, len(self._tokens) - 1)]
+
+    def _take(self) -> Token:
+        token = self._next
+        self._at += token.kind != "end"
+        return token
+
+    def _takes(self, sign: str) -> bool:
+        """Takes this sign, if it is next."""
+        if (self._next.kind, self._next.text) != ("sign", sign):
+            return False
+        self._at += 1
+        return True
+
+    def _takes_word(self, *words: str) -> Optional[str]:
+        """Takes one of these words, in any case, if it is next."""
+        if self._next.kind != "word" or self._next.text.lower() not in words:
+            return None
+        return self._take().text.lower()
+
+    def _unexpected(self, could: str) -> NoReturn:
+        token = self._next
+        if token.kind == "strange" and token.text in "\"'`":
+            refuse(self._question, token.place, f"the quote {token.text} is not closed")
+        found = "the question breaks off" if token.kind == "end" else f"unexpected {self._question[token.place:token.place + token.length]}"
+        hint = hint_for(token.kind, token.text, could, self._names)
+        refuse(self._question, token.place, f"{found}; here could stand {could}" + (f". {hint}" if hint else ""))
+
+    def _need(self, sign: str) -> None:
+        if not self._takes(sign):
+            self._unexpected({")": "a )", "(": "a (", ",": "a ,", "{": "a {", "}": "a , or a }"}[sign])
+
+    def question(self, mode: Optional[Mode]) -> Question:
+        if self._next.kind == "word" and self._next.text.lower() == "skyline" and self._ahead(1).text.lower() == "of":
+            self._at += 2
+            return self._clause()
+        name, count = self._mode(mode)
+        term = self._prior()
+        by = self._columns() if self._takes_by() else ()
+        if self._next.kind != "end":
+            self._unexpected("a , or the end" if by else f"{SIGNS}, by or the end")
+        return Question(name, count, term, by)
+
+    def _mode(self, mode: Optional[Mode]) -> Mode:
+        word = self._next.text if self._next.kind == "word" else ""
+        if word in ("best", "top_level", "at_least"):
+            self._at += 1
+            return word, 1 if word == "best" else self._count()
+        if mode is None:
+            hint = hint_for_mode(self._question, self._next.kind, self._next.text, self._names)
+            refuse(self._question, self._next.place, f"a question begins with best, top_level K, at_least K or skyline of{hint}")
+        return mode
+
+    def _takes_by(self) -> bool:
+        if self._next.kind == "word" and self._next.text == "by":
+            self._at += 1
+            return True
+        return False
+
+    def _count(self) -> int:
+        token = self._next
+        if token.kind != "number" or not token.text.isdigit():
+            self._unexpected("a count from 1 to 1000")
+        if not 1 <= int(token.text) <= 1000:
+            refuse(self._question, token.place, f"the count is {token.text}", BAD_COUNT)
+        self._at += 1
+        return int(token.text)
+
+    def _columns(self) -> Tuple[Column, ...]:
+        found = [self._name()]
+        while self._takes(","):
+            found.append(self._name())
+        return tuple(found)
+
+    def _name(self) -> Column:
+        token = self._next
+        if not token.is_name():
+            self._unexpected("the name of a column")
+        column = self._column(token.text)
+        if column is None:
+            refuse(self._question, token.place, unknown_column(token.text, self._names), UNKNOWN_COLUMN)
+        self._at += 1
+        return column
+
+    def _prior(self) -> Term:
+        return self._product("&", lambda: self._product("*", self._unary))
+
+    def _product(self, sign: str, part: Callable[[], Term]) -> Term:
+        parts = [part()]
+        while self._takes(sign):
+            parts.append(part())
+        return parts[0] if len(parts) == 1 else Product(sign, tuple(parts))
+
+    def _unary(self) -> Term:
+        token = self._next
+        if self._takes("-"):
+            self._deeper(token)
+            term: Term = Converse(self._unary())
+            self._depth -= 1
+            return term
+        if (token.kind, token.text) == ("sign", "("):
+            return self._inside()
+        if token.kind == "word" and token.text == "reverse":
+            self._at += 1
+            return Converse(self._inside())
+        return self._base()
+
+    def _inside(self) -> Term:
+        token = self._next
+        self._need("(")
+        self._deeper(token)
+        term = self._prior()
+        if not self._takes(")"):
+            self._unexpected(f"{SIGNS} or a )")
+        self._depth -= 1
+        return term
+
+    def _deeper(self, token: Token) -> None:
+        self._depth += 1
+        if self._depth > DEEPEST:
+            refuse(self._question, token.place, f"more than {DEEPEST} nestings", TOO_DEEP)
+
+    def _base(self) -> Base:
+        token = self._next
+        if token.kind != "word" or token.text not in ("low", "high", "around", "between", "pos", "layered"):
+            self._unexpected(TERMS)
+        self._at += 1
+        self._need("(")
+        column = self._name()
+        sets: Tuple[Tuple[Value, ...], ...] = ()
+        if token.text in ("around", "between"):
+            values = []
+            for _ in range(1 if token.text == "around" else 2):
+                self._need(",")
+                values.append(self._value(column))
+            sets = (tuple(values),)
+        elif token.text == "pos":
+            self._need(",")
+            sets = (self._values(column),)
+        elif token.text == "layered":
+            sets = self._sets(column)
+        self._need(")")
+        return Base(token.text, column, sets, token.place)
+
+    def _sets(self, column: Column) -> Tuple[Tuple[Value, ...], ...]:
+        sets = []
+        self._need(",")
+        while True:
+            self._need("{")
+            sets.append(self._values(column))
+            self._need("}")
+            if not self._takes(","):
+                return tuple(sets)
+
+    def _values(self, column: Column) -> Tuple[Value, ...]:
+        values = [self._value(column)]
+        while self._takes(","):
+            values.append(self._value(column))
+        return tuple(values)
+
+    def _value(self, column: Column) -> Value:
+        place = self._next.place
+        sign = "-" if self._takes("-") else ""
+        token = self._next
+        good = token.kind == "number" if sign else token.kind in ("number", "date", "text", "name")
+        if not good and not (token.kind == "word" and column.kind.name == "bool" and not sign):
+            self._unexpected(f"a value of {column.name!r}, such as {column.kind.example}")
+        self._at += 1
+        return Value(sign + token.text, place)
+
+    def _clause(self) -> Question:
+        distinct = (self._next.kind, self._next.text.lower()) == ("word", "distinct") and self._ahead(1).is_name() and self._ahead(2).kind == "word"
+        self._at += distinct
+        parts: List[Term] = []
+        by: List[Column] = []
+        while True:
+            place = self._next.place
+            column = self._name()
+            way = self._takes_word("min", "max", "diff")
+            if way is None:
+                self._unexpected("min, max or diff")
+            if way == "diff":
+                by.append(column)
+            else:
+                parts.append(Base("low" if way == "min" else "high", column, (), place))
+            if not self._takes(","):
+                break
+        if self._next.kind != "end":
+            self._unexpected("a , or the end")
+        if not parts:
+            refuse(self._question, 0, "the clause has no min or max", NO_MIN_OR_MAX)
+        return Question("best", 1, parts[0] if len(parts) == 1 else Product("*", tuple(parts)), tuple(by), distinct)

@@ -1,0 +1,71 @@
+"""Reads a file of comma-separated values as a spreadsheet writes it."""
+import csv
+import io
+import os
+from typing import Any, Iterable, List, NamedTuple, Optional, TextIO, Tuple, Union
+
+from .errors import Refused
+
+DELIMITERS = ",;\t|"
+Source = Union[str, "os.PathLike[str]", TextIO]
+
+
+class Cells(NamedTuple):
+    """The names of a file, its rows as texts, and the line of each."""
+
+    names: List[str]
+    rows: List[List[str]]
+
+
+def read_csv(source: Source, encoding: str = "utf-8-sig", delimiter: Optional[str] = None) -> Cells:
+    """The cells of a file, or of an open one. Without a delimiter it takes the one of , ; tab | that stands most often in the first line."""
+    if not isinstance(source, (str, os.PathLike)):
+        return cells_of(source.read(), "the file", delimiter)
+    try:
+        with open(source, newline="", encoding=encoding) as file:
+            return cells_of(file.read(), str(source), delimiter)
+    except UnicodeDecodeError as why:
+        raise Refused(f"{source} is not {encoding.replace('-sig', '')} (byte {why.start}): give its encoding, such as encoding='cp1252'", "table") from None
+
+
+def cells_of(text: str, what: str, delimiter: Optional[str]) -> Cells:
+    """The cells of a text."""
+    reader = csv.reader(io.StringIO(text.lstrip("\ufeff"), newline=""), delimiter=delimiter or delimiter_of(text), strict=True)
+    try:
+        names = names_of(next(reader, []), what)
+        rows = []
+        for row in reader:
+            if len(row) == len(names):
+                rows.append(row)
+            elif row:
+                raise Refused(f"{what}, line {reader.line_num}: it has {len(row)} cells, and the first line has {len(names)} names", "table")
+    except csv.Error as why:
+        raise Refused(f"{what}, line {reader.line_num}: {why}", "table") from None
+    return Cells(names, rows)
+
+
+def delimiter_of(text: str) -> str:
+    """The delimiter that cuts the first line into most cells."""
+    first = text.split("\n", 1)[0]
+    return max(DELIMITERS, key=lambda sign: len(next(csv.reader([first], delimiter=sign), [])))
+
+
+def names_of(cells: List[str], what: str) -> List[str]:
+    """The names of the columns. A column without one is called after its place, as `column 1`."""
+    if not cells:
+        raise Refused(f"{what} is empty: its first line has the names of the columns", "table")
+    names = [cell.strip() or f"column {place}" for place, cell in enumerate(cells, 1)]
+    check_names(names)
+    return names
+
+
+def check_names(names: Iterable[Any]) -> Tuple[str, ...]:
+    """The names, if each is a text and no two are the same."""
+    seen: List[str] = []
+    for name in names:
+        if not isinstance(name, str):
+            raise TypeError(f"{name!r} is no name of a column: a name is a text")
+        if name in seen:
+            raise Refused(f"two columns are called {name!r}", "table")
+        seen.append(name)
+    return tuple(seen)

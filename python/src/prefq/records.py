@@ -1,0 +1,71 @@
+"""Rows as mappings."""
+import dataclasses
+from collections.abc import Mapping, Sequence
+from typing import Any, Dict, List, Optional, Tuple
+
+from .columns import Column
+from .errors import Refused
+from .hints import unknown_column
+
+
+class Record(Dict[str, Any]):
+    """A row: a mapping from the names of the columns to its values, with its `id`, and its `level` where it is a row of an answer.
+
+    A name that is a word is an attribute too.
+
+    >>> from prefq import Record
+    >>> row = Record({"City": "Lyon", "Price (EUR)": 60}, id=3, level=1)
+    >>> row["Price (EUR)"], row.City, row.id, row.level
+    (60, 'Lyon', 3, 1)
+    """
+
+    __slots__ = ("id", "level")
+
+    def __init__(self, values: Any = (), *, id: Optional[int] = None, level: Optional[int] = None) -> None:
+        super().__init__(values)
+        self.id = id
+        self.level = level
+
+    def __getattr__(self, name: str) -> Any:
+        try:
+            return self[name]
+        except KeyError:
+            raise AttributeError(unknown_column(name, list(self))) from None
+
+    def __repr__(self) -> str:
+        level = "" if self.level is None else f"level {self.level} "
+        return f"<{level}id {self.id}: {dict(self)!r}>"
+
+    def __reduce__(self) -> Any:
+        return _record, (dict(self), self.id, self.level)
+
+
+def _record(values: Dict[str, Any], id: Optional[int], level: Optional[int]) -> Record:
+    return Record(values, id=id, level=level)
+
+
+def mapping_of(record: Any) -> Optional[Dict[str, Any]]:
+    """What is a mapping, a named tuple or a data class, as a mapping; None for another thing."""
+    if isinstance(record, Mapping):
+        return dict(record)
+    if isinstance(record, tuple) and hasattr(record, "_asdict"):
+        return dict(record._asdict())
+    if dataclasses.is_dataclass(record) and not isinstance(record, type):
+        return {field.name: getattr(record, field.name) for field in dataclasses.fields(record)}
+    return None
+
+
+def values_of(record: Any, columns: Tuple[Column, ...]) -> List[Any]:
+    """The values of a record in the order of the columns, None where it has none. A plain list has one value for each column."""
+    names = [column.name for column in columns]
+    found = mapping_of(record)
+    if found is not None:
+        for name in found:
+            if name not in names:
+                raise Refused(unknown_column(str(name), names), "table")
+        return [found.get(name) for name in names]
+    if not isinstance(record, Sequence) or isinstance(record, (str, bytes)):
+        raise TypeError(f"a record is a mapping or a list of values, not {record!r}")
+    if len(record) != len(names):
+        raise Refused(f"a row of {len(record)} values, where there are {len(names)} columns: {', '.join(names)}", "table")
+    return list(record)

@@ -1,0 +1,74 @@
+"""`psel`: the preferred rows of a DataFrame, a frame or records, as rPref's function of this name selects them."""
+from typing import Any, Callable, Dict, List, Mapping, Optional, Sequence, Tuple
+
+from .checks import whole
+from .columns import Column
+from .errors import Refused
+from .frame import Frame, warn_of, without_twins
+from .once import Progress, ask_once
+from .questions import Mode, read_question
+from .rows import Row
+from .translate import columns_in, plan
+
+
+def psel(frame: Any, text: str, *, top_level: Optional[int] = None, at_least: Optional[int] = None, kinds: Optional[Mapping[str, str]] = None,
+         **options: Any) -> Any:
+    """The rows that a preference prefers: the best ones, the levels 1 to `top_level`, or whole levels until there are `at_least` so many rows.
+
+    The text is that of rPref, without a mode, as in "low(`price eur`) * low(dist)"; it may end in `by city`. A question with a mode is taken too. Only the
+    columns that it names are looked at. Of a DataFrame of pandas the rows come back as they are, in a DataFrame with the column `.level` in front; of a
+    Frame or of records as an Answer.
+
+    >>> import prefq
+    >>> prefq.psel([{"price": 60, "dist": 2.5}, {"price": 50, "dist": 3}, {"price": 70, "dist": 2.5}], "low(price) * low(dist)")
+    level  id  price  dist
+        1   1     60   2.5
+        1   2     50     3
+    """
+    mode = mode_of(top_level, at_least)
+    if isinstance(frame, Frame):
+        return frame.answer(text, mode)
+    if hasattr(frame, "iloc") and hasattr(frame, "columns"):
+        return _of_dataframe(frame, text, mode, kinds, options)
+    with Frame.from_records(frame, kinds=kinds, **options) as opened:
+        return opened.answer(text, mode)
+
+
+def mode_of(top_level: Optional[int], at_least: Optional[int]) -> Mode:
+    """The mode for a text without one."""
+    if top_level is not None and at_least is not None:
+        raise Refused("top_level and at_least do not go together", "arguments")
+    if top_level is not None:
+        return "top_level", whole(top_level, "top_level", 1, 1000)
+    return ("best", 1) if at_least is None else ("at_least", whole(at_least, "at_least", 1, 1000))
+
+
+def _of_dataframe(dataframe: Any, text: str, mode: Mode, kinds: Optional[Mapping[str, str]], options: Dict[str, Any]) -> Any:
+    from .pandas_frames import encoded_series
+    rows = selected(text, mode, list(dataframe.columns), lambda name: encoded_series(dataframe[name], name, kinds), **options)
+    found = dataframe.iloc[[row.id - 1 for row in rows]].copy()
+    found.insert(0, ".level", [row.level for row in rows])
+    return found
+
+
+def selected(text: str, mode: Optional[Mode], names: Sequence[Any], load: Callable[[str], Tuple[Column, List[int]]], *,
+             progress: Optional[Progress] = None, **options: Any) -> List[Row]:
+    """The rows of an answer over the columns that the question names, of which `load` returns each with its numbers. The first row has the id 1."""
+    loaded: Dict[str, Tuple[Column, List[int]]] = {}
+
+    def column(name: str) -> Optional[Column]:
+        if name in names and name not in loaded:
+            loaded[name] = load(name)
+        return loaded[name][0] if name in loaded else None
+
+    question = read_question(text, column, [name for name in names if isinstance(name, str)], mode)
+    columns = columns_in(question)
+    below = {id(column): f"c{place}" for place, column in enumerate(columns)}
+    asked = plan(text, question, below)
+    rows = list(zip(*(loaded[column.name][1] for column in columns)))
+    try:
+        answer = ask_once(list(below.values()), rows, asked.text, progress=progress, **options)
+    except Refused as why:
+        raise asked.refusal(why) from None
+    warn_of(asked)
+    return without_twins(answer, asked)

@@ -1,0 +1,237 @@
+"""A question over the columns of a frame, as the question that the table below is asked.
+
+A value stands in the table as a whole number, and a missing one as `LEAST`. It never wins:
+
+- `high(x)` puts the least number last as it is. `low(x)` becomes `(-pos(x, LEAST) & low(x))`, so that the rows that have a value come first, and so on for
+  around and between. It is never compared as a number.
+- By pos and layered it counts as a value in no set.
+- The converse turns the order of the values round, and not what is said above: it is brought down to the base terms (that of a product is the product of
+  the converses), and there it has a missing value last again; of pos and layered, with the values that it likes least.
+
+Numbers of around and between may lie between two numbers of the table (`around(Stars, 3.5)`): the distances are then compared as they are.
+"""
+import math
+from dataclasses import dataclass
+from fractions import Fraction
+from typing import Dict, Iterable, List, NamedTuple, Optional, Sequence, Tuple
+
+from .columns import Column, quoted
+from .errors import Refused
+from .hints import nearest
+from .kinds import GREATEST, LEAST, Floats, Texts
+from .questions import EMPTY_RANGE, UNEXPECTED, Base, Converse, Product, Question, Term, Value, refuse
+
+
+class Piece(NamedTuple):
+    """A piece of the text below, and the character of the user's question to which it belongs."""
+
+    text: str
+    place: int
+
+
+@dataclass(frozen=True)
+class Plan:
+    """What the table below is asked. Of rows that are equal in the columns `twins`, only the first is in the answer, where it is given."""
+
+    question: str
+    pieces: Tuple[Piece, ...]
+    by: Tuple[str, ...]
+    twins: Optional[Tuple[str, ...]]
+    unknown: Tuple[str, ...]
+
+    @property
+    def text(self) -> str:
+        """The question for the table."""
+        return "".join(piece.text for piece in self.pieces)
+
+    def refusal(self, why: Refused) -> Refused:
+        """The table's refusal of the text below, at its place in the user's question."""
+        if why.kind != "term":
+            return why
+        place, length = 0, 0
+        for piece in self.pieces:
+            length += len(piece.text)
+            if why.place is None or length > why.place:
+                place = piece.place
+                break
+        at = None if why.place is None else len(self.question[:place].encode(errors="replace"))
+        return Refused(str(why.args[0]).split(" at ")[0], "term", why.number, at, self.question)
+
+
+def terms_columns(term: Term) -> List[Column]:
+    """The columns of a term, each once, in the order in which they stand there."""
+    if isinstance(term, Base):
+        return [term.column]
+    parts = (term.part,) if isinstance(term, Converse) else term.parts
+    return different(column for part in parts for column in terms_columns(part))
+
+
+def columns_in(question: Question) -> List[Column]:
+    """The columns of a question, each once, those of its groups last."""
+    return different([*terms_columns(question.term), *question.by])
+
+
+def different(columns: Iterable[Column]) -> List[Column]:
+    """Each column once."""
+    return list({id(column): column for column in columns}.values())
+
+
+def plan(text: str, question: Question, names: Dict[int, str], pair: Optional[str] = None) -> Plan:
+    """The plan of a question whose columns have these names in the table below, by their identity. With a `pair`, its groups are the rows of a pair."""
+    return Translator(text, names).plan(question, pair)
+
+
+class Translator:
+    """Writes the text below."""
+
+    def __init__(self, text: str, names: Dict[int, str]) -> None:
+        self._text, self._names = text, names
+        self._pieces: List[Piece] = []
+        self._unknown: List[str] = []
+
+    def plan(self, question: Question, pair: Optional[str]) -> Plan:
+        by = tuple(self._name(column) for column in question.by)
+        clause = clause_of(question.term) if question.distinct else []
+        twins = tuple(self._name(base.column) for base in clause) + by if question.distinct else None
+        if question.distinct and pair is None and not any(base.word == "low" and base.column.has_gaps for base in clause):
+            dims = [f"{self._name(base.column)} {'min' if base.word == 'low' else 'max'}" for base in clause] + [f"{name} diff" for name in by]
+            for base in clause:
+                self._orders(base)
+            self._put("skyline of distinct " + ", ".join(dims), 0)
+            twins = None
+        else:
+            self._put(f"{question.mode} {question.count} " if question.mode != "best" and pair is None else "best ", 0)
+            self._write(question.term, False)
+            groups = by if pair is None else (pair,)
+            if groups:
+                self._put(" by " + ", ".join(groups), len(self._text))
+        return Plan(self._text, tuple(self._pieces), by, twins, tuple(self._unknown))
+
+    def _put(self, text: str, place: int) -> None:
+        self._pieces.append(Piece(text, place))
+
+    def _name(self, column: Column) -> str:
+        return self._names[id(column)]
+
+    def _write(self, term: Term, turned: bool, around: str = "") -> None:
+        """Writes a term, or its converse where it is `turned`, as a part of a product with the sign `around`, or of none."""
+        if isinstance(term, Converse):
+            self._write(term.part, not turned, around)
+            return
+        start = len(self._pieces)
+        if isinstance(term, Product):
+            sign = term.sign
+            for number, part in enumerate(term.parts):
+                self._put(f" {sign} " if number else "", self._pieces[-1].place)
+                self._write(part, turned, sign)
+        else:
+            sign = "&"
+            texts = self._base(term, turned)
+            self._put(f" {sign} ".join(texts), term.place)
+            if len(texts) == 1:
+                return
+        if around == "*" or around == sign:
+            self._pieces.insert(start, Piece("(", self._pieces[start].place))
+            self._put(")", self._pieces[-1].place)
+
+    def _base(self, base: Base, turned: bool) -> List[str]:
+        """A base term, or its converse, as terms of which the first that sees a difference decides."""
+        name = self._name(base.column)
+        if base.word in ("low", "high"):
+            self._orders(base)
+            if (base.word == "low") == turned:
+                return [f"high({name})"]
+            return [*self._present(base.column), f"low({name})"]
+        if base.word in ("around", "between"):
+            parts = distances(name, *self._range(base))
+            return [*self._present(base.column), *(f"-{part}" if turned else part for part in parts)]
+        return [self._sets(base, turned)]
+
+    def _present(self, column: Column) -> List[str]:
+        """The term by which rows that have a value are better."""
+        return [f"-pos({self._name(column)}, {LEAST})"] if column.has_gaps else []
+
+    def _orders(self, base: Base) -> None:
+        column = base.column
+        if not column.kind.ordered:
+            why = f" ({column.oddity})" if column.oddity else ""
+            refuse(self._text, base.place, f"column {column.name!r} has texts{why}, which have no order: "
+                   "prefer some of them by pos(..) or layered(..), or give it the kind 'choice(first, second, ..)'")
+
+    def _range(self, base: Base) -> Tuple[Fraction, Fraction]:
+        column = base.column
+        if not column.kind.measured:
+            if isinstance(column.kind, Floats):
+                refuse(self._text, base.place, f"column {column.name!r} has floats, between which a distance is not exact: "
+                       f"{base.word}(..) needs a scale, as kinds={{{column.name!r}: 'decimal(2)'}} gives it")
+            why = f" ({column.oddity})" if column.oddity else ""
+            refuse(self._text, base.place, f"column {column.name!r} has the kind {column.kind}{why}, which has no distances for {base.word}(..)")
+        ends = [self._position(column, value) for value in base.sets[0]]
+        if ends[0] > ends[-1]:
+            refuse(self._text, base.sets[0][-1].place, "empty range", EMPTY_RANGE)
+        return ends[0], ends[-1]
+
+    def _position(self, column: Column, value: Value) -> Fraction:
+        try:
+            return column.kind.position(value.text)
+        except (TypeError, ValueError) as why:
+            refuse(self._text, value.place, f"column {column.name!r} ({column.kind}): {why}", UNEXPECTED)
+
+    def _sets(self, base: Base, turned: bool) -> str:
+        """pos, layered, or the converse. Values that no row can have are left out."""
+        name = self._name(base.column)
+        sets = [self._found(base.column, values) for values in base.sets]
+        if turned and base.column.has_gaps:
+            sets[0].append(LEAST)
+        sets = [numbers for numbers in sets if numbers]
+        if not sets:
+            return f"between({name}, {LEAST}, {GREATEST})"
+        lists = [", ".join(map(str, numbers)) for numbers in sets]
+        term = f"pos({name}, {lists[0]})" if len(lists) == 1 else f"layered({name}, {', '.join(f'{{{numbers}}}' for numbers in lists)})"
+        return f"-{term}" if turned else term
+
+    def _found(self, column: Column, values: Sequence[Value]) -> List[int]:
+        numbers: Dict[int, None] = {}
+        for value in values:
+            try:
+                number = column.kind.find(value.text)
+            except (TypeError, ValueError) as why:
+                refuse(self._text, value.place, f"column {column.name!r} ({column.kind}): {why}")
+            if number is not None:
+                numbers[number] = None
+            else:
+                self._unknown.append(unknown_value(column, value.text))
+        return list(numbers)
+
+
+def clause_of(term: Term) -> List[Base]:
+    """The min and max columns of a skyline clause."""
+    parts = term.parts if isinstance(term, Product) else (term,)
+    return [part for part in parts if isinstance(part, Base)]
+
+
+def distances(name: str, low: Fraction, high: Fraction) -> List[str]:
+    """Terms that compare how far a whole number of this column lies from a range, whose ends may lie between two whole numbers."""
+    first, last = math.ceil(low), math.floor(high)
+    if first > last:
+        # Nothing lies in the range, and one end of it is perhaps nearer to its neighbour.
+        first, last = last, first
+        below, above = low - first, last - high
+        nearer = [] if below == above else [f"low({name})" if below < above else f"high({name})"]
+    else:
+        # What lies outside is nearer by these parts than by its distance to the whole numbers inside.
+        below, above = first - low, high - last
+        nearer = [] if below == above else [between(name, LEAST, last) if below > above else between(name, first, GREATEST)]
+    return [between(name, first, last), *nearer]
+
+
+def between(name: str, first: int, last: int) -> str:
+    """The term for a range, of which only what a column can have matters."""
+    ends = [min(max(end, LEAST), GREATEST) for end in (first, last)]
+    return f"between({name}, {ends[0]}, {ends[1]})"
+
+
+def unknown_value(column: Column, text: str) -> str:
+    """What is said of a value that no row has."""
+    near = nearest(text, column.kind.texts) if isinstance(column.kind, Texts) else None
+    return f"no row of {column.name!r} has {quoted(text)}" + (f"; did you mean {quoted(near)}?" if near is not None else "")
