@@ -25,7 +25,8 @@ from dataclasses import dataclass
 from pathlib import Path
 
 TOP = Path(__file__).resolve().parent.parent
-DOCUMENTS = [TOP / "README.md", *sorted(TOP.glob("docs/*.md"))]
+# What PYTHON.md shows is run by python/tests/test_documents.py.
+DOCUMENTS = [TOP / "README.md", *sorted(document for document in TOP.glob("docs/*.md") if document.name != "PYTHON.md")]
 BLOCK = r"^```(?P<kind>\w+)(?P<rest>[^\n]*)\n(?P<text>.*?)^```$"
 ASKED = r"^\| `(?P<question>[^`]+)` \|[^|\n]*\| (?P<ids>\d[\d, /]*) \|$"
 SLIP = r"^\| `(?P<slip>as [^`]+)` \| `(?P<says>refused[^`]+)` \| `(?P<right>as [^`]+)` \|"

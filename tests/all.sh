@@ -4,7 +4,8 @@
 #
 #     tests/all.sh
 #
-# Needs the Rattle kit, a C compiler and Python 3.9, on Linux. Leaves nothing behind but the folders out/, which git ignores.
+# Needs the Rattle kit, a C compiler and Python 3.9, on Linux. Tests of the Python package that need pandas, matplotlib, dask or Chromium are skipped, with
+# a line that says so, where these are not installed. Leaves nothing behind but the folders out/, which git ignores.
 set -uo pipefail
 cd "$(dirname "$0")/.."
 export PYTHONDONTWRITEBYTECODE=1
@@ -66,6 +67,7 @@ check python3 examples/check.py
 check python3 tests/scripts.py
 check python3 tests/model/compare.py
 check python3 tests/live.py
+check python/tests/run.sh
 check python3 examples/parts/parts.py crates/prefq/out/prefq --check 120000
 check python3 tests/arguments.py
 check tests/faults_of_the_program.sh

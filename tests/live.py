@@ -188,13 +188,12 @@ def from_python(program):
     """What examples/live/README.md shows is printed, and the dashboard writes its pictures."""
     folder = TOP / "examples/live"
     blocks = dict(re.findall(r"^```(python|text)\n(.*?)^```$", (folder / "README.md").read_text(), re.MULTILINE | re.DOTALL))
-    code = blocks["python"].replace("crates/prefq/out/prefq", program)
-    setting = {**os.environ, "PYTHONPATH": str(folder), "PYTHONDONTWRITEBYTECODE": "1"}
-    done = subprocess.run([sys.executable, "-c", code], env=setting, capture_output=True, text=True, timeout=60)
+    setting = {**os.environ, "PYTHONPATH": str(TOP / "python/src"), "PREFQ_PROGRAM": program, "PYTHONDONTWRITEBYTECODE": "1"}
+    done = subprocess.run([sys.executable, "-c", blocks["python"]], env=setting, capture_output=True, text=True, timeout=60)
     if done.stdout + done.stderr != blocks["text"]:
         yield f"examples/live/README.md shows something else than {done.stdout + done.stderr}"
     with tempfile.TemporaryDirectory() as room:
-        done = subprocess.run([sys.executable, folder / "dashboard.py", program, room], env=setting, capture_output=True, text=True, timeout=60)
+        done = subprocess.run([sys.executable, folder / "dashboard.py", room], env=setting, capture_output=True, text=True, timeout=60)
         if done.returncode != 0 or len(done.stdout.splitlines()) != 5 or len(list(Path(room).glob("picture-*.svg"))) != 5:
             yield f"the dashboard says {done.stdout + done.stderr}"
 

@@ -1,6 +1,7 @@
 #!/usr/bin/env bash
 # The quick checks, for every change before the long ones: the layout of the files, the list of definitions, each test without its proof, the
-# stored run, the scripts, the examples and what the documents show. Nothing is proved.
+# stored run, the scripts, the examples and what the documents show. Nothing is proved. The tests of the Python package run too, where the program
+# is built or PREFQ_PROGRAM names one.
 #
 #     tests/quick.sh
 #
@@ -23,13 +24,14 @@ start() { # name, command..
     } &
 }
 
-# Shows what each check that failed said, and counts.
+# Shows what each check that failed said, and what one skipped, and counts.
 report() {
     local number passed=0 failed=()
     for number in "${!names[@]}"; do
         if [ "$(cat "$room/status.$number")" = 0 ]; then
             passed=$((passed + 1))
             echo "passed: ${names[$number]}"
+            grep '^skipped: ' "$room/said.$number"
         else
             cat "$room/said.$number"
             failed+=("${names[$number]}")
@@ -80,10 +82,20 @@ scripts() {
     cd crates/prefq && rt try --cases "$room/cases"
 }
 
+# The tests of the Python package, on a program that is there already: none is kept by `rt try`.
+python_package() {
+    if [ -n "${PREFQ_PROGRAM:-}" ] || [ -x crates/prefq/out/prefq ]; then
+        python/tests/run.sh
+    else
+        echo "skipped: the tests of the Python package, since crates/prefq/out/prefq is not built and PREFQ_PROGRAM names no other"
+    fi
+}
+
 # The longest first.
 start 'stored run, scripts, examples, documents' scripts
 start 'all tests, not proved' tests
 start 'layout of the files' layout
 start 'list of definitions' python3 tests/definitions.py
+start 'Python package' python_package
 wait
 report

@@ -1,13 +1,15 @@
 #!/usr/bin/env python3
 """A wall of tickets: three producers change the table while the skyline of severity and age is asked, and each picture is written.
 
-    python3 examples/live/dashboard.py PROGRAM [FOLDER]       # FOLDER gets picture-1.svg and so on; the pictures as text are printed
+    python3 examples/live/dashboard.py [FOLDER]       # FOLDER gets picture-1.svg and so on; the pictures as text are printed
+
+It needs the package in python/.
 """
 import random
 import sys
 from pathlib import Path
 
-from prefq import Refused, Table
+import prefq
 
 WIDTH, HEIGHT = 320, 200
 QUESTION = "best high(severity) * high(minutes)"
@@ -26,7 +28,7 @@ def producer(table, client, chance):
                     table.delete(mine.pop(chance.randrange(len(mine))), client)
             else:
                 mine.append(table.insert(values, client))
-        except Refused as full:
+        except prefq.Refused as full:
             print(f"client {client} is refused: {full}")
         yield
 
@@ -41,8 +43,8 @@ def picture(rows, others):
     return f'<svg xmlns="http://www.w3.org/2000/svg" width="{WIDTH}" height="{HEIGHT}"><polyline points="{line}" fill="none" stroke="#c00"/>{circles}</svg>\n'
 
 
-def main(program, folder=None):
-    with Table(["severity", "minutes"], [[3, 20], [5, 5], [1, 55]], cap=64, block=16, program=program) as table:
+def main(folder=None):
+    with prefq.Table(["severity", "minutes"], [[3, 20], [5, 5], [1, 55]], capacity=64, block=16) as table:
         producers = [producer(table, client, random.Random(client)) for client in (2, 3, 4)]
         for number in range(1, 6):
             with table.query(QUESTION) as query:

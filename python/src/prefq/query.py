@@ -1,14 +1,13 @@
 """A query: a question that is asked of the table as it was when the query began."""
 import threading
 import weakref
-from typing import TYPE_CHECKING, List, Optional, Tuple, Type
+from typing import Callable, List, Optional, Tuple, Type
 
+from .clients import Clients
 from .errors import Ended, Refused
-from .rows import Row, rows_of
+from .exchange import Exchange
+from .rows import Made, Row, pair, rows_of
 
-if TYPE_CHECKING:
-    from .clients import Clients
-    from .exchange import Exchange
 
 class Query:
     """An open query, which `Table.query` begins. `left` is how many blocks are still to be scanned.
@@ -22,7 +21,7 @@ class Query:
     [Row(level=1, id=1, values=[50])]
     """
 
-    def __init__(self, exchange: "Exchange", clients: "Clients", question: str, client: int, width: int) -> None:
+    def __init__(self, exchange: Exchange, clients: Clients, question: str, client: int, width: int) -> None:
         self.question = question
         self.client = client
         self._exchange, self._clients, self._width = exchange, clients, width
@@ -57,17 +56,11 @@ class Query:
 
     def answer(self) -> List[Row]:
         """The rows of the answer, by level and then by id; scans the blocks that are left first. The query has ended then."""
-        with self._lock:
-            self._check()
-            while self.left:
-                self.scan()
-            _, below = self._exchange.ask_for_rows(f"as {self.client} finish", f"{self.client} answer ")
-            self._ended()
-        return rows_of(below, self._width)
+        return self._finish(Row)
 
     def pairs(self) -> List[Tuple[int, List[int]]]:
         """The answer as pairs of an id and its values."""
-        return [(row.id, row.values) for row in self.answer()]
+        return self._finish(pair)
 
     def abandon(self) -> None:
         """Ends the query without an answer; nothing is done where it has ended."""
@@ -75,6 +68,15 @@ class Query:
             if self._open:
                 self._exchange.ask(f"as {self.client} abandon", f"{self.client} abandoned")
                 self._ended()
+
+    def _finish(self, make: Callable[[int, int, List[int]], Made]) -> List[Made]:
+        with self._lock:
+            self._check()
+            while self.left:
+                self.scan()
+            _, below = self._exchange.ask_for_rows(f"as {self.client} finish", f"{self.client} answer ")
+            self._ended()
+        return rows_of(below, self._width, make)
 
     def _check(self) -> None:
         if not self._open:

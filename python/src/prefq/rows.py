@@ -1,12 +1,16 @@
 """Rows as the program reads and writes them."""
+import threading
+import time
 from collections.abc import Iterable, Mapping, Set
 from itertools import chain, islice
-from typing import Any, List, NamedTuple, Optional, Sequence
+from typing import Any, Callable, List, NamedTuple, Optional, Sequence, Tuple, TypeVar
 
 from .checks import LEAST, MOST, MOST_ROWS, whole
 
+Made = TypeVar("Made")
 TOGETHER = 256
 ANSWER_PIECE = 16_384
+SHORTEST = 0.000_05
 # What stands round the numbers in the line of a row, `level 1 id 3: 45,9`, is blank here.
 BLANKS = bytes.maketrans(b"levid:,\n", b" " * 8)
 
@@ -24,16 +28,27 @@ class Row(NamedTuple):
     values: List[int]
 
 
-def rows_of(text: bytes, width: int) -> List[Row]:
-    """The rows of the lines of an answer."""
-    rows: List[Row] = []
+def let_others_run() -> None:
+    """Gives up the interpreter for a moment, so that an event loop on the main thread need not wait until it is taken away."""
+    if threading.current_thread() is not threading.main_thread():
+        time.sleep(SHORTEST)
+
+
+def pair(level: int, id: int, values: List[int]) -> Tuple[int, List[int]]:
+    """A row without its level."""
+    return id, values
+
+
+def rows_of(text: bytes, width: int, make: Callable[[int, int, List[int]], Made]) -> List[Made]:
+    """What is made of the level, the id and the values in each line of an answer."""
+    rows: List[Made] = []
     begin = 0
-    # Piece by piece, so that other threads get their turn in between.
     while begin < len(text):
         end = text.find(b"\n", begin + ANSWER_PIECE) + 1 or len(text)
         numbers = list(map(int, text[begin:end].translate(BLANKS).split()))
-        rows += [Row(numbers[at], numbers[at + 1], numbers[at + 2:at + 2 + width]) for at in range(0, len(numbers), 2 + width)]
+        rows += [make(numbers[at], numbers[at + 1], numbers[at + 2:at + 2 + width]) for at in range(0, len(numbers), 2 + width)]
         begin = end
+        let_others_run()
     return rows
 
 
@@ -47,6 +62,7 @@ def lines(rows: Any, columns: Sequence[str]) -> List[str]:
     rest = iter(rows)
     while piece := list(islice(rest, TOGETHER)):
         found += _at_once(piece, len(columns)) or [line(row, columns, f"row {number}, ") for number, row in enumerate(piece, len(found) + 1)]
+        let_others_run()
         if len(found) > MOST_ROWS:
             raise ValueError(f"there are more than {MOST_ROWS} rows: no table holds them (prefq.parts.best asks more)")
     return found

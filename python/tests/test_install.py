@@ -1,0 +1,95 @@
+"""The package is installed without a network, and finds the program that it brings along."""
+import os
+import subprocess
+import sys
+import tarfile
+import tempfile
+import unittest
+import zipfile
+from pathlib import Path
+
+import prefq
+from support import TestCase
+
+PACKAGE = Path(__file__).resolve().parent.parent
+ASK = "import prefq; print(prefq.find_program()); print(prefq.Table(['a', 'b'], [[1, 2], [0, 3]]).best('best low(a)'))"
+
+
+def run(*words, **setting):
+    """What a command prints, in an environment that knows neither this package nor the program."""
+    hidden = {"PYTHONPATH", "PREFQ_PROGRAM"}
+    environment = {**{name: value for name, value in os.environ.items() if name not in hidden}, "PATH": "/usr/bin:/bin", **setting}
+    done = subprocess.run([str(word) for word in words], env=environment, stdout=subprocess.PIPE, stderr=subprocess.STDOUT, text=True, timeout=120, cwd="/")
+    return done.returncode, done.stdout
+
+
+class Install(TestCase):
+    def setUp(self):
+        room = tempfile.TemporaryDirectory()
+        self.addCleanup(room.cleanup)
+        self.room = Path(room.name)
+        self.program = os.path.abspath(prefq.find_program())
+
+    def environment(self):
+        """The Python of a new environment."""
+        status, said = run(sys.executable, "-m", "venv", self.room / "new")
+        if status and "ensurepip" in said:
+            self.skipTest("python3-venv is not installed")
+        self.assertEqual(status, 0, said)
+        return self.room / "new/bin/python"
+
+    def install(self, python, *words, **setting):
+        return run(python, "-m", "pip", "install", "--no-index", "--disable-pip-version-check", *words, **setting)
+
+    def test_from_the_folder(self):
+        python = self.environment()
+        status, said = self.install(python, PACKAGE, PREFQ_PROGRAM=self.program)
+        self.assertEqual(status, 0, said)
+        status, said = run(python, "-c", ASK)
+        self.assertEqual((status, said), (0, f"{self.room}/new/lib/python{sys.version_info[0]}.{sys.version_info[1]}/site-packages/prefq/bin/prefq\n[Row(level=1, id=2, values=[0, 3])]\n"))
+        self.assertEqual(run(python, "-m", "pip", "uninstall", "-y", "prefq")[0], 0)
+
+        status, said = self.install(python, "-e", PACKAGE, PREFQ_PROGRAM=self.program)
+        self.assertEqual(status, 0, said)
+        status, said = run(python, "-c", ASK, PREFQ_PROGRAM=self.program)
+        self.assertEqual((status, said), (0, f"{self.program}\n[Row(level=1, id=2, values=[0, 3])]\n"))
+
+    def build(self, call, **setting):
+        """What a call of the build backend prints."""
+        return run(sys.executable, "-c", f"import sys; sys.path.insert(0, {str(PACKAGE / 'backend')!r}); import build_prefq as b; print(b.{call})", **setting)
+
+    def test_archives(self):
+        for call in ("build_wheel", "build_sdist"):
+            status, said = self.build(f"{call}({str(self.room)!r})", PREFQ_PROGRAM=self.program)
+            self.assertEqual(status, 0, said)
+        wheel = zipfile.ZipFile(next(self.room.glob("*.whl")))
+        names = wheel.namelist()
+        self.assertLessEqual({"prefq/__init__.py", "prefq/py.typed", "prefq/bin/prefq", f"prefq-{prefq.__version__}.dist-info/RECORD"}, set(names))
+        self.assertFalse([name for name in names if "__pycache__" in name])
+        self.assertEqual(wheel.read("prefq/bin/prefq"), Path(self.program).read_bytes())
+        source = next(self.room.glob("*.tar.gz"))
+        with tarfile.open(source) as archive:
+            archive.extractall(self.room)
+        self.assertEqual((self.room / f"prefq-{prefq.__version__}/program/prefq").read_bytes(), Path(self.program).read_bytes())
+
+    def test_without_a_program(self):
+        status, said = run(sys.executable, "-c", "import shutil, sys; shutil.copytree(sys.argv[1], sys.argv[2])", PACKAGE, self.room / "python")
+        self.assertEqual(status, 0, said)
+        code = f"import sys; sys.path.insert(0, {str(self.room / 'python/backend')!r}); import build_prefq; build_prefq.build_wheel({str(self.room)!r})"
+        status, said = run(sys.executable, "-c", code)
+        self.assertEqual(status, 1)
+        self.assertIn("(cd crates/prefq && rt run prefq < stdin)", said)
+        code = f"import sys; sys.path.insert(0, {str(self.room / 'python/src')!r}); import prefq; prefq.Table(['a'])"
+        status, said = run(sys.executable, "-c", code)
+        self.assertEqual(status, 1)
+        self.assertIn("prefq.errors.ProgramNotFound", said)
+        self.assertIn("(cd crates/prefq && rt run prefq < stdin)", said)
+
+    def test_one_version(self):
+        self.assertIn(f'\nversion = "{prefq.__version__}"\n', (PACKAGE / "pyproject.toml").read_text())
+        status, said = run(self.program, "--version")
+        self.assertEqual(said, f"prefq {prefq.__version__}\n")
+
+
+if __name__ == "__main__":
+    unittest.main()
