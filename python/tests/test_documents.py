@@ -1,4 +1,4 @@
-"""What docs/PYTHON.md, python/README.md and the docstrings show is run.
+"""What README.md, docs/PYTHON.md, python/README.md and the docstrings show is run.
 
 In a document, the blocks `python` of a section (from one `#` heading to the next) run in order in one namespace, in an empty folder; the block `text` after one is
 what it prints.
@@ -18,7 +18,7 @@ import prefq
 from support import TestCase
 
 TOP = Path(__file__).resolve().parent.parent.parent
-DOCUMENTS = [TOP / "docs/PYTHON.md", TOP / "python/README.md"]
+DOCUMENTS = [TOP / "README.md", TOP / "docs/PYTHON.md", TOP / "python/README.md"]
 BLOCK = re.compile(r"^```(?P<kind>python|text)\n(?P<code>.*?)^```$|^# (?P<heading>.*)$", re.MULTILINE | re.DOTALL)
 # Where one of these is not installed, a section that names it is not run.
 OPTIONAL = ["pandas", "matplotlib", "distributed"]
