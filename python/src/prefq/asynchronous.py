@@ -52,7 +52,7 @@ class AsyncTable:
 
     async def __aexit__(self, failed: Optional[Type[BaseException]], *_: object) -> None:
         try:
-            if failed is None:
+            if failed is None and not self._closed:
                 await self._call(self._table.check)
         finally:
             await self.close()

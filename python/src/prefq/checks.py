@@ -12,6 +12,8 @@ LEAST, MOST = -2**63, 2**63 - 1
 MOST_IDS = 2**64 - 1
 MOST_ROWS = 65_536
 MOST_COLUMNS = 16
+LONGEST_LINE = 1_000_000
+UNSENDABLE = re.compile("[\r\n\ud800-\udfff]")
 NAME = re.compile(r"[A-Za-z][A-Za-z0-9_.]{0,31}")
 
 
@@ -63,11 +65,15 @@ def header(columns: Sequence[str]) -> str:
 
 
 def text_of_question(question: Any) -> str:
+    """The question, if it can be sent at all: whatever else is wrong, the program says."""
     if not isinstance(question, str):
         raise TypeError(f"a question is a text, not {question!r}")
-    ends = [place for place in (question.find("\n"), question.find("\r")) if place >= 0]
-    if ends:
-        raise Refused("a question is one line", "term", 1, len(question[:min(ends)].encode(errors="replace")), question)
+    wrong = UNSENDABLE.search(question)
+    if wrong:
+        what = "a question is one line" if wrong[0] in "\r\n" else f"{wrong[0]!r} is no character"
+        raise Refused(what, "term", 1, len(question[:wrong.start()].encode()), question)
     if not question.strip(" \t"):
         raise Refused("a question begins with best, top_level, at_least or skyline of", "term", 1, 0, question)
+    if len(question) > LONGEST_LINE:
+        raise Refused("too long", "term", 5)
     return question

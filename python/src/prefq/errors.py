@@ -97,9 +97,15 @@ def refused(line: str, question: Optional[str] = None) -> Refused:
         return Refused(line, "script")
     who = found["who"] or ""
     kind = found["what"] or ("command" if found["line"] else "client" if who.isdigit() else who)
+    number = int(found["number"]) if found["number"] else None
     place = PLACE.search(line)
-    return Refused(found["text"] or line, kind, int(found["number"]) if found["number"] else None, int(place[1]) if place else None,
-                   question if kind == "term" else None)
+    at = int(place[1]) if place else None
+    if kind != "term" or question is None:
+        return Refused(found["text"] or line, kind, number, at)
+    # The program counts from the first byte that is not blank.
+    blanks = len(question) - len(question.lstrip(" \t"))
+    text = found["text"] if at is None else PLACE.sub(f" at {at + blanks}", found["text"])
+    return Refused(text, kind, number, None if at is None else at + blanks, question)
 
 
 def pointed(question: str, place: Optional[int]) -> str:

@@ -5,8 +5,9 @@ no reply is ever taken for that of another command.
 """
 import os
 import threading
+import weakref
 from collections import deque
-from typing import Callable, Deque, List, Optional, Sequence, Tuple, TypeVar, Union
+from typing import Any, Callable, Deque, Dict, List, Optional, Sequence, Tuple, TypeVar, Union
 
 from .errors import Ended, Refused, refused
 from .process import Process
@@ -14,18 +15,37 @@ from .process import Process
 Result = TypeVar("Result")
 # Why a table has ended, and its kind. This one stands while an exchange is under way, and stays if nothing more can be done about it.
 UNDER_WAY = ("a call was interrupted, or is still under way in this thread", "interrupted")
+CLOSED = ("the table was closed", "closed")
+
+
+class Holder(weakref.ref):  # type: ignore[type-arg]
+    """Who has an open query: the client, the thread, and a weak reference to the query."""
+
+    __slots__ = ("client", "thread")
+    client: int
+    thread: int
+
+    def __new__(cls, query: Any, dropped: Callable[[Any], None], client: int, thread: int) -> "Holder":
+        holder = super().__new__(cls, query, dropped)
+        holder.client, holder.thread = client, thread
+        return holder
+
+    def __init__(self, query: Any, dropped: Callable[[Any], None], client: int, thread: int) -> None:
+        super().__init__(query, dropped)
 
 
 class Exchange:
     """The exchanges with a process, which belongs to the Python process that started it.
 
-    `dropped` has the clients whose open query nobody has any more: these queries are abandoned before the next command. `rows` is the number of rows.
+    - `queries`: who has which client's open query; `dropped`: holders of queries that nobody has any more, which are abandoned before the next command
+    - `rows`: the number of rows
     """
 
     def __init__(self, words: List[str], timeout: Optional[float]) -> None:
         # The same thread may take it twice: in a signal handler, which finds the exchange under way then, and does not wait for itself.
         self.lock = threading.RLock()
-        self.dropped: Deque[int] = deque()
+        self.queries: Dict[int, Holder] = {}
+        self.dropped: Deque[Holder] = deque()
         self.rows = 0
         self._owner = os.getpid()
         self._closing = False
@@ -43,23 +63,35 @@ class Exchange:
 
     def ask_for_rows(self, command: str, reply: str, *, rows: int = 0, question: Optional[str] = None) -> Tuple[str, bytes]:
         """The same, and the lines of rows that follow an answer."""
-        told = self._whole(lambda: self._one(command, reply, rows, question))
+        text = command.encode() + b"\n"
+        told = self._whole(lambda: self._one(text, reply, rows, question))
         if isinstance(told, Refused):
             raise told
         return told
 
     def ask_all(self, commands: Sequence[str], reply: str, *, rows: int) -> List[str]:
         """Sends many commands without a wait between them, and returns what each line says behind the words of the reply. None may be refused."""
-        return self._whole(lambda: self._many(commands, reply, rows))
+        text = "".join(command + "\n" for command in commands).encode()
+        return self._whole(lambda: self._many(text, len(commands), reply, rows))
+
+    def settle(self) -> None:
+        """Abandons the queries that nobody has any more, if there are any."""
+        if self.dropped or self._ended is not None:
+            self._whole(lambda: None)
 
     def check(self) -> None:
-        """Raises `Ended` where no exchange is possible any more. A program that died unseen is found out here."""
+        """Raises `Ended` where no exchange is possible any more. A program that died unseen is found out here. Another thread's call is not waited for."""
         self._ours()
-        with self.lock:
-            if self._ended is None and self._process.is_dead():
-                why = self._process.death()
-                self._end(str(why), why.kind)
-            self._not_ended()
+        if self._process.is_dead():
+            with self.lock:
+                if self._ended is None:
+                    why = self._process.death()
+                    self._end(str(why), why.kind)
+        if self.lock.acquire(blocking=False):
+            try:
+                self._not_ended()
+            finally:
+                self.lock.release()
 
     def close(self) -> None:
         """Ends the process. A call that another thread is in the middle of raises `Ended`."""
@@ -69,7 +101,7 @@ class Exchange:
         self._process.kill()
         with self.lock:
             if self._ended is not UNDER_WAY:
-                self._end("the table was closed", "closed")
+                self._end(*CLOSED)
 
     def _ours(self) -> None:
         """Without the lock, which a fork may have copied while it was held."""
@@ -78,7 +110,7 @@ class Exchange:
 
     def _not_ended(self) -> None:
         if self._ended is not None:
-            raise Ended(*self._ended) from None
+            raise Ended(*self._ended)
 
     def _whole(self, talk: Callable[[], Result]) -> Result:
         """What an exchange returns, if it is made whole. Until then the table counts as ended, whatever happens."""
@@ -87,8 +119,7 @@ class Exchange:
             self._not_ended()
             try:
                 self._ended = UNDER_WAY
-                while self.dropped:
-                    self._abandon(self.dropped.popleft())
+                self._abandon_dropped()
                 result = talk()
                 self._ended = None
                 return result
@@ -101,12 +132,20 @@ class Exchange:
     def _end(self, why: str, kind: str) -> Ended:
         """Gives the process up; the first reason stays, and is returned."""
         if self._ended is None or self._ended is UNDER_WAY:
-            self._ended = ("the table was closed", "closed") if self._closing else (why, kind)
+            self._ended = CLOSED if self._closing else (why, kind)
         self._process.close()
         return Ended(*self._ended)
 
-    def _one(self, command: str, reply: str, rows: int, question: Optional[str]) -> Union[Tuple[str, bytes], Refused]:
-        self._process.send(command.encode() + b"\n")
+    def _abandon_dropped(self) -> None:
+        """A query that ended before it was dropped is refused here, which does no harm."""
+        while self.dropped:
+            holder = self.dropped.popleft()
+            if self.queries.get(holder.client) is holder:
+                self._one(b"as %d abandon\n" % holder.client, f"{holder.client} abandoned", 0, None)
+                del self.queries[holder.client]
+
+    def _one(self, text: bytes, reply: str, rows: int, question: Optional[str]) -> Union[Tuple[str, bytes], Refused]:
+        self._process.send(text)
         line = self._process.line()
         if line.startswith(reply):
             said = line[len(reply):]
@@ -116,9 +155,9 @@ class Exchange:
         self._process.rest(0)
         return self._refusal(line, question)
 
-    def _many(self, commands: Sequence[str], reply: str, rows: int) -> List[str]:
-        self._process.send("".join(command + "\n" for command in commands).encode())
-        lines = self._process.rest(len(commands)).decode().splitlines()
+    def _many(self, text: bytes, count: int, reply: str, rows: int) -> List[str]:
+        self._process.send(text)
+        lines = self._process.rest(count).decode().splitlines()
         for line in lines:
             if not line.startswith(reply):
                 raise Ended(f"the program says {line}", "reply")
@@ -131,7 +170,3 @@ class Exchange:
         if " refused" not in line:
             raise Ended(f"this is no reply to what was asked: {line}", "reply")
         return refused(line, question)
-
-    def _abandon(self, client: int) -> None:
-        """A query that ended in another way is refused here, which does no harm."""
-        self._one(f"as {client} abandon", f"{client} abandoned", 0, None)

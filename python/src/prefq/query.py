@@ -1,6 +1,5 @@
 """A query: a question that is asked of the table as it was when the query began."""
 import threading
-import weakref
 from typing import Callable, List, Optional, Tuple, Type
 
 from .clients import Clients
@@ -21,15 +20,14 @@ class Query:
     [Row(level=1, id=1, values=[50])]
     """
 
-    def __init__(self, exchange: Exchange, clients: Clients, question: str, client: int, width: int) -> None:
+    def __init__(self, exchange: Exchange, clients: Clients, question: str, client: Optional[int], width: int) -> None:
         self.question = question
-        self.client = client
         self._exchange, self._clients, self._width = exchange, clients, width
         self._lock = threading.RLock()
         self._open = True
-        self._drop = weakref.finalize(self, clients.drop, client)
+        self.client = clients.take(self, client)
         try:
-            self.left = int(exchange.ask(f"as {client} begin {question}", f"{client} begun ", question=question))
+            self.left = int(exchange.ask(f"as {self.client} begin {question}", f"{self.client} begun ", question=question))
         except Refused:
             self._ended()
             raise
@@ -66,7 +64,10 @@ class Query:
         """Ends the query without an answer; nothing is done where it has ended."""
         with self._lock:
             if self._open:
-                self._exchange.ask(f"as {self.client} abandon", f"{self.client} abandoned")
+                try:
+                    self._exchange.ask(f"as {self.client} abandon", f"{self.client} abandoned")
+                except Refused:
+                    pass  # It has ended, and an interruption came before that was noted.
                 self._ended()
 
     def _finish(self, make: Callable[[int, int, List[int]], Made]) -> List[Made]:
@@ -84,5 +85,4 @@ class Query:
 
     def _ended(self) -> None:
         self._open = False
-        self._drop.detach()
         self._clients.give_back(self.client)

@@ -69,6 +69,9 @@ class Table:
         try:
             if failed is None:
                 self.check()
+        except Ended as why:
+            if why.kind != "closed":
+                raise
         finally:
             self.close()
 
@@ -225,7 +228,7 @@ class Table:
         (0, [Row(level=1, id=2, values=[80])])
         """
         text = checks.text_of_question(question)
-        return Query(self._exchange, self._free, text, self._free.take(None if client is None else self._client(client)), len(self.columns))
+        return Query(self._exchange, self._free, text, None if client is None else self._client(client), len(self.columns))
 
     def best(self, question: str) -> List[Row]:
         """The answer to a question, by level and then by id.
