@@ -9,6 +9,7 @@ from decimal import Decimal
 from typing import Any, Callable, Iterable, List, Optional, Sequence, TextIO, Union
 
 from .columns import Column
+from .errors import Ended
 from .records import Record
 
 Target = Union[str, "os.PathLike[str]", TextIO, None]
@@ -38,12 +39,12 @@ class Answer(List[Record]):
     """
 
     def __init__(self, question: str, columns: Iterable[Column], records: Iterable[Record], *, others: Optional[Callable[[], Iterable[Record]]] = None,
-                 labels: Optional[Callable[[Record], Any]] = None) -> None:
+                 index: Optional[Callable[[Sequence[Record]], Any]] = None) -> None:
         super().__init__(records)
         self.question = question
         self.columns = tuple(columns)
         self._others = others
-        self._labels = labels
+        self._index = index
 
     @property
     def names(self) -> List[str]:
@@ -126,7 +127,7 @@ class Answer(List[Record]):
     def to_dataframe(self) -> Any:
         """A DataFrame of pandas: a column `.level`, then the columns of the rows; its index is that of the frame it came from, else the ids."""
         from .pandas_frames import dataframe_of
-        return dataframe_of(self, self._labels)
+        return dataframe_of(self, self._index)
 
     def plot(self, x: Optional[str] = None, y: Optional[str] = None, ax: Any = None) -> Any:
         """Draws the rows by two columns, first of all the two that the question orders: by matplotlib (the axes are returned), or where that is not
@@ -141,7 +142,10 @@ class Answer(List[Record]):
 
     def all_records(self) -> List[Record]:
         """The rows behind the answer, as they are now, where they can still be had; else those of the answer."""
-        return list(self if self._others is None else self._others())
+        try:
+            return list(self if self._others is None else self._others())
+        except Ended:
+            return list(self)
 
 
 def _short(cell: str) -> str:

@@ -42,13 +42,13 @@ class Frame:
         lists = [[column.encode(value) for value in values] for column, values in zip(columns, zip(*rows))]
         self._open(columns, list(zip(*lists)), options)
 
-    def _open(self, columns: Tuple[Column, ...], rows: List[Any], options: Dict[str, Any], labels: Optional[List[Any]] = None) -> None:
+    def _open(self, columns: Tuple[Column, ...], rows: List[Any], options: Dict[str, Any], index: Any = None) -> None:
         check_names([column.name for column in columns])
         check_width(columns)
         self.columns = columns
         self._by_name = {column.name: column for column in columns}
         self._below = {id(column): f"c{place}" for place, column in enumerate(columns)}
-        self._labels = labels
+        self._index = index
         self._changing = threading.RLock()
         self._options = {name: options[name] for name in ("program", "timeout") if name in options}
         self.table = Table(list(self._below.values()), rows, **options)
@@ -99,15 +99,15 @@ class Frame:
     def from_dataframe(cls, dataframe: Any, *, columns: Optional[Sequence[str]] = None, kinds: Optional[Mapping[str, str]] = None,
                        **options: Any) -> "Frame":
         """The frame of a DataFrame of pandas. Answers as DataFrames have its index and its types again."""
-        from .pandas_frames import encoded_series
+        from .pandas_frames import encoded_series, index_of
         names = chosen(list(dataframe.columns), columns)
         pairs = [encoded_series(dataframe[name], name, kinds) for name in names]
-        return cls._made([column for column, _ in pairs], [numbers for _, numbers in pairs], options, list(dataframe.index))
+        return cls._made([column for column, _ in pairs], [numbers for _, numbers in pairs], options, index_of(dataframe.index))
 
     @classmethod
-    def _made(cls, columns: List[Column], lists: List[List[int]], options: Dict[str, Any], labels: Optional[List[Any]] = None) -> "Frame":
+    def _made(cls, columns: List[Column], lists: List[List[int]], options: Dict[str, Any], index: Any = None) -> "Frame":
         frame = cls.__new__(cls)
-        frame._open(tuple(columns), list(zip(*lists)), options, labels)
+        frame._open(tuple(columns), list(zip(*lists)), options, index)
         return frame
 
     def __enter__(self) -> "Frame":
@@ -204,7 +204,7 @@ class Frame:
                 break
         warn_of(asked)
         records = [self._record(row.values, row.id, row.level) for row in without_twins(rows, asked)]
-        return Answer(question, self.columns, records, others=self._others(), labels=self._label)
+        return Answer(question, self.columns, records, others=self.rows, index=self._index)
 
     def why(self, id: int, question: str) -> Answer:
         """The rows that dominate this one in a question: those because of which it is not in the answer. Each has its own level.
@@ -220,7 +220,7 @@ class Frame:
             raise Refused(f"no such row {id}", "client", 7)
         rivals = Rivals(question, read, self._below, rows, id, self._options)
         records = [self._record(rows[other], other, level) for other, level in rivals.dominators()]
-        return Answer(question, self.columns, records, others=self._others(), labels=self._label)
+        return Answer(question, self.columns, records, others=self.rows, index=self._index)
 
     def _read(self, question: str, mode: Optional[Mode] = None) -> Question:
         return read_question(question, self._by_name.get, self.names, mode)
@@ -242,14 +242,6 @@ class Frame:
 
     def _record(self, numbers: Sequence[int], id: int, level: Optional[int] = None) -> Record:
         return Record(((column.name, column.decode(number)) for column, number in zip(self.columns, numbers)), id=id, level=level)
-
-    def _label(self, record: Record) -> Any:
-        """What the index of a DataFrame has for a row: its own label, or the id of a row that came later."""
-        place = (record.id or 0) - 1
-        return self._labels[place] if self._labels is not None and place < len(self._labels) else record.id
-
-    def _others(self) -> Callable[[], Iterable[Record]]:
-        return self.rows
 
 
 def check_width(columns: Sequence[Column]) -> None:

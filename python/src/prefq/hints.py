@@ -34,13 +34,14 @@ SIGNS = {
 
 
 def nearest(name: str, names: Sequence[str]) -> Optional[str]:
-    """The name that is most like another one: the same in other capitals, or a similar one, or one that contains it."""
-    folded = {other.casefold(): other for other in reversed(names)}
+    """The name that is most like another one: the same in other capitals, or a similar one or one with a similar word, or one that contains it."""
     wanted = name.casefold()
-    near = difflib.get_close_matches(wanted, folded, 1)
+    folded = {other.casefold(): other for other in reversed(names)}
+    words = {word: other for other in reversed(names) for word in re.findall(r"\w{3,}", other.casefold())}
+    near = difflib.get_close_matches(wanted, folded, 1) or difflib.get_close_matches(wanted, words, 1, 0.7)
     within = [other for other in folded if wanted and (wanted in other or other in wanted)]
-    found = wanted if wanted in folded else near[0] if near else min(within, key=len) if within else None
-    return None if found is None else folded[found]
+    found = wanted if wanted in folded else near[0] if near else min(within, key=len) if within else ""
+    return {**words, **folded}.get(found)
 
 
 def unknown_column(name: str, names: Sequence[str]) -> str:
@@ -58,7 +59,7 @@ def hint_for_mode(question: str, kind: str, text: str, names: Sequence[str]) -> 
     if text in BASES or text in ("(", "-"):
         return f": write best {question.strip()}"
     if kind == "word" and text.lower() in SLIPS:
-        return f". Here {SLIPS[text.lower()]}"
+        return f": {SLIPS[text.lower()]}"
     near = difflib.get_close_matches(text, MODES, 1) if kind == "word" else []
     return f"; did you mean {near[0]}?" if near else ""
 
@@ -66,26 +67,19 @@ def hint_for_mode(question: str, kind: str, text: str, names: Sequence[str]) -> 
 def hint_for(kind: str, text: str, could: str, names: Sequence[str]) -> str:
     """What is said of a token that cannot stand where it stands, beside what could."""
     if kind == "word" and "such as" in could:
-        return f"A text stands in quotes: '{text}'"
+        return f"a text stands in quotes, '{text}'"
     if kind in ("word", "name") and could.startswith("low(..)"):
         return _in_place_of_a_term(text, names)
-    if kind == "word":
-        hint = SLIPS.get(text.lower())
-        return f"Here {hint}" if hint else ""
     if (kind, text) == ("sign", ",") and could.startswith("*"):
-        return "No comma stands between two terms"
-    if kind == "strange":
-        return SIGNS.get(text, "").capitalize() if text not in SIGNS else f"Here {SIGNS[text]}"
-    return ""
+        return "no comma stands between two terms"
+    return (SIGNS if kind == "strange" else SLIPS if kind == "word" else {}).get(text.lower(), "")
 
 
 def _in_place_of_a_term(text: str, names: Sequence[str]) -> str:
-    if text in names:
-        return f"Write low({spelled(text)}) or high({spelled(text)})"
-    if text.lower() in SLIPS:
-        return f"Here {SLIPS[text.lower()]}"
-    near = difflib.get_close_matches(text.lower(), BASES, 1)
+    if text not in names and text.lower() in SLIPS:
+        return SLIPS[text.lower()]
+    near = None if text in names else next(iter(difflib.get_close_matches(text.lower(), BASES, 1)), None)
     if near:
-        return f"Did you mean {near[0]}(..)?"
-    found = nearest(text, names) if re.fullmatch(r"[^\W\d][\w.]*", text) else None
-    return f"Write low({spelled(found)}) or high({spelled(found)})" if found is not None else ""
+        return f"did you mean {near}(..)?"
+    found = nearest(text, names)
+    return f"write low({spelled(found)}) or high({spelled(found)})" if found is not None else ""

@@ -128,7 +128,8 @@ class Floats(Kind):
             raise TypeError(f"{value!r} is no number")
         if number != number:
             raise ValueError("not a number")
-        bits = struct.unpack("<q", struct.pack("<d", number + 0.0))[0]
+        bits = struct.unpack("<q", struct.pack("<d", number))[0]
+        # The bits of a negative number are its amount and the sign bit; those of -0.0 are the sign bit alone, which gives 0 as 0.0 does.
         return bits if bits >= 0 else LEAST - bits
 
     def decode(self, number: int) -> float:

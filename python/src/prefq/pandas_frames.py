@@ -79,7 +79,7 @@ def _whole(series: Any, name: str) -> List[int]:
 
 def _floats(series: Any) -> List[int]:
     import numpy
-    values = series.to_numpy(dtype="float64", na_value=numpy.nan) + 0.0
+    values = series.to_numpy(dtype="float64", na_value=numpy.nan)
     bits = values.view("int64")
     numbers = numpy.where(bits < 0, numpy.int64(LEAST) - bits, bits)
     numbers[numpy.isnan(values)] = LEAST
@@ -109,13 +109,25 @@ def _text_kind(texts: Sequence[str]) -> Texts:
     return kind
 
 
-def dataframe_of(answer: Any, label: Optional[Callable[[Record], Any]]) -> Any:
+def index_of(index: Any) -> Callable[[Sequence[Record]], Any]:
+    """What gives the index of some rows: its own label for each row of a DataFrame with this index, and the id for a row that came later."""
+    def labelled(records: Sequence[Record]) -> Any:
+        import pandas
+        places = [(record.id or 0) - 1 for record in records]
+        if all(place < len(index) for place in places):
+            return index.take(places)
+        return pandas.Index([index[place] if place < len(index) else place + 1 for place in places], name=index.name)
+
+    return labelled
+
+
+def dataframe_of(answer: Any, index: Optional[Callable[[Sequence[Record]], Any]]) -> Any:
     """An answer as a DataFrame."""
     import pandas
-    index = pandas.Index([record.id if label is None else label(record) for record in answer], name=None if label is not None else "id")
-    found = pandas.DataFrame({".level": pandas.Series(answer.levels, index=index, dtype="int64" if None not in answer.levels else "Int64")}, index=index)
+    rows = pandas.Index(answer.ids, name="id") if index is None else index(answer)
+    found = pandas.DataFrame({".level": pandas.Series(answer.levels, index=rows, dtype="int64" if None not in answer.levels else "Int64")}, index=rows)
     for column in answer.columns:
-        found[column.name] = _series([record[column.name] for record in answer], column, index)
+        found[column.name] = _series([record[column.name] for record in answer], column, rows)
     return found
 
 

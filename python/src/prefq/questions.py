@@ -15,7 +15,7 @@ UNEXPECTED, UNKNOWN_COLUMN, NUMBER_RANGE, TOO_DEEP, TOO_LONG, BAD_COUNT, NO_MIN_
 DEEPEST = 64
 TERMS = "low(..), high(..), around(..), between(..), pos(..), layered(..), reverse(..), - or ("
 SIGNS = "* (both at once), & (the first decides)"
-TOKEN = re.compile(r"""(?P<blank>[ \t]+)
+TOKEN = re.compile(r"""(?P<blank>[ \t\r\n]+)
     |(?P<name>"(?:[^"]|"")*"|`(?:[^`]|``)*`)
     |(?P<text>'(?:[^']|'')*')
     |(?P<date>\d{4}-\d\d-\d\d(?:T\d\d:\d\d(?::\d\d(?:\.\d+)?)?(?:Z|[+-]\d\d:?\d\d)?)?(?!\w))
@@ -149,7 +149,7 @@ class Reader:
             refuse(self._question, token.place, f"the quote {token.text} is not closed")
         found = "the question breaks off" if token.kind == "end" else f"unexpected {self._question[token.place:token.place + token.length]}"
         hint = hint_for(token.kind, token.text, could, self._names)
-        refuse(self._question, token.place, f"{found}; here could stand {could}" + (f". {hint}" if hint else ""))
+        refuse(self._question, token.place, f"{found}{': ' * bool(hint)}{hint}. Here could stand {could}")
 
     def _need(self, sign: str) -> None:
         if not self._takes(sign):

@@ -1,0 +1,143 @@
+"""`python -m prefq ask`: what it prints, its status, and what it says of a wrong question, file or option."""
+import csv
+import io
+import json
+import os
+import pty
+import subprocess
+import sys
+import tempfile
+import time
+from decimal import Decimal
+from pathlib import Path
+from xml.etree import ElementTree
+
+import prefq
+from prefq.ask import Progress
+from support import TestCase
+
+HOTELS = Path(__file__).parent / "data" / "hotels.csv"
+QUESTION = "best pos(City, 'Lyon') & low(\"Price (EUR)\") * high(Stars) * low(\"Distance km\")"
+# Without buffers Python cuts what a pipe does not take at once.
+ENVIRONMENT = {**{name: value for name, value in os.environ.items() if name != "PYTHONUNBUFFERED"}, "PYTHONIOENCODING": "utf-8"}
+
+
+def run(*words, text=None, **more):
+    return subprocess.run([sys.executable, "-m", "prefq", *map(str, words)], input=text, capture_output=True, encoding="utf-8", timeout=120,
+                          env=ENVIRONMENT, **more)
+
+
+class Asks(TestCase):
+    def prints(self, done, status=0, errors=""):
+        self.assertEqual((done.returncode, done.stderr), (status, errors))
+        return done.stdout
+
+    def refused(self, done, *says, status=2):
+        self.assertEqual((done.returncode, done.stdout), (status, ""))
+        for words in says:
+            self.assertIn(words, done.stderr)
+        self.assertNotIn("Traceback", done.stderr)
+
+    def test_csv_has_the_rows_of_the_file(self):
+        found = list(csv.reader(io.StringIO(self.prints(run("ask", HOTELS, QUESTION, "--csv")))))
+        with open(HOTELS, newline="", encoding="utf-8-sig") as file:
+            names, *rows = csv.reader(file)
+        self.assertEqual(found[0], ["level", "id", *names])
+        self.assertEqual([row[2:] for row in found[1:]], [rows[int(row[1]) - 1] for row in found[1:]])
+        with prefq.Frame.from_csv(HOTELS) as frame:
+            self.assertEqual([int(row[1]) for row in found[1:]], frame.best(QUESTION).ids)
+
+    def test_json(self):
+        found = json.loads(self.prints(run("ask", HOTELS, QUESTION, "--json")), parse_float=Decimal)
+        self.assertEqual((len(found), found[0]["Price (EUR)"], found[0]["Opened"], found[0]["Breakfast"]), (15, Decimal("94.77"), "1952-02-14", True))
+
+    def test_html(self):
+        page = self.prints(run("ask", HOTELS, QUESTION, "--html"))
+        self.assertEqual(page.count("<tr>"), 16)
+        self.assertIn("<title>best pos(City, &#x27;Lyon&#x27;)", page)
+
+    def test_text(self):
+        lines = self.prints(run("ask", "-", "top_level 2 low(x) by y", text="x,y\n3,a\n1,a\n2,b\n")).splitlines()
+        self.assertEqual([line.split() for line in lines], [["level", "id", "x", "y"], ["1", "2", "1", "a"], ["1", "3", "2", "b"], ["2", "1", "3", "a"]])
+
+    def test_picture(self):
+        with tempfile.TemporaryDirectory() as folder:
+            path = Path(folder, "front.svg")
+            self.prints(run("ask", HOTELS, 'best low("Price (EUR)") * low("Distance km")', "--plot", path))
+            picture = ElementTree.parse(path).getroot()
+            self.assertTrue(any(element.get("class") == "front" for element in picture.iter()))
+
+    def test_more_columns_than_a_table_has(self):
+        names = [f"x{place}" for place in range(40)]
+        text = ",".join(names) + "\n" + "".join(",".join(str((row * place) % 11) for place in range(40)) + "\n" for row in range(30))
+        found = list(csv.reader(io.StringIO(self.prints(run("ask", "-", "best low(x3) * high(x39)", "--csv", text=text)))))
+        self.assertEqual(len(found[0]), 42)
+
+    def test_the_columns_of_a_file(self):
+        self.assertEqual(self.prints(run("ask", "-", text="a,Price\n01,5.25\n2,6\n")), "a: text (01 begins with a zero)\nPrice: decimal(2)\n")
+
+    def test_options(self):
+        text = "size;price\nM;5,5\nS;5,25\nL;9\n"
+        words = ("ask", "-", "best low(size) * low(price)", "--csv", "--decimal", ",", "--delimiter", ";", "--kind", "size=choice(S, M, L)")
+        self.assertEqual(self.prints(run(*words, text=text)), 'level,id,size,price\n1,2,S,"5,25"\n')
+
+    def test_what_is_wrong(self):
+        ask = lambda *words, text="City,Price\nLyon,5\n": run("ask", "-", *words, text=text)
+        self.refused(ask("best low(Prise)"), "no column 'Prise'; did you mean Price?", "    best low(Prise)\n             ^")
+        self.refused(ask("low(Price)"), "write best low(Price)")
+        self.refused(ask("best low(City)"), "has texts")
+        self.refused(ask("best low(Price)", "--kind", "Prize=text"), "no column 'Prize'")
+        self.refused(ask("best low(Price)", "--kind", "Price"), "write COLUMN=KIND")
+        self.refused(ask("best low(Price)", "--kind", "Price=number"), "no kind 'number'")
+        self.refused(ask("best low(City)", "--kind", "City=whole"), "row 2, column 'City' (whole): 'Lyon' is no number")
+        self.refused(ask("best low(Price)", text=""), "is empty")
+        self.refused(run("ask", "/nowhere.csv", "best low(x)"), "No such file")
+        self.refused(run("ask", HOTELS, QUESTION, "--csv", "--json"), "not allowed with")
+        self.refused(run("ask"), "FILE.csv")
+        self.refused(ask("best low(Price)", "--plot", "/nowhere/out.svg"), "No such file")
+        self.refused(run("jump"), "no command 'jump'", "usage: python -m prefq ask")
+        self.refused(run(), "usage: python -m prefq ask")
+        done = ask("best pos(City, 'Lion')")
+        self.assertEqual((done.returncode, done.stderr), (0, "prefq: no row of 'City' has 'Lion'; did you mean 'Lyon'?\n"))
+
+    def test_help(self):
+        self.assertIn("python -m prefq serve FILE.csv", self.prints(run("--help")))
+        for word in ("examples:", "--plot OUT.svg", "top_level K TERM"):
+            self.assertIn(word, self.prints(run("ask", "--help")))
+
+    def test_a_reader_that_goes_away(self):
+        process = subprocess.Popen([sys.executable, "-m", "prefq", "ask", str(HOTELS), "top_level 1000 low(Stars)", "--json"], stdout=subprocess.PIPE,
+                                   stderr=subprocess.PIPE, env=ENVIRONMENT)
+        process.stdout.read(10)
+        process.stdout.close()
+        self.assertEqual(process.stderr.read(), b"")
+        process.stderr.close()
+        self.assertEqual(process.wait(60), 1)
+
+
+class TheProgress(TestCase):
+    def said(self, seconds, terminal):
+        ours, theirs = pty.openpty()
+        with tempfile.TemporaryFile("w+") as plain, open(theirs, "w", closefd=True) as screen:
+            before, sys.stderr = sys.stderr, screen if terminal else plain
+            try:
+                progress = Progress()
+                progress._begun = time.monotonic() - seconds
+                progress("comparing", 3, 4)
+                progress.end()
+            finally:
+                sys.stderr = before
+            plain.seek(0)
+            screen.flush()
+            os.set_blocking(ours, False)
+            try:
+                text = os.read(ours, 1000).decode() if terminal else plain.read()
+            except BlockingIOError:
+                text = ""
+        os.close(ours)
+        return text
+
+    def test_only_where_it_takes_long_and_a_person_watches(self):
+        self.assertEqual(self.said(2, True), "\r\x1b[Kcomparing 75 %\r\x1b[K")
+        self.assertEqual(self.said(0, True), "")
+        self.assertEqual(self.said(2, False), "")

@@ -1,0 +1,183 @@
+"""Columns: what kind each is taken for, that values come back exactly, and what does not fit."""
+import csv
+import datetime
+import io
+import random
+import struct
+from decimal import Decimal
+
+import prefq
+from prefq.columns import kind_named
+from prefq.infer import kind_of_texts, kind_of_values
+from prefq.kinds import GREATEST, LEAST, Floats
+from support import TestCase
+
+UTC = datetime.timezone.utc
+PLUS_2 = datetime.timezone(datetime.timedelta(hours=2))
+
+
+def from_text(text, **options):
+    return prefq.Frame.from_csv(io.StringIO(text), **options)
+
+
+class Kinds(TestCase):
+    def test_of_texts(self):
+        for texts, kind in [
+                (["1", "-7", "+3"], "whole"), (["1.5", "-.25", "3"], "decimal(2)"), (["1e3", "2.5e-2"], "decimal(3)"), (["57.40", "5"], "decimal(2)"),
+                (["inf", "1.5"], "float"), (["1e-300", "0.5"], "float"), (["0.1", "123456789012345.1", "5e-324"], "float"),
+                (["yes", "NO"], "bool"), (["TRUE", "false"], "bool"), (["0", "1"], "whole"),
+                (["2026-05-01", "1999-12-31"], "date"), (["2026-05-01", "2026-05-01 17:30"], "time"), (["2026-05-01T17:30:01.5Z"], "time(UTC)"),
+                (["2026-05-01T17:30+02:00", "2026-05-01T17:30+02:00"], "time(UTC+02:00)"), (["2026-05-01T17:30+02:00", "2026-05-01T17:30Z"], "time(UTC)"),
+                (["2026-05-01 17:30Z", "2026-05-01 17:30"], "text"), (["2026-02-30"], "text"), (["Lyon"], "text"), ([], "text"), (["007", "12"], "text"),
+                (["1_000", "2"], "text"), (["١"], "whole"), (["1,5"], "text"), (["9223372036854775807"], "whole"), (["0x10"], "text")]:
+            with self.subTest(texts=texts):
+                self.assertEqual(str(kind_of_texts("x", texts)[0]), kind)
+
+    def test_of_values(self):
+        for values, kind in [([1, None], "whole"), ([Decimal("1.50"), 2], "decimal(2)"), ([Decimal("1E+2")], "decimal(0)"), ([1.5, 2, float("nan")], "float"),
+                             ([True, None], "bool"), ([datetime.date(2026, 5, 1)], "date"), ([datetime.datetime(2026, 5, 1)], "time"),
+                             ([datetime.datetime(2026, 5, 1, tzinfo=UTC)], "time(UTC)"), (["a"], "text"), ([], "text"), ([None], "text"), (["5"], "text")]:
+            with self.subTest(values=values):
+                self.assertEqual(str(kind_of_values("x", values)), kind)
+
+    def test_mixed_values_are_refused(self):
+        for values in ([1, "a"], [1.5, Decimal("1.5")], [True, 1], [datetime.date(2026, 5, 1), datetime.datetime(2026, 5, 1)], [[1]], [b"x"], [1j]):
+            with self.subTest(values=values), self.refuses(prefq.Refused, "column 'x' has values of", "columns=[..]", kind="table"):
+                prefq.Frame.from_records([{"x": value} for value in values])
+
+    def test_named(self):
+        for spelling in ("whole", "decimal(2)", "float", "bool", "date", "time", "text"):
+            self.assertEqual(str(kind_named(spelling)), spelling)
+        self.assertEqual(str(kind_named("choice(S, M, L)")), "choice(S, M, L)")
+        for spelling in ("decimal", "number", "decimal(x)", "", "choice"):
+            with self.refuses(prefq.Refused, "there are whole, decimal(2)"):
+                kind_named(spelling)
+
+    def test_a_kind_that_is_given(self):
+        records = [{"price": 129.99, "size": "M"}, {"price": 59.5, "size": "S"}, {"price": 60, "size": "L"}]
+        with prefq.Frame.from_records(records, kinds={"price": "decimal(2)", "size": "choice(S, M, L)"}) as frame:
+            self.assertEqual(frame.get(1), {"price": Decimal("129.99"), "size": "M"})
+            self.assertEqual(frame.best("best around(price, 59.99)").ids, [3])
+            self.assertEqual(frame.best("best low(size)").ids, [2])
+            self.assertEqual(frame.best("best high(size)").ids, [3])
+            with self.refuses(ValueError, "'XL' is none of 'S', 'M', 'L'"):
+                frame.insert({"size": "XL"})
+
+
+class Exactly(TestCase):
+    def test_values_come_back(self):
+        moment = datetime.datetime(2026, 10, 25, 2, 30, 0, 123456)
+        records = [{"w": value, "d": decimal, "f": real, "b": bool(value % 2), "t": text, "m": moment + datetime.timedelta(microseconds=value % 7),
+                    "z": moment.replace(tzinfo=PLUS_2), "day": day}
+                   for value, decimal, real, text, day in zip([0, LEAST + 1, GREATEST, -1], map(Decimal, ["129.99", "-0.01", "92233720368547758.07", "0"]),
+                                                              [float("inf"), -0.0, 5e-324, -1.7976931348623157e308], ["", "n/a", "it's", " x "],
+                                                              [datetime.date.min, datetime.date.max, datetime.date(2000, 2, 29), datetime.date(1970, 1, 1)])]
+        with prefq.Frame.from_records(records) as frame:
+            rows = frame.rows()
+            self.assertEqual([dict(row) for row in rows], records)
+            self.assertEqual([[type(value) for value in row.values()] for row in rows], [[type(value) for value in record.values()] for record in records])
+
+    def test_floats_keep_their_order(self):
+        seed = random.Random(5)
+        some = [struct.unpack("<d", seed.randbytes(8))[0] for _ in range(3000)]
+        some = sorted([value for value in some if value == value] + [0.0, -0.0, 1.0, -1.0, float("inf"), float("-inf"), 5e-324, -5e-324])
+        numbers = [Floats().encode(value) for value in some]
+        self.assertEqual(numbers, sorted(numbers))
+        self.assertEqual([Floats().decode(number) for number in numbers], some)
+        self.assertEqual(len(set(numbers)), len(set(some)))
+        self.assertGreater(min(numbers), LEAST)
+
+    def test_a_file(self):
+        with from_text('\ufeffHotel name,"Price (EUR)",Opened,Pool,Zip\n"a ""b"", c",57.40,2002-04-14,yes,01234\r\n\nd,n/a,,NO,90001\n') as frame:
+            self.assertEqual([dict(row) for row in frame.rows()], [
+                {"Hotel name": 'a "b", c', "Price (EUR)": Decimal("57.40"), "Opened": datetime.date(2002, 4, 14), "Pool": True, "Zip": "01234"},
+                {"Hotel name": "d", "Price (EUR)": None, "Opened": None, "Pool": False, "Zip": "90001"}])
+            with self.refuses(prefq.Refused, "column 'Zip' has texts (01234 begins with a zero), which have no order"):
+                frame.best("best low(Zip)")
+
+    def test_other_files(self):
+        with from_text("name;price\na;12,50\nb;7,25\n", decimal=",") as frame:
+            self.assertEqual(frame.best("best low(price)")[0], {"name": "b", "price": Decimal("7.25")})
+        with from_text("name;price\na;12,50\nb;7,25\n") as frame, self.refuses(prefq.Refused, "'12,50' is no number; decimal=',' reads decimal commas"):
+            frame.best("best low(price)")
+        with from_text("x\ty\n1\t2\n", columns=["y"]) as frame:
+            self.assertEqual(frame.names, ["y"])
+        with from_text(",x\n0,5\n") as frame:
+            self.assertEqual(frame.names, ["column 1", "x"])
+        with from_text("x\n1\n?\n", missing=["?"]) as frame:
+            self.assertEqual([row.x for row in frame.rows()], [1, None])
+        with from_text("x,y\n") as frame:
+            self.assertEqual((len(frame), frame.rows()), (0, []))
+        with from_text("price\n" + "5\n" * 20 + "cheap\n") as frame, self.refuses(prefq.Refused, "'cheap' is no number"):
+            frame.best("best low(price)")
+
+
+class Refusals(TestCase):
+    def test_files(self):
+        for text, *says in [("", "the file is empty"), ("x,x\n1,2\n", "two columns are called 'x'"), ("x,y\n1,2\n1\n", "line 3: it has 1 cells"),
+                            ("x,y\n1,2,3\n", "line 2: it has 3 cells"), ('x\n"5\n', "line 2"), ("x\n99999999999999999999.5\n", "column 'x'", "do not fit 64 bits", "columns=[..]"),
+                            ("x\n9223372036854775808\n-1\n", "do not fit 64 bits")]:
+            with self.subTest(text=text), self.refuses(prefq.Refused, *says, kind="table"):
+                from_text(text)
+
+    def test_an_encoding(self):
+        import tempfile
+        with tempfile.NamedTemporaryFile(suffix=".csv") as file:
+            file.write("city\nKöln\n".encode("cp1252"))
+            file.flush()
+            with self.refuses(prefq.Refused, "is not utf-8 (byte 6)", "encoding='cp1252'"):
+                prefq.Frame.from_csv(file.name)
+            with prefq.Frame.from_csv(file.name, encoding="cp1252") as frame:
+                self.assertEqual(frame.get(1).city, "Köln")
+        with self.assertRaises(FileNotFoundError):
+            prefq.Frame.from_csv("/nowhere/hotels.csv")
+
+    def test_columns(self):
+        with self.refuses(prefq.Refused, "no column 'prise'; did you mean price?"):
+            from_text("price\n1\n", columns=["prise"])
+        with self.refuses(TypeError, "columns is a list of names"):
+            from_text("price\n1\n", columns="price")
+        with self.refuses(prefq.Refused, "there are no columns"):
+            prefq.Frame.from_records([])
+        with self.refuses(TypeError, "5 is no name of a column"):
+            prefq.Frame.from_records([{5: 1}])
+        with self.refuses(TypeError, "row 2 is no mapping"):
+            prefq.Frame.from_records([{"x": 1}, [1]])
+
+    def test_too_many_columns(self):
+        text = io.StringIO()
+        writer = csv.writer(text)
+        writer.writerow(["remarks", "name", *(f"x{place}" for place in range(16))])
+        writer.writerows([[f"a{row}", f"b{row % 5}", *range(16)] for row in range(10)])
+        with self.refuses(prefq.Refused, "there are 18 columns, and a table has at most 16", "leave out, say, remarks, name", number=2):
+            from_text(text.getvalue())
+        with from_text(text.getvalue(), columns=[f"x{place}" for place in range(16)]) as frame:
+            self.assertEqual(len(frame.columns), 16)
+
+    def test_values(self):
+        with prefq.Frame.from_records([{"w": 1, "d": Decimal("1.25"), "f": 0.5, "b": True, "day": datetime.date(2026, 5, 1), "t": datetime.datetime(2026, 5, 1),
+                                        "z": datetime.datetime(2026, 5, 1, tzinfo=UTC), "s": "a"}]) as frame:
+            before = frame.rows()
+            for record, error, says in [
+                    ({"w": 1.5}, ValueError, "column 'w' (whole): 1.5 is no whole number"), ({"w": True}, TypeError, "column 'w' (whole): True is no number"),
+                    ({"w": 2**63}, ValueError, "does not fit"), ({"w": -2**63}, ValueError, "does not fit"), ({"w": "many"}, ValueError, "'many' is no number"),
+                    ({"d": Decimal("1.255")}, ValueError, "column 'd' (decimal(2)): 1.255 has more than 2 decimals"), ({"d": 10**17}, ValueError, "does not fit"),
+                    ({"d": 0.1 + 0.2}, ValueError, "more than 2 decimals"), ({"d": Decimal("inf")}, ValueError, "fits"), ({"f": "x"}, ValueError, "'x' is no number"),
+                    ({"f": 2**53 + 1}, ValueError, "is no 64-bit float"), ({"f": True}, TypeError, "True is no number"), ({"b": 1}, TypeError, "neither True nor False"),
+                    ({"b": "perhaps"}, ValueError, "not true, false"), ({"day": datetime.datetime(2026, 5, 1)}, TypeError, "is no date"),
+                    ({"day": "1.5.2026"}, ValueError, "is no date such as"), ({"t": datetime.date(2026, 5, 1)}, TypeError, "is no date with a time"),
+                    ({"t": datetime.datetime(2026, 5, 1, tzinfo=UTC)}, ValueError, "has a time zone"), ({"z": datetime.datetime(2026, 5, 1)}, ValueError, "has no time zone"),
+                    ({"t": "2026-05-01 25:00"}, ValueError, "is no date with a time"), ({"t": "2026-05-01 10:00:00.1234567"}, ValueError, "parts of a microsecond"),
+                    ({"s": 5}, TypeError, "5 is no text"), ({"ww": 5}, prefq.Refused, "no column 'ww'; did you mean w?"), ([1, 2], prefq.Refused, "a row of 2 values"),
+                    (5, TypeError, "a record is a mapping"), ("abc", TypeError, "a record is a mapping")]:
+                with self.subTest(record=record):
+                    for call in (frame.insert, lambda record: frame.update(1, record), lambda record: frame.insert_many([{"w": 3}, record])):
+                        with self.refuses(error, says):
+                            call(record)
+            self.assertEqual(frame.rows(), before)
+
+    def test_the_row_is_named(self):
+        with self.refuses(ValueError, "row 3, column 'x' (decimal(1)): 1.25 has more than 1 decimals"):
+            prefq.Frame.from_records([{"x": 1}, {"x": None}, {"x": 1.25}], kinds={"x": "decimal(1)"})
+        with self.refuses(ValueError, "row 4, column 'x' (whole): 'c' is no number"):
+            from_text("x\n1\n2\nc\n", kinds={"x": "whole"})

@@ -1,0 +1,140 @@
+"""DataFrames of pandas: `psel`, and frames that come from them and give answers as DataFrames."""
+import io
+import time
+import unittest
+
+import prefq
+from support import TestCase
+
+try:
+    import numpy
+    import pandas
+except ImportError:
+    pandas = None
+
+
+def hotels(count, seed=3):
+    draw = numpy.random.default_rng(seed)
+    return pandas.DataFrame({"price eur": draw.normal(120, 40, count).round(2), "dist": draw.exponential(2.5, count), "stars": draw.choice([3, 3.5, 4, 4.5, 5], count),
+                             "city": draw.choice(["Lyon", "Köln", "Bern"], count), "opened": pandas.Timestamp("1950-01-01") + pandas.to_timedelta(draw.integers(0, 27000, count), "D")})
+
+
+def front(keys):
+    """The places of the rows that no other row dominates, smaller values being better."""
+    order = numpy.lexsort(keys.T[::-1])
+    found = []
+    for place in order:
+        if not any((keys[other] <= keys[place]).all() and (keys[other] < keys[place]).any() for other in found):
+            found.append(place)
+    return sorted(found)
+
+
+@unittest.skipIf(pandas is None, "pandas is not installed")
+class Psel(TestCase):
+    def test_60_000_rows(self):
+        frame = hotels(60_000)
+        seconds = []
+        for _ in range(3):
+            begun = time.perf_counter()
+            found = prefq.psel(frame, "low(`price eur`) * low(dist) * high(stars)")
+            seconds.append(time.perf_counter() - begun)
+        print(f"\npsel over 60,000 rows: {min(seconds):.2f} s")
+        keys = numpy.column_stack([frame["price eur"], frame["dist"], -frame["stars"]])
+        self.assertEqual(list(found.index), front(keys))
+        self.assertEqual(list(found.columns), [".level", *frame.columns])
+        self.assertTrue(found.drop(columns=".level").equals(frame.loc[found.index]))
+        self.assertLess(min(seconds), 1)
+
+    def test_levels_and_groups(self):
+        frame = hotels(500).set_index(pandas.Index([f"row {row}" for row in range(500)], name="label"))
+        found = prefq.psel(frame, "low(`price eur`) * high(stars) by city", top_level=2)
+        self.assertEqual(found.index.name, "label")
+        for _, group in frame.groupby("city"):
+            keys = numpy.column_stack([group["price eur"], -group["stars"]])
+            first = front(keys)
+            rest = group.drop(index=group.index[first])
+            second = front(numpy.column_stack([rest["price eur"], -rest["stars"]]))
+            mine = found[found.index.isin(group.index)]
+            self.assertEqual(set(mine.index[mine[".level"] == 1]), set(group.index[first]))
+            self.assertEqual(set(mine.index[mine[".level"] == 2]), set(rest.index[second]))
+        self.assertGreaterEqual(len(prefq.psel(frame, "low(dist)", at_least=7)), 7)
+        self.assertTrue(prefq.psel(frame, "top_level 3 low(dist)").equals(prefq.psel(frame, "low(dist)", top_level=3)))
+
+    def test_what_is_wrong(self):
+        frame = hotels(10)
+        with self.refuses(prefq.Refused, "no column 'price'; did you mean \"price eur\"?", kind="term", number=2, place=4):
+            prefq.psel(frame, "low(price)")
+        with self.refuses(prefq.Refused, "around(..) needs a scale"):
+            prefq.psel(frame, "around(dist, 2)")
+        with self.refuses(prefq.Refused, "do not go together"):
+            prefq.psel(frame, "low(dist)", top_level=1, at_least=1)
+        with self.refuses(ValueError, "top_level is 0"):
+            prefq.psel(frame, "low(dist)", top_level=0)
+        self.assertEqual(len(prefq.psel(frame, "around(`price eur`, 120.005)", kinds={"price eur": "decimal(2)"})), 1)
+        self.assertEqual(len(prefq.psel(frame.iloc[:0], "low(dist)")), 0)
+
+    def test_other_things(self):
+        records = [{"x": 2, "y": 1}, {"x": 1, "y": 2}, {"x": 2, "y": 2}]
+        self.assertEqual(prefq.psel(records, "low(x) * low(y)").ids, [1, 2])
+        with prefq.Frame.from_records(records) as frame:
+            self.assertEqual(prefq.psel(frame, "low(x) * low(y)", top_level=2).levels, [1, 1, 2])
+
+
+@unittest.skipIf(pandas is None, "pandas is not installed")
+class Frames(TestCase):
+    def typed(self):
+        """A column of each type, with gaps where the type has them."""
+        frame = pandas.DataFrame({
+            "int64": [3, 1, 2], "uint8": pandas.Series([3, 1, 2], dtype="uint8"), "Int64": pandas.Series([3, None, 2], dtype="Int64"),
+            "float64": [0.1, float("nan"), float("inf")], "float32": pandas.Series([0.1, 2, None], dtype="float32"), "Float64": pandas.Series([0.5, None, 1], dtype="Float64"),
+            "bool": [True, False, True], "boolean": pandas.Series([True, None, False], dtype="boolean"), "object": ["Lyon", None, "Bern"],
+            "string": pandas.Series(["a", None, "b"], dtype="string"), "category": pandas.Series(["b", "a", None], dtype="category"),
+            "size": pandas.Categorical(["M", "S", "M"], categories=["S", "M", "L"], ordered=True),
+            "time": pandas.to_datetime(["2026-05-01 10:00:00.123456789", None, "1999-12-31"]),
+            "zone": pandas.to_datetime(["2026-10-25 02:30", None, "2026-10-25 03:30"]).tz_localize("UTC").tz_convert("Europe/Berlin"),
+            "Int8": pandas.Series([1, 2, 3], dtype="Int8"), "numbers": pandas.Series([1, 2, 1], dtype="category")})
+        frame.index = pandas.Index([10, 20, 30], name="key")
+        return frame
+
+    def test_the_same_types_and_index(self):
+        frame = self.typed()
+        with prefq.Frame.from_dataframe(frame) as opened:
+            found = opened.best("top_level 9 low(int64)").to_dataframe()
+            self.assertEqual(list(found[".level"]), [1, 2, 3])
+            again = found.drop(columns=".level").loc[[10, 20, 30]]
+            pandas.testing.assert_frame_equal(again, frame, check_names=True)
+
+    def test_questions(self):
+        with prefq.Frame.from_dataframe(self.typed()) as opened:
+            for question, labels in [("best low(size)", [20]), ("best high(size) & low(int64)", [30]), ("best low(time)", [30]), ("best high(time)", [10]),
+                                     ("best around(time, '2026-05-01')", [10]), ("best around(zone, '2026-10-25 03:10Z')", [30]), ("best low(zone)", [10]), ("best low(float64)", [10]),
+                                     ("best high(float64)", [30]), ("best pos(float32, 2)", [20]), ("best low(Int64)", [30]), ("best high(boolean)", [10]),
+                                     ("best pos(category, 'a')", [20]), ("best pos(string, 'b')", [30]), ("best low(numbers) & high(int64)", [10]), ("best low(Float64)", [10])]:
+                with self.subTest(question=question):
+                    self.assertEqual(list(opened.best(question).to_dataframe().index), labels)
+
+    def test_rows_that_come_later(self):
+        with prefq.Frame.from_dataframe(self.typed()[["int64", "float64", "time"]]) as opened:
+            id = opened.insert({"int64": 0, "float64": numpy.float64(0.25), "time": pandas.Timestamp("2026-05-01")})
+            opened.insert({"int64": numpy.int64(0), "float64": 0.25, "time": "2026-05-01"})
+            found = opened.best("best low(int64)").to_dataframe()
+            self.assertEqual((id, list(found.index), list(found["time"])), (4, [4, 5], [pandas.Timestamp("2026-05-01")] * 2))
+            self.assertEqual([str(dtype) for dtype in found.dtypes], ["int64", "int64", "float64", "datetime64[ns]"])
+
+    def test_of_a_file(self):
+        text = "price,stars,day,time,ok,name\n5.25,3,2026-05-01,2026-05-01 10:00,yes,a\n4.25,,,,,\n"
+        with prefq.Frame.from_csv(io.StringIO(text)) as frame:
+            found = frame.best("top_level 2 low(price)").to_dataframe()
+        self.assertEqual([str(dtype) for dtype in found.dtypes], ["int64", "float64", "Int64", "datetime64[ns]", "datetime64[ns]", "boolean", "object"])
+        self.assertEqual((list(found.index), found.index.name), ([2, 1], "id"))
+
+    def test_what_is_wrong(self):
+        for frame, says in [(pandas.DataFrame({"x": pandas.Series([2**64 - 1], dtype="uint64")}), "column 'x' has numbers from 18446744073709551615"),
+                            (pandas.DataFrame({"x": [[1]]}), "column 'x' has values of list"), (pandas.DataFrame({"x": pandas.to_timedelta([1], "D")}), "column 'x' has values of"),
+                            (pandas.DataFrame({"x": [1, "a"]}), "column 'x' has values of"), (pandas.DataFrame(index=[1]), "there are no columns")]:
+            with self.subTest(says=says), self.refuses(prefq.Refused, says, kind="table"):
+                prefq.Frame.from_dataframe(frame)
+        with self.refuses(TypeError, "5 is no name of a column"):
+            prefq.Frame.from_dataframe(pandas.DataFrame({5: [1]}))
+        with self.refuses(prefq.Refused, "two columns are called 'x'"):
+            prefq.Frame.from_dataframe(pandas.DataFrame([[1, 2]], columns=["x", "x"]))

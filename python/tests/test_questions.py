@@ -1,0 +1,151 @@
+"""Questions in a file's own names and values: how they are read, and how a wrong one is refused at its place."""
+import datetime
+import warnings
+from decimal import Decimal
+
+import prefq
+from prefq.hints import nearest
+from support import TestCase
+
+RECORDS = [{"City": "Lyon", "Price (EUR)": Decimal("57.40"), "Stars": Decimal("4.5"), "Opened": datetime.date(2002, 4, 14), "Pool": True, "x": 0.5},
+           {"City": "Bern", "Price (EUR)": Decimal("65.61"), "Stars": Decimal("3.0"), "Opened": datetime.date(1955, 4, 21), "Pool": False, "x": 1.5},
+           {"City": "Köln", "Price (EUR)": None, "Stars": Decimal("5.0"), "Opened": datetime.date(2020, 1, 1), "Pool": True, "x": 2.5}]
+
+REFUSED = [
+    # what is asked, what is said, the number of the refusal, and what stands at its place
+    ("", "a question begins with best, top_level K, at_least K or skyline of, as in: best low(City)", 1, ""),
+    ("low(Stars) * high(x)", "write best low(Stars) * high(x)", 1, "low(Stars) * high(x)"),
+    ("  -low(Stars)", "write best -low(Stars)", 1, "-low(Stars)"),
+    ("BEST low(Stars)", "write best in small letters", 1, "BEST"),
+    ("bets low(Stars)", "did you mean best?", 1, "bets"),
+    ("select Stars", "a question begins with best", 1, "select"),
+    ("top 3 low(Stars)", "write top_level 3", 1, "top"),
+    ("best", "the question breaks off. Here could stand low(..)", 1, ""),
+    ("best low(Prise)", "no column 'Prise'; did you mean \"Price (EUR)\"?", 2, "Prise)"),
+    ("best low(stars)", "did you mean Stars?", 2, "stars)"),
+    ("best low(Zzz)", "no column 'Zzz'; there are City, \"Price (EUR)\", Stars", 2, "Zzz)"),
+    ("best low(Stars) by Citi", "did you mean City?", 2, "Citi"),
+    ("best pos(Cidy, 'Köln') * low(Kölnn)", "did you mean City?", 2, "Cidy"),
+    ("best pos(City, 'Köln') & low(Städte)", "no column 'Städte'", 2, "Städte)"),
+    ("best Stars", "write low(Stars) or high(Stars)", 1, "Stars"),
+    ("best price", 'write low("Price (EUR)")', 1, "price"),
+    ("best min(Stars)", "min(x) is written low(x)", 1, "min"),
+    ("best lowest(Stars)", "did you mean low(..)?", 1, "lowest"),
+    ("best low(Stars), high(x)", "no comma stands between two terms", 1, ", high"),
+    ("best low(Stars) and high(x)", "write * where both count", 1, "and"),
+    ("best low(Stars) limit 5", "at_least 5", 1, "limit"),
+    ("best low(Stars) group by City", "write by and the column", 1, "group"),
+    ("best low(Stars) | high(x)", "there is no |", 1, "|"),
+    ("best low(Stars/x)", "no arithmetic", 1, "/x"),
+    ("best low(Stars);", "a question is one term", 1, ";"),
+    ("best low(Stars", "the question breaks off. Here could stand a )", 1, ""),
+    ("best (low(Stars) & (high(x))", "the question breaks off. Here could stand * (both at once)", 1, ""),
+    ("best low('Stars)", "the quote ' is not closed", 1, "'Stars)"),
+    ("best pos(City, Lyon)", "a text stands in quotes, 'Lyon'", 1, "Lyon)"),
+    ("best pos(Stars, 'many')", "column 'Stars' (decimal(1)): 'many' is no number", 1, "'many'"),
+    ("best pos(Pool, 1)", "'1' is not true, false, yes or no", 1, "1)"),
+    ("best between(Opened, '2026-01-01', '2026-02-31')", "'2026-02-31' is no date", 1, "'2026-02-31'"),
+    ("best around(Stars, )", "Here could stand a value of 'Stars', such as 59.90", 1, ")"),
+    ("best around(Stars, - 'x')", "Here could stand a value", 1, "'x'"),
+    ("best low(City)", "column 'City' has texts, which have no order", 1, "low(City)"),
+    ("best around(x, 1)", "around(..) needs a scale, as kinds={'x': 'decimal(2)'} gives it", 1, "around"),
+    ("best between(Pool, 1, 2)", "has no distances for between(..)", 1, "between"),
+    ("best between(Stars, 5, 4.5)", "empty range", 9, "4.5"),
+    ("top_level 0 low(Stars)", "the count is 0: a count is from 1 to 1000", 6, "0 low"),
+    ("top_level many low(Stars)", "Here could stand a count", 1, "many"),
+    ("at_least 1001 low(Stars)", "a count is from 1 to 1000", 6, "1001"),
+    ("best " + "-" * 65 + "low(Stars)", "more than 64 nestings", 4, "-low"),
+    ("best " + "(" * 10000 + "low(Stars)", "more than 64 nestings", 4, "(" * (10000 - 64) + "low"),
+    ("skyline of City diff", "the clause has no min or max", 7, "skyline"),
+    ("skyline of Stars, x", "Here could stand min, max or diff", 1, ", x"),
+    ("skyline of Stars min x max", "Here could stand a , or the end", 1, "x max"),
+    ("skyline of City min", "has texts, which have no order", 1, "City min"),
+    ("best layered(City, 'Lyon')", "Here could stand a {", 1, "'Lyon'"),
+    ("best layered(City, {'Lyon' 'Bern'})", "Here could stand a , or a }", 1, "'Bern'"),
+]
+
+
+class Refusals(TestCase):
+    @classmethod
+    def setUpClass(cls):
+        cls.frame = prefq.Frame.from_records(RECORDS)
+
+    @classmethod
+    def tearDownClass(cls):
+        cls.frame.close()
+
+    def test_each_at_its_place(self):
+        for question, says, number, behind in REFUSED:
+            with self.subTest(question=question[:60]), self.refuses(prefq.Refused, says, kind="term", number=number) as caught:
+                self.frame.best(question)
+
+    def test_the_caret(self):
+        for question, _, _, behind in REFUSED:
+            with self.subTest(question=question[:60]):
+                with self.assertRaises(prefq.Refused) as caught:
+                    self.frame.best(question)
+                why = caught.exception
+                self.assertTrue(question.encode()[why.place:].decode().startswith(behind))
+                shown, caret = str(why).split("\n")[1:]
+                self.assertEqual(shown, "    " + question)
+                self.assertEqual(caret, " " * (4 + len(question.encode()[:why.place].decode())) + "^")
+
+    def test_what_the_table_refuses_stands_at_its_place_in_the_question_that_was_written(self):
+        part = 'pos(City, "Köln") & ' * 60
+        long = "best " + " & ".join(["around(\"Price (EUR)\", 60.15)"] * 100)
+        with self.refuses(prefq.Refused, "too long", "at most 4096 bytes", long, kind="term", number=5):
+            self.frame.best(long)
+        deep = "best " + "(low(x) * low(Stars) & " * 63 + "low(x) * around(\"Price (EUR)\", 60.15)" + ")" * 63
+        self.assertTrue(self.frame.best(deep))
+        deeper = "best " + part + "(low(x) * low(Stars) & " * 64 + "low(x) * around(\"Price (EUR)\", 60.15)" + ")" * 64
+        with self.refuses(prefq.Refused, "too deep", kind="term", number=4, place=deeper.encode().index(b"around")):
+            self.frame.best(deeper)
+
+    def test_no_text(self):
+        for question in (None, 5, b"best low(x)"):
+            with self.refuses(TypeError, "a question is a text"):
+                self.frame.best(question)
+
+    def test_the_frame_is_as_before(self):
+        self.assertEqual([dict(row) for row in self.frame.rows()], RECORDS)
+
+
+class Spellings(TestCase):
+    """Each of these questions has these ids in its answer."""
+
+    ANSWERS = [
+        ("best low('Price (EUR)')", [1]), ('best low("Price (EUR)")', [1]), ("best low(`Price (EUR)`)", [1]),
+        ("best\n  low(x)\t*\n  high(Stars)", [1, 3]), ("best low(x)*-low(x)", [1, 2, 3]),
+        ("best pos(City, 'Bern', \"Köln\")", [2, 3]), ("best pos(Pool, no)", [2]), ("best pos(Pool, 'FALSE')", [2]), ("best high(Pool) & low(x)", [1]),
+        ("best around(Opened, 2001-12-31)", [1]), ("best around(Opened, '2011-02-22')", [3]), ("best between(Opened, 1900-01-01, 1999-12-31)", [2]),
+        ("best around(Stars, 4)", [1]), ("best around(Stars, 3.75)", [1, 2]), ("best around(Stars, 375e-2)", [1, 2]), ("best around(Stars, 3.749)", [2]),
+        ("best around(Stars, -1e30)", [2]), ("best pos(x, 1.5)", [2]), ("best pos(x, 1.50, 0.5)", [1, 2]), ("best pos(Stars, 4.55, 5)", [3]),
+        ("Skyline Of Stars MAX", [3]), ("skyline of x min, Stars max, Pool diff", [1, 2, 3]), ("best layered(City, {'Bern'}, {'Lyon'})", [2]),
+    ]
+
+    def test_answers(self):
+        with prefq.Frame.from_records(RECORDS) as frame, warnings.catch_warnings():
+            warnings.simplefilter("ignore", prefq.UnknownValue)
+            for question, ids in self.ANSWERS:
+                with self.subTest(question=question):
+                    self.assertEqual(frame.best(question).ids, ids)
+
+    def test_distinct_is_a_column_too(self):
+        with prefq.Frame.from_records([{"distinct": 1, "min": 5}, {"distinct": 1, "min": 5}, {"distinct": 2, "min": 5}]) as frame:
+            self.assertEqual(frame.best("skyline of distinct min").ids, [1, 2])
+            self.assertEqual(frame.best("skyline of distinct distinct min").ids, [1])
+            self.assertEqual(frame.best('skyline of "distinct" min').ids, [1, 2])
+            self.assertEqual(frame.best("skyline of distinct min min, distinct diff").ids, [1, 3])
+
+    def test_a_value_that_no_row_has(self):
+        with prefq.Frame.from_records(RECORDS) as frame:
+            with self.assertWarnsRegex(prefq.UnknownValue, "no row of 'City' has 'Lion'; did you mean 'Lyon'?") as caught:
+                self.assertEqual(frame.best("best pos(City, 'Lion')").ids, [1, 2, 3])
+            self.assertEqual(caught.filename, __file__)
+            frame.insert({"City": "Lion"})
+            self.assertEqual(frame.best("best pos(City, 'Lion')").ids, [4])
+
+    def test_nearest(self):
+        names = ["Price (EUR)", "Distance km", "x", "X"]
+        for name, wanted in [("price", "Price (EUR)"), ("distance", "Distance km"), ("x", "x"), ("distance in km", "Distance km"), ("kn", None), ("prise", "Price (EUR)"), ("zzz", None), ("", None)]:
+            self.assertEqual(nearest(name, names), wanted, name)
