@@ -1,6 +1,6 @@
 """Columns of a frame: a name of any spelling, a kind of values, and what is missing."""
 import re
-from typing import Any, FrozenSet, Iterable, List, Optional
+from typing import Any, Callable, Dict, FrozenSet, Iterable, List, Optional
 
 from .errors import Refused
 from .kinds import LEAST, Booleans, Choices, Dates, Decimals, Floats, Kind, Texts, Times, Whole
@@ -77,7 +77,7 @@ def kind_named(spelling: str) -> Kind:
     """The kind of a spelling: whole, decimal(2), float, bool, date, time, text, choice(low, middle, high)."""
     found = SPELLED_KIND.fullmatch(spelling.strip())
     name, inside = (found["name"], found["inside"]) if found else ("", None)
-    plain = {"whole": Whole, "float": Floats, "bool": Booleans, "date": Dates, "time": Times, "text": Texts}
+    plain: Dict[str, Callable[[], Kind]] = {"whole": Whole, "float": Floats, "bool": Booleans, "date": Dates, "time": Times, "text": Texts}
     if name in plain and inside is None:
         return plain[name]()
     if name == "decimal" and inside and inside.strip().isdigit():

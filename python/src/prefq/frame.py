@@ -21,7 +21,15 @@ MOST_COLUMNS = 16
 
 
 class UnknownValue(UserWarning):
-    """A question names a value that no row has, so it prefers nothing."""
+    """A warning: a question names a value that no row has, so that it prefers nothing.
+
+    >>> import prefq
+    >>> import warnings
+    >>> with prefq.Frame.from_records([{"City": "Lyon"}]) as hotels, warnings.catch_warnings(record=True) as caught:
+    ...     answer = hotels.best("best pos(City, 'Lion')")
+    >>> print(caught[0].category.__name__, caught[0].message, sep=": ")
+    UnknownValue: no row of 'City' has 'Lion'; did you mean 'Lyon'?
+    """
 
 
 class Frame:

@@ -72,7 +72,7 @@ class Whole(Kind):
                 return int(digits)
         elif type(value) is int:
             return int(value * 10**self.decimals)
-        exact = fraction_of(value) * 10**self.decimals
+        exact = self.position(value)
         if exact.denominator != 1:
             raise ValueError(f"{value} has more than {self.decimals} decimals" if self.decimals else f"{value} is no whole number")
         return exact.numerator
@@ -81,8 +81,8 @@ class Whole(Kind):
         position = self.position(text)
         return position.numerator if position.denominator == 1 and LEAST < position <= GREATEST else None
 
-    def position(self, text: str) -> Fraction:
-        return fraction_of(text) * 10**self.decimals
+    def position(self, text: Any) -> Fraction:
+        return fraction_of(text) * Fraction(10**self.decimals)
 
 
 class Decimals(Whole):
@@ -128,7 +128,7 @@ class Floats(Kind):
             raise TypeError(f"{value!r} is no number")
         if number != number:
             raise ValueError("not a number")
-        bits = struct.unpack("<q", struct.pack("<d", number))[0]
+        bits: int = struct.unpack("<q", struct.pack("<d", number))[0]
         # The bits of a negative number are its amount and the sign bit; those of -0.0 are the sign bit alone, which gives 0 as 0.0 does.
         return bits if bits >= 0 else LEAST - bits
 

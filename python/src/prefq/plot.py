@@ -4,7 +4,7 @@ import html
 import math
 import os
 from decimal import Decimal
-from typing import Any, Dict, List, NamedTuple, Optional, Sequence, Tuple, Union
+from typing import Any, Dict, Iterable, List, NamedTuple, Optional, Sequence, Tuple, Union
 
 from .answer import Answer
 from .columns import Column
@@ -14,9 +14,10 @@ from .kinds import Booleans, Choices, Texts
 from .questions import Base, Converse, Product, Question, Term, read_question
 
 WIDTH, HEIGHT = 720, 480
-LEFT, RIGHT, TOP, BOTTOM = 80, 150, 44, 56
+LEFT, RIGHT, TOP, BOTTOM = 96, 150, 44, 56
 COLOURS = ("#1f6fb4", "#e07b1a", "#3a9a4b", "#b03a7a", "#7a5bb0", "#8a6d3b")
 GREY = "#b8bec6"
+EPOCH = datetime.datetime(1970, 1, 1)
 
 
 class Axis(NamedTuple):
@@ -92,13 +93,13 @@ def _question(answer: Answer) -> Optional[Question]:
 
 
 def ways_of(term: Term, turned: bool = False) -> Dict[str, bool]:
-    """The columns that a term orders by low or high, and whether it prefers large values."""
+    """The columns that a term orders by low or high, as they stand there, and whether it prefers large values."""
     if isinstance(term, Converse):
         return ways_of(term.part, not turned)
     if isinstance(term, Product):
         found: Dict[str, bool] = {}
         for part in term.parts:
-            found = {**ways_of(part, turned), **found}
+            found.update((name, way) for name, way in ways_of(part, turned).items() if name not in found)
         return found
     return {term.column.name: (term.word == "high") != turned} if isinstance(term, Base) and term.word in ("low", "high") else {}
 
@@ -117,7 +118,7 @@ def _names(answer: Answer, x: Optional[str], y: Optional[str], ways: Dict[str, b
     for name in (x, y):
         if name is not None and name not in answer.names:
             raise Refused(unknown_column(name, answer.names), "arguments")
-    candidates = [name for name in answer.names if name in ways] + [column.name for column in answer.columns if column.kind.ordered and column.name not in ways]
+    candidates = list(ways) + [column.name for column in answer.columns if column.kind.ordered and column.name not in ways]
     candidates += [name for name in answer.names if name not in candidates]
     free = [name for name in candidates if name not in (x, y)]
     first = x if x is not None else free.pop(0)
@@ -141,9 +142,9 @@ def place_of(column: Column, value: Any) -> Optional[float]:
         return None
     if isinstance(value, datetime.datetime):
         naive = value.astimezone(datetime.timezone.utc).replace(tzinfo=None) if value.tzinfo else value
-        return (naive - datetime.datetime(1970, 1, 1)) / datetime.timedelta(days=1)
+        return (naive - EPOCH) / datetime.timedelta(days=1)
     if isinstance(value, datetime.date):
-        return float((value - datetime.date(1970, 1, 1)).days)
+        return float((value - EPOCH.date()).days)
     place = float(column.kind.encode(value)) if isinstance(column.kind, (Texts, Booleans)) else float(value)
     return place if math.isfinite(place) else None
 
@@ -278,12 +279,27 @@ def ticks_of(column: Column, places: Sequence[float]) -> List[Tuple[float, str]]
     if isinstance(column.kind, Texts):
         texts = column.kind.texts
         step = max(1, len(texts) // 8)
-        return [(float(code), text) for code, text in list(enumerate(texts, 1))[::step] if low <= code <= high]
-    marks = round_marks(low, high)
+        return [(float(code), text[:14]) for code, text in list(enumerate(texts, 1))[::step] if low <= code <= high]
     if column.kind.name in ("date", "time"):
-        return [(mark, (datetime.datetime(1970, 1, 1) + datetime.timedelta(days=mark)).strftime("%Y-%m-%d" if marks[-1] - marks[0] >= 2 else "%m-%d %H:%M"))
-                for mark in marks]
-    return [(mark, f"{mark:,.10g}") for mark in marks]
+        return marks_of_days(low, high)
+    return [(mark, f"{mark:,.10g}") for mark in round_marks(low, high)]
+
+
+def marks_of_days(low: float, high: float) -> List[Tuple[float, str]]:
+    """Marks for days since 1970: years, months, days or times."""
+    def date(days: float) -> datetime.datetime:
+        return EPOCH + datetime.timedelta(days=days)
+
+    def marks(dates: Iterable[datetime.datetime], form: str) -> List[Tuple[float, str]]:
+        found = [((date - EPOCH) / datetime.timedelta(days=1), date.strftime(form)) for date in dates]
+        return [mark for mark in found if low <= mark[0] <= high]
+
+    if high - low > 4 * 366:
+        return marks((datetime.datetime(int(year), 1, 1) for year in round_marks(date(low).year, date(high).year) if year == int(year)), "%Y")
+    if high - low > 120:
+        step = 1 if high - low < 200 else 3 if high - low < 800 else 6
+        return marks((datetime.datetime(year, month, 1) for year in range(date(low).year, date(high).year + 1) for month in range(1, 13, step)), "%Y-%m")
+    return marks(map(date, round_marks(low, high)), "%m-%d" if high - low > 5 else "%m-%d %H:%M")
 
 
 def round_marks(low: float, high: float) -> List[float]:

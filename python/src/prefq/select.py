@@ -20,10 +20,10 @@ def psel(frame: Any, text: str, *, top_level: Optional[int] = None, at_least: Op
     Frame or of records as an Answer.
 
     >>> import prefq
-    >>> prefq.psel([{"price": 60, "dist": 2.5}, {"price": 50, "dist": 3}, {"price": 70, "dist": 2.5}], "low(price) * low(dist)")
+    >>> prefq.psel([{"price": 60, "dist": 2.5}, {"price": 50, "dist": 3.5}, {"price": 70, "dist": 2.5}], "low(price) * low(dist)")
     level  id  price  dist
         1   1     60   2.5
-        1   2     50     3
+        1   2     50   3.5
     """
     mode = mode_of(top_level, at_least)
     if isinstance(frame, Frame):

@@ -1,5 +1,5 @@
 """Which rows dominate a row: pairs of rows as groups of one question."""
-from typing import Any, Dict, Iterable, List, Mapping, Optional, Sequence, Tuple
+from typing import Any, Dict, Iterable, List, Mapping, Optional, Sequence, Set, Tuple
 
 from .once import MOST_ROWS, ask_once
 from .questions import Question
@@ -41,13 +41,13 @@ class Rivals:
         levels = self._levels(found)
         return sorted(((id, levels.get(id)) for id in found), key=lambda pair: (pair[1] or LEVELS + 1, pair[0]))
 
-    def _over(self, target: Values, others: Iterable[Values]) -> "set[Values]":
+    def _over(self, target: Values, others: Iterable[Values]) -> Set[Values]:
         """Those of the values that dominate those of the target. Each of them and the target are a group of their own, of which the target is not among
         the best where it is dominated."""
         candidates = list(others)
         if len(self._columns) == MOST_COLUMNS:
             return self._over_one_by_one(target, candidates)
-        over = set()
+        over: Set[Values] = set()
         for begin in range(0, len(candidates), MOST_ROWS // 2):
             some = candidates[begin:begin + MOST_ROWS // 2]
             rows = [(*values, pair) for pair, other in enumerate(some) for values in (target, other)]
@@ -55,7 +55,7 @@ class Rivals:
             over.update(other for pair, other in enumerate(some) if 2 * pair + 1 not in best)
         return over
 
-    def _over_one_by_one(self, target: Values, candidates: List[Values]) -> "set[Values]":
+    def _over_one_by_one(self, target: Values, candidates: List[Values]) -> Set[Values]:
         """The same in a table of two rows, where no column is left for the number of a pair."""
         question = self._plan.text[:-len(f" by {PAIR}")]
         over = set()
