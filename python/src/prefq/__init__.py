@@ -7,6 +7,7 @@
 1 1 [50, 8]
 1 2 [80, 2]
 """
+from . import parts
 from .answer import Answer
 from .asynchronous import AsyncQuery, AsyncTable
 from .columns import Column
@@ -21,4 +22,4 @@ from .table import Table
 
 __version__ = "0.1.0"
 __all__ = ["Answer", "AsyncQuery", "AsyncTable", "Column", "Ended", "Error", "Frame", "ProgramNotFound", "Query", "Record", "Refused", "Row", "Table",
-           "UnknownValue", "find_program", "psel"]
+           "UnknownValue", "find_program", "parts", "psel"]

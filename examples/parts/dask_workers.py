@@ -1,0 +1,62 @@
+#!/usr/bin/env python3
+"""Asks a question of all CSV files of a folder on a Dask cluster, whose workers need neither this package nor the program: both are sent to them.
+
+    dask-scheduler --port 8786 &
+    dask-worker tcp://127.0.0.1:8786 --nthreads 1 &               # as many as you like, on machines that see the folder under the same path
+    python3 examples/parts/dask_workers.py tcp://127.0.0.1:8786 FOLDER 'best low(price) * low(dist)'
+
+Needs Dask (Debian: python3-distributed), and the package `prefq` where this runs.
+"""
+import io
+import os
+import sys
+import zipfile
+from pathlib import Path
+
+from distributed import Client
+
+import prefq
+from prefq.parts import best
+
+
+class SendPrefq:
+    """A worker plugin: writes the package and the program beside each worker, those that join later among them."""
+
+    name = "prefq"
+
+    def __init__(self, package, program):
+        self.package, self.program = package, program
+
+    def setup(self, worker):
+        package, program = (os.path.join(worker.local_directory, name) for name in ("prefq.zip", "prefq"))
+        for path, data, mode in [(package, self.package, 0o644), (program, self.program, 0o755)]:
+            with open(path + ".new", "wb") as file:
+                file.write(data)
+            os.chmod(path + ".new", mode)
+            os.replace(path + ".new", path)
+        sys.path.insert(0, package)
+        os.environ["PREFQ_PROGRAM"] = program
+
+
+def package():
+    """The Python files of the package, zipped, as Python can import them."""
+    folder, zipped = Path(prefq.__file__).parent, io.BytesIO()
+    with zipfile.ZipFile(zipped, "w", zipfile.ZIP_DEFLATED) as archive:
+        for path in folder.rglob("*.py"):
+            archive.write(path, path.relative_to(folder.parent))
+    return zipped.getvalue()
+
+
+def main(scheduler, folder, question):
+    files = sorted(Path(folder).resolve().glob("*.csv"))
+    with Client(scheduler) as client:
+        client.register_worker_plugin(SendPrefq(package(), Path(prefq.find_program()).read_bytes()))
+        try:
+            for row in best(files, question, map=client.map):
+                print(f"level {row.level} row {row.id}: {','.join(map(str, row.values))}")
+        except prefq.Error as why:
+            sys.exit(str(why))
+
+
+if __name__ == "__main__":
+    main(*sys.argv[1:])

@@ -1,0 +1,27 @@
+#!/usr/bin/env python3
+"""Asks a question of all CSV files of a folder, on the processors of this machine.
+
+    python3 examples/parts/pool.py FOLDER 'best low(price) * low(dist)' [PROCESSES]
+
+Needs the package `prefq` (`pip install ./python`). The files have the same header and whole numbers; ids are row numbers over all files, in order of name.
+"""
+import sys
+from concurrent.futures import ProcessPoolExecutor
+from pathlib import Path
+
+import prefq
+from prefq.parts import best
+
+
+def main(folder, question, processes=None):
+    files = sorted(Path(folder).glob("*.csv"))
+    with ProcessPoolExecutor(processes and int(processes)) as pool:
+        try:
+            for row in best(files, question, map=pool.map):
+                print(f"level {row.level} row {row.id}: {','.join(map(str, row.values))}")
+        except prefq.Error as why:
+            sys.exit(str(why))
+
+
+if __name__ == "__main__":
+    main(*sys.argv[1:])

@@ -1,0 +1,75 @@
+"""A partition of a large table: a header and rows of whole numbers, in memory or in a CSV file."""
+import csv
+import io
+import os
+import re
+from dataclasses import dataclass
+from typing import Any, List, Sequence, Tuple, Union
+
+from .checks import names
+from .errors import Refused
+from .rows import line
+
+PLAIN = b"0123456789,+- \t"
+NUMBER = re.compile(r"[ \t]*[-+]?[0-9]+[ \t]*")
+
+
+@dataclass(frozen=True)
+class Partition:
+    """A header and rows of whole numbers in memory. Each row is a sequence of numbers, or a line of text with commas between them.
+
+    >>> Partition(["price", "dist"], [[50, 8], "80,2"]).columns
+    ['price', 'dist']
+    """
+
+    columns: Sequence[str]
+    rows: Sequence[Any]
+
+
+Source = Union[Partition, str, "os.PathLike[str]"]
+
+
+def text_of(source: Source) -> Tuple[Tuple[str, ...], List[bytes]]:
+    """The names of the columns of a partition and its rows as lines of text; a path is that of a CSV file, which is read now.
+
+    >>> text_of(Partition(["price", "dist"], [[50, 8], "80,2"]))
+    (('price', 'dist'), [b'50,8', b'80,2'])
+    >>> text_of(Partition(["price", "dist"], [[50, 8], [80, 2.5]]))
+    Traceback (most recent call last):
+    TypeError: row 2, column dist is 2.5, of type float: not a whole number
+    """
+    if not isinstance(source, Partition):
+        return _read(source)
+    columns = names(source.columns)
+    return columns, [_line(columns, number, row) for number, row in enumerate(source.rows, 1)]
+
+
+def _line(columns: Sequence[str], number: int, row: Any) -> bytes:
+    """A row as a line. What a line of text says is read by the program; it must be a line of numbers, and no command."""
+    if not isinstance(row, (str, bytes)):
+        return line(row, columns, f"row {number}, ").encode()
+    text = row.encode() if isinstance(row, str) else row
+    if not text or text.translate(None, PLAIN):
+        raise TypeError(f"row {number} is {row!r}: not whole numbers with commas between them")
+    return text
+
+
+def _read(path: Union[str, "os.PathLike[str]"]) -> Tuple[Tuple[str, ...], List[bytes]]:
+    """A CSV file whose first line is the header. Empty lines are no rows."""
+    with open(path, "rb") as file:
+        head, _, body = file.read().partition(b"\n")
+    columns = names(next(csv.reader([head.decode("utf-8-sig").rstrip("\r")]), []))
+    body = body.replace(b"\r\n", b"\n")
+    if not body.translate(None, PLAIN + b"\n"):
+        return columns, [text for text in body.split(b"\n") if text]
+    records = [record for record in csv.reader(io.StringIO(body.decode(), newline="")) if record]
+    return columns, [_cells(columns, number, record) for number, record in enumerate(records, 1)]
+
+
+def _cells(columns: Sequence[str], number: int, record: Sequence[str]) -> bytes:
+    """A record of a file with quotes as a line without them."""
+    for place, cell in enumerate(record, 1):
+        if not NUMBER.fullmatch(cell):
+            name = columns[place - 1] if place <= len(columns) else place
+            raise Refused(f"row {number}, column {name} is {cell!r}: not a whole number", "table", 6, place)
+    return ",".join(record).encode()

@@ -1,0 +1,345 @@
+"""Questions over partitions: the same answers as a plain evaluation, on each engine, and what is refused."""
+import contextlib
+import importlib.util
+import os
+import pickle
+import random
+import shutil
+import socket
+import subprocess
+import sys
+import tempfile
+import unittest
+from concurrent.futures import ProcessPoolExecutor, ThreadPoolExecutor
+from functools import reduce
+from pathlib import Path
+from unittest import mock
+
+import prefq
+from prefq import parts
+from prefq.parts import Job, Partition, RowsLeft, best
+
+EXAMPLES = Path(__file__).resolve().parents[2] / "examples/parts"
+COLUMNS = ["price", "dist", "city"]
+QUESTIONS = {
+    "best low(price) * low(dist)": (None, 1, None),
+    "top_level 3 low(price) * low(dist) by city": (2, 3, None),
+    "at_least 9 low(price) * low(dist)": (None, None, 9),
+    "at_least 20 low(price) * low(dist) by city": (2, None, 20),
+}
+
+
+def plain(rows, group, levels, least):
+    """The answer by its definition, as levels and ids: what no row dominates, level by level, in each group."""
+    def dominates(a, b):
+        return a[0] <= b[0] and a[1] <= b[1] and a[:2] != b[:2]
+    found = []
+    for key in {row[group] if group else None for row in rows}:
+        left = [(id, row) for id, row in enumerate(rows, 1) if not group or row[group] == key]
+        level, count = 0, 0
+        while left and (level < levels if levels else count < least):
+            level += 1
+            front = [id for id, row in left if not any(dominates(other, row) for _, other in left)]
+            found += [(level, id) for id in front]
+            count += len(front)
+            left = [(id, row) for id, row in left if id not in front]
+    return sorted(found)
+
+
+def random_rows(chance, count, most=30):
+    return [[chance.randint(0, most), chance.randint(0, most), chance.randint(1, 3)] for _ in range(count)]
+
+
+def cut(rows, places):
+    ends = [0, *sorted(places), len(rows)]
+    return [Partition(COLUMNS, rows[begin:end]) for begin, end in zip(ends, ends[1:])]
+
+
+def answered(rows):
+    return [(row.level, row.id) for row in rows]
+
+
+def write(folder, rows, size):
+    """Files of so many rows."""
+    for number, begin in enumerate(range(0, len(rows), size)):
+        lines = [",".join(COLUMNS), *(",".join(map(str, row)) for row in rows[begin:begin + size])]
+        Path(folder, f"part-{number:02}.csv").write_text("\n".join(lines) + "\n")
+    return sorted(Path(folder).glob("*.csv"))
+
+
+class Exact(unittest.TestCase):
+    def test_random_rows_cut_anywhere(self):
+        chance = random.Random(44)
+        for number in range(4):
+            rows = random_rows(chance, chance.randint(40, 120))
+            partitions = cut(rows, [chance.randint(0, len(rows)) for _ in range(number * 3)])
+            for question, asked in QUESTIONS.items():
+                with self.subTest(question=question, partitions=len(partitions)):
+                    self.assertEqual(answered(best(partitions, question)), plain(rows, *asked))
+
+    def test_rows_of_one_partition_that_more_than_one_table_holds(self):
+        """Tables of 40 rows here, so that a partition is cut, and what it leaves is sometimes more than asked for."""
+        chance, refused, right = random.Random(7), 0, 0
+        with mock.patch.object(parts, "MOST_ROWS", 40):
+            for _ in range(5):
+                rows = random_rows(chance, chance.randint(60, 160))
+                for question, asked in QUESTIONS.items():
+                    try:
+                        found = answered(best(cut(rows, [50]), question))
+                    except RowsLeft as why:
+                        self.assertGreater(why.left, 40)
+                        refused += 1
+                        continue
+                    self.assertEqual(found, plain(rows, *asked), question)
+                    right += 1
+        self.assertGreater(right, refused)
+
+    def test_levels_are_asked_for_in_turn(self):
+        jobs = parts._jobs("  at_least 100 low(price) by city", None)
+        self.assertEqual([job.levels for job in jobs], [4, 16, 64, 100])
+        self.assertEqual([job.levels for job in parts._jobs("at_least 3 low(price)", None)], [3])
+        self.assertEqual([job.levels for job in parts._jobs("best low(price)", None)], [None])
+
+    def test_a_chain_needs_as_many_levels_as_rows(self):
+        rows = [[number, number, 1] for number in range(40)]
+        self.assertEqual(answered(best(cut(rows, [7, 30]), "at_least 30 low(price) * low(dist)")), [(level, level) for level in range(1, 31)])
+
+    def test_a_group_of_few_rows_needs_no_more_levels(self):
+        rows = [[5, 5, 1], [6, 6, 1], *([number, 9 - number, 2] for number in range(10))]
+        calls = []
+
+        def counted(function, items):
+            calls.append(function.__name__)
+            return map(function, items)
+        found = best(cut(rows, [1]), "at_least 10 low(price) * low(dist) by city", map=counted)
+        self.assertEqual(answered(found), plain(rows, 2, None, 10))
+        self.assertEqual(calls, ["part", "answer"])
+
+    def test_of_twins_the_one_of_the_first_partition_stays(self):
+        rows = [[20, 1, 1], [10, 5, 1], [10, 7, 1], [10, 5, 2], [10, 5, 1]]
+        for places in ([], [1], [2], [1, 2, 3, 4]):
+            with self.subTest(places=places):
+                self.assertEqual(answered(best(cut(rows, places), "skyline of distinct price min, dist min")), [(1, 1), (1, 2)])
+                self.assertEqual(answered(best(cut(rows, places), "skyline of distinct price min, city diff")), [(1, 2), (1, 4)])
+
+    def test_a_tree_of_merges_and_a_given_reduction(self):
+        rows = random_rows(random.Random(3), 60)
+        partitions = cut(rows, range(3, 60, 3))
+        for question in ["best low(price) * low(dist)", "skyline of distinct price min, city diff"]:
+            wanted = best([Partition(COLUMNS, rows)], question)
+            self.assertEqual(best(partitions, question), wanted)
+            self.assertEqual(best(partitions, question, reduce=reduce), wanted)
+            self.assertEqual(best(partitions, question, reduce=lambda merge, items: reduce(lambda a, b: merge(b, a), reversed(list(items)))), wanted)
+
+    def test_values_are_whole_numbers_of_64_bits(self):
+        rows = [[-2**63, 2**63 - 1], [2**63 - 1, -2**63]]
+        found = best([Partition(["a", "b"], rows)], "best low(a) * low(b)")
+        self.assertEqual([row.values for row in found], rows)
+
+    def test_no_rows(self):
+        self.assertEqual(best([Partition(COLUMNS, []), Partition(COLUMNS, [])], "best low(price)"), [])
+
+
+class Files(unittest.TestCase):
+    def setUp(self):
+        folder = tempfile.TemporaryDirectory()
+        self.addCleanup(folder.cleanup)
+        self.folder = Path(folder.name)
+
+    def file(self, data, name="rows.csv"):
+        path = self.folder / name
+        path.write_bytes(data)
+        return path
+
+    def test_spellings_of_a_file(self):
+        for name, data in {
+            "plain": b"price,dist\n50,8\n80,2\n", "no line end": b"price,dist\n50,8\n80,2", "returns": b"price,dist\r\n50,8\r\n80,2\r\n",
+            "mark": b"\xef\xbb\xbfprice,dist\n50,8\n80,2\n", "quotes": b'"price","dist"\n"50",8\n80,"2"\n', "blanks": b"price,dist\n +50, 8\n80,2 \n",
+            "empty lines": b"price,dist\n\n50,8\n\n80,2\n\n", "quotes and empty lines": b'price,dist\n\n"50",8\n\n80,2\n',
+        }.items():
+            with self.subTest(name):
+                self.assertEqual([tuple(row) for row in best([self.file(data)], "best low(dist)")], [(1, 2, [80, 2])])
+                self.assertEqual([row.id for row in best([str(self.file(data))], "top_level 2 low(dist)")], [2, 1])
+
+    def test_a_fault_of_a_file_names_the_file_and_the_row(self):
+        for data, exception, said in [
+            (b"price,dist\n50,8\n50,x\n", prefq.Refused, "row 2, column dist is 'x'"),
+            (b"price,dist\n50,8\n50,\n", prefq.Refused, "row 2"),
+            (b"price,dist\n50,8\n50\n", prefq.Refused, "row 2"),
+            (b"price,dist\n50,8\n60,9223372036854775808\n", prefq.Refused, "row 2"),
+            (b"price,dist\n50,8.5\n", prefq.Refused, "8.5"),
+            (b"", ValueError, "0 columns"),
+            (b"price (EUR),dist\n50,8\n", ValueError, "price (EUR)"),
+            (b"price,dist\n50,\xff\n", ValueError, "decode"),
+        ]:
+            with self.subTest(data=data), self.assertRaises(exception) as caught:
+                best([self.file(data)], "best low(price)")
+            self.assertIn("rows.csv: ", str(caught.exception))
+            self.assertIn(said, str(caught.exception))
+        with self.assertRaises(FileNotFoundError):
+            best([self.folder / "none.csv"], "best low(price)")
+
+    def test_rows_of_a_partition_that_is_cut_are_counted_in_it(self):
+        rows = [f"{number},1" for number in range(90)]
+        rows[77] = "5"
+        with mock.patch.object(parts, "MOST_ROWS", 40), self.assertRaises(prefq.Refused) as caught:
+            best([Partition(["price", "dist"], rows)], "best low(price)")
+        self.assertIn("row 78", str(caught.exception))
+
+
+class Refusals(unittest.TestCase):
+    def test_a_line_is_no_command(self):
+        for rows in (["end"], ["5", "end", "as 1 room"], ["5\nend\nas 1 begin best low(a)"], [""], ["5;"], [b"end"]):
+            with self.subTest(rows=rows), self.assertRaises(TypeError):
+                best([Partition(["a"], rows)], "best low(a)")
+
+    def test_rows_that_are_not_whole_numbers(self):
+        for rows in ([[1.5, 2]], [[True, 2]], [["7", 2]], [[None, 2]], [5], [{"a": 1, "b": 2}]):
+            with self.subTest(rows=rows), self.assertRaises(TypeError):
+                best([Partition(["a", "b"], rows)], "best low(a)")
+        with self.assertRaises(ValueError):
+            best([Partition(["a", "b"], [[1]])], "best low(a)")
+
+    def test_a_question_is_refused_at_its_own_place(self):
+        for question, place in [("best low(prize)", 9), ("at_least 40 low(prize)", 16), ("at_least 1001 low(price)", 9), ("at_least40 low(price)", 0),
+                                ("at_least 5 low(price) by town", 25), ("skyline of price", 16)]:
+            with self.subTest(question=question), self.assertRaises(prefq.Refused) as caught:
+                best([Partition(COLUMNS, [[1, 2, 3]])], question)
+            self.assertEqual((caught.exception.kind, caught.exception.place), ("term", place))
+            self.assertEqual(str(caught.exception).splitlines()[-1].index("^") - 4, place)
+        for question in ("", "best low(price)\nas 1 room", "best low(price)\r"):
+            with self.subTest(question=question), self.assertRaises(prefq.Refused):
+                best([Partition(COLUMNS, [])], question)
+        with self.assertRaises(TypeError):
+            best([Partition(COLUMNS, [])], None)
+
+    def test_no_partition_and_other_columns(self):
+        with self.assertRaises(ValueError):
+            best([], "best low(price)")
+        with self.assertRaises(prefq.Refused) as caught:
+            best([Partition(["a", "b"], [[1, 2]]), Partition(["b", "a"], [[1, 2]])], "best low(a)")
+        self.assertIn("different columns: a, b and b, a", str(caught.exception))
+
+    def test_rows_that_nothing_dominates(self):
+        rows = [f"{number},{number % 7}" for number in range(66_000)]
+        with self.assertRaises(RowsLeft) as caught:
+            best([Partition(["offer", "price"], rows[:30_000]), Partition(["offer", "price"], rows[30_000:])], "best low(price) by offer")
+        self.assertEqual((caught.exception.left, caught.exception.count), (66_000, 66_000))
+        self.assertIn("66000 rows of 66000 are left", str(caught.exception))
+
+    def test_no_program(self):
+        with self.assertRaises(prefq.ProgramNotFound):
+            best([Partition(["a"], [[1]])], "best low(a)", program="/no/such/program")
+        with self.assertRaises(prefq.Ended) as caught:
+            best([Partition(["a"], [[1]])], "best low(a)", program="/bin/false")
+        self.assertIn("status 1", str(caught.exception))
+
+    def test_exceptions_jobs_and_results_can_be_pickled(self):
+        left = pickle.loads(pickle.dumps(RowsLeft(70_000, 80_000)))
+        self.assertEqual((left.left, left.count, left.kind), (70_000, 80_000, "parts"))
+        job = Job("best low(a)")
+        part = job.part(Partition(["a"], [[3], [1]]))
+        self.assertEqual(pickle.loads(pickle.dumps((job, part))), (job, part))
+
+
+class Engines(unittest.TestCase):
+    def setUp(self):
+        folder = tempfile.TemporaryDirectory()
+        self.addCleanup(folder.cleanup)
+        self.folder = folder.name
+        rows = random_rows(random.Random(9), 900, 200)
+        self.files = write(self.folder, rows, 80)
+        self.wanted = {question: plain(rows, *asked) for question, asked in QUESTIONS.items()}
+
+    def check(self, map):
+        """The answers, a refusal with its place, and that the engine goes on after it."""
+        for question, wanted in self.wanted.items():
+            self.assertEqual(answered(best(self.files, question, map=map)), wanted, question)
+        with self.assertRaises(prefq.Refused) as caught:
+            best(self.files, "best low(prize)", map=map)
+        self.assertEqual((caught.exception.kind, caught.exception.number, caught.exception.place), ("term", 2, 9))
+        question = "best low(price) * low(dist)"
+        self.assertEqual(answered(best(self.files, question, map=map)), self.wanted[question])
+
+    def test_threads(self):
+        with ThreadPoolExecutor(2) as pool:
+            self.check(pool.map)
+
+    def test_processes(self):
+        with ProcessPoolExecutor(2) as pool:
+            self.check(pool.map)
+
+    def test_dask(self):
+        needs(self, "distributed")
+        from distributed import Client, LocalCluster
+        with LocalCluster(n_workers=2, threads_per_worker=1, dashboard_address=None, memory_limit=None, silence_logs="ERROR") as cluster, Client(cluster) as client:
+            self.check(client.map)
+
+    def test_dask_workers_that_have_nothing(self):
+        """Separate worker processes without the package and the program, by the example."""
+        needs(self, "distributed")
+        place = f"127.0.0.1:{free_port()}"
+        bare = {name: value for name, value in os.environ.items() if name not in ("PYTHONPATH", "PREFQ_PROGRAM")}
+        words = [sys.executable, "-m", "distributed.cli.dask_worker", f"tcp://{place}", "--nthreads", "1", "--no-dashboard", "--no-nanny"]
+        with contextlib.ExitStack() as stack:
+            for command in ([sys.executable, "-m", "distributed.cli.dask_scheduler", "--host", f"tcp://{place}", "--no-dashboard"],
+                            [*words, "--local-directory", f"{self.folder}/first"], [*words, "--local-directory", f"{self.folder}/second"]):
+                process = subprocess.Popen(command, env=bare, cwd=self.folder, stdout=subprocess.DEVNULL, stderr=subprocess.DEVNULL)
+                stack.callback(end, process)
+            question = "at_least 9 low(price) * low(dist)"
+            done = self.example("dask_workers.py", f"tcp://{place}", self.folder, question)
+            refused = self.example("dask_workers.py", f"tcp://{place}", self.folder, "best low(prize)")
+        self.assertEqual([tuple(map(int, line.replace(":", "").split()[1:4:2])) for line in done.stdout.splitlines()], self.wanted[question], done.stderr)
+        self.assertEqual(refused.returncode, 1)
+        self.assertIn("unknown column", refused.stderr)
+
+    def test_mpi(self):
+        needs(self, "mpi4py")
+        if not shutil.which("mpiexec"):
+            self.skipTest("mpiexec is not installed")
+        question = "top_level 3 low(price) * low(dist) by city"
+        environment = {**package_path(), "OMPI_ALLOW_RUN_AS_ROOT": "1", "OMPI_ALLOW_RUN_AS_ROOT_CONFIRM": "1"}
+        done = subprocess.run(["mpiexec", "--oversubscribe", "-n", "3", sys.executable, "-m", "mpi4py.futures", str(EXAMPLES / "mpi.py"), self.folder, question],
+                              env=environment, stdout=subprocess.PIPE, stderr=subprocess.PIPE, universal_newlines=True, timeout=120)
+        self.assertEqual([tuple(map(int, line.replace(":", "").split()[1:4:2])) for line in done.stdout.splitlines()], self.wanted[question], done.stderr)
+
+    def test_the_examples_of_a_pool_and_a_cut_file(self):
+        question = "best low(price) * low(dist)"
+        done = self.example("pool.py", self.folder, question, "2")
+        self.assertEqual([tuple(map(int, line.replace(":", "").split()[1:4:2])) for line in done.stdout.splitlines()], self.wanted[question], done.stderr)
+        done = self.example("parts.py", prefq.find_program(), str(self.files[0]), question)
+        self.assertEqual(done.returncode, 0, done.stderr)
+        self.assertEqual(len(done.stdout.splitlines()), len(best(self.files[:1], question)))
+
+    def example(self, name, *words):
+        return subprocess.run([sys.executable, str(EXAMPLES / name), *words], env=package_path(), stdout=subprocess.PIPE, stderr=subprocess.PIPE,
+                              universal_newlines=True, timeout=120)
+
+
+def needs(test, module):
+    if not importlib.util.find_spec(module):
+        test.skipTest(f"{module} is not installed")
+
+
+def package_path():
+    """The environment in which Python finds this package."""
+    return {**os.environ, "PYTHONPATH": str(Path(prefq.__file__).parents[1])}
+
+
+def free_port():
+    with socket.socket() as some:
+        some.bind(("127.0.0.1", 0))
+        return some.getsockname()[1]
+
+
+def end(process):
+    process.terminate()
+    try:
+        process.wait(10)
+    except subprocess.TimeoutExpired:
+        process.kill()
+        process.wait()
+
+
+if __name__ == "__main__":
+    unittest.main()
