@@ -1,0 +1,65 @@
+#!/usr/bin/env python3
+"""A booking desk: offers come, go and change their prices, and every browser that watches sees the best ones.
+
+    python3 examples/booking/booking.py [--port 8765] [--still] [--offers 60]
+
+Open the address that it prints, in two windows. With `--still` nothing moves but by you; otherwise an offer is repriced each second.
+Needs the package `prefq`: `pip install ./python`, or PYTHONPATH=python/src and PREFQ_PROGRAM=crates/prefq/out/prefq.
+"""
+import argparse
+import random
+import threading
+import time
+
+import prefq
+from prefq.desk import Desk
+from prefq.serve import Server, run
+
+KINDS = {"Hotel": "text", "Price (EUR)": "decimal(2)", "Distance (m)": "whole", "Rating": "decimal(1)"}
+QUESTIONS = [
+    'top_level 2 low("Price (EUR)") * low("Distance (m)")',
+    'best low("Price (EUR)") * low("Distance (m)") * high(Rating)',
+    'best around("Price (EUR)", 90) & high(Rating)',
+    'best between("Distance (m)", 0, 1000) & low("Price (EUR)") * high(Rating)',
+    'at_least 5 high(Rating) & low("Price (EUR)")',
+]
+FIRST = ["Port", "Alpine", "Old Town", "Garden", "Station", "River", "Grand", "Little"]
+SECOND = ["Inn", "House", "Hotel", "Lodge", "Rooms", "Palace"]
+
+
+def offers(count, chance):
+    """Some offers: the farther from the centre, the cheaper, more or less."""
+    for number in range(1, count + 1):
+        distance = round(chance.uniform(100, 6000), -1)
+        price = max(35, chance.gauss(160 - distance * 0.012, 35))
+        yield {"Hotel": f"{chance.choice(FIRST)} {chance.choice(SECOND)} {number}", "Price (EUR)": round(price, 2), "Distance (m)": int(distance),
+               "Rating": chance.randint(20, 50) / 10}
+
+
+def reprice(desk, count, chance):
+    """Changes the price of some offer, each second."""
+    while True:
+        time.sleep(1)
+        try:
+            desk.update(chance.randint(1, count), {"Price (EUR)": round(chance.uniform(45, 220), 2)})
+        except prefq.Refused:       # that offer is gone
+            pass
+        except prefq.Ended:         # the desk is closed
+            return
+
+
+def main():
+    parser = argparse.ArgumentParser(description="A booking desk in the browser.")
+    parser.add_argument("--port", type=int, default=8765)
+    parser.add_argument("--offers", type=int, default=60)
+    parser.add_argument("--still", action="store_true", help="no price moves by itself")
+    given = parser.parse_args()
+    chance = random.Random(11)
+    desk = Desk(prefq.Frame.from_records(offers(given.offers, chance), kinds=KINDS))
+    if not given.still:
+        threading.Thread(target=reprice, args=[desk, given.offers, chance], daemon=True).start()
+    run(Server(desk, port=given.port, title="Hotels worth a look", questions=QUESTIONS))
+
+
+if __name__ == "__main__":
+    main()

@@ -1,0 +1,194 @@
+// The page: asks a question, shows each picture that the server sends, and changes rows.
+import {draw, levelName, make, shape} from "./plot.js";
+
+const $ = id => document.getElementById(id);
+const EXCERPT = 72;
+let about, picture, stream;
+
+function element(tag, properties = {}, ...children) {
+  const made = Object.assign(document.createElement(tag), properties);
+  made.append(...children);
+  return made;
+}
+
+async function begin() {
+  about = await (await fetch("/about")).json();
+  document.title = $("title").textContent = about.title;
+  $("examples").append(element("option", {textContent: "choose …", value: ""}), ...about.questions.map(text => element("option", {textContent: text, value: text})));
+  for (const axis of ["x", "y"]) {
+    $(axis).append(element("option", {textContent: "as asked", value: ""}), ...about.columns.filter(column => column.axis).map(column => element("option", {textContent: column.name, value: column.name})));
+    $(axis).addEventListener("change", listen);
+  }
+  $("question").value = new URLSearchParams(location.search).get("question") || about.questions[0];
+  $("add").hidden = !about.editable;
+  listen();
+}
+
+function isNumber(column) {
+  return Boolean(column) && ["whole", "decimal", "float"].includes(column.kind);
+}
+
+function listen() {
+  const asked = {question: $("question").value.trim().replace(/\s*\n\s*/g, " ")};
+  for (const axis of ["x", "y"]) if ($(axis).value) asked[axis] = $(axis).value;
+  if (stream) stream.close();
+  stream = new EventSource(`/events?${new URLSearchParams(asked)}`);
+  stream.addEventListener("message", event => show(JSON.parse(event.data)));
+  stream.addEventListener("refused", event => {
+    event.target.close();
+    refuse(JSON.parse(event.data), asked.question);
+  });
+  stream.addEventListener("error", () => { $("state").textContent = "The server does not answer. Trying again …"; });
+}
+
+function refuse(reason, question) {
+  $("question").setAttribute("aria-invalid", "true");
+  $("refusal").replaceChildren(element("p", {textContent: reason.error}));
+  if (Number.isInteger(reason.place)) $("refusal").append(pointed(question, reason.place));
+  $("refusal").hidden = false;
+  $("state").textContent = "The question is refused; the picture is that of the question before.";
+}
+
+// The question with a caret below its character; of a long one the part around it.
+function pointed(question, place) {
+  const begin = question.length > EXCERPT ? Math.max(0, Math.min(place - EXCERPT / 2, question.length - EXCERPT)) : 0;
+  const before = (begin ? "…" : "") + question.slice(begin, place), after = question.slice(place + 1, begin + EXCERPT) + (question.length > begin + EXCERPT ? "…" : "");
+  return element("pre", {}, before, element("mark", {textContent: question[place] || " "}), `${after}\n${" ".repeat(before.length)}`, element("span", {className: "caret", textContent: "^"}));
+}
+
+function show(told) {
+  picture = told;
+  $("question").removeAttribute("aria-invalid");
+  $("refusal").hidden = true;
+  history.replaceState(null, "", `?${new URLSearchParams({question: told.question})}`);
+  $("state").textContent = `Live, version ${told.version}`;
+  const levels = Math.max(0, ...told.best.map(row => row.level)), first = told.best.filter(row => row.level === 1).length;
+  const more = told.found > told.best.length ? `, of which the first ${told.best.length} are shown` : "";
+  $("summary").textContent = `${told.found} of ${told.count} rows are in the answer${more}${levels > 1 ? `: ${first} in the first level, ${told.found - first} behind it` : ""}.`;
+  fillTable(told.best);
+  redraw();
+}
+
+function redraw() {
+  if (!picture) return;
+  const labels = row => about.columns.map((column, at) => `${column.name}: ${row.cells[at]}`).join("\n");
+  const rows = [...picture.others.map(([id, x, y, text]) => ({id, x, y, text})), ...picture.best.map(row => ({...row, text: labels(row)}))];
+  const axes = picture.axes.map(name => about.columns.find(column => column.name === name) || {name: "row", kind: "whole"});
+  const count = draw($("plot"), rows, axes);
+  const levels = new Set(picture.best.map(row => levelName(row.level)));
+  const legend = [["first", "level 1"], ["second", "level 2"], ["further", "further levels"], ["other", "other rows"]].filter(([name]) => name === "other" || levels.has(name));
+  const notes = [];
+  const hidden = picture.count - picture.found - picture.others.length;
+  if (hidden > 0) notes.push(`${hidden} others are not drawn`);
+  if (count < rows.length) notes.push(`${rows.length - count} without a value on an axis`);
+  $("legend").replaceChildren(...legend.map(([name, text]) => element("li", {}, sign(name), ` ${text}`)), ...notes.map(text => element("li", {textContent: text})));
+}
+
+function sign(name) {
+  const svg = make("svg", {viewBox: "-8 -8 16 16", "aria-hidden": "true"});
+  svg.append(shape(name));
+  return svg;
+}
+
+// The places of the columns as the table has them: the first of texts, which is mostly a name, those of the question, and the others.
+function order() {
+  const name = about.columns.findIndex(column => column.kind === "text" || column.kind === "choice");
+  const asked = picture.asked.map(asked => about.columns.findIndex(column => column.name === asked));
+  return [...new Set([...(name < 0 ? [] : [name]), ...asked, ...about.columns.keys()])];
+}
+
+function fillTable(rows) {
+  const places = order(), body = $("rows").tBodies[0], focus = document.activeElement;
+  const head = (textContent, column) => element("th", {scope: "col", textContent, className: isNumber(column) ? "number" : ""});
+  $("rows").tHead.replaceChildren(element("tr", {}, head("Level"), ...places.map(at => head(about.columns[at].name, about.columns[at])), ...(about.editable ? [head("Change")] : [])));
+  body.replaceChildren(...rows.map(row => {
+    const cells = places.map(at => element("td", {textContent: row.cells[at], className: isNumber(about.columns[at]) ? "number" : ""}));
+    const line = element("tr", {}, element("td", {textContent: row.level, className: levelName(row.level)}), ...cells);
+    line.dataset.id = row.id;
+    if (about.editable) line.append(element("td", {}, action("Edit", row, edit), " ", action("Remove", row, remove)));
+    return line;
+  }));
+  // The button that had the focus has it again, where its row is still there.
+  const id = focus?.closest?.("tr")?.dataset.id;
+  if (id) [...body.querySelectorAll(`tr[data-id="${id}"] button`)].find(button => button.textContent === focus.textContent)?.focus();
+}
+
+function action(name, row, act) {
+  const button = element("button", {type: "button", textContent: name, ariaLabel: `${name} ${row.cells[0]}`});
+  button.addEventListener("click", () => act(row));
+  return button;
+}
+
+async function send(method, path, values) {
+  const reply = await fetch(path, {method, headers: {"Content-Type": "application/json"}, body: values && JSON.stringify(values)});
+  const told = await reply.json().catch(() => ({error: `the server replies ${reply.status}`}));
+  if (!reply.ok) throw new Error(told.error);
+  return told;
+}
+
+function valuesOf(cells) {
+  return Object.fromEntries(about.columns.map((column, at) => [column.name, cells[at]]));
+}
+
+function edit(row) {
+  $("what").textContent = row ? `Change ${row.cells[0]}` : "Add a row";
+  $("fields").replaceChildren(...about.columns.map((column, at) => element("label", {}, column.name, field(column, row ? row.cells[at] : ""))));
+  $("wrong").hidden = true;
+  $("editor").dataset.id = row ? row.id : "";
+  $("editor").showModal();
+}
+
+function field(column, value) {
+  if (column.kind === "bool") {
+    const select = element("select", {name: column.name}, ...[["", "unknown"], ["true", "yes"], ["false", "no"]].map(([value, textContent]) => element("option", {value, textContent})));
+    select.value = value;
+    return select;
+  }
+  const input = element("input", {name: column.name, type: column.kind === "date" ? "date" : "text", value, autocomplete: "off"});
+  if (isNumber(column)) input.inputMode = "decimal";
+  return input;
+}
+
+async function save(event) {
+  event.preventDefault();
+  const values = Object.fromEntries(new FormData($("values"))), id = $("editor").dataset.id;
+  try {
+    await (id ? send("PUT", `/rows/${id}`, values) : send("POST", "/rows", values));
+    $("editor").close();
+    said(id ? "Changed." : "Added.");
+  } catch (why) {
+    $("wrong").textContent = why.message;
+    $("wrong").hidden = false;
+  }
+}
+
+async function remove(row) {
+  try {
+    await send("DELETE", `/rows/${row.id}`);
+    const undo = element("button", {type: "button", textContent: "Undo"});
+    undo.addEventListener("click", () => send("POST", "/rows", valuesOf(row.cells)).then(() => said("Added again."), why => said(why.message)));
+    said(`${row.cells[0]} is removed. `, undo);
+  } catch (why) {
+    said(why.message);
+  }
+}
+
+function said(...parts) {
+  $("done").replaceChildren(...parts);
+}
+
+function choose(event) {
+  const id = event.target.closest?.("[data-id]")?.dataset.id;
+  for (const chosen of document.querySelectorAll(".chosen")) chosen.classList.remove("chosen");
+  if (id) for (const same of document.querySelectorAll(`tr[data-id="${id}"], .point[data-id="${id}"]`)) same.classList.add("chosen");
+}
+
+$("ask").addEventListener("submit", event => { event.preventDefault(); listen(); });
+$("question").addEventListener("keydown", event => { if (event.key === "Enter" && !event.shiftKey) { event.preventDefault(); listen(); } });
+$("examples").addEventListener("change", event => { if (event.target.value) { $("question").value = event.target.value; event.target.value = ""; listen(); } });
+$("add").addEventListener("click", () => edit(null));
+$("values").addEventListener("submit", event => { if (event.submitter?.value === "save") save(event); });
+document.addEventListener("pointerover", choose);
+document.addEventListener("focusin", choose);
+new ResizeObserver(redraw).observe($("plot"));
+begin();

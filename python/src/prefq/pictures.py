@@ -1,0 +1,69 @@
+"""Pictures as JSON: the answer as a table, and all rows as points of a scatter plot."""
+import datetime
+from decimal import Decimal
+from typing import Any, Dict, List, Optional, Sequence
+
+from .columns import Column, spelled
+from .desk import Desk, Held, Numbers
+from .kinds import Texts
+
+MOST_BEST = 500         # rows of an answer that are sent; a page is no place for more
+MOST_OTHERS = 2000      # other rows that are drawn
+DAY = datetime.date(1970, 1, 1).toordinal()
+
+
+def about(desk: Desk, title: str, questions: Sequence[str], editable: bool) -> Dict[str, Any]:
+    """What a page has to know before the first picture."""
+    columns = [{"name": column.name, "spelled": spelled(column.name), "kind": column.kind.name, "example": column.kind.example, "axis": is_axis(column)}
+               for column in desk.columns]
+    return {"title": title, "columns": columns, "questions": list(questions), "editable": editable}
+
+
+def picture(desk: Desk, question: str, axes: Sequence[Optional[str]] = (None, None)) -> Dict[str, Any]:
+    """The rows and the answer at one version. Axes are names of columns; those that are not given are the first two of the question that are no texts."""
+    seen = desk.picture(question)
+    x, y = chosen(desk, seen.asked, axes)
+    label = next((place for place, column in enumerate(desk.columns) if isinstance(column.kind, Texts)), None)
+    best = [{"id": row.id, "level": row.level, "cells": texts(desk, row.numbers), "x": at(desk, row, x), "y": at(desk, row, y)} for row in seen.best[:MOST_BEST]]
+    among = {row.id for row in seen.best}
+    others = sample([row for row in seen.rows if row.id not in among])
+    points = [[row.id, at(desk, row, x), at(desk, row, y), "" if label is None else texts(desk, row.numbers)[label]] for row in others]
+    return {"version": seen.version, "question": question, "count": len(seen.rows), "found": len(seen.best), "best": best, "others": points,
+            "asked": [column.name for column in seen.asked], "axes": [None if axis is None else desk.columns[axis].name for axis in (x, y)]}
+
+
+def is_axis(column: Column) -> bool:
+    return not isinstance(column.kind, Texts)
+
+
+def chosen(desk: Desk, asked: Sequence[Column], axes: Sequence[Optional[str]]) -> List[Optional[int]]:
+    """The places of the columns of both axes. None, where there is no further column, stands for the number of the row."""
+    places = {column.name: place for place, column in enumerate(desk.columns) if is_axis(column)}
+    rest = [places[column.name] for column in [*asked, *desk.columns] if column.name in places]
+    rest = [place for place in dict.fromkeys(rest) if desk.columns[place].name not in axes]
+    return [places[name] if name in places else rest.pop(0) if rest else None for name in axes]
+
+
+def at(desk: Desk, row: Any, axis: Optional[int]) -> Any:
+    """Where a row stands on an axis: a number; days or seconds since 1970 for dates and times; None where the value is missing."""
+    if axis is None:
+        return row.id
+    value = desk.columns[axis].decode(row.numbers[axis])
+    if isinstance(value, datetime.datetime):
+        return value.replace(tzinfo=value.tzinfo or datetime.timezone.utc).timestamp()
+    if isinstance(value, datetime.date):
+        return value.toordinal() - DAY
+    if isinstance(value, float):
+        return value if abs(value) < float("inf") else None
+    return float(value) if isinstance(value, Decimal) else value
+
+
+def texts(desk: Desk, numbers: Numbers) -> List[str]:
+    """The values of a row as a file has them."""
+    return [column.text(column.decode(number)) for column, number in zip(desk.columns, numbers)]
+
+
+def sample(rows: List[Held]) -> List[Held]:
+    """Some of many rows, for the most part the same ones in each picture."""
+    step = -(-len(rows) // MOST_OTHERS)
+    return rows if step <= 1 else [row for row in rows if row.id % step == 0]
