@@ -28,10 +28,11 @@ class Browser:
         environment = {**os.environ, "HOME": self._folder.name}
         self._process = subprocess.Popen(words, stdout=subprocess.DEVNULL, stderr=subprocess.DEVNULL, env=environment, start_new_session=True)
         self._count = 0
+        self.faults = []        # exceptions in the page, and what its policy or the network refused
         try:
             self._connect(self._address())
-            self.call("Page.enable")
-            self.call("Runtime.enable")
+            for domain in ("Page", "Runtime", "Log"):
+                self.call(f"{domain}.enable")
             self.size(width, height)
             self.call("Emulation.setEmulatedMedia", features=[{"name": "prefers-color-scheme", "value": "dark" if dark else "light"}])
         except BaseException:
@@ -79,6 +80,18 @@ class Browser:
             time.sleep(0.05)
         raise AssertionError(f"{code} was not true within {seconds} seconds; the page says: {self.js('document.body.innerText')[:2000]}")
 
+    def click(self, selector):
+        self.js(f"document.querySelector({json.dumps(selector)}).click()")
+
+    def fill(self, selector, value):
+        self.js(f"document.querySelector({json.dumps(selector)}).value = {json.dumps(value)}")
+
+    def text(self, selector):
+        return self.js(f"document.querySelector({json.dumps(selector)}).innerText")
+
+    def count(self, selector):
+        return self.js(f"document.querySelectorAll({json.dumps(selector)}).length")
+
     def screenshot(self, path):
         with open(path, "wb") as file:
             file.write(base64.b64decode(self.call("Page.captureScreenshot", format="png")["data"]))
@@ -89,6 +102,8 @@ class Browser:
         self._send(json.dumps({"id": self._count, "method": method, "params": parameters}).encode())
         while True:
             told = json.loads(self._message())
+            if told.get("method") == "Runtime.exceptionThrown" or told.get("method") == "Log.entryAdded" and told["params"]["entry"]["level"] == "error":
+                self.faults.append(told["params"])
             if told.get("id") == self._count:
                 if "error" in told:
                     raise AssertionError(f"{method}: {told['error']}")

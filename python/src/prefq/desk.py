@@ -15,6 +15,7 @@ from .table import Table
 from .translate import columns_in, plan
 
 SECONDS = 60.0      # that the program may stand still before it is started again
+TRIES = 3           # how often a call starts it again
 Numbers = Tuple[int, ...]
 Result = TypeVar("Result")
 
@@ -134,7 +135,7 @@ class Desk:
     def picture(self, text: str) -> Picture:
         """The rows and the answer to a question at one version."""
         question = self.read(text)
-        for last in (False, False, True):
+        for last in [False] * TRIES + [True]:
             try:
                 return self._picture(text, question)
             except Ended:
@@ -176,14 +177,18 @@ class Desk:
             return result
 
     def _surviving(self, call: Callable[[Table], Result]) -> Result:
-        """A call of the table; where its program has ended, it is started again with the rows as they are, and called once more."""
-        try:
-            return call(self.table)
-        except Ended:
-            if self._closed:
-                raise
-            self._open(list(self._rows.values()))
-            return call(self.table)
+        """A call of the table; where its program has ended, it is started again with the rows as they are, and called once more, a few times at most."""
+        broken = False
+        for last in [False] * TRIES + [True]:
+            try:
+                if broken:
+                    self._open(list(self._rows.values()))
+                return call(self.table)
+            except Ended:
+                if self._closed or last:
+                    raise
+                broken = True
+        raise AssertionError
 
     def _open(self, rows: List[Held]) -> None:
         """Opens a table with these rows, in their order."""

@@ -10,6 +10,8 @@
 What is wrong is replied as JSON with an `error`, and of a question with its `place`, a character: 400 for what cannot be read, 404 for rows that are not
 there, 409 for what the table refuses, 413 for what is too large, 503 where no table can be started.
 """
+import argparse
+import csv
 import json
 import re
 import socket
@@ -22,8 +24,10 @@ from typing import Any, Callable, Dict, List, Optional, Sequence, Tuple
 from urllib.parse import parse_qs, urlsplit
 
 from . import pictures
+from .ask import kinds_of
 from .desk import Desk
-from .errors import Error, Refused
+from .errors import Ended, Error, Refused
+from .frame import Frame
 
 PAGE = Path(__file__).with_name("page")
 FILES = {"/": ("index.html", "text/html"), "/page.css": ("page.css", "text/css"), "/page.js": ("page.js", "text/javascript"), "/plot.js": ("plot.js", "text/javascript")}
@@ -34,6 +38,11 @@ MOST_STREAMS = 200          # browsers that watch
 SECONDS_BETWEEN = 0.1       # pictures of one browser
 SECONDS_QUIET = 15.0        # until a sign of life is sent
 ROW = re.compile(r"/rows/(\d{1,18})")
+
+EXAMPLES = """examples:
+  python -m prefq serve hotels.csv
+  python -m prefq serve hotels.csv --port 9000 --question 'top_level 2 low("Price (EUR)") * high(Stars)'
+"""
 
 
 class Wrong(Exception):
@@ -124,20 +133,22 @@ class Handler(BaseHTTPRequestHandler):
 
     def _answer(self, method: Callable[[], None]) -> None:
         """Replies what the method replies, or what is wrong."""
+        self._unread = "Content-Length" in self.headers or "Transfer-Encoding" in self.headers
         try:
-            self._check_host()
-            method()
+            try:
+                self._check_host()
+                method()
+            except Wrong as why:
+                self._send_json(why.status, {"error": str(why)})
+            except Refused as why:
+                status = 404 if (why.kind, why.number) == ("client", 7) else 400 if why.kind == "term" else 409
+                self._send_json(status, reason(why))
+            except Error as why:
+                self._send_json(503, reason(why))
+            except (TypeError, ValueError) as why:
+                self._send_json(400, {"error": str(why)})
         except OSError:                 # the browser has gone
             self.close_connection = True
-        except Wrong as why:
-            self._send_json(why.status, {"error": str(why)})
-        except Refused as why:
-            status = 404 if (why.kind, why.number) == ("client", 7) else 400 if why.kind == "term" else 409
-            self._send_json(status, reason(why))
-        except Error as why:
-            self._send_json(503, reason(why))
-        except (TypeError, ValueError) as why:
-            self._send_json(400, {"error": str(why)})
 
     def _check_host(self) -> None:
         """A page of another site that has its name resolved to this machine is no page of ours."""
@@ -161,16 +172,16 @@ class Handler(BaseHTTPRequestHandler):
         if self.headers.get("Content-Type", "").partition(";")[0].strip().lower() != "application/json":
             raise Wrong(415, "values are sent as application/json")
         length = self.headers.get("Content-Length", "")
-        if not length.isdecimal():
+        if not re.fullmatch("[0-9]{1,18}", length):
             raise Wrong(411, "the length of the body is missing")
         if int(length) > MOST_BODY:
             raise Wrong(413, f"at most {MOST_BODY} bytes are read")
+        body = self.rfile.read(int(length))
+        self._unread = False
         try:
-            values = json.loads(self.rfile.read(int(length)).decode())
+            values = json.loads(body.decode())
         except (ValueError, RecursionError):
             raise Wrong(400, "the body is no JSON") from None
-        finally:
-            self._read = True
         if not isinstance(values, dict):
             raise Wrong(400, "the body is no JSON object of values by the names of columns")
         return {name: None if value == "" else value for name, value in values.items()}
@@ -221,8 +232,8 @@ class Handler(BaseHTTPRequestHandler):
         self._send(status, json.dumps(value).encode(), "application/json")
 
     def _send(self, status: int, body: bytes, kind: str) -> None:
-        if int(self.headers.get("Content-Length", "0") or 0) and not getattr(self, "_read", False):
-            self.close_connection = True        # the body of a request that nobody has read would be taken for the next one
+        if self._unread:
+            self.close_connection = True        # a body that nobody has read would be taken for the next request
         self.send_response(status)
         self._send_headers(kind)
         self.send_header("Content-Length", str(len(body)))
@@ -230,6 +241,16 @@ class Handler(BaseHTTPRequestHandler):
             self.send_header("Connection", "close")
         self.end_headers()
         self.wfile.write(body)
+        if self._unread:
+            self._drain()
+
+    def _drain(self) -> None:
+        """Reads what is left of a body, some of it: a browser that still sends may not see a reply before."""
+        self.wfile.flush()
+        self.connection.settimeout(1)
+        for _ in range(16):
+            if not self.rfile.read1(MOST_BODY):
+                break
 
     def _send_headers(self, kind: str) -> None:
         self.send_header("Content-Type", kind)
@@ -264,3 +285,45 @@ def run(server: Server) -> None:
     finally:
         server.server_close()
         server.desk.close()
+
+
+def parser() -> argparse.ArgumentParser:
+    """What the command line has."""
+    found = argparse.ArgumentParser(prog="python -m prefq serve", formatter_class=argparse.RawDescriptionHelpFormatter, epilog=EXAMPLES,
+                                    description="Serves a page on which a CSV file is asked in the browser: a plot, a table, and rows that can be changed. The file itself stays as it is.")
+    found.add_argument("file", metavar="FILE.csv", help="comma-separated values with names in the first line")
+    found.add_argument("--port", type=int, default=8765, help="where the page is (8765); 0 takes a free one")
+    found.add_argument("--host", default="127.0.0.1", help="the address that is listened on (127.0.0.1, which nobody else reaches); with another one anybody who reaches it sees and changes rows")
+    found.add_argument("--question", action="append", default=[], help="a question to begin with; given again, further examples")
+    found.add_argument("--columns", help="names of the columns to take, with commas between them; a table has 16 at most")
+    found.add_argument("--read-only", action="store_true", help="rows cannot be changed")
+    found.add_argument("--kind", metavar="COLUMN=KIND", action="append", default=[], help="what a column is: whole, decimal(2), float, bool, date, time, text, choice(a, b, c)")
+    found.add_argument("--encoding", default="utf-8-sig", help="of the file (utf-8)")
+    found.add_argument("--delimiter", help="between the cells of the file (the one of , ; tab | that stands most often in its first line)")
+    found.add_argument("--decimal", default=".", help="the sign before decimal digits (.)")
+    return found
+
+
+def main(arguments: Optional[Sequence[str]] = None) -> int:
+    """Runs the command; returns its status: 0 after Ctrl-C, 2 where something is refused, 1 where the program or the network fails."""
+    options = parser().parse_args(arguments)
+    try:
+        columns = next(csv.reader([options.columns], skipinitialspace=True)) if options.columns else None
+        frame = Frame.from_csv(options.file, columns=columns, kinds=kinds_of(options.kind), encoding=options.encoding, delimiter=options.delimiter,
+                               decimal=options.decimal)
+    except (Error, OSError, ValueError, TypeError, LookupError) as why:
+        print(f"prefq: {why}", file=sys.stderr)
+        return 1 if isinstance(why, Ended) else 2
+    with Desk(frame) as desk:
+        try:
+            for question in options.question:
+                desk.read(question)
+            server = Server(desk, host=options.host, port=options.port, title=Path(options.file).name, questions=options.question, editable=not options.read_only)
+        except Error as why:
+            print(f"prefq: {why}", file=sys.stderr)
+            return 2
+        except (OSError, OverflowError) as why:
+            print(f"prefq: {options.host}, port {options.port}: {why}", file=sys.stderr)
+            return 1
+        run(server)
+    return 0

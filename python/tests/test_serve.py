@@ -1,0 +1,423 @@
+"""The server behind the page: pictures, changes, events, a program that ends, and requests that are wrong."""
+import contextlib
+import http.client
+import json
+import os
+import random
+import signal
+import socket
+import subprocess
+import sys
+import tempfile
+import threading
+import time
+import unittest
+from concurrent.futures import ThreadPoolExecutor
+from pathlib import Path
+from unittest import mock
+from urllib.parse import urlencode
+
+import prefq
+from prefq import pictures, serve
+from prefq.desk import Desk
+from prefq.serve import MOST_BODY, Server
+from support import TestCase, kill
+
+EXAMPLES = Path(__file__).resolve().parents[2] / "examples"
+RECORDS = [
+    {"Hotel": "Quay <b>", "Price (EUR)": "59.90", "Distance": 900, "Opened": "2001-05-01"},
+    {"Hotel": "Alpine", "Price (EUR)": "49.50", "Distance": 2500, "Opened": None},
+    {"Hotel": "Garden", "Price (EUR)": "80", "Distance": 1200, "Opened": "1999-01-31"},
+    {"Hotel": "Old Town", "Price (EUR)": None, "Distance": 100, "Opened": "2020-12-24"},
+]
+KINDS = {"Hotel": "text", "Price (EUR)": "decimal(2)", "Distance": "whole", "Opened": "date"}
+QUESTION = 'top_level 2 low("Price (EUR)") * low(Distance)'
+
+
+@contextlib.contextmanager
+def served(records=RECORDS, **options):
+    """A server on a free port, in a thread."""
+    desk = Desk(prefq.Frame.from_records(records, kinds=KINDS))
+    with desk, Server(desk, **options) as server:
+        thread = threading.Thread(target=server.serve_forever, args=[0.05])
+        thread.start()
+        try:
+            yield server
+        finally:
+            server.shutdown()
+            thread.join()
+
+
+def ask(server, method, path, body=None, headers=None):
+    """The status of a reply and its JSON."""
+    connection = http.client.HTTPConnection(*server.server_address[:2], timeout=30)
+    with contextlib.closing(connection):
+        given = {"Content-Type": "application/json"} if body is not None else {}
+        connection.request(method, path, body if body is None or isinstance(body, (bytes, str)) else json.dumps(body), {**given, **(headers or {})})
+        reply = connection.getresponse()
+        return reply.status, json.loads(reply.read())
+
+
+def picture(server, question=QUESTION, **axes):
+    return ask(server, "GET", f"/picture?{urlencode({'question': question, **axes})}")
+
+
+class Events:
+    """A stream of pictures."""
+
+    def __init__(self, server, question=QUESTION):
+        self._connection = http.client.HTTPConnection(*server.server_address[:2], timeout=30)
+        self._connection.request("GET", f"/events?{urlencode({'question': question})}")
+        self.reply = self._connection.getresponse()
+
+    def __enter__(self):
+        return self
+
+    def __exit__(self, *_):
+        self.reply.close()
+        self._connection.close()
+
+    def next(self):
+        """The name of the next event, and what it says."""
+        name, told = "message", None
+        while True:
+            line = self.reply.readline().decode()
+            if not line:
+                return "end", None
+            if line.startswith("event: "):
+                name = line[7:].strip()
+            elif line.startswith("data: "):
+                told = json.loads(line[6:])
+            elif line == "\n" and told is not None:
+                return name, told
+
+    def until(self, version):
+        while True:
+            name, told = self.next()
+            if name != "message" or told["version"] >= version:
+                return told
+
+
+def exchange(server, data):
+    """What a connection replies to these bytes."""
+    with socket.create_connection(server.server_address[:2], timeout=30) as connection:
+        connection.sendall(data)
+        connection.shutdown(socket.SHUT_WR)
+        return b"".join(iter(lambda: connection.recv(65_536), b""))
+
+
+class Pictures(TestCase):
+    def test_about_and_the_files_of_the_page(self):
+        with served(title="Hotels", questions=["best low(Distance)"]) as server:
+            status, about = ask(server, "GET", "/about")
+            self.assertEqual((status, about["title"], about["questions"], about["editable"]), (200, "Hotels", ["best low(Distance)"], True))
+            self.assertEqual([(column["name"], column["spelled"], column["axis"]) for column in about["columns"]],
+                             [("Hotel", "Hotel", False), ("Price (EUR)", '"Price (EUR)"', True), ("Distance", "Distance", True), ("Opened", "Opened", True)])
+            for path, kind in [("/", b"text/html"), ("/page.css", b"text/css"), ("/page.js", b"text/javascript"), ("/plot.js", b"text/javascript")]:
+                reply = exchange(server, f"GET {path} HTTP/1.1\r\nHost: localhost\r\nConnection: close\r\n\r\n".encode())
+                self.assertTrue(reply.startswith(b"HTTP/1.1 200 "), reply[:200])
+                self.assertIn(b"Content-Type: " + kind, reply)
+                self.assertIn(b"default-src 'none'", reply)
+                self.assertNotIn(b"http://", reply.replace(b"http://www.w3.org/2000/svg", b""))
+            for path in ("/no", "/../serve.py", "/page/../../serve.py", "/page.js/", "/rows"):
+                self.assertEqual(ask(server, "GET", path)[0], 404, path)
+
+    def test_a_picture(self):
+        with served() as server:
+            status, told = picture(server)
+            self.assertEqual((status, told["version"], told["count"], told["found"], told["axes"]), (200, 1, 4, 4, ["Price (EUR)", "Distance"]))
+            self.assertEqual([(row["id"], row["level"], row["x"], row["y"]) for row in told["best"]], [(1, 1, 59.9, 900), (2, 1, 49.5, 2500), (4, 1, None, 100), (3, 2, 80, 1200)])
+            self.assertEqual(told["best"][0]["cells"], ["Quay <b>", "59.90", "900", "2001-05-01"])
+            told = picture(server, "best low(Distance)")[1]
+            self.assertEqual(([row["id"] for row in told["best"]], told["others"][0]), ([4], [1, 900, 59.9, "Quay <b>"]))
+            self.assertEqual(told["axes"], ["Distance", "Price (EUR)"])
+            told = picture(server, "best pos(Hotel, 'Alpine')", x="Opened", y="Distance")[1]
+            self.assertEqual((told["axes"], told["best"][0]["x"], told["others"][0][1]), (["Opened", "Distance"], None, 11_443))
+            self.assertEqual(picture(server, "best low(Distance)", x="Hotel", y="nothing")[1]["axes"], ["Distance", "Price (EUR)"])
+
+    def test_twins_of_a_distinct_clause(self):
+        records = [{"Hotel": name, "Price (EUR)": price, "Distance": 1} for name, price in [("a", "5"), ("b", None), ("c", "5"), ("d", "5")]]
+        with served(records) as server:
+            told = picture(server, 'skyline of distinct "Price (EUR)" min, Distance min')[1]
+            self.assertEqual([row["id"] for row in told["best"]], [1])
+
+    def test_a_large_table_is_sampled(self):
+        records = [{"Hotel": str(number), "Price (EUR)": number, "Distance": 5} for number in range(3000)]
+        with served(records) as server:
+            told = picture(server, "best low(Distance)")[1]
+            self.assertEqual((told["count"], told["found"], len(told["best"]), told["others"]), (3000, 3000, pictures.MOST_BEST, []))
+            told = picture(server, 'best low("Price (EUR)")')[1]
+            self.assertEqual((told["found"], len(told["others"])), (1, 1500))
+
+    def test_a_question_is_refused_at_its_character(self):
+        with served() as server:
+            for question, place, said in [("best low(Distanse)", 9, "did you mean Distance"), ("low(Distance)", 0, "write best low(Distance)"), ("best low(Distance) *", 20, "breaks off"),
+                                          ("best pos(Hotel, 'Über', Nö)", 24, "unexpected Nö"), ("", 0, "begins with"), ("best low(Hotel)", 5, "no order"),
+                                          ("best low(Distance)\nas 1 room", 18, "unexpected"), ("best low(Distance) <script>", 19, "unexpected <")]:
+                status, told = picture(server, question)
+                self.assertEqual((status, told["kind"], told["place"]), (400, "term", place), told)
+                self.assertIn(said, told["error"])
+                with Events(server, question) as events:
+                    self.assertEqual(events.next(), ("refused", told))
+                    self.assertEqual(events.next()[0], "end")
+
+    def test_each_picture_is_one_snapshot(self):
+        """While rows change, the answer of a picture is that over exactly its rows."""
+        with served() as server:
+            desk, stop = server.desk, threading.Event()
+
+            def change(seed):
+                chance, mine = random.Random(seed), []
+                while not stop.is_set():
+                    price = chance.randint(1, 100)
+                    if len(mine) < 5:
+                        mine.append(desk.insert({"Hotel": "h", "Price (EUR)": price, "Distance": 100 - price}))
+                    elif chance.random() < 0.5:
+                        desk.update(chance.choice(mine), {"Price (EUR)": price, "Distance": chance.randint(0, 100)})
+                    else:
+                        desk.delete(mine.pop(0))
+            threads = [threading.Thread(target=change, args=[seed]) for seed in range(3)]
+            for thread in threads:
+                thread.start()
+            try:
+                versions = []
+                for _ in range(40):
+                    seen = desk.picture("best around(Distance, 50)")
+                    nearest = min(abs(row.numbers[2] - 50) for row in seen.rows)
+                    self.assertEqual([row.id for row in seen.best], [row.id for row in seen.rows if abs(row.numbers[2] - 50) == nearest])
+                    versions.append(seen.version)
+            finally:
+                stop.set()
+                for thread in threads:
+                    thread.join()
+            self.assertEqual(versions, sorted(versions))
+            self.assertGreater(len(set(versions)), 10)
+
+
+class Changes(TestCase):
+    def test_insert_update_delete(self):
+        with served() as server:
+            self.assertEqual(ask(server, "POST", "/rows", {"Hotel": "New", "Price (EUR)": "9.5", "Distance": 9, "Opened": ""}), (201, {"id": 5}))
+            self.assertEqual(picture(server)[1]["best"][0]["cells"], ["New", "9.50", "9", ""])
+            self.assertEqual(ask(server, "PUT", "/rows/5", {"Price (EUR)": 1200.25}), (200, {"id": 5}))
+            self.assertEqual({row["id"]: row["cells"] for row in picture(server)[1]["best"]}[5], ["New", "1200.25", "9", ""])
+            self.assertEqual(ask(server, "DELETE", "/rows/5"), (200, {"id": 5}))
+            self.assertEqual(ask(server, "DELETE", "/rows/5")[0], 404)
+            self.assertEqual(ask(server, "PUT", "/rows/99", {"Distance": 1})[0], 404)
+            told = picture(server)[1]
+            self.assertEqual((told["version"], told["count"]), (4, 4))
+
+    def test_wrong_values_change_nothing(self):
+        with served() as server:
+            for body, said in [({"Hotell": "x"}, "did you mean Hotel"), ({"Price (EUR)": "9.999"}, "decimals"), ({"Price (EUR)": "cheap"}, "no number"), ({"Distance": True}, "Distance"),
+                               ({"Distance": 1.5}, "no whole number"), ({"Distance": 10**30}, "does not fit"), ({"Opened": "2001-02-30"}, "no date"), ({"Hotel": ["a"]}, "no text"),
+                               ({"Hotel": {"a": 1}}, "no text"), ({"Distance": "1e400"}, ""), ({"Distance": float("inf")}, "")]:
+                for method, path in [("POST", "/rows"), ("PUT", "/rows/1")]:
+                    status, told = ask(server, method, path, body)
+                    self.assertEqual(status, 400, (body, told))
+                    self.assertIn(said, told["error"])
+            self.assertEqual((server.desk.version, len(server.desk)), (1, 4))
+
+    def test_bodies_that_are_no_values(self):
+        with served() as server:
+            for body in (b"{", b"", b"\xff\xfe", b"[" * 50_000, b"[]", b"7", b"null", b'"x"', b'{"Distance": 1} 2', b'{"Distance": ' + b"9" * 20_000 + b"}"):
+                self.assertEqual(ask(server, "POST", "/rows", body)[0], 400, body[:40])
+            self.assertEqual(ask(server, "POST", "/rows", b"{}", {"Content-Type": "text/plain"})[0], 415)
+            self.assertEqual(ask(server, "POST", "/rows", b" " * (MOST_BODY + 1))[0], 413)
+            self.assertEqual(ask(server, "POST", "/other", {})[0], 404)
+            for path in ("/rows/x", "/rows/-1", "/rows/1/2", "/rows/", f"/rows/{10**30}"):
+                self.assertEqual(ask(server, "PUT", path, {})[0], 404, path)
+            self.assertEqual(len(server.desk), 4)
+
+    def test_requests_that_are_no_requests(self):
+        head = b"POST /rows HTTP/1.1\r\nHost: 127.0.0.1\r\nContent-Type: application/json\r\n"
+        with served() as server:
+            for data, status in [(head + b"\r\n", b"411"), (head + b"Content-Length: -1\r\n\r\n", b"411"), (head + b"Content-Length: 1e3\r\n\r\n", b"411"),
+                                 (head + b"Content-Length: 99999999999\r\n\r\n", b"413"), (head + b"Content-Length: 50\r\n\r\n{", b"400"),
+                                 (b"GET / HTTP/1.1\r\nHost: evil.example\r\nConnection: close\r\n\r\n", b"403"), (b"PATCH / HTTP/1.1\r\nHost: 127.0.0.1\r\n\r\n", b"501"),
+                                 (b"GET /" + b"a" * 70_000 + b" HTTP/1.1\r\n\r\n", b"414"), (b"\x16\x03\x01\r\n\r\n", b"<!D")]:
+                reply = exchange(server, data)
+                self.assertEqual(reply.split(None, 2)[1] if reply.startswith(b"HTTP") else reply[:3], status, (data[:80], reply[:200]))
+            # The body of a refused request is not taken for the next request.
+            inner = b"DELETE /rows/1 HTTP/1.1\r\nHost: 127.0.0.1\r\n\r\n"
+            reply = exchange(server, b"POST /other HTTP/1.1\r\nHost: 127.0.0.1\r\nContent-Length: %d\r\n\r\n" % len(inner) + inner)
+            self.assertEqual((reply.count(b"HTTP/1.1 "), len(server.desk)), (1, 4))
+            self.assertEqual(picture(server)[0], 200)
+
+    def test_several_requests_of_one_connection(self):
+        with served() as server, contextlib.closing(http.client.HTTPConnection(*server.server_address[:2], timeout=30)) as connection:
+            for number in range(3):
+                connection.request("POST", "/rows", json.dumps({"Hotel": str(number)}), {"Content-Type": "application/json"})
+                self.assertEqual(json.loads(connection.getresponse().read()), {"id": 5 + number})
+
+    def test_a_slow_request_holds_up_nobody(self):
+        with served() as server, socket.create_connection(server.server_address[:2]) as slow:
+            slow.sendall(b"POST /rows HTTP/1.1\r\nHost: 127.0.0.1\r\n")
+            with self.within(5):
+                self.assertEqual(picture(server)[0], 200)
+
+    def test_rows_that_cannot_be_changed(self):
+        with served(editable=False) as server:
+            for method, path, body in [("POST", "/rows", {}), ("PUT", "/rows/1", {"Distance": 1}), ("DELETE", "/rows/1", None)]:
+                self.assertEqual(ask(server, method, path, body)[0], 403)
+            self.assertFalse(ask(server, "GET", "/about")[1]["editable"])
+
+    def test_a_full_table(self):
+        with served() as server:
+            with mock.patch.object(prefq.Table, "insert", side_effect=prefq.Refused("full needed 9", "client", 8)):
+                status, told = ask(server, "POST", "/rows", {"Hotel": "x"})
+            self.assertEqual((status, told["number"]), (409, 8))
+            self.assertEqual(ask(server, "POST", "/rows", {"Hotel": "x"}), (201, {"id": 5}))
+
+
+class Streams(TestCase):
+    def test_several_browsers_see_the_same(self):
+        with served() as server, Events(server) as first, Events(server) as second:
+            self.assertEqual(first.reply.getheader("Content-Type"), "text/event-stream; charset=utf-8")
+            begun = first.next()
+            self.assertEqual((begun[0], begun), ("message", second.next()))
+            ask(server, "POST", "/rows", {"Hotel": "New", "Price (EUR)": 1, "Distance": 1})
+            told = first.until(2)
+            self.assertEqual((told["version"], told["best"][0]["cells"][0]), (2, "New"))
+            self.assertEqual(second.until(2), told)
+            for number in range(50):
+                server.desk.update(5, {"Price (EUR)": number})
+            self.assertEqual(first.until(52), second.until(52))
+
+    def test_a_sign_of_life(self):
+        with mock.patch.object(serve, "SECONDS_QUIET", 0.2), served() as server, Events(server) as events:
+            events.next()
+            self.assertTrue(events.reply.readline().startswith(b": "))
+
+    def test_too_many_browsers(self):
+        with mock.patch.object(serve, "MOST_STREAMS", 1), mock.patch.object(serve, "SECONDS_QUIET", 0.1), served() as server:
+            with Events(server) as events:
+                events.next()
+                self.assertEqual(ask(server, "GET", "/events")[0], 503)
+            end = time.monotonic() + 20
+            while True:
+                with Events(server) as events:
+                    if events.reply.status == 200:
+                        break
+                self.assertLess(time.monotonic(), end)
+                time.sleep(0.1)
+
+
+class Restart(TestCase):
+    def test_the_program_ends(self):
+        with served() as server, Events(server) as events:
+            before = events.next()[1]
+            ask(server, "DELETE", "/rows/2")
+            ask(server, "POST", "/rows", {"Hotel": "New", "Price (EUR)": "70.01", "Distance": 5})
+            events.until(3)
+            kill(server.desk.table)
+            status, told = picture(server)
+            self.assertEqual((status, told["version"], told["count"]), (200, 3, before["count"]))
+            self.assertEqual([(row["id"], row["level"]) for row in told["best"]], [(1, 1), (5, 1), (3, 2), (4, 2)])
+            kill(server.desk.table)
+            self.assertEqual(ask(server, "PUT", "/rows/5", {"Distance": 1}), (200, {"id": 5}))
+            self.assertEqual(events.until(4)["best"][1]["cells"], ["New", "70.01", "1", ""])
+            kill(server.desk.table)
+            self.assertEqual(ask(server, "POST", "/rows", {"Hotel": "Last"}), (201, {"id": 6}))
+            kill(server.desk.table)
+            self.assertEqual(ask(server, "DELETE", "/rows/6"), (200, {"id": 6}))
+
+    def test_nothing_is_lost_or_made_twice(self):
+        """Threads change rows while the program is killed again and again."""
+        with served() as server:
+            desk, made, stop = server.desk, {}, threading.Event()
+
+            def change(seed):
+                for number in range(25):
+                    id = desk.insert({"Hotel": f"{seed}-{number}", "Distance": number})
+                    desk.update(id, {"Distance": number + 1})
+                    made[id] = (f"{seed}-{number}", number + 1)
+                    if number % 3 == 0:
+                        desk.delete(id)
+                        del made[id]
+
+            def killer():
+                while not stop.is_set():
+                    with contextlib.suppress(ProcessLookupError):
+                        os.kill(desk.table.pid, signal.SIGKILL)
+                    stop.wait(0.1)
+            with ThreadPoolExecutor(5) as pool:
+                kills = pool.submit(killer)
+                try:
+                    for done in [pool.submit(change, seed) for seed in range(4)]:
+                        done.result()
+                finally:
+                    stop.set()
+                kills.result()
+            rows = {row.id: desk.record(row.numbers) for row in desk.picture("best low(Distance)").rows}
+            self.assertEqual({id: (row["Hotel"], row["Distance"]) for id, row in rows.items() if id > 4}, made)
+            self.assertEqual(sorted(numbers[2] for _, numbers in desk.table.rows()), sorted(row["Distance"] for row in rows.values()))
+
+    def test_no_program_any_more(self):
+        with served() as server:
+            with mock.patch.object(server.desk, "_program", "/no/such/program"):
+                kill(server.desk.table)
+                status, told = picture(server)
+                self.assertEqual(status, 503)
+                self.assertIn("/no/such/program", told["error"])
+                self.assertEqual(ask(server, "POST", "/rows", {"Hotel": "x"})[0], 503)
+            self.assertEqual(picture(server)[1]["count"], 4)
+
+
+class CommandLine(TestCase):
+    def setUp(self):
+        folder = tempfile.TemporaryDirectory()
+        self.addCleanup(folder.cleanup)
+        self.file = Path(folder.name, "hotels.csv")
+        self.file.write_text('Hotel,"Price (EUR)",Stars\nQuay,59.90,4.5\nAlpine,49.50,3\n"Old ""Town""",n/a,5\n')
+
+    def start(self, *words):
+        """The command, and the address that it says."""
+        command = subprocess.Popen([sys.executable, *words], stderr=subprocess.PIPE, universal_newlines=True, env={**os.environ, "PYTHONPATH": str(Path(prefq.__file__).parents[1])})
+        self.addCleanup(self.end, command)
+        line = command.stderr.readline()
+        self.assertIn("http://127.0.0.1:", line)
+        return command, line.split("http://127.0.0.1:")[1].split("/")[0]
+
+    def end(self, command):
+        command.kill()
+        command.wait()
+        command.stderr.close()
+
+    def get(self, port, path):
+        with contextlib.closing(http.client.HTTPConnection("127.0.0.1", int(port), timeout=30)) as connection:
+            connection.request("GET", path)
+            return json.loads(connection.getresponse().read())
+
+    def test_serve_a_file_until_interrupted(self):
+        command, port = self.start("-m", "prefq", "serve", str(self.file), "--port", "0")
+        about = self.get(port, "/about")
+        self.assertEqual((about["title"], about["questions"]), ("hotels.csv", ['top_level 2 low("Price (EUR)") * low(Stars)']))
+        self.assertEqual([row["cells"] for row in self.get(port, "/picture")["best"]], [["Alpine", "49.50", "3.0"], ["Quay", "59.90", "4.5"], ['Old "Town"', "", "5.0"]][:2])
+        command.send_signal(signal.SIGINT)
+        self.assertEqual(command.wait(20), 0)
+
+    def test_the_booking_desk(self):
+        _, port = self.start(str(EXAMPLES / "booking/booking.py"), "--port", "0", "--still")
+        told = self.get(port, "/picture")
+        self.assertEqual((told["count"], told["axes"]), (60, ["Price (EUR)", "Distance (m)"]))
+        for question in self.get(port, "/about")["questions"]:
+            self.assertIn("best", self.get(port, f"/picture?{urlencode({'question': question})}"), question)
+
+    def test_what_is_refused(self):
+        with socket.socket() as taken:
+            taken.bind(("127.0.0.1", 0))
+            taken.listen()
+            for words, status, said in [([str(self.file), "--question", "best low(Star)"], 2, "did you mean Stars"), (["/no/such.csv"], 2, "/no/such.csv"),
+                                        ([str(self.file), "--columns", "Hotel,Starz"], 2, "Stars"), ([str(self.file), "--kind", "Stars"], 2, "COLUMN=KIND"),
+                                        ([str(self.file), "--port", str(taken.getsockname()[1])], 1, "port"), ([str(self.file), "--port", "70000"], 1, "port"),
+                                        ([str(self.file), "--port", "x"], 2, "--port"), ([], 2, "FILE.csv")]:
+                done = subprocess.run([sys.executable, "-m", "prefq", "serve", *words], stderr=subprocess.PIPE, universal_newlines=True, timeout=60,
+                                      env={**os.environ, "PYTHONPATH": str(Path(prefq.__file__).parents[1])})
+                self.assertEqual(done.returncode, status, (words, done.stderr))
+                self.assertIn(said, done.stderr)
+                self.assertNotIn("Traceback", done.stderr)
+
+
+if __name__ == "__main__":
+    unittest.main()
