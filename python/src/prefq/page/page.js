@@ -190,5 +190,10 @@ $("add").addEventListener("click", () => edit(null));
 $("values").addEventListener("submit", event => { if (event.submitter?.value === "save") save(event); });
 document.addEventListener("pointerover", choose);
 document.addEventListener("focusin", choose);
-new ResizeObserver(redraw).observe($("plot"));
+// With another width all points stand elsewhere at once; they move only where their values do.
+new ResizeObserver(() => {
+  $("plot").classList.add("still");
+  redraw();
+  requestAnimationFrame(() => $("plot").classList.remove("still"));
+}).observe($("plot"));
 begin();
