@@ -1,10 +1,12 @@
 """More rows than one table holds: a question over many partitions, by any engine that maps a function over a list.
 
-    from concurrent.futures import ProcessPoolExecutor
-    from prefq import parts
-
-    with ProcessPoolExecutor() as pool:
-        rows = parts.best(["january.csv", "february.csv"], "best low(price) * low(dist)", map=pool.map)
+>>> from concurrent.futures import ThreadPoolExecutor
+>>> from prefq import parts
+>>> january = parts.Partition(["price", "dist"], [[50, 8], [80, 2]])
+>>> february = parts.Partition(["price", "dist"], [[60, 5], [90, 2]])
+>>> with ThreadPoolExecutor() as pool:
+...     parts.best([january, february], "best low(price)", map=pool.map)
+[Row(level=1, id=1, values=[50, 8])]
 
 Each partition is asked by a `prefq` of its own where the engine runs the function, and the question is asked again of what the partitions have left, eight
 of them at a time, until one table holds it.
