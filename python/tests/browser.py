@@ -22,10 +22,10 @@ class Browser:
     """A browser with one page."""
 
     def __init__(self, width=1200, height=860, dark=False):
-        self._folder = tempfile.TemporaryDirectory(ignore_cleanup_errors=True)
+        self._folder = tempfile.mkdtemp()
         words = [chromium(), "--headless=new", "--no-sandbox", "--disable-gpu", "--disable-dev-shm-usage", "--no-first-run", "--remote-debugging-port=0",
-                 "--remote-allow-origins=*", "--hide-scrollbars", f"--user-data-dir={self._folder.name}", f"--window-size={width},{height}", "about:blank"]
-        environment = {**os.environ, "HOME": self._folder.name}
+                 "--remote-allow-origins=*", "--hide-scrollbars", f"--user-data-dir={self._folder}", f"--window-size={width},{height}", "about:blank"]
+        environment = {**os.environ, "HOME": self._folder}
         self._process = subprocess.Popen(words, stdout=subprocess.DEVNULL, stderr=subprocess.DEVNULL, env=environment, start_new_session=True)
         self._count = 0
         self.faults = []        # exceptions in the page, and what its policy or the network refused
@@ -55,7 +55,7 @@ class Browser:
         except subprocess.TimeoutExpired:
             self._process.kill()
             self._process.wait()
-        self._folder.cleanup()
+        shutil.rmtree(self._folder, ignore_errors=True)
 
     def size(self, width, height, scale=1):
         self.call("Emulation.setDeviceMetricsOverride", width=width, height=height, deviceScaleFactor=scale, mobile=width < 600)
@@ -114,7 +114,7 @@ class Browser:
         end = time.monotonic() + 60
         while time.monotonic() < end:
             try:
-                with open(f"{self._folder.name}/DevToolsActivePort") as file:
+                with open(f"{self._folder}/DevToolsActivePort") as file:
                     port = int(file.readline())
                 with urllib.request.urlopen(f"http://127.0.0.1:{port}/json", timeout=10) as reply:
                     page = next(page for page in json.load(reply) if page["type"] == "page")

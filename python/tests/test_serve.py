@@ -284,6 +284,17 @@ class Streams(TestCase):
                 server.desk.update(5, {"Price (EUR)": number})
             self.assertEqual(first.until(52), second.until(52))
 
+    def test_a_picture_is_made_once_for_all_who_watch(self):
+        with served() as server, mock.patch.object(Desk, "picture", autospec=True, side_effect=Desk.picture) as made:
+            with contextlib.ExitStack() as stack:
+                watching = [stack.enter_context(Events(server)) for _ in range(8)]
+                for events in watching:
+                    events.next()
+                server.desk.update(1, {"Distance": 1})
+                for events in watching:
+                    self.assertEqual(events.until(2)["version"], 2)
+            self.assertEqual(made.call_count, 2)
+
     def test_a_sign_of_life(self):
         with mock.patch.object(serve, "SECONDS_QUIET", 0.2), served() as server, Events(server) as events:
             events.next()

@@ -1,7 +1,9 @@
 """Pictures as JSON: the answer as a table, and all rows as points of a scatter plot."""
 import datetime
+import json
+import threading
 from decimal import Decimal
-from typing import Any, Dict, List, Optional, Sequence
+from typing import Any, Dict, List, Optional, Sequence, Tuple
 
 from .columns import Column, spelled
 from .desk import Desk, Held, Numbers
@@ -9,6 +11,7 @@ from .kinds import Texts
 
 MOST_BEST = 500         # rows of an answer that are sent; a page is no place for more
 MOST_OTHERS = 2000      # other rows that are drawn
+MOST_SHOWN = 64         # pictures that are kept for whoever asks next
 DAY = datetime.date(1970, 1, 1).toordinal()
 
 
@@ -30,6 +33,38 @@ def picture(desk: Desk, question: str, axes: Sequence[Optional[str]] = (None, No
     points = [[row.id, at(desk, row, x), at(desk, row, y), "" if label is None else texts(desk, row.numbers)[label]] for row in others]
     return {"version": seen.version, "question": question, "count": len(seen.rows), "found": len(seen.best), "best": best, "others": points,
             "asked": [column.name for column in seen.asked], "axes": [None if axis is None else desk.columns[axis].name for axis in (x, y)]}
+
+
+class Shown:
+    """Pictures that several browsers ask for: each is made once for each version."""
+
+    def __init__(self, desk: Desk) -> None:
+        self._desk = desk
+        self._lock = threading.Lock()
+        self._made: Dict[Tuple[str, ...], Made] = {}
+
+    def get(self, question: str, axes: Sequence[Optional[str]]) -> Tuple[int, str]:
+        """The version of the picture as it is now, and the picture as JSON."""
+        key = (question, *(axis or "" for axis in axes))
+        with self._lock:
+            made = self._made.pop(key, None) or Made()
+            self._made[key] = made              # the last one is the newest
+            if len(self._made) > MOST_SHOWN:
+                del self._made[next(iter(self._made))]
+        with made.lock:
+            if made.version != self._desk.version:
+                told = picture(self._desk, question, axes)
+                made.version, made.text = told["version"], json.dumps(told)
+            return made.version, made.text
+
+
+class Made:
+    """A picture, and the version of which it is."""
+
+    def __init__(self) -> None:
+        self.lock = threading.Lock()
+        self.version = 0
+        self.text = ""
 
 
 def is_axis(column: Column) -> bool:

@@ -20,7 +20,7 @@ import threading
 import time
 from http.server import BaseHTTPRequestHandler, ThreadingHTTPServer
 from pathlib import Path
-from typing import Any, Callable, Dict, List, Optional, Sequence, Tuple
+from typing import Any, Callable, Dict, Optional, Sequence, Tuple
 from urllib.parse import parse_qs, urlsplit
 
 from . import pictures
@@ -62,6 +62,7 @@ class Server(ThreadingHTTPServer):
     def __init__(self, desk: Desk, *, host: str = "127.0.0.1", port: int = 0, title: str = "prefq", questions: Sequence[str] = (), editable: bool = True) -> None:
         self.desk, self.editable = desk, editable
         self.about = pictures.about(desk, title, list(questions) or [first_question(desk)], editable)
+        self.shown = pictures.Shown(desk)
         self.closing = threading.Event()
         self.streams = threading.BoundedSemaphore(MOST_STREAMS)
         self.local = host in ("127.0.0.1", "::1", "localhost")
@@ -110,7 +111,7 @@ class Handler(BaseHTTPRequestHandler):
         elif path == "/about":
             self._send_json(200, self.server.about)
         elif path == "/picture":
-            self._send_json(200, self._picture())
+            self._send(200, self._picture()[1].encode(), "application/json")
         elif path == "/events":
             self._events()
         else:
@@ -186,14 +187,11 @@ class Handler(BaseHTTPRequestHandler):
             raise Wrong(400, "the body is no JSON object of values by the names of columns")
         return {name: None if value == "" else value for name, value in values.items()}
 
-    def _asked(self) -> Tuple[str, List[Optional[str]]]:
-        """The question and the axes that are asked for."""
+    def _picture(self) -> Tuple[int, str]:
+        """The picture that is asked for: its version and its text."""
         given = parse_qs(urlsplit(self.path).query, keep_blank_values=True)
-        return given.get("question", [self.server.about["questions"][0]])[0], [given.get(axis, [None])[0] for axis in ("x", "y")]
-
-    def _picture(self) -> Dict[str, Any]:
-        question, axes = self._asked()
-        return pictures.picture(self.server.desk, question, axes)
+        question = given.get("question", [self.server.about["questions"][0]])[0]
+        return self.server.shown.get(question, [given.get(axis, [None])[0] for axis in ("x", "y")])
 
     def _events(self) -> None:
         if not self.server.streams.acquire(blocking=False):
@@ -216,12 +214,11 @@ class Handler(BaseHTTPRequestHandler):
                 if self.server.desk.wait(seen, SECONDS_QUIET) == seen:
                     self._write(": nothing has changed\n\n")
                     continue
-                picture = self._picture()
+                seen, picture = self._picture()
             except Error as why:
                 self._write(f"event: refused\ndata: {json.dumps(reason(why))}\n\n")
                 return
-            self._write(f"data: {json.dumps(picture)}\n\n")
-            seen = picture["version"]
+            self._write(f"data: {picture}\n\n")
             time.sleep(SECONDS_BETWEEN)
 
     def _write(self, text: str) -> None:
