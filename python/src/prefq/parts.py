@@ -180,6 +180,7 @@ def best(partitions: Iterable[Source], question: str, *, map: Callable[..., Any]
     partitions = list(partitions)
     if not partitions:
         raise ValueError("there is no partition")
+    rows: List[Row] = []
     for job in _jobs(question, program):
         partials = list(map(job.part, partitions))
         if reduce is not None:

@@ -25,6 +25,7 @@ from urllib.parse import parse_qs, urlsplit
 
 from . import pictures
 from .ask import kinds_of
+from .columns import spelled
 from .desk import Desk
 from .errors import Ended, Error, Refused
 from .frame import Frame
@@ -71,8 +72,8 @@ class Server(ThreadingHTTPServer):
 
     @property
     def url(self) -> str:
-        host, port = self.server_address[:2]
-        return f"http://{f'[{host}]' if ':' in str(host) else host}:{port}/"
+        host, port = str(self.server_address[0]), self.server_address[1]
+        return f"http://{f'[{host}]' if ':' in host else host}:{port}/"
 
     def server_close(self) -> None:
         self.closing.set()
@@ -191,7 +192,7 @@ class Handler(BaseHTTPRequestHandler):
         """The picture that is asked for: its version and its text."""
         given = parse_qs(urlsplit(self.path).query, keep_blank_values=True)
         question = given.get("question", [self.server.about["questions"][0]])[0]
-        return self.server.shown.get(question, [given.get(axis, [None])[0] for axis in ("x", "y")])
+        return self.server.shown.get(question, [given[axis][0] if axis in given else None for axis in ("x", "y")])
 
     def _events(self) -> None:
         if not self.server.streams.acquire(blocking=False):
@@ -246,7 +247,7 @@ class Handler(BaseHTTPRequestHandler):
         self.wfile.flush()
         self.connection.settimeout(1)
         for _ in range(16):
-            if not self.rfile.read1(MOST_BODY):
+            if not self.connection.recv(MOST_BODY):
                 break
 
     def _send_headers(self, kind: str) -> None:
@@ -268,8 +269,8 @@ def reason(why: Error) -> Dict[str, Any]:
 
 def first_question(desk: Desk) -> str:
     """A question to begin with: the first two columns that are no texts, the smaller the better."""
-    columns = [pictures.spelled(column.name) for column in desk.columns if pictures.is_axis(column)][:2]
-    return f"top_level 2 {' * '.join(f'low({name})' for name in columns)}" if columns else f"best pos({pictures.spelled(desk.columns[0].name)}, '')"
+    columns = [spelled(column.name) for column in desk.columns if pictures.is_axis(column)][:2]
+    return f"top_level 2 {' * '.join(f'low({name})' for name in columns)}" if columns else f"best pos({spelled(desk.columns[0].name)}, '')"
 
 
 def run(server: Server) -> None:
