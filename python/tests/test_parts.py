@@ -1,6 +1,7 @@
 """Questions over partitions: the same answers as a plain evaluation, on each engine, and what is refused."""
 import contextlib
 import importlib.util
+import json
 import os
 import pickle
 import random
@@ -270,10 +271,15 @@ class Engines(unittest.TestCase):
             self.check(pool.map)
 
     def test_dask(self):
+        """In a process of its own, since Dask leaves an event loop behind."""
         needs(self, "distributed")
-        from distributed import Client, LocalCluster
-        with LocalCluster(n_workers=2, threads_per_worker=1, dashboard_address=None, memory_limit=None, silence_logs="ERROR") as cluster, Client(cluster) as client:
-            self.check(client.map)
+        code = "import sys, test_parts; test_parts.on_dask(*sys.argv[1:])"
+        done = subprocess.run([sys.executable, "-c", code, *map(str, self.files)], env=package_path(), cwd=Path(__file__).parent, stdout=subprocess.PIPE,
+                              stderr=subprocess.PIPE, universal_newlines=True, timeout=120)
+        self.assertEqual(done.returncode, 0, done.stderr)
+        told = json.loads(done.stdout)
+        self.assertEqual({question: [tuple(pair) for pair in found] for question, found in told["answers"].items()}, self.wanted)
+        self.assertEqual(told["refused"], ["Refused", "term", 2, 9])
 
     def test_dask_workers_that_have_nothing(self):
         """Separate worker processes without the package and the program, by the example."""
@@ -314,6 +320,17 @@ class Engines(unittest.TestCase):
     def example(self, name, *words):
         return subprocess.run([sys.executable, str(EXAMPLES / name), *words], env=package_path(), stdout=subprocess.PIPE, stderr=subprocess.PIPE,
                               universal_newlines=True, timeout=120)
+
+
+def on_dask(*files):
+    """Asks the questions, and one that is refused in between, on a cluster of two workers, and prints what it is told."""
+    from distributed import Client, LocalCluster
+    with LocalCluster(n_workers=2, threads_per_worker=1, dashboard_address=None, memory_limit=None, silence_logs="ERROR") as cluster, Client(cluster) as client:
+        try:
+            refused = best(files, "best low(prize)", map=client.map)
+        except prefq.Refused as why:
+            refused = [type(why).__name__, why.kind, why.number, why.place]
+        print(json.dumps({"refused": refused, "answers": {question: answered(best(files, question, map=client.map)) for question in QUESTIONS}}))
 
 
 def needs(test, module):

@@ -31,6 +31,7 @@ from .program import find_program
 from .rows import Row
 
 MOST_BYTES = 16_000_000    # of the rows of one table as text; a script may have 16,777,216 bytes
+BLOCK = 1024               # rows of one scan
 MERGED = 8                 # partial results that one merge takes
 SHRINKS = 15 / 16          # rows that may be left of all rows where asking piece by piece goes on
 MOST_LEVELS = 1000         # that a question can ask for
@@ -149,11 +150,12 @@ class Job:
     def _asked(self, partial: Partial, piece: range, question: str) -> List[Tuple[int, int]]:
         """The level and the index of each row of a piece that answers a question of levels. The job's own question is begun first, so that what is wrong
         with it is said of its text."""
-        lines = partial.lines if piece.step == 1 else [partial.lines[at] for at in piece]
+        lines = partial.lines[piece.start::piece.step]
         begins = "\nas 1 abandon\n".join(f"as 1 begin {asked}" for asked in dict.fromkeys([self.question, question]))
-        head, size = header(partial.columns).strip().encode(), str(max(1, len(lines)))
-        done = subprocess.run([find_program(self.program), "play", "--clients", "1", "--cap", size, "--block", size], stdout=subprocess.PIPE,
-                              input=b"\n".join([b"table", head, *lines, b"end", begins.encode(errors="replace"), b"as 1 scan", b"as 1 finish", b""]))
+        blocks = max(1, -(-len(lines) // BLOCK))
+        script = [b"table", header(partial.columns).strip().encode(), *lines, b"end", begins.encode(errors="replace"), *[b"as 1 scan"] * blocks, b"as 1 finish", b""]
+        done = subprocess.run([find_program(self.program), "play", "--clients", "1", "--cap", str(blocks * BLOCK), "--block", str(BLOCK)],
+                              input=b"\n".join(script), stdout=subprocess.PIPE)
         told = done.stdout.splitlines()
         if done.returncode != 0 or not told[0].startswith(b"1 begun "):
             raise _refusal(done, partial, piece, self.question)
