@@ -133,6 +133,7 @@ class Pictures(TestCase):
             self.assertEqual(told["axes"], ["Distance", "Price (EUR)"])
             told = picture(server, "best pos(Hotel, 'Alpine')", x="Opened", y="Distance")[1]
             self.assertEqual((told["axes"], told["best"][0]["x"], told["others"][0][1]), (["Opened", "Distance"], None, 11_443))
+            self.assertEqual((told["notes"], picture(server, "best pos(Hotel, 'Quai', 'Alpine')")[1]["notes"]), ([], ["no row of 'Hotel' has 'Quai'"]))
             self.assertEqual(picture(server, "best low(Distance)", x="Hotel", y="nothing")[1]["axes"], ["Distance", "Price (EUR)"])
 
     def test_twins_of_a_distinct_clause(self):
@@ -140,6 +141,12 @@ class Pictures(TestCase):
         with served(records) as server:
             told = picture(server, 'skyline of distinct "Price (EUR)" min, Distance min')[1]
             self.assertEqual([row["id"] for row in told["best"]], [1])
+
+    def test_texts_alone(self):
+        with Desk(prefq.Frame.from_records([{"Hotel": "b'"}, {"Hotel": "a"}])) as desk, Server(desk) as server:
+            self.assertEqual(server.about["questions"], ["best pos(Hotel, 'b''')"])
+            told = pictures.picture(desk, server.about["questions"][0])
+            self.assertEqual(([row["cells"] for row in told["best"]], told["axes"]), ([["b'"]], [None, None]))
 
     def test_a_large_table_is_sampled(self):
         records = [{"Hotel": str(number), "Price (EUR)": number, "Distance": 5} for number in range(3000)]

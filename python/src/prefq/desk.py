@@ -36,12 +36,13 @@ class Found(NamedTuple):
 
 
 class Picture(NamedTuple):
-    """All rows at one version, the answer to a question over exactly these, and the columns of the question in their order."""
+    """All rows at one version, and the answer to a question over exactly these; the columns of the question in their order, and what is said of its values."""
 
     version: int
     rows: List[Held]
     best: List[Found]
     asked: List[Column]
+    notes: Tuple[str, ...]
 
 
 class Desk:
@@ -155,7 +156,7 @@ class Desk:
             version, rows = self.version, dict(self._rows)
         with query:
             best = [Found(row.level, *rows[row.id]) for row in without_twins(query.answer(), planned)]
-        return Picture(version, list(rows.values()), best, columns_in(question))
+        return Picture(version, list(rows.values()), best, columns_in(question), planned.unknown)
 
     def _encoded(self, values: Mapping[str, Any], before: Mapping[str, int]) -> Numbers:
         """The numbers of a row; those from before where no value is given."""

@@ -32,7 +32,7 @@ def picture(desk: Desk, question: str, axes: Sequence[Optional[str]] = (None, No
     others = sample([row for row in seen.rows if row.id not in among])
     points = [[row.id, at(desk, row, x), at(desk, row, y), "" if label is None else texts(desk, row.numbers)[label]] for row in others]
     return {"version": seen.version, "question": question, "count": len(seen.rows), "found": len(seen.best), "best": best, "others": points,
-            "asked": [column.name for column in seen.asked], "axes": [None if axis is None else desk.columns[axis].name for axis in (x, y)]}
+            "notes": list(seen.notes), "asked": [column.name for column in seen.asked], "axes": [None if axis is None else desk.columns[axis].name for axis in (x, y)]}
 
 
 class Shown:

@@ -25,10 +25,11 @@ from urllib.parse import parse_qs, urlsplit
 
 from . import pictures
 from .ask import kinds_of
-from .columns import spelled
+from .columns import quoted, spelled
 from .desk import Desk
 from .errors import Ended, Error, Refused
 from .frame import Frame
+from .kinds import Texts
 
 PAGE = Path(__file__).with_name("page")
 FILES = {"/": ("index.html", "text/html"), "/page.css": ("page.css", "text/css"), "/page.js": ("page.js", "text/javascript"), "/plot.js": ("plot.js", "text/javascript")}
@@ -74,6 +75,10 @@ class Server(ThreadingHTTPServer):
     def url(self) -> str:
         host, port = str(self.server_address[0]), self.server_address[1]
         return f"http://{f'[{host}]' if ':' in host else host}:{port}/"
+
+    def handle_error(self, request: Any, client_address: Any) -> None:
+        if not isinstance(sys.exc_info()[1], OSError):      # a browser that has gone is no error
+            super().handle_error(request, client_address)
 
     def server_close(self) -> None:
         self.closing.set()
@@ -268,9 +273,12 @@ def reason(why: Error) -> Dict[str, Any]:
 
 
 def first_question(desk: Desk) -> str:
-    """A question to begin with: the first two columns that are no texts, the smaller the better."""
+    """A question to begin with: the first two columns that are no texts, the smaller the better; or a first text."""
     columns = [spelled(column.name) for column in desk.columns if pictures.is_axis(column)][:2]
-    return f"top_level 2 {' * '.join(f'low({name})' for name in columns)}" if columns else f"best pos({spelled(desk.columns[0].name)}, '')"
+    if columns:
+        return f"top_level 2 {' * '.join(f'low({name})' for name in columns)}"
+    kind = desk.columns[0].kind
+    return f"best pos({spelled(desk.columns[0].name)}, {quoted(next(iter(kind.texts), '') if isinstance(kind, Texts) else '')})"
 
 
 def run(server: Server) -> None:
