@@ -133,7 +133,7 @@ class Pictures(TestCase):
             self.assertEqual(told["axes"], ["Distance", "Price (EUR)"])
             told = picture(server, "best pos(Hotel, 'Alpine')", x="Opened", y="Distance")[1]
             self.assertEqual((told["axes"], told["best"][0]["x"], told["others"][0][1]), (["Opened", "Distance"], None, 11_443))
-            self.assertEqual((told["notes"], picture(server, "best pos(Hotel, 'Quai', 'Alpine')")[1]["notes"]), ([], ["no row of 'Hotel' has 'Quai'"]))
+            self.assertEqual((told["notes"], picture(server, "best pos(Hotel, 'Xyz', 'Alpine')")[1]["notes"]), ([], ["no row of 'Hotel' has 'Xyz'"]))
             self.assertEqual(picture(server, "best low(Distance)", x="Hotel", y="nothing")[1]["axes"], ["Distance", "Price (EUR)"])
 
     def test_twins_of_a_distinct_clause(self):
@@ -160,7 +160,7 @@ class Pictures(TestCase):
         with served() as server:
             for question, place, said in [("best low(Distanse)", 9, "did you mean Distance"), ("low(Distance)", 0, "write best low(Distance)"), ("best low(Distance) *", 20, "breaks off"),
                                           ("best pos(Hotel, 'Über', Nö)", 24, "unexpected Nö"), ("", 0, "begins with"), ("best low(Hotel)", 5, "no order"),
-                                          ("best low(Distance)\nas 1 room", 18, "unexpected"), ("best low(Distance) <script>", 19, "unexpected <")]:
+                                          ("best low(Distance)\nas 1 room", 19, "unexpected as"), ("best low(Distance) <script>", 19, "unexpected <")]:
                 status, told = picture(server, question)
                 self.assertEqual((status, told["kind"], told["place"]), (400, "term", place), told)
                 self.assertIn(said, told["error"])
