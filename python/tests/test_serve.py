@@ -21,7 +21,7 @@ import prefq
 from prefq import pictures, serve
 from prefq.desk import Desk
 from prefq.serve import MOST_BODY, Server
-from support import TestCase, kill
+from support import TestCase, kill, standing_still
 
 EXAMPLES = Path(__file__).resolve().parents[2] / "examples"
 RECORDS = [
@@ -218,12 +218,17 @@ class Changes(TestCase):
         with served() as server:
             for body, said in [({"Hotell": "x"}, "did you mean Hotel"), ({"Price (EUR)": "9.999"}, "decimals"), ({"Price (EUR)": "cheap"}, "no number"), ({"Distance": True}, "Distance"),
                                ({"Distance": 1.5}, "no whole number"), ({"Distance": 10**30}, "does not fit"), ({"Opened": "2001-02-30"}, "no date"), ({"Hotel": ["a"]}, "no text"),
-                               ({"Hotel": {"a": 1}}, "no text"), ({"Distance": "1e400"}, ""), ({"Distance": float("inf")}, "")]:
+                               ({"Hotel": {"a": 1}}, "no text"), ({"Distance": "1e400"}, ""), ({"Distance": float("inf")}, ""), ({"Price (EUR)": 10**400}, "")]:
                 for method, path in [("POST", "/rows"), ("PUT", "/rows/1")]:
                     status, told = ask(server, method, path, body)
                     self.assertEqual(status, 400, (body, told))
                     self.assertIn(said, told["error"])
             self.assertEqual((server.desk.version, len(server.desk)), (1, 4))
+
+    def test_whole_numbers_that_are_too_large_for_a_float(self):
+        with Desk(prefq.Frame.from_records([{"x": 1.5}])) as desk:
+            with self.refuses(ValueError, "column 'x'", "too large"):
+                desk.insert({"x": 10**400})
 
     def test_bodies_that_are_no_values(self):
         with served() as server:
@@ -339,6 +344,13 @@ class Restart(TestCase):
             self.assertEqual(ask(server, "POST", "/rows", {"Hotel": "Last"}), (201, {"id": 6}))
             kill(server.desk.table)
             self.assertEqual(ask(server, "DELETE", "/rows/6"), (200, {"id": 6}))
+
+    def test_the_program_stands_still(self):
+        with Desk(prefq.Frame.from_records(RECORDS, kinds=KINDS, timeout=0.5)) as desk, standing_still(desk.table):
+            stopped = desk.table.pid
+            with self.within(20):
+                self.assertEqual(len(desk.picture(QUESTION).best), 4)
+            self.assertNotEqual(desk.table.pid, stopped)
 
     def test_nothing_is_lost_or_made_twice(self):
         """Threads change rows while the program is killed again and again."""

@@ -51,6 +51,8 @@ class Column:
             return self.kind.encode(value)
         except (TypeError, ValueError) as why:
             raise type(why)(f"column {self.name!r} ({self.kind}): {why}") from None
+        except OverflowError as why:
+            raise ValueError(f"column {self.name!r} ({self.kind}): {why}") from None
 
     def decode(self, number: int) -> Any:
         """The value of a number, None where it is missing."""

@@ -26,7 +26,7 @@ from urllib.parse import parse_qs, urlsplit
 from . import pictures
 from .ask import kinds_of
 from .columns import quoted, spelled
-from .desk import Desk
+from .desk import SECONDS, Desk
 from .errors import Ended, Error, Refused
 from .frame import Frame
 from .kinds import Texts
@@ -316,7 +316,7 @@ def main(arguments: Optional[Sequence[str]] = None) -> int:
     try:
         columns = next(csv.reader([options.columns], skipinitialspace=True)) if options.columns else None
         frame = Frame.from_csv(options.file, columns=columns, kinds=kinds_of(options.kind), encoding=options.encoding, delimiter=options.delimiter,
-                               decimal=options.decimal)
+                               decimal=options.decimal, timeout=SECONDS)
     except (Error, OSError, ValueError, TypeError, LookupError) as why:
         print(f"prefq: {why}", file=sys.stderr)
         return 1 if isinstance(why, Ended) else 2
