@@ -205,10 +205,11 @@ class AsyncQuery:
             free.put_nowait(client)
             raise
         try:
-            self._query = await asyncio.wrap_future(job)
+            query = await asyncio.wrap_future(job)
         except BaseException:
             job.add_done_callback(partial(_give_up, loop, free, client))
             raise
+        self._query = query
         self._give_back = weakref.finalize(self, _put_back, loop, free, client)
         return self
 

@@ -31,7 +31,7 @@ class Holder(weakref.ref):  # type: ignore[type-arg]
         return holder
 
     def __init__(self, query: Any, dropped: Callable[[Any], None], client: int, thread: int) -> None:
-        super().__init__(query, dropped)
+        super().__init__(query, dropped)  # type: ignore[call-arg]
 
 
 class Exchange:
