@@ -4,9 +4,12 @@ import io
 import json
 import os
 import pty
+import re
+import shlex
 import subprocess
 import sys
 import tempfile
+import textwrap
 import time
 from decimal import Decimal
 from pathlib import Path
@@ -17,6 +20,7 @@ from prefq.ask import Progress
 from support import TestCase
 
 HOTELS = Path(__file__).parent / "data" / "hotels.csv"
+DOCUMENT = Path(__file__).resolve().parents[2] / "docs" / "PYTHON.md"
 QUESTION = "best pos(City, 'Lyon') & low(\"Price (EUR)\") * high(Stars) * low(\"Distance km\")"
 # Without buffers Python cuts what a pipe does not take at once.
 ENVIRONMENT = {**{name: value for name, value in os.environ.items() if name != "PYTHONUNBUFFERED"}, "PYTHONIOENCODING": "utf-8"}
@@ -113,6 +117,19 @@ class Asks(TestCase):
         self.assertEqual(process.stderr.read(), b"")
         process.stderr.close()
         self.assertEqual(process.wait(60), 1)
+
+
+class TheDocument(TestCase):
+    def test_what_it_shows(self):
+        """The first block of the section is the file, the second one has commands with what they print."""
+        section = DOCUMENT.read_text(encoding="utf-8").split("# The command line\n")[1].split("\n# ")[0]
+        file, commands = re.findall(r"(?:^    .*\n)+", section, re.MULTILINE)
+        with tempfile.TemporaryDirectory() as folder:
+            Path(folder, "offers.csv").write_text(textwrap.dedent(file), encoding="utf-8")
+            for command in textwrap.dedent(commands).split("$ python -m prefq ")[1:]:
+                words, printed = command.split("\n", 1)
+                done = run(*shlex.split(words), cwd=folder)
+                self.assertEqual(done.stdout + done.stderr, printed, words)
 
 
 class TheProgress(TestCase):

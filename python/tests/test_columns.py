@@ -177,7 +177,7 @@ class Refusals(TestCase):
             self.assertEqual(frame.rows(), before)
 
     def test_the_row_is_named(self):
-        with self.refuses(ValueError, "row 3, column 'x' (decimal(1)): 1.25 has more than 1 decimals"):
+        with self.refuses(ValueError, "row 3, column 'x' (decimal(1)): 1.25 has more than 1 decimal"):
             prefq.Frame.from_records([{"x": 1}, {"x": None}, {"x": 1.25}], kinds={"x": "decimal(1)"})
         with self.refuses(ValueError, "row 4, column 'x' (whole): 'c' is no number"):
             from_text("x\n1\n2\nc\n", kinds={"x": "whole"})

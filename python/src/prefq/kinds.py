@@ -74,7 +74,7 @@ class Whole(Kind):
             return int(value * 10**self.decimals)
         exact = self.position(value)
         if exact.denominator != 1:
-            raise ValueError(f"{value} has more than {self.decimals} decimals" if self.decimals else f"{value} is no whole number")
+            raise ValueError(f"{value} has more than {self.decimals} decimal{'s' * (self.decimals != 1)}" if self.decimals else f"{value} is no whole number")
         return exact.numerator
 
     def find(self, text: str) -> Optional[int]:
