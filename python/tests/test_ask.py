@@ -93,7 +93,7 @@ class Asks(TestCase):
         self.refused(ask("best low(Price)", "--kind", "Prize=text"), "no column 'Prize'")
         self.refused(ask("best low(Price)", "--kind", "Price"), "write COLUMN=KIND")
         self.refused(ask("best low(Price)", "--kind", "Price=number"), "no kind 'number'")
-        self.refused(ask("best low(City)", "--kind", "City=whole"), "row 2, column 'City' (whole): 'Lyon' is no number")
+        self.refused(ask("best low(City)", "--kind", "City=whole"), "line 2, column 'City' (whole): 'Lyon' is no number")
         self.refused(ask("best low(Price)", text=""), "is empty")
         self.refused(run("ask", "/nowhere.csv", "best low(x)"), "No such file")
         self.refused(run("ask", HOTELS, QUESTION, "--csv", "--json"), "not allowed with")

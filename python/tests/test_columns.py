@@ -7,9 +7,10 @@ import struct
 from decimal import Decimal
 
 import prefq
+from prefq.checks import LEAST, MOST
 from prefq.columns import kind_named
 from prefq.infer import kind_of_texts, kind_of_values
-from prefq.kinds import GREATEST, LEAST, Floats
+from prefq.kinds import Floats
 from support import TestCase
 
 UTC = datetime.timezone.utc
@@ -69,7 +70,7 @@ class Exactly(TestCase):
         moment = datetime.datetime(2026, 10, 25, 2, 30, 0, 123456)
         records = [{"w": value, "d": decimal, "f": real, "b": bool(value % 2), "t": text, "m": moment + datetime.timedelta(microseconds=value % 7),
                     "z": moment.replace(tzinfo=PLUS_2), "day": day}
-                   for value, decimal, real, text, day in zip([0, LEAST + 1, GREATEST, -1], map(Decimal, ["129.99", "-0.01", "92233720368547758.07", "0"]),
+                   for value, decimal, real, text, day in zip([0, LEAST + 1, MOST, -1], map(Decimal, ["129.99", "-0.01", "92233720368547758.07", "0"]),
                                                               [float("inf"), -0.0, 5e-324, -1.7976931348623157e308], ["", "n/a", "it's", " x "],
                                                               [datetime.date.min, datetime.date.max, datetime.date(2000, 2, 29), datetime.date(1970, 1, 1)])]
         with prefq.Frame.from_records(records) as frame:
@@ -98,6 +99,8 @@ class Exactly(TestCase):
     def test_other_files(self):
         with from_text("name;price\na;12,50\nb;7,25\n", decimal=",") as frame:
             self.assertEqual(frame.best("best low(price)")[0], {"name": "b", "price": Decimal("7.25")})
+        with from_text('name;price;note\na;12,50;"b,c"\n', decimal=",", kinds={"note": "text", "price": "decimal(2)"}) as frame:
+            self.assertEqual(dict(frame.get(1)), {"name": "a", "price": Decimal("12.50"), "note": "b,c"})
         with from_text("name;price\na;12,50\nb;7,25\n") as frame, self.refuses(prefq.Refused, "'12,50' is no number; decimal=',' reads decimal commas"):
             frame.best("best low(price)")
         with from_text("x\ty\n1\t2\n", columns=["y"]) as frame:
@@ -179,5 +182,5 @@ class Refusals(TestCase):
     def test_the_row_is_named(self):
         with self.refuses(ValueError, "row 3, column 'x' (decimal(1)): 1.25 has more than 1 decimal"):
             prefq.Frame.from_records([{"x": 1}, {"x": None}, {"x": 1.25}], kinds={"x": "decimal(1)"})
-        with self.refuses(ValueError, "row 4, column 'x' (whole): 'c' is no number"):
+        with self.refuses(ValueError, "line 4, column 'x' (whole): 'c' is no number"):
             from_text("x\n1\n2\nc\n", kinds={"x": "whole"})

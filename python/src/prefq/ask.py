@@ -5,13 +5,13 @@ import os
 import sys
 import time
 import warnings
-from typing import Any, Dict, List, Optional, Sequence, Tuple
+from typing import Any, Dict, Iterable, List, Optional, Sequence, Tuple
 
 from .answer import Answer
-from .columns import MISSING_WORDS, Column
 from .errors import Ended, Error
-from .frame import UnknownValue, column_of_texts, encoded
-from .reading import Cells, read_csv
+from .frame import UnknownValue
+from .loading import File, decoded
+from .reading import MISSING_WORDS, read_csv
 from .records import Record
 from .select import selected
 
@@ -68,12 +68,12 @@ def run(options: argparse.Namespace) -> None:
     """Reads the file, asks, and prints."""
     progress = Progress()
     progress("reading", 0, 0)
-    file = File(read_csv(sys.stdin if options.file == "-" else options.file, options.encoding, options.delimiter), kinds_of(options.kind), options.decimal)
+    file = File(read_csv(sys.stdin if options.file == "-" else options.file, options.encoding, options.delimiter), kinds_of(options.kind), MISSING_WORDS, options.decimal)
     if options.question is None:
         for name in file.cells.names:
             print(f"{name}: {file.column(name)[0].kind}" + (f" ({file.column(name)[0].oddity})" if file.column(name)[0].oddity else ""))
         return
-    answer = file.answer(options.question, progress)
+    answer = asked(file, options.question, progress)
     progress.end()
     if options.plot:
         answer.to_svg(options.plot)
@@ -81,35 +81,19 @@ def run(options: argparse.Namespace) -> None:
     sys.stdout.flush()
 
 
-class File:
-    """The cells of a file, of which a column is only understood once it is needed."""
+def asked(file: File, question: str, progress: "Progress") -> Answer:
+    """The answer, whose rows are those of the file."""
+    names, rows = file.cells.names, file.cells.rows
 
-    def __init__(self, cells: Cells, kinds: Dict[str, str], decimal: str) -> None:
-        self.cells = cells
-        self._kinds, self._decimal = kinds, decimal
-        self._columns: Dict[str, Tuple[Column, List[int]]] = {}
-        for name in kinds:
-            if name not in cells.names:
-                raise LookupError(f"--kind: no column {name!r}")
+    def records(found: Iterable[Tuple[Optional[int], int]]) -> List[Record]:
+        pairs = list(found)
+        lists = [file.column(name) for name in names]
+        values = decoded([column for column, _ in lists], [[numbers[id - 1] for _, numbers in lists] for _, id in pairs])
+        return [Record(zip(names, row), id=id, level=level) for (level, id), row in zip(pairs, values)]
 
-    def column(self, name: str) -> Tuple[Column, List[int]]:
-        """A column, and its numbers."""
-        if name not in self._columns:
-            place = self.cells.names.index(name)
-            column, texts = column_of_texts(name, [row[place] for row in self.cells.rows], self._kinds, MISSING_WORDS, self._decimal)
-            self._columns[name] = column, encoded(column, texts, first=2)
-        return self._columns[name]
-
-    def answer(self, question: str, progress: "Progress") -> Answer:
-        """The answer, whose rows are those of the file."""
-        rows = selected(question, None, self.cells.names, self.column, progress=progress)
-        columns = [self.column(name)[0] for name in self.cells.names]
-        records = [self._record(row.id, row.level) for row in rows]
-        return FileAnswer(question, columns, records, others=lambda: map(self._record, range(1, len(self.cells.rows) + 1)), rows=self.cells.rows)
-
-    def _record(self, id: int, level: Optional[int] = None) -> Record:
-        found = ((name, self.column(name)) for name in self.cells.names)
-        return Record(((name, column.decode(numbers[id - 1])) for name, (column, numbers) in found), id=id, level=level)
+    best = selected(question, None, names, file.column, progress=progress)
+    return FileAnswer(question, [file.column(name)[0] for name in names], records((row.level, row.id) for row in best),
+                      others=lambda: records((None, id) for id in range(1, len(rows) + 1)), rows=rows)
 
 
 class FileAnswer(Answer):

@@ -2,11 +2,11 @@
 import re
 from typing import Any, Callable, Dict, FrozenSet, Iterable, List, Optional
 
+from .checks import LEAST
 from .errors import Refused
-from .kinds import LEAST, Booleans, Choices, Dates, Decimals, Floats, Kind, Texts, Times, Whole
+from .kinds import Booleans, Choices, Dates, Decimals, Floats, Kind, Texts, Times, Whole
 
 PLAIN_NAME = re.compile(r"[^\W\d][\w.]*")
-MISSING_WORDS = frozenset({"", "na", "n/a", "nan", "null", "none", "-"})
 SPELLED_KIND = re.compile(r"(?P<name>[a-z]+)(?:\((?P<inside>.*)\))?")
 
 

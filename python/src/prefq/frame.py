@@ -5,19 +5,16 @@ import warnings
 from typing import Any, Callable, Dict, Iterable, Iterator, List, Mapping, Optional, Sequence, Tuple, Type
 
 from .answer import Answer
-from .columns import MISSING_WORDS, Column, listed
+from .columns import Column, listed
 from .errors import Refused
-from .infer import kind_of_texts, kind_of_values
-from .kinds import Texts
+from .loading import File, check_width, chosen, column_of_values, decoded, encoded
 from .once import Progress
 from .questions import Mode, Question, read_question
-from .reading import Source, check_names, read_csv
+from .reading import MISSING_WORDS, Source, check_names, read_csv
 from .records import Record, mapping_of, values_of
 from .table import Table
 from .translate import Plan, plan
 from .why import Rivals
-
-MOST_COLUMNS = 16
 
 
 class UnknownValue(UserWarning):
@@ -47,7 +44,7 @@ class Frame:
 
     def __init__(self, columns: Iterable[Column], rows: Iterable[Sequence[Any]] = (), **options: Any) -> None:
         columns = tuple(columns)
-        lists = [[column.encode(value) for value in values] for column, values in zip(columns, zip(*rows))]
+        lists = [encoded(column, values) for column, values in zip(columns, zip(*rows))]
         self._open(columns, list(zip(*lists)), options)
 
     def _open(self, columns: Tuple[Column, ...], rows: List[Any], options: Dict[str, Any], index: Any = None) -> None:
@@ -57,7 +54,7 @@ class Frame:
         self._by_name = {column.name: column for column in columns}
         self._below = {id(column): f"c{place}" for place, column in enumerate(columns)}
         self._index = index
-        self._changing = threading.RLock()
+        self._changing = threading.Lock()
         self._options = {name: options[name] for name in ("program", "timeout") if name in options}
         self.table = Table(list(self._below.values()), rows, **options)
 
@@ -70,17 +67,8 @@ class Frame:
         - `columns`: which columns to take; `kinds`: what a column is, where that is not to be seen, as in {"Stars": "decimal(1)"}
         - `missing`: the texts that stand for a missing value, in small letters; `encoding`, `delimiter` and the sign before `decimal` digits of the file
         """
-        names, cells = read_csv(source, encoding, delimiter)
-        words = frozenset(missing)
-        taken = chosen(names, columns)
-        found = []
-        lists = []
-        for name in taken:
-            place = names.index(name)
-            column, texts = column_of_texts(name, [row[place] for row in cells], kinds, words, decimal)
-            found.append(column)
-            lists.append(encoded(column, texts, first=2))
-        return cls._made(found, lists, options)
+        file = File(read_csv(source, encoding, delimiter), kinds, frozenset(missing), decimal)
+        return cls._made([file.column(name) for name in chosen(file.cells.names, columns)], options)
 
     @classmethod
     def from_records(cls, records: Iterable[Any], *, columns: Optional[Sequence[str]] = None, kinds: Optional[Mapping[str, str]] = None,
@@ -94,14 +82,7 @@ class Frame:
         """
         rows = [_mapping(record, row) for row, record in enumerate(records, 1)]
         names = chosen(list(dict.fromkeys(name for row in rows for name in row)), columns)
-        found = []
-        lists = []
-        for name in names:
-            values = [row.get(name) for row in rows]
-            column = Column(name, kinds[name] if kinds and name in kinds else kind_of_values(name, values))
-            found.append(column)
-            lists.append(encoded(column, values))
-        return cls._made(found, lists, options)
+        return cls._made([column_of_values(name, [row.get(name) for row in rows], kinds) for name in names], options)
 
     @classmethod
     def from_dataframe(cls, dataframe: Any, *, columns: Optional[Sequence[str]] = None, kinds: Optional[Mapping[str, str]] = None,
@@ -109,13 +90,13 @@ class Frame:
         """The frame of a DataFrame of pandas. Answers as DataFrames have its index and its types again."""
         from .pandas_frames import encoded_series, index_of
         names = chosen(list(dataframe.columns), columns)
-        pairs = [encoded_series(dataframe[name], name, kinds) for name in names]
-        return cls._made([column for column, _ in pairs], [numbers for _, numbers in pairs], options, index_of(dataframe.index))
+        return cls._made([encoded_series(dataframe[name], name, kinds) for name in names], options, index_of(dataframe.index))
 
     @classmethod
-    def _made(cls, columns: List[Column], lists: List[List[int]], options: Dict[str, Any], index: Any = None) -> "Frame":
+    def _made(cls, columns: Sequence[Tuple[Column, List[int]]], options: Dict[str, Any], index: Any = None) -> "Frame":
+        """The frame of columns with their numbers."""
         frame = cls.__new__(cls)
-        frame._open(tuple(columns), list(zip(*lists)), options, index)
+        frame._open(tuple(column for column, _ in columns), list(zip(*(numbers for _, numbers in columns))), options, index)
         return frame
 
     def __enter__(self) -> "Frame":
@@ -132,8 +113,7 @@ class Frame:
         return iter(self.rows())
 
     def __repr__(self) -> str:
-        names = listed([column.name for column in self.columns])
-        return repr(self.table).replace("Table", "Frame", 1).replace(", ".join(self.table.columns), names, 1)
+        return f"<prefq.Frame of {listed(self.names)}: {repr(self.table).rpartition(': ')[2]}"
 
     def close(self) -> None:
         """Ends the frame; the same again does nothing."""
@@ -183,11 +163,11 @@ class Frame:
 
     def get(self, id: int) -> Record:
         """A row."""
-        return self._record(self.table.get(id), id)
+        return self._records([(None, id, self.table.get(id))])[0]
 
     def rows(self) -> List[Record]:
         """All rows, in order of id."""
-        return [self._record(numbers, id) for id, numbers in self.table.rows()]
+        return self._records([(None, id, numbers) for id, numbers in self.table.rows()])
 
     def room(self) -> int:
         """How many more versions of rows there is room for."""
@@ -211,8 +191,7 @@ class Frame:
             if plan(question, read, self._below).text == asked.text:
                 break
         warn_of(asked)
-        records = [self._record(row.values, row.id, row.level) for row in without_twins(rows, asked)]
-        return Answer(question, self.columns, records, others=self.rows, index=self._index)
+        return Answer(question, self.columns, self._records(without_twins(rows, asked)), others=self.rows, index=self._index)
 
     def why(self, id: int, question: str) -> Answer:
         """The rows that dominate this one in a question: those because of which it is not in the answer. Each has its own level.
@@ -227,7 +206,7 @@ class Frame:
         if id not in rows:
             raise Refused(f"no such row {id}", "client", 7)
         rivals = Rivals(question, read, self._below, rows, id, self._options)
-        records = [self._record(rows[other], other, level) for other, level in rivals.dominators()]
+        records = self._records([(level, other, rows[other]) for other, level in rivals.dominators()])
         return Answer(question, self.columns, records, others=self.rows, index=self._index)
 
     def _read(self, question: str, mode: Optional[Mode] = None) -> Question:
@@ -248,61 +227,10 @@ class Frame:
     def _numbers(self, record: Any) -> List[int]:
         return [column.encode(value) for column, value in zip(self.columns, values_of(record, self.columns))]
 
-    def _record(self, numbers: Sequence[int], id: int, level: Optional[int] = None) -> Record:
-        return Record(((column.name, column.decode(number)) for column, number in zip(self.columns, numbers)), id=id, level=level)
-
-
-def check_width(columns: Sequence[Column]) -> None:
-    """Refuses more columns than a table has, with the names of those that are best left out."""
-    if not columns:
-        raise Refused("there are no columns", "table", 1)
-    more = len(columns) - MOST_COLUMNS
-    if more > 0:
-        by_texts = sorted(columns, key=lambda column: -len(column.kind.texts) if isinstance(column.kind, Texts) else 1)
-        leave = sorted(by_texts[:more], key=columns.index)
-        raise Refused(f"there are {len(columns)} columns, and a table has at most {MOST_COLUMNS}: name those that questions use by columns=[..], "
-                      f"and leave out, say, {listed([column.name for column in leave])}", "table", 2)
-
-
-def chosen(names: List[Any], columns: Optional[Sequence[str]]) -> Tuple[str, ...]:
-    """The names of the columns that are taken."""
-    if columns is None:
-        return check_names(names)
-    from .hints import unknown_column
-    if isinstance(columns, str):
-        raise TypeError(f"columns is a list of names, not {columns!r}")
-    for name in columns:
-        if name not in names:
-            raise Refused(unknown_column(str(name), [str(other) for other in names]), "table")
-    return check_names(columns)
-
-
-def column_of_texts(name: str, texts: List[str], kinds: Optional[Mapping[str, str]], missing: Iterable[str], decimal: str) -> Tuple[Column, List[str]]:
-    """The column of the texts of a file, and the texts with a decimal point."""
-    present = [text for text in texts if text.strip().lower() not in missing]
-    oddity = None
-    kind: Any = (kinds or {}).get(name)
-    if decimal != ".":
-        pointed = [text.replace(decimal, ".") for text in present]
-        as_numbers, _ = kind_of_texts(name, pointed)
-        if as_numbers.name in ("whole", "decimal", "float") or kind is not None:
-            texts, present = [text.replace(decimal, ".") for text in texts], pointed
-    if kind is None:
-        kind, oddity = kind_of_texts(name, present)
-    column = Column(name, kind, missing)
-    column.oddity = oddity
-    return column, texts
-
-
-def encoded(column: Column, values: Sequence[Any], first: int = 1) -> List[int]:
-    """The numbers of a column's values; what has none is named with its row, of which the first has this number."""
-    numbers = []
-    for row, value in enumerate(values, first):
-        try:
-            numbers.append(column.encode(value))
-        except (TypeError, ValueError) as why:
-            raise type(why)(f"row {row}, {why}") from None
-    return numbers
+    def _records(self, found: Sequence[Tuple[Optional[int], int, Sequence[int]]]) -> List[Record]:
+        """The records of rows, each with its level and id."""
+        values = decoded(self.columns, [numbers for _, _, numbers in found])
+        return [Record(zip(self._by_name, row), id=id, level=level) for (level, id, _), row in zip(found, values)]
 
 
 def without_twins(rows: List[Any], asked: Plan) -> List[Any]:

@@ -4,9 +4,10 @@ import re
 from decimal import Decimal
 from typing import Any, Iterable, List, Optional, Sequence, Tuple
 
+from .checks import MOST
 from .columns import is_missing
 from .errors import Refused
-from .kinds import DAY, FLOAT, GREATEST, MOMENT, NUMBER, WORDS_OF_TRUTH, Booleans, Dates, Decimals, Floats, Kind, Texts, Times, Whole, moment
+from .kinds import DAY, FLOAT, MOMENT, NUMBER, WORDS_OF_TRUTH, Booleans, Dates, Decimals, Floats, Kind, Texts, Times, Whole, moment
 
 WHOLE = re.compile(r"[+-]?\d+")
 # Such digits are a postal code or an article number: as a number they would lose their zeros.
@@ -14,7 +15,7 @@ LEADING_ZERO = re.compile(r"[+-]?0\d+")
 
 
 def kind_of_texts(name: str, texts: Sequence[str]) -> Tuple[Kind, Optional[str]]:
-    """The kind of a column whose values stand in a file, where those that are missing are left out; and why it is not what most of them look like."""
+    """The kind of a column whose values stand in a file, each once, where those that are missing are left out; and why it is not what most look like."""
     found = [text.strip() for text in texts]
     if not found:
         return Texts(), None
@@ -32,11 +33,11 @@ def _kind_of_numbers(name: str, texts: List[str]) -> Kind:
     """Whole numbers or decimals where they fit; floats where nothing is lost by that."""
     if all(map(WHOLE.fullmatch, texts)):
         numbers = [int(text) for text in texts]
-        if -GREATEST <= min(numbers) and max(numbers) <= GREATEST:
+        if -MOST <= min(numbers) and max(numbers) <= MOST:
             return Whole()
     elif all(map(NUMBER.fullmatch, texts)):
         decimals = max(map(decimals_of, texts))
-        if decimals <= 18 and max(abs(Decimal(text)) for text in texts) * 10**decimals <= GREATEST:
+        if decimals <= 18 and max(abs(Decimal(text)) for text in texts) * 10**decimals <= MOST:
             return Decimals(decimals)
     wrong = next((text for text in texts if NUMBER.fullmatch(text) and Decimal(repr(float(text))) != Decimal(text)), None)
     if wrong is None:
@@ -74,7 +75,7 @@ def _oddity(texts: List[str]) -> Optional[str]:
     """The first text that is no number, where most are; or no date, where most are dates."""
     for form, what in ((FLOAT, "number"), (MOMENT, "date")):
         odd = [text for text in texts if not form.fullmatch(text)]
-        if 2 * len(odd) < len(texts):
+        if 2 * len(odd) <= len(texts):
             return f"{odd[0]!r} is no {what}"
     comma = next((text for text in texts if re.fullmatch(r"[+-]?\d+,\d+", text)), None)
     return f"{comma!r} is no number; decimal=',' reads decimal commas" if comma else None

@@ -8,12 +8,14 @@ import operator
 import re
 import struct
 import threading
-from decimal import Decimal, InvalidOperation
+from decimal import Context, Decimal, InvalidOperation
 from fractions import Fraction
 from typing import Any, Dict, List, Optional
 
-LEAST = -2**63
-GREATEST = 2**63 - 1
+from .checks import LEAST, MOST
+
+# A program may have made the decimals of its own context fewer than a column's.
+WIDE = Context(prec=40)
 NUMBER = re.compile(r"[+-]?(?:\d+(?:\.\d*)?|\.\d+)(?:[eE][+-]?\d{1,4})?")
 FLOAT = re.compile(NUMBER.pattern + r"|[+-]?inf(?:inity)?", re.IGNORECASE)
 WORDS_OF_TRUTH = {"true": True, "yes": True, "false": False, "no": False}
@@ -79,7 +81,7 @@ class Whole(Kind):
 
     def find(self, text: str) -> Optional[int]:
         position = self.position(text)
-        return position.numerator if position.denominator == 1 and LEAST < position <= GREATEST else None
+        return position.numerator if position.denominator == 1 and LEAST < position <= MOST else None
 
     def position(self, text: Any) -> Fraction:
         return fraction_of(text) * Fraction(10**self.decimals)
@@ -100,7 +102,7 @@ class Decimals(Whole):
         return f"decimal({self.decimals})"
 
     def decode(self, number: int) -> Decimal:
-        return Decimal((int(number < 0), tuple(map(int, str(abs(number)))), -self.decimals))
+        return Decimal(number).scaleb(-self.decimals, WIDE)
 
     def text(self, value: Any) -> str:
         return format(value, "f")
@@ -276,9 +278,9 @@ class Choices(Texts):
 
 def within(number: int) -> int:
     """The number, if a column can have it."""
-    if LEAST < number <= GREATEST:
+    if LEAST < number <= MOST:
         return number
-    raise ValueError(f"{number} does not fit: a column has whole numbers from {LEAST + 1} to {GREATEST}")
+    raise ValueError(f"{number} does not fit: a column has whole numbers from {LEAST + 1} to {MOST}")
 
 
 def fraction_of(value: Any) -> Fraction:

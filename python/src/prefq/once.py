@@ -1,10 +1,10 @@
 """A table that is asked one question and then closed."""
 from typing import Any, Callable, Dict, List, Optional, Sequence
 
+from .checks import MOST_ROWS
 from .rows import Row
 from .table import Table
 
-MOST_ROWS = 65_536
 Progress = Callable[[str, int, int], None]
 
 

@@ -2,10 +2,11 @@
 import datetime
 from typing import Any, Callable, List, Mapping, Optional, Sequence, Tuple
 
+from .checks import LEAST, MOST
 from .columns import Column
 from .errors import Refused
 from .infer import kind_of_values
-from .kinds import GREATEST, LEAST, Booleans, Choices, Dates, Decimals, Floats, Kind, Texts, Times, Whole
+from .kinds import Booleans, Choices, Dates, Decimals, Floats, Kind, Texts, Times, Whole
 from .records import Record
 
 
@@ -37,7 +38,7 @@ def encoded_series(series: Any, name: str, kinds: Optional[Mapping[str, str]] = 
 
 
 def _by_values(series: Any, column: Column) -> Tuple[Column, List[int]]:
-    from .frame import encoded
+    from .loading import encoded
     return column, encoded(column, series.tolist())
 
 
@@ -71,8 +72,8 @@ def _numbers(series: Any) -> List[int]:
 
 def _whole(series: Any, name: str) -> List[int]:
     present = series.dropna()
-    if len(present) and not (LEAST < int(present.min()) and int(present.max()) <= GREATEST):
-        raise Refused(f"column {name!r} has numbers from {present.min()} to {present.max()}: a column has whole numbers from {LEAST + 1} to {GREATEST}; "
+    if len(present) and not (LEAST < int(present.min()) and int(present.max()) <= MOST):
+        raise Refused(f"column {name!r} has numbers from {present.min()} to {present.max()}: a column has whole numbers from {LEAST + 1} to {MOST}; "
                       "leave it out by columns=[..], or make it floats or texts", "table")
     return _numbers(series)
 

@@ -7,14 +7,16 @@ from typing import Any, Iterable, List, NamedTuple, Optional, TextIO, Tuple, Uni
 from .errors import Refused
 
 DELIMITERS = ",;\t|"
+MISSING_WORDS = frozenset({"", "na", "n/a", "nan", "null", "none", "-"})
 Source = Union[str, "os.PathLike[str]", TextIO]
 
 
 class Cells(NamedTuple):
-    """The names of a file, its rows as texts, and the line of each."""
+    """The names of a file, its rows as texts, and the line in which each ends."""
 
     names: List[str]
     rows: List[List[str]]
+    lines: List[int]
 
 
 def read_csv(source: Source, encoding: str = "utf-8-sig", delimiter: Optional[str] = None) -> Cells:
@@ -34,14 +36,16 @@ def cells_of(text: str, what: str, delimiter: Optional[str]) -> Cells:
     try:
         names = names_of(next(reader, []), what)
         rows = []
+        lines = []
         for row in reader:
             if len(row) == len(names):
                 rows.append(row)
+                lines.append(reader.line_num)
             elif row:
                 raise Refused(f"{what}, line {reader.line_num}: it has {len(row)} cells, and the first line has {len(names)} names", "table")
     except csv.Error as why:
         raise Refused(f"{what}, line {reader.line_num}: {why}", "table") from None
-    return Cells(names, rows)
+    return Cells(names, rows, lines)
 
 
 def delimiter_of(text: str) -> str:

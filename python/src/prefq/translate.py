@@ -15,10 +15,11 @@ from dataclasses import dataclass
 from fractions import Fraction
 from typing import Dict, Iterable, List, NamedTuple, Optional, Sequence, Tuple
 
+from .checks import LEAST, MOST
 from .columns import Column, quoted
 from .errors import Refused
 from .hints import nearest
-from .kinds import GREATEST, LEAST, Floats, Texts
+from .kinds import Floats, Texts
 from .questions import EMPTY_RANGE, UNEXPECTED, Base, Converse, Product, Question, Term, Value, refuse
 
 
@@ -185,7 +186,7 @@ class Translator:
             sets[0].append(LEAST)
         sets = [numbers for numbers in sets if numbers]
         if not sets:
-            return f"between({name}, {LEAST}, {GREATEST})"
+            return f"between({name}, {LEAST}, {MOST})"
         lists = [", ".join(map(str, numbers)) for numbers in sets]
         term = f"pos({name}, {lists[0]})" if len(lists) == 1 else f"layered({name}, {', '.join(f'{{{numbers}}}' for numbers in lists)})"
         return f"-{term}" if turned else term
@@ -221,13 +222,13 @@ def distances(name: str, low: Fraction, high: Fraction) -> List[str]:
     else:
         # What lies outside is nearer by these parts than by its distance to the whole numbers inside.
         below, above = first - low, high - last
-        nearer = [] if below == above else [between(name, LEAST, last) if below > above else between(name, first, GREATEST)]
+        nearer = [] if below == above else [between(name, LEAST, last) if below > above else between(name, first, MOST)]
     return [between(name, first, last), *nearer]
 
 
 def between(name: str, first: int, last: int) -> str:
     """The term for a range, of which only what a column can have matters."""
-    ends = [min(max(end, LEAST), GREATEST) for end in (first, last)]
+    ends = [min(max(end, LEAST), MOST) for end in (first, last)]
     return f"between({name}, {ends[0]}, {ends[1]})"
 
 

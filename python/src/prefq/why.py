@@ -1,12 +1,12 @@
 """Which rows dominate a row: pairs of rows as groups of one question."""
 from typing import Any, Dict, Iterable, List, Mapping, Optional, Sequence, Set, Tuple
 
-from .once import MOST_ROWS, ask_once
+from .checks import MOST_COLUMNS, MOST_ROWS
+from .once import ask_once
 from .questions import Question
 from .table import Table
 from .translate import Plan, plan, terms_columns
 
-MOST_COLUMNS = 16
 LEVELS = 1000
 PAIR = "pair"
 Values = Tuple[int, ...]
