@@ -1,4 +1,5 @@
 """Rows as the program reads and writes them."""
+import gc
 import threading
 import time
 from collections.abc import Iterable, Mapping, Set
@@ -41,15 +42,27 @@ def pair(level: int, id: int, values: List[int]) -> Tuple[int, List[int]]:
 
 def rows_of(text: bytes, width: int, make: Callable[[int, int, List[int]], Made]) -> List[Made]:
     """What is made of the level, the id and the values in each line of an answer."""
+    if len(text) <= ANSWER_PIECE:
+        return _made(text, width, make)
     rows: List[Made] = []
-    begin = 0
-    while begin < len(text):
-        end = text.find(b"\n", begin + ANSWER_PIECE) + 1 or len(text)
-        numbers = list(map(int, text[begin:end].translate(BLANKS).split()))
-        rows += [make(numbers[at], numbers[at + 1], numbers[at + 2:at + 2 + width]) for at in range(0, len(numbers), 2 + width)]
-        begin = end
-        let_others_run()
+    begin, collects = 0, gc.isenabled()
+    try:
+        # Rows are no garbage, and each pass of the collector looks through all of them while every thread waits.
+        gc.disable()
+        while begin < len(text):
+            end = text.find(b"\n", begin + ANSWER_PIECE) + 1 or len(text)
+            rows += _made(text[begin:end], width, make)
+            begin = end
+            let_others_run()
+    finally:
+        if collects:
+            gc.enable()
     return rows
+
+
+def _made(text: bytes, width: int, make: Callable[[int, int, List[int]], Made]) -> List[Made]:
+    numbers = list(map(int, text.translate(BLANKS).split()))
+    return [make(numbers[at], numbers[at + 1], numbers[at + 2:at + 2 + width]) for at in range(0, len(numbers), 2 + width)]
 
 
 def lines(rows: Any, columns: Sequence[str]) -> List[str]:
