@@ -7,12 +7,13 @@ import os
 import threading
 import weakref
 from collections import deque
-from typing import Any, Callable, Deque, Dict, List, Optional, Sequence, Tuple, TypeVar, Union
+from typing import Any, Callable, Deque, Dict, Iterator, List, Optional, Sequence, Tuple, TypeVar, Union
 
 from .errors import Ended, Refused, refused
 from .process import Process
 
 Result = TypeVar("Result")
+LONGEST_OPENING = 16_000_000
 # Why a table has ended, and its kind. This one stands while an exchange is under way, and stays if nothing more can be done about it.
 UNDER_WAY = ("a call was interrupted, or is still under way in this thread", "interrupted")
 CLOSED = ("the table was closed", "closed")
@@ -56,6 +57,13 @@ class Exchange:
     def pid(self) -> int:
         """The number of the program's process."""
         return self._process.pid
+
+    def open(self, head: str, pieces: Iterator[str]) -> List[str]:
+        """Sends the table piece by piece while the pieces are made, and returns those that are more than the program reads at once."""
+        told, rest = self._whole(lambda: self._opening(head, pieces))
+        if isinstance(told, Refused):
+            raise told
+        return rest
 
     def ask(self, command: str, reply: str, *, rows: int = 0, question: Optional[str] = None) -> str:
         """Sends a command, and returns what its one line says behind the words of the reply. Where it succeeds, there are so many rows more."""
@@ -143,6 +151,19 @@ class Exchange:
             if self.queries.get(holder.client) is holder:
                 self._one(b"as %d abandon\n" % holder.client, f"{holder.client} abandoned", 0, None)
                 del self.queries[holder.client]
+
+    def _opening(self, head: str, pieces: Iterator[str]) -> Tuple[Union[Tuple[str, bytes], Refused], List[str]]:
+        self._process.send(head.encode())
+        length, count = 0, 0
+        rest: List[str] = []
+        for piece in pieces:
+            length += len(piece)
+            if length > LONGEST_OPENING:
+                rest.append(piece)
+            else:
+                self._process.send(piece.encode())
+                count += piece.count("\n")
+        return self._one(b"end\nas 1 room\n", "1 room ", count, None), rest
 
     def _one(self, text: bytes, reply: str, rows: int, question: Optional[str]) -> Union[Tuple[str, bytes], Refused]:
         self._process.send(text)

@@ -1,4 +1,5 @@
 """A process of `prefq live` and its two pipes."""
+import fcntl
 import os
 import select
 import signal
@@ -10,6 +11,9 @@ from .errors import Ended, ProgramNotFound
 
 PIECE = 65_536
 SECONDS_TO_END = 5.0
+# Linux has this number of its call fcntl, which Python names from 3.10 on.
+SET_PIPE_SIZE = 1031
+PIPE_SIZE = 2**20
 
 
 class Process:
@@ -29,6 +33,8 @@ class Process:
         assert self._popen.stdin is not None and self._popen.stdout is not None
         self._in, self._out = self._popen.stdin, self._popen.stdout
         os.set_blocking(self._in.fileno(), False)
+        for pipe in (self._in, self._out):
+            _widen(pipe.fileno())
         self._poll = select.poll()
         self._poll.register(self._out, select.POLLIN)
         self._finish = weakref.finalize(self, _finish, self._popen, os.getpid())
@@ -127,6 +133,14 @@ class Process:
                 if not piece:
                     raise self.death()
                 self._read += piece
+
+
+def _widen(pipe: int) -> None:
+    """Gives a pipe more room, where the system lets it, so that its two ends wait for one another less often."""
+    try:
+        fcntl.fcntl(pipe, SET_PIPE_SIZE, PIPE_SIZE)
+    except OSError:
+        pass
 
 
 _running: "weakref.WeakSet[Process]" = weakref.WeakSet()

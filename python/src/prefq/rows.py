@@ -4,7 +4,7 @@ import threading
 import time
 from collections.abc import Iterable, Mapping, Set
 from itertools import chain, islice
-from typing import Any, Callable, List, NamedTuple, Optional, Sequence, Tuple, TypeVar
+from typing import Any, Callable, Iterator, List, NamedTuple, Optional, Sequence, Tuple, TypeVar
 
 from .checks import LEAST, MOST, MOST_ROWS, whole
 
@@ -65,20 +65,24 @@ def _made(text: bytes, width: int, make: Callable[[int, int, List[int]], Made]) 
     return [make(numbers[at], numbers[at + 1], numbers[at + 2:at + 2 + width]) for at in range(0, len(numbers), 2 + width)]
 
 
-def lines(rows: Any, columns: Sequence[str]) -> List[str]:
-    """Each row as the program reads it. Rows are counted from 1 in what is wrong."""
+def listed(rows: Any) -> Sequence[Any]:
+    """The rows, which may come one by one, in a list."""
     if isinstance(rows, (str, bytes, Mapping)) or not isinstance(rows, Iterable):
         raise TypeError(f"rows is of type {type(rows).__name__}: not a list of rows")
     if hasattr(rows, "tolist"):
         rows = rows.tolist()
-    found: List[str] = []
-    rest = iter(rows)
-    while piece := list(islice(rest, TOGETHER)):
-        found += _at_once(piece, len(columns)) or [line(row, columns, f"row {number}, ") for number, row in enumerate(piece, len(found) + 1)]
-        let_others_run()
-        if len(found) > MOST_ROWS:
-            raise ValueError(f"there are more than {MOST_ROWS} rows: no table holds them (prefq.parts.best asks more)")
+    found = rows if isinstance(rows, (list, tuple)) else list(islice(rows, MOST_ROWS + 1))
+    if len(found) > MOST_ROWS:
+        raise ValueError(f"there are more than {MOST_ROWS} rows: no table holds them (prefq.parts.best asks more)")
     return found
+
+
+def texts(rows: Sequence[Any], columns: Sequence[str]) -> Iterator[str]:
+    """Rows as the program reads them, some lines at a time. Rows are counted from 1 in what is wrong."""
+    for begin in range(0, len(rows), TOGETHER):
+        piece = rows[begin:begin + TOGETHER]
+        yield _at_once(piece, len(columns)) or "".join(line(row, columns, f"row {number}, ") + "\n" for number, row in enumerate(piece, begin + 1))
+        let_others_run()
 
 
 def line(row: Any, columns: Sequence[str], where: str = "") -> str:
@@ -91,12 +95,11 @@ def line(row: Any, columns: Sequence[str], where: str = "") -> str:
     return ",".join(str(whole(cell, f"{where}column {name}", LEAST, MOST)) for name, cell in zip(columns, cells))
 
 
-def _at_once(rows: Sequence[Any], width: int) -> Optional[List[str]]:
+def _at_once(rows: Sequence[Any], width: int) -> Optional[str]:
     """Rows that are lists or tuples of Python's own whole numbers, without a look at each; None where they are not, or where something is wrong."""
     if not {list, tuple}.issuperset(map(type, rows)) or set(map(len, rows)) != {width}:
         return None
     cells = tuple(chain.from_iterable(rows))
     if set(map(type, cells)) != {int} or min(cells) < LEAST or max(cells) > MOST:
         return None
-    form = ",".join(["%d"] * width) + "\n"
-    return (form * len(rows) % cells).split("\n")[:-1]
+    return (",".join(["%d"] * width) + "\n") * len(rows) % cells

@@ -8,11 +8,9 @@ from .errors import Ended, Refused
 from .exchange import Exchange
 from .program import find_program
 from .query import Query
-from .rows import Row, line, lines as lines_of
+from .rows import Row, line, listed, texts
 
 Values = Iterable[int]
-# The program reads a table of so many bytes; the rows behind are inserted.
-OPENING = 16_000_000
 TOGETHER = 8
 
 
@@ -38,9 +36,9 @@ class Table:
     def __init__(self, columns: Iterable[str], rows: Iterable[Values] = (), *, capacity: Optional[int] = None, clients: int = 8, block: int = 1024,
                  window: int = 64, timeout: Optional[float] = None, program: Union[str, "os.PathLike[str]", None] = None) -> None:
         self.columns = checks.names(columns)
-        lines = lines_of(rows, self.columns)
+        opening = listed(rows)
         if capacity is None:
-            capacity = min(checks.MOST_ROWS, max(1024, 2 * len(lines)))
+            capacity = min(checks.MOST_ROWS, max(1024, 2 * len(opening)))
         self.capacity = checks.whole(capacity, "capacity", 1, checks.MOST_ROWS)
         self.clients = checks.whole(clients, "clients", 1, 8)
         words = ["--clients", str(self.clients), "--cap", str(self.capacity), "--block", str(checks.whole(block, "block", 1, checks.MOST_ROWS)),
@@ -48,19 +46,11 @@ class Table:
         self._exchange = Exchange([find_program(program), "live", *words], checks.seconds(timeout))
         self._free = Clients(self.clients, self._exchange)
         try:
-            self._open(lines)
+            rest = self._exchange.open(f"table\n{checks.header(self.columns)}", texts(opening, self.columns))
+            self._insert_lines("".join(rest).split("\n")[:-1])
         except BaseException:
             self._exchange.close()
             raise
-
-    def _open(self, lines: List[str]) -> None:
-        head = "table\n" + checks.header(self.columns)
-        length, count = len(head), 0
-        while count < len(lines) and length < OPENING:
-            length += len(lines[count]) + 1
-            count += 1
-        self._exchange.ask("\n".join([head + "\n".join(lines[:count]), "end", "as 1 room"]), "1 room ", rows=count)
-        self._insert_lines(lines[count:])
 
     def __enter__(self) -> "Table":
         return self
@@ -131,7 +121,8 @@ class Table:
         ...     hotels.insert_many([[40, 9], [60, 3]])
         range(1, 3)
         """
-        return self._insert_lines(lines_of(rows, self.columns), self._client(client))
+        who = self._client(client)
+        return self._insert_lines("".join(texts(listed(rows), self.columns)).split("\n")[:-1], who)
 
     def _insert_lines(self, lines: List[str], who: int = 1) -> range:
         if not lines:
