@@ -1,7 +1,9 @@
 """What goes wrong in the middle: no answer is ever that of another call, nothing waits for ever, and the table is either as before or ended."""
+import contextlib
 import gc
 import multiprocessing
 import os
+import random
 import signal
 import subprocess
 import sys
@@ -12,6 +14,10 @@ import prefq
 from support import QUESTION, SKYLINE, TestCase, hotels, is_running, kill, numbers, program, raised_after, standing_still
 
 NEVER = 30
+
+
+class Interruption(BaseException):
+    """What a signal handler raises, as KeyboardInterrupt is raised by Ctrl-C."""
 
 
 class Interrupted(TestCase):
@@ -72,6 +78,54 @@ class Interrupted(TestCase):
                 self.assertEqual((said, table.get(3)), (["interrupted"], [33]))
         finally:
             signal.signal(signal.SIGALRM, before)
+
+    def test_at_any_moment(self):
+        """An interruption at any moment leaves the table as it is or ends it; no client and no lock is lost, and no answer is wrong."""
+        chance = random.Random(1)
+        left = {"ended": 0, "as it is": 0}
+        table = None
+        for _ in range(150):
+            table = table or numbers(500, clients=2, block=256)
+            with contextlib.suppress(Interruption), raised_after(chance.uniform(0.000_1, 0.004), Interruption):
+                while True:
+                    self.use(table)
+            said = self.in_a_thread(lambda: self.use_all_clients(table))
+            if isinstance(said, prefq.Ended):
+                self.assertEqual(said.kind, "interrupted")
+                table = None
+                left["ended"] += 1
+            else:
+                self.assertEqual(said, [1, 500])
+                self.assertEqual(len(table.rows()), len(table))
+                left["as it is"] += 1
+        self.assertTrue(all(left.values()), left)
+
+    def use(self, table):
+        self.assertEqual(table.get(7), [77])
+        with table.query("best low(x)") as query:
+            self.assertEqual([row.id for row in query.answer()], [1])
+        table.query("best high(x)")
+        table.delete(table.insert([100]))
+
+    def use_all_clients(self, table):
+        queries = [table.query("best low(x)"), table.query("best high(x)")]
+        return [query.answer()[0].id for query in queries]
+
+    def in_a_thread(self, function):
+        """What a function returns or raises on a thread of its own, which would wait for a lock that is lost."""
+        said = []
+
+        def runs():
+            try:
+                said.append(function())
+            except prefq.Error as why:
+                said.append(why)
+
+        thread = threading.Thread(target=runs, daemon=True)
+        thread.start()
+        thread.join(NEVER)
+        self.assertFalse(thread.is_alive(), "a lock is lost")
+        return said[0]
 
     def test_control_c_reaches_python_alone(self):
         script = """
