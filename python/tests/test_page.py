@@ -126,7 +126,8 @@ class Page(TestCase):
         page = self.browser
         page.js("document.getElementById('x').value = 'Opened'; document.getElementById('x').dispatchEvent(new Event('change'))")
         page.until("document.querySelector('#plot text.name').textContent === 'Opened'")
-        self.assertTrue(page.js("[...document.querySelectorAll('#plot text')].some(text => /^\\d{4}-\\d\\d-\\d\\d$/.test(text.textContent))"))
+        ticks = page.js("[...document.querySelectorAll('#plot text')].map(text => text.textContent)")
+        self.assertEqual([tick for tick in ticks if len(tick) == 4 and tick.isdigit()], ["1995", "2000", "2005", "2010", "2015", "2020", "2025"])
         self.assertEqual(page.js("document.querySelectorAll('#plot text.name')[1].textContent"), "Price (EUR)")
 
     def test_rows_are_added_repriced_removed_and_added_again(self):

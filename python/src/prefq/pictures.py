@@ -89,7 +89,7 @@ def at(desk: Desk, row: Any, axis: Optional[int]) -> Any:
     if isinstance(value, datetime.date):
         return value.toordinal() - DAY
     if isinstance(value, float):
-        return value if abs(value) < float("inf") else None
+        return value if abs(value) < 1e300 else None        # what has no place on a scale
     return float(value) if isinstance(value, Decimal) else value
 
 

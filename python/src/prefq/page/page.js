@@ -65,7 +65,7 @@ function show(told) {
   const levels = Math.max(0, ...told.best.map(row => row.level)), first = told.best.filter(row => row.level === 1).length;
   const more = told.found > told.best.length ? `, of which the first ${told.best.length} are shown` : "";
   $("summary").textContent = `${told.found} of ${told.count} rows are in the answer${more}${levels > 1 ? `: ${first} in the first level, ${told.found - first} behind it` : ""}.`;
-  $("notes").textContent = told.notes.length ? `Note: ${told.notes.join("; ")}.` : "";
+  $("notes").textContent = told.notes.length ? `Note: ${told.notes.join("; ")}` : "";
   fillTable(told.best);
   redraw();
 }
