@@ -208,7 +208,10 @@ class Refusals(unittest.TestCase):
                 best([Partition(COLUMNS, [[1, 2, 3]])], question)
             self.assertEqual((caught.exception.kind, caught.exception.place), ("term", place))
             self.assertEqual(str(caught.exception).splitlines()[-1].index("^") - 4, place)
-        for question in ("", "best low(price)\nas 1 room", "best low(price)\r"):
+        # The longest question: that of the parts has one byte more.
+        long = f"at_least 5 low(price{' ' * 4075})"
+        self.assertEqual(len(long), 4096)
+        for question in (long, "", "best low(price)\nas 1 room", "best low(price)\r"):
             with self.subTest(question=question), self.assertRaises(prefq.Refused):
                 best([Partition(COLUMNS, [])], question)
         with self.assertRaises(TypeError):
@@ -234,6 +237,8 @@ class Refusals(unittest.TestCase):
         with self.assertRaises(prefq.Ended) as caught:
             best([Partition(["a"], [[1]])], "best low(a)", program="/bin/false")
         self.assertIn("status 1", str(caught.exception))
+        with self.assertRaises(prefq.Ended):
+            best([Partition(["a"], [[1]])], "best low(a)", program="/bin/true")
 
     def test_exceptions_jobs_and_results_can_be_pickled(self):
         left = pickle.loads(pickle.dumps(RowsLeft(70_000, 80_000)))

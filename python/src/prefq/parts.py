@@ -11,10 +11,11 @@
 Each partition is asked by a `prefq` of its own where the engine runs the function, and the question is asked again of what the partitions have left, eight
 of them at a time, until one table holds it.
 
-Why that is exact: a row that is in one of the first n levels of the whole is in one of the first n levels of each part that has it, since taking other rows
-away can only move it forward. So the levels 1 to n of the whole are the levels 1 to n of what the parts' levels 1 to n put together are, whatever the parts
-are. Rows of different groups are never compared, so a group may lie in many parts. Of equal rows, of which `skyline of distinct` keeps one, the one with the
-smallest id stands before the others, and ids follow the order of the partitions in every part and every merge.
+Why that is exact: the level of a row is the length of the longest chain of rows, each of which dominates the next, that ends in it. In a part there are no
+longer chains than in the whole, so a row of the levels 1 to n of the whole is in the levels 1 to n of each part that has it. And such a chain up to its n-th row
+lies in the levels 1 to n, so it is among what the parts' levels 1 to n put together are: there each of these rows has its level of the whole, and every other
+one a level behind n. Rows of different groups are never compared, so a group may lie in many parts. Of equal rows, of which `skyline of distinct` keeps one,
+the one with the smallest id dominates the others here, and ids follow the order of the partitions in every part and every merge.
 """
 import csv
 import os
@@ -157,10 +158,10 @@ class Job:
         done = subprocess.run([find_program(self.program), "play", "--clients", "1", "--cap", str(blocks * BLOCK), "--block", str(BLOCK)],
                               input=b"\n".join(script), stdout=subprocess.PIPE)
         told = done.stdout.splitlines()
-        if done.returncode != 0 or not told[0].startswith(b"1 begun "):
+        answer = next((number for number, line in enumerate(told) if line.startswith(b"1 answer ")), 0)
+        if done.returncode != 0 or not answer or not told[0].startswith(b"1 begun "):
             raise _refusal(done, partial, piece, self.question)
-        rows = told[next(number for number, line in enumerate(told) if line.startswith(b"1 answer ")) + 1:]
-        return [(int(words[1]), piece[int(words[3][:-1]) - 1]) for words in (row.split(None, 4) for row in rows)]
+        return [(int(words[1]), piece[int(words[3][:-1]) - 1]) for words in (row.split(None, 4) for row in told[answer + 1:])]
 
 
 def best(partitions: Iterable[Source], question: str, *, map: Callable[..., Any] = map, reduce: Optional[Callable[..., Partial]] = None,
@@ -247,9 +248,9 @@ def _in_partition(why: Exception, partition: Source) -> Exception:
 
 def _refusal(done: "subprocess.CompletedProcess[bytes]", partial: Partial, piece: range, question: str) -> Error:
     """Why a run has no answer. A row is named by its number among the rows of its partition."""
-    said = done.stdout.decode(errors="replace").splitlines()[:1] or ["nothing"]
-    if done.returncode not in (0, 2):
-        return Ended(f"the program ended with status {done.returncode} and said {said[0]}", "died")
-    if said[0].startswith("table refused"):
-        return refused(re.sub(r" row (\d+)", lambda found: f" row {partial.places[piece[int(found[1]) - 1]] + 1}", said[0]))
-    return refused(said[0], question)
+    said = next((line for line in done.stdout.decode(errors="replace").splitlines() if " refused" in line or "fault" in line), "nothing")
+    if done.returncode not in (0, 2) or said == "nothing":
+        return Ended(f"the program ended with status {done.returncode} and said {said}", "died")
+    if said.startswith("table refused"):
+        return refused(re.sub(r" row (\d+)", lambda found: f" row {partial.places[piece[int(found[1]) - 1]] + 1}", said))
+    return refused(said, question)
