@@ -8,6 +8,7 @@ Needs the package `prefq`: `pip install ./python`, or PYTHONPATH=python/src and 
 """
 import argparse
 import random
+import sys
 import threading
 import time
 
@@ -56,9 +57,13 @@ def main():
     given = parser.parse_args()
     chance = random.Random(11)
     desk = Desk(prefq.Frame.from_records(offers(given.offers, chance), kinds=KINDS))
+    try:
+        server = Server(desk, port=given.port, title="Hotels worth a look", questions=QUESTIONS)
+    except OSError as why:
+        sys.exit(f"port {given.port}: {why}")
     if not given.still:
         threading.Thread(target=reprice, args=[desk, given.offers, chance], daemon=True).start()
-    run(Server(desk, port=given.port, title="Hotels worth a look", questions=QUESTIONS))
+    run(server)
 
 
 if __name__ == "__main__":

@@ -435,13 +435,15 @@ class CommandLine(TestCase):
             self.assertIn("best", self.get(port, f"/picture?{urlencode({'question': question})}"), question)
 
     def test_what_is_refused(self):
+        wide = self.file.with_name("wide.csv")
+        wide.write_text(",".join(f"c{number}" for number in range(17)) + "\n")
         with socket.socket() as taken:
             taken.bind(("127.0.0.1", 0))
             taken.listen()
             for words, status, said in [([str(self.file), "--question", "best low(Star)"], 2, "did you mean Stars"), (["/no/such.csv"], 2, "/no/such.csv"),
                                         ([str(self.file), "--columns", "Hotel,Starz"], 2, "Stars"), ([str(self.file), "--kind", "Stars"], 2, "COLUMN=KIND"),
                                         ([str(self.file), "--port", str(taken.getsockname()[1])], 1, "port"), ([str(self.file), "--port", "70000"], 1, "port"),
-                                        ([str(self.file), "--port", "x"], 2, "--port"), ([], 2, "FILE.csv")]:
+                                        ([str(self.file), "--port", "x"], 2, "--port"), ([], 2, "FILE.csv"), ([str(wide)], 2, "by --columns")]:
                 done = subprocess.run([sys.executable, "-m", "prefq", "serve", *words], stderr=subprocess.PIPE, universal_newlines=True, timeout=60,
                                       env={**os.environ, "PYTHONPATH": str(Path(prefq.__file__).parents[1])})
                 self.assertEqual(done.returncode, status, (words, done.stderr))
