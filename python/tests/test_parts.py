@@ -137,6 +137,19 @@ class Exact(unittest.TestCase):
         found = best([Partition(["a", "b"], rows)], "best low(a) * low(b)")
         self.assertEqual([row.values for row in found], rows)
 
+    def test_frames_of_pandas(self):
+        needs(self, "pandas")
+        import pandas
+        rows = random_rows(random.Random(5), 60)
+        for kind in ("int64", "int32", "Int64"):
+            partitions = [pandas.DataFrame(some, columns=COLUMNS).astype(kind) for some in (rows[:25], rows[25:])]
+            question = "at_least 9 low(price) * low(dist)"
+            self.assertEqual(answered(best(partitions, question)), plain(rows, *QUESTIONS[question]))
+        for wrong in ([1.0, 2.0], [True, False], ["1", "2"], [1, None]):
+            with self.assertRaises(TypeError) as caught:
+                best([pandas.DataFrame({"price": [1, 2], "dist": wrong})], "best low(price)")
+            self.assertIn("column dist", str(caught.exception))
+
     def test_no_rows(self):
         self.assertEqual(best([Partition(COLUMNS, []), Partition(COLUMNS, [])], "best low(price)"), [])
 
@@ -285,6 +298,7 @@ class Engines(unittest.TestCase):
         told = json.loads(done.stdout)
         self.assertEqual({question: [tuple(pair) for pair in found] for question, found in told["answers"].items()}, self.wanted)
         self.assertEqual(told["refused"], ["Refused", "term", 2, 9])
+        self.assertEqual(told["frames"], told["answers"][next(iter(QUESTIONS))])
 
     def test_dask_workers_that_have_nothing(self):
         """Separate worker processes without the package and the program, by the example."""
@@ -329,13 +343,16 @@ class Engines(unittest.TestCase):
 
 def on_dask(*files):
     """Asks the questions, and one that is refused in between, on a cluster of two workers, and prints what it is told."""
+    from dask import dataframe
     from distributed import Client, LocalCluster
     with LocalCluster(n_workers=2, threads_per_worker=1, dashboard_address=None, memory_limit=None, silence_logs="ERROR") as cluster, Client(cluster) as client:
+        frames = client.compute(dataframe.read_csv(list(files), blocksize=None).to_delayed())
         try:
             refused = best(files, "best low(prize)", map=client.map)
         except prefq.Refused as why:
             refused = [type(why).__name__, why.kind, why.number, why.place]
-        print(json.dumps({"refused": refused, "answers": {question: answered(best(files, question, map=client.map)) for question in QUESTIONS}}))
+        print(json.dumps({"refused": refused, "answers": {question: answered(best(files, question, map=client.map)) for question in QUESTIONS},
+                          "frames": answered(best(frames, next(iter(QUESTIONS)), map=client.map))}))
 
 
 def needs(test, module):

@@ -1,10 +1,10 @@
-"""A partition of a large table: a header and rows of whole numbers, in memory or in a CSV file."""
+"""A partition of a large table: a header and rows of whole numbers, in memory, in a CSV file or in a DataFrame of pandas."""
 import csv
 import io
 import os
 import re
 from dataclasses import dataclass
-from typing import Any, List, Sequence, Tuple, Union
+from typing import Any, Iterable, List, Sequence, Tuple, Union
 
 from .checks import names
 from .errors import Refused
@@ -23,10 +23,11 @@ class Partition:
     """
 
     columns: Sequence[str]
-    rows: Sequence[Any]
+    rows: Iterable[Any]
 
 
-Source = Union[Partition, str, "os.PathLike[str]"]
+# Any is a DataFrame of pandas.
+Source = Union[Partition, str, "os.PathLike[str]", Any]
 
 
 def text_of(source: Source) -> Tuple[Tuple[str, ...], List[bytes]]:
@@ -38,6 +39,9 @@ def text_of(source: Source) -> Tuple[Tuple[str, ...], List[bytes]]:
     Traceback (most recent call last):
     TypeError: row 2, column dist is 2.5, of type float: not a whole number
     """
+    if hasattr(source, "itertuples"):
+        frame: Any = source
+        source = Partition(list(frame.columns), frame.itertuples(index=False, name=None))
     if not isinstance(source, Partition):
         return _read(source)
     columns = names(source.columns)

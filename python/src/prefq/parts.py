@@ -168,8 +168,8 @@ def best(partitions: Iterable[Source], question: str, *, map: Callable[..., Any]
          program: Optional[str] = None) -> List[Row]:
     """The answer over the rows of all partitions, whose ids are their numbers in the order of the partitions, from 1.
 
-    A partition is the path of a CSV file, read where it is asked, or a `Partition` with rows; each has the same header. `map(function, items)` returns the
-    results in the order of the items, or Dask's futures of them: `map` of a `concurrent.futures` or `mpi4py.futures` executor and of a `dask.distributed`
+    A partition is the path of a CSV file, read where it is asked, a `Partition` with rows or a DataFrame of pandas; each has the same columns.
+    `map(function, items)` returns the results in the order of the items, or Dask's futures of them: `map` of a `concurrent.futures` or `mpi4py.futures` executor and of a `dask.distributed`
     client are such functions. Partial results are merged by a tree of further maps, or by `reduce(function of two, results)`, if it is given.
 
     A question is one of whole numbers, as of a `prefq.Table`; what is wrong with it is `Refused`. `RowsLeft` says that the answer, or what has to be compared
@@ -238,7 +238,7 @@ def _groups(question: str) -> List[str]:
 
 def _in_partition(why: Exception, partition: Source) -> Exception:
     """What is wrong with the rows of a file, with its path."""
-    if isinstance(partition, Partition) or isinstance(why, Refused) and why.kind != "table":
+    if not isinstance(partition, (str, os.PathLike)) or isinstance(why, Refused) and why.kind != "table":
         return why
     message = f"{os.fspath(partition)}: {why}"
     if isinstance(why, Refused):
