@@ -1,9 +1,9 @@
 """`python -m prefq ask`: what it prints, its status, and what it says of a wrong question, file or option."""
+import contextlib
 import csv
 import io
 import json
 import os
-import pty
 import re
 import shlex
 import subprocess
@@ -77,6 +77,16 @@ class Asks(TestCase):
         found = list(csv.reader(io.StringIO(self.prints(run("ask", "-", "best low(x3) * high(x39)", "--csv", text=text)))))
         self.assertEqual(len(found[0]), 42)
 
+    def test_more_rows_than_a_table_holds(self):
+        text = "x,y\n" + "".join(f"{row * 7919 % 70001},{row * 104729 % 70001}\n" for row in range(1, 70001))
+        found = list(csv.reader(io.StringIO(self.prints(run("ask", "-", "best low(x) * low(y)", "--csv", text=text)))))
+        least, front = 70001, []
+        for id, (x, y) in sorted(enumerate(((row * 7919 % 70001, row * 104729 % 70001) for row in range(1, 70001)), 1), key=lambda pair: pair[1]):
+            if y < least:
+                least = y
+                front.append(["1", str(id), str(x), str(y)])
+        self.assertEqual(found[1:], sorted(front, key=lambda row: int(row[1])))
+
     def test_the_columns_of_a_file(self):
         self.assertEqual(self.prints(run("ask", "-", text="a,Price\n01,5.25\n2,6\n")), "a: text (01 begins with a zero)\nPrice: decimal(2)\n")
 
@@ -134,25 +144,14 @@ class TheDocument(TestCase):
 
 class TheProgress(TestCase):
     def said(self, seconds, terminal):
-        ours, theirs = pty.openpty()
-        with tempfile.TemporaryFile("w+") as plain, open(theirs, "w", closefd=True) as screen:
-            before, sys.stderr = sys.stderr, screen if terminal else plain
-            try:
-                progress = Progress()
-                progress._begun = time.monotonic() - seconds
-                progress("comparing", 3, 4)
-                progress.end()
-            finally:
-                sys.stderr = before
-            plain.seek(0)
-            screen.flush()
-            os.set_blocking(ours, False)
-            try:
-                text = os.read(ours, 1000).decode() if terminal else plain.read()
-            except BlockingIOError:
-                text = ""
-        os.close(ours)
-        return text
+        errors = io.StringIO()
+        errors.isatty = lambda: terminal
+        with contextlib.redirect_stderr(errors):
+            progress = Progress()
+            progress._begun = time.monotonic() - seconds
+            progress("comparing", 3, 4)
+            progress.end()
+        return errors.getvalue()
 
     def test_only_where_it_takes_long_and_a_person_watches(self):
         self.assertEqual(self.said(2, True), "\r\x1b[Kcomparing 75 %\r\x1b[K")

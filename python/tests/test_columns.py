@@ -4,7 +4,9 @@ import datetime
 import io
 import random
 import struct
+import unittest
 from decimal import Decimal
+from fractions import Fraction
 
 import prefq
 from prefq.checks import LEAST, MOST
@@ -135,6 +137,17 @@ class Refusals(TestCase):
         with self.assertRaises(FileNotFoundError):
             prefq.Frame.from_csv("/nowhere/hotels.csv")
 
+    def test_bytes_and_numpy(self):
+        with prefq.Frame.from_csv(io.BytesIO("\ufeffcity\nKöln\n".encode())) as frame:
+            self.assertEqual(frame.get(1), {"city": "Köln"})
+        try:
+            import numpy
+        except ImportError:
+            raise unittest.SkipTest("numpy is not installed")
+        with prefq.Frame.from_records([{"f": numpy.float32(0.1), "w": numpy.int8(5), "b": numpy.bool_(True), "d": Decimal("0.1")}]) as frame:
+            frame.insert({"f": numpy.float64(0.1), "w": numpy.uint64(7), "b": numpy.bool_(False), "d": numpy.float32(0.1)})
+            self.assertEqual([tuple(row.values()) for row in frame.rows()], [(float(numpy.float32(0.1)), 5, True, Decimal("0.1")), (0.1, 7, False, Decimal("0.1"))])
+
     def test_columns(self):
         with self.refuses(prefq.Refused, "no column 'prise'; did you mean price?"):
             from_text("price\n1\n", columns=["prise"])
@@ -166,7 +179,7 @@ class Refusals(TestCase):
                     ({"w": 2**63}, ValueError, "does not fit"), ({"w": -2**63}, ValueError, "does not fit"), ({"w": "many"}, ValueError, "'many' is no number"),
                     ({"d": Decimal("1.255")}, ValueError, "column 'd' (decimal(2)): 1.255 has more than 2 decimals"), ({"d": 10**17}, ValueError, "does not fit"),
                     ({"d": 0.1 + 0.2}, ValueError, "more than 2 decimals"), ({"d": Decimal("inf")}, ValueError, "fits"), ({"f": "x"}, ValueError, "'x' is no number"),
-                    ({"f": 2**53 + 1}, ValueError, "is no 64-bit float"), ({"f": True}, TypeError, "True is no number"), ({"b": 1}, TypeError, "neither True nor False"),
+                    ({"f": 2**53 + 1}, ValueError, "is no 64-bit float"), ({"f": True}, TypeError, "True is no number"), ({"f": Fraction(1, 3)}, ValueError, "is no 64-bit float"), ({"f": 10**400}, ValueError, "too large"), ({"f": 1j}, TypeError, "is no number"), ({"b": 1}, TypeError, "neither True nor False"),
                     ({"b": "perhaps"}, ValueError, "not true, false"), ({"day": datetime.datetime(2026, 5, 1)}, TypeError, "is no date"),
                     ({"day": "1.5.2026"}, ValueError, "is no date such as"), ({"t": datetime.date(2026, 5, 1)}, TypeError, "is no date with a time"),
                     ({"t": datetime.datetime(2026, 5, 1, tzinfo=UTC)}, ValueError, "has a time zone"), ({"z": datetime.datetime(2026, 5, 1)}, ValueError, "has no time zone"),

@@ -45,6 +45,14 @@ class Psel(TestCase):
         self.assertTrue(found.drop(columns=".level").equals(frame.loc[found.index]))
         self.assertLess(min(seconds), 1)
 
+    def test_more_rows_than_a_table_holds(self):
+        frame = hotels(150_000, seed=4)
+        found = prefq.psel(frame, "low(`price eur`) * low(dist) * high(stars)")
+        self.assertEqual(list(found.index), front(numpy.column_stack([frame["price eur"], frame["dist"], -frame["stars"]])))
+        with self.refuses(prefq.Refused, "too long", kind="term", number=5):
+            prefq.psel(frame, " & ".join(["low(dist)"] * 500))
+        self.assertEqual(len(prefq.psel(frame, "skyline of distinct stars max, city diff")), 3)
+
     def test_levels_and_groups(self):
         frame = hotels(500).set_index(pandas.Index([f"row {row}" for row in range(500)], name="label"))
         found = prefq.psel(frame, "low(`price eur`) * high(stars) by city", top_level=2)
@@ -72,6 +80,14 @@ class Psel(TestCase):
             prefq.psel(frame, "low(dist)", top_level=0)
         self.assertEqual(len(prefq.psel(frame, "around(`price eur`, 120.005)", kinds={"price eur": "decimal(2)"})), 1)
         self.assertEqual(len(prefq.psel(frame.iloc[:0], "low(dist)")), 0)
+
+    def test_names(self):
+        frame = pandas.DataFrame([[2, 1, 5], [1, 2, 5]], columns=["x", "y", "y"])
+        with self.refuses(prefq.Refused, "two columns are called 'y'"):
+            prefq.psel(frame, "low(y)")
+        found = prefq.psel(prefq.psel(frame, "low(x)", top_level=2), "high(x)")
+        self.assertEqual((list(found.columns), found.values.tolist()), ([".level", "x", "y", "y"], [[1, 2, 1, 5]]))
+        self.assertEqual(len(prefq.psel(pandas.DataFrame({5: [1], "x": [1]}), "low(x)")), 1)
 
     def test_other_things(self):
         records = [{"x": 2, "y": 1}, {"x": 1, "y": 2}, {"x": 2, "y": 2}]
@@ -120,6 +136,13 @@ class Frames(TestCase):
             found = opened.best("best low(int64)").to_dataframe()
             self.assertEqual((id, list(found.index), list(found["time"])), (4, [4, 5], [pandas.Timestamp("2026-05-01")] * 2))
             self.assertEqual([str(dtype) for dtype in found.dtypes], ["int64", "int64", "float64", "datetime64[ns]"])
+
+    def test_nanoseconds(self):
+        stamp = pandas.Timestamp("2026-05-01 10:00:00.123456789")
+        with prefq.Frame.from_dataframe(pandas.DataFrame({"time": [stamp]})) as opened:
+            self.assertEqual(opened.get(1).time, stamp)
+        with self.refuses(ValueError, "parts of a microsecond"):
+            prefq.Frame.from_records([{"time": stamp}])
 
     def test_of_a_file(self):
         text = "price,stars,day,time,ok,name\n5.25,3,2026-05-01,2026-05-01 10:00,yes,a\n4.25,,,,,\n"

@@ -87,18 +87,21 @@ class Refusals(TestCase):
                 why = caught.exception
                 self.assertTrue(question.encode()[why.place:].decode().startswith(behind))
                 shown, caret = str(why).split("\n")[1:]
-                self.assertEqual(shown, "    " + question)
-                self.assertEqual(caret, " " * (4 + len(question.encode()[:why.place].decode())) + "^")
+                self.assertTrue(shown[caret.index("^"):].startswith(question.encode()[why.place:].decode()[:80]))
+                if len(question) <= 160:
+                    self.assertEqual((shown, caret), ("    " + question, " " * (4 + len(question.encode()[:why.place].decode())) + "^"))
+                else:
+                    self.assertLess(len(shown), 180)
 
     def test_what_the_table_refuses_stands_at_its_place_in_the_question_that_was_written(self):
         part = 'pos(City, "Köln") & ' * 60
         long = "best " + " & ".join(["around(\"Price (EUR)\", 60.15)"] * 100)
-        with self.refuses(prefq.Refused, "too long", "at most 4096 bytes", long, kind="term", number=5):
+        with self.refuses(prefq.Refused, "too long", "at most 4096 bytes", "    best around(\"Price", kind="term", number=5):
             self.frame.best(long)
         deep = "best " + "(low(x) * low(Stars) & " * 63 + "low(x) * around(\"Price (EUR)\", 60.15)" + ")" * 63
         self.assertTrue(self.frame.best(deep))
         deeper = "best " + part + "(low(x) * low(Stars) & " * 64 + "low(x) * around(\"Price (EUR)\", 60.15)" + ")" * 64
-        with self.refuses(prefq.Refused, "too deep", kind="term", number=4, place=deeper.encode().index(b"around")):
+        with self.refuses(prefq.Refused, "more than 64 nestings", kind="term", number=4, place=deeper.encode().index(b"around")):
             self.frame.best(deeper)
 
     def test_no_text(self):

@@ -158,7 +158,7 @@ class Questions(TestCase):
 
     def test_a_caret_stands_below_the_place(self):
         with hotels() as table:
-            with self.refuses(prefq.Refused, "unknown column at 9\n    best low(prise)\n             ^"):
+            with self.refuses(prefq.Refused, "no column 'prise'; did you mean price?\n    best low(prise)\n             ^"):
                 table.best("best low(prise)")
             with self.refuses(prefq.Refused, '    best low("é")\n             ^'):
                 table.best('best low("é")')

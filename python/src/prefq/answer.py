@@ -64,8 +64,10 @@ class Answer(List[Record]):
     @property
     def heading(self) -> List[str]:
         """The names with those of level and id in front; with a point where the file has such a name itself."""
-        taken = self.names
-        return [*(f".{name}" if name in taken else name for name in ("level", "id")), *taken]
+        def free(name: str) -> str:
+            return free(f".{name}") if name in self.names else name
+
+        return [free("level"), free("id"), *self.names]
 
     def cells(self, record: Record) -> List[str]:
         """A row as texts."""

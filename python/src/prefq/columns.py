@@ -52,6 +52,7 @@ class Column:
         except (TypeError, ValueError) as why:
             raise type(why)(f"column {self.name!r} ({self.kind}): {why}") from None
         except OverflowError as why:
+            # The numbers of Python have no limit, floats have one.
             raise ValueError(f"column {self.name!r} ({self.kind}): {why}") from None
 
     def decode(self, number: int) -> Any:

@@ -6,6 +6,7 @@ FORM = re.compile(r"(?:(?P<line>line) \d+ )?(?:(?P<who>\d+|table|opening|script|
                   r"(?:(?P<what>table|term|commit) )?(?:(?P<number>\d+): )?(?P<text>.*)")
 PLACE = re.compile(r" (?:at|col|place) (\d+)$")
 
+ROUND = 80
 # What to do about a refusal, by its kind and number.
 ADVICE = {
     ("client", 2): "take another client",
@@ -109,10 +110,11 @@ def refused(line: str, question: Optional[str] = None) -> Refused:
 
 
 def pointed(question: str, place: Optional[int]) -> str:
-    """The question on a line, and a caret below its byte `place`, counted from 0."""
-    shown = "    " + re.sub(r"[\x00-\x08\x0a-\x1f\x7f]", "\N{REPLACEMENT CHARACTER}", question)
-    if place is None:
-        return shown
-    before = question.encode(errors="replace")[:place].decode(errors="ignore")
+    """The question on a line, and a caret below its byte `place`, counted from 0. Of a long one only what stands round the place is shown."""
+    shown = re.sub(r"[\x00-\x08\x0a-\x1f\x7f]", "\N{REPLACEMENT CHARACTER}", question)
+    at = 0 if place is None else len(question.encode(errors="replace")[:place].decode(errors="ignore"))
+    first, last = (0, len(shown)) if len(shown) <= 2 * ROUND else (max(0, at - ROUND), at + ROUND)
+    before = "..." * (first > 0) + shown[first:at]
+    line = f"    {before}{shown[at:last]}{'...' * (last < len(shown))}"
     blank = re.sub(r"[^\t]", " ", before)
-    return f"{shown}\n    {blank}^"
+    return line if place is None else f"{line}\n    {blank}^"

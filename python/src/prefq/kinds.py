@@ -120,16 +120,12 @@ class Floats(Kind):
             if not FLOAT.fullmatch(value.strip()):
                 raise ValueError(f"{value!r} is no number")
             number = float(value)
-        elif isinstance(value, (int, Decimal)) and not isinstance(value, bool):
+        elif isinstance(value, bool) or not hasattr(value, "__float__"):
+            raise TypeError(f"{value!r} is no number")
+        else:
             number = float(value)
             if number != value:
                 raise ValueError(f"{value} is no 64-bit float; give the column a kind such as 'whole' or 'decimal(2)'")
-        elif isinstance(value, float) or hasattr(value, "__float__") and not isinstance(value, bool):
-            number = float(value)
-        else:
-            raise TypeError(f"{value!r} is no number")
-        if number != number:
-            raise ValueError("not a number")
         bits: int = struct.unpack("<q", struct.pack("<d", number))[0]
         # The bits of a negative number are its amount and the sign bit; those of -0.0 are the sign bit alone, which gives 0 as 0.0 does.
         return bits if bits >= 0 else LEAST - bits
@@ -207,6 +203,8 @@ class Times(Kind):
             raise TypeError(f"{value!r} is no date with a time")
         if (value.tzinfo is None) != (self.zone is None):
             raise ValueError(f"{value} has {'a' if value.tzinfo else 'no'} time zone, other than the rest of the column")
+        if getattr(value, "nanosecond", 0):
+            raise ValueError(f"{value} has parts of a microsecond")
         if value.tzinfo is not None:
             value = value.astimezone(datetime.timezone.utc).replace(tzinfo=None)
         return (value - EPOCH) // datetime.timedelta(microseconds=1)
@@ -284,7 +282,7 @@ def within(number: int) -> int:
 
 
 def fraction_of(value: Any) -> Fraction:
-    """The exact number that a value is, or a text spells. A float is the decimal number that Python shows."""
+    """The exact number that a value is, or a text spells. A float is the decimal number that is shown for it."""
     if isinstance(value, str):
         text = value.strip()
         if NUMBER.fullmatch(text):
@@ -293,8 +291,8 @@ def fraction_of(value: Any) -> Fraction:
     if isinstance(value, bool):
         raise TypeError(f"{value!r} is no number")
     try:
-        if isinstance(value, float):
-            return Fraction(repr(float(value)))
+        if isinstance(value, float) or type(value).__module__ == "numpy":
+            return Fraction(str(value))
         return Fraction(value) if isinstance(value, (Decimal, Fraction)) else Fraction(operator.index(value))
     except (InvalidOperation, OverflowError, ValueError):
         raise ValueError(f"{value} is no number that fits") from None

@@ -1,7 +1,11 @@
-"""A table that is asked one question and then closed."""
-from typing import Any, Callable, Dict, List, Optional, Sequence
+"""One question over rows that nobody asks again."""
+import os
+from concurrent.futures import ThreadPoolExecutor
+from typing import Any, Callable, Dict, Iterable, List, Optional, Sequence
 
+from . import parts
 from .checks import MOST_ROWS
+from .partition import Partition
 from .rows import Row
 from .table import Table
 
@@ -9,7 +13,9 @@ Progress = Callable[[str, int, int], None]
 
 
 def ask_once(columns: Sequence[str], rows: Sequence[Sequence[int]], question: str, *, progress: Optional[Progress] = None, **options: Any) -> List[Row]:
-    """The answer to a question over these rows of whole numbers, whose ids are 1, 2, 3 and so on."""
+    """The answer to a question over these rows of whole numbers, whose ids are 1, 2, 3 and so on. More of them than one table holds are asked in parts."""
+    if len(rows) > MOST_ROWS:
+        return _in_parts(columns, rows, question, progress, options.get("program"))
     settings: Dict[str, Any] = {"clients": 1, "capacity": max(1, len(rows)), "block": 1024 if progress else MOST_ROWS, **options}
     with Table(columns, rows, **settings) as table:
         with table.query(question) as query:
@@ -19,3 +25,20 @@ def ask_once(columns: Sequence[str], rows: Sequence[Sequence[int]], question: st
                 if progress:
                     progress("comparing", blocks - query.left, blocks)
             return query.answer()
+
+
+def _in_parts(columns: Sequence[str], rows: Sequence[Sequence[int]], question: str, progress: Optional[Progress], program: Any) -> List[Row]:
+    lines = [",".join(map(str, row)) for row in rows]
+    partitions = [Partition(columns, lines[begin:begin + MOST_ROWS]) for begin in range(0, len(lines), MOST_ROWS)]
+    with ThreadPoolExecutor(os.cpu_count()) as pool:
+
+        def mapped(function: Callable[[Any], Any], items: Iterable[Any]) -> List[Any]:
+            asked = list(items)
+            found = []
+            for result in pool.map(function, asked):
+                found.append(result)
+                if progress:
+                    progress("comparing", len(found), len(asked))
+            return found
+
+        return parts.best(partitions, question, map=mapped, program=program)

@@ -109,6 +109,17 @@ def read_question(question: str, column: Callable[[str], Optional[Column]], name
     return Reader(question, column, names).question(mode)
 
 
+def taught(why: Refused, columns: Sequence[str]) -> Refused:
+    """The refusal of a question about a table of whole numbers, with what could stand at its place, or the name that is meant."""
+    if why.kind == "term" and why.question is not None:
+        try:
+            read_question(why.question, {name: Column(name, "whole") for name in columns}.get, columns)
+        except Refused as better:
+            if (better.number, better.place) == (why.number, why.place):
+                return better
+    return why
+
+
 class Reader:
     """Reads a question from the left."""
 

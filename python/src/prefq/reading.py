@@ -2,13 +2,13 @@
 import csv
 import io
 import os
-from typing import Any, Iterable, List, NamedTuple, Optional, TextIO, Tuple, Union
+from typing import IO, Any, Iterable, List, NamedTuple, Optional, Tuple, Union
 
 from .errors import Refused
 
 DELIMITERS = ",;\t|"
 MISSING_WORDS = frozenset({"", "na", "n/a", "nan", "null", "none", "-"})
-Source = Union[str, "os.PathLike[str]", TextIO]
+Source = Union[str, "os.PathLike[str]", IO[Any]]
 
 
 class Cells(NamedTuple):
@@ -22,12 +22,17 @@ class Cells(NamedTuple):
 def read_csv(source: Source, encoding: str = "utf-8-sig", delimiter: Optional[str] = None) -> Cells:
     """The cells of a file, or of an open one. Without a delimiter it takes the one of , ; tab | that stands most often in the first line."""
     if not isinstance(source, (str, os.PathLike)):
-        return cells_of(source.read(), "the file", delimiter)
+        return cells_of(decoded(source.read(), encoding, "the file"), "the file", delimiter)
+    with open(source, "rb") as file:
+        return cells_of(decoded(file.read(), encoding, str(source)), str(source), delimiter)
+
+
+def decoded(text: Union[str, bytes], encoding: str, what: str) -> str:
+    """The text of a file's bytes."""
     try:
-        with open(source, newline="", encoding=encoding) as file:
-            return cells_of(file.read(), str(source), delimiter)
+        return text if isinstance(text, str) else text.decode(encoding)
     except UnicodeDecodeError as why:
-        raise Refused(f"{source} is not {encoding.replace('-sig', '')} (byte {why.start}): give its encoding, such as encoding='cp1252'", "table") from None
+        raise Refused(f"{what} is not {encoding.replace('-sig', '')} (byte {why.start}): give its encoding, such as encoding='cp1252'", "table") from None
 
 
 def cells_of(text: str, what: str, delimiter: Optional[str]) -> Cells:

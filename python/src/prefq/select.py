@@ -7,6 +7,7 @@ from .errors import Refused
 from .frame import Frame, warn_of, without_twins
 from .once import Progress, ask_once
 from .questions import Mode, read_question
+from .reading import check_names
 from .rows import Row
 from .translate import columns_in, plan
 
@@ -16,7 +17,7 @@ def psel(frame: Any, text: str, *, top_level: Optional[int] = None, at_least: Op
     """The rows that a preference prefers: the best ones, the levels 1 to `top_level`, or whole levels until there are `at_least` so many rows.
 
     The text is that of rPref, without a mode, as in "low(`price eur`) * low(dist)"; it may end in `by city`. A question with a mode is taken too. Only the
-    columns that it names are looked at. Of a DataFrame of pandas the rows come back as they are, in a DataFrame with the column `.level` in front; of a
+    columns that it names are looked at, and a DataFrame may have any number of rows. Of a DataFrame of pandas the rows come back as they are, in a DataFrame with the column `.level` in front; of a
     Frame or of records as an Answer.
 
     >>> import prefq
@@ -46,7 +47,7 @@ def mode_of(top_level: Optional[int], at_least: Optional[int]) -> Mode:
 def _of_dataframe(dataframe: Any, text: str, mode: Mode, kinds: Optional[Mapping[str, str]], options: Dict[str, Any]) -> Any:
     from .pandas_frames import encoded_series
     rows = selected(text, mode, list(dataframe.columns), lambda name: encoded_series(dataframe[name], name, kinds), **options)
-    found = dataframe.iloc[[row.id - 1 for row in rows]].copy()
+    found = dataframe.iloc[[row.id - 1 for row in rows]].drop(columns=".level", errors="ignore")
     found.insert(0, ".level", [row.level for row in rows])
     return found
 
@@ -58,6 +59,7 @@ def selected(text: str, mode: Optional[Mode], names: Sequence[Any], load: Callab
 
     def column(name: str) -> Optional[Column]:
         if name in names and name not in loaded:
+            check_names(other for other in names if other == name)
             loaded[name] = load(name)
         return loaded[name][0] if name in loaded else None
 

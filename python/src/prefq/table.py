@@ -8,6 +8,7 @@ from .errors import Ended, Refused
 from .exchange import Exchange
 from .program import find_program
 from .query import Query
+from .questions import taught
 from .rows import Row, line, listed, texts
 
 Values = Iterable[int]
@@ -219,7 +220,10 @@ class Table:
         (0, [Row(level=1, id=2, values=[80])])
         """
         text = checks.text_of_question(question)
-        return Query(self._exchange, self._free, text, None if client is None else self._client(client), len(self.columns))
+        try:
+            return Query(self._exchange, self._free, text, None if client is None else self._client(client), len(self.columns))
+        except Refused as why:
+            raise taught(why, self.columns) from None
 
     def best(self, question: str) -> List[Row]:
         """The answer to a question, by level and then by id.
