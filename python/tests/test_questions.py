@@ -1,5 +1,8 @@
 """Questions in a file's own names and values: how they are read, and how a wrong one is refused at its place."""
 import datetime
+import random
+import re
+import unittest.mock
 import warnings
 from decimal import Decimal
 
@@ -56,6 +59,7 @@ REFUSED = [
     ("at_least 1001 low(Stars)", "a count is from 1 to 1000", 6, "1001"),
     ("best " + "-" * 65 + "low(Stars)", "more than 64 nestings", 4, "-low"),
     ("best " + "(" * 10000 + "low(Stars)", "more than 64 nestings", 4, "(" * (10000 - 64) + "low"),
+    ("skyline City", "Here could stand of", 1, "City"),
     ("skyline of City diff", "the clause has no min or max", 7, "skyline"),
     ("skyline of Stars, x", "Here could stand min, max or diff", 1, ", x"),
     ("skyline of Stars min x max", "Here could stand a , or the end", 1, "x max"),
@@ -111,6 +115,47 @@ class Refusals(TestCase):
 
     def test_the_frame_is_as_before(self):
         self.assertEqual([dict(row) for row in self.frame.rows()], RECORDS)
+
+
+class AsTheProgram(TestCase):
+    """Over whole numbers, the program reads a question as this package does: it refuses the same ones, at the same place, and has the same answers."""
+
+    NAMES = ["x", "y", "by", "low", "distinct", "min"]
+    PIECES = ["best", "top_level", "at_least", "skyline", "of", "distinct", "min", "max", "diff", "by", "low", "high", "around", "between", "pos", "layered", "reverse",
+              *"((()))**&&-{},,", "1", "2", "1000", "1001", "0", *"xyxy", "zz", "+", "\t", "BEST", "Skyline", "OF", "MIN"]
+    QUESTIONS = ["best low(x)*high(y)", "top_level 2 low(x)&(high(y)*-low(x)) by y", "at_least 3 around(x,-5) * between(y,1,5)", "best pos(x,1,2) & layered(y,{1,2},{3})",
+                 "skyline of x min, y max, by diff", "skyline of distinct distinct min, x max", "best reverse(low(by))", "best -(low(x))*low(min) by low, x"]
+
+    def changed(self, chance):
+        """A question in which some pieces are taken away, put in or replaced, or which breaks off."""
+        pieces = re.findall(r"[A-Za-z][\w.]*|\d+|\s+|.", chance.choice(self.QUESTIONS))
+        for _ in range(chance.randrange(4)):
+            at = chance.randrange(len(pieces) + 1)
+            pieces[at:at + chance.randrange(2)] = chance.choices(self.PIECES, k=chance.randrange(2))
+            if chance.random() < 0.1:
+                pieces = pieces[:at]
+        question = "".join(pieces)
+        return question if question.strip() else "best"
+
+    def told(self, ask):
+        try:
+            return [(row.level, row.id) for row in ask()]
+        except prefq.Refused as why:
+            return why.number, why.place, why.question
+
+    def test_random_questions(self):
+        chance = random.Random(11)
+        rows = [[chance.randrange(5) for _ in self.NAMES] for _ in range(20)]
+        refusals = 0
+        with prefq.Frame.from_records([dict(zip(self.NAMES, row)) for row in rows]) as frame, prefq.Table(self.NAMES, rows) as table:
+            with unittest.mock.patch("prefq.table.taught", lambda why, columns: why):
+                for _ in range(2000):
+                    question = self.changed(chance)
+                    by_table = self.told(lambda: table.best(question))
+                    self.assertEqual(self.told(lambda: frame.best(question)), by_table, question)
+                    refusals += isinstance(by_table, tuple)
+        self.assertGreater(refusals, 500)
+        self.assertLess(refusals, 1500)
 
 
 class Spellings(TestCase):

@@ -110,7 +110,7 @@ def read_question(question: str, column: Callable[[str], Optional[Column]], name
 
 
 def taught(why: Refused, columns: Sequence[str]) -> Refused:
-    """The refusal of a question about a table of whole numbers, with what could stand at its place, or the name that is meant."""
+    """The program's refusal of a question about whole numbers, with what could stand at its place, or the name that is meant."""
     if why.kind == "term" and why.question is not None:
         try:
             read_question(why.question, {name: Column(name, "whole") for name in columns}.get, columns)
@@ -167,8 +167,9 @@ class Reader:
             self._unexpected({")": "a )", "(": "a (", ",": "a ,", "{": "a {", "}": "a , or a }"}[sign])
 
     def question(self, mode: Optional[Mode]) -> Question:
-        if self._next.kind == "word" and self._next.text.lower() == "skyline" and self._ahead(1).text.lower() == "of":
-            self._at += 2
+        if self._takes_word("skyline"):
+            if not self._takes_word("of"):
+                self._unexpected("of")
             return self._clause()
         name, count = self._mode(mode)
         term = self._prior()
