@@ -14,6 +14,7 @@ SECONDS_TO_END = 5.0
 # Linux has this number of its call fcntl, which Python names from 3.10 on.
 SET_PIPE_SIZE = 1031
 PIPE_SIZE = 2**20
+SIGNALS = {number.value: number.name for number in signal.Signals}
 
 
 class Process:
@@ -86,7 +87,7 @@ class Process:
             status = self._popen.wait(SECONDS_TO_END)
         except subprocess.TimeoutExpired:
             return Ended("the program closed its output and goes on", "died")
-        how = f"was killed by {signal.Signals(-status).name}" if status < 0 else f"ended with status {status}"
+        how = f"was killed by {SIGNALS.get(-status, -status)}" if status < 0 else f"ended with status {status}"
         said = f"{last}\n{self._read.decode(errors='replace')}".strip().splitlines()
         return Ended(f"the program {how}" + (f"; its last line is: {said[-1]}" if said else "; it said nothing more"), "died")
 

@@ -9,7 +9,7 @@ from typing import Any, Callable, Iterator, List, NamedTuple, Optional, Sequence
 from .checks import LEAST, MOST, MOST_ROWS, whole
 
 Made = TypeVar("Made")
-TOGETHER = 256
+TOGETHER = 1024
 ANSWER_PIECE = 16_384
 SHORTEST = 0.000_05
 # What stands round the numbers in the line of a row, `level 1 id 3: 45,9`, is blank here.
