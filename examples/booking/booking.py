@@ -14,7 +14,7 @@ import time
 
 import prefq
 from prefq.desk import Desk
-from prefq.serve import Server, run
+from prefq.server import Server, run
 
 KINDS = {"Hotel": "text", "Price (EUR)": "decimal(2)", "Distance (m)": "whole", "Rating": "decimal(1)"}
 QUESTIONS = [

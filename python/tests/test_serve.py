@@ -18,9 +18,10 @@ from unittest import mock
 from urllib.parse import urlencode
 
 import prefq
-from prefq import pictures, serve
+from prefq import pictures
+from prefq import server as server_module
 from prefq.desk import Desk
-from prefq.serve import MOST_BODY, Server
+from prefq.server import MOST_BODY, Server
 from support import TestCase, kill, standing_still
 
 EXAMPLES = Path(__file__).resolve().parents[2] / "examples"
@@ -308,12 +309,12 @@ class Streams(TestCase):
             self.assertEqual(made.call_count, 2)
 
     def test_a_sign_of_life(self):
-        with mock.patch.object(serve, "SECONDS_QUIET", 0.2), served() as server, Events(server) as events:
+        with mock.patch.object(server_module, "SECONDS_QUIET", 0.2), served() as server, Events(server) as events:
             events.next()
             self.assertTrue(events.reply.readline().startswith(b": "))
 
     def test_too_many_browsers(self):
-        with mock.patch.object(serve, "MOST_STREAMS", 1), mock.patch.object(serve, "SECONDS_QUIET", 0.1), served() as server:
+        with mock.patch.object(server_module, "MOST_STREAMS", 1), mock.patch.object(server_module, "SECONDS_QUIET", 0.1), served() as server:
             with Events(server) as events:
                 events.next()
                 self.assertEqual(ask(server, "GET", "/events")[0], 503)
