@@ -12,6 +12,7 @@ from pathlib import Path
 
 sys.path.insert(0, str(Path(__file__).resolve().parent.parent.parent / "python/src"))
 import prefq
+from prefq.partition import text_of
 from prefq.parts import Partition, best
 
 PART = 50_000
@@ -64,11 +65,11 @@ def check(program, count):
 def main(program, file, *rest):
     if file == "--check":
         sys.exit(0 if check(program, int(rest[0]) if rest else 200_000) else 1)
-    header, *lines = Path(file).read_text().splitlines()
     try:
-        for row in answer(program, header.split(","), lines, rest[0]):
+        columns, rows = text_of(file)
+        for row in answer(program, columns, rows, rest[0]):
             print(f"level {row.level} row {row.id}: {','.join(map(str, row.values))}")
-    except prefq.Error as why:
+    except (prefq.Error, OSError, ValueError) as why:
         sys.exit(str(why))
 
 
