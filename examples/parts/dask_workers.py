@@ -13,13 +13,13 @@ import sys
 import zipfile
 from pathlib import Path
 
-from distributed import Client
+from distributed import Client, WorkerPlugin
 
 import prefq
 from prefq.parts import best
 
 
-class SendPrefq:
+class SendPrefq(WorkerPlugin):
     """A worker plugin: writes the package and the program beside each worker, those that join later among them."""
 
     name = "prefq"
@@ -50,7 +50,8 @@ def package():
 def main(scheduler, folder, question):
     files = sorted(Path(folder).resolve().glob("*.csv"))
     with Client(scheduler) as client:
-        client.register_worker_plugin(SendPrefq(package(), Path(prefq.find_program()).read_bytes()))
+        register = getattr(client, "register_plugin", None) or client.register_worker_plugin     # its name in new and in old versions
+        register(SendPrefq(package(), Path(prefq.find_program()).read_bytes()))
         try:
             for row in best(files, question, map=client.map):
                 print(f"level {row.level} row {row.id}: {','.join(map(str, row.values))}")
