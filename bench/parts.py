@@ -1,5 +1,5 @@
 #!/usr/bin/env python3
-"""Questions over millions of rows by `prefq.parts` on a pool of processes and on Dask workers, beside numpy.
+"""Questions over millions of rows by `prefq.parts` on a pool of processes and on Dask workers, compared with numpy.
 
     python3 bench/parts.py [--rows 5000000] [--rounds 3] [--pool 4] [--dask 1 2 4] [--folder FOLDER]
 
@@ -52,7 +52,7 @@ def front(rows):
 
 
 def levels(rows, most, least=NO_END):
-    """Level and offer of the rows in whole levels: so many levels, or as many as hold so many rows."""
+    """Level and offer of the rows in whole levels: at most `most` levels, until there are `least` rows."""
     found, level = [], 0
     while len(rows) and level < most and len(found) < least:
         level += 1

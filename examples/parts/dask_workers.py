@@ -2,7 +2,7 @@
 """Asks a question of all CSV files of a folder on a Dask cluster, whose workers need neither this package nor the program: both are sent to them.
 
     dask-scheduler --port 8786 &
-    dask-worker tcp://127.0.0.1:8786 --nthreads 1 &               # as many as you like, on machines that see the folder under the same path
+    dask-worker tcp://127.0.0.1:8786 --nthreads 1 &               # one or more, on machines that see the folder under the same path
     python3 examples/parts/dask_workers.py tcp://127.0.0.1:8786 FOLDER 'best low(price) * low(dist)'
 
 Needs Dask (Debian: python3-distributed), and the package `prefq` where this runs.
@@ -20,7 +20,7 @@ from prefq.parts import best
 
 
 class SendPrefq(WorkerPlugin):
-    """A worker plugin: writes the package and the program beside each worker, those that join later among them."""
+    """A worker plugin: writes the package and the program into the folder of each worker, also of those that join later."""
 
     name = "prefq"
 

@@ -3,7 +3,7 @@
 Ids are the file's row numbers, from 1 on.
 
     python3 examples/parts/parts.py PROGRAM FILE.csv 'best low(price) * low(dist)'
-    python3 examples/parts/parts.py PROGRAM --check [ROWS]      # over so many random rows, else 200,000: compares with a plain program
+    python3 examples/parts/parts.py PROGRAM --check [ROWS]      # over this number of random rows (200,000): compares with a plain program
 """
 import random
 import sys
@@ -19,7 +19,7 @@ PART = 50_000
 
 
 def answer(program, columns, rows, question):
-    """The answer over all rows, part by part, on as many processors as there are: each part is asked by a process of its own."""
+    """The answer over all rows, part by part, on all processors: each part is asked by a process of its own."""
     parts = [Partition(columns, rows[begin:begin + PART]) for begin in range(0, len(rows), PART)] or [Partition(columns, [])]
     with ThreadPoolExecutor() as pool:
         return best(parts, question, map=pool.map, program=program)

@@ -65,10 +65,10 @@ class Browser:
 
     def js(self, code):
         """The value of an expression in the page."""
-        told = self.call("Runtime.evaluate", expression=code, awaitPromise=True, returnByValue=True)
-        if "exceptionDetails" in told:
-            raise AssertionError(f"{code}: {told['exceptionDetails'].get('exception', {}).get('description', told['exceptionDetails'])}")
-        return told["result"].get("value")
+        result = self.call("Runtime.evaluate", expression=code, awaitPromise=True, returnByValue=True)
+        if "exceptionDetails" in result:
+            raise AssertionError(f"{code}: {result['exceptionDetails'].get('exception', {}).get('description', result['exceptionDetails'])}")
+        return result["result"].get("value")
 
     def until(self, code, seconds=20):
         """Waits until an expression of the page is true, and returns it."""
@@ -101,13 +101,13 @@ class Browser:
         self._count += 1
         self._send(json.dumps({"id": self._count, "method": method, "params": parameters}).encode())
         while True:
-            told = json.loads(self._message())
-            if told.get("method") == "Runtime.exceptionThrown" or told.get("method") == "Log.entryAdded" and told["params"]["entry"]["level"] == "error":
-                self.faults.append(told["params"])
-            if told.get("id") == self._count:
-                if "error" in told:
-                    raise AssertionError(f"{method}: {told['error']}")
-                return told["result"]
+            result = json.loads(self._message())
+            if result.get("method") == "Runtime.exceptionThrown" or result.get("method") == "Log.entryAdded" and result["params"]["entry"]["level"] == "error":
+                self.faults.append(result["params"])
+            if result.get("id") == self._count:
+                if "error" in result:
+                    raise AssertionError(f"{method}: {result['error']}")
+                return result["result"]
 
     def _address(self):
         """The port and the path of the page, which the browser writes into its folder as soon as it listens."""

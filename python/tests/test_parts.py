@@ -61,7 +61,7 @@ def answered(rows):
 
 
 def write(folder, rows, size):
-    """Files of so many rows."""
+    """Files of this number of rows."""
     for number, begin in enumerate(range(0, len(rows), size)):
         lines = [",".join(COLUMNS), *(",".join(map(str, row)) for row in rows[begin:begin + size])]
         Path(folder, f"part-{number:02}.csv").write_text("\n".join(lines) + "\n")
@@ -295,10 +295,10 @@ class Engines(unittest.TestCase):
         done = subprocess.run([sys.executable, "-c", code, *map(str, self.files)], env=package_path(), cwd=Path(__file__).parent, stdout=subprocess.PIPE,
                               stderr=subprocess.PIPE, universal_newlines=True, timeout=120)
         self.assertEqual(done.returncode, 0, done.stderr)
-        told = json.loads(done.stdout)
-        self.assertEqual({question: [tuple(pair) for pair in found] for question, found in told["answers"].items()}, self.wanted)
-        self.assertEqual(told["refused"], ["Refused", "term", 2, 9])
-        self.assertEqual(told["frames"], told["answers"][next(iter(QUESTIONS))])
+        printed = json.loads(done.stdout)
+        self.assertEqual({question: [tuple(pair) for pair in found] for question, found in printed["answers"].items()}, self.wanted)
+        self.assertEqual(printed["refused"], ["Refused", "term", 2, 9])
+        self.assertEqual(printed["frames"], printed["answers"][next(iter(QUESTIONS))])
 
     def test_dask_workers_that_have_nothing(self):
         """Separate worker processes without the package and the program, by the example."""
@@ -342,7 +342,7 @@ class Engines(unittest.TestCase):
 
 
 def on_dask(*files):
-    """Asks the questions, and one that is refused in between, on a cluster of two workers, and prints what it is told."""
+    """Asks the questions, and one that is refused in between, on a cluster of two workers, and prints the answers."""
     from dask import dataframe
     from distributed import Client, LocalCluster
     with LocalCluster(n_workers=2, threads_per_worker=1, dashboard_address=None, memory_limit=None, silence_logs="ERROR") as cluster, Client(cluster) as client:

@@ -80,7 +80,7 @@ class Events:
 
     def next(self):
         """The name of the next event, and what it says."""
-        name, told = "message", None
+        name, shown = "message", None
         while True:
             line = self.reply.readline().decode()
             if not line:
@@ -88,15 +88,15 @@ class Events:
             if line.startswith("event: "):
                 name = line[7:].strip()
             elif line.startswith("data: "):
-                told = json.loads(line[6:])
-            elif line == "\n" and told is not None:
-                return name, told
+                shown = json.loads(line[6:])
+            elif line == "\n" and shown is not None:
+                return name, shown
 
     def until(self, version):
         while True:
-            name, told = self.next()
-            if name != "message" or told["version"] >= version:
-                return told
+            name, shown = self.next()
+            if name != "message" or shown["version"] >= version:
+                return shown
 
 
 def exchange(server, data):
@@ -125,48 +125,48 @@ class Pictures(TestCase):
 
     def test_a_picture(self):
         with served() as server:
-            status, told = picture(server)
-            self.assertEqual((status, told["version"], told["count"], told["found"], told["axes"]), (200, 1, 4, 4, ["Price (EUR)", "Distance"]))
-            self.assertEqual([(row["id"], row["level"], row["x"], row["y"]) for row in told["best"]], [(1, 1, 59.9, 900), (2, 1, 49.5, 2500), (4, 1, None, 100), (3, 2, 80, 1200)])
-            self.assertEqual(told["best"][0]["cells"], ["Quay <b>", "59.90", "900", "2001-05-01"])
-            told = picture(server, "best low(Distance)")[1]
-            self.assertEqual(([row["id"] for row in told["best"]], told["others"][0]), ([4], [1, 900, 59.9, "Quay <b>"]))
-            self.assertEqual(told["axes"], ["Distance", "Price (EUR)"])
-            told = picture(server, "best pos(Hotel, 'Alpine')", x="Opened", y="Distance")[1]
-            self.assertEqual((told["axes"], told["best"][0]["x"], told["others"][0][1]), (["Opened", "Distance"], None, 11_443))
-            self.assertEqual((told["notes"], picture(server, "best pos(Hotel, 'Xyz', 'Alpine')")[1]["notes"]), ([], ["no row of 'Hotel' has 'Xyz'"]))
+            status, shown = picture(server)
+            self.assertEqual((status, shown["version"], shown["count"], shown["found"], shown["axes"]), (200, 1, 4, 4, ["Price (EUR)", "Distance"]))
+            self.assertEqual([(row["id"], row["level"], row["x"], row["y"]) for row in shown["best"]], [(1, 1, 59.9, 900), (2, 1, 49.5, 2500), (4, 1, None, 100), (3, 2, 80, 1200)])
+            self.assertEqual(shown["best"][0]["cells"], ["Quay <b>", "59.90", "900", "2001-05-01"])
+            shown = picture(server, "best low(Distance)")[1]
+            self.assertEqual(([row["id"] for row in shown["best"]], shown["others"][0]), ([4], [1, 900, 59.9, "Quay <b>"]))
+            self.assertEqual(shown["axes"], ["Distance", "Price (EUR)"])
+            shown = picture(server, "best pos(Hotel, 'Alpine')", x="Opened", y="Distance")[1]
+            self.assertEqual((shown["axes"], shown["best"][0]["x"], shown["others"][0][1]), (["Opened", "Distance"], None, 11_443))
+            self.assertEqual((shown["notes"], picture(server, "best pos(Hotel, 'Xyz', 'Alpine')")[1]["notes"]), ([], ["no row of 'Hotel' has 'Xyz'"]))
             self.assertEqual(picture(server, "best low(Distance)", x="Hotel", y="nothing")[1]["axes"], ["Distance", "Price (EUR)"])
 
     def test_twins_of_a_distinct_clause(self):
         records = [{"Hotel": name, "Price (EUR)": price, "Distance": 1} for name, price in [("a", "5"), ("b", None), ("c", "5"), ("d", "5")]]
         with served(records) as server:
-            told = picture(server, 'skyline of distinct "Price (EUR)" min, Distance min')[1]
-            self.assertEqual([row["id"] for row in told["best"]], [1])
+            shown = picture(server, 'skyline of distinct "Price (EUR)" min, Distance min')[1]
+            self.assertEqual([row["id"] for row in shown["best"]], [1])
 
     def test_texts_alone(self):
         with Desk(prefq.Frame.from_records([{"Hotel": "b'"}, {"Hotel": "a"}])) as desk, Server(desk) as server:
             self.assertEqual(server.about["questions"], ["best pos(Hotel, 'b''')"])
-            told = pictures.picture(desk, server.about["questions"][0])
-            self.assertEqual(([row["cells"] for row in told["best"]], told["axes"]), ([["b'"]], [None, None]))
+            shown = pictures.picture(desk, server.about["questions"][0])
+            self.assertEqual(([row["cells"] for row in shown["best"]], shown["axes"]), ([["b'"]], [None, None]))
 
     def test_a_large_table_is_sampled(self):
         records = [{"Hotel": str(number), "Price (EUR)": number, "Distance": 5} for number in range(3000)]
         with served(records) as server:
-            told = picture(server, "best low(Distance)")[1]
-            self.assertEqual((told["count"], told["found"], len(told["best"]), told["others"]), (3000, 3000, pictures.MOST_BEST, []))
-            told = picture(server, 'best low("Price (EUR)")')[1]
-            self.assertEqual((told["found"], len(told["others"])), (1, 1500))
+            shown = picture(server, "best low(Distance)")[1]
+            self.assertEqual((shown["count"], shown["found"], len(shown["best"]), shown["others"]), (3000, 3000, pictures.MOST_BEST, []))
+            shown = picture(server, 'best low("Price (EUR)")')[1]
+            self.assertEqual((shown["found"], len(shown["others"])), (1, 1500))
 
     def test_a_question_is_refused_at_its_character(self):
         with served() as server:
             for question, place, said in [("best low(Distanse)", 9, "did you mean Distance"), ("low(Distance)", 0, "write best low(Distance)"), ("best low(Distance) *", 20, "breaks off"),
                                           ("best pos(Hotel, 'Über', Nö)", 24, "unexpected Nö"), ("", 0, "begins with"), ("best low(Hotel)", 5, "no order"),
                                           ("best low(Distance)\nas 1 room", 19, "unexpected as"), ("best low(Distance) <script>", 19, "unexpected <")]:
-                status, told = picture(server, question)
-                self.assertEqual((status, told["kind"], told["place"]), (400, "term", place), told)
-                self.assertIn(said, told["error"])
+                status, shown = picture(server, question)
+                self.assertEqual((status, shown["kind"], shown["place"]), (400, "term", place), shown)
+                self.assertIn(said, shown["error"])
                 with Events(server, question) as events:
-                    self.assertEqual(events.next(), ("refused", told))
+                    self.assertEqual(events.next(), ("refused", shown))
                     self.assertEqual(events.next()[0], "end")
 
     def test_each_picture_is_one_snapshot(self):
@@ -212,8 +212,8 @@ class Changes(TestCase):
             self.assertEqual(ask(server, "DELETE", "/rows/5"), (200, {"id": 5}))
             self.assertEqual(ask(server, "DELETE", "/rows/5")[0], 404)
             self.assertEqual(ask(server, "PUT", "/rows/99", {"Distance": 1})[0], 404)
-            told = picture(server)[1]
-            self.assertEqual((told["version"], told["count"]), (4, 4))
+            shown = picture(server)[1]
+            self.assertEqual((shown["version"], shown["count"]), (4, 4))
 
     def test_wrong_values_change_nothing(self):
         with served() as server:
@@ -221,9 +221,9 @@ class Changes(TestCase):
                                ({"Distance": 1.5}, "no whole number"), ({"Distance": 10**30}, "does not fit"), ({"Opened": "2001-02-30"}, "no date"), ({"Hotel": ["a"]}, "no text"),
                                ({"Hotel": {"a": 1}}, "no text"), ({"Distance": "1e400"}, ""), ({"Distance": float("inf")}, ""), ({"Price (EUR)": 10**400}, "")]:
                 for method, path in [("POST", "/rows"), ("PUT", "/rows/1")]:
-                    status, told = ask(server, method, path, body)
-                    self.assertEqual(status, 400, (body, told))
-                    self.assertIn(said, told["error"])
+                    status, shown = ask(server, method, path, body)
+                    self.assertEqual(status, 400, (body, shown))
+                    self.assertIn(said, shown["error"])
             self.assertEqual((server.desk.version, len(server.desk)), (1, 4))
 
     def test_whole_numbers_that_are_too_large_for_a_float(self):
@@ -278,8 +278,8 @@ class Changes(TestCase):
     def test_a_full_table(self):
         with served() as server:
             with mock.patch.object(prefq.Table, "insert", side_effect=prefq.Refused("full needed 9", "client", 8)):
-                status, told = ask(server, "POST", "/rows", {"Hotel": "x"})
-            self.assertEqual((status, told["number"]), (409, 8))
+                status, shown = ask(server, "POST", "/rows", {"Hotel": "x"})
+            self.assertEqual((status, shown["number"]), (409, 8))
             self.assertEqual(ask(server, "POST", "/rows", {"Hotel": "x"}), (201, {"id": 5}))
 
 
@@ -290,9 +290,9 @@ class Streams(TestCase):
             begun = first.next()
             self.assertEqual((begun[0], begun), ("message", second.next()))
             ask(server, "POST", "/rows", {"Hotel": "New", "Price (EUR)": 1, "Distance": 1})
-            told = first.until(2)
-            self.assertEqual((told["version"], told["best"][0]["cells"][0]), (2, "New"))
-            self.assertEqual(second.until(2), told)
+            shown = first.until(2)
+            self.assertEqual((shown["version"], shown["best"][0]["cells"][0]), (2, "New"))
+            self.assertEqual(second.until(2), shown)
             for number in range(50):
                 server.desk.update(5, {"Price (EUR)": number})
             self.assertEqual(first.until(52), second.until(52))
@@ -335,9 +335,9 @@ class Restart(TestCase):
             ask(server, "POST", "/rows", {"Hotel": "New", "Price (EUR)": "70.01", "Distance": 5})
             events.until(3)
             kill(server.desk.table)
-            status, told = picture(server)
-            self.assertEqual((status, told["version"], told["count"]), (200, 3, before["count"]))
-            self.assertEqual([(row["id"], row["level"]) for row in told["best"]], [(1, 1), (5, 1), (3, 2), (4, 2)])
+            status, shown = picture(server)
+            self.assertEqual((status, shown["version"], shown["count"]), (200, 3, before["count"]))
+            self.assertEqual([(row["id"], row["level"]) for row in shown["best"]], [(1, 1), (5, 1), (3, 2), (4, 2)])
             kill(server.desk.table)
             self.assertEqual(ask(server, "PUT", "/rows/5", {"Distance": 1}), (200, {"id": 5}))
             self.assertEqual(events.until(4)["best"][1]["cells"], ["New", "70.01", "1", ""])
@@ -388,9 +388,9 @@ class Restart(TestCase):
         with served() as server:
             with mock.patch.object(server.desk, "_program", "/no/such/program"):
                 kill(server.desk.table)
-                status, told = picture(server)
+                status, shown = picture(server)
                 self.assertEqual(status, 503)
-                self.assertIn("/no/such/program", told["error"])
+                self.assertIn("/no/such/program", shown["error"])
                 self.assertEqual(ask(server, "POST", "/rows", {"Hotel": "x"})[0], 503)
             self.assertEqual(picture(server)[1]["count"], 4)
 
@@ -430,8 +430,8 @@ class CommandLine(TestCase):
 
     def test_the_booking_desk(self):
         _, port = self.start(str(EXAMPLES / "booking/booking.py"), "--port", "0", "--still")
-        told = self.get(port, "/picture")
-        self.assertEqual((told["count"], told["axes"]), (60, ["Price (EUR)", "Distance (m)"]))
+        shown = self.get(port, "/picture")
+        self.assertEqual((shown["count"], shown["axes"]), (60, ["Price (EUR)", "Distance (m)"]))
         for question in self.get(port, "/about")["questions"]:
             self.assertIn("best", self.get(port, f"/picture?{urlencode({'question': question})}"), question)
 

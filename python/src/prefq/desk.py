@@ -122,7 +122,7 @@ class Desk:
         self._change(change)
 
     def wait(self, seen: Optional[int], seconds: float) -> int:
-        """The version, as soon as it is another than `seen`, but after so many seconds at the latest."""
+        """The version, as soon as it is another than `seen`, but after this number of seconds at the latest."""
         with self._changed:
             self._changed.wait_for(lambda: self._closed or self.version != seen, seconds)
             if self._closed:

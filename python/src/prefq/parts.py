@@ -131,22 +131,26 @@ class Job:
     def _is_whole(self, rows: Sequence[Row], columns: Sequence[str]) -> bool:
         """Whether an answer of `at_least k` over the rows that are left is that over all rows.
 
-        Let j be `levels`. The rows that are left hold the levels 1 to j of each group of the whole, and maybe more rows, so their levels 1 to j are those of
-        the whole. `at_least k` took from a group its levels 1 to m: the fewest that hold k rows, or all levels that are left. If m is less than j, the same
-        holds for the whole, whose level m + 1 is here if it has one; so it does if m is j and these levels hold k rows. Otherwise the group may have further
-        rows that count. Since each level has a row, m is at most k, and k levels hold k rows: so it is enough at the latest where j is k.
+        Let j be `levels`. What is left contains the levels 1 to j of each group of the whole, and these are its own levels 1 to j too. `at_least k` takes the
+        levels 1 to m of a group: as few as have k rows together, or else all.
+
+        - If m is less than j, it takes the same from the whole: a level m + 1 of the whole would be here as well.
+        - If m is j and these levels have k rows, it takes the same from the whole, which has the same levels 1 to j.
+        - Otherwise the whole may have further levels that count, and more have to be asked for.
+
+        Each level has a row, so m is at most k, and k levels have k rows: where j is k, one of the first two cases holds.
         """
         if self.levels is None:
             return True
         wanted = int(AT_LEAST.match(self.question)[1])  # type: ignore[index]
         cells = [columns.index(name) for name in _groups(self.question)]
-        held: Dict[Tuple[int, ...], int] = {}
+        counts: Dict[Tuple[int, ...], int] = {}
         deepest: Dict[Tuple[int, ...], int] = {}
         for row in rows:
             group = tuple(row.values[cell] for cell in cells)
-            held[group] = held.get(group, 0) + 1
+            counts[group] = counts.get(group, 0) + 1
             deepest[group] = row.level      # rows come by level
-        return all(deepest[group] < self.levels or deepest[group] == self.levels and held[group] >= wanted for group in held)
+        return all(deepest[group] < self.levels or deepest[group] == self.levels and counts[group] >= wanted for group in counts)
 
     def _asked(self, partial: Partial, piece: range, question: str) -> List[Tuple[int, int]]:
         """The level and the index of each row of a piece that answers a question of levels. The job's own question is begun first, so that what is wrong
@@ -157,11 +161,11 @@ class Job:
         script = [b"table", header(partial.columns).strip().encode(), *lines, b"end", begins.encode(errors="replace"), *[b"as 1 scan"] * blocks, b"as 1 finish", b""]
         done = subprocess.run([find_program(self.program), "play", "--clients", "1", "--cap", str(blocks * BLOCK), "--block", str(BLOCK)],
                               input=b"\n".join(script), stdout=subprocess.PIPE)
-        told = done.stdout.splitlines()
-        answer = next((number for number, line in enumerate(told) if line.startswith(b"1 answer ")), 0)
-        if done.returncode != 0 or not answer or not told[0].startswith(b"1 begun "):
+        replies = done.stdout.splitlines()
+        answer = next((number for number, line in enumerate(replies) if line.startswith(b"1 answer ")), 0)
+        if done.returncode != 0 or not answer or not replies[0].startswith(b"1 begun "):
             raise _refusal(done, partial, piece, self.question)
-        return [(int(words[1]), piece[int(words[3][:-1]) - 1]) for words in (row.split(None, 4) for row in told[answer + 1:])]
+        return [(int(words[1]), piece[int(words[3][:-1]) - 1]) for words in (row.split(None, 4) for row in replies[answer + 1:])]
 
 
 def best(partitions: Iterable[Source], question: str, *, map: Callable[..., Any] = map, reduce: Optional[Callable[..., Partial]] = None,
@@ -224,7 +228,7 @@ def _joined_two(first: Partial, second: Partial) -> Partial:
 
 
 def _pieces(lines: Sequence[bytes]) -> List[range]:
-    """Indices of rows as one table holds them: each piece takes one row of every so many, so that rows of all partitions meet in it."""
+    """Indices of rows as one table holds them: the rows are dealt out in turn, so that rows of all partitions meet in each piece."""
     longest = max((len(line) for line in lines), default=0) + 1
     fit = max(1, min(MOST_ROWS, MOST_BYTES // longest))
     count = max(1, -(-len(lines) // fit))

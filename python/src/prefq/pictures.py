@@ -53,8 +53,8 @@ class Shown:
                 del self._made[next(iter(self._made))]
         with made.lock:
             if made.version != self._desk.version:
-                told = picture(self._desk, question, axes)
-                made.version, made.text = told["version"], json.dumps(told)
+                found = picture(self._desk, question, axes)
+                made.version, made.text = found["version"], json.dumps(found)
             return made.version, made.text
 
 

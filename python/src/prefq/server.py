@@ -261,7 +261,7 @@ class Handler(BaseHTTPRequestHandler):
 
 
 def reason(why: Error) -> Dict[str, Any]:
-    """A refusal as JSON. The place of a question is told as a character of it."""
+    """A refusal as JSON. A place is that of a character of the question."""
     place = why.place
     if why.question is not None and place is not None:
         place = len(why.question.encode(errors="replace")[:place].decode(errors="ignore"))

@@ -56,17 +56,17 @@ function pointed(question, place) {
   return element("pre", {}, before, element("mark", {textContent: question[place] || " "}), `${after}\n${" ".repeat(before.length)}`, element("span", {className: "caret", textContent: "^"}));
 }
 
-function show(told) {
-  picture = told;
+function show(received) {
+  picture = received;
   $("question").removeAttribute("aria-invalid");
   $("refusal").hidden = true;
-  history.replaceState(null, "", `?${new URLSearchParams({question: told.question})}`);
-  $("state").textContent = `Live, version ${told.version}`;
-  const levels = Math.max(0, ...told.best.map(row => row.level)), first = told.best.filter(row => row.level === 1).length;
-  const more = told.found > told.best.length ? `, of which the first ${told.best.length} are shown` : "";
-  $("summary").textContent = `${told.found} of ${told.count} rows are in the answer${more}${levels > 1 ? `: ${first} in the first level, ${told.found - first} behind it` : ""}.`;
-  $("notes").textContent = told.notes.length ? `Note: ${told.notes.join("; ")}` : "";
-  fillTable(told.best);
+  history.replaceState(null, "", `?${new URLSearchParams({question: received.question})}`);
+  $("state").textContent = `Live, version ${received.version}`;
+  const levels = Math.max(0, ...received.best.map(row => row.level)), first = received.best.filter(row => row.level === 1).length;
+  const more = received.found > received.best.length ? `, of which the first ${received.best.length} are shown` : "";
+  $("summary").textContent = `${received.found} of ${received.count} rows are in the answer${more}${levels > 1 ? `: ${first} in the first level, ${received.found - first} behind it` : ""}.`;
+  $("notes").textContent = received.notes.length ? `Note: ${received.notes.join("; ")}` : "";
+  fillTable(received.best);
   redraw();
 }
 
@@ -122,9 +122,9 @@ function action(name, row, act) {
 
 async function send(method, path, values) {
   const reply = await fetch(path, {method, headers: {"Content-Type": "application/json"}, body: values && JSON.stringify(values)});
-  const told = await reply.json().catch(() => ({error: `the server replies ${reply.status}`}));
-  if (!reply.ok) throw new Error(told.error);
-  return told;
+  const received = await reply.json().catch(() => ({error: `the server replies ${reply.status}`}));
+  if (!reply.ok) throw new Error(received.error);
+  return received;
 }
 
 function valuesOf(cells) {
