@@ -11,11 +11,13 @@ import sys
 import tempfile
 import textwrap
 import time
+import unittest.mock
 from decimal import Decimal
 from pathlib import Path
 from xml.etree import ElementTree
 
 import prefq
+from prefq.__main__ import main
 from prefq.ask import Progress
 from support import TestCase
 
@@ -26,9 +28,20 @@ QUESTION = "best pos(City, 'Lyon') & low(\"Price (EUR)\") * high(Stars) * low(\"
 ENVIRONMENT = {**{name: value for name, value in os.environ.items() if name != "PYTHONUNBUFFERED"}, "PYTHONIOENCODING": "utf-8"}
 
 
-def run(*words, text=None, **more):
-    return subprocess.run([sys.executable, "-m", "prefq", *map(str, words)], input=text, capture_output=True, encoding="utf-8", timeout=120,
-                          env=ENVIRONMENT, **more)
+def run(*words, text=""):
+    """Runs the command in this process."""
+    output, errors = io.StringIO(), io.StringIO()
+    with contextlib.redirect_stdout(output), contextlib.redirect_stderr(errors), unittest.mock.patch("sys.stdin", io.TextIOWrapper(io.BytesIO(text.encode()))):
+        try:
+            status = main(list(map(str, words)))
+        except SystemExit as end:
+            status = end.code
+    return subprocess.CompletedProcess(words, status, output.getvalue(), errors.getvalue())
+
+
+def process(*words, **more):
+    """Runs the command as a process."""
+    return subprocess.run([sys.executable, "-m", "prefq", *map(str, words)], capture_output=True, encoding="utf-8", timeout=120, env=ENVIRONMENT, **more)
 
 
 class Asks(TestCase):
@@ -95,6 +108,11 @@ class Asks(TestCase):
         words = ("ask", "-", "best low(size) * low(price)", "--csv", "--decimal", ",", "--delimiter", ";", "--kind", "size=choice(S, M, L)")
         self.assertEqual(self.prints(run(*words, text=text)), 'level,id,size,price\n1,2,S,"5,25"\n')
 
+    def test_standard_input_in_another_encoding(self):
+        done = subprocess.run([sys.executable, "-m", "prefq", "ask", "-", "best low(x)", "--csv", "--encoding", "cp1252"], input="city,x\nKöln,1\n".encode("cp1252"),
+                              capture_output=True, timeout=60, env=ENVIRONMENT)
+        self.assertEqual((done.stdout.decode(), done.stderr), ("level,id,city,x\n1,1,Köln,1\n", b""))
+
     def test_what_is_wrong(self):
         ask = lambda *words, text="City,Price\nLyon,5\n": run("ask", "-", *words, text=text)
         self.refused(ask("best low(Prise)"), "no column 'Prise'; did you mean Price?", "    best low(Prise)\n             ^")
@@ -138,7 +156,7 @@ class TheDocument(TestCase):
             Path(folder, "offers.csv").write_text(textwrap.dedent(file), encoding="utf-8")
             for command in textwrap.dedent(commands).split("$ python -m prefq ")[1:]:
                 words, printed = command.split("\n", 1)
-                done = run(*shlex.split(words), cwd=folder)
+                done = process(*shlex.split(words), cwd=folder)
                 self.assertEqual(done.stdout + done.stderr, printed, words)
 
 
@@ -149,11 +167,12 @@ class TheProgress(TestCase):
         with contextlib.redirect_stderr(errors):
             progress = Progress()
             progress._begun = time.monotonic() - seconds
-            progress("comparing", 3, 4)
+            for step in [("reading", 4096, 0), ("reading price", 0, 0), ("comparing", 3, 4)]:
+                progress(*step)
             progress.end()
         return errors.getvalue()
 
     def test_only_where_it_takes_long_and_a_person_watches(self):
-        self.assertEqual(self.said(2, True), "\r\x1b[Kcomparing 75 %\r\x1b[K")
+        self.assertEqual(self.said(2, True), "\r\x1b[Kreading 4,096 rows\r\x1b[Kreading price\r\x1b[Kcomparing 75 %\r\x1b[K")
         self.assertEqual(self.said(0, True), "")
         self.assertEqual(self.said(2, False), "")

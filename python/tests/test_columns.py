@@ -157,6 +157,11 @@ class Refusals(TestCase):
             prefq.Frame.from_records([])
         with self.refuses(TypeError, "5 is no name of a column"):
             prefq.Frame.from_records([{5: 1}])
+        for rows in ([[1, 2], [3]], [[1, 2], [3, 4, 5]]):
+            with self.refuses(prefq.Refused, "where there are 2 columns: x, y"):
+                prefq.Frame([prefq.Column("x", "whole"), prefq.Column("y", "whole")], rows)
+        with prefq.Frame([prefq.Column("x", "whole"), prefq.Column("y", "text")], [[1, "a"], {"x": 2}]) as frame:
+            self.assertEqual([tuple(row.values()) for row in frame.rows()], [(1, "a"), (2, None)])
         with self.refuses(TypeError, "row 2 is no mapping"):
             prefq.Frame.from_records([{"x": 1}, [1]])
 

@@ -67,8 +67,8 @@ def main(arguments: Optional[Sequence[str]] = None) -> int:
 def run(options: argparse.Namespace) -> None:
     """Reads the file, asks, and prints."""
     progress = Progress()
-    progress("reading", 0, 0)
-    file = File(read_csv(sys.stdin if options.file == "-" else options.file, options.encoding, options.delimiter), kinds_of(options.kind), MISSING_WORDS, options.decimal)
+    source = getattr(sys.stdin, "buffer", sys.stdin) if options.file == "-" else options.file
+    file = File(read_csv(source, options.encoding, options.delimiter, progress), kinds_of(options.kind), MISSING_WORDS, options.decimal)
     if options.question is None:
         for name in file.cells.names:
             print(f"{name}: {file.column(name)[0].kind}" + (f" ({file.column(name)[0].oddity})" if file.column(name)[0].oddity else ""))
@@ -116,7 +116,8 @@ class Progress:
 
     def __call__(self, what: str, done: int, total: int) -> None:
         if time.monotonic() - self._begun > 1 and sys.stderr.isatty():
-            print(f"\r\x1b[K{what}" + (f" {100 * done // total} %" if total else ""), end="", file=sys.stderr, flush=True)
+            much = f" {100 * done // total} %" if total else f" {done:,} rows" if done else ""
+            print(f"\r\x1b[K{what}{much}", end="", file=sys.stderr, flush=True)
             self._shown = True
 
     def end(self) -> None:

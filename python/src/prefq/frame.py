@@ -8,9 +8,8 @@ from .answer import Answer
 from .columns import Column, listed
 from .errors import Refused
 from .loading import File, check_width, chosen, column_of_values, decoded, encoded
-from .once import Progress
 from .questions import Mode, Question, read_question
-from .reading import MISSING_WORDS, Source, check_names, read_csv
+from .reading import MISSING_WORDS, Progress, Source, check_names, read_csv
 from .records import Record, mapping_of, values_of
 from .table import Table
 from .translate import Plan, plan
@@ -44,7 +43,7 @@ class Frame:
 
     def __init__(self, columns: Iterable[Column], rows: Iterable[Sequence[Any]] = (), **options: Any) -> None:
         columns = tuple(columns)
-        lists = [encoded(column, values) for column, values in zip(columns, zip(*rows))]
+        lists = [encoded(column, values) for column, values in zip(columns, zip(*(values_of(row, columns) for row in rows)))]
         self._open(columns, list(zip(*lists)), options)
 
     def _open(self, columns: Tuple[Column, ...], rows: List[Any], options: Dict[str, Any], index: Any = None) -> None:
@@ -66,6 +65,11 @@ class Frame:
 
         - `columns`: which columns to take; `kinds`: what a column is, where that is not to be seen, as in {"Stars": "decimal(1)"}
         - `missing`: the texts that stand for a missing value, in small letters; `encoding`, `delimiter` and the sign before `decimal` digits of the file
+
+        >>> import io, prefq
+        >>> with prefq.Frame.from_csv(io.StringIO("City,Price (EUR)\\nLyon,57.40\\nBern,n/a\\n")) as hotels:
+        ...     hotels.rows()
+        [<id 1: {'City': 'Lyon', 'Price (EUR)': Decimal('57.40')}>, <id 2: {'City': 'Bern', 'Price (EUR)': None}>]
         """
         file = File(read_csv(source, encoding, delimiter), kinds, frozenset(missing), decimal)
         return cls._made([file.column(name) for name in chosen(file.cells.names, columns)], options)
@@ -135,7 +139,13 @@ class Frame:
         return self.table.insert(self._numbers(record))
 
     def insert_many(self, records: Iterable[Any]) -> Sequence[int]:
-        """Adds records, and returns their ids."""
+        """Adds records at one moment, and returns their ids; all of them or, where there is no room, none.
+
+        >>> import prefq
+        >>> with prefq.Frame.from_records([{"x": 1, "y": 2}]) as frame:
+        ...     frame.insert_many([{"x": 5}, [6, 7]])
+        range(2, 4)
+        """
         return self.table.insert_many([self._numbers(record) for record in records])
 
     def update(self, id: int, record: Any) -> None:
@@ -157,12 +167,12 @@ class Frame:
                 self.table.update(id, [changed[name] if name in found else number for name, number in zip(self._by_name, numbers)])
 
     def delete(self, id: int) -> None:
-        """Deletes a row."""
+        """Deletes a row; its id is never used again."""
         with self._changing:
             self.table.delete(id)
 
     def get(self, id: int) -> Record:
-        """A row."""
+        """The row with this id."""
         return self._records([(None, id, self.table.get(id))])[0]
 
     def rows(self) -> List[Record]:

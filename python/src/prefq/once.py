@@ -6,10 +6,9 @@ from typing import Any, Callable, Dict, Iterable, List, Optional, Sequence
 from . import parts
 from .checks import MOST_ROWS
 from .partition import Partition
+from .reading import Progress
 from .rows import Row
 from .table import Table
-
-Progress = Callable[[str, int, int], None]
 
 
 def ask_once(columns: Sequence[str], rows: Sequence[Sequence[int]], question: str, *, progress: Optional[Progress] = None, **options: Any) -> List[Row]:

@@ -2,12 +2,15 @@
 import csv
 import io
 import os
-from typing import IO, Any, Iterable, List, NamedTuple, Optional, Tuple, Union
+from typing import IO, Any, Callable, Iterable, List, NamedTuple, Optional, Tuple, Union
 
 from .errors import Refused
 
 DELIMITERS = ",;\t|"
 MISSING_WORDS = frozenset({"", "na", "n/a", "nan", "null", "none", "-"})
+ROWS_BETWEEN = 4096
+# What is done, how much of it, and of how much, which is 0 where nobody knows.
+Progress = Callable[[str, int, int], None]
 Source = Union[str, "os.PathLike[str]", IO[Any]]
 
 
@@ -19,12 +22,12 @@ class Cells(NamedTuple):
     lines: List[int]
 
 
-def read_csv(source: Source, encoding: str = "utf-8-sig", delimiter: Optional[str] = None) -> Cells:
+def read_csv(source: Source, encoding: str = "utf-8-sig", delimiter: Optional[str] = None, progress: Optional[Progress] = None) -> Cells:
     """The cells of a file, or of an open one. Without a delimiter it takes the one of , ; tab | that stands most often in the first line."""
     if not isinstance(source, (str, os.PathLike)):
-        return cells_of(decoded(source.read(), encoding, "the file"), "the file", delimiter)
+        return cells_of(decoded(source.read(), encoding, "the file"), "the file", delimiter, progress)
     with open(source, "rb") as file:
-        return cells_of(decoded(file.read(), encoding, str(source)), str(source), delimiter)
+        return cells_of(decoded(file.read(), encoding, str(source)), str(source), delimiter, progress)
 
 
 def decoded(text: Union[str, bytes], encoding: str, what: str) -> str:
@@ -35,14 +38,16 @@ def decoded(text: Union[str, bytes], encoding: str, what: str) -> str:
         raise Refused(f"{what} is not {encoding.replace('-sig', '')} (byte {why.start}): give its encoding, such as encoding='cp1252'", "table") from None
 
 
-def cells_of(text: str, what: str, delimiter: Optional[str]) -> Cells:
+def cells_of(text: str, what: str, delimiter: Optional[str], progress: Optional[Progress] = None) -> Cells:
     """The cells of a text."""
     reader = csv.reader(io.StringIO(text.lstrip("\ufeff"), newline=""), delimiter=delimiter or delimiter_of(text), strict=True)
     try:
         names = names_of(next(reader, []), what)
-        rows = []
-        lines = []
+        rows: List[List[str]] = []
+        lines: List[int] = []
         for row in reader:
+            if progress and len(rows) % ROWS_BETWEEN == 0:
+                progress("reading", len(rows), 0)
             if len(row) == len(names):
                 rows.append(row)
                 lines.append(reader.line_num)

@@ -5,9 +5,9 @@ from .checks import whole
 from .columns import Column
 from .errors import Refused
 from .frame import Frame, warn_of, without_twins
-from .once import Progress, ask_once
+from .once import ask_once
 from .questions import Mode, read_question
-from .reading import check_names
+from .reading import Progress, check_names
 from .rows import Row
 from .translate import columns_in, plan
 
@@ -60,6 +60,8 @@ def selected(text: str, mode: Optional[Mode], names: Sequence[Any], load: Callab
     def column(name: str) -> Optional[Column]:
         if name in names and name not in loaded:
             check_names(other for other in names if other == name)
+            if progress:
+                progress(f"reading {name}", 0, 0)
             loaded[name] = load(name)
         return loaded[name][0] if name in loaded else None
 
