@@ -247,6 +247,11 @@ class Forms(TestCase):
             self.assertEqual(len(answer.to_text().splitlines()), 301)
         ElementTree.fromstring(answer.to_html())
 
+    def test_pickled(self):
+        answer = self.answer()
+        again = pickle.loads(pickle.dumps(answer))
+        self.assertEqual((again, again.levels, again.ids, again.to_csv(), again.question), (answer, answer.levels, answer.ids, answer.to_csv(), answer.question))
+
     def test_pictures(self):
         with prefq.Frame.from_csv(HOTELS) as hotels:
             for question, fronts, names in [

@@ -46,6 +46,10 @@ class Answer(List[Record]):
         self._others = others
         self._index = index
 
+    def __reduce__(self) -> Any:
+        """An answer is copied and pickled without the frame that it came from."""
+        return Answer, (self.question, self.columns, list(self))
+
     @property
     def names(self) -> List[str]:
         """The names of the columns."""

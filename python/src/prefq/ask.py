@@ -28,8 +28,9 @@ A term: low(x), high(x), around(x, 5), between(x, 1, 5), pos(x, 'a', 'b'), layer
 
 def parser() -> argparse.ArgumentParser:
     """What the command line has."""
-    found = argparse.ArgumentParser(prog="python -m prefq ask", description="Prints the best rows of a CSV file: level, id (the number of the row), and the row as it stands there.",
-                                    epilog=EXAMPLES, formatter_class=argparse.RawDescriptionHelpFormatter)
+    found = argparse.ArgumentParser(prog="python -m prefq ask", epilog=EXAMPLES,
+                                    description="Prints the best rows of a CSV file: level, id (the number of the row), and the row as it stands there.",
+                                    formatter_class=argparse.RawDescriptionHelpFormatter)
     found.add_argument("file", metavar="FILE.csv", help="comma-separated values with names in the first line; - is standard input")
     found.add_argument("question", metavar="QUESTION", nargs="?", help="in the names and values of the file; without one, the columns are printed")
     form = found.add_mutually_exclusive_group()
@@ -37,7 +38,8 @@ def parser() -> argparse.ArgumentParser:
     form.add_argument("--json", dest="form", action="store_const", const="json", help="print JSON")
     form.add_argument("--html", dest="form", action="store_const", const="html", help="print a page of HTML")
     found.add_argument("--plot", metavar="OUT.svg", help="draw the answer by its first two criteria into this file")
-    found.add_argument("--kind", metavar="COLUMN=KIND", action="append", default=[], help="what a column is: whole, decimal(2), float, bool, date, time, text, choice(a, b, c)")
+    found.add_argument("--kind", metavar="COLUMN=KIND", action="append", default=[],
+                       help="what a column is: whole, decimal(2), float, bool, date, time, text, choice(a, b, c)")
     found.add_argument("--encoding", default="utf-8-sig", help="of the file (utf-8)")
     found.add_argument("--delimiter", help="between the cells of the file (the one of , ; tab | that stands most often in its first line)")
     found.add_argument("--decimal", default=".", help="the sign before decimal digits (.)")

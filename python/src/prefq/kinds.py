@@ -24,6 +24,10 @@ MOMENT = re.compile(r"(\d{4}-\d\d-\d\d)(?:[T ](\d\d:\d\d)(:\d\d)?(?:[.,](\d{1,9}
 EPOCH = datetime.datetime(1970, 1, 1)
 
 
+# Held while a new text gets its code, in any code book.
+ADDING = threading.Lock()
+
+
 class Kind:
     """How the values of a column stand in a table. `name` is its word in `kinds=..`."""
 
@@ -227,7 +231,6 @@ class Texts(Kind):
     def __init__(self) -> None:
         self._codes: Dict[str, int] = {}
         self._texts: List[str] = []
-        self._lock = threading.Lock()
 
     def encode(self, value: Any) -> int:
         if not isinstance(value, str):
@@ -235,7 +238,7 @@ class Texts(Kind):
         code = self._codes.get(value)
         if code is not None:
             return code
-        with self._lock:
+        with ADDING:
             if value not in self._codes:
                 self._texts.append(str(value))
                 self._codes[value] = len(self._texts)

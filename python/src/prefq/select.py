@@ -16,9 +16,9 @@ def psel(frame: Any, text: str, *, top_level: Optional[int] = None, at_least: Op
          **options: Any) -> Any:
     """The rows that a preference prefers: the best ones, the levels 1 to `top_level`, or whole levels until there are `at_least` so many rows.
 
-    The text is that of rPref, without a mode, as in "low(`price eur`) * low(dist)"; it may end in `by city`. A question with a mode is taken too. Only the
-    columns that it names are looked at, and a DataFrame may have any number of rows. Of a DataFrame of pandas the rows come back as they are, in a DataFrame with the column `.level` in front; of a
-    Frame or of records as an Answer.
+    The text is that of rPref, without a mode, as in "low(`price eur`) * low(dist)"; it may end in `by city`. A question with a mode is taken too. Of a
+    DataFrame of pandas the rows come back as they are, in a DataFrame with the column `.level` in front; only the columns that are named are looked at, and
+    it may have any number of rows. Of a Frame or of records the rows come back as an Answer.
 
     >>> import prefq
     >>> prefq.psel([{"price": 60, "dist": 2.5}, {"price": 50, "dist": 3.5}, {"price": 70, "dist": 2.5}], "low(price) * low(dist)")

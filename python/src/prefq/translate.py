@@ -92,13 +92,9 @@ class Translator:
 
     def plan(self, question: Question, pair: Optional[str]) -> Plan:
         by = tuple(self._name(column) for column in question.by)
-        clause = clause_of(question.term) if question.distinct else []
-        twins = tuple(self._name(base.column) for base in clause) + by if question.distinct else None
-        if question.distinct and pair is None and not any(base.word == "low" and base.column.has_gaps for base in clause):
-            dims = [f"{self._name(base.column)} {'min' if base.word == 'low' else 'max'}" for base in clause] + [f"{name} diff" for name in by]
-            for base in clause:
-                self._orders(base)
-            self._put("skyline of distinct " + ", ".join(dims), 0)
+        twins = tuple(self._name(base.column) for base in clause_of(question.term)) + by if question.distinct else None
+        if question.distinct and pair is None and self._is_said_by_a_clause(question.term):
+            self._clause(clause_of(question.term), by)
             twins = None
         else:
             self._put(f"{question.mode} {question.count} " if question.mode != "best" and pair is None else "best ", 0)
@@ -107,6 +103,16 @@ class Translator:
             if groups:
                 self._put(" by " + ", ".join(groups), len(self._text))
         return Plan(self._text, tuple(self._pieces), by, twins, tuple(self._unknown))
+
+    def _is_said_by_a_clause(self, term: Term) -> bool:
+        """Whether min and max put missing values last: min does not."""
+        return not any(base.word == "low" and base.column.has_gaps for base in clause_of(term))
+
+    def _clause(self, clause: Sequence[Base], by: Sequence[str]) -> None:
+        for base in clause:
+            self._orders(base)
+        dims = [f"{self._name(base.column)} {'min' if base.word == 'low' else 'max'}" for base in clause] + [f"{name} diff" for name in by]
+        self._put("skyline of distinct " + ", ".join(dims), 0)
 
     def _put(self, text: str, place: int) -> None:
         self._pieces.append(Piece(text, place))
@@ -123,7 +129,8 @@ class Translator:
         if isinstance(term, Product):
             sign = term.sign
             for number, part in enumerate(term.parts):
-                self._put(f" {sign} " if number else "", self._pieces[-1].place)
+                if number:
+                    self._put(f" {sign} ", self._pieces[-1].place)
                 self._write(part, turned, sign)
         else:
             sign = "&"
