@@ -1,4 +1,5 @@
 """What several tests use."""
+import multiprocessing
 import os
 import signal
 import stat
@@ -67,6 +68,26 @@ def kill(table):
     """Kills the table's program, and waits until it is dead."""
     os.kill(table.pid, signal.SIGKILL)
     os.waitid(os.P_PID, table.pid, os.WEXITED | os.WNOWAIT)
+
+
+def in_a_fork(function):
+    """What the function returns in a fork of this process, or the kind and the text of the `Ended` that it raises."""
+    receiver, sender = multiprocessing.Pipe(False)
+    pid = os.fork()
+    if pid == 0:
+        signal.alarm(30)
+        try:
+            sender.send(function())
+        except prefq.Ended as why:
+            sender.send((why.kind, str(why)))
+        finally:
+            sender.close()
+            os._exit(0)
+    sender.close()
+    try:
+        return receiver.recv()
+    finally:
+        os.waitpid(pid, 0)
 
 
 def is_running(pid):

@@ -9,7 +9,7 @@ import time
 import unittest
 
 import prefq
-from support import HOTELS, QUESTION, SKYLINE, TestCase, is_running, kill
+from support import HOTELS, QUESTION, SKYLINE, TestCase, in_a_fork, is_running, kill
 
 SECONDS = 120
 
@@ -149,6 +149,25 @@ class Tasks(TestCase):
             self.assertFalse(is_running(table._table.pid))
             await table.close()
         self.run_async(main)
+
+    def test_a_fork_cannot_use_it(self):
+        table = asyncio.run(self.open())
+        for call in (lambda: table.get(1), lambda: table.best(QUESTION), lambda: table.query(QUESTION).__aenter__()):
+            self.assertEqual(in_a_fork(lambda: asyncio.run(call()))[0], "process")
+        self.assertEqual(asyncio.run(table.get(1)), HOTELS[0])
+        asyncio.run(table.close())
+
+    def test_another_loop_goes_on(self):
+        table = asyncio.run(self.open(clients=1))
+
+        async def leaves_a_query():
+            self.query = await table.query(QUESTION)
+
+        asyncio.run(leaves_a_query())
+        del self.query
+        gc.collect()
+        self.assertEqual(len(asyncio.run(table.best(QUESTION))), 4)
+        asyncio.run(table.close())
 
     def test_closed_while_the_program_stands_still(self):
         async def main():

@@ -9,9 +9,10 @@ import subprocess
 import sys
 import threading
 import time
+import unittest
 
 import prefq
-from support import QUESTION, SKYLINE, TestCase, hotels, is_running, kill, numbers, program, raised_after, standing_still
+from support import QUESTION, SKYLINE, TestCase, hotels, in_a_fork, is_running, kill, numbers, program, raised_after, standing_still
 
 NEVER = 30
 
@@ -79,6 +80,7 @@ class Interrupted(TestCase):
         finally:
             signal.signal(signal.SIGALRM, before)
 
+    @unittest.skipIf(sys.version_info < (3, 10), "Python before 3.10 may lose a lock itself where the end of a with block is interrupted")
     def test_at_any_moment(self):
         """An interruption at any moment leaves the table as it is or ends it; no client and no lock is lost, and no answer is wrong."""
         chance = random.Random(1)
@@ -242,27 +244,10 @@ class StandingStill(TestCase):
 
 
 class Forked(TestCase):
-    def in_a_fork(self, function):
-        """What the function returns in a fork of this process."""
-        receiver, sender = multiprocessing.Pipe(False)
-        pid = os.fork()
-        if pid == 0:
-            signal.alarm(NEVER)
-            try:
-                sender.send(function())
-            except prefq.Ended as why:
-                sender.send((why.kind, str(why)))
-            finally:
-                sender.close()
-                os._exit(0)
-        sender.close()
-        self.addCleanup(os.waitpid, pid, 0)
-        return receiver.recv()
-
     def test_a_fork_cannot_use_it_nor_disturb_it(self):
         table = numbers(500)
         for call in (lambda: table.get(1), lambda: table.best("best low(x)"), lambda: len(table), lambda: table.insert([5])):
-            kind, why = self.in_a_fork(call)
+            kind, why = in_a_fork(call)
             self.assertEqual(kind, "process")
             self.assertIn(f"belongs to process {os.getpid()}", why)
         self.assertEqual([table.get(id) for id in range(1, 501)], [[11 * id] for id in range(1, 501)])
@@ -279,7 +264,7 @@ class Forked(TestCase):
             gc.collect()
             return "gone"
 
-        self.assertEqual(self.in_a_fork(lets_go), "gone")
+        self.assertEqual(in_a_fork(lets_go), "gone")
         self.assertEqual((table.get(1), [row.id for row in query.answer()]), ([11], [3]))
         table.close()
 
@@ -290,7 +275,7 @@ class Forked(TestCase):
                 other.start()
                 time.sleep(0.2)
                 with self.within(5):
-                    self.assertEqual(self.in_a_fork(lambda: table.get(2))[0], "process")
+                    self.assertEqual(in_a_fork(lambda: table.get(2))[0], "process")
             other.join(NEVER)
             self.assertEqual(table.get(2), [22])
 

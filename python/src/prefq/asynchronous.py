@@ -119,9 +119,14 @@ class AsyncTable:
         return AsyncQuery(self, question)
 
     def _submit(self, function: Callable[..., Result], *words: Any) -> "Future[Result]":
+        self._usable()
+        return self._executor.submit(function, *words)
+
+    def _usable(self) -> None:
+        """A fork has no thread that would make a call, nor has a table that was closed."""
+        self._table._exchange.ours()
         if self._closed:
             raise Ended("the table was closed", "closed")
-        return self._executor.submit(function, *words)
 
     async def _call(self, function: Callable[..., Result], *words: Any) -> Result:
         return await asyncio.wrap_future(self._submit(function, *words))
@@ -197,6 +202,7 @@ class AsyncQuery:
         return self._query
 
     async def _begin(self) -> "AsyncQuery":
+        self._table._usable()
         free, loop = self._table._free, asyncio.get_running_loop()
         client = await free.get()
         try:
@@ -225,6 +231,8 @@ def _give_up(loop: asyncio.AbstractEventLoop, free: "asyncio.Queue[int]", client
 
 
 def _put_back(loop: asyncio.AbstractEventLoop, free: "asyncio.Queue[int]", client: int) -> None:
-    """From whatever thread; a loop that is closed has no use for a client."""
-    if not loop.is_closed():
+    """The client is free again; from whatever thread, and for another loop where this one is closed."""
+    if loop.is_closed():
+        free.put_nowait(client)
+    else:
         loop.call_soon_threadsafe(free.put_nowait, client)

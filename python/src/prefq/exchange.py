@@ -89,7 +89,7 @@ class Exchange:
 
     def check(self) -> None:
         """Raises `Ended` where no exchange is possible any more. A program that died unseen is found out here. Another thread's call is not waited for."""
-        self._ours()
+        self.ours()
         if self._process.is_dead():
             with self.lock:
                 if self._ended is None:
@@ -111,8 +111,8 @@ class Exchange:
             if self._ended is not UNDER_WAY:
                 self._end(*CLOSED)
 
-    def _ours(self) -> None:
-        """Without the lock, which a fork may have copied while it was held."""
+    def ours(self) -> None:
+        """Raises `Ended` in another process than the owner: without the lock, which a fork may have copied while it was held."""
         if os.getpid() != self._owner:
             raise Ended(f"this table belongs to process {self._owner}: open another one in each process", "process")
 
@@ -122,7 +122,7 @@ class Exchange:
 
     def _whole(self, talk: Callable[[], Result]) -> Result:
         """What an exchange returns, if it is made whole. Until then the table counts as ended, whatever happens."""
-        self._ours()
+        self.ours()
         with self.lock:
             self._not_ended()
             try:
