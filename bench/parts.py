@@ -109,7 +109,8 @@ def main():
             same &= measure(f"pool of {count}", files, pool.map, wanted, given.rounds)
     for count in given.dask:
         from distributed import Client, LocalCluster
-        with LocalCluster(n_workers=count, threads_per_worker=1, dashboard_address=None, memory_limit=None) as cluster, Client(cluster) as client:
+        options = {"dashboard_address": None, "memory_limit": None, "local_directory": str(given.folder)}
+        with LocalCluster(n_workers=count, threads_per_worker=1, **options) as cluster, Client(cluster) as client:
             same &= measure(f"{count} Dask workers", files, client.map, wanted, given.rounds)
     sys.exit(0 if same else 1)
 

@@ -25,7 +25,7 @@ class Browser:
         self._folder = tempfile.mkdtemp()
         words = [chromium(), "--headless=new", "--no-sandbox", "--disable-gpu", "--disable-dev-shm-usage", "--no-first-run", "--remote-debugging-port=0",
                  "--remote-allow-origins=*", "--hide-scrollbars", f"--user-data-dir={self._folder}", f"--window-size={width},{height}", "about:blank"]
-        environment = {**os.environ, "HOME": self._folder}
+        environment = {**os.environ, "HOME": self._folder, "TMPDIR": self._folder}
         self._process = subprocess.Popen(words, stdout=subprocess.DEVNULL, stderr=subprocess.DEVNULL, env=environment, start_new_session=True)
         self._count = 0
         self.faults = []        # exceptions in the page, and what its policy or the network refused

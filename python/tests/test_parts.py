@@ -345,7 +345,8 @@ def on_dask(*files):
     """Asks the questions, and one that is refused in between, on a cluster of two workers, and prints the answers."""
     from dask import dataframe
     from distributed import Client, LocalCluster
-    with LocalCluster(n_workers=2, threads_per_worker=1, dashboard_address=None, memory_limit=None, silence_logs="ERROR") as cluster, Client(cluster) as client:
+    options = {"dashboard_address": None, "memory_limit": None, "silence_logs": "ERROR", "local_directory": str(Path(files[0]).parent)}
+    with LocalCluster(n_workers=2, threads_per_worker=1, **options) as cluster, Client(cluster) as client:
         frames = client.compute(dataframe.read_csv(list(files), blocksize=None).to_delayed())
         try:
             refused = best(files, "best low(prize)", map=client.map)
