@@ -137,6 +137,15 @@ class Frames(TestCase):
             self.assertEqual((id, list(found.index), list(found["time"])), (4, [4, 5], [pandas.Timestamp("2026-05-01")] * 2))
             self.assertEqual([str(dtype) for dtype in found.dtypes], ["int64", "int64", "float64", "datetime64[ns]"])
 
+    def test_a_type_that_does_not_have_a_later_value(self):
+        frame = pandas.DataFrame({"small": pandas.Series([1, 2], dtype="int8"), "kind": pandas.Series(["a", "b"], dtype="category"), "x": pandas.Series([1, 2], dtype="int64"),
+                                  "f": pandas.Series([0.5, 1], dtype="float32")})
+        with prefq.Frame.from_dataframe(frame) as opened:
+            opened.insert({"small": 300, "kind": "c", "x": None, "f": 0.1})
+            found = opened.best("top_level 9 low(small)").to_dataframe()
+        self.assertEqual([str(dtype) for dtype in found.dtypes], ["int64", "int64", "object", "Int64", "float64"])
+        self.assertEqual((list(found["small"]), list(found["kind"]), found["x"].isna().tolist(), list(found["f"])), ([1, 2, 300], ["a", "b", "c"], [False, False, True], [0.5, 1, 0.1]))
+
     def test_nanoseconds(self):
         stamp = pandas.Timestamp("2026-05-01 10:00:00.123456789")
         with prefq.Frame.from_dataframe(pandas.DataFrame({"time": [stamp]})) as opened:

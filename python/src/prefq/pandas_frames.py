@@ -1,5 +1,5 @@
 """DataFrames of pandas: their columns as those of a table, and answers as DataFrames. Only imported where pandas is there."""
-import datetime
+import warnings
 from typing import Any, Callable, List, Mapping, Optional, Sequence, Tuple
 
 from .checks import LEAST, MOST
@@ -133,13 +133,18 @@ def dataframe_of(answer: Any, index: Optional[Callable[[Sequence[Record]], Any]]
 
 
 def _series(values: List[Any], column: Column, index: Any) -> Any:
-    """The values of a column with the type that they had in pandas, or that pandas has for them."""
+    """The values of a column with the type that they had in pandas, where it can have them all, or that pandas has for them."""
     import pandas
-    dtype = column.dtype if column.dtype is not None else _dtype(values, column)
-    try:
-        return pandas.Series(values, index=index, dtype=dtype)
-    except (TypeError, ValueError, OverflowError):
-        return pandas.Series(values, index=index, dtype="object")
+    for dtype in (column.dtype, _dtype(values, column), "object"):
+        try:
+            with warnings.catch_warnings():
+                # Some versions warn of a number that does not fit a small type, and cut it.
+                warnings.simplefilter("ignore")
+                found = pandas.Series(values, index=index, dtype=dtype)
+        except (TypeError, ValueError, OverflowError):
+            continue
+        if dtype is not column.dtype or dtype is not None and all(value is None or value == back for value, back in zip(values, found)):
+            return found
 
 
 def _dtype(values: List[Any], column: Column) -> str:
