@@ -23,6 +23,10 @@ from .kinds import Floats, Texts
 from .questions import EMPTY_RANGE, UNEXPECTED, Base, Converse, Product, Question, Term, Value, refuse
 
 
+# To compare a text with so many others takes some ten milliseconds.
+TEXTS_COMPARED = 500
+
+
 class Piece(NamedTuple):
     """A piece of the text below, and the character of the user's question to which it belongs."""
 
@@ -38,12 +42,17 @@ class Plan:
     pieces: Tuple[Piece, ...]
     by: Tuple[str, ...]
     twins: Optional[Tuple[str, ...]]
-    unknown: Tuple[str, ...]
+    absent: Tuple[Tuple[Column, str], ...]
 
     @property
     def text(self) -> str:
         """The question for the table."""
         return "".join(piece.text for piece in self.pieces)
+
+    @property
+    def unknown(self) -> Tuple[str, ...]:
+        """What is said of each value of the question that no row has."""
+        return tuple(unknown_value(column, text) for column, text in self.absent)
 
     def refusal(self, why: Refused) -> Refused:
         """The table's refusal of the text below, at its place in the user's question."""
@@ -88,7 +97,7 @@ class Translator:
     def __init__(self, text: str, names: Dict[int, str]) -> None:
         self._text, self._names = text, names
         self._pieces: List[Piece] = []
-        self._unknown: List[str] = []
+        self._absent: List[Tuple[Column, str]] = []
 
     def plan(self, question: Question, pair: Optional[str]) -> Plan:
         by = tuple(self._name(column) for column in question.by)
@@ -102,7 +111,7 @@ class Translator:
             groups = by if pair is None else (pair,)
             if groups:
                 self._put(" by " + ", ".join(groups), len(self._text))
-        return Plan(self._text, tuple(self._pieces), by, twins, tuple(self._unknown))
+        return Plan(self._text, tuple(self._pieces), by, twins, tuple(self._absent))
 
     def _is_said_by_a_clause(self, term: Term) -> bool:
         """Whether min and max put missing values last: min does not."""
@@ -208,7 +217,7 @@ class Translator:
             if number is not None:
                 numbers[number] = None
             else:
-                self._unknown.append(unknown_value(column, value.text))
+                self._absent.append((column, value.text))
         return list(numbers)
 
 
@@ -241,5 +250,5 @@ def between(name: str, first: int, last: int) -> str:
 
 def unknown_value(column: Column, text: str) -> str:
     """What is said of a value that no row has."""
-    near = nearest(text, column.kind.texts) if isinstance(column.kind, Texts) else None
+    near = nearest(text, column.kind.texts[:TEXTS_COMPARED]) if isinstance(column.kind, Texts) else None
     return f"no row of {column.name!r} has {quoted(text)}" + (f"; did you mean {quoted(near)}?" if near is not None else "")
