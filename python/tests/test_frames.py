@@ -9,6 +9,7 @@ import tempfile
 import threading
 import time
 import unittest
+import unittest.mock
 import warnings
 from collections import namedtuple
 from decimal import Decimal
@@ -105,27 +106,22 @@ class Changes(TestCase):
         again = pickle.loads(pickle.dumps(record))
         self.assertEqual((again, again.id, again.level), (record, 3, 1))
 
-    def test_missing_values_come_in_the_meantime(self):
-        """A column has its first gap, and a text its first row, while others ask: nobody gets an answer in which it wins, or is overlooked."""
-        with prefq.Frame.from_records([{"x": 5, "city": "Bern"}], capacity=4096) as frame:
-            wrong = []
-            done = threading.Event()
+    def test_a_row_comes_between_a_question_and_its_query(self):
+        """It brings a column's first gap, or a text that the question names: it neither wins nor is overlooked."""
+        for question, record, ids in [("best low(x)", {"city": "Bern"}, [1]), ("best -high(x)", {}, [1]), ("skyline of distinct x min", {"city": "Bern"}, [1]),
+                                      ("best pos(city, 'Oslo')", {"x": 7, "city": "Oslo"}, [2]), ("best -pos(city, 'Oslo')", {"x": 7}, [1])]:
+            with self.subTest(question=question), prefq.Frame.from_records([{"x": 5, "city": "Bern"}]) as frame:
+                query = frame.table.query
+                came = []
 
-            def asks():
-                while not done.is_set():
-                    answer = frame.best("best low(x)")
-                    if answer.ids != [1]:
-                        wrong.append(answer)
+                def late(text):
+                    if not came:
+                        came.append(frame.insert(record))
+                    return query(text)
 
-            threads = [threading.Thread(target=asks) for _ in range(4)]
-            for thread in threads:
-                thread.start()
-            for _ in range(50):
-                frame.insert({"city": "Bern"})
-            done.set()
-            for thread in threads:
-                thread.join()
-            self.assertEqual(wrong, [])
+                with unittest.mock.patch.object(frame.table, "query", late), warnings.catch_warnings():
+                    warnings.simplefilter("ignore", prefq.UnknownValue)
+                    self.assertEqual((frame.best(question).ids, came), (ids, [2]))
 
     def test_partial_updates_of_many_threads(self):
         names = [f"x{place}" for place in range(8)]
