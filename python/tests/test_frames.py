@@ -1,4 +1,4 @@
-"""Frames: the file of a newcomer in one line, changes of records, missing values, why, pictures and other forms of an answer."""
+"""Frames: a spreadsheet's file in one line, changes of records, missing values, why, pictures and other forms of an answer."""
 import csv
 import dataclasses
 import datetime

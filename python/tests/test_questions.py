@@ -137,7 +137,7 @@ class AsTheProgram(TestCase):
         question = "".join(pieces)
         return question if question.strip() else "best"
 
-    def told(self, ask):
+    def outcome(self, ask):
         try:
             return [(row.level, row.id) for row in ask()]
         except prefq.Refused as why:
@@ -148,11 +148,11 @@ class AsTheProgram(TestCase):
         rows = [[chance.randrange(5) for _ in self.NAMES] for _ in range(20)]
         refusals = 0
         with prefq.Frame.from_records([dict(zip(self.NAMES, row)) for row in rows]) as frame, prefq.Table(self.NAMES, rows) as table:
-            with unittest.mock.patch("prefq.table.taught", lambda why, columns: why):
+            with unittest.mock.patch("prefq.table.explained", lambda why, columns: why):
                 for _ in range(2000):
                     question = self.changed(chance)
-                    by_table = self.told(lambda: table.best(question))
-                    self.assertEqual(self.told(lambda: frame.best(question)), by_table, question)
+                    by_table = self.outcome(lambda: table.best(question))
+                    self.assertEqual(self.outcome(lambda: frame.best(question)), by_table, question)
                     refusals += isinstance(by_table, tuple)
         self.assertGreater(refusals, 500)
         self.assertLess(refusals, 1500)

@@ -1,4 +1,4 @@
-"""What a refused question is told: the nearest name, and how the language says what another one says."""
+"""What a refusal says beside what is wrong: the nearest name, and how this language writes what another one does."""
 import difflib
 import re
 from typing import Optional, Sequence

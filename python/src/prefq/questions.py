@@ -109,7 +109,7 @@ def read_question(question: str, column: Callable[[str], Optional[Column]], name
     return Reader(question, column, names).question(mode)
 
 
-def taught(why: Refused, columns: Sequence[str]) -> Refused:
+def explained(why: Refused, columns: Sequence[str]) -> Refused:
     """The program's refusal of a question about whole numbers, with what could stand at its place, or the name that is meant."""
     if why.kind == "term" and why.question is not None:
         try:

@@ -8,7 +8,7 @@ from .errors import Ended, Refused
 from .exchange import Exchange
 from .program import find_program
 from .query import Query
-from .questions import taught
+from .questions import explained
 from .rows import Row, line, listed, texts
 
 Values = Iterable[int]
@@ -223,7 +223,7 @@ class Table:
         try:
             return Query(self._exchange, self._free, text, None if client is None else self._client(client), len(self.columns))
         except Refused as why:
-            raise taught(why, self.columns) from None
+            raise explained(why, self.columns) from None
 
     def best(self, question: str) -> List[Row]:
         """The answer to a question, by level and then by id.
