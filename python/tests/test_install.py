@@ -47,6 +47,7 @@ class Install(TestCase):
         self.assertEqual(status, 0, said)
         status, said = run(python, "-c", ASK)
         self.assertEqual((status, said), (0, f"{self.room}/new/lib/python{sys.version_info[0]}.{sys.version_info[1]}/site-packages/prefq/bin/prefq\n[Row(level=1, id=2, values=[0, 3])]\n"))
+        self.assertEqual(run(python, "-m", "prefq", "--help")[0], 0)
         self.assertEqual(run(python, "-m", "pip", "uninstall", "-y", "prefq")[0], 0)
 
         status, said = self.install(python, "-e", PACKAGE, PREFQ_PROGRAM=self.program)
@@ -64,8 +65,10 @@ class Install(TestCase):
             self.assertEqual(status, 0, said)
         wheel = zipfile.ZipFile(next(self.room.glob("*.whl")))
         names = wheel.namelist()
-        self.assertLessEqual({"prefq/__init__.py", "prefq/py.typed", "prefq/bin/prefq", f"prefq-{prefq.__version__}.dist-info/RECORD"}, set(names))
-        self.assertFalse([name for name in names if "__pycache__" in name])
+        sources = {path.relative_to(PACKAGE / "src").as_posix() for path in (PACKAGE / "src/prefq").rglob("*") if path.is_file() and "__pycache__" not in path.parts}
+        self.assertIn("prefq/py.typed", sources)
+        about = {f"prefq-{prefq.__version__}.dist-info/{name}" for name in ("METADATA", "WHEEL", "RECORD")}
+        self.assertEqual(set(names), {*sources, *about, "prefq/bin/prefq"})
         self.assertEqual(wheel.read("prefq/bin/prefq"), Path(self.program).read_bytes())
         source = next(self.room.glob("*.tar.gz"))
         with tarfile.open(source) as archive:
