@@ -1,7 +1,7 @@
 """What README.md, docs/PYTHON.md, python/README.md and the docstrings show is run.
 
-In a document, the blocks `python` of a section (from one `#` heading to the next) run in order in one namespace, in an empty folder; the block `text` after one is
-what it prints.
+In a document, the blocks `python` of a section (from one `#` heading to the next) run in order in one namespace, in an empty folder, or those of README.md at the top
+of the repository; the block `text` after one is what it prints.
 """
 import contextlib
 import doctest
@@ -63,7 +63,7 @@ class Documents(TestCase):
                     name = missing("".join(code for _, code, _ in blocks))
                     if name:
                         self.skipTest(f"{name} is not installed")
-                    os.chdir(room)
+                    os.chdir(TOP if document == TOP / "README.md" else room)
                     try:
                         self.run_section(document, blocks)
                     finally:
