@@ -40,6 +40,18 @@ class Cells(TestCase):
         for value in (2**63, -2**63 - 1, 2**70):
             with self.refuses(ValueError, "row 2, column stars", str(value), "from -9223372036854775808 to 9223372036854775807"):
                 one(1, value)()
+            with self.refuses(ValueError, "row 2, column price", str(value)):
+                prefq.Table(["price"], [iter([1]), [value]])
+            with hotels() as table:
+                with self.refuses(ValueError, "row 2, column dist", str(value)):
+                    table.insert_many([[1, 2], [3, value]])
+                self.assertEqual(len(table), 7)
+
+    def test_out_of_range_behind_what_is_read_at_once(self):
+        rows = [[-2**63 + row + column for column in range(16)] for row in range(52_000)]
+        rows[51_000][3] = 2**63
+        with self.refuses(ValueError, "row 51001, column c3"):
+            prefq.Table([f"c{number}" for number in range(16)], rows)
 
     def test_a_row_of_another_width(self):
         for row in ([], [1], [1, 2, 3]):

@@ -79,9 +79,18 @@ def listed(rows: Any) -> Sequence[Any]:
 
 def texts(rows: Sequence[Any], columns: Sequence[str]) -> Iterator[str]:
     """Rows as the program reads them, some lines at a time. Rows are counted from 1 in what is wrong."""
+    return _texts(rows, columns, _are_in_range)
+
+
+def texts_of_opening(rows: Sequence[Any], columns: Sequence[str]) -> Iterator[str]:
+    """The same without a test of the range, which takes time, and which the program tests when it opens a table."""
+    return _texts(rows, columns, _are_whole)
+
+
+def _texts(rows: Sequence[Any], columns: Sequence[str], are_fine: Callable[[Sequence[Any]], bool]) -> Iterator[str]:
     for begin in range(0, len(rows), TOGETHER):
         piece = rows[begin:begin + TOGETHER]
-        yield _at_once(piece, len(columns)) or "".join(line(row, columns, f"row {number}, ") + "\n" for number, row in enumerate(piece, begin + 1))
+        yield _at_once(piece, len(columns), are_fine) or "".join(line(row, columns, f"row {number}, ") + "\n" for number, row in enumerate(piece, begin + 1))
         let_others_run()
 
 
@@ -95,11 +104,17 @@ def line(row: Any, columns: Sequence[str], where: str = "") -> str:
     return ",".join(str(whole(cell, f"{where}column {name}", LEAST, MOST)) for name, cell in zip(columns, cells))
 
 
-def _at_once(rows: Sequence[Any], width: int) -> Optional[str]:
+def _at_once(rows: Sequence[Any], width: int, are_fine: Callable[[Sequence[Any]], bool]) -> Optional[str]:
     """Rows that are lists or tuples of Python's own whole numbers, without a look at each; None where they are not, or where something is wrong."""
     if not {list, tuple}.issuperset(map(type, rows)) or set(map(len, rows)) != {width}:
         return None
     cells = tuple(chain.from_iterable(rows))
-    if set(map(type, cells)) != {int} or min(cells) < LEAST or max(cells) > MOST:
-        return None
-    return (",".join(["%d"] * width) + "\n") * len(rows) % cells
+    return (",".join(["%d"] * width) + "\n") * len(rows) % cells if are_fine(cells) else None
+
+
+def _are_whole(cells: Sequence[Any]) -> bool:
+    return set(map(type, cells)) == {int}
+
+
+def _are_in_range(cells: Sequence[Any]) -> bool:
+    return _are_whole(cells) and min(cells) >= LEAST and max(cells) <= MOST

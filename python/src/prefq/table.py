@@ -9,10 +9,11 @@ from .exchange import Exchange
 from .program import find_program
 from .query import Query
 from .questions import explained
-from .rows import Row, line, listed, texts
+from .rows import Row, line, listed, texts, texts_of_opening
 
 Values = Iterable[int]
 TOGETHER = 8
+OUT_OF_RANGE = ("table", 7)
 
 
 class Table:
@@ -47,8 +48,15 @@ class Table:
         self._exchange = Exchange([find_program(program), "live", *words], checks.seconds(timeout))
         self._free = Clients(self.clients, self._exchange)
         try:
-            rest = self._exchange.open(f"table\n{checks.header(self.columns)}", texts(opening, self.columns))
-            self._insert_lines("".join(rest).split("\n")[:-1])
+            rest = self._exchange.open(f"table\n{checks.header(self.columns)}", texts_of_opening(opening, self.columns))
+            if rest:
+                _test_each(opening, self.columns)
+                self._insert_lines("".join(rest).split("\n")[:-1])
+        except Refused as why:
+            self._exchange.close()
+            if (why.kind, why.number) == OUT_OF_RANGE:
+                _test_each(opening, self.columns)
+            raise
         except BaseException:
             self._exchange.close()
             raise
@@ -238,6 +246,13 @@ class Table:
     def _client(self, client: Optional[int]) -> int:
         """Any client can make a call of one exchange, so it is the first, if none is given."""
         return 1 if client is None else checks.whole(client, "client", 1, self.clients)
+
+
+def _test_each(rows: Iterable[Any], columns: Sequence[str]) -> None:
+    """Raises what is wrong with the first of the rows whose range has not been tested; others than lists and tuples have been written out one by one."""
+    for number, row in enumerate(rows, 1):
+        if isinstance(row, (list, tuple)):
+            line(row, columns, f"row {number}, ")
 
 
 def _id(id: Any) -> int:
