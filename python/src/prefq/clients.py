@@ -33,7 +33,7 @@ class Clients:
                     return free[0]
                 if client is not None:
                     raise Refused(f"client {client} has an open query", "client", 3)
-                if {holder.thread for holder in self._exchange.queries.values()} == {threading.get_ident()}:
+                if {holder.thread for holder in list(self._exchange.queries.values())} == {threading.get_ident()}:
                     break
             time.sleep(STEP)
         raise Refused(f"each of the {self._count} clients has an open query", "client", 3)

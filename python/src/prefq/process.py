@@ -27,7 +27,7 @@ class Process:
         self._timeout = timeout
         self._read = bytearray()
         try:
-            # A session of its own, so that Ctrl-C at the terminal reaches Python alone. No buffers, so that a fork has nothing to flush.
+            # Apart from the terminal, so that Ctrl-C reaches Python alone. No buffers, so that a fork has nothing to flush.
             self._popen = subprocess.Popen(words, stdin=subprocess.PIPE, stdout=subprocess.PIPE, bufsize=0, start_new_session=True)
         except OSError as why:
             raise ProgramNotFound(f"{words[0]} cannot be started: {why}", "program") from why
