@@ -91,7 +91,7 @@ def main():
     parser.add_argument("--rounds", type=int, default=3)
     parser.add_argument("--pool", type=int, nargs="*", default=[4])
     parser.add_argument("--dask", type=int, nargs="*", default=[1, 2, 4])
-    parser.add_argument("--folder", type=Path, default=TOP / "bench/work/parts")
+    parser.add_argument("--folder", type=Path, default=TOP / "bench" / "work" / "parts")
     given = parser.parse_args()
     files = write(given.folder / str(given.rows), given.rows)
     begun = time.monotonic()
