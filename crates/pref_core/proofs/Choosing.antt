@@ -114,7 +114,7 @@ pub one_left : (contents : Contents) (call : Call) (fresh : Entry) (rest : List 
 one_left contents call fresh rest chosen freed finds c ok taken h =
     some_left (suc contents.stamp) (begins contents.callers) chosen h.done (closed_slots contents (ended call)) h.now h.fills
     (let size = succeeds-fits (length contents.slots) (missing (ended call) (visible contents.stamp contents.slots)) (used (grown call contents)) (granted contents.next_id call)
-        (subst (λ b. succeeds (outcome_of (length contents.slots) b (missing (ended call) (visible contents.stamp contents.slots)) (used (grown call contents)) (granted contents.next_id call)) ≡ true) begins_one (rw c at ok)) in
+    (subst (λ b. succeeds (outcome_of (length contents.slots) b (missing (ended call) (visible contents.stamp contents.slots)) (used (grown call contents)) (granted contents.next_id call)) ≡ true) begins_one (rw c at ok)) in
     let more = count_grown (suc contents.stamp) (begins contents.callers) (begun contents.next_id call) (closed_slots contents (ended call)) in
     let long = length-map contents.slots (close (ended call) (suc contents.stamp)) in
     let all = ap length h.all ∙ length-append h.done (fresh ∷ rest) in

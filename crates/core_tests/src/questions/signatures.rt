@@ -31,7 +31,10 @@ const LEADING_PARTS: [(&str, &str); 10] = [
     ("best -(high(x) & low(y))", "best low(x)"),
     ("best low(x) * pos(y, 0)", "best low(x) * pos(y, 0)"),
     ("best -pos(x, 0, 1) & low(y)", "best -pos(x, 0, 1)"),
-    ("best layered(x, {1}, {-1}) * high(y)", "best layered(x, {1}, {-1}) * high(y)"),
+    (
+        "best layered(x, {1}, {-1}) * high(y)",
+        "best layered(x, {1}, {-1}) * high(y)",
+    ),
     ("at_least 3 -low(x) by y", "best high(x) by y"),
     (
         "skyline of distinct x min, y diff",
