@@ -39,12 +39,17 @@ impl Read for Endless {
 fn an_input_is_read_whole(rt: HostRuntime) -> Result<(), Fail> {
     let [(text, _), _] = SCRIPTS;
     let mut reader = Watched::new(in_steps(text, 7));
-    let input = read_input(rt.alloc(), &mut reader).ok();
-    let found = (
-        input.as_ref().map(|bytes| bytes.as_slice()),
-        reader.failed(),
+    let result = read_input(rt.alloc(), &mut reader);
+    let is_whole = match &result {
+        Ok(input) => input.as_slice() == text,
+        Err(_) => false,
+    };
+    assert_same(
+        &rt,
+        text.len(),
+        &(is_whole, reader.failed()),
+        &(true, false),
     );
-    assert_same(&rt, text.len(), &found, &(Some(text), false));
     Ok(())
 }
 
