@@ -241,9 +241,9 @@ def distinct(n):
     return [[i, i, i, i, i % 5, i] for i in range(n)]
 
 
-def unrelated(n):
-    """Random numbers, in a hundred groups."""
-    r = random.Random("unrelated")
+def independent_rows(n):
+    """Random numbers in each column, in a hundred groups."""
+    r = random.Random("independent rows")
     return sorted([r.randrange(SCALE) for _ in range(4)] + [r.randrange(100), i] for i in range(n))
 
 
@@ -280,11 +280,11 @@ SHAPES = {
     "front-d3": (front_of_three, "best low(a) * low(b) * low(c)"),
     "score": (distinct, "top_level 1000 low(a)"),
     "score-groups": (distinct, "top_level 1000 low(a) by g"),
-    "priority": (unrelated, "at_least 1000 low(a) & low(b)"),
-    "levels": (unrelated, "top_level 1000 low(a) * low(b)"),
-    "groups": (unrelated, "best low(a) * low(b) by g"),
-    "own-groups": (unrelated, "best low(a) by id"),
-    "unrelated-d4": (unrelated, "best low(a) * low(b) * low(c) * low(d)"),
+    "priority": (independent_rows, "at_least 1000 low(a) & low(b)"),
+    "levels": (independent_rows, "top_level 1000 low(a) * low(b)"),
+    "groups": (independent_rows, "best low(a) * low(b) by g"),
+    "own-groups": (independent_rows, "best low(a) by id"),
+    "independent-d4": (independent_rows, "best low(a) * low(b) * low(c) * low(d)"),
     "ties": (few_values, "best pos(g, 9)"),
     "few-values": (few_values, "top_level 5 low(a) * low(b)"),
     "few-values-d4": (few_values, "best low(a) * low(b) * low(c) * low(d)"),
