@@ -1,17 +1,16 @@
 -- What the parts of the reader promise that read what stands around a term, and skyline clauses.
 use Rattle.std.proofs.Common.{◌≡◌, ℕ, List, [], ◌∷◌, ◌++◌, length, map, Bool, true, false, Option, Some, None, Ok, refl, sym, ap, subst, ◌∙◌, append-nil}
-use Rattle.std.specs.Prelude.{All, IfSome, cond, unwrap_or}
+use Rattle.std.specs.Prelude.{◌≢◌, All, IfSome, cond, unwrap_or}
 use Rattle.std.specs.Str.Parse.{digits_value}
-use Rattle.std.proofs.lemmas.List.{map-append}
 use Rattle.std.proofs.lemmas.List.Elements.{All-append, All-nil}
 use Rattle.std.proofs.lemmas.List.Sums.{fold-append}
 use Rattle.std.proofs.lemmas.Grind.{flat_map-append}
 use Rattle.pref_term.specs.Token.{comma, Token, word, digits, sign, finish, Placed}
-use Rattle.pref_term.specs.Grammar.{Keyword, best_word, top_level_word, at_least_word, by_word, keyword_of, skyline_word, of_word, cased_of, Direction, minimal, maximal, different, direction_word, DimText, HeadText, best_head, top_level_head, at_least_head, PriorText, one_product, then_product, rated, name, mark, column_name, count_digits, cased, last}
+use Rattle.pref_term.specs.Grammar.{Keyword, best_word, top_level_word, at_least_word, by_word, keyword_of, skyline_word, of_word, cased_of, Direction, minimal, maximal, different, direction_word, DimText, HeadText, best_head, top_level_head, at_least_head, PriorText, one_product, then_product, AskText, rated, name, mark, column_name, count_digits, cased, last}
 use Rattle.pref_term.specs.Spells.{Names, own_fault, column_at, mode_of, order_by, group_by, orders_of, groups_of, product_of, bad_count}
-use Rattle.pref_term.specs.Reading.{State, start, operand, whole, in_whole, ranked, top_level_named, at_least_named, group_due, skyline_named, dim_due, dim_named, done, listed_column, listed_dim, directed, begun, of_named, grouped_by, next}
+use Rattle.pref_term.specs.Reading.{State, start, operand, whole, in_whole, ranked, top_level_named, at_least_named, group_due, skyline_named, dim_due, dim_named, group_listed, dims_listed, run, done, listed_column, listed_dim, directed, begun, of_named, grouped_by, next}
 use Rattle.pref_term.specs.Asked.{meant}
-use Rattle.pref_term.specs.Led.{Goes, Fails, Passes, IsNoWord, IsKnown, IsTermOf, IsColumn, WantsColumn, TakesColumn, FailsColumn, ReadsPrior, FailsPrior, Asks, AsksNothing, IsNoDigits, WantsCount, TakesCount, FailsCount, left_over, ReadsGroupColumn, FailsGroupColumn, ReadsColumns, FailsColumns, ReadsGrouping, FailsGrouping, TakesDirection, FailsDirection, behind_dim, ReadsDim, FailsDim, with_order, ReadsDims, ReadsClause, FailsClause, PassesOf, FailsOf, AsksClause, AsksClauseNothing}
+use Rattle.pref_term.specs.Led.{Goes, Fails, Passes, IsNoWord, IsKnown, IsTermOf, IsColumn, NotNext, IsOther, WantsColumn, TakesColumn, FailsColumn, ReadsPrior, FailsPrior, Asks, AsksNothing, IsNoDigits, WantsCount, TakesCount, FailsCount, ReadsSomeColumns, ReadsColumns, FailsColumns, ReadsGrouping, FailsGrouping, TakesDirection, FailsDirection, ReadsDim, FailsDim, with_order, ReadsDims, ReadsClause, FailsClause, PassesOf, FailsOf, AsksClause, AsksClauseNothing}
 use Rattle.pref_term.specs.Preference.{Preference, scored, low, high, pareto, prior, reverse}
 use Rattle.pref_term.specs.Columns.{ReadsBelow}
 use Rattle.pref_term.specs.Writable.{IsWritable}
@@ -19,7 +18,11 @@ use Rattle.pref_term.specs.Question.{Question, FitsWidth, IsAsk, IsSkyline, IsCo
 use Rattle.pref_term.specs.declared.ask.Mode.{Mode}
 use Rattle.pref_term.specs.declared.ask.Mode.TheVariants.{Best, TopLevel, AtLeast}
 use Rattle.pref_term.specs.declared.fault.TermFault.{TermFault}
-use Rattle.pref_term.proofs.LedLemmas.{at_place, goes_then, goes_fails, passes_goes, column_good, unless_map, all_one}
+use Rattle.pref_term.proofs.LedLemmas.{goes_then, goes_fails, passes_goes, column_good, unless_map, all_one, mapped_more, neither_fails, sign_behind}
+
+-- the end, behind all
+ended : (names : Names) (ts us : List Placed) (s m : State) (a : AskText) → Goes names s ts m us → Passes finish us [] → next m finish ≡ Some (last, done a) → (p : ℕ) → run names ts p s ≡ Ok a
+ended names ts us s m a h c e p = let g = goes_then names s m (done a) ts us [] h (passes_goes names finish us [] m (done a) last c e refl) p in g.1
 
 -- ---- a column of a group
 
@@ -37,40 +40,62 @@ group_comma : (head : HeadText) (r : PriorText) (some : List (List ℕ)) (letter
 group_comma head r [] letters = refl
 group_comma head r (c ∷ cs) letters = refl
 
-pub group_more : (names : Names) (ts us vs : List Placed) (col : ℕ) → TakesColumn names ts col us → Passes (sign comma) us vs → ReadsGroupColumn names ts col true vs
-group_more names ts us vs col t c =
-    record {
-      letters = t.letters;
-      found = t.found;
-      goes = λ head r some. goes_then names _ _ _ ts us vs (column_goes names ts us col _ _ (wants_group head r some) t)
-          (passes_goes names (sign comma) us vs _ _ (mark comma) c (group_comma head r some t.letters) refl);
-    }
+group_finish : (head : HeadText) (r : PriorText) (some : List (List ℕ)) (letters : List ℕ) → next (listed_column head r some letters) finish ≡ Some (last, done (rated head r (some ++ letters ∷ [])))
+group_finish head r [] letters = refl
+group_finish head r (c ∷ cs) letters = refl
 
-pub group_column_fails : (names : Names) (ts : List Placed) (f : TermFault) → FailsColumn names ts f → FailsGroupColumn names ts f
-group_column_fails names ts f h head r some = h (group_due head r some) (λ letters. listed_column head r some letters) (wants_group head r some)
+group_listed_stuck : (head : HeadText) (r : PriorText) (first : List ℕ) (others : List (List ℕ)) (u : Token) → u ≢ sign comma → u ≢ finish → next (group_listed head r first others) u ≡ None
+group_listed_stuck head r first others (sign comma) nc nf = absurd (nc refl)
+group_listed_stuck head r first others finish nc nf = absurd (nf refl)
+group_listed_stuck head r first others _ nc nf = refl
+
+group_stuck : (head : HeadText) (r : PriorText) (some : List (List ℕ)) (letters : List ℕ) (u : Token) → u ≢ sign comma → u ≢ finish → next (listed_column head r some letters) u ≡ None
+group_stuck head r [] letters = group_listed_stuck head r letters []
+group_stuck head r (c ∷ cs) letters = group_listed_stuck head r c (cs ++ letters ∷ [])
 
 -- ---- the columns of a group
 
-pub columns_none : (names : Names) (ts : List Placed) → ReadsColumns names ts [] true ts
+pub columns_none : (names : Names) (ts : List Placed) → ReadsSomeColumns names ts [] ts
 columns_none names ts = record { some = []; meaning = refl; known = All-nil (IsKnown names); goes = λ head r p. (p, refl) }
 
 column_is : (names : Names) (letters : List ℕ) (col : ℕ) → IsColumn names letters col → column_at names letters ≡ col
 column_is names letters col h = ap (λ o. unwrap_or o 0) h.place
 
-mapped_more : (names : Names) (some : List (List ℕ)) (letters : List ℕ) (columns : List ℕ) (col : ℕ) → map (column_at names) some ≡ columns → column_at names letters ≡ col → map (column_at names) (some ++ letters ∷ []) ≡ columns ++ col ∷ []
-mapped_more names some letters columns col e f = map-append (column_at names) some (letters ∷ []) ∙ (ap (λ xs. xs ++ column_at names letters ∷ []) e ∙ ap (λ x. columns ++ x ∷ []) f)
+pub columns_fail : (names : Names) (ts us : List Placed) (columns : List ℕ) (f : TermFault) → ReadsSomeColumns names ts columns us → FailsColumn names us f → FailsColumns names ts f
+columns_fail names ts us columns f r h head p =
+    goes_fails names _ _ ts us f (r.goes head p) (h (group_due head p r.some) (λ letters. listed_column head p r.some letters) (wants_group head p r.some))
 
-pub columns_more : (names : Names) (ts us vs : List Placed) (columns : List ℕ) (col : ℕ) (more : Bool) → ReadsColumns names ts columns true us → ReadsGroupColumn names us col more vs → ReadsColumns names ts (columns ++ col ∷ []) more vs
-columns_more names ts us vs columns col more r l =
-    record {
-      some = r.some ++ l.letters ∷ [];
-      meaning = mapped_more names r.some l.letters columns col r.meaning (column_is names l.letters col l.found);
-      known = All-append (IsKnown names) columns (col ∷ []) r.known (all_one (IsKnown names) col l.found.known);
-      goes = λ head p. goes_then names _ _ _ ts us (left_over more vs) (r.goes head p) (l.goes head p r.some);
-    }
+-- one column more, and what is behind it
+module _ (names : Names) (ts us vs : List Placed) (columns : List ℕ) (col : ℕ) (r : ReadsSomeColumns names ts columns us) (t : TakesColumn names us col vs) where
+  columns_go : (head : HeadText) (p : PriorText) → Goes names (group_due head p []) ts (listed_column head p r.some t.letters) vs
+  columns_go head p = goes_then names _ _ _ ts us vs (r.goes head p) (column_goes names us vs col _ _ (wants_group head p r.some) t)
 
-pub columns_fail : (names : Names) (ts us : List Placed) (columns : List ℕ) (f : TermFault) → ReadsColumns names ts columns true us → FailsGroupColumn names us f → FailsColumns names ts f
-columns_fail names ts us columns f r l head p = goes_fails names _ _ ts us f (r.goes head p) (l head p r.some)
+  columns_are : map (column_at names) (r.some ++ t.letters ∷ []) ≡ columns ++ col ∷ []
+  columns_are = mapped_more (column_at names) r.some t.letters columns col r.meaning (column_is names t.letters col t.found)
+
+  columns_known : All (IsKnown names) (columns ++ col ∷ [])
+  columns_known = All-append (IsKnown names) columns (col ∷ []) r.known (all_one (IsKnown names) col t.found.known)
+
+  pub columns_more : (ws : List Placed) → Passes (sign comma) vs ws → ReadsSomeColumns names ts (columns ++ col ∷ []) ws
+  columns_more ws c =
+      record {
+        some = r.some ++ t.letters ∷ [];
+        meaning = columns_are;
+        known = columns_known;
+        goes = λ head p. sign_behind names ts vs ws _ _ _ comma (columns_go head p) c (group_comma head p r.some t.letters);
+      }
+
+  pub columns_all : Passes finish vs [] → ReadsColumns names ts (columns ++ col ∷ [])
+  columns_all c =
+      record {
+        some = r.some ++ t.letters ∷ [];
+        meaning = columns_are;
+        known = columns_known;
+        goes = λ head p. ended names ts vs _ _ _ (columns_go head p) c (group_finish head p r.some t.letters);
+      }
+
+  pub columns_stuck : (f : TermFault) → NotNext finish vs → IsOther (sign comma) vs f → FailsColumns names ts f
+  columns_stuck f nf nc head p = goes_fails names _ _ ts vs f (columns_go head p) (neither_fails names (sign comma) finish vs f _ nc nf (group_stuck head p r.some t.letters))
 
 -- ---- the group
 
@@ -78,13 +103,13 @@ ranked_by_word : (head : HeadText) (r : PriorText) (letters : List ℕ) → keyw
 ranked_by_word head (one_product p) letters e = ap (grouped_by (whole head) (one_product p)) e
 ranked_by_word head (then_product r p) letters e = ap (grouped_by (whole head) (then_product r p)) e
 
-pub grouping_read : (names : Names) (letters : List ℕ) (ts us : List Placed) (columns : List ℕ) → Passes (word letters) ts us → keyword_of letters ≡ Some by_word → ReadsColumns names us columns false [] → ReadsGrouping names ts columns
+pub grouping_read : (names : Names) (letters : List ℕ) (ts us : List Placed) (columns : List ℕ) → Passes (word letters) ts us → keyword_of letters ≡ Some by_word → ReadsColumns names us columns → ReadsGrouping names ts columns
 grouping_read names letters ts us columns c e r =
     record {
       some = r.some;
       meaning = r.meaning;
       known = r.known;
-      goes = λ head p q. let g = goes_then names (ranked (whole head) p) (group_due head p []) (done (rated head p r.some)) ts us [] (passes_goes names (word letters) ts us (ranked (whole head) p) (group_due head p []) (name by_word) c (ranked_by_word head p letters e) refl) (r.goes head p) q in g.1;
+      goes = λ head p q. let g = passes_goes names (word letters) ts us (ranked (whole head) p) (group_due head p []) (name by_word) c (ranked_by_word head p letters e) refl q in g.1 ∙ r.goes head p g.0;
     }
 
 pub grouping_fails : (names : Names) (letters : List ℕ) (ts us : List Placed) (f : TermFault) → Passes (word letters) ts us → keyword_of letters ≡ Some by_word → FailsColumns names us f → FailsGrouping names ts f
@@ -142,32 +167,22 @@ dim_comma : (s o : List ℕ) (some : List DimText) (d : DimText) → next (liste
 dim_comma s o [] d = refl
 dim_comma s o (e ∷ es) d = refl
 
-dim_finish : (s o : List ℕ) (some : List DimText) (d : DimText) → next (listed_dim s o some d) finish ≡ Some (last, behind_dim s o (some ++ d ∷ []) false)
-dim_finish s o [] d = refl
-dim_finish s o (e ∷ es) d = refl
+dims_listed_stuck : (s o : List ℕ) (first : DimText) (others : List DimText) (u : Token) → u ≢ sign comma → u ≢ finish → next (dims_listed s o first others) u ≡ None
+dims_listed_stuck s o first others (sign comma) nc nf = absurd (nc refl)
+dims_listed_stuck s o first others finish nc nf = absurd (nf refl)
+dims_listed_stuck s o first others _ nc nf = refl
 
-two_goes : (names : Names) (ts us vs : List Placed) (col : ℕ) (d : Direction) (s o : List ℕ) (some : List DimText) → (t : TakesColumn names ts col us) → (g : TakesDirection us d vs) → Goes names (dim_due s o some) ts (listed_dim s o some (dim_of t.letters d g.letters)) vs
-two_goes names ts us vs col d s o some t g =
-    goes_then names _ (dim_named s o some t.letters) _ ts us vs (column_goes names ts us col _ _ (wants_dim s o some) t) (direction_goes names us vs d s o some t.letters g)
+dim_stuck : (s o : List ℕ) (some : List DimText) (d : DimText) (u : Token) → u ≢ sign comma → u ≢ finish → next (listed_dim s o some d) u ≡ None
+dim_stuck s o [] d = dims_listed_stuck s o d []
+dim_stuck s o (e ∷ es) d = dims_listed_stuck s o e (es ++ d ∷ [])
 
-pub dim_more : (names : Names) (ts us vs ws : List Placed) (col : ℕ) (d : Direction) → TakesColumn names ts col us → TakesDirection us d vs → Passes (sign comma) vs ws → ReadsDim names ts col d true ws
-dim_more names ts us vs ws col d t g c =
+pub dim_read : (names : Names) (ts us vs : List Placed) (col : ℕ) (d : Direction) → TakesColumn names ts col us → TakesDirection us d vs → ReadsDim names ts col d vs
+dim_read names ts us vs col d t g =
     record {
       dim = dim_of t.letters d g.letters;
       said = refl;
       found = t.found;
-      goes = λ s o some. goes_then names _ _ _ ts vs ws (two_goes names ts us vs col d s o some t g)
-          (passes_goes names (sign comma) vs ws _ _ (mark comma) c (dim_comma s o some (dim_of t.letters d g.letters)) refl);
-    }
-
-pub dim_last : (names : Names) (ts us vs ws : List Placed) (col : ℕ) (d : Direction) (at : ℕ) → TakesColumn names ts col us → TakesDirection us d vs → vs ≡ at_place finish at ∷ [] → ReadsDim names ts col d false ws
-dim_last names ts us vs ws col d at t g e =
-    record {
-      dim = dim_of t.letters d g.letters;
-      said = refl;
-      found = t.found;
-      goes = λ s o some. goes_then names _ _ _ ts vs [] (two_goes names ts us vs col d s o some t g)
-          (passes_goes names finish vs [] _ _ last (at, e) (dim_finish s o some (dim_of t.letters d g.letters)) refl);
+      goes = λ s o some. goes_then names _ (dim_named s o some t.letters) _ ts us vs (column_goes names ts us col _ _ (wants_dim s o some) t) (direction_goes names us vs d s o some t.letters g);
     }
 
 pub dim_column_fails : (names : Names) (ts : List Placed) (f : TermFault) → FailsColumn names ts f → FailsDim names ts f
@@ -179,7 +194,7 @@ dim_direction_fails names ts us col f t h s o some =
 
 -- ---- some dimensions
 
-pub dims_none : (names : Names) (ts : List Placed) → ReadsDims names ts None [] true ts
+pub dims_none : (names : Names) (ts : List Placed) → ReadsDims names ts None [] ts
 dims_none names ts = record { dims = []; product_is = refl; group_is = refl; product_known = tt; group_known = All-nil (IsKnown names); goes = λ s o p. (p, refl) }
 
 product_more : (orders : List Preference) (d : Direction) (col : ℕ) → product_of (orders ++ order_by d col) ≡ with_order (product_of orders) d col
@@ -214,31 +229,40 @@ groups_more names dims dim group d col e f g =
     flat_map-append (λ x. group_by x.direction (column_at names x.column)) dims (dim ∷ []) ∙ (ap (λ xs. groups_of names dims ++ xs) (append-nil (group_by dim.direction (column_at names dim.column)))
     ∙ (ap (λ x. x ++ group_by dim.direction (column_at names dim.column)) e ∙ (ap (λ x. group ++ group_by x (column_at names dim.column)) f ∙ ap (λ x. group ++ group_by d x) g)))
 
-pub dims_more : (names : Names) (ts us vs : List Placed) (product : Option Preference) (group : List ℕ) (col : ℕ) (d : Direction) (more : Bool) → ReadsDims names ts product group true us → ReadsDim names us col d more vs → ReadsDims names ts (with_order product d col) (group ++ group_by d col) more vs
-dims_more names ts us vs product group col d more r l =
-    record {
-      dims = r.dims ++ l.dim ∷ [];
-      product_is = orders_more names r.dims l.dim product d col r.product_is l.said (column_is names l.dim.column col l.found);
-      group_is = groups_more names r.dims l.dim group d col r.group_is l.said (column_is names l.dim.column col l.found);
-      product_known = product_known_more names product d col l.found.known r.product_known;
-      group_known = group_known_more names group d col l.found.known r.group_known;
-      goes = λ s o. goes_then names _ _ _ ts us (left_over more vs) (r.goes s o) (l.goes s o r.dims);
-    }
-
-pub dims_fail : (names : Names) (ts us : List Placed) (product : Option Preference) (group : List ℕ) (f : TermFault) → ReadsDims names ts product group true us → FailsDim names us f → FailsClause names ts f
+pub dims_fail : (names : Names) (ts us : List Placed) (product : Option Preference) (group : List ℕ) (f : TermFault) → ReadsDims names ts product group us → FailsDim names us f → FailsClause names ts f
 dims_fail names ts us product group f r l s o = goes_fails names _ _ ts us f (r.goes s o) (l s o r.dims)
 
--- the last dimension ends a clause that has one
-pub dims_all : (names : Names) (ts us vs : List Placed) (product : Option Preference) (group : List ℕ) (col : ℕ) (d : Direction) → ReadsDims names ts product group true us → ReadsDim names us col d false vs → ReadsClause names ts (with_order product d col) (group ++ group_by d col)
-dims_all names ts us vs product group col d r l =
-    go (product_known_more names product d col l.found.known r.product_known) (group_known_more names group d col l.found.known r.group_known)
-    r.dims (orders_more names r.dims l.dim product d col r.product_is l.said (column_is names l.dim.column col l.found))
-    (groups_more names r.dims l.dim group d col r.group_is l.said (column_is names l.dim.column col l.found))
-    (λ s o. goes_then names (dim_due s o []) (dim_due s o r.dims) (behind_dim s o (r.dims ++ l.dim ∷ []) false) ts us [] (r.goes s o) (l.goes s o r.dims))
-  where
-    go : IfSome (with_order product d col) (IsTermOf names) → All (IsKnown names) (group ++ group_by d col) → (dims : List DimText) → product_of (orders_of names (dims ++ l.dim ∷ [])) ≡ with_order product d col → groups_of names (dims ++ l.dim ∷ []) ≡ group ++ group_by d col → ((s o : List ℕ) → Goes names (dim_due s o []) ts (behind_dim s o (dims ++ l.dim ∷ []) false) []) → ReadsClause names ts (with_order product d col) (group ++ group_by d col)
-    go k m [] e f g = record { first = l.dim; others = []; product_is = e; group_is = f; product_known = k; group_known = m; goes = λ s o p. let a = g s o p in a.1 }
-    go k m (x ∷ xs) e f g = record { first = x; others = xs ++ l.dim ∷ []; product_is = e; group_is = f; product_known = k; group_known = m; goes = λ s o p. let a = g s o p in a.1 }
+-- one dimension more, and what is behind it
+module _ (names : Names) (ts us vs : List Placed) (product : Option Preference) (group : List ℕ) (col : ℕ) (d : Direction) (r : ReadsDims names ts product group us) (l : ReadsDim names us col d vs) where
+  dims_go : (s o : List ℕ) → Goes names (dim_due s o []) ts (listed_dim s o r.dims l.dim) vs
+  dims_go s o = goes_then names _ _ _ ts us vs (r.goes s o) (l.goes s o r.dims)
+
+  orders_are : product_of (orders_of names (r.dims ++ l.dim ∷ [])) ≡ with_order product d col
+  orders_are = orders_more names r.dims l.dim product d col r.product_is l.said (column_is names l.dim.column col l.found)
+
+  groups_are : groups_of names (r.dims ++ l.dim ∷ []) ≡ group ++ group_by d col
+  groups_are = groups_more names r.dims l.dim group d col r.group_is l.said (column_is names l.dim.column col l.found)
+
+  pub dims_more : (ws : List Placed) → Passes (sign comma) vs ws → ReadsDims names ts (with_order product d col) (group ++ group_by d col) ws
+  dims_more ws c =
+      record {
+        dims = r.dims ++ l.dim ∷ [];
+        product_is = orders_are;
+        group_is = groups_are;
+        product_known = product_known_more names product d col l.found.known r.product_known;
+        group_known = group_known_more names group d col l.found.known r.group_known;
+        goes = λ s o. sign_behind names ts vs ws _ _ _ comma (dims_go s o) c (dim_comma s o r.dims l.dim);
+      }
+
+  pub dims_all : Passes finish vs [] → ReadsClause names ts (with_order product d col) (group ++ group_by d col)
+  dims_all c = go (product_known_more names product d col l.found.known r.product_known) (group_known_more names group d col l.found.known r.group_known) r.dims orders_are groups_are dims_go
+    where
+      go : IfSome (with_order product d col) (IsTermOf names) → All (IsKnown names) (group ++ group_by d col) → (dims : List DimText) → product_of (orders_of names (dims ++ l.dim ∷ [])) ≡ with_order product d col → groups_of names (dims ++ l.dim ∷ []) ≡ group ++ group_by d col → ((s o : List ℕ) → Goes names (dim_due s o []) ts (listed_dim s o dims l.dim) vs) → ReadsClause names ts (with_order product d col) (group ++ group_by d col)
+      go k m [] e f g = record { first = l.dim; others = []; product_is = e; group_is = f; product_known = k; group_known = m; goes = λ s o. ended names ts vs _ _ _ (g s o) c refl }
+      go k m (x ∷ xs) e f g = record { first = x; others = xs ++ l.dim ∷ []; product_is = e; group_is = f; product_known = k; group_known = m; goes = λ s o. ended names ts vs _ _ _ (g s o) c refl }
+
+  pub dims_stuck : (f : TermFault) → NotNext finish vs → IsOther (sign comma) vs f → FailsClause names ts f
+  dims_stuck f nf nc s o = goes_fails names _ _ ts vs f (dims_go s o) (neither_fails names (sign comma) finish vs f _ nc nf (dim_stuck s o r.dims l.dim))
 
 -- ---- a skyline clause
 
@@ -364,8 +388,8 @@ pub fits_width : (names : Names) (p : Preference) (group : List ℕ) (mode : Mod
 fits_width names p group mode h g distinct = record { preference = term_known names p h; group = λ i d b. let a = g i d b in a.1 }
 
 -- the same product and group, in other words
-pub reads_dims : (names : Names) (ts us : List Placed) (more : Bool) (p q : Option Preference) (g h : List ℕ) → p ≡ q → g ≡ h → ReadsDims names ts q h more us → ReadsDims names ts p g more us
-reads_dims names ts us more p q g h e f r = subst (λ (x : Option Preference). ReadsDims names ts x g more us) (sym e) (subst (λ (x : List ℕ). ReadsDims names ts q x more us) (sym f) r)
+pub reads_dims : (names : Names) (ts us : List Placed) (p q : Option Preference) (g h : List ℕ) → p ≡ q → g ≡ h → ReadsDims names ts q h us → ReadsDims names ts p g us
+reads_dims names ts us p q g h e f r = subst (λ (x : Option Preference). ReadsDims names ts x g us) (sym e) (subst (λ (x : List ℕ). ReadsDims names ts q x us) (sym f) r)
 
 pub reads_clause : (names : Names) (ts : List Placed) (p q : Option Preference) (g h : List ℕ) → p ≡ q → g ≡ h → ReadsClause names ts q h → ReadsClause names ts p g
 reads_clause names ts p q g h e f r = subst (λ (x : Option Preference). ReadsClause names ts x g) (sym e) (subst (λ (x : List ℕ). ReadsClause names ts q x) (sym f) r)

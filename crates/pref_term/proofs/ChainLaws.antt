@@ -1,17 +1,17 @@
 -- A preference that is a product of two chains is the product of its keys in these.
 use Rattle.std.proofs.Common.{◌≡◌, ◌<◌, ℤ, Bool, true, false, not, List, [], ◌∷◌, ◌++◌, refl, sym, ap, ◌∙◌}
-use Rattle.std.specs.Prelude.{◌&&◌, All}
+use Rattle.std.specs.Prelude.{◌&&◌}
 use Rattle.std.proofs.lemmas.Bool.{false≢true}
 use Rattle.std.proofs.lemmas.List.Elements.{All-append, All-nil, All-same}
-use Rattle.pref_term.specs.Better.{better, in_same_group, same}
+use Rattle.pref_term.specs.Better.{in_same_group}
 use Rattle.pref_term.specs.Chains.{AreChainsOf, AreInRow, IsProductOf, by_chain, by_chains, first_keys, is_chain, is_paired, keys_in, second_keys, shared_keys}
 use Rattle.pref_term.specs.Columns.{ReadsBelow}
 use Rattle.pref_term.specs.AskOrder.{order_of}
-use Rattle.pref_term.specs.Keys.{by_key, key_for, leading}
+use Rattle.pref_term.specs.Keys.{by_key, key_for}
 use Rattle.pref_term.specs.Order.{is_better, is_same}
 use Rattle.pref_term.specs.OrderLaws.{and_parts}
 use Rattle.pref_term.specs.Preference.{Preference, scored, pareto, prior, reverse}
-use Rattle.pref_term.specs.Question.{Question, FitsWidth, alike}
+use Rattle.pref_term.specs.Question.{Question, FitsWidth}
 use Rattle.pref_term.specs.TwinLaws.{twins_alike}
 use Rattle.pref_term.specs.Walk.{in_priority, in_product, walked}
 use Rattle.pref_term.specs.declared.chains.Chains.{Chains}

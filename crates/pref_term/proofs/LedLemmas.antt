@@ -1,21 +1,25 @@
 -- What the parts of the reader promise, from the tokens that they take.
-use Rattle.std.proofs.Common.{◌≡◌, ℕ, ℤ, List, [], ◌∷◌, ◌++◌, map, Bool, true, false, cond, Some, None, Result, Ok, Err, refl, sym, ap, subst, ◌∙◌}
+use Rattle.std.proofs.Common.{◌≡◌, ℕ, ℤ, Bor, List, [], ◌∷◌, ◌++◌, map, Bool, true, false, cond, Some, None, Result, Ok, Err, refl, sym, ap, subst, ◌∙◌}
 use Rattle.pref_table.specs.Columns.{column_of}
 use Rattle.pref_table.specs.Number.{fits_cell}
 use Rattle.pref_term.specs.Token.{Sign, left, right, right_brace, comma, minus, Token, word, digits, sign, Placed}
 use Rattle.pref_term.specs.Grammar.{based, NumberText, low_text, high_text, around_text, pos_text, Leaf, mark, column_name, number_digits, between_text}
-use Rattle.pref_term.specs.Spells.{Names, UnlessMemory, own_fault, signed_value, number_value, column_at, number_range, below, empty_range, told_at}
-use Rattle.pref_term.specs.Reading.{BaseKind, low_kind, high_kind, around_kind, pos_kind, centre_of, first_of, named, opened, columned, number_due, number_signed, centred, listed, filled, UnaryHole, State, reading, completed, run, led, judged, next, between_kind, start_of, end_of, least_of, ranged, range_ended, NumberList, in_pos, in_set, closing, list_closed, stepped}
+use Rattle.pref_term.specs.Spells.{Names, UnlessMemory, own_fault, signed_value, number_value, column_at, number_range, below, empty_range, told, told_at, OwnFault}
+use Rattle.pref_term.specs.Reading.{BaseKind, low_kind, high_kind, around_kind, pos_kind, centre_of, first_of, named, opened, columned, number_due, number_signed, centred, listed, filled, NumberHole, UnaryHole, State, reading, completed, run, led, judged, next, between_kind, start_of, end_of, least_of, ranged, range_ended, NumberList, in_pos, in_set, closing, list_closed, stepped}
 use Rattle.pref_term.specs.Seen.{seen}
 use Rattle.pref_term.specs.Ahead.{ahead, taken, behind_token}
+use Rattle.pref_term.specs.declared.cursor.Cursor.{Cursor}
 use Rattle.pref_term.specs.declared.cursor.Taken.{Taken}
 use Rattle.pref_term.specs.declared.front.Token as code
-use Rattle.pref_term.specs.Led.{Goes, Fails, IsOther, Passes, WantsColumn, TakesColumn, ReadsOpened, IsNoWord, FailsColumn, FailsOpened, ReadsNumber, ReadsListed, ReadsSome, ReadsNumbers, ReadsBase, FailsListed, FailsNumber, FailsNumbers, FailsBase, list_sign, list_hole, behind_number, ReadsEnd, FailsEnd, first_place}
+use Rattle.pref_term.specs.declared.front.Token.TheVariants.{Digits}
+use Rattle.pref_term.specs.Led.{Goes, Fails, IsOther, NotNext, Passes, WantsColumn, TakesColumn, ReadsOpened, IsNoWord, FailsColumn, FailsOpened, ReadsNumber, ReadsSome, ReadsNumbers, ReadsBase, FailsNumber, FailsNumbers, FailsBase, list_hole, ReadsEnd, FailsEnd, first_place}
 use Rattle.pref_term.specs.declared.fault.TermFault.{TermFault}
-use Rattle.pref_term.specs.declared.fault.TermFault.TheVariants.{Unexpected, OutOfMemory, EmptyRange}
+use Rattle.pref_term.specs.declared.fault.TermFault.TheVariants.{Unexpected, OutOfMemory, EmptyRange, NumberRange}
 use Rattle.std.specs.Prelude.{All, FitsSigned, ◌≢◌, IsErrAnd, IfErr, unwrap_or, int_lt, Option}
 use Rattle.pref_term.specs.Preference.{scored, low, high, around, one_of, between}
 use Rattle.pref_term.proofs.Complete.{list_ends}
+use Rattle.pref_term.proofs.TokenLemmas.{digits_taken}
+use Rattle.std.specs.Str.{all_ascii_digits}
 use Rattle.std.proofs.lemmas.List.{map-append}
 use Rattle.std.proofs.lemmas.List.Elements.{All-append, All-cons, All-nil}
 use Rattle.std.specs.Int.{w64}
@@ -32,7 +36,7 @@ run_step names t at ts p s leaf m e own =
 pub column_good : (names : Names) (letters : List ℕ) (col : ℕ) → column_of names letters ≡ Some col → own_fault names (column_name letters) ≡ None
 column_good names letters col h = rw h
 
-pub number_own : (names : Names) (least : Option NumberText) (negative : Bool) (ds : List ℕ) → fits_cell (signed_value negative ds) ≡ true → own_fault names (number_digits least negative ds) ≡ below least (signed_value negative ds)
+number_own : (names : Names) (least : Option NumberText) (negative : Bool) (ds : List ℕ) → fits_cell (signed_value negative ds) ≡ true → own_fault names (number_digits least negative ds) ≡ below least (signed_value negative ds)
 number_own names least negative ds h = ap (λ b. cond b (below least (signed_value negative ds)) (Some number_range)) h
 
 -- ---- one part behind another
@@ -50,6 +54,10 @@ goes_fails names s m ts us f h k = unless_map f (λ k p. let a = h p in a.1 ∙ 
 pub passes_goes : (names : Names) (t : Token) (ts us : List Placed) (s m : State) (leaf : Leaf) → Passes t ts us → next s t ≡ Some (leaf, m) → own_fault names leaf ≡ None → Goes names s ts m us
 passes_goes names t ts us s m leaf h e own = λ p. (h.0, ap (λ xs. run names xs p s) h.1 ∙ run_step names t h.0 us p s leaf m e own)
 
+-- a sign behind a part
+pub sign_behind : (names : Names) (ts us vs : List Placed) (s m n : State) (g : Sign) → Goes names s ts m us → Passes (sign g) us vs → next m (sign g) ≡ Some (mark g, n) → Goes names s ts n vs
+sign_behind names ts us vs s m n g h c e = goes_then names s m n ts us vs h (passes_goes names (sign g) us vs m n (mark g) c e refl)
+
 -- a token that can't follow
 pub stuck_fails : (names : Names) (t : Token) (at : ℕ) (us ts : List Placed) (s : State) → ts ≡ at_place t at ∷ us → next s t ≡ None → Fails names s ts (Unexpected at)
 stuck_fails names t at us ts s e stuck = λ p. ap (λ xs. run names xs p s) e ∙ ap (led names p at (run names us at)) stuck
@@ -60,10 +68,10 @@ other_fails names t (u ∷ us) f s h stuck =
     subst (λ (g : TermFault). Fails names s (u ∷ us) g) (sym h.1) (λ p. ap (led names p u.place (run names us u.place)) (stuck u.token h.0))
 
 -- a token that is neither of two
-pub neither_fails : (names : Names) (t v : Token) (ts : List Placed) (f : TermFault) (s : State) → IsOther t ts f → IsOther v ts f → ((u : Token) → u ≢ t → u ≢ v → next s u ≡ None) → Fails names s ts f
+pub neither_fails : (names : Names) (t v : Token) (ts : List Placed) (f : TermFault) (s : State) → IsOther t ts f → NotNext v ts → ((u : Token) → u ≢ t → u ≢ v → next s u ≡ None) → Fails names s ts f
 neither_fails names t v [] f s h k stuck = absurd h
 neither_fails names t v (u ∷ us) f s h k stuck =
-    subst (λ (g : TermFault). Fails names s (u ∷ us) g) (sym h.1) (λ p. ap (led names p u.place (run names us u.place)) (stuck u.token h.0 k.0))
+    subst (λ (g : TermFault). Fails names s (u ∷ us) g) (sym h.1) (λ p. ap (led names p u.place (run names us u.place)) (stuck u.token h.0 k))
 
 pub opened_read : (names : Names) (ts us vs : List Placed) (col : ℕ) → Passes (sign left) ts us → TakesColumn names us col vs → ReadsOpened names ts col vs
 opened_read names ts us vs col c t =
@@ -93,62 +101,74 @@ opened_fails names ts us f c r h k =
     goes_fails names _ (reading h (opened k)) ts us f (passes_goes names (sign left) ts us (reading h (named k)) (reading h (opened k)) (mark left) c refl refl)
     (r (reading h (opened k)) (λ letters. reading h (columned k letters)) (wants_opened h k))
 
-digits_goes : (names : Names) (least : Option NumberText) (negative : Bool) (ts us : List Placed) (ds : List ℕ) (s m : State) → Passes (digits ds) ts us → fits_cell (signed_value negative ds) ≡ true → below least (signed_value negative ds) ≡ None → next s (digits ds) ≡ Some (number_digits least negative ds, m) → Goes names s ts m us
-digits_goes names least negative ts us ds s m c fits above e =
-    passes_goes names (digits ds) ts us s m (number_digits least negative ds) c e (number_own names least negative ds fits ∙ above)
+-- what was taken, where the token is known
+pub taken_is : (ts : List Placed) (t : Taken) (k : code.Token) → ts ≡ taken t → t.token ≡ k → ts ≡ at_place (seen k) t.at ∷ behind_token k (ahead t.next)
+taken_is ts t k e f = e ∙ ap (λ (x : code.Token). at_place (seen x) t.at ∷ behind_token x (ahead t.next)) f
 
--- digits that are less than they may be
-digits_refused : (names : Names) (least : Option NumberText) (negative : Bool) (ts us : List Placed) (ds : List ℕ) (s m : State) (c : Passes (digits ds) ts us) → fits_cell (signed_value negative ds) ≡ true → below least (signed_value negative ds) ≡ Some empty_range → next s (digits ds) ≡ Some (number_digits least negative ds, m)
-    → (p : ℕ) → run names ts p s ≡ Err (EmptyRange (told_at (number_digits least negative ds) p c.0))
-digits_refused names least negative ts us ds s m c fits under e p =
-    ap (λ xs. run names xs p s) c.1
-    ∙ (ap (led names p c.0 (run names us c.0)) e
-    ∙ ap (judged (number_digits least negative ds) p c.0 (run names us c.0 m)) (number_own names least negative ds fits ∙ under))
+-- the tokens of a number
+abbrev pub NumberAhead : Bool → List Placed → List ℕ → List Placed → Type 0
+NumberAhead false ts ds us = Passes (digits ds) ts us
+NumberAhead true ts ds us = (behind : List Placed) × Passes (sign minus) ts behind × Passes (digits ds) behind us
 
-pub plain_number_read : (names : Names) (ts us : List Placed) (ds : List ℕ) (value : ℤ) → Passes (digits ds) ts us → fits_cell (signed_value false ds) ≡ true → value ≡ signed_value false ds → FitsSigned w64 value → ReadsNumber names ts value us
-plain_number_read names ts us ds value c fits v held =
+-- its digits were taken
+pub plain_ahead : (c : Cursor) (u : Taken) (negative : Bool) (ds : Bor (List ℕ)) → negative ≡ false → ahead c ≡ taken u → u.token ≡ Digits ds → NumberAhead negative (ahead c) ds.now (ahead u.next) × (all_ascii_digits ds.now ≡ true)
+plain_ahead c u false ds n e d = ((u.at, taken_is _ u _ e d), digits_taken c u ds e d)
+plain_ahead c u true ds n e d = cc
+
+pub signed_ahead : (c : Cursor) (t u : Taken) (negative : Bool) (ds : Bor (List ℕ)) → negative ≡ true → ahead c ≡ at_place (sign minus) t.at ∷ ahead t.next → ahead t.next ≡ taken u → u.token ≡ Digits ds → NumberAhead negative (ahead c) ds.now (ahead u.next) × (all_ascii_digits ds.now ≡ true)
+signed_ahead c t u true ds n m e d = ((ahead t.next, (t.at, m), (u.at, taken_is _ u _ e d)), digits_taken t.next u ds e d)
+signed_ahead c t u false ds n m e d = cc
+
+number_goes : (negative : Bool) (ts us : List Placed) (ds : List ℕ) → NumberAhead negative ts ds us → (names : Names) (h : UnaryHole) (hole : NumberHole) → own_fault names (number_digits (least_of hole) negative ds) ≡ None
+    → Goes names (reading h (number_due hole)) ts (reading h (filled hole (record { negative = negative; digits = ds }))) us
+number_goes false ts us ds c names h hole own = passes_goes names (digits ds) ts us (reading h (number_due hole)) _ (number_digits (least_of hole) false ds) c refl own
+number_goes true ts us ds c names h hole own =
+    goes_then names (reading h (number_due hole)) (reading h (number_signed hole)) _ ts c.0 us
+    (passes_goes names (sign minus) ts c.0 (reading h (number_due hole)) (reading h (number_signed hole)) (mark minus) c.1 refl refl)
+    (passes_goes names (digits ds) c.0 us (reading h (number_signed hole)) _ (number_digits (least_of hole) true ds) c.2 refl own)
+
+digits_refused : (names : Names) (ts us : List Placed) (ds : List ℕ) (leaf : Leaf) (s m : State) (c : Passes (digits ds) ts us) (kind : OwnFault) → next s (digits ds) ≡ Some (leaf, m) → own_fault names leaf ≡ Some kind → (p : ℕ) → run names ts p s ≡ Err (told kind (told_at leaf p c.0))
+digits_refused names ts us ds leaf s m c kind e own p = ap (λ xs. run names xs p s) c.1 ∙ (ap (led names p c.0 (run names us c.0)) e ∙ ap (judged leaf p c.0 (run names us c.0 m)) own)
+
+-- a number with a fault of its own, which is reported at its first token
+number_refused : (negative : Bool) (ts us : List Placed) (ds : List ℕ) → NumberAhead negative ts ds us → (names : Names) (h : UnaryHole) (hole : NumberHole) (kind : OwnFault) → own_fault names (number_digits (least_of hole) negative ds) ≡ Some kind
+    → (p : ℕ) → run names ts p (reading h (number_due hole)) ≡ Err (told kind (first_place ts))
+number_refused false ts us ds c names h hole kind own p =
+    digits_refused names ts us ds (number_digits (least_of hole) false ds) (reading h (number_due hole)) _ c kind refl own p ∙ ap (λ at. Err (told kind at)) (sym (ap first_place c.1))
+number_refused true ts us ds c names h hole kind own p =
+    ap (λ xs. run names xs p (reading h (number_due hole))) c.1.1
+    ∙ (digits_refused names c.0 us ds (number_digits (least_of hole) true ds) (reading h (number_signed hole)) _ c.2 kind refl own c.1.0 ∙ ap (λ at. Err (told kind at)) (sym (ap first_place c.1.1)))
+
+pub number_read : (negative : Bool) (ts us : List Placed) (ds : List ℕ) (value : ℤ) → NumberAhead negative ts ds us → fits_cell (signed_value negative ds) ≡ true → value ≡ signed_value negative ds → FitsSigned w64 value → ReadsNumber ts value us
+number_read negative ts us ds value c fits v held =
     record {
-      number = record { negative = false; digits = ds };
+      number = record { negative = negative; digits = ds };
       fits = held;
       value_is = sym v;
-      goes = λ h hole above. digits_goes names (least_of hole) false ts us ds (reading h (number_due hole)) _ c fits above refl;
-      refused = λ h hole under p. digits_refused names (least_of hole) false ts us ds (reading h (number_due hole)) _ c fits under refl p ∙ ap (λ at. Err (EmptyRange at)) (sym (ap first_place c.1));
+      goes = λ names h hole above. number_goes negative ts us ds c names h hole (number_own names (least_of hole) negative ds fits ∙ above);
+      refused = λ names h hole under. number_refused negative ts us ds c names h hole empty_range (number_own names (least_of hole) negative ds fits ∙ under);
     }
 
-pub signed_number_read : (names : Names) (ts us vs : List Placed) (ds : List ℕ) (value : ℤ) → Passes (sign minus) ts us → Passes (digits ds) us vs → fits_cell (signed_value true ds) ≡ true → value ≡ signed_value true ds → FitsSigned w64 value → ReadsNumber names ts value vs
-signed_number_read names ts us vs ds value c d fits v held =
-    record {
-      number = record { negative = true; digits = ds };
-      fits = held;
-      value_is = sym v;
-      goes = λ h hole above. goes_then names (reading h (number_due hole)) (reading h (number_signed hole)) _ ts us vs
-          (passes_goes names (sign minus) ts us (reading h (number_due hole)) (reading h (number_signed hole)) (mark minus) c refl refl)
-          (digits_goes names (least_of hole) true us vs ds (reading h (number_signed hole)) _ d fits above refl);
-      refused = λ h hole under p.
-          ap (λ xs. run names xs p (reading h (number_due hole))) c.1
-          ∙ (digits_refused names (least_of hole) true us vs ds (reading h (number_signed hole)) _ d fits under refl c.0 ∙ ap (λ at. Err (EmptyRange at)) (sym (ap first_place c.1)));
-    }
+pub number_out_of_range : (negative : Bool) (ts us : List Placed) (ds : List ℕ) → NumberAhead negative ts ds us → fits_cell (signed_value negative ds) ≡ false → FailsNumber ts (NumberRange (first_place ts))
+number_out_of_range negative ts us ds c fits names h hole =
+    number_refused negative ts us ds c names h hole number_range (ap (λ b. cond b (below (least_of hole) (signed_value negative ds)) (Some number_range)) fits)
 
 -- the right end of a range
 below_of : (l : NumberText) (value least : ℤ) (test : Bool) → number_value l ≡ least → int_lt value least ≡ test → below (Some l) value ≡ cond test (Some empty_range) None
 below_of l value least test e f = ap (λ x. cond (int_lt value x) (Some empty_range) None) e ∙ ap (λ b. cond b (Some empty_range) None) f
 
-pub end_read : (names : Names) (ts us : List Placed) (least value : ℤ) → ReadsNumber names ts value us → int_lt value least ≡ false → ReadsEnd names least ts value us
-end_read names ts us least value n above =
+pub end_read : (ts us : List Placed) (least value : ℤ) → ReadsNumber ts value us → int_lt value least ≡ false → ReadsEnd least ts value us
+end_read ts us least value n above =
     record {
       number = n.number;
       fits = n.fits;
       value_is = n.value_is;
       ordered = above;
-      goes = λ h column l e. n.goes h (end_of column l) (ap (below (Some l)) n.value_is ∙ below_of l value least false e above);
+      goes = λ names h column l e. n.goes names h (end_of column l) (ap (below (Some l)) n.value_is ∙ below_of l value least false e above);
     }
 
-pub end_refused : (names : Names) (ts us : List Placed) (least value : ℤ) → ReadsNumber names ts value us → int_lt value least ≡ true → FailsEnd names least ts (EmptyRange (first_place ts))
-end_refused names ts us least value n under h column l e = n.refused h (end_of column l) (ap (below (Some l)) n.value_is ∙ below_of l value least true e under)
-
--- what was taken, where the token is known
-pub taken_is : (ts : List Placed) (t : Taken) (k : code.Token) → ts ≡ taken t → t.token ≡ k → ts ≡ at_place (seen k) t.at ∷ behind_token k (ahead t.next)
-taken_is ts t k e f = e ∙ ap (λ (x : code.Token). at_place (seen x) t.at ∷ behind_token x (ahead t.next)) f
+pub end_refused : (ts us : List Placed) (least value : ℤ) → ReadsNumber ts value us → int_lt value least ≡ true → FailsEnd least ts (EmptyRange (first_place ts))
+end_refused ts us least value n under names h column l e = n.refused names h (end_of column l) (ap (below (Some l)) n.value_is ∙ below_of l value least true e under)
 
 -- what a `?` hands on
 pub err_exit : {T : Type 0} (r : Result T TermFault) (f : TermFault) (P : TermFault → Type 0) → IsErrAnd r (λ g. g ≡ f) → P f → IfErr r P
@@ -196,16 +216,13 @@ all_one P x h = All-cons P x [] h (All-nil P)
 pub cons_not_none : {A : Type 0} {x : A} {xs : List A} → (x ∷ xs) ≢ []
 cons_not_none h = cc
 
--- behind an entry of a list
+-- behind a number of a list
+list_goes_on : (h : UnaryHole) (l : NumberList) (some : List NumberText) (n : NumberText) → next (reading h (filled (list_hole l some) n)) (sign comma) ≡ Some (mark comma, reading h (number_due (list_hole l (some ++ n ∷ []))))
+list_goes_on h l [] n = refl
+list_goes_on h l (f ∷ os) n = refl
+
 list_closes : (h : UnaryHole) (l : NumberList) (first : NumberText) (others : List NumberText) (close : Sign) → closing l ≡ close → next (reading h (listed l first others)) (sign close) ≡ Some (mark close, stepped h (list_closed l first others))
 list_closes h l first others close e = subst (λ (s : Sign). next (reading h (listed l first others)) (sign s) ≡ Some (mark s, stepped h (list_closed l first others))) e (list_ends h l first others)
-
-list_goes_on : (h : UnaryHole) (l : NumberList) (some : List NumberText) (n : NumberText) (close : Sign) (more : Bool) → closing l ≡ close
-    → next (reading h (filled (list_hole l some) n)) (sign (list_sign close more)) ≡ Some (mark (list_sign close more), behind_number h l (some ++ n ∷ []) more)
-list_goes_on h l [] n close true e = refl
-list_goes_on h l (f ∷ os) n close true e = refl
-list_goes_on h l [] n close false e = list_closes h l n [] close e
-list_goes_on h l (f ∷ os) n close false e = list_closes h l f (os ++ n ∷ []) close e
 
 list_stuck : (h : UnaryHole) (l : NumberList) (some : List NumberText) (n : NumberText) (close : Sign) → closing l ≡ close → (u : Token) → u ≢ sign comma → u ≢ sign close → next (reading h (filled (list_hole l some) n)) u ≡ None
 list_stuck h l [] n close e u nc nr = listed_stuck h l n [] u nc (λ k. nr (k ∙ ap sign e))
@@ -216,58 +233,46 @@ list_plain : (l : NumberList) (some : List NumberText) (n : NumberText) → belo
 list_plain l [] n = refl
 list_plain l (f ∷ os) n = refl
 
-pub listed_read : (names : Names) (close : Sign) (ts us vs : List Placed) (value v : ℤ) (more : Bool) → ReadsNumber names ts value us → v ≡ value → Passes (sign (list_sign close more)) us vs → ReadsListed names close ts v more vs
-listed_read names close ts us vs value v more r e c =
-    record {
-      number = r.number;
-      fits = subst (FitsSigned w64) (sym e) r.fits;
-      value_is = r.value_is ∙ sym e;
-      goes = λ h l some k. goes_then names _ (reading h (filled (list_hole l some) r.number)) _ ts us vs (r.goes h (list_hole l some) (list_plain l some r.number))
-          (passes_goes names (sign (list_sign close more)) us vs _ _ (mark (list_sign close more)) c (list_goes_on h l some r.number close more k) refl);
-    }
-
-pub listed_fails : (names : Names) (close : Sign) (ts us : List Placed) (value : ℤ) (f : TermFault) → ReadsNumber names ts value us → IsOther (sign comma) us f → IsOther (sign close) us f → FailsListed names close ts f
-listed_fails names close ts us value f r nc nr h l some e =
-    goes_fails names _ (reading h (filled (list_hole l some) r.number)) ts us f (r.goes h (list_hole l some) (list_plain l some r.number))
-    (neither_fails names (sign comma) (sign close) us f _ nc nr (list_stuck h l some r.number close e))
-
-pub listed_number_fails : (names : Names) (close : Sign) (ts : List Placed) (f : TermFault) → FailsNumber names ts f → FailsListed names close ts f
-listed_number_fails names close ts f n h l some e = n h (list_hole l some)
-
 -- the first number is due
-pub some_none : (names : Names) (close : Sign) (ts : List Placed) → ReadsSome names close ts [] true ts
-some_none names close ts = record { some = []; fits = All-nil (FitsSigned w64); values_are = refl; goes = λ h l e p. (p, refl) }
+pub some_none : (close : Sign) (ts : List Placed) → ReadsSome close ts [] ts
+some_none close ts = record { some = []; fits = All-nil (FitsSigned w64); values_are = refl; goes = λ names h l e p. (p, refl) }
 
 pub mapped_more : {A B : Type 0} (f : A → B) (some : List A) (x : A) (values : List B) (v : B) → map f some ≡ values → f x ≡ v → map f (some ++ x ∷ []) ≡ values ++ v ∷ []
 mapped_more f some x values v e k = map-append f some (x ∷ []) ∙ (ap (λ ys. ys ++ f x ∷ []) e ∙ ap (λ y. values ++ y ∷ []) k)
 
-pub some_more : (names : Names) (close : Sign) (ts us vs : List Placed) (values : List ℤ) (v : ℤ) (more : Bool) → ReadsSome names close ts values true us → ReadsListed names close us v more vs → ReadsSome names close ts (values ++ v ∷ []) more vs
-some_more names close ts us vs values v more r n =
-    record {
-      some = r.some ++ n.number ∷ [];
-      fits = All-append (FitsSigned w64) values (v ∷ []) r.fits (all_one (FitsSigned w64) v n.fits);
-      values_are = mapped_more number_value r.some n.number values v r.values_are n.value_is;
-      goes = λ h l e. goes_then names _ _ _ ts us vs (r.goes h l e) (n.goes h l r.some e);
-    }
+-- one number more, and the sign behind it
+module _ (close : Sign) (ts us vs : List Placed) (values : List ℤ) (v : ℤ) (r : ReadsSome close ts values us) (n : ReadsNumber us v vs) where
+  all_fit : All (FitsSigned w64) (values ++ v ∷ [])
+  all_fit = All-append (FitsSigned w64) values (v ∷ []) r.fits (all_one (FitsSigned w64) v n.fits)
 
-pub some_fails : (names : Names) (close : Sign) (ts us : List Placed) (values : List ℤ) (f : TermFault) → ReadsSome names close ts values true us → FailsListed names close us f → FailsNumbers names close ts f
-some_fails names close ts us values f r n h l e = goes_fails names _ _ ts us f (r.goes h l e) (n h l r.some e)
+  all_goes : (names : Names) (h : UnaryHole) (l : NumberList) → closing l ≡ close → Goes names (reading h (number_due (first_of l))) ts (reading h (filled (list_hole l r.some) n.number)) vs
+  all_goes names h l e = goes_then names _ _ _ ts us vs (r.goes names h l e) (n.goes names h (list_hole l r.some) (list_plain l r.some n.number))
 
--- the last number ends a list that has one
-pub some_all : (names : Names) (close : Sign) (ts us vs : List Placed) (values : List ℤ) (v : ℤ) → ReadsSome names close ts values true us → ReadsListed names close us v false vs → ReadsNumbers names close ts (values ++ v ∷ []) vs
-unfolding some_more
-some_all names close ts us vs values v r n = let all = some_more names close ts us vs values v false r n in go r.some all.fits all.values_are all.goes
-  where
-    go : (some : List NumberText) → All (FitsSigned w64) (values ++ v ∷ []) → map number_value (some ++ n.number ∷ []) ≡ values ++ v ∷ []
-        → ((h : UnaryHole) (l : NumberList) → closing l ≡ close → Goes names (reading h (number_due (first_of l))) ts (behind_number h l (some ++ n.number ∷ []) false) vs) → ReadsNumbers names close ts (values ++ v ∷ []) vs
-    go [] fits e goes = record { first = n.number; others = []; fits = fits; values_are = e; goes = goes }
-    go (f ∷ os) fits e goes = record { first = f; others = os ++ n.number ∷ []; fits = fits; values_are = e; goes = goes }
+  pub some_more : (ws : List Placed) → Passes (sign comma) vs ws → ReadsSome close ts (values ++ v ∷ []) ws
+  some_more ws c =
+      record {
+        some = r.some ++ n.number ∷ [];
+        fits = all_fit;
+        values_are = mapped_more number_value r.some n.number values v r.values_are n.value_is;
+        goes = λ names h l e. sign_behind names ts vs ws _ _ _ comma (all_goes names h l e) c (list_goes_on h l r.some n.number);
+      }
+
+  pub some_all : (ws : List Placed) → Passes (sign close) vs ws → ReadsNumbers close ts (values ++ v ∷ []) ws
+  unfolding all_goes
+  some_all ws c = go r.some (mapped_more number_value r.some n.number values v r.values_are n.value_is) all_goes
+    where
+      go : (some : List NumberText) → map number_value (some ++ n.number ∷ []) ≡ values ++ v ∷ []
+          → ((names : Names) (h : UnaryHole) (l : NumberList) → closing l ≡ close → Goes names (reading h (number_due (first_of l))) ts (reading h (filled (list_hole l some) n.number)) vs) → ReadsNumbers close ts (values ++ v ∷ []) ws
+      go [] e goes = record { first = n.number; others = []; fits = all_fit; values_are = e; goes = λ names h l k. sign_behind names ts vs ws _ _ _ close (goes names h l k) c (list_closes h l n.number [] close k) }
+      go (f ∷ os) e goes = record { first = f; others = os ++ n.number ∷ []; fits = all_fit; values_are = e; goes = λ names h l k. sign_behind names ts vs ws _ _ _ close (goes names h l k) c (list_closes h l f (os ++ n.number ∷ []) close k) }
+
+  pub some_stuck : (f : TermFault) → NotNext (sign close) vs → IsOther (sign comma) vs f → FailsNumbers close ts f
+  some_stuck f nr nc names h l e = goes_fails names _ _ ts vs f (all_goes names h l e) (neither_fails names (sign comma) (sign close) vs f _ nc nr (list_stuck h l r.some n.number close e))
+
+pub some_fails : (close : Sign) (ts us : List Placed) (values : List ℤ) (f : TermFault) → ReadsSome close ts values us → FailsNumber us f → FailsNumbers close ts f
+some_fails close ts us values f r n names h l e = goes_fails names _ _ ts us f (r.goes names h l e) (n names h (list_hole l r.some))
 
 -- ---- base terms
-
--- a sign behind a part
-pub sign_behind : (names : Names) (ts us vs : List Placed) (s m n : State) (g : Sign) → Goes names s ts m us → Passes (sign g) us vs → next m (sign g) ≡ Some (mark g, n) → Goes names s ts n vs
-sign_behind names ts us vs s m n g h c e = goes_then names s m n ts us vs h (passes_goes names (sign g) us vs m n (mark g) c e refl)
 
 pub column_is : (names : Names) (letters : List ℕ) (col : ℕ) → column_of names letters ≡ Some col → column_at names letters ≡ col
 column_is names letters col h = ap (λ o. unwrap_or o 0) h
@@ -290,23 +295,23 @@ high_read names ts us vs col r c =
       goes = λ h. sign_behind names ts us vs _ _ (completed h (based (high_text r.letters))) right (r.goes h high_kind) c refl;
     }
 
-pub around_read : (names : Names) (ts us vs ws xs : List Placed) (col : ℕ) (centre : ℤ) → ReadsOpened names ts col us → Passes (sign comma) us vs → ReadsNumber names vs centre ws → Passes (sign right) ws xs → ReadsBase names around_kind ts (scored (around col centre)) xs
+pub around_read : (names : Names) (ts us vs ws xs : List Placed) (col : ℕ) (centre : ℤ) → ReadsOpened names ts col us → Passes (sign comma) us vs → ReadsNumber vs centre ws → Passes (sign right) ws xs → ReadsBase names around_kind ts (scored (around col centre)) xs
 around_read names ts us vs ws xs col centre r c n d =
     record {
       tree = around_text r.letters n.number;
       meaning = ap (λ i. scored (around i (number_value n.number))) (column_is names r.letters col r.found.place) ∙ ap (λ v. scored (around col v)) n.value_is;
       known = (r.found.known, n.fits);
       goes = λ h. sign_behind names ts ws xs _ _ (completed h (based (around_text r.letters n.number))) right
-          (goes_then names _ _ _ ts vs ws (sign_behind names ts us vs _ _ (reading h (number_due (centre_of r.letters))) comma (r.goes h around_kind) c refl) (n.goes h (centre_of r.letters) refl)) d refl;
+          (goes_then names _ _ _ ts vs ws (sign_behind names ts us vs _ _ (reading h (number_due (centre_of r.letters))) comma (r.goes h around_kind) c refl) (n.goes names h (centre_of r.letters) refl)) d refl;
     }
 
 -- up to the left end of a range, and the comma behind it
-range_goes : (names : Names) (ts us vs ws xs : List Placed) (col : ℕ) (l : ℤ) (r : ReadsOpened names ts col us) → Passes (sign comma) us vs → (n : ReadsNumber names vs l ws) → Passes (sign comma) ws xs → (h : UnaryHole) → Goes names (reading h (named between_kind)) ts (reading h (number_due (end_of r.letters n.number))) xs
+range_goes : (names : Names) (ts us vs ws xs : List Placed) (col : ℕ) (l : ℤ) (r : ReadsOpened names ts col us) → Passes (sign comma) us vs → (n : ReadsNumber vs l ws) → Passes (sign comma) ws xs → (h : UnaryHole) → Goes names (reading h (named between_kind)) ts (reading h (number_due (end_of r.letters n.number))) xs
 range_goes names ts us vs ws xs col l r c n d h =
     sign_behind names ts ws xs _ _ (reading h (number_due (end_of r.letters n.number))) comma
-    (goes_then names _ _ _ ts vs ws (sign_behind names ts us vs _ _ (reading h (number_due (start_of r.letters))) comma (r.goes h between_kind) c refl) (n.goes h (start_of r.letters) refl)) d refl
+    (goes_then names _ _ _ ts vs ws (sign_behind names ts us vs _ _ (reading h (number_due (start_of r.letters))) comma (r.goes h between_kind) c refl) (n.goes names h (start_of r.letters) refl)) d refl
 
-pub between_read : (names : Names) (ts us vs ws xs ys zs : List Placed) (col : ℕ) (l r : ℤ) → ReadsOpened names ts col us → Passes (sign comma) us vs → ReadsNumber names vs l ws → Passes (sign comma) ws xs → ReadsEnd names l xs r ys → Passes (sign right) ys zs → ReadsBase names between_kind ts (scored (between col l r)) zs
+pub between_read : (names : Names) (ts us vs ws xs ys zs : List Placed) (col : ℕ) (l r : ℤ) → ReadsOpened names ts col us → Passes (sign comma) us vs → ReadsNumber vs l ws → Passes (sign comma) ws xs → ReadsEnd l xs r ys → Passes (sign right) ys zs → ReadsBase names between_kind ts (scored (between col l r)) zs
 between_read names ts us vs ws xs ys zs col l r o c n d m e =
     record {
       tree = between_text o.letters n.number m.number;
@@ -314,16 +319,16 @@ between_read names ts us vs ws xs ys zs col l r o c n d m e =
           ∙ (ap (λ v. scored (between col v (number_value m.number))) n.value_is ∙ ap (λ v. scored (between col l v)) m.value_is);
       known = (o.found.known, (n.fits, m.fits, m.ordered));
       goes = λ h. sign_behind names ts ys zs _ _ (completed h (based (between_text o.letters n.number m.number))) right
-          (goes_then names _ _ _ ts xs ys (range_goes names ts us vs ws xs col l o c n d h) (m.goes h o.letters n.number n.value_is)) e refl;
+          (goes_then names _ _ _ ts xs ys (range_goes names ts us vs ws xs col l o c n d h) (m.goes names h o.letters n.number n.value_is)) e refl;
     }
 
-pub pos_read : (names : Names) (ts us vs ws : List Placed) (col : ℕ) (set : List ℤ) → ReadsOpened names ts col us → Passes (sign comma) us vs → ReadsNumbers names right vs set ws → ReadsBase names pos_kind ts (scored (one_of col set)) ws
+pub pos_read : (names : Names) (ts us vs ws : List Placed) (col : ℕ) (set : List ℤ) → ReadsOpened names ts col us → Passes (sign comma) us vs → ReadsNumbers right vs set ws → ReadsBase names pos_kind ts (scored (one_of col set)) ws
 pos_read names ts us vs ws col set r c n =
     record {
       tree = pos_text r.letters n.first n.others;
       meaning = ap (λ i. scored (one_of i (number_value n.first ∷ map number_value n.others))) (column_is names r.letters col r.found.place) ∙ ap (λ v. scored (one_of col v)) n.values_are;
       known = (r.found.known, (subst (λ (set : List ℤ). set ≢ []) n.values_are cons_not_none, n.fits));
-      goes = λ h. goes_then names _ _ _ ts vs ws (sign_behind names ts us vs _ _ (reading h (number_due (first_of (in_pos r.letters)))) comma (r.goes h pos_kind) c refl) (n.goes h (in_pos r.letters) refl);
+      goes = λ h. goes_then names _ _ _ ts vs ws (sign_behind names ts us vs _ _ (reading h (number_due (first_of (in_pos r.letters)))) comma (r.goes h pos_kind) c refl) (n.goes names h (in_pos r.letters) refl);
     }
 
 -- and their faults
@@ -336,14 +341,14 @@ high_fails names ts us col f r o h = goes_fails names _ _ ts us f (r.goes h high
 pub around_fails : (names : Names) (ts us : List Placed) (col : ℕ) (f : TermFault) → ReadsOpened names ts col us → IsOther (sign comma) us f → FailsBase names around_kind ts f
 around_fails names ts us col f r o h = goes_fails names _ _ ts us f (r.goes h around_kind) (other_fails names (sign comma) us f _ o (around_goes_on h r.letters))
 
-pub around_number_fails : (names : Names) (ts us vs : List Placed) (col : ℕ) (f : TermFault) → ReadsOpened names ts col us → Passes (sign comma) us vs → FailsNumber names vs f → FailsBase names around_kind ts f
+pub around_number_fails : (names : Names) (ts us vs : List Placed) (col : ℕ) (f : TermFault) → ReadsOpened names ts col us → Passes (sign comma) us vs → FailsNumber vs f → FailsBase names around_kind ts f
 around_number_fails names ts us vs col f r c n h =
-    goes_fails names _ _ ts vs f (sign_behind names ts us vs _ _ (reading h (number_due (centre_of r.letters))) comma (r.goes h around_kind) c refl) (n h (centre_of r.letters))
+    goes_fails names _ _ ts vs f (sign_behind names ts us vs _ _ (reading h (number_due (centre_of r.letters))) comma (r.goes h around_kind) c refl) (n names h (centre_of r.letters))
 
-pub around_end_fails : (names : Names) (ts us vs ws : List Placed) (col : ℕ) (centre : ℤ) (f : TermFault) → ReadsOpened names ts col us → Passes (sign comma) us vs → ReadsNumber names vs centre ws → IsOther (sign right) ws f → FailsBase names around_kind ts f
+pub around_end_fails : (names : Names) (ts us vs ws : List Placed) (col : ℕ) (centre : ℤ) (f : TermFault) → ReadsOpened names ts col us → Passes (sign comma) us vs → ReadsNumber vs centre ws → IsOther (sign right) ws f → FailsBase names around_kind ts f
 around_end_fails names ts us vs ws col centre f r c n o h =
     goes_fails names _ _ ts ws f
-    (goes_then names _ _ _ ts vs ws (sign_behind names ts us vs _ _ (reading h (number_due (centre_of r.letters))) comma (r.goes h around_kind) c refl) (n.goes h (centre_of r.letters) refl))
+    (goes_then names _ _ _ ts vs ws (sign_behind names ts us vs _ _ (reading h (number_due (centre_of r.letters))) comma (r.goes h around_kind) c refl) (n.goes names h (centre_of r.letters) refl))
     (other_fails names (sign right) ws f _ o (around_closes h r.letters n.number))
 
 pub between_goes_on : (h : UnaryHole) (column : List ℕ) (u : Token) → u ≢ sign comma → next (reading h (columned between_kind column)) u ≡ None
@@ -361,28 +366,28 @@ range_closes h column l r _ ne = refl
 pub between_fails : (names : Names) (ts us : List Placed) (col : ℕ) (f : TermFault) → ReadsOpened names ts col us → IsOther (sign comma) us f → FailsBase names between_kind ts f
 between_fails names ts us col f r o h = goes_fails names _ _ ts us f (r.goes h between_kind) (other_fails names (sign comma) us f _ o (between_goes_on h r.letters))
 
-pub between_left_fails : (names : Names) (ts us vs : List Placed) (col : ℕ) (f : TermFault) → ReadsOpened names ts col us → Passes (sign comma) us vs → FailsNumber names vs f → FailsBase names between_kind ts f
+pub between_left_fails : (names : Names) (ts us vs : List Placed) (col : ℕ) (f : TermFault) → ReadsOpened names ts col us → Passes (sign comma) us vs → FailsNumber vs f → FailsBase names between_kind ts f
 between_left_fails names ts us vs col f r c n h =
-    goes_fails names _ _ ts vs f (sign_behind names ts us vs _ _ (reading h (number_due (start_of r.letters))) comma (r.goes h between_kind) c refl) (n h (start_of r.letters))
+    goes_fails names _ _ ts vs f (sign_behind names ts us vs _ _ (reading h (number_due (start_of r.letters))) comma (r.goes h between_kind) c refl) (n names h (start_of r.letters))
 
-pub between_comma_fails : (names : Names) (ts us vs ws : List Placed) (col : ℕ) (l : ℤ) (f : TermFault) → ReadsOpened names ts col us → Passes (sign comma) us vs → ReadsNumber names vs l ws → IsOther (sign comma) ws f → FailsBase names between_kind ts f
+pub between_comma_fails : (names : Names) (ts us vs ws : List Placed) (col : ℕ) (l : ℤ) (f : TermFault) → ReadsOpened names ts col us → Passes (sign comma) us vs → ReadsNumber vs l ws → IsOther (sign comma) ws f → FailsBase names between_kind ts f
 between_comma_fails names ts us vs ws col l f r c n o h =
     goes_fails names _ _ ts ws f
-    (goes_then names _ _ _ ts vs ws (sign_behind names ts us vs _ _ (reading h (number_due (start_of r.letters))) comma (r.goes h between_kind) c refl) (n.goes h (start_of r.letters) refl))
+    (goes_then names _ _ _ ts vs ws (sign_behind names ts us vs _ _ (reading h (number_due (start_of r.letters))) comma (r.goes h between_kind) c refl) (n.goes names h (start_of r.letters) refl))
     (other_fails names (sign comma) ws f _ o (ranged_goes_on h r.letters n.number))
 
-pub between_right_fails : (names : Names) (ts us vs ws xs : List Placed) (col : ℕ) (l : ℤ) (f : TermFault) → ReadsOpened names ts col us → Passes (sign comma) us vs → ReadsNumber names vs l ws → Passes (sign comma) ws xs → FailsEnd names l xs f → FailsBase names between_kind ts f
+pub between_right_fails : (names : Names) (ts us vs ws xs : List Placed) (col : ℕ) (l : ℤ) (f : TermFault) → ReadsOpened names ts col us → Passes (sign comma) us vs → ReadsNumber vs l ws → Passes (sign comma) ws xs → FailsEnd l xs f → FailsBase names between_kind ts f
 between_right_fails names ts us vs ws xs col l f r c n d m h =
-    goes_fails names _ _ ts xs f (range_goes names ts us vs ws xs col l r c n d h) (m h r.letters n.number n.value_is)
+    goes_fails names _ _ ts xs f (range_goes names ts us vs ws xs col l r c n d h) (m names h r.letters n.number n.value_is)
 
-pub between_end_fails : (names : Names) (ts us vs ws xs ys : List Placed) (col : ℕ) (l r : ℤ) (f : TermFault) → ReadsOpened names ts col us → Passes (sign comma) us vs → ReadsNumber names vs l ws → Passes (sign comma) ws xs → ReadsEnd names l xs r ys → IsOther (sign right) ys f → FailsBase names between_kind ts f
+pub between_end_fails : (names : Names) (ts us vs ws xs ys : List Placed) (col : ℕ) (l r : ℤ) (f : TermFault) → ReadsOpened names ts col us → Passes (sign comma) us vs → ReadsNumber vs l ws → Passes (sign comma) ws xs → ReadsEnd l xs r ys → IsOther (sign right) ys f → FailsBase names between_kind ts f
 between_end_fails names ts us vs ws xs ys col l r f o c n d m e h =
-    goes_fails names _ _ ts ys f (goes_then names _ _ _ ts xs ys (range_goes names ts us vs ws xs col l o c n d h) (m.goes h o.letters n.number n.value_is))
+    goes_fails names _ _ ts ys f (goes_then names _ _ _ ts xs ys (range_goes names ts us vs ws xs col l o c n d h) (m.goes names h o.letters n.number n.value_is))
     (other_fails names (sign right) ys f _ e (range_closes h o.letters n.number m.number))
 
 pub pos_fails : (names : Names) (ts us : List Placed) (col : ℕ) (f : TermFault) → ReadsOpened names ts col us → IsOther (sign comma) us f → FailsBase names pos_kind ts f
 pos_fails names ts us col f r o h = goes_fails names _ _ ts us f (r.goes h pos_kind) (other_fails names (sign comma) us f _ o (pos_goes_on h r.letters))
 
-pub pos_numbers_fails : (names : Names) (ts us vs : List Placed) (col : ℕ) (f : TermFault) → ReadsOpened names ts col us → Passes (sign comma) us vs → FailsNumbers names right vs f → FailsBase names pos_kind ts f
+pub pos_numbers_fails : (names : Names) (ts us vs : List Placed) (col : ℕ) (f : TermFault) → ReadsOpened names ts col us → Passes (sign comma) us vs → FailsNumbers right vs f → FailsBase names pos_kind ts f
 pos_numbers_fails names ts us vs col f r c n h =
-    goes_fails names _ _ ts vs f (sign_behind names ts us vs _ _ (reading h (number_due (first_of (in_pos r.letters)))) comma (r.goes h pos_kind) c refl) (n h (in_pos r.letters) refl)
+    goes_fails names _ _ ts vs f (sign_behind names ts us vs _ _ (reading h (number_due (first_of (in_pos r.letters)))) comma (r.goes h pos_kind) c refl) (n names h (in_pos r.letters) refl)

@@ -1,13 +1,13 @@
 -- No public contract cites this.
 -- What each part of the reader promises: where reading comes to, or the fault that it reports. (this project)
-use Rattle.std.specs.Prelude.{◌≡◌, ◌≢◌, ◌<◌, ◌+◌, ℕ, ℤ, List, [], ◌∷◌, ◌++◌, length, All, FitsSigned, IfSome, Bool, true, false, map, Ok, Err, Option, Some, None, int_lt}
+use Rattle.std.specs.Prelude.{◌≡◌, ◌≢◌, ◌<◌, ◌+◌, ℕ, ℤ, List, [], ◌∷◌, length, All, FitsSigned, IfSome, Bool, true, false, map, Ok, Err, Option, Some, None, int_lt}
 use Rattle.std.specs.Int.{w64}
 use Rattle.std.specs.Str.Parse.{digits_value}
 use Rattle.pref_table.specs.Columns.{column_of}
-use Rattle.pref_term.specs.Token.{star, ampersand, Token, word, digits, sign, Placed, Sign, comma}
+use Rattle.pref_term.specs.Token.{star, ampersand, Token, word, digits, sign, Placed, Sign}
 use Rattle.pref_term.specs.Grammar.{based, grouped, reversed, NumberText, BaseText, UnaryText, ProductText, PriorText, HeadText, DimText, Direction, minimal, maximal, different, direction_word, cased_of, of_word, rated, skyline, column_name, count_digits, layered_text, SetText}
 use Rattle.pref_term.specs.Spells.{Names, UnlessMemory, number_value, column_at, base_meaning, unary_meaning, product_meaning, prior_meaning, product_of, orders_of, groups_of, below, empty_range, set_value}
-use Rattle.pref_term.specs.Reading.{BaseKind, named, columned, NumberHole, first_of, next_of, number_due, filled, UnaryHole, ProductHole, PriorHole, whole, in_group, in_reverse, in_whole, first_factor, first_product, unary_depth, product_depth, prior_depth, State, start, operand, reverse_named, reading, after, group_due, skyline_named, dim_due, dim_named, done, completed, ranked, next, run, least_of, end_of, range_ended, stepped, NumberList, closing, list_closed, set_due}
+use Rattle.pref_term.specs.Reading.{BaseKind, named, columned, NumberHole, first_of, next_of, number_due, filled, UnaryHole, ProductHole, PriorHole, whole, in_group, in_reverse, in_whole, first_factor, first_product, unary_depth, product_depth, prior_depth, State, start, operand, reverse_named, reading, after, group_due, skyline_named, dim_due, listed_dim, dim_named, completed, ranked, next, run, least_of, end_of, range_ended, stepped, NumberList, closing, list_closed, set_due}
 use Rattle.pref_term.specs.Asked.{meant}
 use Rattle.pref_term.specs.Distinct.{plain, says_distinct}
 use Rattle.pref_term.specs.Preference.{Base, low, high, Preference, scored, pareto, prior, reverse}
@@ -97,113 +97,70 @@ abbrev pub first_place : List Placed → ℕ
 first_place [] = 0
 first_place (t ∷ ts) = t.place
 
-pub record ReadsNumber (names : Names) (ts : List Placed) (value : ℤ) (us : List Placed) : Type 0 where
+pub record ReadsNumber (ts : List Placed) (value : ℤ) (us : List Placed) : Type 0 where
   pub number : NumberText
   pub fits : FitsSigned w64 value
   pub value_is : number_value number ≡ value
-  pub goes : (h : UnaryHole) (hole : NumberHole) → below (least_of hole) (number_value number) ≡ None → Goes names (reading h (number_due hole)) ts (reading h (filled hole number)) us
-  pub refused : (h : UnaryHole) (hole : NumberHole) → below (least_of hole) (number_value number) ≡ Some empty_range → Fails names (reading h (number_due hole)) ts (EmptyRange (first_place ts))
+  pub goes : (names : Names) (h : UnaryHole) (hole : NumberHole) → below (least_of hole) (number_value number) ≡ None → Goes names (reading h (number_due hole)) ts (reading h (filled hole number)) us
+  pub refused : (names : Names) (h : UnaryHole) (hole : NumberHole) → below (least_of hole) (number_value number) ≡ Some empty_range → Fails names (reading h (number_due hole)) ts (EmptyRange (first_place ts))
 
 -- the right end of a range, which is no less than its left end
-pub record ReadsEnd (names : Names) (least : ℤ) (ts : List Placed) (value : ℤ) (us : List Placed) : Type 0 where
+pub record ReadsEnd (least : ℤ) (ts : List Placed) (value : ℤ) (us : List Placed) : Type 0 where
   pub number : NumberText
   pub fits : FitsSigned w64 value
   pub value_is : number_value number ≡ value
   pub ordered : int_lt value least ≡ false
-  pub goes : (h : UnaryHole) (column : List ℕ) (lower : NumberText) → number_value lower ≡ least → Goes names (reading h (number_due (end_of column lower))) ts (reading h (range_ended column lower number)) us
+  pub goes : (names : Names) (h : UnaryHole) (column : List ℕ) (lower : NumberText) → number_value lower ≡ least → Goes names (reading h (number_due (end_of column lower))) ts (reading h (range_ended column lower number)) us
 
-abbrev pub FailsEnd : Names → ℤ → List Placed → TermFault → Type 0
-FailsEnd names least ts f = (h : UnaryHole) (column : List ℕ) (lower : NumberText) → number_value lower ≡ least → Fails names (reading h (number_due (end_of column lower))) ts f
-
--- behind an entry of a list: a comma where more are due, else the sign that closes the list
-abbrev pub list_sign : (close : Sign) (more : Bool) → Sign
-list_sign close true = comma
-list_sign close false = close
+abbrev pub FailsEnd : ℤ → List Placed → TermFault → Type 0
+FailsEnd least ts f = (names : Names) (h : UnaryHole) (column : List ℕ) (lower : NumberText) → number_value lower ≡ least → Fails names (reading h (number_due (end_of column lower))) ts f
 
 -- where the next number of a list is, behind some
 abbrev pub list_hole : NumberList → List NumberText → NumberHole
 list_hole l [] = first_of l
 list_hole l (first ∷ others) = next_of l first others
 
--- behind all numbers of a list, which has one
-abbrev pub behind_list : UnaryHole → NumberList → List NumberText → State
-behind_list h l [] = reading h (number_due (first_of l))
-behind_list h l (first ∷ others) = stepped h (list_closed l first others)
-
--- behind a number of a list: more are due, or the list is whole
-abbrev pub behind_number : UnaryHole → NumberList → List NumberText → Bool → State
-behind_number h l some true = reading h (number_due (list_hole l some))
-behind_number h l some false = behind_list h l some
-
-pub record ReadsListed (names : Names) (close : Sign) (ts : List Placed) (value : ℤ) (more : Bool) (us : List Placed) : Type 0 where
-  pub number : NumberText
-  pub fits : FitsSigned w64 value
-  pub value_is : number_value number ≡ value
-  pub goes : (h : UnaryHole) (l : NumberList) (some : List NumberText) → closing l ≡ close → Goes names (reading h (number_due (list_hole l some))) ts (behind_number h l (some ++ number ∷ []) more) us
-
-abbrev pub FailsListed : Names → (close : Sign) → List Placed → TermFault → Type 0
-FailsListed names close ts f = (h : UnaryHole) (l : NumberList) (some : List NumberText) → closing l ≡ close → Fails names (reading h (number_due (list_hole l some))) ts f
-
--- some numbers of a list, and whether more are due
-pub record ReadsSome (names : Names) (close : Sign) (ts : List Placed) (values : List ℤ) (more : Bool) (us : List Placed) : Type 0 where
+-- some numbers of a list, behind which one more is due
+pub record ReadsSome (close : Sign) (ts : List Placed) (values : List ℤ) (us : List Placed) : Type 0 where
   pub some : List NumberText
   pub fits : All (FitsSigned w64) values
   pub values_are : map number_value some ≡ values
-  pub goes : (h : UnaryHole) (l : NumberList) → closing l ≡ close → Goes names (reading h (number_due (first_of l))) ts (behind_number h l some more) us
+  pub goes : (names : Names) (h : UnaryHole) (l : NumberList) → closing l ≡ close → Goes names (reading h (number_due (first_of l))) ts (reading h (number_due (list_hole l some))) us
 
 -- the numbers of a list, and the sign that closes it
-pub record ReadsNumbers (names : Names) (close : Sign) (ts : List Placed) (values : List ℤ) (us : List Placed) : Type 0 where
+pub record ReadsNumbers (close : Sign) (ts : List Placed) (values : List ℤ) (us : List Placed) : Type 0 where
   pub first : NumberText
   pub others : List NumberText
   pub fits : All (FitsSigned w64) values
   pub values_are : number_value first ∷ map number_value others ≡ values
-  pub goes : (h : UnaryHole) (l : NumberList) → closing l ≡ close → Goes names (reading h (number_due (first_of l))) ts (stepped h (list_closed l first others)) us
+  pub goes : (names : Names) (h : UnaryHole) (l : NumberList) → closing l ≡ close → Goes names (reading h (number_due (first_of l))) ts (stepped h (list_closed l first others)) us
 
 abbrev pub FailsOpened : Names → List Placed → TermFault → Type 0
 FailsOpened names ts f = (h : UnaryHole) (k : BaseKind) → Fails names (reading h (named k)) ts f
 
-abbrev pub FailsNumber : Names → List Placed → TermFault → Type 0
-FailsNumber names ts f = (h : UnaryHole) (hole : NumberHole) → Fails names (reading h (number_due hole)) ts f
+abbrev pub FailsNumber : List Placed → TermFault → Type 0
+FailsNumber ts f = (names : Names) (h : UnaryHole) (hole : NumberHole) → Fails names (reading h (number_due hole)) ts f
 
-abbrev pub FailsNumbers : Names → (close : Sign) → List Placed → TermFault → Type 0
-FailsNumbers names close ts f = (h : UnaryHole) (l : NumberList) → closing l ≡ close → Fails names (reading h (number_due (first_of l))) ts f
+abbrev pub FailsNumbers : (close : Sign) → List Placed → TermFault → Type 0
+FailsNumbers close ts f = (names : Names) (h : UnaryHole) (l : NumberList) → closing l ≡ close → Fails names (reading h (number_due (first_of l))) ts f
 
--- behind all sets of `layered`, which has one
-abbrev pub behind_sets : UnaryHole → List ℕ → List SetText → State
-behind_sets h column [] = reading h (set_due column [])
-behind_sets h column (first ∷ others) = completed h (based (layered_text column first others))
-
--- behind a set of `layered`: more are due, or the term is whole
-abbrev pub behind_set : UnaryHole → List ℕ → List SetText → Bool → State
-behind_set h column sets true = reading h (set_due column sets)
-behind_set h column sets false = behind_sets h column sets
-
-pub record ReadsSet (names : Names) (ts : List Placed) (set : List ℤ) (more : Bool) (us : List Placed) : Type 0 where
-  pub text : SetText
-  pub fits : IsWritableSet set
-  pub value_is : set_value text ≡ set
-  pub goes : (h : UnaryHole) (column : List ℕ) (some : List SetText) → Goes names (reading h (set_due column some)) ts (behind_set h column (some ++ text ∷ []) more) us
-
-abbrev pub FailsSet : Names → List Placed → TermFault → Type 0
-FailsSet names ts f = (h : UnaryHole) (column : List ℕ) (some : List SetText) → Fails names (reading h (set_due column some)) ts f
-
--- some sets of `layered`, and whether more are due
-pub record ReadsSomeSets (names : Names) (ts : List Placed) (sets : List (List ℤ)) (more : Bool) (us : List Placed) : Type 0 where
+-- some sets of `layered`, behind which one more is due
+pub record ReadsSomeSets (ts : List Placed) (sets : List (List ℤ)) (us : List Placed) : Type 0 where
   pub some : List SetText
   pub fits : All IsWritableSet sets
   pub values_are : map set_value some ≡ sets
-  pub goes : (h : UnaryHole) (column : List ℕ) → Goes names (reading h (set_due column [])) ts (behind_set h column some more) us
+  pub goes : (names : Names) (h : UnaryHole) (column : List ℕ) → Goes names (reading h (set_due column [])) ts (reading h (set_due column some)) us
 
 -- the sets of `layered`, and the parenthesis behind them
-pub record ReadsSets (names : Names) (ts : List Placed) (sets : List (List ℤ)) (us : List Placed) : Type 0 where
+pub record ReadsSets (ts : List Placed) (sets : List (List ℤ)) (us : List Placed) : Type 0 where
   pub first : SetText
   pub others : List SetText
   pub fits : All IsWritableSet sets
   pub values_are : set_value first ∷ map set_value others ≡ sets
-  pub goes : (h : UnaryHole) (column : List ℕ) → Goes names (reading h (set_due column [])) ts (completed h (based (layered_text column first others))) us
+  pub goes : (names : Names) (h : UnaryHole) (column : List ℕ) → Goes names (reading h (set_due column [])) ts (completed h (based (layered_text column first others))) us
 
-abbrev pub FailsSets : Names → List Placed → TermFault → Type 0
-FailsSets names ts f = (h : UnaryHole) (column : List ℕ) → Fails names (reading h (set_due column [])) ts f
+abbrev pub FailsSets : List Placed → TermFault → Type 0
+FailsSets ts f = (names : Names) (h : UnaryHole) (column : List ℕ) → Fails names (reading h (set_due column [])) ts f
 
 -- a base term behind its word
 pub record ReadsBase (names : Names) (k : BaseKind) (ts : List Placed) (p : Preference) (us : List Placed) : Type 0 where
@@ -306,30 +263,19 @@ pub record TakesCount (ts : List Placed) (k : ℕ) (us : List Placed) : Type 0 w
 abbrev pub FailsCount : List Placed → TermFault → Type 0
 FailsCount ts f = (names : Names) (s : State) (head : List ℕ → HeadText) → WantsCount s head → Fails names s ts f
 
--- what is left when more is due; the end leaves nothing
-abbrev pub left_over : Bool → List Placed → List Placed
-left_over true us = us
-left_over false us = []
-
--- behind a column of a group: more are due, or the question is whole
-abbrev pub behind_column : HeadText → PriorText → List (List ℕ) → Bool → State
-behind_column head r some true = group_due head r some
-behind_column head r some false = done (rated head r some)
-
-pub record ReadsGroupColumn (names : Names) (ts : List Placed) (col : ℕ) (more : Bool) (us : List Placed) : Type 0 where
-  pub letters : List ℕ
-  pub found : IsColumn names letters col
-  pub goes : (head : HeadText) (r : PriorText) (some : List (List ℕ)) → Goes names (group_due head r some) ts (behind_column head r (some ++ letters ∷ []) more) (left_over more us)
-
-abbrev pub FailsGroupColumn : Names → List Placed → TermFault → Type 0
-FailsGroupColumn names ts f = (head : HeadText) (r : PriorText) (some : List (List ℕ)) → Fails names (group_due head r some) ts f
-
--- some columns of a group, and whether more are due
-pub record ReadsColumns (names : Names) (ts : List Placed) (columns : List ℕ) (more : Bool) (us : List Placed) : Type 0 where
+-- some columns of a group, behind which one more is due
+pub record ReadsSomeColumns (names : Names) (ts : List Placed) (columns : List ℕ) (us : List Placed) : Type 0 where
   pub some : List (List ℕ)
   pub meaning : map (column_at names) some ≡ columns
   pub known : All (IsKnown names) columns
-  pub goes : (head : HeadText) (r : PriorText) → Goes names (group_due head r []) ts (behind_column head r some more) (left_over more us)
+  pub goes : (head : HeadText) (r : PriorText) → Goes names (group_due head r []) ts (group_due head r some) us
+
+-- the columns of a group, and the end
+pub record ReadsColumns (names : Names) (ts : List Placed) (columns : List ℕ) : Type 0 where
+  pub some : List (List ℕ)
+  pub meaning : map (column_at names) some ≡ columns
+  pub known : All (IsKnown names) columns
+  pub goes : (head : HeadText) (r : PriorText) (p : ℕ) → run names ts p (group_due head r []) ≡ Ok (rated head r some)
 
 abbrev pub FailsColumns : Names → List Placed → TermFault → Type 0
 FailsColumns names ts f = (head : HeadText) (r : PriorText) → Fails names (group_due head r []) ts f
@@ -353,17 +299,12 @@ pub record TakesDirection (ts : List Placed) (direction : Direction) (us : List 
 abbrev pub FailsDirection : List Placed → TermFault → Type 0
 FailsDirection ts f = (names : Names) (s o : List ℕ) (dims : List DimText) (column : List ℕ) → Fails names (dim_named s o dims column) ts f
 
--- behind a dimension: more are due, or the clause is whole
-abbrev pub behind_dim : List ℕ → List ℕ → List DimText → Bool → State
-behind_dim s o dims true = dim_due s o dims
-behind_dim s o [] false = skyline_named s
-behind_dim s o (first ∷ others) false = done (skyline s o first others)
-
-pub record ReadsDim (names : Names) (ts : List Placed) (col : ℕ) (direction : Direction) (more : Bool) (us : List Placed) : Type 0 where
+-- a dimension of a skyline clause
+pub record ReadsDim (names : Names) (ts : List Placed) (col : ℕ) (direction : Direction) (us : List Placed) : Type 0 where
   pub dim : DimText
   pub said : dim.direction ≡ direction
   pub found : IsColumn names dim.column col
-  pub goes : (s o : List ℕ) (some : List DimText) → Goes names (dim_due s o some) ts (behind_dim s o (some ++ dim ∷ []) more) (left_over more us)
+  pub goes : (s o : List ℕ) (some : List DimText) → Goes names (dim_due s o some) ts (listed_dim s o some dim) us
 
 abbrev pub FailsDim : Names → List Placed → TermFault → Type 0
 FailsDim names ts f = (s o : List ℕ) (some : List DimText) → Fails names (dim_due s o some) ts f
@@ -378,14 +319,14 @@ with_order p minimal col = Some (joined p (scored (low col)))
 with_order p maximal col = Some (joined p (scored (high col)))
 with_order p different col = p
 
--- the product and the group of some dimensions, and whether more are due
-pub record ReadsDims (names : Names) (ts : List Placed) (product : Option Preference) (group : List ℕ) (more : Bool) (us : List Placed) : Type 0 where
+-- the product and the group of some dimensions, behind which one more is due
+pub record ReadsDims (names : Names) (ts : List Placed) (product : Option Preference) (group : List ℕ) (us : List Placed) : Type 0 where
   pub dims : List DimText
   pub product_is : product_of (orders_of names dims) ≡ product
   pub group_is : groups_of names dims ≡ group
   pub product_known : IfSome product (IsTermOf names)
   pub group_known : All (IsKnown names) group
-  pub goes : (s o : List ℕ) → Goes names (dim_due s o []) ts (behind_dim s o dims more) (left_over more us)
+  pub goes : (s o : List ℕ) → Goes names (dim_due s o []) ts (dim_due s o dims) us
 
 -- all dimensions, and the end
 pub record ReadsClause (names : Names) (ts : List Placed) (product : Option Preference) (group : List ℕ) : Type 0 where

@@ -12,7 +12,7 @@ seen (Sign s) = sign s
 seen Other = other
 seen End = finish
 
--- the token that the bytes begin with, and how many bytes it has
+-- the token that the bytes begin with, and how many bytes it has; where there is none, the end
 abbrev pub IsFront : List ℕ → Token → ℕ → Type 0
-IsFront [] t n = ⊥
+IsFront [] t n = (t ≡ finish) × (n ≡ 0)
 IsFront (b ∷ bs) t n = (t ≡ token_from b bs) × (n ≡ more_bytes b bs + 1)

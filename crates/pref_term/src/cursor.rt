@@ -2,6 +2,7 @@
 
 ghost use Rattle.std.specs.Prelude.{◌≡◌, ◌≤◌, length};
 
+use crate::fault::TermFault;
 use crate::front::{Token, front};
 use crate::token::Sign;
 use pref_table::blanks_length;
@@ -38,19 +39,7 @@ impl<'a> Cursor<'a> {
         ensures { ahead self.entry ≡ taken result }
     {
         let at = self.place + blanks_length(&self.text[self.place..]);
-        let bytes = &self.text[at..];
-        if bytes.is_empty() {
-            let next = Cursor {
-                text: self.text,
-                place: at,
-            };
-            return Taken {
-                token: Token::End,
-                at,
-                next,
-            };
-        }
-        let (token, length) = front(bytes);
+        let (token, length) = front(&self.text[at..]);
         let next = Cursor {
             text: self.text,
             place: at + length,
@@ -71,10 +60,7 @@ impl<'a> Taken<'a> {
         ensures yes { OnTrue result (taken self.entry ≡ record { token = tokens.finish; place = self.entry.at } ∷ []) }
         ensures no { OnFalse result (seen self.entry.token ≢ tokens.finish) }
     {
-        match self.token {
-            Token::End => true,
-            _ => false,
-        }
+        matches!(self.token, Token::End)
     }
 
     /// Whether this sign was taken.
@@ -82,9 +68,13 @@ impl<'a> Taken<'a> {
         ensures yes { OnTrue result (taken self.entry ≡ record { token = tokens.sign sign; place = self.entry.at } ∷ ahead self.entry.next) }
         ensures no { OnFalse result (seen self.entry.token ≢ tokens.sign sign) }
     {
-        match self.token {
-            Token::Sign(found) => found == sign,
-            _ => false,
-        }
+        matches!(self.token, Token::Sign(found) if found == sign)
+    }
+
+    /// The fault of a token that cannot follow.
+    pub(crate) fn unexpected(self) -> TermFault
+        ensures { result ≡ TermFault.Unexpected self.entry.at }
+    {
+        TermFault::Unexpected { at: self.at as u64 }
     }
 }

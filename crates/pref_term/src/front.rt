@@ -1,6 +1,6 @@
 //! The token that bytes begin with.
 
-ghost use Rattle.std.specs.Prelude.{◌≡◌, ◌<◌, ◌≤◌, length};
+ghost use Rattle.std.specs.Prelude.{◌≡◌, ◌≤◌, length};
 ghost use Rattle.std.specs.List.{prefix_len};
 ghost use Rattle.std.specs.Char.{is_ascii_digit};
 ghost use Rattle.pref_table.specs.Names as names;
@@ -40,10 +40,12 @@ fn digits_length(bytes: &[u8]) -> usize
 
 /// The token at the front, and its length.
 pub(crate) fn front(bytes: &[u8]) -> (Token<'_>, usize)
-    requires { 0 < length bytes.now }
     ensures token { IsFront bytes.now (seen result.0) result.1 }
     ensures within { result.1 ≤ length bytes.now }
 {
+    if bytes.is_empty() {
+        return (Token::End, 0);
+    }
     let first = bytes[0];
     if first.is_ascii_alphabetic() {
         let length = 1 + word_length(&bytes[1..]);

@@ -12,7 +12,7 @@ ghost use Rattle.pref_term.specs.Question.{FitsWidth, IsAsk, IsCount, cut_of};
 ghost use Rattle.pref_term.specs.Preference.{preference_of};
 ghost use Rattle.pref_term.specs.Preference as terms;
 
-use super::base_term::{Word, column, push, take_word};
+use super::base_term::{Parsed, column, expect, push, take_word};
 use super::term::{pareto, prior};
 use crate::ask::{Ask, Mode};
 use crate::cursor::Cursor;
@@ -27,15 +27,13 @@ use pref_table::Schema;
 use std::alloc::Global;
 
 /// Takes a count.
-fn count<'a>(cursor: Cursor<'a>) -> Result<(u32, Cursor<'a>), TermFault>
+fn count<'a>(cursor: Cursor<'a>) -> Parsed<'a, u32>
     ensures ok { IfOk result (λ x. led.TakesCount (ahead cursor.entry) x.0 (ahead x.1)) }
     ensures err { IfErr result (λ f. led.FailsCount (ahead cursor.entry) f) }
 {
     let taken = cursor.take();
     let Token::Digits(digits) = taken.token else {
-        return Err(TermFault::Unexpected {
-            at: taken.at as u64,
-        });
+        return Err(taken.unexpected());
     };
     match counted(digits) {
         Some(count) => Ok((count, taken.next)),
@@ -45,46 +43,24 @@ fn count<'a>(cursor: Cursor<'a>) -> Result<(u32, Cursor<'a>), TermFault>
     }
 }
 
-/// Takes a column of a group and what follows it, and says whether more columns follow.
-fn group_column<'a>(
-    schema: &Schema,
-    cursor: Cursor<'a>,
-) -> Result<(usize, bool, Cursor<'a>), TermFault>
-    ensures ok { IfOk result (λ x. led.ReadsGroupColumn schema.now (ahead cursor.entry) x.0 x.1 (ahead x.2)) }
-    ensures shorter { IfOk result (λ x. length (ahead x.2) < length (ahead cursor.entry)) }
-    ensures err { IfErr result (λ f. led.FailsGroupColumn schema.now (ahead cursor.entry) f) }
-{
-    let (col, next) = column(schema, cursor)?;
-    let taken = next.take();
-    if taken.is(Sign::Comma) {
-        Ok((col, true, taken.next))
-    } else if taken.ends() {
-        Ok((col, false, next))
-    } else {
-        Err(TermFault::Unexpected {
-            at: taken.at as u64,
-        })
-    }
-}
-
 /// Takes the columns of a group and the end behind them.
 fn group_columns<'a>(
     alloc: Global,
     schema: &Schema,
     cursor: Cursor<'a>,
 ) -> Result<Vec<usize>, TermFault>
-    ensures ok { IfOk result (λ columns. led.ReadsColumns schema.now (ahead cursor.entry) columns.items false []) }
+    ensures ok { IfOk result (λ columns. led.ReadsColumns schema.now (ahead cursor.entry) columns.items) }
     ensures err { IfErr result (λ f. led.FailsColumns schema.now (ahead cursor.entry) f) }
 {
     let mut columns = Vec::new(alloc);
     let mut place = cursor;
     loop {
-        let (col, more, next) = group_column(schema, place)?;
+        let (col, next) = column(schema, place)?;
         push(&mut columns, col)?;
-        if !more {
+        if next.take().ends() {
             return Ok(columns);
         }
-        place = next;
+        place = expect(next, Sign::Comma)?;
     }
 }
 
@@ -96,12 +72,9 @@ fn grouping<'a>(alloc: Global, schema: &Schema, cursor: Cursor<'a>) -> Result<Ve
     if cursor.take().ends() {
         return Ok(Vec::new(alloc));
     }
-    let by = take_word(cursor)?;
-    let Some(found) = word_of_grammar(by.letters) else {
-        return Err(TermFault::Unexpected { at: by.at as u64 });
-    };
-    let Keyword::By = found else {
-        return Err(TermFault::Unexpected { at: by.at as u64 });
+    let (letters, by) = take_word(cursor)?;
+    let Some(Keyword::By) = word_of_grammar(letters) else {
+        return Err(by.unexpected());
     };
     group_columns(alloc, schema, by.next)
 }
@@ -143,26 +116,23 @@ fn of<'a>(cursor: Cursor<'a>) -> Result<Cursor<'a>, TermFault>
     ensures ok { IfOk result (λ next. led.PassesOf (ahead cursor.entry) (ahead next)) }
     ensures err { IfErr result (λ f. led.FailsOf (ahead cursor.entry) f) }
 {
-    let word = take_word(cursor)?;
-    let Some(found) = cased_word(word.letters) else {
-        return Err(TermFault::Unexpected { at: word.at as u64 });
-    };
-    let CasedWord::Of = found else {
-        return Err(TermFault::Unexpected { at: word.at as u64 });
+    let (letters, word) = take_word(cursor)?;
+    let Some(CasedWord::Of) = cased_word(letters) else {
+        return Err(word.unexpected());
     };
     Ok(word.next)
 }
 
 /// Takes what a skyline clause says of a column.
-fn direction<'a>(cursor: Cursor<'a>) -> Result<(Direction, Cursor<'a>), TermFault>
+fn direction<'a>(cursor: Cursor<'a>) -> Parsed<'a, Direction>
     ensures ok { IfOk result (λ x. led.TakesDirection (ahead cursor.entry) x.0 (ahead x.1)) }
     ensures shorter { IfOk result (λ x. length (ahead x.1) < length (ahead cursor.entry)) }
     ensures err { IfErr result (λ f. led.FailsDirection (ahead cursor.entry) f) }
 {
-    let word = take_word(cursor)?;
-    match direction_of(word.letters) {
+    let (letters, word) = take_word(cursor)?;
+    match direction_of(letters) {
         Some(direction) => Ok((direction, word.next)),
-        None => Err(TermFault::Unexpected { at: word.at as u64 }),
+        None => Err(word.unexpected()),
     }
 }
 
@@ -173,27 +143,15 @@ struct Dimension {
     direction: Direction,
 }
 
-/// Takes a dimension and what follows it, and says whether more follow.
-fn listed_dimension<'a>(
-    schema: &Schema,
-    cursor: Cursor<'a>,
-) -> Result<(Dimension, bool, Cursor<'a>), TermFault>
-    ensures ok { IfOk result (λ x. led.ReadsDim schema.now (ahead cursor.entry) x.0.col x.0.direction x.1 (ahead x.2)) }
-    ensures shorter { IfOk result (λ x. length (ahead x.2) < length (ahead cursor.entry)) }
+/// Takes a dimension.
+fn take_dimension<'a>(schema: &Schema, cursor: Cursor<'a>) -> Parsed<'a, Dimension>
+    ensures ok { IfOk result (λ x. led.ReadsDim schema.now (ahead cursor.entry) x.0.col x.0.direction (ahead x.1)) }
+    ensures shorter { IfOk result (λ x. length (ahead x.1) < length (ahead cursor.entry)) }
     ensures err { IfErr result (λ f. led.FailsDim schema.now (ahead cursor.entry) f) }
 {
     let (col, behind) = column(schema, cursor)?;
     let (direction, next) = direction(behind)?;
-    let taken = next.take();
-    if taken.is(Sign::Comma) {
-        Ok((Dimension { col, direction }, true, taken.next))
-    } else if taken.ends() {
-        Ok((Dimension { col, direction }, false, next))
-    } else {
-        Err(TermFault::Unexpected {
-            at: taken.at as u64,
-        })
-    }
+    Ok((Dimension { col, direction }, next))
 }
 
 /// What the dimensions of a skyline clause ask for: the product of their orders, where there is one, and the DIFF columns.
@@ -222,26 +180,16 @@ fn extended(alloc: Global, clause: Clause, dimension: Dimension) -> Result<Claus
 {
     let Clause { product, mut group } = clause;
     let col = dimension.col;
-    match dimension.direction {
-        Direction::Min => {
-            let product = joined(alloc, product, Term::Low { col })?;
-            Ok(Clause {
-                product: Some(product),
-                group,
-            })
-        }
-        Direction::Max => {
-            let product = joined(alloc, product, Term::High { col })?;
-            Ok(Clause {
-                product: Some(product),
-                group,
-            })
-        }
+    let order = match dimension.direction {
+        Direction::Min => Term::Low { col },
+        Direction::Max => Term::High { col },
         Direction::Diff => {
             push(&mut group, col)?;
-            Ok(Clause { product, group })
+            return Ok(Clause { product, group });
         }
-    }
+    };
+    let product = Some(joined(alloc, product, order)?);
+    Ok(Clause { product, group })
 }
 
 /// Takes the dimensions of a skyline clause and the end behind them.
@@ -255,12 +203,12 @@ fn dimensions<'a>(alloc: Global, schema: &Schema, cursor: Cursor<'a>) -> Result<
     };
     let mut place = cursor;
     loop {
-        let (dimension, more, next) = listed_dimension(schema, place)?;
+        let (dimension, next) = take_dimension(schema, place)?;
         clause = extended(alloc, clause, dimension)?;
-        if !more {
+        if next.take().ends() {
             return Ok(clause);
         }
-        place = next;
+        place = expect(next, Sign::Comma)?;
     }
 }
 
@@ -292,43 +240,30 @@ fn skyline<'a>(alloc: Global, schema: &Schema, cursor: Cursor<'a>) -> Result<Ask
     clause_ask(alloc, schema, behind, false)
 }
 
-/// Takes a question that begins with a word in any case.
-fn cased_ask<'a>(alloc: Global, schema: &Schema, word: Word<'a>) -> Result<Ask, TermFault>
-    requires { grammar.keyword_of word.letters.now ≡ None }
-    ensures ok { IfOk result (λ a. led.Asks schema.now reading.start (led.word_ahead word.entry.letters.now word.entry.at (ahead word.entry.next)) a) }
-    ensures known { IfOk result (λ a. FitsWidth (length schema.now) a) }
-    ensures err { IfErr result (λ f. led.AsksNothing schema.now reading.start (led.word_ahead word.entry.letters.now word.entry.at (ahead word.entry.next)) f) }
-{
-    let Some(found) = cased_word(word.letters) else {
-        return Err(TermFault::Unexpected { at: word.at as u64 });
-    };
-    let CasedWord::Skyline = found else {
-        return Err(TermFault::Unexpected { at: word.at as u64 });
-    };
-    skyline(alloc, schema, word.next)
-}
-
 /// Takes a whole question, in which no word `distinct` is a word of the clause.
 fn ask<'a>(alloc: Global, schema: &Schema, cursor: Cursor<'a>) -> Result<Ask, TermFault>
     ensures ok { IfOk result (λ a. led.Asks schema.now reading.start (ahead cursor.entry) a) }
     ensures known { IfOk result (λ a. FitsWidth (length schema.now) a) }
     ensures err { IfErr result (λ f. led.AsksNothing schema.now reading.start (ahead cursor.entry) f) }
 {
-    let word = take_word(cursor)?;
-    let Some(found) = word_of_grammar(word.letters) else {
-        return cased_ask(alloc, schema, word);
-    };
-    match found {
-        Keyword::Best => rated(alloc, schema, Mode::Best, word.next),
-        Keyword::TopLevel => {
+    let (letters, word) = take_word(cursor)?;
+    match word_of_grammar(letters) {
+        Some(Keyword::Best) => rated(alloc, schema, Mode::Best, word.next),
+        Some(Keyword::TopLevel) => {
             let (k, behind) = count(word.next)?;
             rated(alloc, schema, Mode::TopLevel(k), behind)
         }
-        Keyword::AtLeast => {
+        Some(Keyword::AtLeast) => {
             let (k, behind) = count(word.next)?;
             rated(alloc, schema, Mode::AtLeast(k), behind)
         }
-        _ => Err(TermFault::Unexpected { at: word.at as u64 }),
+        Some(_) => Err(word.unexpected()),
+        None => {
+            let Some(CasedWord::Skyline) = cased_word(letters) else {
+                return Err(word.unexpected());
+            };
+            skyline(alloc, schema, word.next)
+        }
     }
 }
 

@@ -8,7 +8,7 @@ ghost use Rattle.pref_term.specs.Spells as spells;
 ghost use Rattle.pref_term.specs.Preference.{preference_of};
 ghost use Rattle.pref_term.specs.Preference as terms;
 
-use super::base_term::{around, between, expect, high, layered, low, pos};
+use super::base_term::{Parsed, around, between, expect, high, layered, low, pos};
 use crate::cursor::Cursor;
 use crate::fault::TermFault;
 use crate::front::Token;
@@ -35,12 +35,7 @@ fn deeper(depth: usize, at: usize) -> Result<usize, TermFault>
 
 /// Takes a factor, where this many nestings are open.
 #[cycle(term)]
-fn unary<'a>(
-    alloc: Global,
-    schema: &Schema,
-    depth: usize,
-    cursor: Cursor<'a>,
-) -> Result<(Term, Cursor<'a>), TermFault>
+fn unary<'a>(alloc: Global, schema: &Schema, depth: usize, cursor: Cursor<'a>) -> Parsed<'a, Term>
     requires { depth ≤ 64 }
     ensures ok { IfOk result (λ x. led.ReadsUnary schema.now depth (ahead cursor.entry) (preference_of x.0) (ahead x.1)) }
     ensures shorter { IfOk result (λ x. length (ahead x.1) < length (ahead cursor.entry)) }
@@ -57,37 +52,23 @@ fn unary<'a>(
         return group(alloc, schema, inside, taken.next);
     }
     let Token::Word(letters) = taken.token else {
-        return Err(TermFault::Unexpected {
-            at: taken.at as u64,
-        });
+        return Err(taken.unexpected());
     };
-    let Some(found) = word_of_grammar(letters) else {
-        return Err(TermFault::Unexpected {
-            at: taken.at as u64,
-        });
-    };
-    match found {
-        Keyword::Reverse => reverse(alloc, schema, depth, taken.next),
-        Keyword::Low => low(schema, taken.next),
-        Keyword::High => high(schema, taken.next),
-        Keyword::Around => around(schema, taken.next),
-        Keyword::Between => between(schema, taken.next),
-        Keyword::Pos => pos(alloc, schema, taken.next),
-        Keyword::Layered => layered(alloc, schema, taken.next),
-        _ => Err(TermFault::Unexpected {
-            at: taken.at as u64,
-        }),
+    match word_of_grammar(letters) {
+        Some(Keyword::Reverse) => reverse(alloc, schema, depth, taken.next),
+        Some(Keyword::Low) => low(schema, taken.next),
+        Some(Keyword::High) => high(schema, taken.next),
+        Some(Keyword::Around) => around(schema, taken.next),
+        Some(Keyword::Between) => between(schema, taken.next),
+        Some(Keyword::Pos) => pos(alloc, schema, taken.next),
+        Some(Keyword::Layered) => layered(alloc, schema, taken.next),
+        _ => Err(taken.unexpected()),
     }
 }
 
 /// Takes what follows `reverse`.
 #[cycle(term)]
-fn reverse<'a>(
-    alloc: Global,
-    schema: &Schema,
-    depth: usize,
-    cursor: Cursor<'a>,
-) -> Result<(Term, Cursor<'a>), TermFault>
+fn reverse<'a>(alloc: Global, schema: &Schema, depth: usize, cursor: Cursor<'a>) -> Parsed<'a, Term>
     requires { depth ≤ 64 }
     ensures ok { IfOk result (λ x. led.ReadsReverse schema.now depth (ahead cursor.entry) (preference_of x.0) (ahead x.1)) }
     ensures shorter { IfOk result (λ x. length (ahead x.1) < length (ahead cursor.entry)) }
@@ -95,9 +76,7 @@ fn reverse<'a>(
 {
     let taken = cursor.take();
     if !taken.is(Sign::Left) {
-        return Err(TermFault::Unexpected {
-            at: taken.at as u64,
-        });
+        return Err(taken.unexpected());
     }
     let inside = deeper(depth, taken.at)?;
     let (part, next) = group(alloc, schema, inside, taken.next)?;
@@ -106,12 +85,7 @@ fn reverse<'a>(
 
 /// Takes a prior and the parenthesis behind it, where this many nestings are open within.
 #[cycle(term)]
-fn group<'a>(
-    alloc: Global,
-    schema: &Schema,
-    inside: usize,
-    cursor: Cursor<'a>,
-) -> Result<(Term, Cursor<'a>), TermFault>
+fn group<'a>(alloc: Global, schema: &Schema, inside: usize, cursor: Cursor<'a>) -> Parsed<'a, Term>
     requires { inside ≤ 64 }
     ensures ok { IfOk result (λ x. led.ReadsGroup schema.now inside (ahead cursor.entry) (preference_of x.0) (ahead x.1)) }
     ensures shorter { IfOk result (λ x. length (ahead x.1) < length (ahead cursor.entry)) }
@@ -124,12 +98,7 @@ fn group<'a>(
 
 /// Takes a product, where this many nestings are open.
 #[cycle(term)]
-fn product<'a>(
-    alloc: Global,
-    schema: &Schema,
-    depth: usize,
-    cursor: Cursor<'a>,
-) -> Result<(Term, Cursor<'a>), TermFault>
+fn product<'a>(alloc: Global, schema: &Schema, depth: usize, cursor: Cursor<'a>) -> Parsed<'a, Term>
     requires { depth ≤ 64 }
     ensures ok { IfOk result (λ x. led.ReadsProduct schema.now depth (ahead cursor.entry) (preference_of x.0) (ahead x.1)) }
     ensures shorter { IfOk result (λ x. length (ahead x.1) < length (ahead cursor.entry)) }
@@ -154,7 +123,7 @@ pub(super) fn prior<'a>(
     schema: &Schema,
     depth: usize,
     cursor: Cursor<'a>,
-) -> Result<(Term, Cursor<'a>), TermFault>
+) -> Parsed<'a, Term>
     requires { depth ≤ 64 }
     ensures ok { IfOk result (λ x. led.ReadsPrior schema.now depth (ahead cursor.entry) (preference_of x.0) (ahead x.1)) }
     ensures shorter { IfOk result (λ x. length (ahead x.1) < length (ahead cursor.entry)) }

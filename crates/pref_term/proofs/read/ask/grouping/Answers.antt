@@ -8,14 +8,14 @@ use Rattle.pref_term.proofs.read.ask.grouping.Goals as goal
 
 pub returns-clause-ok : goal.returns-clause-ok
 returns-clause-ok c =
-    let w = c.in_ok-by in
+    let w = c.in_ok-letters in
     IfOk-weaker c.group_columns.result _ _
-    (λ columns h. grouping_read c.args.schema.now w.by.letters.now (ahead c.args.cursor) (ahead w.by.next) columns.items (w.by.at, w.ensures.ok) (sym c.in-Some.ensures ∙ ap Some c.in-By.is) h)
+    (λ columns h. grouping_read c.args.schema.now w.letters.now (ahead c.args.cursor) (ahead w.by.next) columns.items (w.by.at, w.ensures.ok) (sym c.in-Some-By.ensures ∙ ap Some c.in-Some-By.field-0-is) h)
     c.group_columns.ensures.ok
 
 pub returns-clause-err : goal.returns-clause-err
 returns-clause-err c =
-    let w = c.in_ok-by in
+    let w = c.in_ok-letters in
     if_err_map c.group_columns.result (FailsColumns c.args.schema.now (ahead w.by.next)) (FailsGrouping c.args.schema.now (ahead c.args.cursor))
-    (λ f h. grouping_fails c.args.schema.now w.by.letters.now (ahead c.args.cursor) (ahead w.by.next) f (w.by.at, w.ensures.ok) (sym c.in-Some.ensures ∙ ap Some c.in-By.is) h)
+    (λ f h. grouping_fails c.args.schema.now w.letters.now (ahead c.args.cursor) (ahead w.by.next) f (w.by.at, w.ensures.ok) (sym c.in-Some-By.ensures ∙ ap Some c.in-Some-By.field-0-is) h)
     c.group_columns.ensures.err

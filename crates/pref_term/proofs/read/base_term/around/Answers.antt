@@ -18,15 +18,15 @@ pub returns-in_err-centre-clause-err : goal.returns-in_err-centre-clause-err
 returns-in_err-centre-clause-err c =
     let f = c.in_err-centre.field-0.0 in
     err_exit c.from_residual-in_err-centre.result f (FailsBase c.args.schema.now around_kind (ahead c.args.cursor)) c.from_residual-in_err-centre.ensures.1
-    (around_number_fails c.args.schema.now _ (ahead c.in_ok-col.next) (ahead c.in_ok-inside.inside) c.in_ok-col.col f c.in_ok-col.ensures.ok c.in_ok-inside.ensures.ok (c.in_err-centre.ensures.err c.args.schema.now))
+    (around_number_fails c.args.schema.now _ (ahead c.in_ok-col.next) (ahead c.in_ok-inside.inside) c.in_ok-col.col f c.in_ok-col.ensures.ok c.in_ok-inside.ensures.ok c.in_err-centre.ensures.err)
 
 pub returns-in_err-rest-clause-err : goal.returns-in_err-rest-clause-err
 returns-in_err-rest-clause-err c =
     let f = c.in_err-rest.field-0.0 in
     err_exit c.from_residual-in_err-rest.result f (FailsBase c.args.schema.now around_kind (ahead c.args.cursor)) c.from_residual-in_err-rest.ensures.1
-    (around_end_fails c.args.schema.now _ (ahead c.in_ok-col.next) (ahead c.in_ok-inside.inside) (ahead c.in_ok-centre.behind) c.in_ok-col.col c.in_ok-centre.centre f c.in_ok-col.ensures.ok c.in_ok-inside.ensures.ok (c.in_ok-centre.ensures.ok c.args.schema.now) c.in_err-rest.ensures.err)
+    (around_end_fails c.args.schema.now _ (ahead c.in_ok-col.next) (ahead c.in_ok-inside.inside) (ahead c.in_ok-centre.behind) c.in_ok-col.col c.in_ok-centre.centre f c.in_ok-col.ensures.ok c.in_ok-inside.ensures.ok c.in_ok-centre.ensures.ok c.in_err-rest.ensures.err)
 
 pub returns-clause-ok : goal.returns-clause-ok
 returns-clause-ok c =
     subst (λ (centre : ℤ). ReadsBase c.args.schema.now around_kind (ahead c.args.cursor) (scored (around c.in_ok-col.col centre)) (ahead c.in_ok-rest.rest)) (sym (to_z-of_z w64 c.in_ok-centre.centre (search rules)))
-    (around_read c.args.schema.now _ (ahead c.in_ok-col.next) (ahead c.in_ok-inside.inside) (ahead c.in_ok-centre.behind) (ahead c.in_ok-rest.rest) c.in_ok-col.col c.in_ok-centre.centre c.in_ok-col.ensures.ok c.in_ok-inside.ensures.ok (c.in_ok-centre.ensures.ok c.args.schema.now) c.in_ok-rest.ensures.ok)
+    (around_read c.args.schema.now _ (ahead c.in_ok-col.next) (ahead c.in_ok-inside.inside) (ahead c.in_ok-centre.behind) (ahead c.in_ok-rest.rest) c.in_ok-col.col c.in_ok-centre.centre c.in_ok-col.ensures.ok c.in_ok-inside.ensures.ok c.in_ok-centre.ensures.ok c.in_ok-rest.ensures.ok)

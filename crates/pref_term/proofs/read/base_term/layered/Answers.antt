@@ -17,9 +17,9 @@ pub returns-in_err-sets-clause-err : goal.returns-in_err-sets-clause-err
 returns-in_err-sets-clause-err c =
     let f = c.in_err-sets.field-0.0 in
     err_exit c.from_residual-in_err-sets.result f (FailsBase c.args.schema.now layered_kind (ahead c.args.cursor)) c.from_residual-in_err-sets.ensures.1
-    (layered_sets_fails c.args.schema.now _ (ahead c.in_ok-col.next) (ahead c.in_ok-inside.inside) c.in_ok-col.col f c.in_ok-col.ensures.ok c.in_ok-inside.ensures.ok (c.in_err-sets.ensures.err c.args.schema.now))
+    (layered_sets_fails c.args.schema.now _ (ahead c.in_ok-col.next) (ahead c.in_ok-inside.inside) c.in_ok-col.col f c.in_ok-col.ensures.ok c.in_ok-inside.ensures.ok c.in_err-sets.ensures.err)
 
 pub returns-clause-ok : goal.returns-clause-ok
 returns-clause-ok c =
     subst (λ (sets : List (List ℤ)). ReadsBase c.args.schema.now layered_kind (ahead c.args.cursor) (scored (layered c.in_ok-col.col sets)) (ahead c.in_ok-sets.rest)) (sym c.of-sets.ensures)
-    (layered_read c.args.schema.now _ (ahead c.in_ok-col.next) (ahead c.in_ok-inside.inside) (ahead c.in_ok-sets.rest) c.in_ok-col.col c.in_ok-sets.sets.items c.in_ok-col.ensures.ok c.in_ok-inside.ensures.ok (c.in_ok-sets.ensures.ok c.args.schema.now))
+    (layered_read c.args.schema.now _ (ahead c.in_ok-col.next) (ahead c.in_ok-inside.inside) (ahead c.in_ok-sets.rest) c.in_ok-col.col c.in_ok-sets.sets.items c.in_ok-col.ensures.ok c.in_ok-inside.ensures.ok c.in_ok-sets.ensures.ok)

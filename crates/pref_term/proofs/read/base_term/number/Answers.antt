@@ -1,28 +1,35 @@
-use Rattle.std.proofs.Common.{w64, rules, to_z, of_z, ◌∙◌, sym, subst}
-use Rattle.std.specs.Prelude.{FitsSigned}
+use Rattle.std.proofs.Common.{w64, rules, true, ◌≡◌, to_z, of_z, sym, subst, ap, ◌∙◌}
+use Rattle.std.specs.Prelude.{FitsSigned, ◌&&◌}
+use Rattle.std.specs.Str.{all_ascii_digits}
 use Rattle.std.proofs.lemmas.Int.{to_z-of_z}
-use Rattle.pref_term.specs.Ahead.{ahead}
-use Rattle.pref_term.proofs.LedLemmas.{plain_number_read, signed_number_read, taken_is}
-use Rattle.pref_term.proofs.TokenLemmas.{digits_taken}
+use Rattle.pref_table.specs.Number.{fits_cell}
+use Rattle.pref_term.specs.Ahead.{ahead, taken}
+use Rattle.pref_term.specs.Led.{FailsNumber, first_place}
+use Rattle.pref_term.specs.Spells.{signed_value}
+use Rattle.pref_term.specs.declared.fault.TermFault.TheVariants.{NumberRange}
+use Rattle.pref_term.proofs.LedLemmas.{NumberAhead, number_read, number_out_of_range, plain_ahead, signed_ahead}
 use Rattle.pref_term.proofs.read.base_term.number.Goals as goal
+use Rattle.pref_term.proofs.read.base_term.number.Goals.{then-negative, else-negative}
 
-pub in_range-requires : goal.in_range-requires
-in_range-requires c = digits_taken c.take-first.result.next c.take-second.result c.in-Digits.bytes c.take-second.ensures c.in-Digits.is
+pub returns-in-Some-clause-ok : goal.returns-in-Some-clause-ok
+returns-in-Some-clause-ok c =
+    let u = c.if-negative.last in
+    let ds = c.in-Digits.digits in
+    let v = c.in-Some.value in
+    let here : NumberAhead c.is-negative.result (ahead c.args.cursor) ds.now (ahead u.next) × (all_ascii_digits ds.now ≡ true) = elim c.if-negative.branch [
+      | then-negative w ↦ signed_ahead c.args.cursor c.take-first.result u _ ds w.if-negative.true (c.take-first.ensures ∙ w.if-negative.ensures.yes) (w.take-last.ensures ∙ ap taken (sym w.last-is)) c.in-Digits.is
+      | else-negative w ↦ plain_ahead c.args.cursor u _ ds w.if-negative.false (c.take-first.ensures ∙ ap taken (sym w.last-is)) c.in-Digits.is
+    ] in
+    number_read c.is-negative.result (ahead c.args.cursor) (ahead u.next) ds.now (to_z w64 (of_z w64 v)) here.0 (ap (λ b. b && fits_cell (signed_value c.is-negative.result ds.now)) (sym here.1) ∙ c.in-Some.ensures.0)
+    (to_z-of_z w64 v (search rules) ∙ c.in-Some.ensures.1) (subst (FitsSigned w64) (sym (to_z-of_z w64 v (search rules))) (search rules))
 
-pub in_range-requires-in-Digits-token : goal.in_range-requires-in-Digits-token
-in_range-requires-in-Digits-token c = digits_taken c.args.cursor c.take-first.result c.in-Digits-token.bytes c.take-first.ensures c.in-Digits-token.is
-
-pub returns-in_ok-in_range-in-Digits-clause-ok : goal.returns-in_ok-in_range-in-Digits-clause-ok
-returns-in_ok-in_range-in-Digits-clause-ok c names =
-    let t = c.take-first.result in
-    let u = c.take-second.result in
-    let v = c.in_ok-in_range-in-Digits in
-    signed_number_read names (ahead c.args.cursor) (ahead t.next) (ahead u.next) c.in-Digits.bytes.now (to_z w64 (of_z w64 v.field-0))
-    (t.at, c.take-first.ensures ∙ c.if-is.ensures.yes) (u.at, taken_is _ u _ c.take-second.ensures c.in-Digits.is) v.ensures.ok (to_z-of_z w64 v.field-0 (search rules) ∙ v.ensures.value) (subst (FitsSigned w64) (sym (to_z-of_z w64 v.field-0 (search rules))) (search rules))
-
-pub returns-in_ok-in_range-in-Digits-token-clause-ok : goal.returns-in_ok-in_range-in-Digits-token-clause-ok
-returns-in_ok-in_range-in-Digits-token-clause-ok c names =
-    let t = c.take-first.result in
-    let v = c.in_ok-in_range-in-Digits-token in
-    plain_number_read names (ahead c.args.cursor) (ahead t.next) c.in-Digits-token.bytes.now (to_z w64 (of_z w64 v.field-0))
-    (t.at, taken_is _ t _ c.take-first.ensures c.in-Digits-token.is) v.ensures.ok (to_z-of_z w64 v.field-0 (search rules) ∙ v.ensures.value) (subst (FitsSigned w64) (sym (to_z-of_z w64 v.field-0 (search rules))) (search rules))
+pub returns-in-None-clause-err : goal.returns-in-None-clause-err
+returns-in-None-clause-err c =
+    let u = c.if-negative.last in
+    let ds = c.in-Digits.digits in
+    let here : NumberAhead c.is-negative.result (ahead c.args.cursor) ds.now (ahead u.next) × (all_ascii_digits ds.now ≡ true) = elim c.if-negative.branch [
+      | then-negative w ↦ signed_ahead c.args.cursor c.take-first.result u _ ds w.if-negative.true (c.take-first.ensures ∙ w.if-negative.ensures.yes) (w.take-last.ensures ∙ ap taken (sym w.last-is)) c.in-Digits.is
+      | else-negative w ↦ plain_ahead c.args.cursor u _ ds w.if-negative.false (c.take-first.ensures ∙ ap taken (sym w.last-is)) c.in-Digits.is
+    ] in
+    subst (λ at. FailsNumber (ahead c.args.cursor) (NumberRange at)) (ap first_place c.take-first.ensures)
+    (number_out_of_range c.is-negative.result (ahead c.args.cursor) (ahead u.next) ds.now here.0 (ap (λ b. b && fits_cell (signed_value c.is-negative.result ds.now)) (sym here.1) ∙ c.in-None.ensures))

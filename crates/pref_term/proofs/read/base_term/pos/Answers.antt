@@ -17,9 +17,9 @@ pub returns-in_err-numbers-clause-err : goal.returns-in_err-numbers-clause-err
 returns-in_err-numbers-clause-err c =
     let f = c.in_err-numbers.field-0.0 in
     err_exit c.from_residual-in_err-numbers.result f (FailsBase c.args.schema.now pos_kind (ahead c.args.cursor)) c.from_residual-in_err-numbers.ensures.1
-    (pos_numbers_fails c.args.schema.now _ (ahead c.in_ok-col.next) (ahead c.in_ok-inside.inside) c.in_ok-col.col f c.in_ok-col.ensures.ok c.in_ok-inside.ensures.ok (c.in_err-numbers.ensures.err c.args.schema.now))
+    (pos_numbers_fails c.args.schema.now _ (ahead c.in_ok-col.next) (ahead c.in_ok-inside.inside) c.in_ok-col.col f c.in_ok-col.ensures.ok c.in_ok-inside.ensures.ok c.in_err-numbers.ensures.err)
 
 pub returns-clause-ok : goal.returns-clause-ok
 returns-clause-ok c =
     subst (λ (set : List ℤ). ReadsBase c.args.schema.now pos_kind (ahead c.args.cursor) (scored (one_of c.in_ok-col.col set)) (ahead c.in_ok-numbers.rest)) (sym c.of-set.ensures)
-    (pos_read c.args.schema.now _ (ahead c.in_ok-col.next) (ahead c.in_ok-inside.inside) (ahead c.in_ok-numbers.rest) c.in_ok-col.col c.in_ok-numbers.numbers.items c.in_ok-col.ensures.ok c.in_ok-inside.ensures.ok (c.in_ok-numbers.ensures.ok c.args.schema.now))
+    (pos_read c.args.schema.now _ (ahead c.in_ok-col.next) (ahead c.in_ok-inside.inside) (ahead c.in_ok-numbers.rest) c.in_ok-col.col c.in_ok-numbers.numbers.items c.in_ok-col.ensures.ok c.in_ok-inside.ensures.ok c.in_ok-numbers.ensures.ok)

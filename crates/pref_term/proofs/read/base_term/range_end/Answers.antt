@@ -11,13 +11,13 @@ returns-then-right-left-clause-err c names h column start e p =
     let n = c.in_ok-right in
     let l : to_z w64 (of_z w64 c.args.left) ≡ c.args.left = to_z-of_z w64 c.args.left (search rules) in
     let r : to_z w64 (of_z w64 n.right) ≡ n.right = to_z-of_z w64 n.right (search rules) in
-    end_refused names (ahead c.args.cursor) (ahead n.next) c.args.left n.right (n.ensures.ok names) (sym (λ i. int_lt (r i) (l i)) ∙ c.if-right-left.true) h column start e p
+    end_refused (ahead c.args.cursor) (ahead n.next) c.args.left n.right n.ensures.ok (sym (λ i. int_lt (r i) (l i)) ∙ c.if-right-left.true) names h column start e p
     ∙ ap (λ at. Err (EmptyRange at)) (ap first_place c.take-taken.ensures)
 
 pub returns-clause-ok : goal.returns-clause-ok
-returns-clause-ok c names =
+returns-clause-ok c =
     let n = c.in_ok-right in
     let l : to_z w64 (of_z w64 c.args.left) ≡ c.args.left = to_z-of_z w64 c.args.left (search rules) in
     let r : to_z w64 (of_z w64 n.right) ≡ n.right = to_z-of_z w64 n.right (search rules) in
-    subst (λ (value : ℤ). ReadsEnd names c.args.left (ahead c.args.cursor) value (ahead n.next)) (sym (to_z-of_z w64 n.right (search rules)))
-    (end_read names (ahead c.args.cursor) (ahead n.next) c.args.left n.right (n.ensures.ok names) (sym (λ i. int_lt (r i) (l i)) ∙ c.if-right-left.false))
+    subst (λ (value : ℤ). ReadsEnd c.args.left (ahead c.args.cursor) value (ahead n.next)) (sym (to_z-of_z w64 n.right (search rules)))
+    (end_read (ahead c.args.cursor) (ahead n.next) c.args.left n.right n.ensures.ok (sym (λ i. int_lt (r i) (l i)) ∙ c.if-right-left.false))

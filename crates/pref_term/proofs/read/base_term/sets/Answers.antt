@@ -1,35 +1,55 @@
-use Rattle.std.proofs.Common.{arith, ℕ, ℤ, List, Bool, true, subst, sym}
+use Rattle.std.proofs.Common.{arith, length, ℤ, List, [], ◌∷◌, ◌++◌, subst, ap, ◌∙◌, sym}
+use Rattle.pref_term.specs.Token.{Placed, right, sign}
 use Rattle.pref_term.specs.Ahead.{ahead}
-use Rattle.pref_term.specs.Led.{ReadsSet, ReadsSets, ReadsSomeSets, FailsSets}
+use Rattle.pref_term.specs.Led.{FailsSets, NotNext, ReadsSets, ReadsSomeSets}
 use Rattle.pref_term.proofs.LedLemmas.{err_exit}
-use Rattle.pref_term.proofs.SetLemmas.{some_sets_none, some_sets_more, some_sets_fails, some_sets_all}
+use Rattle.pref_term.proofs.SetLemmas.{some_sets_none, some_sets_fails, some_numbers_fails, some_sets_more, some_sets_all, some_sets_stuck}
 use Rattle.pref_term.proofs.read.base_term.sets.Goals as goal
 
 pub loop-sets-init : goal.loop-sets-init
 loop-sets-init c = record {
-  so_far = λ names. subst (λ (xs : List (List ℤ)). ReadsSomeSets names (ahead c.args.cursor) xs true (ahead c.args.cursor)) (sym c.new-sets.ensures.items) (some_sets_none names (ahead c.args.cursor));
+  so_far = subst (λ (xs : List (List ℤ)). ReadsSomeSets (ahead c.args.cursor) xs (ahead c.args.cursor)) (sym c.new-sets.ensures.items) (some_sets_none (ahead c.args.cursor));
   shorter = omega arith;
 }
 
-pub returns-in_err-set-clause-err : goal.returns-in_err-set-clause-err
-returns-in_err-set-clause-err c =
-    err_exit c.from_residual.result c.in_err-set.field-0.0 (λ f. (names : List (List ℕ)) → FailsSets names (ahead c.args.cursor) f) c.from_residual.ensures.1
-    (λ names. some_sets_fails names _ (ahead c.loop-sets.place) _ c.in_err-set.field-0.0 (c.loop-sets.invariant.so_far names) (c.in_err-set.ensures.err names))
+pub returns-in_err-inside-clause-err : goal.returns-in_err-inside-clause-err
+returns-in_err-inside-clause-err c =
+    let f = c.in_err-inside.field-0.0 in
+    err_exit c.from_residual.result f (FailsSets (ahead c.args.cursor)) c.from_residual.ensures.1
+    (some_sets_fails _ (ahead c.loop-sets.place) _ f c.loop-sets.invariant.so_far c.in_err-inside.ensures.err)
 
-pub returns-then-not-more-clause-ok : goal.returns-then-not-more-clause-ok
-returns-then-not-more-clause-ok c names =
-    let v = c.in_ok-set in
-    let read = subst (λ (more : Bool). ReadsSet names (ahead c.loop-sets.place) v.set more (ahead v.next)) c.if-not-more.true (v.ensures.ok names) in
-    subst (λ (xs : List (List ℤ)). ReadsSets names (ahead c.args.cursor) xs (ahead v.next)) (sym c.in_ok-push.ensures.ok)
-    (some_sets_all names _ (ahead c.loop-sets.place) (ahead v.next) c.loop-sets.sets.items v.set (c.loop-sets.invariant.so_far names) read)
+pub returns-in_err-numbers-clause-err : goal.returns-in_err-numbers-clause-err
+returns-in_err-numbers-clause-err c =
+    let f = c.in_err-numbers.field-0.0 in
+    err_exit c.from_residual-in_err-numbers.result f (FailsSets (ahead c.args.cursor)) c.from_residual-in_err-numbers.ensures.1
+    (some_numbers_fails _ (ahead c.loop-sets.place) (ahead c.in_ok-inside.inside) _ c.loop-sets.invariant.so_far c.in_ok-inside.ensures.ok f c.in_err-numbers.ensures.err)
+
+pub returns-then-is-clause-ok : goal.returns-then-is-clause-ok
+returns-then-is-clause-ok c =
+    let n = c.in_ok-numbers in
+    let t = c.take-taken.result in
+    let items = c.in_ok-push.ensures.ok ∙ ap (λ (set : List ℤ). c.loop-sets.sets.items ++ set ∷ []) c.of.ensures in
+    subst (λ (xs : List (List ℤ)). ReadsSets (ahead c.args.cursor) xs (ahead t.next)) (sym items)
+    (some_sets_all _ (ahead c.loop-sets.place) (ahead c.in_ok-inside.inside) _ c.loop-sets.invariant.so_far c.in_ok-inside.ensures.ok (ahead n.next) n.numbers.items n.ensures.ok (ahead t.next) (t.at, c.take-taken.ensures ∙ c.if-is.ensures.yes))
+
+pub returns-in_err-place-clause-err : goal.returns-in_err-place-clause-err
+returns-in_err-place-clause-err c =
+    let n = c.in_ok-numbers in
+    let f = c.in_err-place.field-0.0 in
+    err_exit c.from_residual-in_err-place.result f (FailsSets (ahead c.args.cursor)) c.from_residual-in_err-place.ensures.1
+    (some_sets_stuck _ (ahead c.loop-sets.place) (ahead c.in_ok-inside.inside) _ c.loop-sets.invariant.so_far c.in_ok-inside.ensures.ok (ahead n.next) n.numbers.items n.ensures.ok f
+    (subst (NotNext (sign right)) (sym c.take-taken.ensures) c.if-is.ensures.no) c.in_err-place.ensures.err)
 
 pub loop-sets-preserved : goal.loop-sets-preserved
 loop-sets-preserved c =
-    let v = c.in_ok-set in
+    let n = c.in_ok-numbers in
+    let i = c.in_ok-inside in
+    let p = c.in_ok-place in
+    let opened = ap (λ (xs : List Placed). length xs) i.ensures.ok.1 in
+    let passed = ap (λ (xs : List Placed). length xs) p.ensures.ok.1 in
+    let items = c.in_ok-push.ensures.ok ∙ ap (λ (set : List ℤ). c.loop-sets.sets.items ++ set ∷ []) c.of.ensures in
     record {
-      so_far = λ names.
-          let read = subst (λ (more : Bool). ReadsSet names (ahead c.loop-sets.place) v.set more (ahead v.next)) c.if-not-more.false (v.ensures.ok names) in
-          subst (λ (xs : List (List ℤ)). ReadsSomeSets names (ahead c.args.cursor) xs true (ahead v.next)) (sym c.in_ok-push.ensures.ok)
-          (some_sets_more names _ (ahead c.loop-sets.place) (ahead v.next) c.loop-sets.sets.items v.set true (c.loop-sets.invariant.so_far names) read);
-      shorter = omega (arith, v.ensures.shorter, c.loop-sets.invariant.shorter);
+      so_far = subst (λ (xs : List (List ℤ)). ReadsSomeSets (ahead c.args.cursor) xs (ahead p.place)) (sym items)
+          (some_sets_more _ (ahead c.loop-sets.place) (ahead i.inside) _ c.loop-sets.invariant.so_far i.ensures.ok (ahead n.next) n.numbers.items n.ensures.ok (ahead p.place) p.ensures.ok);
+      shorter = omega (arith, n.ensures.shorter, c.loop-sets.invariant.shorter, opened, passed);
     }

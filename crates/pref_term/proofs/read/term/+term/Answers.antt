@@ -106,69 +106,69 @@ unary-returns-then-is-2-clause-ok t c =
     (subst (λ (n : ℕ). ReadsGroup c.args.schema.now n (ahead u.next) (preference_of x.0) (ahead x.1)) i.1 h))
     c.group.ensures.ok
 
-pub unary-returns-in-Low-clause-ok : goal.unary-returns-in-Low-clause-ok
-unary-returns-in-Low-clause-ok t c =
-    taken_base_read c.args.schema.now c.args.depth low_kind (ahead c.args.cursor) c.take-taken.result c.in-Word.letters c.take-taken.ensures c.in-Word.is (sym c.in-Some.ensures ∙ ap Some c.in-Low.is)
+pub unary-returns-in-Some-Low-clause-ok : goal.unary-returns-in-Some-Low-clause-ok
+unary-returns-in-Some-Low-clause-ok t c =
+    taken_base_read c.args.schema.now c.args.depth low_kind (ahead c.args.cursor) c.take-taken.result c.in-Word.letters c.take-taken.ensures c.in-Word.is (sym c.in-Some-Low.ensures ∙ ap Some c.in-Some-Low.field-0-is)
     c.low.result c.low.ensures.ok
 
-pub unary-returns-in-Low-clause-err : goal.unary-returns-in-Low-clause-err
-unary-returns-in-Low-clause-err t c =
-    taken_base_fails c.args.schema.now c.args.depth low_kind (ahead c.args.cursor) c.take-taken.result c.in-Word.letters c.take-taken.ensures c.in-Word.is (sym c.in-Some.ensures ∙ ap Some c.in-Low.is)
+pub unary-returns-in-Some-Low-clause-err : goal.unary-returns-in-Some-Low-clause-err
+unary-returns-in-Some-Low-clause-err t c =
+    taken_base_fails c.args.schema.now c.args.depth low_kind (ahead c.args.cursor) c.take-taken.result c.in-Word.letters c.take-taken.ensures c.in-Word.is (sym c.in-Some-Low.ensures ∙ ap Some c.in-Some-Low.field-0-is)
     c.low.result c.low.ensures.err
 
-pub unary-returns-in-High-clause-ok : goal.unary-returns-in-High-clause-ok
-unary-returns-in-High-clause-ok t c =
-    taken_base_read c.args.schema.now c.args.depth high_kind (ahead c.args.cursor) c.take-taken.result c.in-Word.letters c.take-taken.ensures c.in-Word.is (sym c.in-Some.ensures ∙ ap Some c.in-High.is)
+pub unary-returns-in-Some-High-clause-ok : goal.unary-returns-in-Some-High-clause-ok
+unary-returns-in-Some-High-clause-ok t c =
+    taken_base_read c.args.schema.now c.args.depth high_kind (ahead c.args.cursor) c.take-taken.result c.in-Word.letters c.take-taken.ensures c.in-Word.is (sym c.in-Some-High.ensures ∙ ap Some c.in-Some-High.field-0-is)
     c.high.result c.high.ensures.ok
 
-pub unary-returns-in-High-clause-err : goal.unary-returns-in-High-clause-err
-unary-returns-in-High-clause-err t c =
-    taken_base_fails c.args.schema.now c.args.depth high_kind (ahead c.args.cursor) c.take-taken.result c.in-Word.letters c.take-taken.ensures c.in-Word.is (sym c.in-Some.ensures ∙ ap Some c.in-High.is)
+pub unary-returns-in-Some-High-clause-err : goal.unary-returns-in-Some-High-clause-err
+unary-returns-in-Some-High-clause-err t c =
+    taken_base_fails c.args.schema.now c.args.depth high_kind (ahead c.args.cursor) c.take-taken.result c.in-Word.letters c.take-taken.ensures c.in-Word.is (sym c.in-Some-High.ensures ∙ ap Some c.in-Some-High.field-0-is)
     c.high.result c.high.ensures.err
 
-pub unary-returns-in-Around-clause-ok : goal.unary-returns-in-Around-clause-ok
-unary-returns-in-Around-clause-ok t c =
-    taken_base_read c.args.schema.now c.args.depth around_kind (ahead c.args.cursor) c.take-taken.result c.in-Word.letters c.take-taken.ensures c.in-Word.is (sym c.in-Some.ensures ∙ ap Some c.in-Around.is)
+pub unary-returns-in-Some-Around-clause-ok : goal.unary-returns-in-Some-Around-clause-ok
+unary-returns-in-Some-Around-clause-ok t c =
+    taken_base_read c.args.schema.now c.args.depth around_kind (ahead c.args.cursor) c.take-taken.result c.in-Word.letters c.take-taken.ensures c.in-Word.is (sym c.in-Some-Around.ensures ∙ ap Some c.in-Some-Around.field-0-is)
     c.around.result c.around.ensures.ok
 
-pub unary-returns-in-Around-clause-err : goal.unary-returns-in-Around-clause-err
-unary-returns-in-Around-clause-err t c =
-    taken_base_fails c.args.schema.now c.args.depth around_kind (ahead c.args.cursor) c.take-taken.result c.in-Word.letters c.take-taken.ensures c.in-Word.is (sym c.in-Some.ensures ∙ ap Some c.in-Around.is)
+pub unary-returns-in-Some-Around-clause-err : goal.unary-returns-in-Some-Around-clause-err
+unary-returns-in-Some-Around-clause-err t c =
+    taken_base_fails c.args.schema.now c.args.depth around_kind (ahead c.args.cursor) c.take-taken.result c.in-Word.letters c.take-taken.ensures c.in-Word.is (sym c.in-Some-Around.ensures ∙ ap Some c.in-Some-Around.field-0-is)
     c.around.result c.around.ensures.err
 
-pub unary-returns-in-Between-clause-ok : goal.unary-returns-in-Between-clause-ok
-unary-returns-in-Between-clause-ok t c =
-    taken_base_read c.args.schema.now c.args.depth between_kind (ahead c.args.cursor) c.take-taken.result c.in-Word.letters c.take-taken.ensures c.in-Word.is (sym c.in-Some.ensures ∙ ap Some c.in-Between.is)
+pub unary-returns-in-Some-Between-clause-ok : goal.unary-returns-in-Some-Between-clause-ok
+unary-returns-in-Some-Between-clause-ok t c =
+    taken_base_read c.args.schema.now c.args.depth between_kind (ahead c.args.cursor) c.take-taken.result c.in-Word.letters c.take-taken.ensures c.in-Word.is (sym c.in-Some-Between.ensures ∙ ap Some c.in-Some-Between.field-0-is)
     c.between.result c.between.ensures.ok
 
-pub unary-returns-in-Between-clause-err : goal.unary-returns-in-Between-clause-err
-unary-returns-in-Between-clause-err t c =
-    taken_base_fails c.args.schema.now c.args.depth between_kind (ahead c.args.cursor) c.take-taken.result c.in-Word.letters c.take-taken.ensures c.in-Word.is (sym c.in-Some.ensures ∙ ap Some c.in-Between.is)
+pub unary-returns-in-Some-Between-clause-err : goal.unary-returns-in-Some-Between-clause-err
+unary-returns-in-Some-Between-clause-err t c =
+    taken_base_fails c.args.schema.now c.args.depth between_kind (ahead c.args.cursor) c.take-taken.result c.in-Word.letters c.take-taken.ensures c.in-Word.is (sym c.in-Some-Between.ensures ∙ ap Some c.in-Some-Between.field-0-is)
     c.between.result c.between.ensures.err
 
-pub unary-returns-in-Pos-clause-ok : goal.unary-returns-in-Pos-clause-ok
-unary-returns-in-Pos-clause-ok t c =
-    taken_base_read c.args.schema.now c.args.depth pos_kind (ahead c.args.cursor) c.take-taken.result c.in-Word.letters c.take-taken.ensures c.in-Word.is (sym c.in-Some.ensures ∙ ap Some c.in-Pos.is)
+pub unary-returns-in-Some-Pos-clause-ok : goal.unary-returns-in-Some-Pos-clause-ok
+unary-returns-in-Some-Pos-clause-ok t c =
+    taken_base_read c.args.schema.now c.args.depth pos_kind (ahead c.args.cursor) c.take-taken.result c.in-Word.letters c.take-taken.ensures c.in-Word.is (sym c.in-Some-Pos.ensures ∙ ap Some c.in-Some-Pos.field-0-is)
     c.pos.result c.pos.ensures.ok
 
-pub unary-returns-in-Pos-clause-err : goal.unary-returns-in-Pos-clause-err
-unary-returns-in-Pos-clause-err t c =
-    taken_base_fails c.args.schema.now c.args.depth pos_kind (ahead c.args.cursor) c.take-taken.result c.in-Word.letters c.take-taken.ensures c.in-Word.is (sym c.in-Some.ensures ∙ ap Some c.in-Pos.is)
+pub unary-returns-in-Some-Pos-clause-err : goal.unary-returns-in-Some-Pos-clause-err
+unary-returns-in-Some-Pos-clause-err t c =
+    taken_base_fails c.args.schema.now c.args.depth pos_kind (ahead c.args.cursor) c.take-taken.result c.in-Word.letters c.take-taken.ensures c.in-Word.is (sym c.in-Some-Pos.ensures ∙ ap Some c.in-Some-Pos.field-0-is)
     c.pos.result c.pos.ensures.err
 
-pub unary-returns-in-Layered-clause-ok : goal.unary-returns-in-Layered-clause-ok
-unary-returns-in-Layered-clause-ok t c =
-    taken_base_read c.args.schema.now c.args.depth layered_kind (ahead c.args.cursor) c.take-taken.result c.in-Word.letters c.take-taken.ensures c.in-Word.is (sym c.in-Some.ensures ∙ ap Some c.in-Layered.is)
+pub unary-returns-in-Some-Layered-clause-ok : goal.unary-returns-in-Some-Layered-clause-ok
+unary-returns-in-Some-Layered-clause-ok t c =
+    taken_base_read c.args.schema.now c.args.depth layered_kind (ahead c.args.cursor) c.take-taken.result c.in-Word.letters c.take-taken.ensures c.in-Word.is (sym c.in-Some-Layered.ensures ∙ ap Some c.in-Some-Layered.field-0-is)
     c.layered.result c.layered.ensures.ok
 
-pub unary-returns-in-Layered-clause-err : goal.unary-returns-in-Layered-clause-err
-unary-returns-in-Layered-clause-err t c =
-    taken_base_fails c.args.schema.now c.args.depth layered_kind (ahead c.args.cursor) c.take-taken.result c.in-Word.letters c.take-taken.ensures c.in-Word.is (sym c.in-Some.ensures ∙ ap Some c.in-Layered.is)
+pub unary-returns-in-Some-Layered-clause-err : goal.unary-returns-in-Some-Layered-clause-err
+unary-returns-in-Some-Layered-clause-err t c =
+    taken_base_fails c.args.schema.now c.args.depth layered_kind (ahead c.args.cursor) c.take-taken.result c.in-Word.letters c.take-taken.ensures c.in-Word.is (sym c.in-Some-Layered.ensures ∙ ap Some c.in-Some-Layered.field-0-is)
     c.layered.result c.layered.ensures.err
 
-pub unary-returns-in-Reverse-clause-ok : goal.unary-returns-in-Reverse-clause-ok
-unary-returns-in-Reverse-clause-ok t c =
+pub unary-returns-in-Some-Reverse-clause-ok : goal.unary-returns-in-Some-Reverse-clause-ok
+unary-returns-in-Some-Reverse-clause-ok t c =
     let u = c.take-taken.result in
     IfOk-weaker c.reverse.result _ _
-    (λ x h. word_reverse_read c.args.schema.now c.args.depth c.in-Word.letters.now (ahead c.args.cursor) (ahead u.next) (ahead x.1) (preference_of x.0) (u.at, taken_is _ u _ c.take-taken.ensures c.in-Word.is) (sym c.in-Some.ensures ∙ ap Some c.in-Reverse.is) h)
+    (λ x h. word_reverse_read c.args.schema.now c.args.depth c.in-Word.letters.now (ahead c.args.cursor) (ahead u.next) (ahead x.1) (preference_of x.0) (u.at, taken_is _ u _ c.take-taken.ensures c.in-Word.is) (sym c.in-Some-Reverse.ensures ∙ ap Some c.in-Some-Reverse.field-0-is) h)
     c.reverse.ensures.ok

@@ -1,9 +1,8 @@
-use Rattle.std.proofs.Common.{◌∙◌}
 use Rattle.pref_term.specs.Ahead.{ahead}
 use Rattle.pref_term.specs.Led.{FailsDim}
 use Rattle.pref_term.proofs.LedLemmas.{err_exit}
-use Rattle.pref_term.proofs.AskLemmas.{dim_more, dim_last, dim_column_fails, dim_direction_fails}
-use Rattle.pref_term.proofs.read.ask.listed_dimension.Goals as goal
+use Rattle.pref_term.proofs.AskLemmas.{dim_read, dim_column_fails, dim_direction_fails}
+use Rattle.pref_term.proofs.read.ask.take_dimension.Goals as goal
 
 pub returns-in_err-col-clause-err : goal.returns-in_err-col-clause-err
 returns-in_err-col-clause-err c =
@@ -17,16 +16,7 @@ returns-in_err-direction-clause-err c =
     err_exit c.from_residual-in_err-direction.result f (FailsDim c.args.schema.now (ahead c.args.cursor)) c.from_residual-in_err-direction.ensures.1
     (dim_direction_fails c.args.schema.now (ahead c.args.cursor) (ahead c.in_ok-col.behind) c.in_ok-col.col f c.in_ok-col.ensures.ok c.in_err-direction.ensures.err)
 
-pub returns-then-is-clause-ok : goal.returns-then-is-clause-ok
-returns-then-is-clause-ok c =
-    let v = c.in_ok-col in
+pub returns-clause-ok : goal.returns-clause-ok
+returns-clause-ok c =
     let d = c.in_ok-direction in
-    let t = c.take-taken.result in
-    dim_more c.args.schema.now (ahead c.args.cursor) (ahead v.behind) (ahead d.next) (ahead t.next) v.col d.direction v.ensures.ok d.ensures.ok (t.at, c.take-taken.ensures ∙ c.if-is.ensures.yes)
-
-pub returns-then-ends-clause-ok : goal.returns-then-ends-clause-ok
-returns-then-ends-clause-ok c =
-    let v = c.in_ok-col in
-    let d = c.in_ok-direction in
-    let t = c.take-taken.result in
-    dim_last c.args.schema.now (ahead c.args.cursor) (ahead v.behind) (ahead d.next) (ahead d.next) v.col d.direction t.at v.ensures.ok d.ensures.ok (c.take-taken.ensures ∙ c.if-ends.ensures.yes)
+    dim_read c.args.schema.now (ahead c.args.cursor) (ahead c.in_ok-col.behind) (ahead d.next) c.in_ok-col.col d.direction c.in_ok-col.ensures.ok d.ensures.ok
