@@ -121,7 +121,7 @@ module _ (names : Names) (depth : ℕ) (k : BaseKind) (ts : List Placed) (t : Ta
 
   pub taken_base_fails : IfErr r (FailsBase names k (ahead t.next)) → IfErr r (FailsUnary names depth ts)
   taken_base_fails fails =
-      if_err_map r (FailsBase names k (ahead t.next)) (FailsUnary names depth ts)
+      if_err_map r
       (λ fault h. base_fails names depth letters.now k ts (ahead t.next) fault (t.at, taken_is ts t _ e f) word_is h) fails
 
 pub word_reverse_read : (names : Names) (depth : ℕ) (letters : List ℕ) (ts us vs : List Placed) (p : Preference) → Passes (word letters) ts us → keyword_of letters ≡ Some reverse_word → ReadsReverse names depth us p vs → ReadsUnary names depth ts p vs

@@ -171,13 +171,13 @@ pub end_refused : (ts us : List Placed) (least value : ℤ) → ReadsNumber ts v
 end_refused ts us least value n under names h column l e = n.refused names h (end_of column l) (ap (below (Some l)) n.value_is ∙ below_of l value least true e under)
 
 -- what a `?` hands on
-pub err_exit : {T : Type 0} (r : Result T TermFault) (f : TermFault) (P : TermFault → Type 0) → IsErrAnd r (λ g. g ≡ f) → P f → IfErr r P
-err_exit (Ok x) f P h k = absurd h
-err_exit (Err g) f P h k = subst P (sym h) k
+pub err_exit : {T : Type 0} {f : TermFault} (r : Result T TermFault) (P : TermFault → Type 0) → IsErrAnd r (λ g. g ≡ f) → P f → IfErr r P
+err_exit (Ok x) P h k = absurd h
+err_exit (Err g) P h k = subst P (sym h) k
 
-pub if_err_map : {T : Type 0} (r : Result T TermFault) (P Q : TermFault → Type 0) → ((f : TermFault) → P f → Q f) → IfErr r P → IfErr r Q
-if_err_map (Ok x) P Q g h = tt
-if_err_map (Err f) P Q g h = g f h
+pub if_err_map : {T : Type 0} {P Q : TermFault → Type 0} (r : Result T TermFault) → ((f : TermFault) → P f → Q f) → IfErr r P → IfErr r Q
+if_err_map (Ok x) g h = tt
+if_err_map (Err f) g h = g f h
 
 -- ---- the last sign of a base term, and the comma behind its column
 

@@ -1,8 +1,7 @@
 //! Reading whole questions: what is around a term, and skyline clauses.
-ghost use Rattle.std.specs.Prelude.{◌≡◌, ◌≤◌, ◌<◌, ◌+◌, ℕ, List, [], ◌∷◌, ◌++◌, length, IfOk, IfErr, OnErr, true, false, Some, None, MatchOption};
+ghost use Rattle.std.specs.Prelude.{◌≡◌, ◌<◌, ◌+◌, ℕ, List, ◌++◌, length, IfOk, IfErr, true, false, Some, None, MatchOption};
 ghost use Rattle.std.specs.Option.{option_map};
 ghost use Rattle.pref_term.specs.Ahead.{ahead};
-ghost use Rattle.pref_term.specs.Token as tokens;
 ghost use Rattle.pref_term.specs.Distinct as distinct;
 ghost use Rattle.pref_term.specs.Grammar as grammar;
 ghost use Rattle.pref_term.specs.Led as led;
@@ -10,7 +9,6 @@ ghost use Rattle.pref_term.specs.Reading as reading;
 ghost use Rattle.pref_term.specs.Spells as spells;
 ghost use Rattle.pref_term.specs.Question.{FitsWidth, IsAsk, IsCount, cut_of};
 ghost use Rattle.pref_term.specs.Preference.{preference_of};
-ghost use Rattle.pref_term.specs.Preference as terms;
 
 use super::base_term::{Parsed, column, expect, push, take_word};
 use super::term::{pareto, prior};
@@ -230,16 +228,6 @@ fn clause_ask<'a>(
     }
 }
 
-/// Takes what follows `skyline`.
-fn skyline<'a>(alloc: Global, schema: &Schema, cursor: Cursor<'a>) -> Result<Ask, TermFault>
-    ensures ok { IfOk result (λ a. (s : List ℕ) → led.Asks schema.now (reading.skyline_named s) (ahead cursor.entry) a) }
-    ensures known { IfOk result (λ a. FitsWidth (length schema.now) a) }
-    ensures err { IfErr result (λ f. (s : List ℕ) → led.AsksNothing schema.now (reading.skyline_named s) (ahead cursor.entry) f) }
-{
-    let behind = of(cursor)?;
-    clause_ask(alloc, schema, behind, false)
-}
-
 /// Takes a whole question, in which no word `distinct` is a word of the clause.
 fn ask<'a>(alloc: Global, schema: &Schema, cursor: Cursor<'a>) -> Result<Ask, TermFault>
     ensures ok { IfOk result (λ a. led.Asks schema.now reading.start (ahead cursor.entry) a) }
@@ -262,7 +250,8 @@ fn ask<'a>(alloc: Global, schema: &Schema, cursor: Cursor<'a>) -> Result<Ask, Te
             let Some(CasedWord::Skyline) = cased_word(letters) else {
                 return Err(word.unexpected());
             };
-            skyline(alloc, schema, word.next)
+            let behind = of(word.next)?;
+            clause_ask(alloc, schema, behind, false)
         }
     }
 }

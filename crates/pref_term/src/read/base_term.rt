@@ -1,12 +1,9 @@
 //! Reading base terms.
-ghost use Rattle.std.specs.Prelude.{◌≡◌, ◌≤◌, ◌<◌, ◌+◌, ℕ, List, [], ◌∷◌, ◌++◌, length, IfOk, IfErr, OnOk, OnErr, true, false};
-ghost use Rattle.std.specs.Str.{all_ascii_digits};
-ghost use Rattle.pref_table.specs.Number.{fits_cell};
+ghost use Rattle.std.specs.Prelude.{◌≡◌, ◌<◌, ◌+◌, [], ◌∷◌, ◌++◌, length, IfOk, IfErr, OnOk};
 ghost use Rattle.pref_term.specs.Ahead.{ahead};
 ghost use Rattle.pref_term.specs.Token as tokens;
 ghost use Rattle.pref_term.specs.Led as led;
 ghost use Rattle.pref_term.specs.Reading as reading;
-ghost use Rattle.pref_term.specs.Spells as spells;
 ghost use Rattle.pref_term.specs.Preference.{preference_of};
 
 use crate::cursor::{Cursor, Taken};

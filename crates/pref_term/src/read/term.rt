@@ -1,10 +1,7 @@
 //! Reading terms: one function for each rule of the grammar.
-ghost use Rattle.std.specs.Prelude.{◌≡◌, ◌≤◌, ◌<◌, ◌+◌, ℕ, List, [], ◌∷◌, ◌++◌, length, IfOk, IfErr, OnOk, OnErr, true, false};
+ghost use Rattle.std.specs.Prelude.{◌≡◌, ◌≤◌, ◌<◌, ◌+◌, length, IfOk, IfErr};
 ghost use Rattle.pref_term.specs.Ahead.{ahead};
-ghost use Rattle.pref_term.specs.Token as tokens;
 ghost use Rattle.pref_term.specs.Led as led;
-ghost use Rattle.pref_term.specs.Reading as reading;
-ghost use Rattle.pref_term.specs.Spells as spells;
 ghost use Rattle.pref_term.specs.Preference.{preference_of};
 ghost use Rattle.pref_term.specs.Preference as terms;
 

@@ -3,7 +3,7 @@ use Rattle.std.specs.Option.{option_map}
 use Rattle.std.proofs.lemmas.Result.{IfOk-weaker}
 use Rattle.pref_term.specs.Ahead.{ahead}
 use Rattle.pref_term.specs.Preference.{preference_of}
-use Rattle.pref_term.specs.Led.{AsksClause, AsksClauseNothing, ReadsClause}
+use Rattle.pref_term.specs.Led.{AsksClause, ReadsClause}
 use Rattle.pref_term.specs.Question.{FitsWidth}
 use Rattle.pref_term.specs.declared.ask.Mode.TheVariants.{Best}
 use Rattle.pref_term.specs.declared.term.Term.{Term}
@@ -13,10 +13,7 @@ use Rattle.pref_term.proofs.DistinctLemmas.{clause_asks, clause_asks_nothing, cl
 use Rattle.pref_term.proofs.read.ask.clause_ask.Goals as goal
 
 pub returns-in_err-product-clause-err : goal.returns-in_err-product-clause-err
-returns-in_err-product-clause-err c =
-    let f = c.in_err-product.field-0.0 in
-    err_exit c.from_residual.result f (AsksClauseNothing c.args.schema.now c.args.distinct (ahead c.args.cursor)) c.from_residual.ensures.1
-    (clause_fails c.args.schema.now c.args.distinct (ahead c.args.cursor) f c.in_err-product.ensures.err)
+returns-in_err-product-clause-err c = err_exit _ _ c.from_residual.ensures.1 (clause_fails c.args.schema.now c.args.distinct (ahead c.args.cursor) _ c.in_err-product.ensures.err)
 
 pub ask_of-requires : goal.ask_of-requires
 ask_of-requires c =

@@ -3,7 +3,7 @@ use Rattle.std.specs.Option.{option_map}
 use Rattle.pref_term.specs.Token.{finish}
 use Rattle.pref_term.specs.Ahead.{ahead}
 use Rattle.pref_term.specs.Preference.{preference_of}
-use Rattle.pref_term.specs.Led.{NotNext, ReadsDims, FailsClause}
+use Rattle.pref_term.specs.Led.{NotNext, ReadsDims}
 use Rattle.pref_term.proofs.LedLemmas.{err_exit}
 use Rattle.pref_term.proofs.AskLemmas.{dims_none, dims_more, dims_all, dims_stuck, dims_fail, reads_dims, reads_clause}
 use Rattle.pref_term.proofs.read.ask.dimensions.Goals as goal
@@ -12,9 +12,7 @@ pub loop-clause-init : goal.loop-clause-init
 loop-clause-init c = subst (λ (xs : List ℕ). ReadsDims c.args.schema.now (ahead c.args.cursor) None xs (ahead c.args.cursor)) (sym c.new.ensures.items) (dims_none c.args.schema.now (ahead c.args.cursor))
 
 pub returns-in_err-dimension-clause-err : goal.returns-in_err-dimension-clause-err
-returns-in_err-dimension-clause-err c =
-    err_exit c.from_residual.result c.in_err-dimension.field-0.0 (FailsClause c.args.schema.now (ahead c.args.cursor)) c.from_residual.ensures.1
-    (dims_fail c.args.schema.now _ (ahead c.loop-clause.place) _ _ c.in_err-dimension.field-0.0 c.loop-clause.invariant c.in_err-dimension.ensures.err)
+returns-in_err-dimension-clause-err c = err_exit _ _ c.from_residual.ensures.1 (dims_fail c.args.schema.now _ (ahead c.loop-clause.place) _ _ _ c.loop-clause.invariant c.in_err-dimension.ensures.err)
 
 pub returns-then-ends-clause-ok : goal.returns-then-ends-clause-ok
 returns-then-ends-clause-ok c =
@@ -26,9 +24,7 @@ returns-then-ends-clause-ok c =
 pub returns-in_err-place-clause-err : goal.returns-in_err-place-clause-err
 returns-in_err-place-clause-err c =
     let v = c.in_ok-dimension in
-    let f = c.in_err-place.field-0.0 in
-    err_exit c.from_residual-in_err-place.result f (FailsClause c.args.schema.now (ahead c.args.cursor)) c.from_residual-in_err-place.ensures.1
-    (dims_stuck c.args.schema.now _ (ahead c.loop-clause.place) (ahead v.next) (option_map preference_of c.loop-clause.clause.product) c.loop-clause.clause.group.items v.dimension.col v.dimension.direction c.loop-clause.invariant v.ensures.ok f
+    err_exit _ _ c.from_residual-in_err-place.ensures.1 (dims_stuck c.args.schema.now _ (ahead c.loop-clause.place) (ahead v.next) (option_map preference_of c.loop-clause.clause.product) c.loop-clause.clause.group.items v.dimension.col v.dimension.direction c.loop-clause.invariant v.ensures.ok _
     (subst (NotNext finish) (sym c.take.ensures) c.if-ends.ensures.no) c.in_err-place.ensures.err)
 
 pub loop-clause-preserved : goal.loop-clause-preserved

@@ -1,7 +1,7 @@
 use Rattle.std.proofs.Common.{List, ℕ, sym, subst, ◌∙◌}
 use Rattle.pref_term.specs.Token.{finish}
 use Rattle.pref_term.specs.Ahead.{ahead}
-use Rattle.pref_term.specs.Led.{FailsColumns, NotNext, ReadsColumns, ReadsSomeColumns}
+use Rattle.pref_term.specs.Led.{NotNext, ReadsColumns, ReadsSomeColumns}
 use Rattle.pref_term.proofs.LedLemmas.{err_exit}
 use Rattle.pref_term.proofs.AskLemmas.{columns_none, columns_more, columns_all, columns_stuck, columns_fail}
 use Rattle.pref_term.proofs.read.ask.group_columns.Goals as goal
@@ -10,9 +10,7 @@ pub loop-columns-init : goal.loop-columns-init
 loop-columns-init c = subst (λ (xs : List ℕ). ReadsSomeColumns c.args.schema.now (ahead c.args.cursor) xs (ahead c.args.cursor)) (sym c.new-columns.ensures.items) (columns_none c.args.schema.now (ahead c.args.cursor))
 
 pub returns-in_err-col-clause-err : goal.returns-in_err-col-clause-err
-returns-in_err-col-clause-err c =
-    err_exit c.from_residual.result c.in_err-col.field-0.0 (FailsColumns c.args.schema.now (ahead c.args.cursor)) c.from_residual.ensures.1
-    (columns_fail c.args.schema.now _ (ahead c.loop-columns.place) _ c.in_err-col.field-0.0 c.loop-columns.invariant c.in_err-col.ensures.err)
+returns-in_err-col-clause-err c = err_exit _ _ c.from_residual.ensures.1 (columns_fail c.args.schema.now _ (ahead c.loop-columns.place) _ _ c.loop-columns.invariant c.in_err-col.ensures.err)
 
 pub returns-then-ends-clause-ok : goal.returns-then-ends-clause-ok
 returns-then-ends-clause-ok c =
@@ -23,9 +21,7 @@ returns-then-ends-clause-ok c =
 pub returns-in_err-place-clause-err : goal.returns-in_err-place-clause-err
 returns-in_err-place-clause-err c =
     let v = c.in_ok-col in
-    let f = c.in_err-place.field-0.0 in
-    err_exit c.from_residual-in_err-place.result f (FailsColumns c.args.schema.now (ahead c.args.cursor)) c.from_residual-in_err-place.ensures.1
-    (columns_stuck c.args.schema.now _ (ahead c.loop-columns.place) (ahead v.next) c.loop-columns.columns.items v.col c.loop-columns.invariant v.ensures.ok f (subst (NotNext finish) (sym c.take.ensures) c.if-ends.ensures.no) c.in_err-place.ensures.err)
+    err_exit _ _ c.from_residual-in_err-place.ensures.1 (columns_stuck c.args.schema.now _ (ahead c.loop-columns.place) (ahead v.next) c.loop-columns.columns.items v.col c.loop-columns.invariant v.ensures.ok _ (subst (NotNext finish) (sym c.take.ensures) c.if-ends.ensures.no) c.in_err-place.ensures.err)
 
 pub loop-columns-preserved : goal.loop-columns-preserved
 loop-columns-preserved c =

@@ -1,7 +1,6 @@
 use Rattle.std.proofs.Common.{Some, sym, ap, ◌∙◌}
 use Rattle.std.proofs.lemmas.Result.{IfOk-weaker}
 use Rattle.pref_term.specs.Ahead.{ahead}
-use Rattle.pref_term.specs.Led.{FailsColumns, FailsGrouping}
 use Rattle.pref_term.proofs.LedLemmas.{if_err_map}
 use Rattle.pref_term.proofs.AskLemmas.{grouping_read, grouping_fails}
 use Rattle.pref_term.proofs.read.ask.grouping.Goals as goal
@@ -16,6 +15,5 @@ returns-clause-ok c =
 pub returns-clause-err : goal.returns-clause-err
 returns-clause-err c =
     let w = c.in_ok-letters in
-    if_err_map c.group_columns.result (FailsColumns c.args.schema.now (ahead w.by.next)) (FailsGrouping c.args.schema.now (ahead c.args.cursor))
-    (λ f h. grouping_fails c.args.schema.now w.letters.now (ahead c.args.cursor) (ahead w.by.next) f (w.by.at, w.ensures.ok) (sym c.in-Some-By.ensures ∙ ap Some c.in-Some-By.field-0-is) h)
+    if_err_map _ (λ f h. grouping_fails c.args.schema.now w.letters.now (ahead c.args.cursor) (ahead w.by.next) f (w.by.at, w.ensures.ok) (sym c.in-Some-By.ensures ∙ ap Some c.in-Some-By.field-0-is) h)
     c.group_columns.ensures.err

@@ -1,31 +1,23 @@
 use Rattle.std.proofs.lemmas.Bool.{false≢true}
 use Rattle.std.proofs.Common.{false}
-use Rattle.std.proofs.Common.{sym, subst, length, ◌≡◌}
+use Rattle.std.proofs.Common.{sym, subst, length}
 use Rattle.std.proofs.lemmas.Result.{IfOk-weaker}
 use Rattle.pref_term.specs.Ahead.{ahead}
-use Rattle.pref_term.specs.Grammar.{HeadText}
-use Rattle.pref_term.specs.Spells.{mode_of}
 use Rattle.pref_term.specs.Reading.{operand, in_whole}
 use Rattle.pref_term.specs.Preference.{preference_of}
 use Rattle.pref_term.specs.Question.{FitsWidth}
-use Rattle.pref_term.specs.Led.{Asks, AsksNothing}
-use Rattle.pref_term.specs.declared.fault.TermFault.{TermFault}
+use Rattle.pref_term.specs.Led.{Asks}
 use Rattle.pref_term.proofs.LedLemmas.{err_exit}
 use Rattle.pref_term.proofs.AskLemmas.{rated_read, rated_prior_fails, rated_group_fails, is_ask, fits_width}
 use Rattle.pref_term.proofs.read.ask.rated.Goals as goal
 
 pub returns-in_err-term-clause-err : goal.returns-in_err-term-clause-err
-returns-in_err-term-clause-err c =
-    let f = c.in_err-term.field-0.0 in
-    err_exit c.from_residual.result f (λ (g : TermFault). (head : HeadText) → mode_of head ≡ c.args.mode → AsksNothing c.args.schema.now (operand (in_whole head)) (ahead c.args.cursor) g) c.from_residual.ensures.1
-    (λ head _. rated_prior_fails c.args.schema.now (ahead c.args.cursor) f c.in_err-term.ensures.err head)
+returns-in_err-term-clause-err c = err_exit _ _ c.from_residual.ensures.1 (λ head _. rated_prior_fails c.args.schema.now (ahead c.args.cursor) _ c.in_err-term.ensures.err head)
 
 pub returns-in_err-group-clause-err : goal.returns-in_err-group-clause-err
 returns-in_err-group-clause-err c =
-    let f = c.in_err-group.field-0.0 in
     let v = c.in_ok-term in
-    err_exit c.from_residual-in_err-group.result f (λ (g : TermFault). (head : HeadText) → mode_of head ≡ c.args.mode → AsksNothing c.args.schema.now (operand (in_whole head)) (ahead c.args.cursor) g) c.from_residual-in_err-group.ensures.1
-    (λ head _. rated_group_fails c.args.schema.now (ahead c.args.cursor) (ahead v.next) (preference_of v.term) f v.ensures.ok c.in_err-group.ensures.err head)
+    err_exit _ _ c.from_residual-in_err-group.ensures.1 (λ head _. rated_group_fails c.args.schema.now (ahead c.args.cursor) (ahead v.next) (preference_of v.term) _ v.ensures.ok c.in_err-group.ensures.err head)
 
 pub ask_of-requires : goal.ask_of-requires
 ask_of-requires c =

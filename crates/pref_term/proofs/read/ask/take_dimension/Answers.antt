@@ -1,20 +1,13 @@
 use Rattle.pref_term.specs.Ahead.{ahead}
-use Rattle.pref_term.specs.Led.{FailsDim}
 use Rattle.pref_term.proofs.LedLemmas.{err_exit}
 use Rattle.pref_term.proofs.AskLemmas.{dim_read, dim_column_fails, dim_direction_fails}
 use Rattle.pref_term.proofs.read.ask.take_dimension.Goals as goal
 
 pub returns-in_err-col-clause-err : goal.returns-in_err-col-clause-err
-returns-in_err-col-clause-err c =
-    let f = c.in_err-col.field-0.0 in
-    err_exit c.from_residual.result f (FailsDim c.args.schema.now (ahead c.args.cursor)) c.from_residual.ensures.1
-    (dim_column_fails c.args.schema.now (ahead c.args.cursor) f c.in_err-col.ensures.err)
+returns-in_err-col-clause-err c = err_exit _ _ c.from_residual.ensures.1 (dim_column_fails c.args.schema.now (ahead c.args.cursor) _ c.in_err-col.ensures.err)
 
 pub returns-in_err-direction-clause-err : goal.returns-in_err-direction-clause-err
-returns-in_err-direction-clause-err c =
-    let f = c.in_err-direction.field-0.0 in
-    err_exit c.from_residual-in_err-direction.result f (FailsDim c.args.schema.now (ahead c.args.cursor)) c.from_residual-in_err-direction.ensures.1
-    (dim_direction_fails c.args.schema.now (ahead c.args.cursor) (ahead c.in_ok-col.behind) c.in_ok-col.col f c.in_ok-col.ensures.ok c.in_err-direction.ensures.err)
+returns-in_err-direction-clause-err c = err_exit _ _ c.from_residual-in_err-direction.ensures.1 (dim_direction_fails c.args.schema.now (ahead c.args.cursor) (ahead c.in_ok-col.behind) c.in_ok-col.col _ c.in_ok-col.ensures.ok c.in_err-direction.ensures.err)
 
 pub returns-clause-ok : goal.returns-clause-ok
 returns-clause-ok c =

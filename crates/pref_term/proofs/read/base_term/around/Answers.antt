@@ -1,5 +1,4 @@
 use Rattle.pref_term.specs.Ahead.{ahead}
-use Rattle.pref_term.specs.Led.{FailsBase}
 use Rattle.pref_term.specs.Reading.{around_kind}
 use Rattle.pref_term.proofs.LedLemmas.{around_read, around_fails, around_number_fails, around_end_fails, err_exit}
 use Rattle.std.proofs.Common.{w64, rules, ℤ, sym, subst}
@@ -9,22 +8,13 @@ use Rattle.pref_term.specs.Preference.{scored, around}
 use Rattle.pref_term.proofs.read.base_term.around.Goals as goal
 
 pub returns-in_err-inside-clause-err : goal.returns-in_err-inside-clause-err
-returns-in_err-inside-clause-err c =
-    let f = c.in_err-inside.field-0.0 in
-    err_exit c.from_residual-in_err-inside.result f (FailsBase c.args.schema.now around_kind (ahead c.args.cursor)) c.from_residual-in_err-inside.ensures.1
-    (around_fails c.args.schema.now _ (ahead c.in_ok-col.next) c.in_ok-col.col f c.in_ok-col.ensures.ok c.in_err-inside.ensures.err)
+returns-in_err-inside-clause-err c = err_exit _ _ c.from_residual-in_err-inside.ensures.1 (around_fails c.args.schema.now _ (ahead c.in_ok-col.next) c.in_ok-col.col _ c.in_ok-col.ensures.ok c.in_err-inside.ensures.err)
 
 pub returns-in_err-centre-clause-err : goal.returns-in_err-centre-clause-err
-returns-in_err-centre-clause-err c =
-    let f = c.in_err-centre.field-0.0 in
-    err_exit c.from_residual-in_err-centre.result f (FailsBase c.args.schema.now around_kind (ahead c.args.cursor)) c.from_residual-in_err-centre.ensures.1
-    (around_number_fails c.args.schema.now _ (ahead c.in_ok-col.next) (ahead c.in_ok-inside.inside) c.in_ok-col.col f c.in_ok-col.ensures.ok c.in_ok-inside.ensures.ok c.in_err-centre.ensures.err)
+returns-in_err-centre-clause-err c = err_exit _ _ c.from_residual-in_err-centre.ensures.1 (around_number_fails c.args.schema.now _ (ahead c.in_ok-col.next) (ahead c.in_ok-inside.inside) c.in_ok-col.col _ c.in_ok-col.ensures.ok c.in_ok-inside.ensures.ok c.in_err-centre.ensures.err)
 
 pub returns-in_err-rest-clause-err : goal.returns-in_err-rest-clause-err
-returns-in_err-rest-clause-err c =
-    let f = c.in_err-rest.field-0.0 in
-    err_exit c.from_residual-in_err-rest.result f (FailsBase c.args.schema.now around_kind (ahead c.args.cursor)) c.from_residual-in_err-rest.ensures.1
-    (around_end_fails c.args.schema.now _ (ahead c.in_ok-col.next) (ahead c.in_ok-inside.inside) (ahead c.in_ok-centre.behind) c.in_ok-col.col c.in_ok-centre.centre f c.in_ok-col.ensures.ok c.in_ok-inside.ensures.ok c.in_ok-centre.ensures.ok c.in_err-rest.ensures.err)
+returns-in_err-rest-clause-err c = err_exit _ _ c.from_residual-in_err-rest.ensures.1 (around_end_fails c.args.schema.now _ (ahead c.in_ok-col.next) (ahead c.in_ok-inside.inside) (ahead c.in_ok-centre.behind) c.in_ok-col.col c.in_ok-centre.centre _ c.in_ok-col.ensures.ok c.in_ok-inside.ensures.ok c.in_ok-centre.ensures.ok c.in_err-rest.ensures.err)
 
 pub returns-clause-ok : goal.returns-clause-ok
 returns-clause-ok c =

@@ -1,5 +1,5 @@
 use Rattle.pref_term.specs.Ahead.{ahead}
-use Rattle.pref_term.specs.Led.{FailsBase, ReadsBase}
+use Rattle.pref_term.specs.Led.{ReadsBase}
 use Rattle.pref_term.specs.Reading.{layered_kind}
 use Rattle.pref_term.proofs.LedLemmas.{err_exit}
 use Rattle.pref_term.proofs.SetLemmas.{layered_read, layered_fails, layered_sets_fails}
@@ -8,16 +8,10 @@ use Rattle.pref_term.specs.Preference.{scored, layered}
 use Rattle.pref_term.proofs.read.base_term.layered.Goals as goal
 
 pub returns-in_err-inside-clause-err : goal.returns-in_err-inside-clause-err
-returns-in_err-inside-clause-err c =
-    let f = c.in_err-inside.field-0.0 in
-    err_exit c.from_residual-in_err-inside.result f (FailsBase c.args.schema.now layered_kind (ahead c.args.cursor)) c.from_residual-in_err-inside.ensures.1
-    (layered_fails c.args.schema.now _ (ahead c.in_ok-col.next) c.in_ok-col.col f c.in_ok-col.ensures.ok c.in_err-inside.ensures.err)
+returns-in_err-inside-clause-err c = err_exit _ _ c.from_residual-in_err-inside.ensures.1 (layered_fails c.args.schema.now _ (ahead c.in_ok-col.next) c.in_ok-col.col _ c.in_ok-col.ensures.ok c.in_err-inside.ensures.err)
 
 pub returns-in_err-sets-clause-err : goal.returns-in_err-sets-clause-err
-returns-in_err-sets-clause-err c =
-    let f = c.in_err-sets.field-0.0 in
-    err_exit c.from_residual-in_err-sets.result f (FailsBase c.args.schema.now layered_kind (ahead c.args.cursor)) c.from_residual-in_err-sets.ensures.1
-    (layered_sets_fails c.args.schema.now _ (ahead c.in_ok-col.next) (ahead c.in_ok-inside.inside) c.in_ok-col.col f c.in_ok-col.ensures.ok c.in_ok-inside.ensures.ok c.in_err-sets.ensures.err)
+returns-in_err-sets-clause-err c = err_exit _ _ c.from_residual-in_err-sets.ensures.1 (layered_sets_fails c.args.schema.now _ (ahead c.in_ok-col.next) (ahead c.in_ok-inside.inside) c.in_ok-col.col _ c.in_ok-col.ensures.ok c.in_ok-inside.ensures.ok c.in_err-sets.ensures.err)
 
 pub returns-clause-ok : goal.returns-clause-ok
 returns-clause-ok c =

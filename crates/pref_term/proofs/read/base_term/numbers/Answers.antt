@@ -2,7 +2,7 @@ use Rattle.std.proofs.Common.{w64, rules, arith, length, ℤ, List, [], ◌∷�
 use Rattle.std.proofs.lemmas.Int.{to_z-of_z}
 use Rattle.pref_term.specs.Token.{Placed, sign}
 use Rattle.pref_term.specs.Ahead.{ahead}
-use Rattle.pref_term.specs.Led.{FailsNumbers, NotNext, ReadsNumbers, ReadsSome}
+use Rattle.pref_term.specs.Led.{NotNext, ReadsNumbers, ReadsSome}
 use Rattle.pref_term.proofs.LedLemmas.{some_none, some_more, some_fails, some_stuck, some_all, err_exit}
 use Rattle.pref_term.proofs.read.base_term.numbers.Goals as goal
 
@@ -13,9 +13,7 @@ loop-set-init c = record {
 }
 
 pub returns-in_err-value-clause-err : goal.returns-in_err-value-clause-err
-returns-in_err-value-clause-err c =
-    err_exit c.from_residual.result c.in_err-value.field-0.0 (FailsNumbers c.args.close (ahead c.args.cursor)) c.from_residual.ensures.1
-    (some_fails c.args.close _ (ahead c.loop-set.place) _ c.in_err-value.field-0.0 c.loop-set.invariant.so_far c.in_err-value.ensures.err)
+returns-in_err-value-clause-err c = err_exit _ _ c.from_residual.ensures.1 (some_fails c.args.close _ (ahead c.loop-set.place) _ _ c.loop-set.invariant.so_far c.in_err-value.ensures.err)
 
 pub returns-then-is-clause-ok : goal.returns-then-is-clause-ok
 returns-then-is-clause-ok c =
@@ -28,9 +26,7 @@ returns-then-is-clause-ok c =
 pub returns-in_err-place-clause-err : goal.returns-in_err-place-clause-err
 returns-in_err-place-clause-err c =
     let v = c.in_ok-value in
-    let f = c.in_err-place.field-0.0 in
-    err_exit c.from_residual-in_err-place.result f (FailsNumbers c.args.close (ahead c.args.cursor)) c.from_residual-in_err-place.ensures.1
-    (some_stuck c.args.close _ (ahead c.loop-set.place) (ahead v.next) c.loop-set.set.items v.value c.loop-set.invariant.so_far v.ensures.ok f (subst (NotNext (sign c.args.close)) (sym c.take-taken.ensures) c.if-is.ensures.no) c.in_err-place.ensures.err)
+    err_exit _ _ c.from_residual-in_err-place.ensures.1 (some_stuck c.args.close _ (ahead c.loop-set.place) (ahead v.next) c.loop-set.set.items v.value c.loop-set.invariant.so_far v.ensures.ok _ (subst (NotNext (sign c.args.close)) (sym c.take-taken.ensures) c.if-is.ensures.no) c.in_err-place.ensures.err)
 
 pub loop-set-preserved : goal.loop-set-preserved
 loop-set-preserved c =

@@ -1,20 +1,14 @@
 use Rattle.std.proofs.lemmas.Result.{IfOk-weaker}
 use Rattle.pref_term.specs.Ahead.{ahead}
-use Rattle.pref_term.specs.Led.{FailsColumn, FailsOpened}
 use Rattle.pref_term.proofs.LedLemmas.{opened_read, opened_fails, opened_other, err_exit, if_err_map}
 use Rattle.pref_term.proofs.read.base_term.opened_column.Goals as goal
 
 pub returns-in_err-inside-clause-err : goal.returns-in_err-inside-clause-err
-returns-in_err-inside-clause-err c =
-    let f = c.in_err-inside.field-0.0 in
-    err_exit c.from_residual.result f (FailsOpened c.args.schema.now (ahead c.args.cursor)) c.from_residual.ensures.1
-    (opened_other c.args.schema.now (ahead c.args.cursor) f c.in_err-inside.ensures.err)
+returns-in_err-inside-clause-err c = err_exit _ _ c.from_residual.ensures.1 (opened_other c.args.schema.now (ahead c.args.cursor) _ c.in_err-inside.ensures.err)
 
 pub returns-clause-ok : goal.returns-clause-ok
 returns-clause-ok c =
     IfOk-weaker c.column.result _ _ (λ x h. opened_read c.args.schema.now (ahead c.args.cursor) (ahead c.in_ok-inside.inside) (ahead x.1) x.0 c.in_ok-inside.ensures.ok h) c.column.ensures.ok
 
 pub returns-clause-err : goal.returns-clause-err
-returns-clause-err c =
-    if_err_map c.column.result (FailsColumn c.args.schema.now (ahead c.in_ok-inside.inside)) (FailsOpened c.args.schema.now (ahead c.args.cursor))
-    (λ f h. opened_fails c.args.schema.now (ahead c.args.cursor) (ahead c.in_ok-inside.inside) f c.in_ok-inside.ensures.ok h) c.column.ensures.err
+returns-clause-err c = if_err_map _ (λ f h. opened_fails c.args.schema.now (ahead c.args.cursor) (ahead c.in_ok-inside.inside) f c.in_ok-inside.ensures.ok h) c.column.ensures.err

@@ -1,5 +1,4 @@
 use Rattle.pref_term.specs.Ahead.{ahead}
-use Rattle.pref_term.specs.Led.{FailsBase}
 use Rattle.pref_term.specs.Reading.{pos_kind}
 use Rattle.pref_term.proofs.LedLemmas.{pos_read, pos_fails, pos_numbers_fails, err_exit}
 use Rattle.std.proofs.Common.{ℤ, List, sym, subst}
@@ -8,16 +7,10 @@ use Rattle.pref_term.specs.Preference.{scored, one_of}
 use Rattle.pref_term.proofs.read.base_term.pos.Goals as goal
 
 pub returns-in_err-inside-clause-err : goal.returns-in_err-inside-clause-err
-returns-in_err-inside-clause-err c =
-    let f = c.in_err-inside.field-0.0 in
-    err_exit c.from_residual-in_err-inside.result f (FailsBase c.args.schema.now pos_kind (ahead c.args.cursor)) c.from_residual-in_err-inside.ensures.1
-    (pos_fails c.args.schema.now _ (ahead c.in_ok-col.next) c.in_ok-col.col f c.in_ok-col.ensures.ok c.in_err-inside.ensures.err)
+returns-in_err-inside-clause-err c = err_exit _ _ c.from_residual-in_err-inside.ensures.1 (pos_fails c.args.schema.now _ (ahead c.in_ok-col.next) c.in_ok-col.col _ c.in_ok-col.ensures.ok c.in_err-inside.ensures.err)
 
 pub returns-in_err-numbers-clause-err : goal.returns-in_err-numbers-clause-err
-returns-in_err-numbers-clause-err c =
-    let f = c.in_err-numbers.field-0.0 in
-    err_exit c.from_residual-in_err-numbers.result f (FailsBase c.args.schema.now pos_kind (ahead c.args.cursor)) c.from_residual-in_err-numbers.ensures.1
-    (pos_numbers_fails c.args.schema.now _ (ahead c.in_ok-col.next) (ahead c.in_ok-inside.inside) c.in_ok-col.col f c.in_ok-col.ensures.ok c.in_ok-inside.ensures.ok c.in_err-numbers.ensures.err)
+returns-in_err-numbers-clause-err c = err_exit _ _ c.from_residual-in_err-numbers.ensures.1 (pos_numbers_fails c.args.schema.now _ (ahead c.in_ok-col.next) (ahead c.in_ok-inside.inside) c.in_ok-col.col _ c.in_ok-col.ensures.ok c.in_ok-inside.ensures.ok c.in_err-numbers.ensures.err)
 
 pub returns-clause-ok : goal.returns-clause-ok
 returns-clause-ok c =

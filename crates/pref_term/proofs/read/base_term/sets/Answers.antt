@@ -1,7 +1,7 @@
 use Rattle.std.proofs.Common.{arith, length, ℤ, List, [], ◌∷◌, ◌++◌, subst, ap, ◌∙◌, sym}
 use Rattle.pref_term.specs.Token.{Placed, right, sign}
 use Rattle.pref_term.specs.Ahead.{ahead}
-use Rattle.pref_term.specs.Led.{FailsSets, NotNext, ReadsSets, ReadsSomeSets}
+use Rattle.pref_term.specs.Led.{NotNext, ReadsSets, ReadsSomeSets}
 use Rattle.pref_term.proofs.LedLemmas.{err_exit}
 use Rattle.pref_term.proofs.SetLemmas.{some_sets_none, some_sets_fails, some_numbers_fails, some_sets_more, some_sets_all, some_sets_stuck}
 use Rattle.pref_term.proofs.read.base_term.sets.Goals as goal
@@ -13,31 +13,23 @@ loop-sets-init c = record {
 }
 
 pub returns-in_err-inside-clause-err : goal.returns-in_err-inside-clause-err
-returns-in_err-inside-clause-err c =
-    let f = c.in_err-inside.field-0.0 in
-    err_exit c.from_residual.result f (FailsSets (ahead c.args.cursor)) c.from_residual.ensures.1
-    (some_sets_fails _ (ahead c.loop-sets.place) _ f c.loop-sets.invariant.so_far c.in_err-inside.ensures.err)
+returns-in_err-inside-clause-err c = err_exit _ _ c.from_residual.ensures.1 (some_sets_fails _ (ahead c.loop-sets.place) _ _ c.loop-sets.invariant.so_far c.in_err-inside.ensures.err)
 
 pub returns-in_err-numbers-clause-err : goal.returns-in_err-numbers-clause-err
-returns-in_err-numbers-clause-err c =
-    let f = c.in_err-numbers.field-0.0 in
-    err_exit c.from_residual-in_err-numbers.result f (FailsSets (ahead c.args.cursor)) c.from_residual-in_err-numbers.ensures.1
-    (some_numbers_fails _ (ahead c.loop-sets.place) (ahead c.in_ok-inside.inside) _ c.loop-sets.invariant.so_far c.in_ok-inside.ensures.ok f c.in_err-numbers.ensures.err)
+returns-in_err-numbers-clause-err c = err_exit _ _ c.from_residual-in_err-numbers.ensures.1 (some_numbers_fails _ (ahead c.loop-sets.place) (ahead c.in_ok-inside.inside) _ c.loop-sets.invariant.so_far c.in_ok-inside.ensures.ok _ c.in_err-numbers.ensures.err)
 
 pub returns-then-is-clause-ok : goal.returns-then-is-clause-ok
 returns-then-is-clause-ok c =
     let n = c.in_ok-numbers in
     let t = c.take-taken.result in
-    let items = c.in_ok-push.ensures.ok ∙ ap (λ (set : List ℤ). c.loop-sets.sets.items ++ set ∷ []) c.of.ensures in
-    subst (λ (xs : List (List ℤ)). ReadsSets (ahead c.args.cursor) xs (ahead t.next)) (sym items)
-    (some_sets_all _ (ahead c.loop-sets.place) (ahead c.in_ok-inside.inside) _ c.loop-sets.invariant.so_far c.in_ok-inside.ensures.ok (ahead n.next) n.numbers.items n.ensures.ok (ahead t.next) (t.at, c.take-taken.ensures ∙ c.if-is.ensures.yes))
+    subst (λ (xs : List (List ℤ)). ReadsSets (ahead c.args.cursor) xs (ahead t.next)) (sym c.in_ok-push.ensures.ok)
+    (subst (λ (set : List ℤ). ReadsSets (ahead c.args.cursor) (c.loop-sets.sets.items ++ set ∷ []) (ahead t.next)) (sym c.of.ensures)
+    (some_sets_all _ (ahead c.loop-sets.place) (ahead c.in_ok-inside.inside) _ c.loop-sets.invariant.so_far c.in_ok-inside.ensures.ok (ahead n.next) n.numbers.items n.ensures.ok (ahead t.next) (t.at, c.take-taken.ensures ∙ c.if-is.ensures.yes)))
 
 pub returns-in_err-place-clause-err : goal.returns-in_err-place-clause-err
 returns-in_err-place-clause-err c =
     let n = c.in_ok-numbers in
-    let f = c.in_err-place.field-0.0 in
-    err_exit c.from_residual-in_err-place.result f (FailsSets (ahead c.args.cursor)) c.from_residual-in_err-place.ensures.1
-    (some_sets_stuck _ (ahead c.loop-sets.place) (ahead c.in_ok-inside.inside) _ c.loop-sets.invariant.so_far c.in_ok-inside.ensures.ok (ahead n.next) n.numbers.items n.ensures.ok f
+    err_exit _ _ c.from_residual-in_err-place.ensures.1 (some_sets_stuck _ (ahead c.loop-sets.place) (ahead c.in_ok-inside.inside) _ c.loop-sets.invariant.so_far c.in_ok-inside.ensures.ok (ahead n.next) n.numbers.items n.ensures.ok _
     (subst (NotNext (sign right)) (sym c.take-taken.ensures) c.if-is.ensures.no) c.in_err-place.ensures.err)
 
 pub loop-sets-preserved : goal.loop-sets-preserved

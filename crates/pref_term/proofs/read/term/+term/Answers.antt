@@ -3,17 +3,14 @@ use Rattle.std.proofs.lemmas.Result.{IfOk-weaker}
 use Rattle.pref_term.specs.Token.{Placed}
 use Rattle.pref_term.specs.Reading.{low_kind, high_kind, around_kind, between_kind, pos_kind, layered_kind}
 use Rattle.pref_term.specs.Ahead.{ahead}
-use Rattle.pref_term.specs.Led.{FailsUnary, FailsGroup, FailsProduct, FailsPrior, ReadsReverse, ReadsUnary, ReadsGroup, ReadsFactors, ReadsProducts}
+use Rattle.pref_term.specs.Led.{FailsUnary, ReadsReverse, ReadsUnary, ReadsGroup, ReadsFactors, ReadsProducts}
 use Rattle.pref_term.specs.Preference.{Preference, preference_of}
 use Rattle.pref_term.proofs.LedLemmas.{err_exit, taken_is}
 use Rattle.pref_term.proofs.CycleLemmas.{group_read, group_end_fails, one_factor_read, more_factors, more_factors_fail, one_product_read, more_products, more_products_fail, minus_read, minus_fails, left_read, reverse_read, taken_base_read, taken_base_fails, word_reverse_read}
 use Rattle.pref_term.proofs.read.term.+term.Goals as goal
 
 pub group-returns-in_err-rest-clause-err : goal.group-returns-in_err-rest-clause-err
-group-returns-in_err-rest-clause-err t c =
-    let f = c.in_err-rest.field-0.0 in
-    err_exit c.from_residual-in_err-rest.result f (FailsGroup c.args.schema.now c.args.inside (ahead c.args.cursor)) c.from_residual-in_err-rest.ensures.1
-    (group_end_fails c.args.schema.now c.args.inside _ (ahead c.in_ok-term.next) (preference_of c.in_ok-term.term) f c.in_ok-term.ensures.ok c.in_err-rest.ensures.err)
+group-returns-in_err-rest-clause-err t c = err_exit _ _ c.from_residual-in_err-rest.ensures.1 (group_end_fails c.args.schema.now c.args.inside _ (ahead c.in_ok-term.next) (preference_of c.in_ok-term.term) _ c.in_ok-term.ensures.ok c.in_err-rest.ensures.err)
 
 pub group-returns-clause-ok : goal.group-returns-clause-ok
 group-returns-clause-ok t c =
@@ -29,10 +26,7 @@ prior-loop-taken-init t c =
     }
 
 pub prior-returns-in_err-last-clause-err : goal.prior-returns-in_err-last-clause-err
-prior-returns-in_err-last-clause-err t c =
-    let f = c.in_err-last.field-0.0 in
-    err_exit c.from_residual-in_err-last.result f (FailsPrior c.args.schema.now c.args.depth (ahead c.args.cursor)) c.from_residual-in_err-last.ensures.1
-    (more_products_fail c.args.schema.now c.args.depth _ (ahead c.loop-taken.place) (ahead c.take-taken.result.next) (preference_of c.loop-taken.term) f c.loop-taken.invariant.so_far (c.take-taken.result.at, c.take-taken.ensures ∙ c.if-not-is.ensures.yes) c.in_err-last.ensures.err)
+prior-returns-in_err-last-clause-err t c = err_exit _ _ c.from_residual-in_err-last.ensures.1 (more_products_fail c.args.schema.now c.args.depth _ (ahead c.loop-taken.place) (ahead c.take-taken.result.next) (preference_of c.loop-taken.term) _ c.loop-taken.invariant.so_far (c.take-taken.result.at, c.take-taken.ensures ∙ c.if-not-is.ensures.yes) c.in_err-last.ensures.err)
 
 pub prior-loop-taken-preserved : goal.prior-loop-taken-preserved
 prior-loop-taken-preserved t c =
@@ -56,10 +50,7 @@ product-loop-taken-init t c =
     }
 
 pub product-returns-in_err-factor-clause-err : goal.product-returns-in_err-factor-clause-err
-product-returns-in_err-factor-clause-err t c =
-    let f = c.in_err-factor.field-0.0 in
-    err_exit c.from_residual-in_err-factor.result f (FailsProduct c.args.schema.now c.args.depth (ahead c.args.cursor)) c.from_residual-in_err-factor.ensures.1
-    (more_factors_fail c.args.schema.now c.args.depth _ (ahead c.loop-taken.place) (ahead c.take-taken.result.next) (preference_of c.loop-taken.term) f c.loop-taken.invariant.so_far (c.take-taken.result.at, c.take-taken.ensures ∙ c.if-not-is.ensures.yes) c.in_err-factor.ensures.err)
+product-returns-in_err-factor-clause-err t c = err_exit _ _ c.from_residual-in_err-factor.ensures.1 (more_factors_fail c.args.schema.now c.args.depth _ (ahead c.loop-taken.place) (ahead c.take-taken.result.next) (preference_of c.loop-taken.term) _ c.loop-taken.invariant.so_far (c.take-taken.result.at, c.take-taken.ensures ∙ c.if-not-is.ensures.yes) c.in_err-factor.ensures.err)
 
 pub product-loop-taken-preserved : goal.product-loop-taken-preserved
 product-loop-taken-preserved t c =
@@ -83,10 +74,7 @@ reverse-returns-clause-ok t c =
     (reverse_read c.args.schema.now c.args.depth (ahead c.args.cursor) (ahead u.next) (ahead v.next) (preference_of v.part) i.0 (u.at, c.take-taken.ensures ∙ c.if-not-is.ensures.yes) r)
 
 pub unary-returns-in_err-part-clause-err : goal.unary-returns-in_err-part-clause-err
-unary-returns-in_err-part-clause-err t c =
-    let f = c.in_err-part.field-0.0 in
-    err_exit c.from_residual-in_err-part.result f (FailsUnary c.args.schema.now c.args.depth (ahead c.args.cursor)) c.from_residual-in_err-part.ensures.1
-    (minus_fails c.args.schema.now c.args.depth _ (ahead c.take-taken.result.next) f c.in_ok-inside.ensures.ok.0 (c.take-taken.result.at, c.take-taken.ensures ∙ c.if-is.ensures.yes) (subst (λ (n : ℕ). FailsUnary c.args.schema.now n (ahead c.take-taken.result.next) f) c.in_ok-inside.ensures.ok.1 c.in_err-part.ensures.err))
+unary-returns-in_err-part-clause-err t c = err_exit _ _ c.from_residual-in_err-part.ensures.1 (minus_fails c.args.schema.now c.args.depth _ (ahead c.take-taken.result.next) _ c.in_ok-inside.ensures.ok.0 (c.take-taken.result.at, c.take-taken.ensures ∙ c.if-is.ensures.yes) (subst (λ (n : ℕ). FailsUnary c.args.schema.now n (ahead c.take-taken.result.next) c.in_err-part.field-0.0) c.in_ok-inside.ensures.ok.1 c.in_err-part.ensures.err))
 
 pub unary-returns-then-is-clause-ok : goal.unary-returns-then-is-clause-ok
 unary-returns-then-is-clause-ok t c =
