@@ -9,7 +9,7 @@ use Rattle.pref_term.specs.Token.{Token, word, finish, Placed, tokens_of}
 use Rattle.pref_term.specs.Seen.{seen}
 use Rattle.pref_term.specs.Ahead.{behind_token}
 use Rattle.pref_term.specs.declared.front.Token as code
-use Rattle.pref_term.specs.declared.front.Token.TheVariants.{Word, Digits, Sign, Other, End}
+use Rattle.pref_term.specs.declared.front.Token.TheVariants.{End}
 use Rattle.pref_term.specs.Grammar.{CasedWord, skyline_word, of_word, cased_letters, cased_of, cased, IsWritten, Direction, minimal, maximal, different, DimText, HeadText, PriorText, AskText, rated, skyline, best_head, top_level_head, at_least_head, ask_leaves, IsText}
 use Rattle.pref_term.specs.Distinct.{is_in_any_case, is_distinct_ahead, says_distinct, without_third, plain, is_word}
 use Rattle.pref_term.specs.Spells.{Names, column_at, order_by, orders_of, groups_of, product_of, tokens_in, tokens_on, IsGood, Spells, question}
@@ -51,18 +51,12 @@ behind_distinct s o ps po d us hs ho hd =
 -- what is behind a token that is not the end
 pub behind_more : (k : code.Token) (ts : List Placed) → seen k ≢ finish → behind_token k ts ≡ ts
 behind_more End ts h = absurd (h refl)
-behind_more (Word letters) ts h = refl
-behind_more (Digits ds) ts h = refl
-behind_more (Sign s) ts h = refl
-behind_more Other ts h = refl
+behind_more _ ts h = refl
 
 -- the word is not the end
 pub behind_said : (k : code.Token) (at : ℕ) (ts : List Placed) → is_distinct_ahead (record { token = seen k; place = at } ∷ behind_token k ts) ≡ true → behind_token k ts ≡ ts
 behind_said End at ts h = cc
-behind_said (Word letters) at ts h = refl
-behind_said (Digits ds) at ts h = refl
-behind_said (Sign s) at ts h = refl
-behind_said Other at ts h = refl
+behind_said _ at ts h = refl
 
 -- three tokens ahead
 pub ahead_distinct : (ts us vs ws : List Placed) (d w : List ℕ) (t : Token) (pd pt pw : ℕ) → ts ≡ word_ahead d pd us → us ≡ record { token = t; place = pt } ∷ vs → vs ≡ word_ahead w pw ws → bytes_eq (codes "distinct") (str_to_ascii_lowercase d) ≡ true → true ≡ is_distinct_ahead ts

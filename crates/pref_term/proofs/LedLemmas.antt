@@ -5,7 +5,7 @@ use Rattle.pref_table.specs.Number.{fits_cell}
 use Rattle.pref_term.specs.Token.{Sign, left, right, right_brace, comma, minus, Token, word, digits, sign, Placed}
 use Rattle.pref_term.specs.Grammar.{based, NumberText, low_text, high_text, around_text, pos_text, Leaf, mark, column_name, number_digits, between_text}
 use Rattle.pref_term.specs.Spells.{Names, UnlessMemory, own_fault, signed_value, number_value, column_at, number_range, below, empty_range, told, told_at, OwnFault}
-use Rattle.pref_term.specs.Reading.{BaseKind, low_kind, high_kind, around_kind, pos_kind, centre_of, first_of, named, opened, columned, number_due, number_signed, centred, listed, filled, NumberHole, UnaryHole, State, reading, completed, run, led, judged, next, between_kind, start_of, end_of, least_of, ranged, range_ended, NumberList, in_pos, in_set, closing, list_closed, stepped}
+use Rattle.pref_term.specs.Reading.{BaseKind, low_kind, high_kind, around_kind, pos_kind, layered_kind, centre_of, first_of, named, opened, columned, number_due, number_signed, centred, listed, filled, NumberHole, UnaryHole, State, reading, completed, run, led, judged, next, between_kind, start_of, end_of, least_of, ranged, range_ended, NumberList, in_pos, in_set, closing, list_closed, stepped}
 use Rattle.pref_term.specs.Seen.{seen}
 use Rattle.pref_term.specs.Ahead.{ahead, taken, behind_token}
 use Rattle.pref_term.specs.declared.cursor.Cursor.{Cursor}
@@ -181,25 +181,27 @@ if_err_map (Err f) g h = g f h
 
 -- ---- the last sign of a base term, and the comma behind its column
 
-pub low_closes : (h : UnaryHole) (column : List ℕ) (u : Token) → u ≢ sign right → next (reading h (columned low_kind column)) u ≡ None
-low_closes h column (sign right) ne = absurd (ne refl)
-low_closes h column _ ne = refl
+-- the sign behind the column of a base term
+abbrev pub behind_column : BaseKind → Sign
+behind_column low_kind = right
+behind_column high_kind = right
+behind_column _ = comma
 
-pub high_closes : (h : UnaryHole) (column : List ℕ) (u : Token) → u ≢ sign right → next (reading h (columned high_kind column)) u ≡ None
-high_closes h column (sign right) ne = absurd (ne refl)
-high_closes h column _ ne = refl
+column_stuck : (h : UnaryHole) (k : BaseKind) (column : List ℕ) (u : Token) → u ≢ sign (behind_column k) → next (reading h (columned k column)) u ≡ None
+column_stuck h low_kind column (sign right) ne = absurd (ne refl)
+column_stuck h high_kind column (sign right) ne = absurd (ne refl)
+column_stuck h around_kind column (sign comma) ne = absurd (ne refl)
+column_stuck h between_kind column (sign comma) ne = absurd (ne refl)
+column_stuck h pos_kind column (sign comma) ne = absurd (ne refl)
+column_stuck h layered_kind column (sign comma) ne = absurd (ne refl)
+column_stuck h _ column _ ne = refl
 
-pub around_goes_on : (h : UnaryHole) (column : List ℕ) (u : Token) → u ≢ sign comma → next (reading h (columned around_kind column)) u ≡ None
-around_goes_on h column (sign comma) ne = absurd (ne refl)
-around_goes_on h column _ ne = refl
+pub column_end_fails : (names : Names) (k : BaseKind) (ts us : List Placed) (col : ℕ) (f : TermFault) → ReadsOpened names ts col us → IsOther (sign (behind_column k)) us f → FailsBase names k ts f
+column_end_fails names k ts us col f r o h = goes_fails names _ _ ts us f (r.goes h k) (other_fails names (sign (behind_column k)) us f _ o (column_stuck h k r.letters))
 
 pub around_closes : (h : UnaryHole) (column : List ℕ) (centre : NumberText) (u : Token) → u ≢ sign right → next (reading h (centred column centre)) u ≡ None
 around_closes h column centre (sign right) ne = absurd (ne refl)
 around_closes h column centre _ ne = refl
-
-pub pos_goes_on : (h : UnaryHole) (column : List ℕ) (u : Token) → u ≢ sign comma → next (reading h (columned pos_kind column)) u ≡ None
-pos_goes_on h column (sign comma) ne = absurd (ne refl)
-pos_goes_on h column _ ne = refl
 
 pub listed_stuck : (h : UnaryHole) (l : NumberList) (first : NumberText) (others : List NumberText) (u : Token) → u ≢ sign comma → u ≢ sign (closing l) → next (reading h (listed l first others)) u ≡ None
 listed_stuck h l first others (sign comma) nc nr = absurd (nc refl)
@@ -332,15 +334,6 @@ pos_read names ts us vs ws col set r c n =
     }
 
 -- and their faults
-pub low_fails : (names : Names) (ts us : List Placed) (col : ℕ) (f : TermFault) → ReadsOpened names ts col us → IsOther (sign right) us f → FailsBase names low_kind ts f
-low_fails names ts us col f r o h = goes_fails names _ _ ts us f (r.goes h low_kind) (other_fails names (sign right) us f _ o (low_closes h r.letters))
-
-pub high_fails : (names : Names) (ts us : List Placed) (col : ℕ) (f : TermFault) → ReadsOpened names ts col us → IsOther (sign right) us f → FailsBase names high_kind ts f
-high_fails names ts us col f r o h = goes_fails names _ _ ts us f (r.goes h high_kind) (other_fails names (sign right) us f _ o (high_closes h r.letters))
-
-pub around_fails : (names : Names) (ts us : List Placed) (col : ℕ) (f : TermFault) → ReadsOpened names ts col us → IsOther (sign comma) us f → FailsBase names around_kind ts f
-around_fails names ts us col f r o h = goes_fails names _ _ ts us f (r.goes h around_kind) (other_fails names (sign comma) us f _ o (around_goes_on h r.letters))
-
 pub around_number_fails : (names : Names) (ts us vs : List Placed) (col : ℕ) (f : TermFault) → ReadsOpened names ts col us → Passes (sign comma) us vs → FailsNumber vs f → FailsBase names around_kind ts f
 around_number_fails names ts us vs col f r c n h =
     goes_fails names _ _ ts vs f (sign_behind names ts us vs _ _ (reading h (number_due (centre_of r.letters))) comma (r.goes h around_kind) c refl) (n names h (centre_of r.letters))
@@ -351,10 +344,6 @@ around_end_fails names ts us vs ws col centre f r c n o h =
     (goes_then names _ _ _ ts vs ws (sign_behind names ts us vs _ _ (reading h (number_due (centre_of r.letters))) comma (r.goes h around_kind) c refl) (n.goes names h (centre_of r.letters) refl))
     (other_fails names (sign right) ws f _ o (around_closes h r.letters n.number))
 
-pub between_goes_on : (h : UnaryHole) (column : List ℕ) (u : Token) → u ≢ sign comma → next (reading h (columned between_kind column)) u ≡ None
-between_goes_on h column (sign comma) ne = absurd (ne refl)
-between_goes_on h column _ ne = refl
-
 pub ranged_goes_on : (h : UnaryHole) (column : List ℕ) (l : NumberText) (u : Token) → u ≢ sign comma → next (reading h (ranged column l)) u ≡ None
 ranged_goes_on h column l (sign comma) ne = absurd (ne refl)
 ranged_goes_on h column l _ ne = refl
@@ -362,9 +351,6 @@ ranged_goes_on h column l _ ne = refl
 pub range_closes : (h : UnaryHole) (column : List ℕ) (l r : NumberText) (u : Token) → u ≢ sign right → next (reading h (range_ended column l r)) u ≡ None
 range_closes h column l r (sign right) ne = absurd (ne refl)
 range_closes h column l r _ ne = refl
-
-pub between_fails : (names : Names) (ts us : List Placed) (col : ℕ) (f : TermFault) → ReadsOpened names ts col us → IsOther (sign comma) us f → FailsBase names between_kind ts f
-between_fails names ts us col f r o h = goes_fails names _ _ ts us f (r.goes h between_kind) (other_fails names (sign comma) us f _ o (between_goes_on h r.letters))
 
 pub between_left_fails : (names : Names) (ts us vs : List Placed) (col : ℕ) (f : TermFault) → ReadsOpened names ts col us → Passes (sign comma) us vs → FailsNumber vs f → FailsBase names between_kind ts f
 between_left_fails names ts us vs col f r c n h =
@@ -384,9 +370,6 @@ pub between_end_fails : (names : Names) (ts us vs ws xs ys : List Placed) (col :
 between_end_fails names ts us vs ws xs ys col l r f o c n d m e h =
     goes_fails names _ _ ts ys f (goes_then names _ _ _ ts xs ys (range_goes names ts us vs ws xs col l o c n d h) (m.goes names h o.letters n.number n.value_is))
     (other_fails names (sign right) ys f _ e (range_closes h o.letters n.number m.number))
-
-pub pos_fails : (names : Names) (ts us : List Placed) (col : ℕ) (f : TermFault) → ReadsOpened names ts col us → IsOther (sign comma) us f → FailsBase names pos_kind ts f
-pos_fails names ts us col f r o h = goes_fails names _ _ ts us f (r.goes h pos_kind) (other_fails names (sign comma) us f _ o (pos_goes_on h r.letters))
 
 pub pos_numbers_fails : (names : Names) (ts us vs : List Placed) (col : ℕ) (f : TermFault) → ReadsOpened names ts col us → Passes (sign comma) us vs → FailsNumbers right vs f → FailsBase names pos_kind ts f
 pos_numbers_fails names ts us vs col f r c n h =

@@ -5,7 +5,7 @@ use Rattle.std.proofs.lemmas.List.Elements.{All-append, All-nil}
 use Rattle.pref_term.specs.Token.{left_brace, right, right_brace, comma, Token, sign, Placed}
 use Rattle.pref_term.specs.Grammar.{layered_text, SetText, mark}
 use Rattle.pref_term.specs.Spells.{Names, set_value}
-use Rattle.pref_term.specs.Reading.{layered_kind, columned, in_set, first_of, number_due, set_due, sets_listed, with_set, UnaryHole, reading, next}
+use Rattle.pref_term.specs.Reading.{layered_kind, in_set, first_of, number_due, set_due, sets_listed, with_set, UnaryHole, reading, next}
 use Rattle.pref_term.specs.Led.{Goes, IsOther, NotNext, Passes, ReadsOpened, ReadsNumbers, FailsNumbers, ReadsSomeSets, ReadsSets, FailsSets, ReadsBase, FailsBase}
 use Rattle.pref_term.specs.Preference.{scored, layered}
 use Rattle.pref_term.specs.Writable.{IsWritableSet}
@@ -86,10 +86,6 @@ module _ (ts us vs : List Placed) (sets : List (List ℤ)) (r : ReadsSomeSets ts
 
 -- ---- the base term
 
-layered_goes_on : (h : UnaryHole) (column : List ℕ) (u : Token) → u ≢ sign comma → next (reading h (columned layered_kind column)) u ≡ None
-layered_goes_on h column (sign comma) ne = absurd (ne refl)
-layered_goes_on h column _ ne = refl
-
 pub layered_read : (names : Names) (ts us vs ws : List Placed) (col : ℕ) (sets : List (List ℤ)) → ReadsOpened names ts col us → Passes (sign comma) us vs → ReadsSets vs sets ws → ReadsBase names layered_kind ts (scored (layered col sets)) ws
 layered_read names ts us vs ws col sets r c n =
     record {
@@ -98,9 +94,6 @@ layered_read names ts us vs ws col sets r c n =
       known = (r.found.known, (subst (λ (sets : List (List ℤ)). sets ≢ []) n.values_are cons_not_none, n.fits));
       goes = λ h. goes_then names _ _ _ ts vs ws (sign_behind names ts us vs _ _ (reading h (set_due r.letters [])) comma (r.goes h layered_kind) c refl) (n.goes names h r.letters);
     }
-
-pub layered_fails : (names : Names) (ts us : List Placed) (col : ℕ) (f : TermFault) → ReadsOpened names ts col us → IsOther (sign comma) us f → FailsBase names layered_kind ts f
-layered_fails names ts us col f r o h = goes_fails names _ _ ts us f (r.goes h layered_kind) (other_fails names (sign comma) us f _ o (layered_goes_on h r.letters))
 
 pub layered_sets_fails : (names : Names) (ts us vs : List Placed) (col : ℕ) (f : TermFault) → ReadsOpened names ts col us → Passes (sign comma) us vs → FailsSets vs f → FailsBase names layered_kind ts f
 layered_sets_fails names ts us vs col f r c n h =

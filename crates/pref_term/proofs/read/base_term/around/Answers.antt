@@ -1,6 +1,6 @@
 use Rattle.pref_term.specs.Ahead.{ahead}
 use Rattle.pref_term.specs.Reading.{around_kind}
-use Rattle.pref_term.proofs.LedLemmas.{around_read, around_fails, around_number_fails, around_end_fails, err_exit}
+use Rattle.pref_term.proofs.LedLemmas.{around_read, column_end_fails, around_number_fails, around_end_fails, err_exit}
 use Rattle.std.proofs.Common.{w64, rules, ℤ, sym, subst}
 use Rattle.std.proofs.lemmas.Int.{to_z-of_z}
 use Rattle.pref_term.specs.Led.{ReadsBase}
@@ -8,7 +8,7 @@ use Rattle.pref_term.specs.Preference.{scored, around}
 use Rattle.pref_term.proofs.read.base_term.around.Goals as goal
 
 pub returns-in_err-inside-clause-err : goal.returns-in_err-inside-clause-err
-returns-in_err-inside-clause-err c = err_exit _ _ c.from_residual-in_err-inside.ensures.1 (around_fails c.args.schema.now _ (ahead c.in_ok-col.next) c.in_ok-col.col _ c.in_ok-col.ensures.ok c.in_err-inside.ensures.err)
+returns-in_err-inside-clause-err c = err_exit _ _ c.from_residual-in_err-inside.ensures.1 (column_end_fails c.args.schema.now around_kind _ (ahead c.in_ok-col.next) c.in_ok-col.col _ c.in_ok-col.ensures.ok c.in_err-inside.ensures.err)
 
 pub returns-in_err-centre-clause-err : goal.returns-in_err-centre-clause-err
 returns-in_err-centre-clause-err c = err_exit _ _ c.from_residual-in_err-centre.ensures.1 (around_number_fails c.args.schema.now _ (ahead c.in_ok-col.next) (ahead c.in_ok-inside.inside) c.in_ok-col.col _ c.in_ok-col.ensures.ok c.in_ok-inside.ensures.ok c.in_err-centre.ensures.err)

@@ -1,14 +1,14 @@
 use Rattle.pref_term.specs.Ahead.{ahead}
 use Rattle.pref_term.specs.Led.{ReadsBase, ReadsEnd, FailsEnd}
 use Rattle.pref_term.specs.Reading.{between_kind}
-use Rattle.pref_term.proofs.LedLemmas.{between_read, between_fails, between_left_fails, between_comma_fails, between_right_fails, between_end_fails, err_exit}
+use Rattle.pref_term.proofs.LedLemmas.{between_read, column_end_fails, between_left_fails, between_comma_fails, between_right_fails, between_end_fails, err_exit}
 use Rattle.std.proofs.Common.{w64, rules, to_z, of_z, ℤ, sym, subst}
 use Rattle.std.proofs.lemmas.Int.{to_z-of_z}
 use Rattle.pref_term.specs.Preference.{scored, between}
 use Rattle.pref_term.proofs.read.base_term.between.Goals as goal
 
 pub returns-in_err-inside-clause-err : goal.returns-in_err-inside-clause-err
-returns-in_err-inside-clause-err c = err_exit _ _ c.from_residual-in_err-inside.ensures.1 (between_fails c.args.schema.now _ (ahead c.in_ok-col.next) c.in_ok-col.col _ c.in_ok-col.ensures.ok c.in_err-inside.ensures.err)
+returns-in_err-inside-clause-err c = err_exit _ _ c.from_residual-in_err-inside.ensures.1 (column_end_fails c.args.schema.now between_kind _ (ahead c.in_ok-col.next) c.in_ok-col.col _ c.in_ok-col.ensures.ok c.in_err-inside.ensures.err)
 
 pub returns-in_err-left-clause-err : goal.returns-in_err-left-clause-err
 returns-in_err-left-clause-err c = err_exit _ _ c.from_residual-in_err-left.ensures.1 (between_left_fails c.args.schema.now _ (ahead c.in_ok-col.next) (ahead c.in_ok-inside.inside) c.in_ok-col.col _ c.in_ok-col.ensures.ok c.in_ok-inside.ensures.ok c.in_err-left.ensures.err)

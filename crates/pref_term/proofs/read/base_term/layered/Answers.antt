@@ -1,14 +1,14 @@
 use Rattle.pref_term.specs.Ahead.{ahead}
 use Rattle.pref_term.specs.Led.{ReadsBase}
 use Rattle.pref_term.specs.Reading.{layered_kind}
-use Rattle.pref_term.proofs.LedLemmas.{err_exit}
-use Rattle.pref_term.proofs.SetLemmas.{layered_read, layered_fails, layered_sets_fails}
+use Rattle.pref_term.proofs.LedLemmas.{column_end_fails, err_exit}
+use Rattle.pref_term.proofs.SetLemmas.{layered_read, layered_sets_fails}
 use Rattle.std.proofs.Common.{ℤ, List, sym, subst}
 use Rattle.pref_term.specs.Preference.{scored, layered}
 use Rattle.pref_term.proofs.read.base_term.layered.Goals as goal
 
 pub returns-in_err-inside-clause-err : goal.returns-in_err-inside-clause-err
-returns-in_err-inside-clause-err c = err_exit _ _ c.from_residual-in_err-inside.ensures.1 (layered_fails c.args.schema.now _ (ahead c.in_ok-col.next) c.in_ok-col.col _ c.in_ok-col.ensures.ok c.in_err-inside.ensures.err)
+returns-in_err-inside-clause-err c = err_exit _ _ c.from_residual-in_err-inside.ensures.1 (column_end_fails c.args.schema.now layered_kind _ (ahead c.in_ok-col.next) c.in_ok-col.col _ c.in_ok-col.ensures.ok c.in_err-inside.ensures.err)
 
 pub returns-in_err-sets-clause-err : goal.returns-in_err-sets-clause-err
 returns-in_err-sets-clause-err c = err_exit _ _ c.from_residual-in_err-sets.ensures.1 (layered_sets_fails c.args.schema.now _ (ahead c.in_ok-col.next) (ahead c.in_ok-inside.inside) c.in_ok-col.col _ c.in_ok-col.ensures.ok c.in_ok-inside.ensures.ok c.in_err-sets.ensures.err)

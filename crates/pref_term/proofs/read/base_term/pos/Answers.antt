@@ -1,13 +1,13 @@
 use Rattle.pref_term.specs.Ahead.{ahead}
 use Rattle.pref_term.specs.Reading.{pos_kind}
-use Rattle.pref_term.proofs.LedLemmas.{pos_read, pos_fails, pos_numbers_fails, err_exit}
+use Rattle.pref_term.proofs.LedLemmas.{pos_read, column_end_fails, pos_numbers_fails, err_exit}
 use Rattle.std.proofs.Common.{ℤ, List, sym, subst}
 use Rattle.pref_term.specs.Led.{ReadsBase}
 use Rattle.pref_term.specs.Preference.{scored, one_of}
 use Rattle.pref_term.proofs.read.base_term.pos.Goals as goal
 
 pub returns-in_err-inside-clause-err : goal.returns-in_err-inside-clause-err
-returns-in_err-inside-clause-err c = err_exit _ _ c.from_residual-in_err-inside.ensures.1 (pos_fails c.args.schema.now _ (ahead c.in_ok-col.next) c.in_ok-col.col _ c.in_ok-col.ensures.ok c.in_err-inside.ensures.err)
+returns-in_err-inside-clause-err c = err_exit _ _ c.from_residual-in_err-inside.ensures.1 (column_end_fails c.args.schema.now pos_kind _ (ahead c.in_ok-col.next) c.in_ok-col.col _ c.in_ok-col.ensures.ok c.in_err-inside.ensures.err)
 
 pub returns-in_err-numbers-clause-err : goal.returns-in_err-numbers-clause-err
 returns-in_err-numbers-clause-err c = err_exit _ _ c.from_residual-in_err-numbers.ensures.1 (pos_numbers_fails c.args.schema.now _ (ahead c.in_ok-col.next) (ahead c.in_ok-inside.inside) c.in_ok-col.col _ c.in_ok-col.ensures.ok c.in_ok-inside.ensures.ok c.in_err-numbers.ensures.err)

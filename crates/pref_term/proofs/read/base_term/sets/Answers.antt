@@ -22,7 +22,7 @@ pub returns-then-is-clause-ok : goal.returns-then-is-clause-ok
 returns-then-is-clause-ok c =
     let n = c.in_ok-numbers in
     let t = c.take-taken.result in
-    subst (λ (xs : List (List ℤ)). ReadsSets (ahead c.args.cursor) xs (ahead t.next)) (sym c.in_ok-push.ensures.ok)
+    subst (λ (xs : List (List ℤ)). ReadsSets (ahead c.args.cursor) xs (ahead t.next)) (sym {A = List (List ℤ)} c.in_ok-push.ensures.ok)
     (subst (λ (set : List ℤ). ReadsSets (ahead c.args.cursor) (c.loop-sets.sets.items ++ set ∷ []) (ahead t.next)) (sym c.of.ensures)
     (some_sets_all _ (ahead c.loop-sets.place) (ahead c.in_ok-inside.inside) _ c.loop-sets.invariant.so_far c.in_ok-inside.ensures.ok (ahead n.next) n.numbers.items n.ensures.ok (ahead t.next) (t.at, c.take-taken.ensures ∙ c.if-is.ensures.yes)))
 

@@ -95,64 +95,40 @@ unary-returns-then-is-2-clause-ok t c =
     c.group.ensures.ok
 
 pub unary-returns-in-Some-Low-clause-ok : goal.unary-returns-in-Some-Low-clause-ok
-unary-returns-in-Some-Low-clause-ok t c =
-    taken_base_read c.args.schema.now c.args.depth low_kind (ahead c.args.cursor) c.take-taken.result c.in-Word.letters c.take-taken.ensures c.in-Word.is (sym c.in-Some-Low.ensures ∙ ap Some c.in-Some-Low.field-0-is)
-    c.low.result c.low.ensures.ok
+unary-returns-in-Some-Low-clause-ok t c = taken_base_read c.args.schema.now _ low_kind _ c.take-taken.result _ c.take-taken.ensures c.in-Word.is (sym c.in-Some-Low.ensures ∙ ap Some c.in-Some-Low.field-0-is) _ c.low.ensures.ok
 
 pub unary-returns-in-Some-Low-clause-err : goal.unary-returns-in-Some-Low-clause-err
-unary-returns-in-Some-Low-clause-err t c =
-    taken_base_fails c.args.schema.now c.args.depth low_kind (ahead c.args.cursor) c.take-taken.result c.in-Word.letters c.take-taken.ensures c.in-Word.is (sym c.in-Some-Low.ensures ∙ ap Some c.in-Some-Low.field-0-is)
-    c.low.result c.low.ensures.err
+unary-returns-in-Some-Low-clause-err t c = taken_base_fails c.args.schema.now _ low_kind _ c.take-taken.result _ c.take-taken.ensures c.in-Word.is (sym c.in-Some-Low.ensures ∙ ap Some c.in-Some-Low.field-0-is) _ c.low.ensures.err
 
 pub unary-returns-in-Some-High-clause-ok : goal.unary-returns-in-Some-High-clause-ok
-unary-returns-in-Some-High-clause-ok t c =
-    taken_base_read c.args.schema.now c.args.depth high_kind (ahead c.args.cursor) c.take-taken.result c.in-Word.letters c.take-taken.ensures c.in-Word.is (sym c.in-Some-High.ensures ∙ ap Some c.in-Some-High.field-0-is)
-    c.high.result c.high.ensures.ok
+unary-returns-in-Some-High-clause-ok t c = taken_base_read c.args.schema.now _ high_kind _ c.take-taken.result _ c.take-taken.ensures c.in-Word.is (sym c.in-Some-High.ensures ∙ ap Some c.in-Some-High.field-0-is) _ c.high.ensures.ok
 
 pub unary-returns-in-Some-High-clause-err : goal.unary-returns-in-Some-High-clause-err
-unary-returns-in-Some-High-clause-err t c =
-    taken_base_fails c.args.schema.now c.args.depth high_kind (ahead c.args.cursor) c.take-taken.result c.in-Word.letters c.take-taken.ensures c.in-Word.is (sym c.in-Some-High.ensures ∙ ap Some c.in-Some-High.field-0-is)
-    c.high.result c.high.ensures.err
+unary-returns-in-Some-High-clause-err t c = taken_base_fails c.args.schema.now _ high_kind _ c.take-taken.result _ c.take-taken.ensures c.in-Word.is (sym c.in-Some-High.ensures ∙ ap Some c.in-Some-High.field-0-is) _ c.high.ensures.err
 
 pub unary-returns-in-Some-Around-clause-ok : goal.unary-returns-in-Some-Around-clause-ok
-unary-returns-in-Some-Around-clause-ok t c =
-    taken_base_read c.args.schema.now c.args.depth around_kind (ahead c.args.cursor) c.take-taken.result c.in-Word.letters c.take-taken.ensures c.in-Word.is (sym c.in-Some-Around.ensures ∙ ap Some c.in-Some-Around.field-0-is)
-    c.around.result c.around.ensures.ok
+unary-returns-in-Some-Around-clause-ok t c = taken_base_read c.args.schema.now _ around_kind _ c.take-taken.result _ c.take-taken.ensures c.in-Word.is (sym c.in-Some-Around.ensures ∙ ap Some c.in-Some-Around.field-0-is) _ c.around.ensures.ok
 
 pub unary-returns-in-Some-Around-clause-err : goal.unary-returns-in-Some-Around-clause-err
-unary-returns-in-Some-Around-clause-err t c =
-    taken_base_fails c.args.schema.now c.args.depth around_kind (ahead c.args.cursor) c.take-taken.result c.in-Word.letters c.take-taken.ensures c.in-Word.is (sym c.in-Some-Around.ensures ∙ ap Some c.in-Some-Around.field-0-is)
-    c.around.result c.around.ensures.err
+unary-returns-in-Some-Around-clause-err t c = taken_base_fails c.args.schema.now _ around_kind _ c.take-taken.result _ c.take-taken.ensures c.in-Word.is (sym c.in-Some-Around.ensures ∙ ap Some c.in-Some-Around.field-0-is) _ c.around.ensures.err
 
 pub unary-returns-in-Some-Between-clause-ok : goal.unary-returns-in-Some-Between-clause-ok
-unary-returns-in-Some-Between-clause-ok t c =
-    taken_base_read c.args.schema.now c.args.depth between_kind (ahead c.args.cursor) c.take-taken.result c.in-Word.letters c.take-taken.ensures c.in-Word.is (sym c.in-Some-Between.ensures ∙ ap Some c.in-Some-Between.field-0-is)
-    c.between.result c.between.ensures.ok
+unary-returns-in-Some-Between-clause-ok t c = taken_base_read c.args.schema.now _ between_kind _ c.take-taken.result _ c.take-taken.ensures c.in-Word.is (sym c.in-Some-Between.ensures ∙ ap Some c.in-Some-Between.field-0-is) _ c.between.ensures.ok
 
 pub unary-returns-in-Some-Between-clause-err : goal.unary-returns-in-Some-Between-clause-err
-unary-returns-in-Some-Between-clause-err t c =
-    taken_base_fails c.args.schema.now c.args.depth between_kind (ahead c.args.cursor) c.take-taken.result c.in-Word.letters c.take-taken.ensures c.in-Word.is (sym c.in-Some-Between.ensures ∙ ap Some c.in-Some-Between.field-0-is)
-    c.between.result c.between.ensures.err
+unary-returns-in-Some-Between-clause-err t c = taken_base_fails c.args.schema.now _ between_kind _ c.take-taken.result _ c.take-taken.ensures c.in-Word.is (sym c.in-Some-Between.ensures ∙ ap Some c.in-Some-Between.field-0-is) _ c.between.ensures.err
 
 pub unary-returns-in-Some-Pos-clause-ok : goal.unary-returns-in-Some-Pos-clause-ok
-unary-returns-in-Some-Pos-clause-ok t c =
-    taken_base_read c.args.schema.now c.args.depth pos_kind (ahead c.args.cursor) c.take-taken.result c.in-Word.letters c.take-taken.ensures c.in-Word.is (sym c.in-Some-Pos.ensures ∙ ap Some c.in-Some-Pos.field-0-is)
-    c.pos.result c.pos.ensures.ok
+unary-returns-in-Some-Pos-clause-ok t c = taken_base_read c.args.schema.now _ pos_kind _ c.take-taken.result _ c.take-taken.ensures c.in-Word.is (sym c.in-Some-Pos.ensures ∙ ap Some c.in-Some-Pos.field-0-is) _ c.pos.ensures.ok
 
 pub unary-returns-in-Some-Pos-clause-err : goal.unary-returns-in-Some-Pos-clause-err
-unary-returns-in-Some-Pos-clause-err t c =
-    taken_base_fails c.args.schema.now c.args.depth pos_kind (ahead c.args.cursor) c.take-taken.result c.in-Word.letters c.take-taken.ensures c.in-Word.is (sym c.in-Some-Pos.ensures ∙ ap Some c.in-Some-Pos.field-0-is)
-    c.pos.result c.pos.ensures.err
+unary-returns-in-Some-Pos-clause-err t c = taken_base_fails c.args.schema.now _ pos_kind _ c.take-taken.result _ c.take-taken.ensures c.in-Word.is (sym c.in-Some-Pos.ensures ∙ ap Some c.in-Some-Pos.field-0-is) _ c.pos.ensures.err
 
 pub unary-returns-in-Some-Layered-clause-ok : goal.unary-returns-in-Some-Layered-clause-ok
-unary-returns-in-Some-Layered-clause-ok t c =
-    taken_base_read c.args.schema.now c.args.depth layered_kind (ahead c.args.cursor) c.take-taken.result c.in-Word.letters c.take-taken.ensures c.in-Word.is (sym c.in-Some-Layered.ensures ∙ ap Some c.in-Some-Layered.field-0-is)
-    c.layered.result c.layered.ensures.ok
+unary-returns-in-Some-Layered-clause-ok t c = taken_base_read c.args.schema.now _ layered_kind _ c.take-taken.result _ c.take-taken.ensures c.in-Word.is (sym c.in-Some-Layered.ensures ∙ ap Some c.in-Some-Layered.field-0-is) _ c.layered.ensures.ok
 
 pub unary-returns-in-Some-Layered-clause-err : goal.unary-returns-in-Some-Layered-clause-err
-unary-returns-in-Some-Layered-clause-err t c =
-    taken_base_fails c.args.schema.now c.args.depth layered_kind (ahead c.args.cursor) c.take-taken.result c.in-Word.letters c.take-taken.ensures c.in-Word.is (sym c.in-Some-Layered.ensures ∙ ap Some c.in-Some-Layered.field-0-is)
-    c.layered.result c.layered.ensures.err
+unary-returns-in-Some-Layered-clause-err t c = taken_base_fails c.args.schema.now _ layered_kind _ c.take-taken.result _ c.take-taken.ensures c.in-Word.is (sym c.in-Some-Layered.ensures ∙ ap Some c.in-Some-Layered.field-0-is) _ c.layered.ensures.err
 
 pub unary-returns-in-Some-Reverse-clause-ok : goal.unary-returns-in-Some-Reverse-clause-ok
 unary-returns-in-Some-Reverse-clause-ok t c =
