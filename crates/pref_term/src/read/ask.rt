@@ -77,21 +77,6 @@ fn grouping<'a>(alloc: Global, schema: &Schema, cursor: Cursor<'a>) -> Result<Ve
     group_columns(alloc, schema, by.next)
 }
 
-/// The ask of these parts.
-fn ask_of(
-    alloc: Global,
-    term: Term,
-    group: Vec<usize>,
-    mode: Mode,
-    distinct: bool,
-) -> Result<Ask, TermFault>
-    requires { IsAsk (record { preference = preference_of term; group = group.items; mode = mode; distinct = distinct }) }
-    ensures ok { IfOk result (λ a. a ≡ record { preference = preference_of term; group = group.items; mode = mode; distinct = distinct }) }
-    ensures err { IfErr result (λ f. f ≡ TermFault.OutOfMemory) }
-{
-    Ask::new(alloc, term, group, mode, distinct).map_err(|_| TermFault::OutOfMemory)
-}
-
 /// Takes what follows the words that say how many are wanted.
 fn rated<'a>(
     alloc: Global,
@@ -106,7 +91,7 @@ fn rated<'a>(
 {
     let (term, next) = prior(alloc, schema, 0, cursor)?;
     let group = grouping(alloc, schema, next)?;
-    ask_of(alloc, term, group, mode, false)
+    Ask::new(alloc, term, group, mode, false).map_err(|_| TermFault::OutOfMemory)
 }
 
 /// Takes the word `of`.
@@ -223,7 +208,9 @@ fn clause_ask<'a>(
 {
     let Clause { product, group } = dimensions(alloc, schema, cursor)?;
     match product {
-        Some(term) => ask_of(alloc, term, group, Mode::Best, distinct),
+        Some(term) => Ask::new(alloc, term, group, Mode::Best, distinct).map_err(
+            |_| TermFault::OutOfMemory,
+        ),
         None => Err(TermFault::NoMinOrMax),
     }
 }

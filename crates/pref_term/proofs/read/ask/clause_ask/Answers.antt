@@ -1,10 +1,10 @@
-use Rattle.std.proofs.Common.{Option, refl, sym, subst, length, arith, ◌∷◌}
+use Rattle.std.proofs.Common.{rules, ◌≡◌, Option, refl, sym, subst, length, arith, ◌∷◌}
 use Rattle.std.specs.Option.{option_map}
 use Rattle.std.proofs.lemmas.Result.{IfOk-weaker}
 use Rattle.pref_term.specs.Ahead.{ahead}
 use Rattle.pref_term.specs.Preference.{preference_of}
 use Rattle.pref_term.specs.Led.{AsksClause, ReadsClause}
-use Rattle.pref_term.specs.Question.{FitsWidth}
+use Rattle.pref_term.specs.Question.{FitsWidth, Question}
 use Rattle.pref_term.specs.declared.ask.Mode.TheVariants.{Best}
 use Rattle.pref_term.specs.declared.term.Term.{Term}
 use Rattle.pref_term.proofs.LedLemmas.{err_exit}
@@ -15,8 +15,8 @@ use Rattle.pref_term.proofs.read.ask.clause_ask.Goals as goal
 pub returns-in_err-product-clause-err : goal.returns-in_err-product-clause-err
 returns-in_err-product-clause-err c = err_exit _ _ c.from_residual.ensures.1 (clause_fails c.args.schema.now c.args.distinct (ahead c.args.cursor) _ c.in_err-product.ensures.err)
 
-pub ask_of-requires : goal.ask_of-requires
-ask_of-requires c =
+pub new-requires : goal.new-requires
+new-requires c =
     let r = subst (λ (o : Option Term). ReadsClause c.args.schema.now (ahead c.args.cursor) (option_map preference_of o) c.in_ok-product.field-0.group.items) c.in-Some.is c.in_ok-product.ensures.ok in
     is_ask c.args.schema.now (preference_of c.in-Some.term) c.in_ok-product.field-0.group.items Best r.product_known r.group_known (omega arith, omega arith) c.args.distinct
     (λ _. record { mode = refl; preference = product_is_clause c.args.schema.now (r.first ∷ r.others) (preference_of c.in-Some.term) r.product_is })
@@ -24,18 +24,18 @@ ask_of-requires c =
 pub returns-in-Some-clause-ok : goal.returns-in-Some-clause-ok
 returns-in-Some-clause-ok c =
     let r = subst (λ (o : Option Term). ReadsClause c.args.schema.now (ahead c.args.cursor) (option_map preference_of o) c.in_ok-product.field-0.group.items) c.in-Some.is c.in_ok-product.ensures.ok in
-    IfOk-weaker c.ask_of.result _ _
+    IfOk-weaker c.map_err.result (λ (a : Question). a ≡ record { preference = preference_of c.in-Some.term; group = c.in_ok-product.field-0.group.items; mode = Best; distinct = c.args.distinct }) _
     (λ a is. subst (AsksClause c.args.schema.now c.args.distinct (ahead c.args.cursor)) (sym is)
     (clause_asks c.args.schema.now c.args.distinct (ahead c.args.cursor) (preference_of c.in-Some.term) c.in_ok-product.field-0.group.items r))
-    c.ask_of.ensures.ok
+    (search rules)
 
 pub returns-in-Some-clause-known : goal.returns-in-Some-clause-known
 returns-in-Some-clause-known c =
     let r = subst (λ (o : Option Term). ReadsClause c.args.schema.now (ahead c.args.cursor) (option_map preference_of o) c.in_ok-product.field-0.group.items) c.in-Some.is c.in_ok-product.ensures.ok in
-    IfOk-weaker c.ask_of.result _ _
+    IfOk-weaker c.map_err.result (λ (a : Question). a ≡ record { preference = preference_of c.in-Some.term; group = c.in_ok-product.field-0.group.items; mode = Best; distinct = c.args.distinct }) _
     (λ a is. subst (FitsWidth (length c.args.schema.now)) (sym is)
     (fits_width c.args.schema.now (preference_of c.in-Some.term) c.in_ok-product.field-0.group.items Best r.product_known r.group_known c.args.distinct))
-    c.ask_of.ensures.ok
+    (search rules)
 
 pub returns-in-None-clause-err : goal.returns-in-None-clause-err
 returns-in-None-clause-err c =

@@ -1,11 +1,10 @@
 use Rattle.std.proofs.lemmas.Bool.{false≢true}
-use Rattle.std.proofs.Common.{false}
-use Rattle.std.proofs.Common.{sym, subst, length}
+use Rattle.std.proofs.Common.{◌≡◌, false, rules, sym, subst, length}
 use Rattle.std.proofs.lemmas.Result.{IfOk-weaker}
 use Rattle.pref_term.specs.Ahead.{ahead}
 use Rattle.pref_term.specs.Reading.{operand, in_whole}
 use Rattle.pref_term.specs.Preference.{preference_of}
-use Rattle.pref_term.specs.Question.{FitsWidth}
+use Rattle.pref_term.specs.Question.{FitsWidth, Question}
 use Rattle.pref_term.specs.Led.{Asks}
 use Rattle.pref_term.proofs.LedLemmas.{err_exit}
 use Rattle.pref_term.proofs.AskLemmas.{rated_read, rated_prior_fails, rated_group_fails, is_ask, fits_width}
@@ -19,8 +18,8 @@ returns-in_err-group-clause-err c =
     let v = c.in_ok-term in
     err_exit _ _ c.from_residual-in_err-group.ensures.1 (λ head _. rated_group_fails c.args.schema.now (ahead c.args.cursor) (ahead v.next) (preference_of v.term) _ v.ensures.ok c.in_err-group.ensures.err head)
 
-pub ask_of-requires : goal.ask_of-requires
-ask_of-requires c =
+pub new-requires : goal.new-requires
+new-requires c =
     let v = c.in_ok-term in
     let g = c.in_ok-group in
     is_ask c.args.schema.now (preference_of v.term) g.group.items c.args.mode v.ensures.ok.products.known g.ensures.ok.known c.requires false (λ h. absurd (false≢true h))
@@ -29,16 +28,16 @@ pub returns-clause-ok : goal.returns-clause-ok
 returns-clause-ok c =
     let v = c.in_ok-term in
     let g = c.in_ok-group in
-    IfOk-weaker c.ask_of.result _ _
+    IfOk-weaker c.map_err.result (λ (a : Question). a ≡ record { preference = preference_of v.term; group = g.group.items; mode = c.args.mode; distinct = false }) _
     (λ a is head e. subst (Asks c.args.schema.now (operand (in_whole head)) (ahead c.args.cursor)) (sym is)
     (rated_read c.args.schema.now (ahead c.args.cursor) (ahead v.next) (preference_of v.term) g.group.items c.args.mode v.ensures.ok g.ensures.ok head e))
-    c.ask_of.ensures.ok
+    (search rules)
 
 pub returns-clause-known : goal.returns-clause-known
 returns-clause-known c =
     let v = c.in_ok-term in
     let g = c.in_ok-group in
-    IfOk-weaker c.ask_of.result _ _
+    IfOk-weaker c.map_err.result (λ (a : Question). a ≡ record { preference = preference_of v.term; group = g.group.items; mode = c.args.mode; distinct = false }) _
     (λ a is. subst (FitsWidth (length c.args.schema.now)) (sym is)
     (fits_width c.args.schema.now (preference_of v.term) g.group.items c.args.mode v.ensures.ok.products.known g.ensures.ok.known false))
-    c.ask_of.ensures.ok
+    (search rules)
