@@ -10,8 +10,7 @@ use Rattle.pref_term.specs.Order.{IsStrictOrder}
 use Rattle.pref_sky.specs.declared.entry.Entry.{Entry}
 use Rattle.pref_sky.specs.Best.{best, is_beaten, without_best}
 use Rattle.pref_sky.specs.Levels.{HaveDifferentIds, in_order_of_id}
-use Rattle.pref_sky.specs.Meetings.{IsFree}
-use Rattle.pref_sky.specs.Passes.{IsApart}
+use Rattle.pref_sky.specs.Passes.{IsApart, IsFree}
 use Rattle.pref_sky.proofs.Members.{Among, any_from, any_gives, in_filter, from_filter, in_left, in_right, in_either}
 use Rattle.pref_sky.proofs.Removals.{same_answer}
 use Rattle.pref_sky.proofs.Halves.{beaten_by_best}

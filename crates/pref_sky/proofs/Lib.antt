@@ -4,9 +4,12 @@ pub mod Orders
 pub mod Merges
 pub mod Retained
 pub mod Loops
+pub mod PassSteps
+pub mod Items
+pub mod Parting
+pub mod PooledItems
+pub mod WindowSteps
 pub mod Splits
-pub mod Passes
-pub mod Tellings
 pub mod Enough
 pub mod Searches
 pub mod HeldLevels

@@ -6,22 +6,9 @@ use Rattle.std.proofs.lemmas.Bool.{cases_Bool, both_ways, eqb-true, ltb-true, lt
 use Rattle.pref_sky.specs.declared.entry.Entry.{Entry}
 use Rattle.pref_sky.specs.Best.{best, is_beaten, rest, without_best}
 use Rattle.pref_sky.specs.Levels.{HaveDifferentIds, in_order_of_id}
-use Rattle.pref_sky.proofs.Members.{Among, any_from, any_gives, in_filter, from_filter}
+use Rattle.pref_sky.proofs.Members.{Among, among_place, any_from, any_gives, from_filter, in_filter, place_of}
 use Rattle.pref_sky.proofs.Removals.{same_answer}
 use Rattle.pref_sky.proofs.Orders.{Rises, different_later, different_tail, among_in_order, from_in_order}
-
-pub among_place : (xs : List Entry) (j : ℕ) (d : Entry) → j < length xs → Among (get_or xs j d) xs
-among_place [] j d l = absurd (omega arith)
-among_place (x ∷ xs) zero d l = inl refl
-among_place (x ∷ xs) (suc j) d l = inr (among_place xs j d (omega arith))
-
-place_of : (xs : List Entry) (x d : Entry) → Among x xs → (k : ℕ) × (k < length xs) × (get_or xs k d ≡ x)
-place_of [] x d m = absurd m
-place_of (y ∷ ys) x d m =
-    elim m [
-      | inl e ↦ (0, omega arith, sym e)
-      | inr r ↦ let w = place_of ys x d r in (suc w.0, omega (arith, w.1), w.2)
-    ]
 
 -- entries that rise are in order of id
 pub sorted_if_rise : (xs : List Entry) → Rises xs → IsNonDecreasingBy (λ (e : Entry). e.id) xs

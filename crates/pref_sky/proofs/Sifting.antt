@@ -1,23 +1,19 @@
 -- Lists of which no entry is over another: what stands as one of them does, and the list in another order.
 use Rattle.std.proofs.Common.{◌≡◌, ◌∙◌, ◌<◌, ℕ, Bool, false, subst, List, length, get_or, sym}
-use Rattle.std.specs.List.{list_any}
 use Rattle.std.specs.List.Sorted.{IsPermutation}
 use Rattle.std.proofs.lemmas.Bool.{both_ways, false_from_ne_true}
 use Rattle.std.proofs.lemmas.List.Sorted.{list_any-IsPermutation}
 use Rattle.pref_sky.specs.declared.entry.Entry.{Entry}
 use Rattle.pref_sky.specs.Best.{is_beaten}
 use Rattle.pref_sky.specs.Passes.{IsApart}
-use Rattle.pref_sky.proofs.Searches.{among_place}
 use Rattle.pref_term.specs.Order.{StandAlike}
-use Rattle.pref_sky.proofs.Members.{Among, any_from, any_gives}
+use Rattle.pref_sky.proofs.PassSteps.{clear_if_alike, unbeaten_if}
+use Rattle.pref_sky.proofs.Members.{Among, among_place, any_from, any_gives}
 
--- where none of a list is over another, none is over what stands as one of them does, and that is over none
-pub met_alike : (over : Entry → Entry → Bool) (all : List Entry) (place : ℕ) (other d e : Entry) → place < length all → other ≡ get_or all place d → StandAlike over other e → IsApart over all → (is_beaten over all e ≡ false) × (list_any (over e) all ≡ false)
+-- where none of a list is over another, none is over what stands as one of them does
+pub met_alike : (over : Entry → Entry → Bool) (all : List Entry) (place : ℕ) (other d e : Entry) → place < length all → other ≡ get_or all place d → StandAlike over other e → IsApart over all → is_beaten over all e ≡ false
 met_alike over all place other d e inside at alike apart =
-    let here : Among other all = subst (λ x. Among x all) (sym at) (among_place all place d inside) in (
-      false_from_ne_true (is_beaten over all e) (λ h. let w = any_gives (λ x. over x e) all h in both_ways (over w.0 other) (apart w.0 other w.1 here) (alike.above w.0 ∙ w.2)),
-      false_from_ne_true (list_any (over e) all) (λ h. let w = any_gives (over e) all h in both_ways (over other w.0) (apart other w.0 here w.1) (alike.below w.0 ∙ w.2)),
-    )
+    unbeaten_if over all e (λ x m. (clear_if_alike over all other e (subst (λ y. Among y all) (sym at) (among_place all place d inside)) alike apart x m).0)
 
 -- a list of which none is over another, in any order
 pub apart_in_any_order : (over : Entry → Entry → Bool) (xs ys : List Entry) → IsPermutation xs ys → IsApart over xs → IsApart over ys

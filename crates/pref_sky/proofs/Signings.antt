@@ -53,13 +53,6 @@ module _ (over : Entry → Entry → Bool) (held : List Entry) (words : List ℕ
       both_ways (is_within (get_or words i z) word) missing
       (ap (λ w. is_within w word) (signature_at i z d inside) ∙ (ap (is_within (signed.rule (get_or held i d))) own_signature ∙ signed.tells (get_or held i d) e h)))
 
-  -- and the other way round
-  pub over_none : (i z : ℕ) (d : Entry) → i < length held → is_within word (get_or words i z) ≡ false → over e (get_or held i d) ≡ false
-  over_none i z d inside missing =
-      false_from_ne_true (over e (get_or held i d)) (λ h.
-      both_ways (is_within word (get_or words i z)) missing
-      (ap (λ w. is_within w (get_or words i z)) own_signature ∙ (ap (is_within (signed.rule e)) (signature_at i z d inside) ∙ signed.tells e (get_or held i d) h)))
-
 first_holds : (a b : Bool) → (a && b) ≡ true → a ≡ true
 first_holds true b h = refl
 first_holds false b h = h

@@ -6,6 +6,7 @@ pub mod Windows
 pub mod Answers
 pub mod Meetings
 pub mod Signatures
+pub mod Items
 pub mod Passes
 pub mod Partials
 pub mod Starts

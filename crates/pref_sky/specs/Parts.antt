@@ -1,6 +1,6 @@
 -- No public contract cites this.
 -- The parts in which a partial result holds its entries where rows are compared within groups alone: a group is in one part.
-use Rattle.std.specs.Prelude.{◌≡◌, ◌+◌, ◌*◌, ◌/◌, ◌%◌, ◌^◌, ◌==◌, Bool, ℕ, zero, suc, ℤ, max, List, [], ◌∷◌, ◌++◌, length, map, Vec}
+use Rattle.std.specs.Prelude.{◌≡◌, ◌/◌, ◌^◌, ◌==◌, Bool, ℕ, zero, suc, ℤ, max, List, [], ◌∷◌, ◌++◌, length, map, Vec}
 use Rattle.std.specs.Global.{Global}
 use Rattle.pref_term.specs.Better.{cell}
 use Rattle.pref_term.specs.Signatures.{mixed}

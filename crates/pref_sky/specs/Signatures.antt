@@ -5,7 +5,6 @@ use Rattle.std.specs.Coded.{Coded-set, Unit-prop, coded_list, coded_ℕ, ×_prop
 use Rattle.std.specs.List.Sorted.{IsPermutation}
 use Rattle.pref_term.specs.declared.signature.scale.Scale.{Scale}
 use Rattle.pref_term.specs.Signatures.{is_within, signature}
-use Rattle.pref_sky.specs.Windows.{Held}
 use Rattle.pref_sky.specs.declared.entry.Entry.{Entry}
 use Rattle.pref_sky.specs.declared.level.Level.{Level}
 use Rattle.pref_sky.specs.declared.level.Step.{Step}
@@ -21,11 +20,6 @@ pub record AreSigned (over : Entry → Entry → Bool) (held : List Entry) (held
   pub tells : (a b : Entry) → over a b ≡ true → is_within (rule a) (rule b) ≡ true
   pub held_by : held_signatures ≡ map rule held
   pub coming_by : coming_signatures ≡ map rule coming
-
--- a window, and the signatures beside the entries that it holds
-pub record SignedHeld : Type 0 where
-  pub window : Held
-  pub signatures : List ℕ
 
 -- each of the entries has its signature by the rule beside it
 abbrev pub IsSignedBy : (Entry → ℕ) → SignedEntries → Type 0

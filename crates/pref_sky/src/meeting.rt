@@ -3,7 +3,6 @@
 ghost use Rattle.std.specs.Prelude.{◌≡◌, ◌<◌, [], ◌∷◌, length, is_some, IfSome};
 ghost use Rattle.pref_sky.specs.Best.{is_beaten};
 ghost use Rattle.pref_sky.specs.Levels.{entry_order};
-ghost use Rattle.pref_sky.specs.Meetings.{IsKnown, IsPlaced, Meets};
 ghost use Rattle.pref_sky.specs.Passes.{IsApart};
 ghost use Rattle.pref_sky.specs.Signatures.{AreSigned};
 ghost use Rattle.pref_sky.specs.declared.entry.Entry.{Entry};
@@ -37,66 +36,6 @@ pub(crate) fn find_over<D: Dominance>(
         }
     }
     None
-}
-
-/// How an entry compares with a list.
-#[derive(Clone, Copy)]
-pub(crate) enum Meeting {
-    /// Something of the list dominates it: the entry at this place.
-    Beaten { place: usize },
-    /// Nothing does, and it dominates something.
-    Above,
-    /// Neither.
-    Apart,
-}
-
-/// What is known of how the entries of a list compare with one another.
-#[derive(Clone, Copy)]
-pub(crate) enum Known {
-    /// None of them dominates another.
-    Apart,
-    /// Nothing: some may dominate others.
-    Nothing,
-}
-
-/// How an entry compares with a list, by one comparison for each of the list whose signature leaves open
-/// that one of the two dominates the other, until one dominates the entry, or is the same as it where the
-/// list is known to be apart: then none dominates the entry, and it dominates none.
-pub(crate) fn meet<D: Dominance>(
-    dominance: &D,
-    entries: &[Entry],
-    signatures: &[u64],
-    entry: &Entry,
-    signature: u64,
-    known: Known,
-) -> Meeting
-    requires { length signatures.now ≡ length entries.now }
-    ensures placed { IsPlaced entries.now result }
-    ensures meets { let over = entry_order (D.order dominance.now) in
-        AreSigned over entries.now signatures.now (entry.now ∷ []) (signature ∷ [])
-        → IsKnown over entries.now known → Meets over entries.now entry.now result }
-{
-    let mut above = false;
-    for (place, other) in signatures.iter().enumerate() {
-        if !is_within(*other, signature) && !is_within(signature, *other) {
-            continue;
-        }
-        match compare(dominance, &entries[place], entry) {
-            Relation::Neither => {}
-            Relation::Better => return Meeting::Beaten { place },
-            Relation::Worse => above = true,
-            Relation::Same => {
-                if let Known::Apart = known {
-                    return Meeting::Apart;
-                }
-            }
-        }
-    }
-    if above {
-        Meeting::Above
-    } else {
-        Meeting::Apart
-    }
 }
 
 /// What becomes of the entries that don't stay at a level.

@@ -5,10 +5,10 @@ ghost use Rattle.std.specs.Prelude.{◌≡◌, ◌≤◌, ◌<◌, ◌++◌, ◌
 ghost use Rattle.std.specs.List.{list_any};
 ghost use Rattle.pref_sky.specs.Best.{best, is_beaten, without_best};
 ghost use Rattle.pref_sky.specs.Levels.{HaveDifferentIds, entry_of, entry_order, in_order_of_id, levels};
-ghost use Rattle.pref_sky.specs.Meetings.{IsFree, is_kept};
+ghost use Rattle.pref_sky.specs.Meetings.{is_kept};
 ghost use Rattle.pref_sky.specs.Members.{Among, SameMembers};
 ghost use Rattle.pref_sky.specs.Partials.{AreMoved, HasRoom, HasRoomAt, HaveRoom, HoldTheSame, Opened, Reordered, held_at, ranked_after, ranked_from, stepped};
-ghost use Rattle.pref_sky.specs.Passes.{IsApart};
+ghost use Rattle.pref_sky.specs.Passes.{IsApart, IsFree};
 ghost use Rattle.pref_sky.specs.Signatures.{AreSigned, AreSignedBy, IsSignedBy, LevelsAreSigned, Moved, StepsAreSignedBy, signature_by};
 ghost use Rattle.pref_sky.specs.Starts.{AreApart, Start, StartAt, StartWithin, starting};
 ghost use Rattle.pref_sky.specs.declared.entry.Entry.{Entry};

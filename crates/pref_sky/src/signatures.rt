@@ -1,10 +1,13 @@
 //! Signatures of entries, by which most pairs are decided without a comparison.
 
-ghost use Rattle.std.specs.Prelude.{◌≡◌, ◌≤◌, ◌<◌, ◌+◌, ◌++◌, length, map, vec_len, vec_capacity, IfOk};
+ghost use Rattle.std.specs.Prelude.{◌≡◌, ◌≤◌, ◌<◌, ◌+◌, ◌++◌, ℕ, List, length, map, vec_len, vec_capacity, IfOk};
+ghost use Rattle.pref_sky.specs.Items.{AreItems, entries_at};
 ghost use Rattle.pref_term.specs.Signatures.{Suit};
 ghost use Rattle.pref_sky.specs.Signatures.{signature_by};
+ghost use Rattle.pref_sky.specs.declared.entry.Entry.{Entry};
 
 use crate::entry::Entry;
+use crate::item::Item;
 use crate::level::{Level, count_of};
 use crate::room::grow_for;
 use pref_table::Row;
@@ -19,7 +22,8 @@ pub(crate) struct SignedEntries {
 }
 
 impl SignedEntries {
-    ghost use Rattle.std.specs.Prelude.{◌≡◌, ◌++◌, [], ◌∷◌, OnOk};
+    ghost use Rattle.std.specs.Prelude.{◌≡◌, ◌<◌, ◌++◌, [], ◌∷◌, All, length, map, OnOk};
+    ghost use Rattle.pref_sky.specs.Items.{entries_at};
 
     /// None. Takes no memory.
     pub(crate) fn new(alloc: Global) -> SignedEntries
@@ -55,6 +59,24 @@ impl SignedEntries {
         grow_for(&mut self.signatures, signatures.len())?;
         self.entries.extend_from_slice(entries)?;
         self.signatures.extend_from_slice(signatures)?;
+        Ok(())
+    }
+
+    /// Puts the entries of items of a pool behind the others, each with its signature.
+    pub(crate) fn extend_from_items(
+        &mut self,
+        pool: &[Entry],
+        items: &[Item],
+    ) -> Result<(), AllocError>
+        requires { All (λ item. item.place < length pool.now) items.now }
+        ensures entries { OnOk result (self.new.entries.items ≡ self.old.entries.items ++ entries_at pool.now items.now) }
+        ensures signatures { OnOk result (self.new.signatures.items ≡ self.old.signatures.items ++ map (λ item. item.signature) items.now) }
+    {
+        grow_for(&mut self.entries, items.len())?;
+        grow_for(&mut self.signatures, items.len())?;
+        for item in items {
+            self.push(&pool[item.place], item.signature)?;
+        }
         Ok(())
     }
 }
@@ -158,4 +180,20 @@ pub(crate) fn signatures_of(
     let mut signatures = Vec::with_capacity(alloc, entries.len())?;
     push_signatures(&mut signatures, cuts, entries);
     Ok(signatures)
+}
+
+/// The items of entries that have these signatures: each place is one of theirs, in order.
+pub(crate) fn items_of(alloc: Global, signatures: &[u64]) -> Result<Vec<Item>, AllocError>
+    ensures entries { IfOk result (λ items. (entries : List Entry) → length signatures.now ≡ length entries → entries_at entries items.items ≡ entries) }
+    ensures items { IfOk result (λ items. (rule : Entry → ℕ) (entries : List Entry)
+        → signatures.now ≡ map rule entries → AreItems rule entries items.items) }
+{
+    let mut items = Vec::with_capacity(alloc, signatures.len())?;
+    for (place, signature) in signatures.iter().enumerate() {
+        items.push(Item {
+            signature: *signature,
+            place,
+        })?;
+    }
+    Ok(items)
 }

@@ -1,15 +1,12 @@
 //! A window of bounded size, for block-nested-loops (Börzsönyi, Kossmann, Stocker 2001).
 
-ghost use Rattle.std.specs.Prelude.{◌≡◌, ◌≤◌, ℕ, [], ◌∷◌, not, map, filter, count_by, length, take, vec_len, vec_capacity};
+ghost use Rattle.std.specs.Prelude.{◌≡◌};
 ghost use Rattle.std.specs.List.{list_any};
+ghost use Rattle.pref_sky.specs.Best.{is_beaten};
 ghost use Rattle.pref_sky.specs.Levels.{entry_order};
-ghost use Rattle.pref_sky.specs.Signatures.{AreSigned};
-ghost use Rattle.pref_sky.specs.declared.entry.Entry.{Entry};
 
 use crate::entry::{Entry, is_over};
-use crate::meeting::{Known, Meeting, meet};
-use crate::signatures::SignedEntries;
-use pref_term::{Dominance, is_within};
+use pref_term::Dominance;
 use std::alloc::{AllocError, Global};
 use std::marker::Model;
 
@@ -24,235 +21,39 @@ pub enum Offer {
     Overflow,
 }
 
-/// A window whose entries have their signatures beside them.
-///
-/// A contract sees the window, and the signatures.
-#[derive(Drop)]
-pub(crate) struct SignedWindow {
-    entries: Vec<Entry>,
-    signatures: Vec<u64>,
-    size: usize,
-    early: usize,
-    overflowed: bool,
-}
-
-impl Model for SignedWindow {
-    ghost use Rattle.std.specs.Prelude.{take, drop, ◌≤◌, ◌<◌, ◌≡◌, false, vec_len, vec_capacity};
-    ghost use Rattle.pref_sky.specs.Signatures.{SignedHeld};
-
-    ghost Value = { SignedHeld };
-
-    ghost view = { λ a. record {
-      window = record {
-        size = a.size;
-        early = take a.early a.entries.items;
-        late = drop a.early a.entries.items;
-        overflowed = a.overflowed;
-      };
-      signatures = a.signatures.items;
-    } };
-
-    ghost invariant = { λ a. record {
-      split : a.early ≤ vec_len a.entries;
-      within : vec_len a.entries ≤ a.size;
-      room : a.size ≤ vec_capacity a.entries;
-      positive : 0 < a.size;
-      fresh : a.overflowed ≡ false → a.early ≡ vec_len a.entries;
-      signed : vec_len a.signatures ≡ vec_len a.entries;
-      signed_room : a.size ≤ vec_capacity a.signatures;
-    } };
-}
-
-/// How many entries stay in a window, and how many of them are early.
-#[derive(Clone, Copy)]
-struct Stay {
-    count: usize,
-    early: usize,
-}
-
-/// Moves the entries that this one does not dominate to the front, in order, each with its signature: one
-/// comparison for each whose signature leaves open that it is.
-fn move_staying<D: Dominance>(
-    dominance: &D,
-    entry: &Entry,
-    signature: u64,
-    entries: &mut [Entry],
-    signatures: &mut [u64],
-    early: usize,
-) -> Stay
-    requires long { length signatures.old ≡ length entries.old }
-    requires signed { AreSigned (entry_order (D.order dominance.now)) entries.old signatures.old (entry.now ∷ []) (signature ∷ []) }
-    ensures stay { take result.count entries.new ≡ filter (λ w. not (entry_order (D.order dominance.now) entry.now w)) entries.old }
-    ensures within { result.count ≤ length entries.old }
-    ensures early { result.early ≡ count_by (λ w. not (entry_order (D.order dominance.now) entry.now w)) (take early entries.old) }
-    ensures signed { (rule : Entry → ℕ) → signatures.old ≡ map rule entries.old
-        → take result.count signatures.new ≡ map rule (take result.count entries.new) }
-{
-    let mut stay = Stay { count: 0, early: 0 };
-    for place in 0..entries.len() {
-        if is_within(signature, signatures[place]) && is_over(dominance, entry, &entries[place]) {
-            continue;
-        }
-        entries[stay.count] = entries[place];
-        signatures[stay.count] = signatures[place];
-        stay.count += 1;
-        if place < early {
-            stay.early += 1;
-        }
-    }
-    stay
-}
-
-/// Takes out the entries that this one dominates, where it is known whether there are any, and returns
-/// how many of the first `early` stay.
-fn make_room<D: Dominance>(
-    dominance: &D,
-    entry: &Entry,
-    signature: u64,
-    entries: &mut Vec<Entry>,
-    signatures: &mut Vec<u64>,
-    early: usize,
-    above: bool,
-) -> usize
-    requires within { early ≤ vec_len entries.old }
-    requires long { vec_len signatures.old ≡ vec_len entries.old }
-    requires signed { AreSigned (entry_order (D.order dominance.now)) entries.old.items signatures.old.items (entry.now ∷ []) (signature ∷ []) }
-    requires above { list_any (entry_order (D.order dominance.now) entry.now) entries.old.items ≡ above }
-    ensures early { result ≡ count_by (λ w. not (entry_order (D.order dominance.now) entry.now w)) (take early entries.old.items) }
-    ensures items { entries.new.items ≡ filter (λ w. not (entry_order (D.order dominance.now) entry.now w)) entries.old.items }
-    ensures signed { (rule : Entry → ℕ) → signatures.old.items ≡ map rule entries.old.items → signatures.new.items ≡ map rule entries.new.items }
-    ensures long { vec_len signatures.new ≡ vec_len entries.new }
-    ensures bound { vec_len entries.new ≤ vec_len entries.old }
-    ensures capacity { vec_capacity entries.new ≡ vec_capacity entries.old }
-    ensures signed_capacity { vec_capacity signatures.new ≡ vec_capacity signatures.old }
-{
-    if !above {
-        return early;
-    }
-    let stay = move_staying(dominance, entry, signature, entries, signatures, early);
-    entries.truncate(stay.count);
-    signatures.truncate(stay.count);
-    stay.early
-}
-
-impl SignedWindow {
-    ghost use Rattle.std.specs.Prelude.{◌≡◌, ◌<◌, ◌≤◌, ◌⊎◌, ◌++◌, [], ◌∷◌, ℕ, length, map, IfOk, OnOk};
-    ghost use Rattle.pref_sky.specs.Levels.{entry_order};
-    ghost use Rattle.pref_sky.specs.Meetings.{IsKnown};
-    ghost use Rattle.pref_sky.specs.Passes.{settled};
-    ghost use Rattle.pref_sky.specs.Signatures.{AreSigned, IsSignedBy};
-    ghost use Rattle.pref_sky.specs.Windows.{Held, Offers, window_at_begin, window_entries};
-    ghost use Rattle.pref_sky.specs.declared.entry.Entry.{Entry};
-
-    /// An empty window with room for `size` entries and their signatures, 144 bytes each, taken here once.
-    pub(crate) fn new(alloc: Global, size: usize) -> Result<SignedWindow, AllocError>
-        requires { 0 < size }
-        ensures window { IfOk result (λ signed. signed.window ≡ window_at_begin size []) }
-        ensures signatures { IfOk result (λ signed. signed.signatures ≡ []) }
-    {
-        Ok(SignedWindow {
-            entries: Vec::with_capacity(alloc, size)?,
-            signatures: Vec::with_capacity(alloc, size)?,
-            size,
-            early: 0,
-            overflowed: false,
-        })
-    }
-
-    /// Offers an entry with its signature, with what is known of the window: where it is apart, an entry
-    /// that is the same as a held one is compared with no further one.
-    pub(crate) fn offer<D: Dominance>(
-        &mut self,
-        dominance: &D,
-        entry: Entry,
-        signature: u64,
-        known: Known,
-    ) -> Offer
-        requires known { IsKnown (entry_order (D.order dominance.now)) (window_entries self.old.window) known }
-        requires signed { AreSigned (entry_order (D.order dominance.now)) (window_entries self.old.window) self.old.signatures (entry ∷ []) (signature ∷ []) }
-        ensures outcome { Offers (entry_order (D.order dominance.now)) self.old.window entry result self.new.window }
-        ensures as_before { (result ≡ Offer.Joined) ⊎ (window_entries self.new.window ≡ window_entries self.old.window) }
-        ensures within { length (window_entries self.new.window) ≤ self.new.window.size }
-        ensures size { self.new.window.size ≡ self.old.window.size }
-        ensures signed { (rule : Entry → ℕ) → self.old.signatures ≡ map rule (window_entries self.old.window) → signature ≡ rule entry
-            → self.new.signatures ≡ map rule (window_entries self.new.window) }
-    {
-        let above = match meet(
-            dominance,
-            &self.entries,
-            &self.signatures,
-            &entry,
-            signature,
-            known,
-        ) {
-            Meeting::Beaten { .. } => return Offer::Dropped,
-            Meeting::Above => true,
-            Meeting::Apart => false,
-        };
-        self.early = make_room(
-            dominance,
-            &entry,
-            signature,
-            &mut self.entries,
-            &mut self.signatures,
-            self.early,
-            above,
-        );
-        if self.entries.len() == self.size {
-            self.overflowed = true;
-            return Offer::Overflow;
-        }
-        self.entries.push(entry).unwrap();
-        self.signatures.push(signature).unwrap();
-        if !self.overflowed {
-            self.early += 1;
-        }
-        Offer::Joined
-    }
-
-    /// Ends a pass: the early entries are returned as best and leave the window; the late ones stay for the
-    /// next pass.
-    ///
-    /// Copies the early entries once, with their signatures. `Err` is out of memory.
-    pub(crate) fn settle(&mut self, told: &mut SignedEntries) -> Result<(), AllocError>
-        ensures told { OnOk result (told.new.entries.items ≡ told.old.entries.items ++ self.old.window.early) }
-        ensures told_signed { OnOk result ((rule : Entry → ℕ) → self.old.signatures ≡ map rule (window_entries self.old.window)
-            → IsSignedBy rule told.old → IsSignedBy rule told.new) }
-        ensures window { OnOk result (self.new.window ≡ settled self.old.window) }
-        ensures signed { OnOk result ((rule : Entry → ℕ) → self.old.signatures ≡ map rule (window_entries self.old.window)
-            → self.new.signatures ≡ map rule (window_entries self.new.window)) }
-    {
-        told.extend_from_slices(&self.entries[..self.early], &self.signatures[..self.early])?;
-        self.entries.rotate_left(self.early);
-        self.entries.truncate(self.entries.len() - self.early);
-        self.signatures.rotate_left(self.early);
-        self.signatures.truncate(self.signatures.len() - self.early);
-        self.early = self.entries.len();
-        self.overflowed = false;
-        Ok(())
-    }
-}
-
 /// At most `size` entries; where all were offered by one order, none of them dominates another.
 ///
 /// A contract sees its size, the early entries (those that were there when the pass began, or joined
 /// before its first overflow), the late ones (those that joined since), and whether one overflowed.
 #[derive(Drop)]
 pub struct Window {
-    signed: SignedWindow,
+    early: Vec<Entry>,
+    late: Vec<Entry>,
+    size: usize,
+    overflowed: bool,
 }
 
 impl Model for Window {
-    ghost use Rattle.std.specs.Prelude.{◌≡◌, map};
-    ghost use Rattle.pref_sky.specs.Windows.{Held, window_entries};
-    ghost use Rattle.pref_sky.specs.declared.entry.Entry.{Entry};
+    ghost use Rattle.std.specs.Prelude.{◌≤◌, ◌<◌, ◌+◌, ◌≡◌, false, [], vec_len, vec_capacity};
+    ghost use Rattle.pref_sky.specs.Windows.{Held};
 
     ghost Value = { Held };
 
-    ghost view = { λ a. a.signed.window };
+    ghost view = { λ a. record { size = a.size; early = a.early.items; late = a.late.items; overflowed = a.overflowed } };
 
-    // Nothing is known of the orders of the offers, so all signatures are zero.
-    ghost invariant = { λ a. a.signed.signatures ≡ map (λ (e : Entry). 0) (window_entries a.signed.window) };
+    ghost invariant = { λ a. record {
+      within : vec_len a.early + vec_len a.late ≤ a.size;
+      early_room : a.size ≤ vec_capacity a.early;
+      late_room : a.size ≤ vec_capacity a.late;
+      positive : 0 < a.size;
+    } };
+}
+
+/// Whether one of the entries dominates this one.
+fn is_beaten_by<D: Dominance>(dominance: &D, entries: &[Entry], entry: &Entry) -> bool
+    ensures { result ≡ is_beaten (entry_order (D.order dominance.now)) entries.now entry.now }
+{
+    entries.iter().any(|other| is_over(dominance, other, entry))
 }
 
 impl Window {
@@ -260,7 +61,7 @@ impl Window {
     ghost use Rattle.pref_sky.specs.Levels.{entry_order};
     ghost use Rattle.pref_sky.specs.Windows.{Held, Offers, window_at_begin, window_entries};
 
-    /// An empty window with room for `size` entries, 144 bytes each, taken here once.
+    /// An empty window with room for `size` entries, 272 bytes each, taken here once.
     ///
     /// `Err` is out of memory.
     pub fn new(alloc: Global, size: usize) -> Result<Window, AllocError>
@@ -268,21 +69,40 @@ impl Window {
         ensures { IfOk result (λ window. window ≡ window_at_begin size []) }
     {
         Ok(Window {
-            signed: SignedWindow::new(alloc, size)?,
+            early: Vec::with_capacity(alloc, size)?,
+            late: Vec::with_capacity(alloc, size)?,
+            size,
+            overflowed: false,
         })
     }
 
     /// Offers an entry: it is dropped where something held dominates it; else what it dominates goes out,
     /// and it joins, or overflows where nothing went out of a full window.
     ///
-    /// Takes no memory. At most one comparison for each held entry, and where something goes out at most
-    /// one more for each.
+    /// Takes no memory. At most two comparisons for each held entry.
     pub fn offer<D: Dominance>(&mut self, dominance: &D, entry: Entry) -> Offer
         ensures outcome { Offers (entry_order (D.order dominance.now)) self.old entry result self.new }
         ensures as_before { (result ≡ Offer.Joined) ⊎ (window_entries self.new ≡ window_entries self.old) }
         ensures within { length (window_entries self.new) ≤ self.new.size }
         ensures size { self.new.size ≡ self.old.size }
     {
-        self.signed.offer(dominance, entry, 0, Known::Nothing)
+        if is_beaten_by(dominance, &self.early, &entry)
+            || is_beaten_by(dominance, &self.late, &entry)
+        {
+            return Offer::Dropped;
+        }
+        self.early
+            .retain(|other| !is_over(dominance, &entry, other));
+        self.late.retain(|other| !is_over(dominance, &entry, other));
+        if self.early.len() + self.late.len() == self.size {
+            self.overflowed = true;
+            return Offer::Overflow;
+        }
+        if self.overflowed {
+            self.late.push(entry).unwrap();
+        } else {
+            self.early.push(entry).unwrap();
+        }
+        Offer::Joined
     }
 }

@@ -1,96 +1,57 @@
-use Rattle.std.proofs.Common.{◌≡◌, ◌<◌, ◌+◌, [], map, length, sym, ◌∙◌, ap, subst, arith, eqb, vec_len, true, false}
-use Rattle.std.proofs.lemmas.Bool.{eqb-true, eqb-false}
+use Rattle.std.proofs.Common.{◌≡◌, ◌==◌, ◌<◌, ◌∙◌, ◌++◌, length, map, sym, ap, subst, arith}
+use Rattle.std.specs.Prelude.{All}
+use Rattle.std.proofs.lemmas.List.{length-map}
+use Rattle.pref_sky.specs.declared.entry.Entry.{Entry}
+use Rattle.pref_sky.specs.declared.item.Item.{Item}
 use Rattle.pref_sky.specs.Best.{best}
-use Rattle.pref_sky.specs.Levels.{entry_order}
-use Rattle.pref_sky.specs.Passes.{Telling}
-use Rattle.pref_sky.specs.Signatures.{SignedHeld}
-use Rattle.pref_sky.specs.Windows.{Held, window_at_begin}
-use Rattle.pref_sky.proofs.Orders.{same_in_order}
+use Rattle.pref_sky.specs.Items.{entries_at, item_order}
+use Rattle.pref_sky.specs.Levels.{HaveDifferentIds, entry_order, in_order_of_id}
+use Rattle.pref_sky.specs.Passes.{Parted}
 use Rattle.pref_sky.proofs.Merges.{different_best}
-use Rattle.pref_sky.proofs.Tellings.{telling_begins, all_told, told_differ}
+use Rattle.pref_sky.proofs.Orders.{same_in_order}
+use Rattle.pref_sky.proofs.PooledItems.{best_are_items, entries_parted, signed_items}
 use Rattle.pref_sky.proofs.best.best_of_signed.Goals as goal
 
--- the first window is empty
-pub pass-requires-clause-signed : goal.pass-requires-clause-signed
-pass-requires-clause-signed g c =
+pub extend_from_items-requires : goal.extend_from_items-requires
+extend_from_items-requires g c =
+    let pool = c.args.entries.now in
     let signed = c.requires.signed in
-    record {
-      rule = signed.rule;
-      tells = signed.tells;
-      held_by = c.in_ok-window.ensures.signatures ∙ sym (ap (λ (w : Held). map signed.rule w.early) c.in_ok-window.ensures.window);
-      coming_by = signed.coming_by;
-    }
-
-pub each_pass-init : goal.each_pass-init
-each_pass-init g c =
-    let over = entry_order (g.D.Dominance.order c.args.dominance.now) in
-    let all = c.args.entries.now in
-    let old : Held = c.in_ok-window.window.window in
-    let now : Held = c.pass.new.window.window in
-    let early : old.early ≡ [] = ap (λ (w : Held). w.early) c.in_ok-window.ensures.window in
-    let fresh : now ≡ window_at_begin old.size now.early = c.in_ok-input.ensures.fresh in
-    let size : now.size ≡ old.size = ap (λ (w : Held). w.size) fresh in
-    let filled : eqb (length all) 0 ≡ false = sym c.is_empty.ensures ∙ c.if-is_empty.false in
-    let some : 0 < length all = omega (arith, eqb-false (length all) 0 filled) in
-    let begins : Telling over all c.new-found.result.entries.items old.early all =
-    subst (λ l. Telling over all c.new-found.result.entries.items l all) (sym early) (subst (λ l. Telling over all l [] all) (sym c.new-found.ensures.entries) (telling_begins over all)) in
-    let none = ap length early in
-    let falls : length now.early + length c.in_ok-input.input.entries.items < length old.early + length all = c.in_ok-input.ensures.falls some in
-    record {
-      so_far = c.in_ok-input.ensures.told all begins;
-      signed = λ rule by.
-          c.in_ok-input.ensures.signed rule (c.in_ok-window.ensures.signatures ∙ sym (ap (λ (w : Held). map rule w.early) c.in_ok-window.ensures.window)) by
-          (c.new-found.ensures.signatures ∙ ap (map rule) (sym c.new-found.ensures.entries));
-      fresh = fresh ∙ ap (λ n. window_at_begin n now.early) (sym size);
-      positive = let opened = ap (λ (w : SignedHeld). w.window.size) c.window.view_is in omega (arith, opened, c.window.invariant.positive);
-      few = omega (arith, falls, none);
-    }
-
--- what is left for a pass is signed by the rule of all
-pub pass-requires-in-each_pass-clause-signed : goal.pass-requires-in-each_pass-clause-signed
-pass-requires-in-each_pass-clause-signed g c =
-    let signed = c.requires.signed in
-    let by = c.each_pass.invariant.signed signed.rule signed.coming_by in
-    record {
-      rule = signed.rule;
-      tells = signed.tells;
-      held_by = by.0;
-      coming_by = c.deref-in-each_pass.ensures.value ∙ (by.1 ∙ ap (map signed.rule) (sym c.deref.ensures.value));
-    }
-
-pub each_pass-preserved : goal.each_pass-preserved
-each_pass-preserved g c =
-    let all = c.args.entries.now in
-    let old : Held = c.each_pass.window.window in
-    let now : Held = c.pass-in-each_pass.new.window.window in
-    let over = entry_order (g.D.Dominance.order c.args.dominance.now) in
-    let input : c.deref.result.now ≡ c.each_pass.input.entries.items = c.deref.ensures.value in
-    let fresh : now ≡ window_at_begin old.size now.early = c.in_ok-input-2.ensures.fresh in
-    let size : now.size ≡ old.size = ap (λ (w : Held). w.size) fresh in
-    let filled : eqb (vec_len c.each_pass.input.entries) 0 ≡ false = sym c.is_empty-in-each_pass.ensures ∙ c.each_pass-test.true in
-    let long = ap length input in
-    let some : 0 < length c.deref.result.now = omega (arith, eqb-false (vec_len c.each_pass.input.entries) 0 filled, c.each_pass.input.entries.ok.0, long) in
-    let falls : length now.early + length c.in_ok-input-2.input.entries.items < length old.early + length c.deref.result.now = c.in_ok-input-2.ensures.falls some in
-    record {
-      so_far = c.in_ok-input-2.ensures.told all (subst (λ l. Telling over all c.each_pass.found.entries.items old.early l) (sym input) c.each_pass.invariant.so_far);
-      signed = λ rule by.
-          let so_far = c.each_pass.invariant.signed rule by in
-          c.in_ok-input-2.ensures.signed rule so_far.0 (c.deref-in-each_pass.ensures.value ∙ (so_far.1 ∙ ap (map rule) (sym input))) so_far.2;
-      fresh = fresh ∙ ap (λ n. window_at_begin n now.early) (sym size);
-      positive = omega (arith, size, c.each_pass.invariant.positive);
-      few = omega (arith, falls, long, c.each_pass.invariant.few);
-    }
+    let items = c.in_ok-items.items.items in
+    let top = c.in_ok-parted.parted.best.items in
+    let below = item_order (g.D.Dominance.order c.args.dominance.now) pool in
+    let parted : Parted below items top c.in_ok-parted.parted.rest.items = subst (λ l. Parted below l top c.in_ok-parted.parted.rest.items) c.deref.ensures.value c.in_ok-parted.ensures.parted in
+    let are = best_are_items signed.rule pool below items top c.in_ok-parted.parted.rest.items parted (c.in_ok-items.ensures.items signed.rule pool signed.coming_by) in
+    subst (All (λ (item : Item). item.place < length pool)) (sym c.deref-2.ensures.value) (λ k d inside. (are k d inside).within)
 
 pub returns-clause-best : goal.returns-clause-best
 returns-clause-best g c =
-    let over = entry_order (g.D.Dominance.order c.args.dominance.now) in
+    let order = g.D.Dominance.order c.args.dominance.now in
+    let over = entry_order order in
     let all = c.args.entries.now in
-    let t = c.each_pass.invariant.so_far in
-    let found = c.each_pass.found.entries.items in
-    let emptied : eqb (vec_len c.each_pass.input.entries) 0 ≡ true = sym c.is_empty-in-each_pass.ensures ∙ c.each_pass-test.false in
-    let none : length c.each_pass.input.entries.items ≡ 0 = omega (arith, eqb-true (vec_len c.each_pass.input.entries) 0 emptied, c.each_pass.input.entries.ok.0) in
-    let differ = told_differ over all found c.each_pass.window.window.early c.each_pass.input.entries.items t c.requires.ids in
-    same_in_order found (best over all) differ (different_best over all 0 c.requires.ids) (all_told over all found c.each_pass.window.window.early c.each_pass.input.entries.items t none)
+    let signed = c.requires.signed in
+    let items = c.in_ok-items.items.items in
+    let top = c.in_ok-parted.parted.best.items in
+    let others = c.in_ok-parted.parted.rest.items in
+    let found = c.extend_from_items.new.self.entries.items in
+    let below = item_order order all in
+    let parted : Parted below items top others = subst (λ l. Parted below l top others) c.deref.ensures.value c.in_ok-parted.ensures.parted in
+    let whole : entries_at all items ≡ all = c.in_ok-items.ensures.entries all (ap length signed.coming_by ∙ length-map all signed.rule) in
+    let entries : Parted over all (entries_at all top) (entries_at all others) =
+    subst (λ l. Parted over l (entries_at all top) (entries_at all others)) whole (entries_parted order signed.rule all items top others signed.tells (c.in_ok-items.ensures.items signed.rule all signed.coming_by) parted) in
+    let is : found ≡ entries_at all top = (c.in_ok-extend_from_items.ensures {u = tt}).entries ∙ (ap (λ l. l ++ entries_at all c.deref-2.result.now) c.new-found.ensures.entries ∙ ap (entries_at all) c.deref-2.ensures.value) in
+    let differ : HaveDifferentIds (entries_at all top) = record { once = λ id. omega (arith, entries.bag (λ (e : Entry). e.id == id), c.requires.ids.once id) } in
+    ap in_order_of_id is ∙ same_in_order (entries_at all top) (best over all) differ (different_best over all 0 c.requires.ids) entries.best_are
 
 pub returns-clause-signed : goal.returns-clause-signed
-returns-clause-signed g c rule by = (c.each_pass.invariant.signed rule by).2
+returns-clause-signed g c rule by =
+    let pool = c.args.entries.now in
+    let items = c.in_ok-items.items.items in
+    let top = c.in_ok-parted.parted.best.items in
+    let below = item_order (g.D.Dominance.order c.args.dominance.now) pool in
+    let parted : Parted below items top c.in_ok-parted.parted.rest.items = subst (λ l. Parted below l top c.in_ok-parted.parted.rest.items) c.deref.ensures.value c.in_ok-parted.ensures.parted in
+    let are = best_are_items rule pool below items top c.in_ok-parted.parted.rest.items parted (c.in_ok-items.ensures.items rule pool by) in
+    let given = c.in_ok-extend_from_items.ensures {u = tt} in
+    let entries : c.extend_from_items.new.self.entries.items ≡ entries_at pool top = given.entries ∙ (ap (λ l. l ++ entries_at pool c.deref-2.result.now) c.new-found.ensures.entries ∙ ap (entries_at pool) c.deref-2.ensures.value) in
+    given.signatures
+    ∙ (ap (λ l. l ++ map (λ (item : Item). item.signature) c.deref-2.result.now) c.new-found.ensures.signatures
+    ∙ (ap (map (λ (item : Item). item.signature)) c.deref-2.ensures.value ∙ (signed_items rule pool top are ∙ ap (map rule) (sym entries))))

@@ -23,4 +23,4 @@ returns-in-Same-clause-found g c apart =
     let entries = c.args.entries.now in
     let other = c.index-entries-place.result in
     let inside : c.loop-place.place < length entries = omega (arith, c.loop-place-test.true, ap length c.requires.held_by, length-map entries c.requires.rule) in
-    sym (met_alike over entries c.loop-place.place other other c.args.entry.now inside c.index-entries-place.is (c.compare.ensures.stand_alike (ap is_same c.in-Same.is)) apart).0
+    sym (met_alike over entries c.loop-place.place other other c.args.entry.now inside c.index-entries-place.is (c.compare.ensures.stand_alike (ap is_same c.in-Same.is)) apart)

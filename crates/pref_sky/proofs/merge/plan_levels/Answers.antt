@@ -5,9 +5,8 @@ use Rattle.std.proofs.lemmas.List.{length-map}
 use Rattle.pref_sky.specs.declared.entry.Entry.{Entry}
 use Rattle.pref_sky.specs.Best.{best, without_best}
 use Rattle.pref_sky.specs.Levels.{HaveDifferentIds, entry_order}
-use Rattle.pref_sky.specs.Meetings.{IsFree}
 use Rattle.pref_sky.specs.Members.{Among, SameMembers}
-use Rattle.pref_sky.specs.Passes.{IsApart}
+use Rattle.pref_sky.specs.Passes.{IsApart, IsFree}
 use Rattle.pref_sky.specs.Partials.{HasRoomAt, Reordered, stepped, held_at}
 use Rattle.pref_sky.specs.Signatures.{StepsAreSignedBy}
 use Rattle.pref_sky.specs.Starts.{starting}

@@ -1,0 +1,37 @@
+-- No public contract cites this.
+-- Items: signatures, and places in a pool of entries.
+use Rattle.std.specs.Prelude.{◌≡◌, ◌<◌, Bool, ◌&&◌, nat_lt, ◌^◌, ℕ, List, [], length, get_or, map, All}
+use Rattle.pref_term.specs.Order.{RowOrder}
+use Rattle.pref_term.specs.Signatures.{is_within}
+use Rattle.pref_sky.specs.declared.entry.Entry.{Entry}
+use Rattle.pref_sky.specs.declared.item.Item.{Item}
+use Rattle.pref_sky.specs.Levels.{entry_order}
+
+-- the entry at a place of a pool
+abbrev pub entry_at : List Entry → ℕ → Entry
+entry_at pool place = get_or pool place (record { id = 0; row = [] })
+
+-- the entry at the first place dominates that at the second, where both are places of the pool
+abbrev pub place_order : RowOrder → List Entry → ℕ → ℕ → Bool
+place_order order pool a b = nat_lt a (length pool) && (nat_lt b (length pool) && entry_order order (entry_at pool a) (entry_at pool b))
+
+-- a signature is a word
+abbrev pub is_word : Item → Bool
+is_word a = nat_lt a.signature (2 ^ 64)
+
+-- and no bit of its signature is missing in the other's: a strict order whatever the signatures are
+abbrev pub item_order : RowOrder → List Entry → Item → Item → Bool
+item_order order pool a b = is_word a && (is_word b && (is_within a.signature b.signature && place_order order pool a.place b.place))
+
+-- the entries of items
+abbrev pub entries_at : List Entry → List Item → List Entry
+entries_at pool items = map (λ item. entry_at pool item.place) items
+
+-- an item of a pool that is signed by a rule
+pub record IsItem (rule : Entry → ℕ) (pool : List Entry) (item : Item) : Type 0 where
+  pub within : item.place < length pool
+  pub word : item.signature < 2 ^ 64
+  pub signed : item.signature ≡ rule (entry_at pool item.place)
+
+abbrev pub AreItems : (Entry → ℕ) → List Entry → List Item → Type 0
+AreItems rule pool items = All (IsItem rule pool) items
