@@ -1,7 +1,7 @@
 -- Lists that are parted into their best and the others: by what their items stand for, and where a list that is apart meets them.
 use Rattle.std.proofs.Common.{◌≡◌, ℕ, Bool, true, cond, not, inl, inr, List, [], ◌∷◌, ◌++◌, refl, sym, ◌∙◌, ap, subst, arith, filter, map}
 use Rattle.std.specs.List.{count_by}
-use Rattle.std.proofs.lemmas.Bool.{both_ways, not_from_false}
+use Rattle.std.proofs.lemmas.Bool.{both_ways, not_from_false, false_from_ne_true, not-true}
 use Rattle.std.proofs.lemmas.List.Sums.{sum_by-cons, sum_by-append}
 use Rattle.std.proofs.lemmas.List.Filters.{sum_by-filter_both}
 use Rattle.pref_term.specs.Order.{IsStrictOrder}
@@ -121,3 +121,10 @@ parted_merge {E = E} over strict held coming top others apart free p =
           let f : E → ℕ = λ y. cond (q y) 1 0 in
           omega (arith, sum_by-append f stay top, sum_by-append f others go, sum_by-append f held coming, sum_by-filter_both beaten_top (λ x. not (beaten_top x)) (λ x. refl) f held, p.bag q);
     }
+
+-- none of the best dominates another
+pub best_are_apart : {E : Type 0} (over : E → E → Bool) (all top others : List E) → Parted over all top others → IsApart over top
+best_are_apart over all top others p x y mx my =
+    let v = from_filter (λ z. not (is_beaten over all z)) all x (p.best_are.there x mx) in
+    let w = from_filter (λ z. not (is_beaten over all z)) all y (p.best_are.there y my) in
+    false_from_ne_true (over x y) (λ above. both_ways (is_beaten over all y) (not-true (is_beaten over all y) w.1) (any_from (λ z. over z y) all x v.0 above))

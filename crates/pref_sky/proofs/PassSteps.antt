@@ -53,11 +53,6 @@ unbeaten_if over xs e none = false_from_ne_true (is_beaten over xs e) (λ h. let
 pub clear_if_alike : {E : Type 0} (over : E → E → Bool) (xs : List E) (y e : E) → Among y xs → StandAlike over y e → IsApart over xs → IsClear over xs e
 clear_if_alike over xs y e here alike apart x m = (sym (alike.above x) ∙ apart x y m here, sym (alike.below x) ∙ apart y x here m)
 
--- nothing goes out
-pub none_sifted : {E : Type 0} (over : E → E → Bool) (e : E) (old rest : List E) → Sifted over e old old rest rest
-none_sifted over e old rest =
-    record { splits = λ x m. inl m; keeps = λ x m. m; within = λ x m. m; went = λ x m. inl m; bag = λ p. refl; lengths = refl; longer = omega arith }
-
 -- what stands at a place of a list does so whatever would stand in its place outside
 pub get_or_any : {E : Type 0} (xs : List E) (i : ℕ) (d e : E) → i < length xs → get_or xs i d ≡ get_or xs i e
 get_or_any [] i d e l = absurd (omega (arith, l))

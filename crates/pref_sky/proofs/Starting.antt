@@ -19,7 +19,7 @@ use Rattle.pref_sky.proofs.Members.{Among, from_filter, in_left, in_right, in_ei
 use Rattle.pref_sky.proofs.Merges.{is_at}
 use Rattle.pref_sky.proofs.Removals.{best_of_rest_is, comes_after, comes_after_less, comes_after_upto}
 use Rattle.pref_sky.proofs.Orders.{SameMembers}
-use Rattle.pref_sky.proofs.HeldLevels.{beaten_by_more, best_of_same, best_without, different_by_count, left_without, same_sym, same_then, without_of_same}
+use Rattle.pref_sky.proofs.HeldLevels.{beaten_by_more, best_of_same, best_without, left_without, same_sym, same_then, without_of_same}
 use Rattle.pref_sky.proofs.Planning.{Planning, beaten_here, held_is_apart, held_is_best, planning_more}
 use Rattle.pref_sky.proofs.Opening.{held_at_is}
 use Rattle.pref_sky.proofs.Sifting.{apart_in_any_order}
@@ -259,15 +259,6 @@ module _ (over : Entry → Entry → Bool) (strict : IsStrictOrder over) (before
               not-true (comes_after over before (suc n) x) (and_parts (comes_after over before n x) (not (comes_after over before (suc n) x)) v.1).1
           | inr came ↦ sym (beaten_here over strict before cut n held still further x) ∙ free_here x came
         ]
-
--- what comes to a level stands there once
-pub differ_starting : (here down entries : List Entry) (starts : List ℕ) (n : ℕ) → HaveDifferentIds (here ++ (down ++ starting_from n entries starts)) → HaveDifferentIds (here ++ (down ++ starting n entries starts))
-differ_starting here down entries starts n different =
-    let from = starting_from n entries starts in
-    let now = starting n entries starts in
-    different_by_count here (down ++ from) (here ++ (down ++ now)) different (λ p.
-    let one : Entry → ℕ = λ e. cond (p e) 1 0 in
-    omega (arith, sum_by-append one here (down ++ now), sum_by-append one down now, sum_by-append one down from, count_starting p n entries starts))
 
 -- a level has its step, where what came down to it and what starts there came to it
 module _ (over : Entry → Entry → Bool) (strict : IsStrictOrder over) (cut n : ℕ) (first held after : List Level) (entries : List Entry) (starts : List ℕ) (down next coming : List Entry) (steps : List Step) (step : Step)

@@ -1,39 +1,14 @@
 //! The best entries of a list, by block-nested-loops (Börzsönyi, Kossmann, Stocker 2001).
 
-ghost use Rattle.std.specs.Prelude.{◌≡◌, ◌<◌, ◌≤◌, ℕ, [], length, map, IfOk};
+ghost use Rattle.std.specs.Prelude.{◌≡◌, ◌<◌, ◌≤◌, length, IfOk};
 ghost use Rattle.pref_sky.specs.Best.{best};
 ghost use Rattle.pref_sky.specs.Levels.{HaveDifferentIds, entry_order, in_order_of_id};
-ghost use Rattle.pref_sky.specs.Signatures.{AreSigned, IsSignedBy};
-ghost use Rattle.pref_sky.specs.declared.entry.Entry.{Entry};
 
 use crate::entry::Entry;
 use crate::passes::best_and_rest;
 use crate::signatures::{SignedEntries, cuts_of, items_of, signatures_of};
 use pref_term::Dominance;
 use std::alloc::{AllocError, Global};
-
-/// The same as [`best_rows_passes`], of entries with their signatures beside them, which spare most
-/// comparisons: the best, in no order, with their signatures.
-pub(crate) fn best_of_signed<D: Dominance>(
-    alloc: Global,
-    dominance: &D,
-    window: usize,
-    entries: &[Entry],
-    signatures: &[u64],
-) -> Result<(SignedEntries, u64), AllocError>
-    requires window { 0 < window }
-    requires ids { HaveDifferentIds entries.now }
-    requires signed { AreSigned (entry_order (D.order dominance.now)) [] [] entries.now signatures.now }
-    ensures best { IfOk result (λ found. in_order_of_id found.0.entries.items ≡ in_order_of_id (best (entry_order (D.order dominance.now)) entries.now)) }
-    ensures passes { IfOk result (λ found. found.1 ≤ length entries.now) }
-    ensures signed { IfOk result (λ found. (rule : Entry → ℕ) → signatures.now ≡ map rule entries.now → IsSignedBy rule found.0) }
-{
-    let items = items_of(alloc, signatures)?;
-    let parted = best_and_rest(alloc, dominance, window, entries, &items)?;
-    let mut found = SignedEntries::new(alloc);
-    found.extend_from_items(entries, &parted.best)?;
-    Ok((found, parted.passes))
-}
 
 /// The entries that no entry dominates, in order of id, and the number of passes.
 ///
@@ -57,10 +32,13 @@ pub fn best_rows_passes<D: Dominance>(
 {
     let cuts = cuts_of(alloc, dominance, entries)?;
     let signatures = signatures_of(alloc, &cuts, entries)?;
-    let (found, passes) = best_of_signed(alloc, dominance, window, entries, &signatures)?;
+    let items = items_of(alloc, &signatures)?;
+    let parted = best_and_rest(alloc, dominance, window, entries, &items)?;
+    let mut found = SignedEntries::new(alloc);
+    found.extend_from_items(entries, &parted.best)?;
     let mut best = found.entries;
     best.sort_unstable_by_key(|entry| entry.id);
-    Ok((best, passes))
+    Ok((best, parted.passes))
 }
 
 /// The entries that no entry dominates, in order of id: the list of [`best_rows_passes`], at its cost.

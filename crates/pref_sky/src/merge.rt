@@ -1,51 +1,25 @@
 //! An addition to a partial result, level by level: first it is planned, and then made without asking for
 //! memory. Held entries of one level never meet again, and none is copied but those that go down.
 
-ghost use Rattle.std.specs.Prelude.{◌≡◌, ◌≤◌, ◌<◌, ◌++◌, ◌⊎◌, ◌+◌, ◌^◌, ◌==◌, ℕ, [], ◌∷◌, suc, false, true, Bool, List, not, filter, length, map, count_by, vec_len, IfOk, OnOk};
-ghost use Rattle.std.specs.List.{list_any};
+ghost use Rattle.std.specs.Prelude.{◌≡◌, ◌≤◌, ◌<◌, ◌++◌, ◌+◌, ◌^◌, ℕ, [], ◌∷◌, suc, false, true, Bool, List, length, map, count_by, vec_len, IfOk, OnOk};
 ghost use Rattle.pref_sky.specs.Best.{best, is_beaten, without_best};
-ghost use Rattle.pref_sky.specs.Levels.{HaveDifferentIds, entry_of, entry_order, in_order_of_id, levels};
+ghost use Rattle.pref_sky.specs.Levels.{HaveDifferentIds, entry_of, entry_order, levels};
 ghost use Rattle.pref_sky.specs.Meetings.{is_kept};
-ghost use Rattle.pref_sky.specs.Members.{Among, SameMembers};
+ghost use Rattle.pref_sky.specs.Members.{SameMembers};
 ghost use Rattle.pref_sky.specs.Partials.{AreMoved, HasRoom, HasRoomAt, HaveRoom, HoldTheSame, Opened, Reordered, held_at, ranked_after, ranked_from, stepped};
 ghost use Rattle.pref_sky.specs.Passes.{IsApart, IsFree};
-ghost use Rattle.pref_sky.specs.Signatures.{AreSigned, AreSignedBy, IsSignedBy, LevelsAreSigned, Moved, StepsAreSignedBy, signature_by};
+ghost use Rattle.pref_sky.specs.Signatures.{AreSigned, AreSignedBy, IsSignedBy, LevelsAreSigned, Moved, StepsAreSignedBy};
 ghost use Rattle.pref_sky.specs.Starts.{AreApart, Start, StartAt, StartWithin, starting};
 ghost use Rattle.pref_sky.specs.declared.entry.Entry.{Entry};
 
-use crate::best::best_of_signed;
 use crate::entry::Entry;
 use crate::level::{Level, Step};
-use crate::meeting::{Losers, find_over};
+use crate::meeting::Losers;
+use crate::passes::best_and_rest;
 use crate::room::grow_for;
-use crate::signatures::SignedEntries;
+use crate::signatures::{SignedEntries, items_of};
 use pref_term::Dominance;
 use std::alloc::{AllocError, Global};
-
-/// Puts entries behind others, but for the best of them, which are `top`, each with its signature.
-fn push_lost<D: Dominance>(
-    dominance: &D,
-    down: &mut SignedEntries,
-    entries: &SignedEntries,
-    top: &SignedEntries,
-) -> Result<(), AllocError>
-    requires signed { AreSigned (entry_order (D.order dominance.now)) top.now.entries.items top.now.signatures.items entries.now.entries.items entries.now.signatures.items }
-    requires top { in_order_of_id top.now.entries.items ≡ in_order_of_id (best (entry_order (D.order dominance.now)) entries.now.entries.items) }
-    ensures lost { OnOk result (down.new.entries.items ≡ down.old.entries.items ++ without_best (entry_order (D.order dominance.now)) entries.now.entries.items) }
-    ensures signed { OnOk result ((rule : Entry → ℕ) → IsSignedBy rule entries.now → IsSignedBy rule down.old → IsSignedBy rule down.new) }
-{
-    if top.entries.len() == entries.entries.len() {
-        return Ok(());
-    }
-    for (place, entry) in entries.entries.iter().enumerate() {
-        let signature = entries.signatures[place];
-        let over = find_over(dominance, &top.entries, &top.signatures, entry, signature);
-        if over.is_some() {
-            down.push(entry, signature)?;
-        }
-    }
-    Ok(())
-}
 
 /// A level's step, and what goes down from it.
 #[derive(Drop)]
@@ -58,8 +32,8 @@ struct Merged {
 /// Plans a level's step as entries come to it that nothing held there dominates, and makes room for it. The
 /// level itself keeps its entries.
 ///
-/// Cost: the best of those that come, and at most one comparison for each pair of a held or coming entry and one
-/// of these best whose signatures leave open that the latter dominates the former.
+/// Cost: the best of those that come, and at most one comparison for each pair of a held entry and one of these best
+/// whose signatures leave open that the latter dominates the former.
 fn merge_level<D: Dominance>(
     alloc: Global,
     dominance: &D,
@@ -69,7 +43,6 @@ fn merge_level<D: Dominance>(
     losers: Losers,
 ) -> Result<Merged, AllocError>
     requires window { 0 < window }
-    requires ids { HaveDifferentIds (held.old.entries.items ++ coming.now.entries.items) }
     requires signed { AreSigned (entry_order (D.order dominance.now)) held.old.entries.items held.old.signatures.items coming.now.entries.items coming.now.signatures.items }
     ensures moved { Moved held.old held.new }
     ensures room { IfOk result (λ m. HasRoom m.step held.new) }
@@ -85,18 +58,15 @@ fn merge_level<D: Dominance>(
     ensures signed { IfOk result (λ m. (rule : Entry → ℕ) → held.old.signatures.items ≡ map rule held.old.entries.items
         → IsSignedBy rule coming.now → IsSignedBy rule m.step.joining × IsSignedBy rule m.down) }
 {
-    let best = best_of_signed(
-        alloc,
-        dominance,
-        window,
-        &coming.entries,
-        &coming.signatures,
-    )?;
-    let joining = best.0;
+    let entries = coming.entries.as_slice();
+    let items = items_of(alloc, &coming.signatures)?;
+    let found = best_and_rest(alloc, dominance, window, entries, &items)?;
+    let mut joining = SignedEntries::new(alloc);
+    joining.extend_from_items(entries, &found.best)?;
     let staying = held.set_apart(dominance, &joining);
     let mut down = SignedEntries::new(alloc);
     if let Losers::Kept = losers {
-        push_lost(dominance, &mut down, coming, &joining)?;
+        down.extend_from_items(entries, &found.rest)?;
         down.extend_from_slices(&held.entries[staying..], &held.signatures[staying..])?;
     }
     held.reserve(&joining)?;
@@ -134,7 +104,6 @@ fn merge_at<D: Dominance>(
     requires window { 0 < window }
     requires further { above < cut }
     requires within { above ≤ vec_len held.old }
-    requires ids { HaveDifferentIds (held_at above held.old.items ++ coming.now.entries.items) }
     requires signed { LevelsAreSigned (entry_order (D.order dominance.now)) held.old.items coming.now.entries.items coming.now.signatures.items }
     ensures reordered { Reordered above held.old.items held.new.items }
     ensures bound { vec_len held.old < 2 ^ 32 → vec_len held.new < 2 ^ 32 }

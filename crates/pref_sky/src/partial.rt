@@ -165,8 +165,8 @@ impl Partial {
     /// Held entries of one level are never compared with each other again. Cost: for each new entry a search
     /// by halves for the first level that does not dominate it, of which each step compares it with the
     /// entries of one level until one dominates it or is the same; for each level that something comes to, the
-    /// best of what comes, and at most one comparison for each pair of one of these best and another entry that
-    /// is held or comes there. Once 48 entries are held, or 16 of the first 128, signatures spare most of these: a new
+    /// best of what comes, and at most one comparison for each pair of one of these best and an entry that is
+    /// held there. Once 48 entries are held, or 16 of the first 128, signatures spare most of these: a new
     /// entry is signed then, and again with all others each time that a good eighth more are held. Copied are the new entries that start at a level, those that join one, and those
     /// that go down one; what stays at a level is not. Memory: a number for each new entry and its signature,
     /// lists as long as what comes to a level, and room for what joins.

@@ -3,7 +3,7 @@ use Rattle.std.specs.List.{count_by}
 use Rattle.std.proofs.lemmas.Bool.{lt-ltb}
 use Rattle.std.proofs.lemmas.Result.{IfOk-weaker}
 use Rattle.pref_sky.specs.Best.{best, without_best}
-use Rattle.pref_sky.specs.Levels.{HaveDifferentIds, entry_order}
+use Rattle.pref_sky.specs.Levels.{entry_order}
 use Rattle.pref_sky.specs.Members.{SameMembers}
 use Rattle.pref_sky.specs.Passes.{IsApart, IsFree}
 use Rattle.pref_sky.specs.Partials.{held_at, stepped}
@@ -15,12 +15,6 @@ use Rattle.pref_sky.proofs.merge.merge_at.Goals as goal
 
 pub returns-in_err-open_level-clause-reordered : goal.returns-in_err-open_level-clause-reordered
 returns-in_err-open_level-clause-reordered g c = opened_reordered c.args.above c.args.held.now.items c.open_level.new.held.items c.open_level.ensures.opened
-
-pub merge_level-requires-clause-ids : goal.merge_level-requires-clause-ids
-merge_level-requires-clause-ids g c =
-    let opened = c.open_level.new.held in
-    let inside : c.args.above < vec_len opened = (c.in_ok-open_level.ensures {u = tt}).there in
-    subst (λ l. HaveDifferentIds (l ++ c.args.coming.now.entries.items)) (sym (here_is c.args.above c.args.held.now.items opened.items c.open_level.ensures.opened (omega (arith, inside, opened.ok.0)) c.index_mut.result.now c.index_mut.ensures.value)) c.requires.ids
 
 -- the level was there, and is among the others now
 there : (g : given.Over) (c : goal.After-held-1 g) → c.args.above < length c.open_level.new.held.items

@@ -1,84 +1,92 @@
-use Rattle.std.proofs.Common.{◌≡◌, ℕ, ◌≤◌, ◌++◌, ◌+◌, ◌-◌, true, refl, List, not, filter, length, map, vec_len, take, drop, sym, ◌∙◌, ap, subst, arith, cond, length-drop}
+use Rattle.std.proofs.Common.{◌≡◌, ℕ, ◌≤◌, ◌<◌, ◌++◌, ◌+◌, ◌-◌, true, refl, List, not, filter, length, map, vec_len, take, drop, sym, ◌∙◌, ap, subst, arith, cond, length-drop}
+use Rattle.std.specs.Prelude.{All}
 use Rattle.std.specs.List.{count_by}
-use Rattle.std.proofs.lemmas.List.{drop-map, length-map, map-append}
+use Rattle.std.proofs.lemmas.List.{drop-map, length-map, map-append, take-append-drop}
+use Rattle.std.proofs.lemmas.List.Sorted.{sum_by-IsPermutation}
 use Rattle.std.proofs.lemmas.List.Sums.{sum_by-append}
 use Rattle.std.proofs.lemmas.Bool.{false≢true}
 use Rattle.std.proofs.Math.Seq.{take-length}
 use Rattle.pref_sky.specs.declared.entry.Entry.{Entry}
-use Rattle.pref_sky.specs.Best.{best, is_beaten, without_best}
-use Rattle.pref_sky.specs.Levels.{HaveDifferentIds, entry_order, in_order_of_id}
-use Rattle.pref_sky.specs.Meetings.{is_kept}
-use Rattle.pref_sky.specs.Signatures.{IsSignedBy}
+use Rattle.pref_sky.specs.declared.item.Item.{Item}
 use Rattle.pref_sky.specs.declared.meeting.Losers.{Losers}
 use Rattle.pref_sky.specs.declared.meeting.Losers.TheVariants as losers
+use Rattle.pref_sky.specs.Best.{best, is_beaten, without_best}
+use Rattle.pref_sky.specs.Items.{entries_at, item_order}
+use Rattle.pref_sky.specs.Levels.{entry_order}
+use Rattle.pref_sky.specs.Meetings.{is_kept}
 use Rattle.pref_sky.specs.Members.{SameMembers}
+use Rattle.pref_sky.specs.Passes.{IsApart, Parted}
+use Rattle.pref_sky.specs.Signatures.{IsSignedBy}
+use Rattle.pref_sky.proofs.HeldLevels.{same_then, same_beside, same_behind}
 use Rattle.pref_sky.proofs.Merges.{entry_order_is_strict}
-use Rattle.pref_sky.proofs.SignedLevels.{moved_same, moved_twice}
+use Rattle.pref_sky.proofs.Parting.{best_are_apart, parted_merge}
+use Rattle.pref_sky.proofs.PooledItems.{Found, best_are_items, found, joined_by, others_are_items}
 use Rattle.pref_sky.proofs.SetApart.{those_that_stay, those_that_go}
-use Rattle.pref_sky.proofs.HeldLevels.{different_by_count, level_members, down_members, merged_count, same_then, same_beside, same_behind, tops_apart}
+use Rattle.pref_sky.proofs.merge.merge_level.Given as given
 use Rattle.pref_sky.proofs.merge.merge_level.Goals as goal
-use Rattle.pref_sky.proofs.merge.merge_level.Goals.{in-Kept+in_ok-push_lost+in_ok-extend_from_slices, in_default}
+use Rattle.pref_sky.proofs.merge.merge_level.Goals.{in-Kept+in_ok-extend_from_items-2+in_ok-extend_from_slices, in_default}
 
 kept_is : (l : Losers) → is_kept l ≡ true → l ≡ losers.Kept
 kept_is losers.Kept h = refl
 kept_is losers.Dropped h = absurd (false≢true h)
 
-pub best_of_signed-requires-clause-ids : goal.best_of_signed-requires-clause-ids
-best_of_signed-requires-clause-ids g c =
-    let coming = c.args.coming.now.entries.items in
-    subst HaveDifferentIds (sym c.deref.ensures.value) (different_by_count c.args.held.now.entries.items coming coming c.requires.ids (λ p. omega arith))
-
-pub best_of_signed-requires-clause-signed : goal.best_of_signed-requires-clause-signed
-best_of_signed-requires-clause-signed g c =
+pub extend_from_items-requires : goal.extend_from_items-requires
+extend_from_items-requires g c =
+    let order = g.D.Dominance.order c.args.dominance.now in
     let signed = c.requires.signed in
-    record {
-      rule = signed.rule;
-      tells = signed.tells;
-      held_by = refl;
-      coming_by = c.deref-2.ensures.value ∙ (signed.coming_by ∙ ap (map signed.rule) (sym c.deref.ensures.value));
-    }
+    let pool = c.as_slice-entries.result.now in
+    let top = c.in_ok-found.found.best.items in
+    let others = c.in_ok-found.found.rest.items in
+    let parted : Parted (item_order order pool) c.in_ok-items.items.items top others = subst (λ l. Parted (item_order order pool) l top others) c.deref-2.ensures.value c.in_ok-found.ensures.parted in
+    let by = c.deref.ensures.value ∙ (signed.coming_by ∙ ap (map signed.rule) (sym c.as_slice-entries.ensures.value)) in
+    let f = found order signed.rule pool c.deref.result.now c.in_ok-items.items.items top others signed.tells c.in_ok-items.ensures.entries c.in_ok-items.ensures.items by parted in
+    subst (All (λ (item : Item). item.place < length pool)) (sym c.deref-3.ensures.value) (λ k d inside. (f.best_items k d inside).within)
 
-pub returns-in_err-push_lost-clause-moved : goal.returns-in_err-push_lost-clause-moved
-returns-in_err-push_lost-clause-moved g c = c.set_apart-staying.ensures.moved
-
-pub returns-in_err-extend_from_slices-clause-moved : goal.returns-in_err-extend_from_slices-clause-moved
-returns-in_err-extend_from_slices-clause-moved g c = c.set_apart-staying.ensures.moved
-
-pub returns-in_err-reserve-clause-moved : goal.returns-in_err-reserve-clause-moved
-returns-in_err-reserve-clause-moved g c = moved_twice _ _ _ c.set_apart-staying.ensures.moved (moved_same c.set_apart-staying.new.self c.reserve.new.self c.reserve.ensures.entries c.reserve.ensures.signatures)
-
-pub returns-clause-moved : goal.returns-clause-moved
-returns-clause-moved g c = moved_twice _ _ _ c.set_apart-staying.ensures.moved (moved_same c.set_apart-staying.new.self c.reserve.new.self c.reserve.ensures.entries c.reserve.ensures.signatures)
-
-pub push_lost-requires-clause-signed : goal.push_lost-requires-clause-signed
-push_lost-requires-clause-signed g c =
+pub extend_from_items-requires-in-Kept : goal.extend_from_items-requires-in-Kept
+extend_from_items-requires-in-Kept g c =
+    let order = g.D.Dominance.order c.args.dominance.now in
     let signed = c.requires.signed in
-    record {
-      rule = signed.rule;
-      tells = signed.tells;
-      held_by = c.in_ok-best.ensures.signed signed.rule (c.deref-2.ensures.value ∙ (signed.coming_by ∙ ap (map signed.rule) (sym c.deref.ensures.value)));
-      coming_by = signed.coming_by;
-    }
-
-pub push_lost-requires-clause-top : goal.push_lost-requires-clause-top
-push_lost-requires-clause-top g c =
-    let over = entry_order (g.D.Dominance.order c.args.dominance.now) in
-    c.in_ok-best.ensures.best ∙ ap (λ l. in_order_of_id (best over l)) c.deref.ensures.value
+    let pool = c.as_slice-entries.result.now in
+    let top = c.in_ok-found.found.best.items in
+    let others = c.in_ok-found.found.rest.items in
+    let parted : Parted (item_order order pool) c.in_ok-items.items.items top others = subst (λ l. Parted (item_order order pool) l top others) c.deref-2.ensures.value c.in_ok-found.ensures.parted in
+    let by = c.deref.ensures.value ∙ (signed.coming_by ∙ ap (map signed.rule) (sym c.as_slice-entries.ensures.value)) in
+    let f = found order signed.rule pool c.deref.result.now c.in_ok-items.items.items top others signed.tells c.in_ok-items.ensures.entries c.in_ok-items.ensures.items by parted in
+    subst (All (λ (item : Item). item.place < length pool)) (sym c.deref-in-Kept.ensures.value) (λ k d inside. (f.other_items k d inside).within)
 
 pub set_apart-staying-requires-clause-signed : goal.set_apart-staying-requires-clause-signed
 set_apart-staying-requires-clause-signed g c =
+    let order = g.D.Dominance.order c.args.dominance.now in
     let signed = c.requires.signed in
+    let pool = c.as_slice-entries.result.now in
+    let top = c.in_ok-found.found.best.items in
+    let others = c.in_ok-found.found.rest.items in
+    let parted : Parted (item_order order pool) c.in_ok-items.items.items top others = subst (λ l. Parted (item_order order pool) l top others) c.deref-2.ensures.value c.in_ok-found.ensures.parted in
+    let by = c.deref.ensures.value ∙ (signed.coming_by ∙ ap (map signed.rule) (sym c.as_slice-entries.ensures.value)) in
+    let f = found order signed.rule pool c.deref.result.now c.in_ok-items.items.items top others signed.tells c.in_ok-items.ensures.entries c.in_ok-items.ensures.items by parted in
+    let given = c.in_ok-extend_from_items.ensures {u = tt} in
     record {
       rule = signed.rule;
       tells = signed.tells;
-      held_by = c.in_ok-best.ensures.signed signed.rule (c.deref-2.ensures.value ∙ (signed.coming_by ∙ ap (map signed.rule) (sym c.deref.ensures.value)));
+      held_by = joined_by signed.rule pool top c.deref-3.result.now c.new-joining.result.entries.items c.extend_from_items.new.self.entries.items c.new-joining.result.signatures.items c.extend_from_items.new.self.signatures.items
+          c.deref-3.ensures.value f.best_items (c.new-joining.ensures.signatures ∙ ap (map signed.rule) (sym c.new-joining.ensures.entries)) given.entries given.signatures;
       coming_by = signed.held_by;
     }
 
 pub set_apart-staying-requires-clause-apart : goal.set_apart-staying-requires-clause-apart
 set_apart-staying-requires-clause-apart g c =
-    let over = entry_order (g.D.Dominance.order c.args.dominance.now) in
-    tops_apart over c.args.coming.now.entries.items c.in_ok-best.best.0.entries.items (c.in_ok-best.ensures.best ∙ ap (λ l. in_order_of_id (best over l)) c.deref.ensures.value)
+    let order = g.D.Dominance.order c.args.dominance.now in
+    let over = entry_order order in
+    let signed = c.requires.signed in
+    let pool = c.as_slice-entries.result.now in
+    let top = c.in_ok-found.found.best.items in
+    let others = c.in_ok-found.found.rest.items in
+    let parted : Parted (item_order order pool) c.in_ok-items.items.items top others = subst (λ l. Parted (item_order order pool) l top others) c.deref-2.ensures.value c.in_ok-found.ensures.parted in
+    let by = c.deref.ensures.value ∙ (signed.coming_by ∙ ap (map signed.rule) (sym c.as_slice-entries.ensures.value)) in
+    let f = found order signed.rule pool c.deref.result.now c.in_ok-items.items.items top others signed.tells c.in_ok-items.ensures.entries c.in_ok-items.ensures.items by parted in
+    let joining : c.extend_from_items.new.self.entries.items ≡ entries_at pool top =
+    (c.in_ok-extend_from_items.ensures {u = tt}).entries ∙ (ap (λ l. l ++ entries_at pool c.deref-3.result.now) c.new-joining.ensures.entries ∙ ap (entries_at pool) c.deref-3.ensures.value) in
+    subst (IsApart over) (sym joining) (best_are_apart over pool (entries_at pool top) (entries_at pool others) f.parted)
 
 pub returns-clause-room : goal.returns-clause-room
 returns-clause-room g c =
@@ -88,21 +96,45 @@ returns-clause-room g c =
     let long : vec_len now.signatures ≡ vec_len now.entries = omega (arith, ap length by, length-map now.entries.items signed.rule, now.signatures.ok.0, now.entries.ok.0) in
     (c.in_ok-reserve.ensures {u = tt}).room c.set_apart-staying.result c.set_apart-staying.ensures.within (omega (arith, long, c.set_apart-staying.ensures.within))
 
+-- what is found of the coming entries
+found_here : (g : given.Over) (c : goal.After-drop-items-2 g) → Found (g.D.Dominance.order c.args.dominance.now) c.requires.signed.rule c.as_slice-entries.result.now c.in_ok-found.found.best.items c.in_ok-found.found.rest.items
+found_here g c =
+    let order = g.D.Dominance.order c.args.dominance.now in
+    let signed = c.requires.signed in
+    let pool = c.as_slice-entries.result.now in
+    let top = c.in_ok-found.found.best.items in
+    let others = c.in_ok-found.found.rest.items in
+    found order signed.rule pool c.deref.result.now c.in_ok-items.items.items top others signed.tells c.in_ok-items.ensures.entries c.in_ok-items.ensures.items
+    (c.deref.ensures.value ∙ (signed.coming_by ∙ ap (map signed.rule) (sym c.as_slice-entries.ensures.value))) (subst (λ l. Parted (item_order order pool) l top others) c.deref-2.ensures.value c.in_ok-found.ensures.parted)
+
+joining_is : (g : given.Over) (c : goal.After-drop-items-2 g) → c.extend_from_items.new.self.entries.items ≡ entries_at c.as_slice-entries.result.now c.in_ok-found.found.best.items
+joining_is g c =
+    let pool = c.as_slice-entries.result.now in
+    (c.in_ok-extend_from_items.ensures {u = tt}).entries ∙ (ap (λ l. l ++ entries_at pool c.deref-3.result.now) c.new-joining.ensures.entries ∙ ap (entries_at pool) c.deref-3.ensures.value)
+
+parted_here : (g : given.Over) (c : goal.After-drop-items-2 g) → Parted (entry_order (g.D.Dominance.order c.args.dominance.now)) c.args.coming.now.entries.items c.extend_from_items.new.self.entries.items (entries_at c.as_slice-entries.result.now c.in_ok-found.found.rest.items)
+parted_here g c =
+    let over = entry_order (g.D.Dominance.order c.args.dominance.now) in
+    let pool = c.as_slice-entries.result.now in
+    let lost = entries_at pool c.in_ok-found.found.rest.items in
+    subst (λ l. Parted over l c.extend_from_items.new.self.entries.items lost) c.as_slice-entries.ensures.value (subst (λ l. Parted over pool l lost) (sym (joining_is g c)) (found_here g c).parted)
+
 pub returns-clause-level : goal.returns-clause-level
 returns-clause-level g c apart free =
-    let row_order = g.D.Dominance.order c.args.dominance.now in
-    let over = entry_order row_order in
-    let strict = entry_order_is_strict row_order (g.met.D.Dominance.laws c.args.dominance.now) in
+    let order = g.D.Dominance.order c.args.dominance.now in
+    let over = entry_order order in
+    let strict = entry_order_is_strict order (g.met.D.Dominance.laws c.args.dominance.now) in
     let held = c.args.held.now.entries.items in
     let coming = c.args.coming.now.entries.items in
+    let pool = c.as_slice-entries.result.now in
+    let others = c.in_ok-found.found.rest.items in
+    let joining = c.extend_from_items.new.self.entries.items in
     let now = c.set_apart-staying.new.self.entries.items in
     let n = c.set_apart-staying.result in
-    let joining = c.in_ok-best.best.0.entries.items in
     let stays = filter (λ e. not (is_beaten over joining e)) held in
-    let found : in_order_of_id joining ≡ in_order_of_id (best over coming) = c.in_ok-best.ensures.best ∙ ap (λ l. in_order_of_id (best over l)) c.deref.ensures.value in
     let parts : SameMembers (take n now) stays = those_that_stay (is_beaten over joining) held now n c.set_apart-staying.ensures.moved.permutation (c.set_apart-staying.ensures.stay apart) c.set_apart-staying.ensures.go in
     let members : SameMembers (take n now ++ joining) (best over (held ++ coming)) =
-    same_then (take n now ++ joining) (stays ++ joining) (best over (held ++ coming)) (same_beside (take n now) stays joining parts) (level_members over strict held coming joining apart free found) in
+    same_then (take n now ++ joining) (stays ++ joining) (best over (held ++ coming)) (same_beside (take n now) stays joining parts) (parted_merge over strict held coming joining (entries_at pool others) apart free (parted_here g c)).best_are in
     subst (λ l. SameMembers (take n l ++ joining) (best over (held ++ coming))) (sym c.reserve.ensures.entries) members
 
 -- a list from a place on
@@ -120,64 +152,96 @@ behind_beside rule n xs ws before words after words_after by before_by more more
 
 pub returns-clause-down : goal.returns-clause-down
 returns-clause-down g c apart free further =
-    let row_order = g.D.Dominance.order c.args.dominance.now in
-    let over = entry_order row_order in
-    let strict = entry_order_is_strict row_order (g.met.D.Dominance.laws c.args.dominance.now) in
+    let order = g.D.Dominance.order c.args.dominance.now in
+    let over = entry_order order in
+    let strict = entry_order_is_strict order (g.met.D.Dominance.laws c.args.dominance.now) in
     let held = c.args.held.now.entries.items in
     let coming = c.args.coming.now.entries.items in
+    let pool = c.as_slice-entries.result.now in
+    let others = c.in_ok-found.found.rest.items in
+    let joining = c.extend_from_items.new.self.entries.items in
+    let lost = entries_at pool others in
     let now = c.set_apart-staying.new.self.entries.items in
     let n = c.set_apart-staying.result in
-    let joining = c.in_ok-best.best.0.entries.items in
     let goes = filter (is_beaten over joining) held in
-    let found : in_order_of_id joining ≡ in_order_of_id (best over coming) = c.in_ok-best.ensures.best ∙ ap (λ l. in_order_of_id (best over l)) c.deref.ensures.value in
     let parts : SameMembers (drop n now) goes = those_that_go (is_beaten over joining) held now n c.set_apart-staying.ensures.moved.permutation (c.set_apart-staying.ensures.stay apart) c.set_apart-staying.ensures.go in
     elim c.match-losers.branch [
-      | in-Kept+in_ok-push_lost+in_ok-extend_from_slices w ↦
-          let pushed : w.push_lost.new.down.entries.items ≡ without_best over coming = (w.in_ok-push_lost.ensures {u = tt}).lost ∙ ap (λ l. l ++ without_best over coming) c.new-down.ensures.entries in
-          let last : w.extend_from_slices.new.self.entries.items ≡ w.push_lost.new.down.entries.items ++ drop n now =
-          (w.in_ok-extend_from_slices.ensures {u = tt}).entries ∙ ap (λ l. w.push_lost.new.down.entries.items ++ l) (from_place n w.deref-in-Kept.result.now ∙ ap (drop n) w.deref-in-Kept.ensures.value) in
-          let down : c.match-losers.down.entries.items ≡ without_best over coming ++ drop n now = ap (λ v. v.entries.items) w.down-is ∙ (last ∙ ap (λ l. l ++ drop n now) pushed) in
+      | in-Kept+in_ok-extend_from_items-2+in_ok-extend_from_slices w ↦
+          let down : c.match-losers.down.entries.items ≡ lost ++ drop n now =
+          ap (λ v. v.entries.items) w.down-is
+          ∙ ((w.in_ok-extend_from_slices.ensures {u = tt}).entries
+          ∙ (ap (λ l. l ++ take (length w.deref-in-Kept-2.result.now - n) (drop n w.deref-in-Kept-2.result.now)) ((w.in_ok-extend_from_items-2.ensures {u = tt}).entries ∙ (ap (λ l. l ++ entries_at pool w.deref-in-Kept.result.now) c.new-down.ensures.entries ∙ ap (entries_at pool) w.deref-in-Kept.ensures.value))
+          ∙ ap (λ l. lost ++ l) (from_place n w.deref-in-Kept-2.result.now ∙ ap (drop n) w.deref-in-Kept-2.ensures.value))) in
           subst (λ l. SameMembers l (without_best over (held ++ coming))) (sym down)
-          (same_then (without_best over coming ++ drop n now) (without_best over coming ++ goes) (without_best over (held ++ coming)) (same_behind (without_best over coming) (drop n now) goes parts) (down_members over strict held coming joining apart free found))
+          (same_then (lost ++ drop n now) (lost ++ goes) (without_best over (held ++ coming)) (same_behind lost (drop n now) goes parts) (parted_merge over strict held coming joining lost apart free (parted_here g c)).others_are)
       | in_default w ↦ absurd (w.in_default.not-Kept (kept_is c.args.losers further))
     ]
 
 pub returns-clause-counts : goal.returns-clause-counts
 returns-clause-counts g c p =
-    let over = entry_order (g.D.Dominance.order c.args.dominance.now) in
+    let order = g.D.Dominance.order c.args.dominance.now in
+    let over = entry_order order in
     let held = c.args.held.now.entries.items in
     let coming = c.args.coming.now.entries.items in
+    let pool = c.as_slice-entries.result.now in
+    let others = c.in_ok-found.found.rest.items in
+    let joining = c.extend_from_items.new.self.entries.items in
+    let lost = entries_at pool others in
     let now = c.set_apart-staying.new.self.entries.items in
     let n = c.set_apart-staying.result in
-    let joining = c.in_ok-best.best.0.entries.items in
-    let found : in_order_of_id joining ≡ in_order_of_id (best over coming) = c.in_ok-best.ensures.best ∙ ap (λ l. in_order_of_id (best over l)) c.deref.ensures.value in
-    let goes : count_by p c.match-losers.down.entries.items ≤ count_by p (without_best over coming) + count_by p (drop n now) =
+    let one : Entry → ℕ = λ e. cond (p e) 1 0 in
+    let goes : count_by p c.match-losers.down.entries.items ≤ count_by p lost + count_by p (drop n now) =
     elim c.match-losers.branch [
-      | in-Kept+in_ok-push_lost+in_ok-extend_from_slices w ↦
-          let pushed : w.push_lost.new.down.entries.items ≡ without_best over coming = (w.in_ok-push_lost.ensures {u = tt}).lost ∙ ap (λ l. l ++ without_best over coming) c.new-down.ensures.entries in
-          let last : w.extend_from_slices.new.self.entries.items ≡ w.push_lost.new.down.entries.items ++ drop n now =
-          (w.in_ok-extend_from_slices.ensures {u = tt}).entries ∙ ap (λ l. w.push_lost.new.down.entries.items ++ l) (from_place n w.deref-in-Kept.result.now ∙ ap (drop n) w.deref-in-Kept.ensures.value) in
-          let down : c.match-losers.down.entries.items ≡ without_best over coming ++ drop n now = ap (λ v. v.entries.items) w.down-is ∙ (last ∙ ap (λ l. l ++ drop n now) pushed) in
-          omega (arith, ap (count_by p) down, sum_by-append (λ (e : Entry). cond (p e) 1 0) (without_best over coming) (drop n now))
+      | in-Kept+in_ok-extend_from_items-2+in_ok-extend_from_slices w ↦
+          let down : c.match-losers.down.entries.items ≡ lost ++ drop n now =
+          ap (λ v. v.entries.items) w.down-is
+          ∙ ((w.in_ok-extend_from_slices.ensures {u = tt}).entries
+          ∙ (ap (λ l. l ++ take (length w.deref-in-Kept-2.result.now - n) (drop n w.deref-in-Kept-2.result.now)) ((w.in_ok-extend_from_items-2.ensures {u = tt}).entries ∙ (ap (λ l. l ++ entries_at pool w.deref-in-Kept.result.now) c.new-down.ensures.entries ∙ ap (entries_at pool) w.deref-in-Kept.ensures.value))
+          ∙ ap (λ l. lost ++ l) (from_place n w.deref-in-Kept-2.result.now ∙ ap (drop n) w.deref-in-Kept-2.ensures.value))) in
+          omega (arith, ap (count_by p) down, sum_by-append one lost (drop n now))
       | in_default w ↦ let same = ap (count_by p) (ap (λ v. v.entries.items) w.down-is ∙ c.new-down.ensures.entries) in omega (arith, same)
     ] in
     subst (λ l. count_by p (take n l ++ joining) + count_by p c.match-losers.down.entries.items ≤ count_by p held + count_by p coming) (sym c.reserve.ensures.entries)
-    (merged_count over p held coming now joining c.match-losers.down.entries.items n c.set_apart-staying.ensures.moved.permutation found goes)
+    (omega (
+      arith,
+      goes,
+      (parted_here g c).bag p,
+      sum_by-append one (take n now) joining,
+      sum_by-append one (take n now) (drop n now),
+      ap (count_by p) (take-append-drop n now),
+      sum_by-IsPermutation one held now c.set_apart-staying.ensures.moved.permutation,
+    ))
 
 pub returns-clause-signed : goal.returns-clause-signed
 returns-clause-signed g c rule held_by coming_by =
+    let order = g.D.Dominance.order c.args.dominance.now in
+    let pool = c.as_slice-entries.result.now in
+    let items = c.in_ok-items.items.items in
+    let top = c.in_ok-found.found.best.items in
+    let others = c.in_ok-found.found.rest.items in
+    let below = item_order order pool in
+    let parted : Parted below items top others = subst (λ l. Parted below l top others) c.deref-2.ensures.value c.in_ok-found.ensures.parted in
+    let by = c.deref.ensures.value ∙ (coming_by ∙ ap (map rule) (sym c.as_slice-entries.ensures.value)) in
+    let are = c.in_ok-items.ensures.items rule pool by in
     let now = c.set_apart-staying.new.self in
     let n = c.set_apart-staying.result in
-    let by : now.signatures.items ≡ map rule now.entries.items = c.set_apart-staying.ensures.moved.signed rule held_by in
+    let held_now : now.signatures.items ≡ map rule now.entries.items = c.set_apart-staying.ensures.moved.signed rule held_by in
+    let given = c.in_ok-extend_from_items.ensures {u = tt} in
     let none : IsSignedBy rule c.new-down.result = c.new-down.ensures.signatures ∙ ap (map rule) (sym c.new-down.ensures.entries) in (
-      c.in_ok-best.ensures.signed rule (c.deref-2.ensures.value ∙ (coming_by ∙ ap (map rule) (sym c.deref.ensures.value))),
+      joined_by rule pool top c.deref-3.result.now c.new-joining.result.entries.items c.extend_from_items.new.self.entries.items c.new-joining.result.signatures.items c.extend_from_items.new.self.signatures.items
+          c.deref-3.ensures.value (best_are_items rule pool below items top others parted are) (c.new-joining.ensures.signatures ∙ ap (map rule) (sym c.new-joining.ensures.entries)) given.entries given.signatures,
       elim c.match-losers.branch [
-        | in-Kept+in_ok-push_lost+in_ok-extend_from_slices w ↦
-            let lost = (w.in_ok-push_lost.ensures {u = tt}).signed rule coming_by none in
-            let more = (w.in_ok-extend_from_slices.ensures {u = tt}).entries ∙ ap (λ l. w.push_lost.new.down.entries.items ++ l) (from_place n w.deref-in-Kept.result.now ∙ ap (drop n) w.deref-in-Kept.ensures.value) in
-            let words = (w.in_ok-extend_from_slices.ensures {u = tt}).signatures ∙ ap (λ l. w.push_lost.new.down.signatures.items ++ l) (from_place n w.deref-in-Kept-2.result.now ∙ ap (drop n) w.deref-in-Kept-2.ensures.value) in
+        | in-Kept+in_ok-extend_from_items-2+in_ok-extend_from_slices w ↦
+            let first = w.in_ok-extend_from_items-2.ensures {u = tt} in
+            let before = w.extend_from_items-in-Kept.new.self in
+            let lost : IsSignedBy rule before =
+            joined_by rule pool others w.deref-in-Kept.result.now c.new-down.result.entries.items before.entries.items c.new-down.result.signatures.items before.signatures.items
+            w.deref-in-Kept.ensures.value (others_are_items rule pool below items top others parted are) none first.entries first.signatures in
+            let last = w.in_ok-extend_from_slices.ensures {u = tt} in
+            let more = last.entries ∙ ap (λ l. before.entries.items ++ l) (from_place n w.deref-in-Kept-2.result.now ∙ ap (drop n) w.deref-in-Kept-2.ensures.value) in
+            let words = last.signatures ∙ ap (λ l. before.signatures.items ++ l) (from_place n w.deref-in-Kept-3.result.now ∙ ap (drop n) w.deref-in-Kept-3.ensures.value) in
             ap (λ v. v.signatures.items) w.down-is
-            ∙ (behind_beside rule n now.entries.items now.signatures.items w.push_lost.new.down.entries.items w.push_lost.new.down.signatures.items w.extend_from_slices.new.self.entries.items w.extend_from_slices.new.self.signatures.items by lost more words
+            ∙ (behind_beside rule n now.entries.items now.signatures.items before.entries.items before.signatures.items w.extend_from_slices.new.self.entries.items w.extend_from_slices.new.self.signatures.items held_now lost more words
             ∙ ap (λ v. map rule v.entries.items) (sym w.down-is))
         | in_default w ↦ ap (λ v. v.signatures.items) w.down-is ∙ (none ∙ ap (λ v. map rule v.entries.items) (sym w.down-is))
       ],

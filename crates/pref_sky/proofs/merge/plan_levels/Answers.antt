@@ -4,7 +4,7 @@ use Rattle.std.proofs.lemmas.Bool.{both_ways, eqb-true, lt-ltb}
 use Rattle.std.proofs.lemmas.List.{length-map}
 use Rattle.pref_sky.specs.declared.entry.Entry.{Entry}
 use Rattle.pref_sky.specs.Best.{best, without_best}
-use Rattle.pref_sky.specs.Levels.{HaveDifferentIds, entry_order}
+use Rattle.pref_sky.specs.Levels.{entry_order}
 use Rattle.pref_sky.specs.Members.{Among, SameMembers}
 use Rattle.pref_sky.specs.Passes.{IsApart, IsFree}
 use Rattle.pref_sky.specs.Partials.{HasRoomAt, Reordered, stepped, held_at}
@@ -12,10 +12,10 @@ use Rattle.pref_sky.specs.Signatures.{StepsAreSignedBy}
 use Rattle.pref_sky.specs.Starts.{starting}
 use Rattle.pref_sky.proofs.Merges.{entry_order_is_strict}
 use Rattle.pref_sky.proofs.RankedLevels.{hold_then, reordered_hold, room_of_all}
-use Rattle.pref_sky.proofs.Planning.{Planning, planning_begins, planned_counts, planned_levels, differ_here, differ_held}
+use Rattle.pref_sky.proofs.Planning.{Planning, planning_begins, planned_counts, planned_levels, differ_held}
 use Rattle.pref_sky.proofs.Removals.{comes_after}
 use Rattle.pref_sky.proofs.SignedLevels.{steps_more}
-use Rattle.pref_sky.proofs.Starting.{differ_starting, more_lower, more_planned, reaches_cut, starting_all, starting_from}
+use Rattle.pref_sky.proofs.Starting.{more_lower, more_planned, reaches_cut, starting_all, starting_from}
 use Rattle.pref_sky.proofs.merge.plan_levels.Goals as goal
 use Rattle.pref_sky.proofs.merge.plan_levels.Goals.{then-each_level-test+else-not-is_empty, then-len-last, else-len-last, else-each_level-test}
 
@@ -53,22 +53,6 @@ push_starting-requires-clause-signatures g c = let signed = c.requires.signed in
 
 pub returns-in_err-push_starting-clause-same : goal.returns-in_err-push_starting-clause-same
 returns-in_err-push_starting-clause-same g c = c.each_level.invariant.planning.same
-
-pub merge_at-requires-clause-ids : goal.merge_at-requires-clause-ids
-merge_at-requires-clause-ids g c =
-    let over = entry_order (g.D.Dominance.order c.args.dominance.now) in
-    let steps = c.each_level.steps in
-    let n = length steps.items in
-    let above = c.len-above.result in
-    let held = c.each_level.held.items in
-    let down = c.each_level.coming.entries.items in
-    let entries = c.args.entries.now in
-    let starts = c.args.starts.now in
-    let n_is : above ≡ n = let long : above ≡ vec_len steps = c.len-above.ensures in omega (arith, long, steps.ok.0) in
-    let came : c.push_starting.new.coming.entries.items ≡ down ++ starting n entries starts = (c.in_ok-push_starting.ensures {u = tt}).entries ∙ ap (λ k. down ++ starting k entries starts) n_is in
-    subst (λ l. HaveDifferentIds (held_at above held ++ l)) (sym came)
-    (subst (λ k. HaveDifferentIds (held_at k held ++ (down ++ starting n entries starts))) (sym n_is)
-    (differ_starting (held_at n held) down entries starts n (differ_here over c.args.cut n c.args.held.now.items held entries (down ++ starting_from n entries starts) steps.items c.requires.ids c.each_level.invariant.planning)))
 
 pub merge_at-requires-clause-signed : goal.merge_at-requires-clause-signed
 merge_at-requires-clause-signed g c =
