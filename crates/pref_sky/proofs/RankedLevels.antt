@@ -10,7 +10,7 @@ use Rattle.pref_sky.specs.declared.entry.Ranked.{Ranked}
 use Rattle.pref_sky.specs.declared.level.Level.{Level}
 use Rattle.pref_sky.specs.declared.level.Step.{Step}
 use Rattle.pref_sky.specs.Levels.{HaveDifferentIds, in_order_of_id, at_level, entry_of}
-use Rattle.pref_sky.specs.Partials.{ranked_from, ranked_after, stepped, HasRoomAt, HaveRoom, HoldTheSame, held_at, Reordered}
+use Rattle.pref_sky.specs.Partials.{ranked_from, ranked_after, stepped, HasRoomAt, HaveRoom, HoldTheSame, IsPlanned, held_at, Reordered}
 use Rattle.pref_sky.proofs.Orders.{same_in_order, count_in_order, same_if_permuted}
 use Rattle.pref_sky.proofs.Merges.{entries_at_level}
 
@@ -71,6 +71,16 @@ reordered_hold n old new r different = record { ranked = reordered_same n old ne
 
 pub hold_then : (old new last : List Level) → HoldTheSame old new → HoldTheSame new last → HoldTheSame old last
 hold_then old new last first second = record { ranked = second.ranked ∙ first.ranked; signed = λ rule by. second.signed rule (first.signed rule by) }
+
+-- what is planned for levels is planned for what holds the same
+pub planned_of_same : {over : Entry → Entry → Bool} {cut : ℕ} {coming : List Entry} {steps : List Step} {new : List Level} (old same : List Level) → ranked_from 1 same ≡ ranked_from 1 old
+    → IsPlanned over cut same new coming steps → IsPlanned over cut old new coming steps
+planned_of_same old same is planned =
+    record {
+      room = planned.room;
+      counts = λ p. omega (arith, planned.counts p, ap (λ l. count_by p (map entry_of l)) is);
+      merged = λ before different holds. planned.merged before different (is ∙ holds);
+    }
 
 -- the steps of the first levels, and the levels behind these
 pub after_cut : (k n m : ℕ) (held : List Level) (steps : List Step) → length steps ≡ n → n ≤ length held → m ≡ k + n → ranked_after k held steps ≡ ranked_after k (take n held) steps ++ ranked_from m (drop n held)

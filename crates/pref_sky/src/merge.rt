@@ -1,12 +1,12 @@
 //! An addition to a partial result, level by level: first it is planned, and then made without asking for
 //! memory. Held entries of one level never meet again, and none is copied but those that go down.
 
-ghost use Rattle.std.specs.Prelude.{◌≡◌, ◌≤◌, ◌<◌, ◌++◌, ◌+◌, ◌^◌, ℕ, [], ◌∷◌, suc, false, true, Bool, List, length, map, count_by, vec_len, IfOk, OnOk};
+ghost use Rattle.std.specs.Prelude.{◌≡◌, ◌≤◌, ◌<◌, ◌++◌, ◌+◌, ◌^◌, ℕ, [], ◌∷◌, suc, false, true, Bool, length, map, count_by, vec_len, IfOk, OnOk};
 ghost use Rattle.pref_sky.specs.Best.{best, is_beaten, without_best};
-ghost use Rattle.pref_sky.specs.Levels.{HaveDifferentIds, entry_of, entry_order, levels};
+ghost use Rattle.pref_sky.specs.Levels.{HaveDifferentIds, entry_of, entry_order};
 ghost use Rattle.pref_sky.specs.Meetings.{is_kept};
 ghost use Rattle.pref_sky.specs.Members.{SameMembers};
-ghost use Rattle.pref_sky.specs.Partials.{AreMoved, HasRoom, HasRoomAt, HaveRoom, HoldTheSame, Opened, Reordered, held_at, ranked_after, ranked_from, stepped};
+ghost use Rattle.pref_sky.specs.Partials.{AreMoved, HasRoom, HasRoomAt, HaveRoom, HoldTheSame, IsPlanned, Opened, Reordered, held_at, ranked_after, ranked_from, stepped};
 ghost use Rattle.pref_sky.specs.Passes.{IsApart, IsFree};
 ghost use Rattle.pref_sky.specs.Signatures.{AreSigned, AreSignedBy, IsSignedBy, LevelsAreSigned, Moved, StepsAreSignedBy};
 ghost use Rattle.pref_sky.specs.Starts.{AreApart, Start, StartAt, StartWithin, starting};
@@ -261,16 +261,9 @@ fn plan_levels<D: Dominance>(
     requires last { StartWithin last cut starts.now }
     ensures same { HoldTheSame held.old.items held.new.items }
     ensures bound { vec_len held.old < 2 ^ 32 → vec_len held.new < 2 ^ 32 }
-    ensures room { IfOk result (λ steps. HaveRoom held.new.items steps.items) }
+    ensures planned { IfOk result (λ steps. IsPlanned (entry_order (D.order dominance.now)) cut held.old.items held.new.items entries.now steps.items) }
     ensures signed { IfOk result (λ steps. (rule : Entry → ℕ) → AreSignedBy rule held.old.items → signatures.now ≡ map rule entries.now
         → StepsAreSignedBy rule steps.items) }
-    ensures counts { IfOk result (λ steps. (p : Entry → Bool)
-        → count_by p (map entry_of (ranked_after 1 held.new.items steps.items))
-        ≤ count_by p (map entry_of (ranked_from 1 held.old.items)) + count_by p entries.now) }
-    ensures merged { let over = entry_order (D.order dominance.now) in
-        IfOk result (λ steps. (before : List Entry) → HaveDifferentIds (before ++ entries.now)
-        → ranked_from 1 held.old.items ≡ levels over before cut
-        → ranked_after 1 held.new.items steps.items ≡ levels over (before ++ entries.now) cut) }
 {
     let mut steps = Vec::with_capacity(alloc, 1)?;
     let mut coming = SignedEntries::new(alloc);
@@ -303,16 +296,9 @@ pub(crate) fn plan<D: Dominance>(
     requires signed { LevelsAreSigned (entry_order (D.order dominance.now)) held.old.items entries.now signatures.now }
     ensures same { HoldTheSame held.old.items held.new.items }
     ensures bound { vec_len held.old < 2 ^ 32 → vec_len held.new < 2 ^ 32 }
-    ensures room { IfOk result (λ steps. HaveRoom held.new.items steps.items) }
+    ensures planned { IfOk result (λ steps. IsPlanned (entry_order (D.order dominance.now)) cut held.old.items held.new.items entries.now steps.items) }
     ensures signed { IfOk result (λ steps. (rule : Entry → ℕ) → AreSignedBy rule held.old.items → signatures.now ≡ map rule entries.now
         → StepsAreSignedBy rule steps.items) }
-    ensures counts { IfOk result (λ steps. (p : Entry → Bool)
-        → count_by p (map entry_of (ranked_after 1 held.new.items steps.items))
-        ≤ count_by p (map entry_of (ranked_from 1 held.old.items)) + count_by p entries.now) }
-    ensures merged { let over = entry_order (D.order dominance.now) in
-        IfOk result (λ steps. (before : List Entry) → HaveDifferentIds (before ++ entries.now)
-        → ranked_from 1 held.old.items ≡ levels over before cut
-        → ranked_after 1 held.new.items steps.items ≡ levels over (before ++ entries.now) cut) }
 {
     let found = starts_of(alloc, dominance, held, cut, entries, signatures)?;
     plan_levels(

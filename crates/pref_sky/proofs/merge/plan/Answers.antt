@@ -1,11 +1,10 @@
 use Rattle.std.proofs.Common.{◌++◌, map, sym, ◌∙◌, ap, subst, arith}
-use Rattle.std.specs.List.{count_by}
 use Rattle.std.proofs.lemmas.Result.{IfOk-weaker}
 use Rattle.pref_sky.specs.Levels.{HaveDifferentIds, entry_of, entry_order}
 use Rattle.pref_sky.specs.Partials.{ranked_from}
 use Rattle.pref_sky.specs.Starts.{AreApart, StartAt, StartWithin}
 use Rattle.pref_sky.proofs.HeldLevels.{different_by_count}
-use Rattle.pref_sky.proofs.RankedLevels.{hold_then}
+use Rattle.pref_sky.proofs.RankedLevels.{hold_then, planned_of_same}
 use Rattle.pref_sky.proofs.SignedLevels.{moved_hold, moved_long, moved_signed}
 use Rattle.pref_sky.proofs.Starting.{start_moved}
 use Rattle.pref_sky.proofs.merge.plan.Goals as goal
@@ -63,14 +62,8 @@ pub returns-clause-signed : goal.returns-clause-signed
 returns-clause-signed g c =
     IfOk-weaker c.plan_levels.result _ _ (λ steps signed rule levels_by coming_by. signed rule (moved_signed rule c.args.held.now.items c.starts_of.new.held.items c.starts_of.ensures.moved levels_by) coming_by) c.plan_levels.ensures.signed
 
-pub returns-clause-counts : goal.returns-clause-counts
-returns-clause-counts g c =
+pub returns-clause-planned : goal.returns-clause-planned
+returns-clause-planned g c =
     let held = c.args.held.now.items in
     let same = moved_hold held c.starts_of.new.held.items c.starts_of.ensures.moved (different_by_count (map entry_of (ranked_from 1 held)) c.args.entries.now (map entry_of (ranked_from 1 held)) c.requires.ids (λ p. omega arith)) in
-    IfOk-weaker c.plan_levels.result _ _ (λ steps counts p. omega (arith, counts p, ap (λ l. count_by p (map entry_of l)) same.ranked)) c.plan_levels.ensures.counts
-
-pub returns-clause-merged : goal.returns-clause-merged
-returns-clause-merged g c =
-    let held = c.args.held.now.items in
-    let same = moved_hold held c.starts_of.new.held.items c.starts_of.ensures.moved (different_by_count (map entry_of (ranked_from 1 held)) c.args.entries.now (map entry_of (ranked_from 1 held)) c.requires.ids (λ p. omega arith)) in
-    IfOk-weaker c.plan_levels.result _ _ (λ steps merged before different is. merged before different (same.ranked ∙ is)) c.plan_levels.ensures.merged
+    IfOk-weaker c.plan_levels.result _ _ (λ steps planned. planned_of_same held c.starts_of.new.held.items same.ranked planned) c.plan_levels.ensures.planned

@@ -4,10 +4,10 @@ use Rattle.std.proofs.lemmas.Bool.{both_ways, eqb-true, lt-ltb}
 use Rattle.std.proofs.lemmas.List.{length-map}
 use Rattle.pref_sky.specs.declared.entry.Entry.{Entry}
 use Rattle.pref_sky.specs.Best.{best, without_best}
-use Rattle.pref_sky.specs.Levels.{entry_order}
+use Rattle.pref_sky.specs.Levels.{entry_order, levels}
 use Rattle.pref_sky.specs.Members.{Among, SameMembers}
 use Rattle.pref_sky.specs.Passes.{IsApart, IsFree}
-use Rattle.pref_sky.specs.Partials.{HasRoomAt, Reordered, stepped, held_at}
+use Rattle.pref_sky.specs.Partials.{HasRoomAt, Reordered, held_at, ranked_from, stepped}
 use Rattle.pref_sky.specs.Signatures.{StepsAreSignedBy}
 use Rattle.pref_sky.specs.Starts.{starting}
 use Rattle.pref_sky.proofs.Merges.{entry_order_is_strict}
@@ -16,6 +16,7 @@ use Rattle.pref_sky.proofs.Planning.{Planning, planning_begins, planned_counts, 
 use Rattle.pref_sky.proofs.Removals.{comes_after}
 use Rattle.pref_sky.proofs.SignedLevels.{steps_more}
 use Rattle.pref_sky.proofs.Starting.{more_lower, more_planned, reaches_cut, starting_all, starting_from}
+use Rattle.pref_sky.proofs.merge.plan_levels.Given as given
 use Rattle.pref_sky.proofs.merge.plan_levels.Goals as goal
 use Rattle.pref_sky.proofs.merge.plan_levels.Goals.{then-each_level-test+else-not-is_empty, then-len-last, else-len-last, else-each_level-test}
 
@@ -135,22 +136,14 @@ each_level-preserved g c =
       bound = λ short. c.merge_at.ensures.bound (inv.bound short);
     }
 
-pub returns-clause-room : goal.returns-clause-room
-returns-clause-room g c = room_of_all (length c.each_level.steps.items) c.each_level.held.items c.each_level.steps.items c.each_level.invariant.planning.room
-
 pub returns-clause-signed : goal.returns-clause-signed
 returns-clause-signed g c rule levels_by coming_by = (c.each_level.invariant.signed rule levels_by coming_by).1
 
-pub returns-clause-counts : goal.returns-clause-counts
-returns-clause-counts g c =
-    let row_order = g.D.Dominance.order c.args.dominance.now in
-    let over = entry_order row_order in
-    let strict = entry_order_is_strict row_order (g.met.D.Dominance.laws c.args.dominance.now) in
-    let steps = c.each_level.steps.items in
-    planned_counts over strict c.args.cut (length steps) c.args.held.now.items c.each_level.held.items c.args.entries.now (c.each_level.coming.entries.items ++ starting_from (length steps) c.args.entries.now c.args.starts.now) steps c.each_level.invariant.planning
-
-pub returns-clause-merged : goal.returns-clause-merged
-returns-clause-merged g c before different is =
+-- the last level has its step, or what is left starts at the cut
+ended : (g : given.Over) (c : goal.After-drop-coming-3 g) (before : List Entry) → ranked_from 1 c.args.held.now.items ≡ levels (entry_order (g.D.Dominance.order c.args.dominance.now)) before c.args.cut
+    → (c.args.cut ≤ length c.each_level.steps.items)
+    ⊎ ((x : Entry) → Among x (c.each_level.coming.entries.items ++ starting_from (length c.each_level.steps.items) c.args.entries.now c.args.starts.now) → comes_after (entry_order (g.D.Dominance.order c.args.dominance.now)) before c.args.cut x ≡ true)
+ended g c before is =
     let row_order = g.D.Dominance.order c.args.dominance.now in
     let over = entry_order row_order in
     let strict = entry_order_is_strict row_order (g.met.D.Dominance.laws c.args.dominance.now) in
@@ -161,7 +154,6 @@ returns-clause-merged g c before different is =
     let steps = c.each_level.steps in
     let n = length steps.items in
     let down = c.each_level.coming.entries in
-    let ended : (cut ≤ n) ⊎ ((x : Entry) → Among x (down.items ++ starting_from n entries starts) → comes_after over before cut x ≡ true) =
     elim c.each_level-test.branch [
       | then-each_level-test+else-not-is_empty w ↦ elim w.if-len-last.branch [
         | then-len-last v ↦ absurd (both_ways w.if-len-last.value w.if-not-is_empty.false (v.value-is ∙ lt-ltb w.len-in-each_level.result c.args.last v.if-len-last.true))
@@ -175,5 +167,19 @@ returns-clause-merged g c before different is =
             (subst (λ l. Among x (l ++ starting_from n entries starts)) none m))
       ]
       | else-each_level-test w ↦ inl (let past = w.each_level-test.false in let long : c.len.result ≡ vec_len steps = c.len.ensures in omega (arith, past, long, steps.ok.0))
-    ] in
-    planned_levels over strict cut n first c.each_level.held.items entries (down.items ++ starting_from n entries starts) steps.items c.each_level.invariant.planning before ended different is
+    ]
+
+pub returns-clause-planned : goal.returns-clause-planned
+returns-clause-planned g c =
+    let row_order = g.D.Dominance.order c.args.dominance.now in
+    let over = entry_order row_order in
+    let strict = entry_order_is_strict row_order (g.met.D.Dominance.laws c.args.dominance.now) in
+    let steps = c.each_level.steps.items in
+    let held = c.each_level.held.items in
+    let plan = c.each_level.invariant.planning in
+    let left = c.each_level.coming.entries.items ++ starting_from (length steps) c.args.entries.now c.args.starts.now in
+    record {
+      room = room_of_all (length steps) held steps plan.room;
+      counts = planned_counts over strict c.args.cut (length steps) c.args.held.now.items held c.args.entries.now left steps plan;
+      merged = λ before different is. planned_levels over strict c.args.cut (length steps) c.args.held.now.items held c.args.entries.now left steps plan before (ended g c before is) different is;
+    }
