@@ -1,14 +1,55 @@
 //! The best entries of a list, by block-nested-loops (Börzsönyi, Kossmann, Stocker 2001).
 
-ghost use Rattle.std.specs.Prelude.{◌≡◌, ◌<◌, ◌≤◌, length, IfOk};
+ghost use Rattle.std.specs.Prelude.{◌≡◌, ◌<◌, ◌≤◌, ℕ, [], All, length, map, IfOk};
 ghost use Rattle.pref_sky.specs.Best.{best};
+ghost use Rattle.pref_sky.specs.Items.{entries_at};
 ghost use Rattle.pref_sky.specs.Levels.{HaveDifferentIds, entry_order, in_order_of_id};
+ghost use Rattle.pref_sky.specs.Passes.{Parted};
+ghost use Rattle.pref_sky.specs.Signatures.{AreSigned, IsSignedBy};
+ghost use Rattle.pref_sky.specs.declared.entry.Entry.{Entry};
 
 use crate::entry::Entry;
+use crate::item::Item;
 use crate::passes::best_and_rest;
 use crate::signatures::{SignedEntries, cuts_of, items_of, signatures_of};
 use pref_term::Dominance;
 use std::alloc::{AllocError, Global};
+
+/// The best of some entries, each with its signature, where the others are, and the number of passes.
+#[derive(Drop)]
+pub(crate) struct BestAndOthers {
+    pub(crate) best: SignedEntries,
+    pub(crate) others: Vec<Item>,
+    pub(crate) passes: u64,
+}
+
+/// Parts entries with their signatures beside them into the best and the others, each in no order, by passes with a
+/// window of so many.
+pub(crate) fn best_and_others<D: Dominance>(
+    alloc: Global,
+    dominance: &D,
+    window: usize,
+    entries: &[Entry],
+    signatures: &[u64],
+) -> Result<BestAndOthers, AllocError>
+    requires window { 0 < window }
+    requires signed { AreSigned (entry_order (D.order dominance.now)) [] [] entries.now signatures.now }
+    ensures parted { IfOk result (λ found. Parted (entry_order (D.order dominance.now)) entries.now found.best.entries.items (entries_at entries.now found.others.items)) }
+    ensures within { IfOk result (λ found. All (λ item. item.place < length entries.now) found.others.items) }
+    ensures passes { IfOk result (λ found. found.passes ≤ length entries.now) }
+    ensures signed { IfOk result (λ found. (rule : Entry → ℕ) → signatures.now ≡ map rule entries.now
+        → IsSignedBy rule found.best × (map (λ item. item.signature) found.others.items ≡ map rule (entries_at entries.now found.others.items))) }
+{
+    let items = items_of(alloc, signatures)?;
+    let found = best_and_rest(alloc, dominance, window, entries, &items)?;
+    let mut best = SignedEntries::new(alloc);
+    best.extend_from_items(entries, &found.best)?;
+    Ok(BestAndOthers {
+        best,
+        others: found.rest,
+        passes: found.passes,
+    })
+}
 
 /// The entries that no entry dominates, in order of id, and the number of passes.
 ///
@@ -32,13 +73,12 @@ pub fn best_rows_passes<D: Dominance>(
 {
     let cuts = cuts_of(alloc, dominance, entries)?;
     let signatures = signatures_of(alloc, &cuts, entries)?;
-    let items = items_of(alloc, &signatures)?;
-    let parted = best_and_rest(alloc, dominance, window, entries, &items)?;
-    let mut found = SignedEntries::new(alloc);
-    found.extend_from_items(entries, &parted.best)?;
-    let mut best = found.entries;
+    let found = best_and_others(alloc, dominance, window, entries, &signatures)?;
+    let passes = found.passes;
+    let signed = found.best;
+    let mut best = signed.entries;
     best.sort_unstable_by_key(|entry| entry.id);
-    Ok((best, parted.passes))
+    Ok((best, passes))
 }
 
 /// The entries that no entry dominates, in order of id: the list of [`best_rows_passes`], at its cost.

@@ -12,12 +12,12 @@ ghost use Rattle.pref_sky.specs.Signatures.{AreSigned, AreSignedBy, IsSignedBy, 
 ghost use Rattle.pref_sky.specs.Starts.{AreApart, Start, StartAt, StartWithin, starting};
 ghost use Rattle.pref_sky.specs.declared.entry.Entry.{Entry};
 
+use crate::best::best_and_others;
 use crate::entry::Entry;
 use crate::level::{Level, Step};
 use crate::meeting::Losers;
-use crate::passes::best_and_rest;
 use crate::room::grow_for;
-use crate::signatures::{SignedEntries, items_of};
+use crate::signatures::SignedEntries;
 use pref_term::Dominance;
 use std::alloc::{AllocError, Global};
 
@@ -58,15 +58,18 @@ fn merge_level<D: Dominance>(
     ensures signed { IfOk result (λ m. (rule : Entry → ℕ) → held.old.signatures.items ≡ map rule held.old.entries.items
         → IsSignedBy rule coming.now → IsSignedBy rule m.step.joining × IsSignedBy rule m.down) }
 {
-    let entries = coming.entries.as_slice();
-    let items = items_of(alloc, &coming.signatures)?;
-    let found = best_and_rest(alloc, dominance, window, entries, &items)?;
-    let mut joining = SignedEntries::new(alloc);
-    joining.extend_from_items(entries, &found.best)?;
+    let found = best_and_others(
+        alloc,
+        dominance,
+        window,
+        &coming.entries,
+        &coming.signatures,
+    )?;
+    let joining = found.best;
     let staying = held.set_apart(dominance, &joining);
     let mut down = SignedEntries::new(alloc);
     if let Losers::Kept = losers {
-        down.extend_from_items(entries, &found.rest)?;
+        down.extend_from_items(&coming.entries, &found.others)?;
         down.extend_from_slices(&held.entries[staying..], &held.signatures[staying..])?;
     }
     held.reserve(&joining)?;

@@ -1,5 +1,4 @@
-use Rattle.std.proofs.Common.{◌≡◌, ℕ, ◌≤◌, ◌<◌, ◌++◌, ◌+◌, ◌-◌, true, refl, List, not, filter, length, map, vec_len, take, drop, sym, ◌∙◌, ap, subst, arith, cond, length-drop}
-use Rattle.std.specs.Prelude.{All}
+use Rattle.std.proofs.Common.{◌≡◌, ℕ, ◌≤◌, ◌++◌, ◌+◌, ◌-◌, true, refl, List, not, filter, length, map, vec_len, take, drop, sym, ◌∙◌, ap, subst, arith, cond, length-drop}
 use Rattle.std.specs.List.{count_by}
 use Rattle.std.proofs.lemmas.List.{drop-map, length-map, map-append, take-append-drop}
 use Rattle.std.proofs.lemmas.List.Sorted.{sum_by-IsPermutation}
@@ -11,82 +10,27 @@ use Rattle.pref_sky.specs.declared.item.Item.{Item}
 use Rattle.pref_sky.specs.declared.meeting.Losers.{Losers}
 use Rattle.pref_sky.specs.declared.meeting.Losers.TheVariants as losers
 use Rattle.pref_sky.specs.Best.{best, is_beaten, without_best}
-use Rattle.pref_sky.specs.Items.{entries_at, item_order}
+use Rattle.pref_sky.specs.Items.{entries_at}
 use Rattle.pref_sky.specs.Levels.{entry_order}
 use Rattle.pref_sky.specs.Meetings.{is_kept}
 use Rattle.pref_sky.specs.Members.{SameMembers}
-use Rattle.pref_sky.specs.Passes.{IsApart, Parted}
+use Rattle.pref_sky.specs.Passes.{Parted}
 use Rattle.pref_sky.specs.Signatures.{IsSignedBy}
 use Rattle.pref_sky.proofs.HeldLevels.{same_then, same_beside, same_behind}
 use Rattle.pref_sky.proofs.Merges.{entry_order_is_strict}
 use Rattle.pref_sky.proofs.Parting.{best_are_apart, parted_merge}
-use Rattle.pref_sky.proofs.PooledItems.{Found, best_are_items, found, joined_by, others_are_items}
 use Rattle.pref_sky.proofs.SetApart.{those_that_stay, those_that_go}
 use Rattle.pref_sky.proofs.merge.merge_level.Given as given
 use Rattle.pref_sky.proofs.merge.merge_level.Goals as goal
-use Rattle.pref_sky.proofs.merge.merge_level.Goals.{in-Kept+in_ok-extend_from_items-2+in_ok-extend_from_slices, in_default}
+use Rattle.pref_sky.proofs.merge.merge_level.Goals.{in-Kept+in_ok-extend_from_items+in_ok-extend_from_slices, in_default}
 
 kept_is : (l : Losers) → is_kept l ≡ true → l ≡ losers.Kept
 kept_is losers.Kept h = refl
 kept_is losers.Dropped h = absurd (false≢true h)
 
-pub extend_from_items-requires : goal.extend_from_items-requires
-extend_from_items-requires g c =
-    let order = g.D.Dominance.order c.args.dominance.now in
-    let signed = c.requires.signed in
-    let pool = c.as_slice-entries.result.now in
-    let top = c.in_ok-found.found.best.items in
-    let others = c.in_ok-found.found.rest.items in
-    let parted : Parted (item_order order pool) c.in_ok-items.items.items top others = subst (λ l. Parted (item_order order pool) l top others) c.deref-2.ensures.value c.in_ok-found.ensures.parted in
-    let by = c.deref.ensures.value ∙ (signed.coming_by ∙ ap (map signed.rule) (sym c.as_slice-entries.ensures.value)) in
-    let f = found order signed.rule pool c.deref.result.now c.in_ok-items.items.items top others signed.tells c.in_ok-items.ensures.entries c.in_ok-items.ensures.items by parted in
-    subst (All (λ (item : Item). item.place < length pool)) (sym c.deref-3.ensures.value) (λ k d inside. (f.best_items k d inside).within)
-
-pub extend_from_items-requires-in-Kept : goal.extend_from_items-requires-in-Kept
-extend_from_items-requires-in-Kept g c =
-    let order = g.D.Dominance.order c.args.dominance.now in
-    let signed = c.requires.signed in
-    let pool = c.as_slice-entries.result.now in
-    let top = c.in_ok-found.found.best.items in
-    let others = c.in_ok-found.found.rest.items in
-    let parted : Parted (item_order order pool) c.in_ok-items.items.items top others = subst (λ l. Parted (item_order order pool) l top others) c.deref-2.ensures.value c.in_ok-found.ensures.parted in
-    let by = c.deref.ensures.value ∙ (signed.coming_by ∙ ap (map signed.rule) (sym c.as_slice-entries.ensures.value)) in
-    let f = found order signed.rule pool c.deref.result.now c.in_ok-items.items.items top others signed.tells c.in_ok-items.ensures.entries c.in_ok-items.ensures.items by parted in
-    subst (All (λ (item : Item). item.place < length pool)) (sym c.deref-in-Kept.ensures.value) (λ k d inside. (f.other_items k d inside).within)
-
-pub set_apart-staying-requires-clause-signed : goal.set_apart-staying-requires-clause-signed
-set_apart-staying-requires-clause-signed g c =
-    let order = g.D.Dominance.order c.args.dominance.now in
-    let signed = c.requires.signed in
-    let pool = c.as_slice-entries.result.now in
-    let top = c.in_ok-found.found.best.items in
-    let others = c.in_ok-found.found.rest.items in
-    let parted : Parted (item_order order pool) c.in_ok-items.items.items top others = subst (λ l. Parted (item_order order pool) l top others) c.deref-2.ensures.value c.in_ok-found.ensures.parted in
-    let by = c.deref.ensures.value ∙ (signed.coming_by ∙ ap (map signed.rule) (sym c.as_slice-entries.ensures.value)) in
-    let f = found order signed.rule pool c.deref.result.now c.in_ok-items.items.items top others signed.tells c.in_ok-items.ensures.entries c.in_ok-items.ensures.items by parted in
-    let given = c.in_ok-extend_from_items.ensures {u = tt} in
-    record {
-      rule = signed.rule;
-      tells = signed.tells;
-      held_by = joined_by signed.rule pool top c.deref-3.result.now c.new-joining.result.entries.items c.extend_from_items.new.self.entries.items c.new-joining.result.signatures.items c.extend_from_items.new.self.signatures.items
-          c.deref-3.ensures.value f.best_items (c.new-joining.ensures.signatures ∙ ap (map signed.rule) (sym c.new-joining.ensures.entries)) given.entries given.signatures;
-      coming_by = signed.held_by;
-    }
-
 pub set_apart-staying-requires-clause-apart : goal.set_apart-staying-requires-clause-apart
 set_apart-staying-requires-clause-apart g c =
-    let order = g.D.Dominance.order c.args.dominance.now in
-    let over = entry_order order in
-    let signed = c.requires.signed in
-    let pool = c.as_slice-entries.result.now in
-    let top = c.in_ok-found.found.best.items in
-    let others = c.in_ok-found.found.rest.items in
-    let parted : Parted (item_order order pool) c.in_ok-items.items.items top others = subst (λ l. Parted (item_order order pool) l top others) c.deref-2.ensures.value c.in_ok-found.ensures.parted in
-    let by = c.deref.ensures.value ∙ (signed.coming_by ∙ ap (map signed.rule) (sym c.as_slice-entries.ensures.value)) in
-    let f = found order signed.rule pool c.deref.result.now c.in_ok-items.items.items top others signed.tells c.in_ok-items.ensures.entries c.in_ok-items.ensures.items by parted in
-    let joining : c.extend_from_items.new.self.entries.items ≡ entries_at pool top =
-    (c.in_ok-extend_from_items.ensures {u = tt}).entries ∙ (ap (λ l. l ++ entries_at pool c.deref-3.result.now) c.new-joining.ensures.entries ∙ ap (entries_at pool) c.deref-3.ensures.value) in
-    subst (IsApart over) (sym joining) (best_are_apart over pool (entries_at pool top) (entries_at pool others) f.parted)
+    best_are_apart (entry_order (g.D.Dominance.order c.args.dominance.now)) c.deref.result.now c.in_ok-found.found.best.entries.items (entries_at c.deref.result.now c.in_ok-found.found.others.items) c.in_ok-found.ensures.parted
 
 pub returns-clause-room : goal.returns-clause-room
 returns-clause-room g c =
@@ -96,28 +40,9 @@ returns-clause-room g c =
     let long : vec_len now.signatures ≡ vec_len now.entries = omega (arith, ap length by, length-map now.entries.items signed.rule, now.signatures.ok.0, now.entries.ok.0) in
     (c.in_ok-reserve.ensures {u = tt}).room c.set_apart-staying.result c.set_apart-staying.ensures.within (omega (arith, long, c.set_apart-staying.ensures.within))
 
--- what is found of the coming entries
-found_here : (g : given.Over) (c : goal.After-drop-items-2 g) → Found (g.D.Dominance.order c.args.dominance.now) c.requires.signed.rule c.as_slice-entries.result.now c.in_ok-found.found.best.items c.in_ok-found.found.rest.items
-found_here g c =
-    let order = g.D.Dominance.order c.args.dominance.now in
-    let signed = c.requires.signed in
-    let pool = c.as_slice-entries.result.now in
-    let top = c.in_ok-found.found.best.items in
-    let others = c.in_ok-found.found.rest.items in
-    found order signed.rule pool c.deref.result.now c.in_ok-items.items.items top others signed.tells c.in_ok-items.ensures.entries c.in_ok-items.ensures.items
-    (c.deref.ensures.value ∙ (signed.coming_by ∙ ap (map signed.rule) (sym c.as_slice-entries.ensures.value))) (subst (λ l. Parted (item_order order pool) l top others) c.deref-2.ensures.value c.in_ok-found.ensures.parted)
-
-joining_is : (g : given.Over) (c : goal.After-drop-items-2 g) → c.extend_from_items.new.self.entries.items ≡ entries_at c.as_slice-entries.result.now c.in_ok-found.found.best.items
-joining_is g c =
-    let pool = c.as_slice-entries.result.now in
-    (c.in_ok-extend_from_items.ensures {u = tt}).entries ∙ (ap (λ l. l ++ entries_at pool c.deref-3.result.now) c.new-joining.ensures.entries ∙ ap (entries_at pool) c.deref-3.ensures.value)
-
-parted_here : (g : given.Over) (c : goal.After-drop-items-2 g) → Parted (entry_order (g.D.Dominance.order c.args.dominance.now)) c.args.coming.now.entries.items c.extend_from_items.new.self.entries.items (entries_at c.as_slice-entries.result.now c.in_ok-found.found.rest.items)
-parted_here g c =
-    let over = entry_order (g.D.Dominance.order c.args.dominance.now) in
-    let pool = c.as_slice-entries.result.now in
-    let lost = entries_at pool c.in_ok-found.found.rest.items in
-    subst (λ l. Parted over l c.extend_from_items.new.self.entries.items lost) c.as_slice-entries.ensures.value (subst (λ l. Parted over pool l lost) (sym (joining_is g c)) (found_here g c).parted)
+-- of what comes, the best and the others
+parted_here : (g : given.Over) (c : goal.After-drop-found-2 g) → Parted (entry_order (g.D.Dominance.order c.args.dominance.now)) c.args.coming.now.entries.items c.in_ok-found.found.best.entries.items (entries_at c.args.coming.now.entries.items c.in_ok-found.found.others.items)
+parted_here g c = subst (λ l. Parted (entry_order (g.D.Dominance.order c.args.dominance.now)) l c.in_ok-found.found.best.entries.items (entries_at l c.in_ok-found.found.others.items)) c.deref.ensures.value c.in_ok-found.ensures.parted
 
 pub returns-clause-level : goal.returns-clause-level
 returns-clause-level g c apart free =
@@ -126,15 +51,14 @@ returns-clause-level g c apart free =
     let strict = entry_order_is_strict order (g.met.D.Dominance.laws c.args.dominance.now) in
     let held = c.args.held.now.entries.items in
     let coming = c.args.coming.now.entries.items in
-    let pool = c.as_slice-entries.result.now in
-    let others = c.in_ok-found.found.rest.items in
-    let joining = c.extend_from_items.new.self.entries.items in
+    let lost = entries_at coming c.in_ok-found.found.others.items in
+    let joining = c.in_ok-found.found.best.entries.items in
     let now = c.set_apart-staying.new.self.entries.items in
     let n = c.set_apart-staying.result in
     let stays = filter (λ e. not (is_beaten over joining e)) held in
     let parts : SameMembers (take n now) stays = those_that_stay (is_beaten over joining) held now n c.set_apart-staying.ensures.moved.permutation (c.set_apart-staying.ensures.stay apart) c.set_apart-staying.ensures.go in
     let members : SameMembers (take n now ++ joining) (best over (held ++ coming)) =
-    same_then (take n now ++ joining) (stays ++ joining) (best over (held ++ coming)) (same_beside (take n now) stays joining parts) (parted_merge over strict held coming joining (entries_at pool others) apart free (parted_here g c)).best_are in
+    same_then (take n now ++ joining) (stays ++ joining) (best over (held ++ coming)) (same_beside (take n now) stays joining parts) (parted_merge over strict held coming joining lost apart free (parted_here g c)).best_are in
     subst (λ l. SameMembers (take n l ++ joining) (best over (held ++ coming))) (sym c.reserve.ensures.entries) members
 
 -- a list from a place on
@@ -157,21 +81,21 @@ returns-clause-down g c apart free further =
     let strict = entry_order_is_strict order (g.met.D.Dominance.laws c.args.dominance.now) in
     let held = c.args.held.now.entries.items in
     let coming = c.args.coming.now.entries.items in
-    let pool = c.as_slice-entries.result.now in
-    let others = c.in_ok-found.found.rest.items in
-    let joining = c.extend_from_items.new.self.entries.items in
-    let lost = entries_at pool others in
+    let others = c.in_ok-found.found.others.items in
+    let joining = c.in_ok-found.found.best.entries.items in
+    let lost = entries_at coming others in
     let now = c.set_apart-staying.new.self.entries.items in
     let n = c.set_apart-staying.result in
     let goes = filter (is_beaten over joining) held in
     let parts : SameMembers (drop n now) goes = those_that_go (is_beaten over joining) held now n c.set_apart-staying.ensures.moved.permutation (c.set_apart-staying.ensures.stay apart) c.set_apart-staying.ensures.go in
     elim c.match-losers.branch [
-      | in-Kept+in_ok-extend_from_items-2+in_ok-extend_from_slices w ↦
+      | in-Kept+in_ok-extend_from_items+in_ok-extend_from_slices w ↦
           let down : c.match-losers.down.entries.items ≡ lost ++ drop n now =
           ap (λ v. v.entries.items) w.down-is
           ∙ ((w.in_ok-extend_from_slices.ensures {u = tt}).entries
-          ∙ (ap (λ l. l ++ take (length w.deref-in-Kept-2.result.now - n) (drop n w.deref-in-Kept-2.result.now)) ((w.in_ok-extend_from_items-2.ensures {u = tt}).entries ∙ (ap (λ l. l ++ entries_at pool w.deref-in-Kept.result.now) c.new-down.ensures.entries ∙ ap (entries_at pool) w.deref-in-Kept.ensures.value))
-          ∙ ap (λ l. lost ++ l) (from_place n w.deref-in-Kept-2.result.now ∙ ap (drop n) w.deref-in-Kept-2.ensures.value))) in
+          ∙ (ap (λ l. l ++ take (length w.deref-in-Kept-3.result.now - n) (drop n w.deref-in-Kept-3.result.now))
+          ((w.in_ok-extend_from_items.ensures {u = tt}).entries ∙ (ap (λ l. l ++ entries_at w.deref-in-Kept.result.now w.deref-in-Kept-2.result.now) c.new-down.ensures.entries ∙ (ap (λ l. entries_at l w.deref-in-Kept-2.result.now) w.deref-in-Kept.ensures.value ∙ ap (entries_at coming) w.deref-in-Kept-2.ensures.value)))
+          ∙ ap (λ l. lost ++ l) (from_place n w.deref-in-Kept-3.result.now ∙ ap (drop n) w.deref-in-Kept-3.ensures.value))) in
           subst (λ l. SameMembers l (without_best over (held ++ coming))) (sym down)
           (same_then (lost ++ drop n now) (lost ++ goes) (without_best over (held ++ coming)) (same_behind lost (drop n now) goes parts) (parted_merge over strict held coming joining lost apart free (parted_here g c)).others_are)
       | in_default w ↦ absurd (w.in_default.not-Kept (kept_is c.args.losers further))
@@ -183,21 +107,21 @@ returns-clause-counts g c p =
     let over = entry_order order in
     let held = c.args.held.now.entries.items in
     let coming = c.args.coming.now.entries.items in
-    let pool = c.as_slice-entries.result.now in
-    let others = c.in_ok-found.found.rest.items in
-    let joining = c.extend_from_items.new.self.entries.items in
-    let lost = entries_at pool others in
+    let others = c.in_ok-found.found.others.items in
+    let joining = c.in_ok-found.found.best.entries.items in
+    let lost = entries_at coming others in
     let now = c.set_apart-staying.new.self.entries.items in
     let n = c.set_apart-staying.result in
     let one : Entry → ℕ = λ e. cond (p e) 1 0 in
     let goes : count_by p c.match-losers.down.entries.items ≤ count_by p lost + count_by p (drop n now) =
     elim c.match-losers.branch [
-      | in-Kept+in_ok-extend_from_items-2+in_ok-extend_from_slices w ↦
+      | in-Kept+in_ok-extend_from_items+in_ok-extend_from_slices w ↦
           let down : c.match-losers.down.entries.items ≡ lost ++ drop n now =
           ap (λ v. v.entries.items) w.down-is
           ∙ ((w.in_ok-extend_from_slices.ensures {u = tt}).entries
-          ∙ (ap (λ l. l ++ take (length w.deref-in-Kept-2.result.now - n) (drop n w.deref-in-Kept-2.result.now)) ((w.in_ok-extend_from_items-2.ensures {u = tt}).entries ∙ (ap (λ l. l ++ entries_at pool w.deref-in-Kept.result.now) c.new-down.ensures.entries ∙ ap (entries_at pool) w.deref-in-Kept.ensures.value))
-          ∙ ap (λ l. lost ++ l) (from_place n w.deref-in-Kept-2.result.now ∙ ap (drop n) w.deref-in-Kept-2.ensures.value))) in
+          ∙ (ap (λ l. l ++ take (length w.deref-in-Kept-3.result.now - n) (drop n w.deref-in-Kept-3.result.now))
+          ((w.in_ok-extend_from_items.ensures {u = tt}).entries ∙ (ap (λ l. l ++ entries_at w.deref-in-Kept.result.now w.deref-in-Kept-2.result.now) c.new-down.ensures.entries ∙ (ap (λ l. entries_at l w.deref-in-Kept-2.result.now) w.deref-in-Kept.ensures.value ∙ ap (entries_at coming) w.deref-in-Kept-2.ensures.value)))
+          ∙ ap (λ l. lost ++ l) (from_place n w.deref-in-Kept-3.result.now ∙ ap (drop n) w.deref-in-Kept-3.ensures.value))) in
           omega (arith, ap (count_by p) down, sum_by-append one lost (drop n now))
       | in_default w ↦ let same = ap (count_by p) (ap (λ v. v.entries.items) w.down-is ∙ c.new-down.ensures.entries) in omega (arith, same)
     ] in
@@ -214,32 +138,29 @@ returns-clause-counts g c p =
 
 pub returns-clause-signed : goal.returns-clause-signed
 returns-clause-signed g c rule held_by coming_by =
-    let order = g.D.Dominance.order c.args.dominance.now in
-    let pool = c.as_slice-entries.result.now in
-    let items = c.in_ok-items.items.items in
-    let top = c.in_ok-found.found.best.items in
-    let others = c.in_ok-found.found.rest.items in
-    let below = item_order order pool in
-    let parted : Parted below items top others = subst (λ l. Parted below l top others) c.deref-2.ensures.value c.in_ok-found.ensures.parted in
-    let by = c.deref.ensures.value ∙ (coming_by ∙ ap (map rule) (sym c.as_slice-entries.ensures.value)) in
-    let are = c.in_ok-items.ensures.items rule pool by in
+    let coming = c.args.coming.now.entries.items in
+    let others = c.in_ok-found.found.others.items in
+    let signature : Item → ℕ = λ item. item.signature in
     let now = c.set_apart-staying.new.self in
     let n = c.set_apart-staying.result in
+    let by : c.deref-2.result.now ≡ map rule c.deref.result.now = c.deref-2.ensures.value ∙ (coming_by ∙ ap (map rule) (sym c.deref.ensures.value)) in
+    let both = c.in_ok-found.ensures.signed rule by in
     let held_now : now.signatures.items ≡ map rule now.entries.items = c.set_apart-staying.ensures.moved.signed rule held_by in
-    let given = c.in_ok-extend_from_items.ensures {u = tt} in
     let none : IsSignedBy rule c.new-down.result = c.new-down.ensures.signatures ∙ ap (map rule) (sym c.new-down.ensures.entries) in (
-      joined_by rule pool top c.deref-3.result.now c.new-joining.result.entries.items c.extend_from_items.new.self.entries.items c.new-joining.result.signatures.items c.extend_from_items.new.self.signatures.items
-          c.deref-3.ensures.value (best_are_items rule pool below items top others parted are) (c.new-joining.ensures.signatures ∙ ap (map rule) (sym c.new-joining.ensures.entries)) given.entries given.signatures,
+      both.0,
       elim c.match-losers.branch [
-        | in-Kept+in_ok-extend_from_items-2+in_ok-extend_from_slices w ↦
-            let first = w.in_ok-extend_from_items-2.ensures {u = tt} in
-            let before = w.extend_from_items-in-Kept.new.self in
+        | in-Kept+in_ok-extend_from_items+in_ok-extend_from_slices w ↦
+            let first = w.in_ok-extend_from_items.ensures {u = tt} in
+            let before = w.extend_from_items.new.self in
+            let entries : before.entries.items ≡ entries_at coming others =
+            first.entries ∙ (ap (λ l. l ++ entries_at w.deref-in-Kept.result.now w.deref-in-Kept-2.result.now) c.new-down.ensures.entries ∙ (ap (λ l. entries_at l w.deref-in-Kept-2.result.now) w.deref-in-Kept.ensures.value ∙ ap (entries_at coming) w.deref-in-Kept-2.ensures.value)) in
             let lost : IsSignedBy rule before =
-            joined_by rule pool others w.deref-in-Kept.result.now c.new-down.result.entries.items before.entries.items c.new-down.result.signatures.items before.signatures.items
-            w.deref-in-Kept.ensures.value (others_are_items rule pool below items top others parted are) none first.entries first.signatures in
+            first.signatures
+            ∙ (ap (λ l. l ++ map signature w.deref-in-Kept-2.result.now) c.new-down.ensures.signatures
+            ∙ (ap (map signature) w.deref-in-Kept-2.ensures.value ∙ (both.1 ∙ (ap (λ l. map rule (entries_at l others)) c.deref.ensures.value ∙ ap (map rule) (sym entries))))) in
             let last = w.in_ok-extend_from_slices.ensures {u = tt} in
-            let more = last.entries ∙ ap (λ l. before.entries.items ++ l) (from_place n w.deref-in-Kept-2.result.now ∙ ap (drop n) w.deref-in-Kept-2.ensures.value) in
-            let words = last.signatures ∙ ap (λ l. before.signatures.items ++ l) (from_place n w.deref-in-Kept-3.result.now ∙ ap (drop n) w.deref-in-Kept-3.ensures.value) in
+            let more = last.entries ∙ ap (λ l. before.entries.items ++ l) (from_place n w.deref-in-Kept-3.result.now ∙ ap (drop n) w.deref-in-Kept-3.ensures.value) in
+            let words = last.signatures ∙ ap (λ l. before.signatures.items ++ l) (from_place n w.deref-in-Kept-4.result.now ∙ ap (drop n) w.deref-in-Kept-4.ensures.value) in
             ap (λ v. v.signatures.items) w.down-is
             ∙ (behind_beside rule n now.entries.items now.signatures.items before.entries.items before.signatures.items w.extend_from_slices.new.self.entries.items w.extend_from_slices.new.self.signatures.items held_now lost more words
             ∙ ap (λ v. map rule v.entries.items) (sym w.down-is))
