@@ -14,7 +14,7 @@ use Rattle.pref_core.specs.declared.event.Act.{Act}
 use Rattle.pref_core.specs.declared.event.Act.TheVariants.{Insert as ActInsert, Update as ActUpdate, Delete as ActDelete, Commit as ActCommit, Begin as ActBegin, Scan as ActScan, Finish as ActFinish, Abandon as ActAbandon, Get as ActGet, Room as ActRoom}
 use Rattle.pref_core.specs.declared.event.Event.{Event}
 use Rattle.pref_core.specs.declared.event.Reply.{Reply}
-use Rattle.pref_core.specs.declared.event.Reply.TheVariants.{Inserted, Updated, Deleted, Committed, Begun, Answer, Abandoned, Room, Refused}
+use Rattle.pref_core.specs.declared.event.Reply.TheVariants.{Inserted, Updated, Deleted, Committed, Begun, Left, Answer, Abandoned, Room, Refused}
 use Rattle.pref_core.specs.declared.event.StepFault.{StepFault}
 use Rattle.pref_core.specs.Rows.{Row}
 use Rattle.pref_core.specs.Limits.{AreAllowed, blocks}
@@ -25,11 +25,12 @@ use Rattle.pref_core.specs.Slots.{Contents, StandsFor}
 use Rattle.pref_core.specs.Indexes.{IsIndexOf, adds}
 use Rattle.pref_core.specs.Operations.{applied, IsPlan}
 use Rattle.pref_core.specs.Scans.{Scan, begin}
-use Rattle.pref_core.specs.Systems.{Running, StandsForSystem, may_want_memory, is_refusal, Tells, without_event, Steps}
-use Rattle.pref_core.specs.Parts.{IsInOrder, Does, Changes, change_of, told_of, NextIsNewAt, ScansAt, AnswersAt, is_begin}
+use Rattle.pref_core.specs.Systems.{Running, StandsForSystem, may_want_memory, is_refusal, Tells, Does, as_reply, without_event, Steps}
+use Rattle.pref_core.specs.Parts.{IsInOrder, Changes, change_of, told_of, NextIsNewAt, ScansAt, AnswersAt, is_begin}
+use Rattle.pref_core.proofs.Legal.{plans_in}
 use Rattle.pref_core.proofs.Steps.{PlansAlways, running_of, adding_not_refused, change_tells, change_refused, begin_tells, begin_refused}
 use Rattle.pref_core.proofs.Reindexing.{indexed_still}
-use Rattle.pref_core.proofs.Scanning.{next_is_new_at, told_scan, scan_tells}
+use Rattle.pref_core.proofs.Scanning.{next_is_new_at, scan_tells}
 use Rattle.pref_core.proofs.Endings.{abandon_tells, abandon_refused, finish_tells, finish_refused, finish_not_done, told_get, get_tells, room_tells}
 
 -- What is left stands for a system again.
@@ -101,15 +102,17 @@ commit_does old client next_id commit result new is changes = record {
 }
 
 -- Queries.
-pub begin_does : (old : Running) (client : ℕ) (ask : Question) (op : Op) (new : Contents) (stamp : ℕ) → AreAllowed old.limits → stamp ≡ old.contents.stamp → PlansAlways old.contents client Begin (Ok op) → new ≡ applied old.contents op
-    → Does old client (ActBegin ask) (Ok (Begun (blocks old.limits))) (running_of new old.limits (with_seat client (Some (begin ask stamp old.limits)) old.scans))
-begin_does old client ask op new stamp allowed now plans is = record { limits = refl; tells = λ system h. begin_tells old system client ask op new stamp allowed now h plans is }
+pub begin_does : (old : Running) (client : ℕ) (ask : Question) (op : Op) (new : Contents) (stamp : ℕ) (scans : List (Option Scan)) → AreAllowed old.limits → stamp ≡ old.contents.stamp → IsPlan old.contents client Begin op → new ≡ applied old.contents op
+    → scans ≡ with_seat client (Some (begin ask stamp old.limits)) old.scans → Does old client (ActBegin ask) (Ok (Begun (blocks old.limits))) (running_of new old.limits scans)
+begin_does old client ask op new stamp scans allowed now plan is placed =
+    subst (λ l. Does old client (ActBegin ask) (Ok (Begun (blocks old.limits))) (running_of new old.limits l)) (sym placed)
+    (record { limits = refl; tells = λ system h. begin_tells old system client ask op new stamp allowed now h (λ state stands. plans_in old.contents state client Begin (Ok op) stands plan) is })
 
 pub begin_not : (old : Running) (client : ℕ) (ask : Question) (fault : CoreFault) → PlansAlways old.contents client Begin (Err fault) → Does old client (ActBegin ask) (Err fault) old
 begin_not old client ask fault plans = record { limits = refl; tells = λ system h. begin_refused old system client ask fault h plans }
 
 pub scan_does : (old : Running) (client : ℕ) (result : Result ℕ CoreFault) (scans : List (Option Scan)) → ScansAt (seat client old.scans) old.contents.slots client old.scans result scans
-    → Does old client ActScan (told_scan result) (running_of old.contents old.limits scans)
+    → Does old client ActScan (as_reply Left result) (running_of old.contents old.limits scans)
 scan_does old client result scans says = record { limits = refl; tells = λ system h. scan_tells old system client result scans h says }
 
 pub abandon_does : (old : Running) (client : ℕ) (op : Op) (new : Contents) → PlansAlways old.contents client Abandon (Ok op) → new ≡ applied old.contents op

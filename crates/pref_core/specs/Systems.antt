@@ -71,6 +71,16 @@ Tells before right act result after = MatchResult result
     (λ fault. ((Refused fault ≡ right.reply) × StandsForSystem after right.next)
     ⊎ ((fault ≡ OutOfMemory) × (may_want_memory act ≡ true) × (is_refusal right.reply ≡ false) × (after ≡ before)))
 
+-- the reply to an act by what its call returns: a value stands for a reply of this kind
+abbrev pub as_reply : {A : Type 0} → (A → Reply) → Result A CoreFault → Result Reply CoreFault
+as_reply kind (Ok value) = Ok (kind value)
+as_reply kind (Err fault) = Err fault
+
+-- A client's act, done: what is returned is the system's reply, in each system that what runs represents.
+pub record Does (before : Running) (client : ℕ) (act : Act) (result : Result Reply CoreFault) (after : Running) : Type 0 where
+  pub limits : after.limits ≡ before.limits
+  pub tells : (system : System) → StandsForSystem before system → Tells before (step before.limits system (record { client = client; act = act })) act result after
+
 -- the fault alone
 abbrev pub without_event : Result Reply StepFault → Result Reply CoreFault
 without_event result = elim result [ Ok told ↦ Ok told | Err fault ↦ Err fault.fault ]

@@ -148,9 +148,9 @@ pub struct Committed {
 ///
 /// ```text
 /// match table.reply(alloc, Event { client: 1, act: Act::Finish })? {
-///     Reply::Answer(answer) => Ok(answer),
-///     Reply::Refused(fault) => Err(fault.into()),
-///     _ => bail!("a finish gives an answer"),
+///     Reply::Answer(answer) => print_answer(rt, &answer),
+///     Reply::Refused(fault) => print_refusal(rt, fault),
+///     _ => Ok(()),
 /// }
 /// ```
 #[derive(Drop)]

@@ -6,28 +6,39 @@ mod seats;
 ghost use Rattle.std.specs.Prelude.{true, false, ◌≡◌, ◌<◌, length, Ok, Err, IfOk, IfErr, MatchResult, ◌⊎◌, ◌↔◌};
 ghost use Rattle.pref_core.specs.State.{is_change};
 ghost use Rattle.pref_core.specs.Step.{opened, told_of_commit};
-ghost use Rattle.pref_core.specs.Systems.{Replies, Running, StandsForSystem, Steps, is_refusal, without_event};
-ghost use Rattle.pref_core.specs.Parts.{Does, Changes, is_begin, replied, told_of, with_reply};
+ghost use Rattle.pref_core.specs.Operations.{IsPlan};
+ghost use Rattle.pref_core.specs.Systems.{Does, Replies, Running, StandsForSystem, Steps, as_reply, is_refusal, without_event};
+ghost use Rattle.pref_core.specs.Parts.{Changes, is_begin, replied, told_of};
 ghost use Rattle.pref_core.specs.declared.event.Reply.{Reply};
 
-use crate::call::{Call, LentCall, Outcome};
+use crate::call::{Call, LentCall, Op, Outcome};
 use crate::changes::{Commit, added_by};
-use crate::event::{Act, BoxedCommit, Committed, Event, RankedList, Reply, StepFault};
+use crate::event::{Act, Committed, Event, RankedList, Reply, StepFault};
 use crate::fault::CoreFault;
 use crate::index::Index;
 use crate::query::Query;
 use crate::setup::Setup;
 use crate::store::Store;
 use pref_table::Row;
+use pref_term::Ask;
 use seats::{answer_at, is_client, no_queries, scan_at, set};
 use std::alloc::{AllocError, Global};
 use std::marker::Model;
 
-/// A table with its clients. It always represents a state of the sequential table.
+/// A table with its clients. It always represents a state of the sequential table, and each call is a step of that: what it returns, a refusal
+/// too, is that table's reply, and what it leaves is that table's next state. Where it is out of memory, nothing has changed.
+///
+/// Clients have the numbers from 1 to those of the setup; a call for another is refused `NoSuchClient`. Inserts, updates, deletes, commits, begins,
+/// finishes and abandons that succeed are numbered, and so are some refusals of changes: each client makes 2^56 of these at most, and is refused
+/// `Spent` then.
 ///
 /// ```text
 /// let mut table = Machine::new(alloc, setup, &rows)?;
-/// let reply = table.reply(alloc, Event { client: 1, act: Act::Begin(ask) })?;
+/// let blocks = table.begin(1, ask)?;
+/// for _ in 0..blocks {
+///     table.scan(alloc, 1)?;
+/// }
+/// let answer = table.finish(alloc, 1)?;
 /// ```
 pub struct Machine {
     store: Store,
@@ -89,6 +100,167 @@ impl Machine {
         })
     }
 
+    /// Inserts a row, and returns its id. Ids are given from 1 on, without a gap.
+    ///
+    /// Refused `Spent`; `Full`, which is numbered; or `OutOfMemory`. No row has changed then, and no id is used. Cost: constant in the slots.
+    ///
+    /// ```text
+    /// let id = table.insert(alloc, 2, &Row::of(&schema, &[55, 1])?)?;
+    /// ```
+    pub fn insert(&mut self, alloc: Global, client: u8, row: &Row) -> Result<u64, CoreFault>
+        ensures { Does self.old client (Act.Insert row.now) (as_reply Reply.Inserted result) self.new }
+    {
+        let id = self.store.next_id();
+        self.change(alloc, client, &LentCall::insert(row))?;
+        Ok(id)
+    }
+
+    /// Puts another row in place of the one of this id, in one commit.
+    ///
+    /// Refused `Spent`; or `NoSuchRow` or `Full`, which are numbered. No row has changed then. Cost: constant in the slots.
+    ///
+    /// ```text
+    /// table.update(alloc, 2, id, &Row::of(&schema, &[45, 1])?)?;
+    /// ```
+    pub fn update(&mut self, alloc: Global, client: u8, id: u64, row: &Row) -> Result<(), CoreFault>
+        ensures { Does self.old client (Act.Update id row.now) (as_reply (λ _. Reply.Updated id) result) self.new }
+    {
+        self.change(alloc, client, &LentCall::update(id, row))
+    }
+
+    /// Deletes the row of this id.
+    ///
+    /// Refused `Spent`; or `NoSuchRow`, which is numbered. No row has changed then. Cost: constant in the slots.
+    ///
+    /// ```text
+    /// table.delete(alloc, 2, id)?;
+    /// ```
+    pub fn delete(&mut self, alloc: Global, client: u8, id: u64) -> Result<(), CoreFault>
+        ensures { Does self.old client (Act.Delete id) (as_reply (λ _. Reply.Deleted id) result) self.new }
+    {
+        self.change(alloc, client, &LentCall::delete(id))
+    }
+
+    /// Makes all changes of a commit at once, and returns how many they are and the id of the first row that they add.
+    ///
+    /// Refused `Spent`; `NoSuchRow` or `Full`, which are numbered; or `OutOfMemory` where a row is added. No row has changed then. Cost: constant in the slots.
+    ///
+    /// ```text
+    /// let commit = Commit::of(&[Change::Add(hotel), Change::Remove(3)])?;
+    /// let committed = table.commit(alloc, 2, &commit)?;
+    /// ```
+    pub fn commit(
+        &mut self,
+        alloc: Global,
+        client: u8,
+        commit: &Commit,
+    ) -> Result<Committed, CoreFault>
+        ensures { Does self.old client (Act.Commit commit.now) (as_reply Reply.Committed result) self.new }
+    {
+        let done = told_of_commit(self.store.next_id(), commit);
+        self.change(alloc, client, &LentCall::commit(commit))?;
+        Ok(done)
+    }
+
+    /// Begins a query of the table as it is now, and returns how many blocks it has to scan. Takes no memory, and copies nothing.
+    ///
+    /// Refused `Spent` or `QueryOpen`. Nothing has changed then, and the ask is let go: [`Machine::step`] hands it back. Cost: constant in the slots.
+    ///
+    /// ```text
+    /// let blocks = table.begin(1, read_ask(alloc, &schema, b"best low(price)")?)?;
+    /// ```
+    pub fn begin(&mut self, client: u8, ask: Ask) -> Result<u32, CoreFault>
+        ensures { Does self.old client (Act.Begin ask) (as_reply Reply.Begun result) self.new }
+    {
+        let op = self.store.plan(client, Call::Begin)?;
+        Ok(self.begin_planned(client, &op, ask))
+    }
+
+    /// Scans the next block for the client's query, and returns how many are left.
+    ///
+    /// Refused `NoQuery` or `AllScanned`, or `OutOfMemory`. The query is then as it was. Cost: each slot of the block once, and then that of adding its
+    /// rows to a [`Partial`](pref_sky::Partial).
+    ///
+    /// ```text
+    /// for _ in 0..blocks {
+    ///     table.scan(alloc, 1)?;
+    /// }
+    /// ```
+    pub fn scan(&mut self, alloc: Global, client: u8) -> Result<u32, CoreFault>
+        ensures { Does self.old client Act.Scan (as_reply Reply.Left result) self.new }
+    {
+        scan_at(&mut self.queries, client, alloc, &self.store)
+    }
+
+    /// Ends the client's query with its answer, by the table at its begin.
+    ///
+    /// Refused `Spent`, `NoQuery` or `NotDone`, or `OutOfMemory`. The query stays open then. Cost: the rows that the query holds, and the ended versions
+    /// that an open query needs.
+    ///
+    /// ```text
+    /// for best in table.finish(alloc, 1)?.as_slice() {
+    ///     println!(rt; "row {}, {}", best.id, best.row.cell(0))?;
+    /// }
+    /// ```
+    pub fn finish(&mut self, alloc: Global, client: u8) -> Result<RankedList, CoreFault>
+        ensures { Does self.old client Act.Finish (as_reply Reply.Answer result) self.new }
+    {
+        let op = self.store.plan(client, Call::Finish)?;
+        let ranked = answer_at(&self.queries, client, alloc)?;
+        self.store.apply(&op);
+        set(&mut self.queries, client, None);
+        Ok(RankedList::of(ranked))
+    }
+
+    /// Ends the client's query without an answer.
+    ///
+    /// Refused `Spent` or `NoQuery`. Nothing has changed then. Cost: the ended versions that an open query needs.
+    ///
+    /// ```text
+    /// table.abandon(1)?;
+    /// ```
+    pub fn abandon(&mut self, client: u8) -> Result<(), CoreFault>
+        ensures { Does self.old client Act.Abandon (as_reply (λ _. Reply.Abandoned) result) self.new }
+    {
+        let op = self.store.plan(client, Call::Abandon)?;
+        self.store.apply(&op);
+        set(&mut self.queries, client, None);
+        Ok(())
+    }
+
+    /// The row of an id.
+    ///
+    /// Refused `NoSuchRow`. Cost: constant in the slots.
+    ///
+    /// ```text
+    /// let price = table.get(1, 8)?.cell(0);
+    /// ```
+    pub fn get(&self, client: u8, id: u64) -> Result<Row, CoreFault>
+        ensures { Does self.now client (Act.Get id) (as_reply (Reply.Found id) result) self.now }
+    {
+        if !is_client(&self.queries, client) {
+            return Err(CoreFault::NoSuchClient);
+        }
+        match self.store.get_at(&self.index, id) {
+            Some(row) => Ok(row),
+            None => Err(CoreFault::NoSuchRow { id }),
+        }
+    }
+
+    /// How many more versions there is room for, 0 to the slots of the setup. Refused `NoSuchClient` alone. Cost: constant in the slots.
+    ///
+    /// ```text
+    /// let room = table.room(1)?;
+    /// ```
+    pub fn room(&self, client: u8) -> Result<u32, CoreFault>
+        ensures { Does self.now client Act.Room (as_reply Reply.Room result) self.now }
+    {
+        if !is_client(&self.queries, client) {
+            return Err(CoreFault::NoSuchClient);
+        }
+        Ok(self.store.room())
+    }
+
     /// One event: its reply, and the next state, are those of the sequential table. A refused event is handed back.
     ///
     /// `OutOfMemory` comes for a scan, a finish and a change that adds a row alone, where the sequential table does not refuse it, and
@@ -96,7 +268,7 @@ impl Machine {
     /// slots, a scan reads its block, a finish and an abandon go over the ended versions that an open query needs.
     ///
     /// ```text
-    /// match table.step(alloc, Event { client: 1, act: Act::Begin(ask) }) {
+    /// match table.step(alloc, event) {
     ///     Ok(reply) => Ok(reply),
     ///     Err(refused) => Err(refused.fault.into()),
     /// }
@@ -105,7 +277,7 @@ impl Machine {
         ensures { Steps self.old event result self.new }
     {
         match &event.act {
-            Act::Begin(_) => self.begin(event),
+            Act::Begin(_) => self.begin_event(event),
             act => handed_back(self.act(alloc, event.client, act), event),
         }
     }
@@ -116,10 +288,9 @@ impl Machine {
     /// refuse it, and nothing has changed then.
     ///
     /// ```text
-    /// match table.reply(alloc, Event { client: 2, act: Act::Insert(hotel) })? {
-    ///     Reply::Inserted(id) => Ok(id),
+    /// match table.reply(alloc, event)? {
     ///     Reply::Refused(fault) => Err(fault.into()),
-    ///     _ => bail!("an insert gives an id"),
+    ///     reply => Ok(reply),
     /// }
     /// ```
     #[tactic(auto, using(crate::proofs::Replies::does_replies, crate::proofs::Replies::steps_replies))]
@@ -127,7 +298,7 @@ impl Machine {
         ensures { Replies self.old event result self.new }
     {
         match &event.act {
-            Act::Begin(_) => replied(without_event(self.begin(event))),
+            Act::Begin(_) => replied(without_event(self.begin_event(event))),
             act => replied(self.act(alloc, event.client, act)),
         }
     }
@@ -138,59 +309,35 @@ impl Machine {
         ensures { Does self.old client act.now result self.new }
     {
         match act {
-            Act::Insert(row) => self.insert(alloc, client, row),
-            Act::Update(id, row) => self.update(alloc, client, *id, row),
-            Act::Delete(id) => self.delete(alloc, client, *id),
-            Act::Commit(commit) => self.commit(alloc, client, commit),
+            Act::Insert(row) => Ok(Reply::Inserted(self.insert(alloc, client, row)?)),
+            Act::Update(id, row) => {
+                self.update(alloc, client, *id, row)?;
+                Ok(Reply::Updated(*id))
+            }
+            Act::Delete(id) => {
+                self.delete(alloc, client, *id)?;
+                Ok(Reply::Deleted(*id))
+            }
+            Act::Commit(commit) => {
+                let done = self.commit(alloc, client, commit.commit())?;
+                Ok(Reply::Committed(done))
+            }
             Act::Begin(_) => unreachable!(),
-            Act::Scan => self.scan(alloc, client),
-            Act::Finish => self.finish(alloc, client),
-            Act::Abandon => self.abandon(client),
-            Act::Get(id) => self.get(client, *id),
-            Act::Room => self.room(client),
+            Act::Scan => Ok(Reply::Left(self.scan(alloc, client)?)),
+            Act::Finish => Ok(Reply::Answer(self.finish(alloc, client)?)),
+            Act::Abandon => {
+                self.abandon(client)?;
+                Ok(Reply::Abandoned)
+            }
+            Act::Get(id) => Ok(Reply::Found(*id, self.get(client, *id)?)),
+            Act::Room => Ok(Reply::Room(self.room(client)?)),
         }
-    }
-
-    fn insert(&mut self, alloc: Global, client: u8, row: &Row) -> Result<Reply, CoreFault>
-        ensures { Does self.old client (Act.Insert row.now) result self.new }
-    {
-        let id = self.store.next_id();
-        self.change(alloc, client, &LentCall::insert(row))?;
-        Ok(Reply::Inserted(id))
-    }
-
-    fn update(&mut self, alloc: Global, client: u8, id: u64, row: &Row) -> Result<Reply, CoreFault>
-        ensures { Does self.old client (Act.Update id row.now) result self.new }
-    {
-        self.change(alloc, client, &LentCall::update(id, row))?;
-        Ok(Reply::Updated(id))
-    }
-
-    fn delete(&mut self, alloc: Global, client: u8, id: u64) -> Result<Reply, CoreFault>
-        ensures { Does self.old client (Act.Delete id) result self.new }
-    {
-        self.change(alloc, client, &LentCall::delete(id))?;
-        Ok(Reply::Deleted(id))
-    }
-
-    fn commit(
-        &mut self,
-        alloc: Global,
-        client: u8,
-        commit: &BoxedCommit,
-    ) -> Result<Reply, CoreFault>
-        ensures { Does self.old client (Act.Commit commit.now) result self.new }
-    {
-        let commit = commit.commit();
-        let done = told_of_commit(self.store.next_id(), commit);
-        self.change(alloc, client, &LentCall::commit(commit))?;
-        Ok(Reply::Committed(done))
     }
 
     /// A change. Where it succeeds, any reply that is no refusal can be what its act returns.
     fn change(&mut self, alloc: Global, client: u8, call: &LentCall<'_>) -> Result<(), CoreFault>
         requires { is_change call.now ≡ true }
-        ensures { (done : Reply) → is_refusal done ≡ false → Changes self.old client call.now done (with_reply done result) self.new }
+        ensures { (done : Reply) → is_refusal done ≡ false → Changes self.old client call.now done (as_reply (λ _. done) result) self.new }
     {
         let op = match self.store.plan_by(Some(&self.index), client, call) {
             Ok(op) => op,
@@ -201,8 +348,8 @@ impl Machine {
         told(op.outcome)
     }
 
-    /// A query begins. A refusal hands its ask back.
-    fn begin(&mut self, event: Event) -> Result<Reply, StepFault>
+    /// A begin by its event, which a refusal hands back.
+    fn begin_event(&mut self, event: Event) -> Result<Reply, StepFault>
         requires { is_begin event.act ≡ true }
         ensures { Steps self.old event result self.new }
     {
@@ -212,64 +359,18 @@ impl Machine {
         };
         let Event { client, act } = event;
         let Act::Begin(ask) = act else { unreachable!() };
+        Ok(Reply::Begun(self.begin_planned(client, &op, ask)))
+    }
+
+    /// A query begins, by its plan, and has this many blocks to scan.
+    fn begin_planned(&mut self, client: u8, op: &Op, ask: Ask) -> u32
+        requires { IsPlan self.old.contents client Call.Begin op.now }
+        ensures { Does self.old client (Act.Begin ask) (Ok (Reply.Begun result)) self.new }
+    {
         let query = Query::begin(ask, self.store.stamp(), &self.setup);
-        self.store.apply(&op);
+        self.store.apply(op);
         set(&mut self.queries, client, Some(query));
-        Ok(Reply::Begun(self.setup.blocks()))
-    }
-
-    /// A query scans its next block.
-    fn scan(&mut self, alloc: Global, client: u8) -> Result<Reply, CoreFault>
-        ensures { Does self.old client Act.Scan result self.new }
-    {
-        match scan_at(&mut self.queries, client, alloc, &self.store) {
-            Ok(left) => Ok(Reply::Left(left)),
-            Err(fault) => Err(fault),
-        }
-    }
-
-    /// A query ends with its answer.
-    fn finish(&mut self, alloc: Global, client: u8) -> Result<Reply, CoreFault>
-        ensures { Does self.old client Act.Finish result self.new }
-    {
-        let op = self.store.plan(client, Call::Finish)?;
-        let ranked = answer_at(&self.queries, client, alloc)?;
-        self.store.apply(&op);
-        set(&mut self.queries, client, None);
-        Ok(Reply::Answer(RankedList::of(ranked)))
-    }
-
-    /// A query ends without an answer.
-    fn abandon(&mut self, client: u8) -> Result<Reply, CoreFault>
-        ensures { Does self.old client Act.Abandon result self.new }
-    {
-        let op = self.store.plan(client, Call::Abandon)?;
-        self.store.apply(&op);
-        set(&mut self.queries, client, None);
-        Ok(Reply::Abandoned)
-    }
-
-    /// The row of an id.
-    fn get(&self, client: u8, id: u64) -> Result<Reply, CoreFault>
-        ensures { Does self.now client (Act.Get id) result self.now }
-    {
-        if !is_client(&self.queries, client) {
-            return Err(CoreFault::NoSuchClient);
-        }
-        match self.store.get_at(&self.index, id) {
-            Some(row) => Ok(Reply::Found(id, row)),
-            None => Err(CoreFault::NoSuchRow { id }),
-        }
-    }
-
-    /// How many more versions there is room for.
-    fn room(&self, client: u8) -> Result<Reply, CoreFault>
-        ensures { Does self.now client Act.Room result self.now }
-    {
-        if !is_client(&self.queries, client) {
-            return Err(CoreFault::NoSuchClient);
-        }
-        Ok(Reply::Room(self.store.room()))
+        self.setup.blocks()
     }
 }
 
@@ -287,7 +388,7 @@ fn told_of_commit(next_id: u64, commit: &Commit) -> Committed
 
 /// What a change returns by its outcome.
 fn told(outcome: Outcome) -> Result<(), CoreFault>
-    ensures { (done : Reply) → with_reply done result ≡ told_of outcome done }
+    ensures { (done : Reply) → as_reply (λ _. done) result ≡ told_of outcome done }
 {
     match outcome.refusal() {
         Some(fault) => Err(fault),

@@ -2,7 +2,7 @@ use Rattle.std.proofs.Common.{◌≡◌, Ok, Err, None, length, arith, refl, sym
 use Rattle.std.specs.Vec.{with_items}
 use Rattle.std.proofs.lemmas.List.{with_items_is}
 use Rattle.pref_core.specs.State.{with_seat}
-use Rattle.pref_core.specs.Parts.{Does}
+use Rattle.pref_core.specs.Systems.{Does, as_reply}
 use Rattle.pref_core.proofs.Steps.{running_of}
 use Rattle.pref_core.specs.declared.call.Call.TheVariants.{Abandon}
 use Rattle.pref_core.specs.declared.event.Act.TheVariants.{Abandon as ActAbandon}
@@ -13,7 +13,7 @@ use Rattle.pref_core.proofs.machine.Machine.abandon.Goals as goal
 pub returns-in_err-op : goal.returns-in_err-op
 returns-in_err-op c =
     let is : c.from_residual.result ≡ Err c.in_err-op.field-0.0 = search rules in
-    subst (λ t. Does c.args.self.now c.args.client ActAbandon t c.args.self.now) (sym is)
+    subst (λ t. Does c.args.self.now c.args.client ActAbandon (as_reply (λ _. Abandoned) t) c.args.self.now) (sym is)
     (
     subst (λ r. Does r c.args.client ActAbandon (Err c.in_err-op.field-0.0) r) c.self.view_is
     (abandon_not (running_of c.self.inside.store c.self.inside.setup c.self.inside.queries.items) c.args.client c.in_err-op.field-0.0 c.in_err-op.ensures.state)

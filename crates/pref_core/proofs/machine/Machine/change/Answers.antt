@@ -5,7 +5,8 @@ use Rattle.pref_core.specs.Planned.{op_of}
 use Rattle.pref_core.specs.State.{added}
 use Rattle.pref_core.specs.Step.{state_of}
 use Rattle.pref_core.specs.declared.event.Reply.TheVariants.{Abandoned}
-use Rattle.pref_core.specs.Parts.{Changes, with_reply}
+use Rattle.pref_core.specs.Systems.{as_reply}
+use Rattle.pref_core.specs.Parts.{Changes}
 use Rattle.pref_core.proofs.Steps.{running_of}
 use Rattle.pref_core.proofs.Legal.{plans_in}
 use Rattle.pref_core.proofs.Doing.{change_done, change_not, change_unmade, in_order_changed}
@@ -33,7 +34,7 @@ returns-in_err-prepare c done quiet =
     let plan = c.in-Ok.ensures in
     let adds : nat_lt 0 (added c.args.call.now) ≡ true = subst (λ call. nat_lt 0 (added call) ≡ true) plan.what (adds_planned c.self.inside.store (op_of c.in-Ok.op) plan.next c.in_err-prepare.ensures.refused) in
     let is : c.from_residual.result ≡ Err OutOfMemory = search rules in
-    subst (λ t. Changes c.args.self.now c.args.client c.args.call.now done (with_reply done t) (running_of c.self.inside.store c.self.inside.setup c.self.inside.queries.items)) (sym is)
+    subst (λ t. Changes c.args.self.now c.args.client c.args.call.now done (as_reply (λ _. done) t) (running_of c.self.inside.store c.self.inside.setup c.self.inside.queries.items)) (sym is)
     (
     subst (λ r. Changes r c.args.client c.args.call.now done (Err OutOfMemory) (running_of c.self.inside.store c.self.inside.setup c.self.inside.queries.items)) c.self.view_is
     (change_unmade (running_of c.self.inside.store c.self.inside.setup c.self.inside.queries.items) c.args.client c.args.call.now done (op_of c.in-Ok.op) quiet c.in_err-prepare.ensures.refused (λ state h. plans_in c.self.inside.store state c.args.client c.args.call.now (Ok (op_of c.in-Ok.op)) h c.in-Ok.ensures) adds)
@@ -54,7 +55,7 @@ returns c done quiet =
     let old = running_of c.self.inside.store c.self.inside.setup c.self.inside.queries.items in
     let base = change_done old c.args.client c.args.call.now done (op_of c.in-Ok.op) c.apply_at.new.self c.requires quiet (λ state h. plans_in c.self.inside.store state c.args.client c.args.call.now (Ok (op_of c.in-Ok.op)) h c.in-Ok.ensures) c.apply_at.ensures.exact in
     let told = subst (λ t. Changes old c.args.client c.args.call.now done t (running_of c.apply_at.new.self c.self.inside.setup c.self.inside.queries.items)) (sym (c.told.ensures done)) base in
-    subst (λ r. Changes r c.args.client c.args.call.now done (with_reply done c.told.result) (running_of c.apply_at.new.self c.self.inside.setup c.self.inside.queries.items)) c.self.view_is told
+    subst (λ r. Changes r c.args.client c.args.call.now done (as_reply (λ _. done) c.told.result) (running_of c.apply_at.new.self c.self.inside.setup c.self.inside.queries.items)) c.self.view_is told
 
 pub invariant_of-self-2 : goal.invariant_of-self-2
 invariant_of-self-2 c =

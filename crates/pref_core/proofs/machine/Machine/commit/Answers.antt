@@ -1,32 +1,27 @@
 use Rattle.std.proofs.Common.{◌≡◌, Ok, Err, refl, sym, ap, ◌∙◌, subst, rules}
-use Rattle.pref_core.specs.declared.call.Call.TheVariants.{Commit}
 use Rattle.pref_core.specs.declared.event.Act.TheVariants as act
 use Rattle.pref_core.specs.declared.event.Reply.TheVariants.{Committed}
-use Rattle.pref_core.specs.Step.{told_of_commit}
-use Rattle.pref_core.specs.Systems.{Running}
-use Rattle.pref_core.specs.Parts.{Changes, Does}
+use Rattle.pref_core.specs.declared.call.Call.TheVariants.{Commit}
+use Rattle.pref_core.specs.Systems.{Running, Does, as_reply}
+use Rattle.pref_core.specs.Parts.{Changes}
 use Rattle.pref_core.proofs.Doing.{commit_does}
 use Rattle.pref_core.proofs.machine.Machine.commit.Goals as goal
 
 pub returns : goal.returns
 returns c =
     let now = c.args.self.now in
-    let told = c.told_of_commit-done.ensures ∙ ap (told_of_commit c.next_id.result) c.commit-commit.ensures in
     let reply = Committed c.told_of_commit-done.result in
     commit_does now c.args.client c.next_id.result c.args.commit.now (Ok reply) c.change.new.self (c.next_id.ensures ∙ ap (λ (r : Running). r.contents.next_id) c.self.view_is)
-    (subst (λ done. Changes now c.args.client (Commit c.args.commit.now) (Committed done) (Ok reply) c.change.new.self) told
-    (subst (λ changes. Changes now c.args.client (Commit changes) reply (Ok reply) c.change.new.self) c.commit-commit.ensures
-    (subst (λ call. Changes now c.args.client call reply (Ok reply) c.change.new.self) c.commit.ensures (c.in_ok-change.ensures {u = tt} reply refl))))
+    (subst (λ done. Changes now c.args.client (Commit c.args.commit.now) (Committed done) (Ok reply) c.change.new.self) c.told_of_commit-done.ensures
+    (subst (λ call. Changes now c.args.client call reply (Ok reply) c.change.new.self) c.commit.ensures (c.in_ok-change.ensures {u = tt} reply refl)))
 
 pub returns-in_err-change : goal.returns-in_err-change
 returns-in_err-change c =
     let now = c.args.self.now in
-    let told = c.told_of_commit-done.ensures ∙ ap (told_of_commit c.next_id.result) c.commit-commit.ensures in
     let reply = Committed c.told_of_commit-done.result in
     let fault = c.in_err-change.field-0.0 in
     let is : c.from_residual.result ≡ Err fault = search rules in
-    subst (λ result. Does now c.args.client (act.Commit c.args.commit.now) result c.change.new.self) (sym is)
+    subst (λ result. Does now c.args.client (act.Commit c.args.commit.now) (as_reply Committed result) c.change.new.self) (sym is)
     (commit_does now c.args.client c.next_id.result c.args.commit.now (Err fault) c.change.new.self (c.next_id.ensures ∙ ap (λ (r : Running). r.contents.next_id) c.self.view_is)
-    (subst (λ done. Changes now c.args.client (Commit c.args.commit.now) (Committed done) (Err fault) c.change.new.self) told
-    (subst (λ changes. Changes now c.args.client (Commit changes) reply (Err fault) c.change.new.self) c.commit-commit.ensures
-    (subst (λ call. Changes now c.args.client call reply (Err fault) c.change.new.self) c.commit.ensures (c.in_err-change.ensures {u = tt} reply refl)))))
+    (subst (λ done. Changes now c.args.client (Commit c.args.commit.now) (Committed done) (Err fault) c.change.new.self) c.told_of_commit-done.ensures
+    (subst (λ call. Changes now c.args.client call reply (Err fault) c.change.new.self) c.commit.ensures (c.in_err-change.ensures {u = tt} reply refl))))

@@ -2,7 +2,8 @@ use Rattle.std.proofs.Common.{◌≡◌, Ok, Err, None, length, arith, refl, sym
 use Rattle.std.specs.Vec.{with_items}
 use Rattle.std.proofs.lemmas.List.{with_items_is}
 use Rattle.pref_core.specs.State.{with_seat, seat}
-use Rattle.pref_core.specs.Parts.{Does, AnswersAt}
+use Rattle.pref_core.specs.Systems.{Does, as_reply}
+use Rattle.pref_core.specs.Parts.{AnswersAt}
 use Rattle.pref_core.proofs.Steps.{running_of}
 use Rattle.pref_core.specs.declared.call.Call.TheVariants.{Finish}
 use Rattle.pref_core.specs.declared.event.Act.TheVariants.{Finish as ActFinish}
@@ -13,7 +14,7 @@ use Rattle.pref_core.proofs.machine.Machine.finish.Goals as goal
 pub returns-in_err-op : goal.returns-in_err-op
 returns-in_err-op c =
     let is : c.from_residual.result ≡ Err c.in_err-op.field-0.0 = search rules in
-    subst (λ t. Does c.args.self.now c.args.client ActFinish t c.args.self.now) (sym is)
+    subst (λ t. Does c.args.self.now c.args.client ActFinish (as_reply Answer t) c.args.self.now) (sym is)
     (
     subst (λ r. Does r c.args.client ActFinish (Err c.in_err-op.field-0.0) r) c.self.view_is
     (finish_not (running_of c.self.inside.store c.self.inside.setup c.self.inside.queries.items) c.args.client c.in_err-op.field-0.0 c.in_err-op.ensures.state)
@@ -23,7 +24,7 @@ pub returns-in_err-ranked : goal.returns-in_err-ranked
 returns-in_err-ranked c =
     let says = subst (λ l. AnswersAt (seat c.args.client l) (Err c.in_err-ranked.field-0.0)) c.deref.ensures.value c.in_err-ranked.ensures in
     let is : c.from_residual-in_err-ranked.result ≡ Err c.in_err-ranked.field-0.0 = search rules in
-    subst (λ t. Does c.args.self.now c.args.client ActFinish t c.args.self.now) (sym is)
+    subst (λ t. Does c.args.self.now c.args.client ActFinish (as_reply Answer t) c.args.self.now) (sym is)
     (
     subst (λ r. Does r c.args.client ActFinish (Err c.in_err-ranked.field-0.0) r) c.self.view_is
     (finish_early (running_of c.self.inside.store c.self.inside.setup c.self.inside.queries.items) c.args.client c.in_ok-op.op c.in_err-ranked.field-0.0 c.in_ok-op.ensures.state says)

@@ -1,14 +1,14 @@
-use Rattle.std.proofs.Common.{◌≡◌, length, arith, sym, subst, ◌∙◌, ap}
+use Rattle.std.proofs.Common.{◌≡◌, length, arith, sym, subst}
 use Rattle.std.specs.Vec.{with_items}
 use Rattle.std.proofs.lemmas.List.{with_items_is}
 use Rattle.pref_core.specs.State.{seat}
 use Rattle.pref_core.specs.declared.event.Act.TheVariants.{Scan as ActScan}
-use Rattle.pref_core.specs.Parts.{Does, ScansAt, NextIsNewAt}
+use Rattle.pref_core.specs.Systems.{Does, as_reply}
+use Rattle.pref_core.specs.Parts.{ScansAt, NextIsNewAt}
 use Rattle.pref_core.proofs.Steps.{running_of}
-use Rattle.pref_core.proofs.Scanning.{told_scan}
+use Rattle.pref_core.specs.declared.event.Reply.TheVariants.{Left}
 use Rattle.pref_core.proofs.Doing.{scan_does, next_is_new_in_order, in_order_after}
 use Rattle.pref_core.proofs.machine.Machine.scan.Goals as goal
-use Rattle.pref_core.proofs.machine.Machine.scan.Goals.{in-Ok, in-Err}
 
 pub scan_at-requires : goal.scan_at-requires
 scan_at-requires c =
@@ -22,8 +22,8 @@ invariant_of-self c =
     let scans = with_items_is c.self.inside.queries c.scan_at.new.queries long in
     let says = subst (λ l. ScansAt (seat c.args.client l) c.self.inside.store.slots c.args.client l c.scan_at.result c.scan_at.new.queries) c.deref_mut.ensures.value c.scan_at.ensures in
     let base = scan_does old c.args.client c.scan_at.result c.scan_at.new.queries says in
-    let placed = subst (λ l. Does old c.args.client ActScan (told_scan c.scan_at.result) (running_of c.self.inside.store c.self.inside.setup l)) (sym scans) base in
-    in_order_after old _ c.self.inside.index c.self.inside.index c.args.client ActScan (told_scan c.scan_at.result) c.self.invariant placed c.self.invariant.indexed
+    let placed = subst (λ l. Does old c.args.client ActScan (as_reply Left c.scan_at.result) (running_of c.self.inside.store c.self.inside.setup l)) (sym scans) base in
+    in_order_after old _ c.self.inside.index c.self.inside.index c.args.client ActScan (as_reply Left c.scan_at.result) c.self.invariant placed c.self.invariant.indexed
 
 pub returns : goal.returns
 returns c =
@@ -32,7 +32,5 @@ returns c =
     let scans = with_items_is c.self.inside.queries c.scan_at.new.queries long in
     let says = subst (λ l. ScansAt (seat c.args.client l) c.self.inside.store.slots c.args.client l c.scan_at.result c.scan_at.new.queries) c.deref_mut.ensures.value c.scan_at.ensures in
     let base = scan_does old c.args.client c.scan_at.result c.scan_at.new.queries says in
-    let placed = subst (λ l. Does old c.args.client ActScan (told_scan c.scan_at.result) (running_of c.self.inside.store c.self.inside.setup l)) (sym scans) base in
-    let told : c.match-scan_at.result ≡ told_scan c.scan_at.result = elim c.match-scan_at.branch [ in-Ok w ↦ w.result-is ∙ ap told_scan (sym w.in-Ok.is) | in-Err w ↦ w.result-is ∙ ap told_scan (sym w.in-Err.is) ] in
-    let same = subst (λ t. Does old c.args.client ActScan t (running_of c.self.inside.store c.self.inside.setup (with_items c.self.inside.queries c.scan_at.new.queries).items)) (sym told) placed in
-    subst (λ r. Does r c.args.client ActScan c.match-scan_at.result (running_of c.self.inside.store c.self.inside.setup (with_items c.self.inside.queries c.scan_at.new.queries).items)) c.self.view_is same
+    let placed = subst (λ l. Does old c.args.client ActScan (as_reply Left c.scan_at.result) (running_of c.self.inside.store c.self.inside.setup l)) (sym scans) base in
+    subst (λ r. Does r c.args.client ActScan (as_reply Left c.scan_at.result) (running_of c.self.inside.store c.self.inside.setup (with_items c.self.inside.queries c.scan_at.new.queries).items)) c.self.view_is placed

@@ -1,0 +1,21 @@
+use Rattle.std.proofs.Common.{Ok, Err, refl, subst}
+use Rattle.pref_core.specs.declared.event.Act.TheVariants.{Begin as ActBegin}
+use Rattle.pref_core.specs.declared.event.Reply.TheVariants.{Begun}
+use Rattle.pref_core.specs.declared.call.Call.TheVariants.{Begin}
+use Rattle.pref_core.specs.Operations.{IsPlan}
+use Rattle.pref_core.specs.Systems.{Running, Steps}
+use Rattle.pref_core.proofs.Steps.{running_of}
+use Rattle.pref_core.proofs.Doing.{begin_steps_not, steps_does}
+use Rattle.pref_core.proofs.machine.Machine.begin_event.Goals as goal
+
+pub returns-in-Err : goal.returns-in-Err
+returns-in-Err c =
+    subst (λ r. Steps r c.args.event (Err (record { fault = c.in-Err.fault; event = c.args.event })) r) c.self.view_is
+    (begin_steps_not (running_of c.self.inside.store c.self.inside.setup c.self.inside.queries.items) c.args.event c.in-Err.fault c.requires c.in-Err.ensures.state)
+
+pub begin_planned-requires : goal.begin_planned-requires
+begin_planned-requires c = subst (λ (r : Running). IsPlan r.contents c.args.event.client Begin c.in-Ok.op) c.self.view_is c.in-Ok.ensures.exact
+
+pub returns : goal.returns
+returns c =
+    steps_does c.args.self.now c.begin_planned.new.self c.args.event (ActBegin c.in-Begin.ask) (Ok (Begun c.begin_planned.result)) (Ok (Begun c.begin_planned.result)) c.in-Begin.is c.begin_planned.ensures refl tt
