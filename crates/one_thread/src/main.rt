@@ -2,8 +2,8 @@
 //! began, and the next one has the new hotel.
 #![tactic(auto)]
 
-use anyhow::{Context, Result, bail};
-use pref_core::{Act, Event, Machine, RankedList, Reply, Setup};
+use anyhow::{Context, Result};
+use pref_core::{Machine, RankedList, Setup};
 use pref_table::{Row, Schema, read_table};
 use pref_term::read_ask;
 use std::alloc::Global;
@@ -13,32 +13,18 @@ const HOTELS: &[u8] = b"price,dist\n50,8\n60,5\n80,2\n70,6\n90,2\n100,1\n110,9\n
 
 const QUESTION: &[u8] = b"best low(price) * low(dist)";
 
-/// The reply to an act of a client. A refusal is an error.
-fn reply(alloc: Global, table: &mut Machine, client: u8, act: Act) -> Result<Reply> {
-    match table.reply(alloc, Event { client, act })? {
-        Reply::Refused(fault) => Err(fault.into()),
-        reply => Ok(reply),
-    }
-}
-
 /// Begins a query of a client, and gives the number of blocks to scan.
 fn begin(alloc: Global, table: &mut Machine, schema: &Schema, client: u8) -> Result<u32> {
     let ask = read_ask(alloc, schema, QUESTION)?;
-    match reply(alloc, table, client, Act::Begin(ask))? {
-        Reply::Begun(blocks) => Ok(blocks),
-        _ => bail!("a begin gives a number of blocks"),
-    }
+    Ok(table.begin(client, ask)?)
 }
 
 /// Scans the blocks of the client's query, and gives its answer.
 fn answer(alloc: Global, table: &mut Machine, client: u8, blocks: u32) -> Result<RankedList> {
     for _ in 0..blocks {
-        reply(alloc, table, client, Act::Scan)?;
+        table.scan(alloc, client)?;
     }
-    match reply(alloc, table, client, Act::Finish)? {
-        Reply::Answer(answer) => Ok(answer),
-        _ => bail!("a finish gives an answer"),
-    }
+    Ok(table.finish(alloc, client)?)
 }
 
 fn print_answer(rt: &impl Print, client: u8, answer: &RankedList) -> io::Result<()> {
@@ -54,7 +40,7 @@ fn print_answer(rt: &impl Print, client: u8, answer: &RankedList) -> io::Result<
 fn run_clients(rt: &impl Print, alloc: Global, table: &mut Machine, schema: &Schema) -> Result<()> {
     let blocks = begin(alloc, table, schema, 1)?;
     let hotel = Row::of(schema, &[55, 1])?;
-    reply(alloc, table, 2, Act::Insert(hotel))?;
+    table.insert(alloc, 2, &hotel)?;
     print_answer(rt, 1, &answer(alloc, table, 1, blocks)?)?;
 
     let blocks = begin(alloc, table, schema, 2)?;
