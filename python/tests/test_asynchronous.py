@@ -4,8 +4,6 @@ import gc
 import os
 import random
 import signal
-import sys
-import time
 import unittest
 
 import prefq
@@ -188,39 +186,6 @@ class Tasks(TestCase):
             with self.refuses(prefq.Refused, kind="opening"):
                 await self.open(capacity=3)
         self.run_async(main)
-
-    def test_the_loop_goes_on(self):
-        """While 60,000 rows are put in, asked for and read, the longest stall of the loop is a few milliseconds, where the machine has a processor for it."""
-        rows = [[number, -number, number % 7, number % 11] for number in range(60_000)]
-
-        async def longest(calls):
-            stalls, last = [], time.perf_counter()
-            task = asyncio.ensure_future(calls)
-            while not task.done():
-                await asyncio.sleep(0.001)
-                now = time.perf_counter()
-                stalls.append(now - last)
-                last = now
-            await task
-            return max(stalls)
-
-        async def series(call):
-            async with await prefq.AsyncTable.open(list("abcd"), rows, capacity=65_536) as table:
-                return await longest(call(table))
-
-        async def inserted(_):
-            async with await prefq.AsyncTable.open(list("abcd"), capacity=65_536) as table:
-                await table.insert_many(rows)
-
-        for name, call in [("insert_many of 60,000 rows", inserted), ("a question over 60,000 rows", lambda table: table.best("top_level 1000 low(a)")),
-                           ("60,000 rows read", lambda table: table.rows())]:
-            best = 1.0
-            for _ in range(10):
-                best = min(best, asyncio.run(series(call)))
-                if best < 0.015:
-                    break
-            print(f"\nthe longest stall of the loop: {best * 1000:.1f} ms by {name}", file=sys.stderr)
-            self.assertLess(best, 0.05, name)
 
 
 if __name__ == "__main__":

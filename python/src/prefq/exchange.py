@@ -7,10 +7,12 @@ import os
 import threading
 import weakref
 from collections import deque
-from typing import Any, Callable, Deque, Dict, Iterator, List, Optional, Sequence, Tuple, TypeVar, Union
+from typing import Any, Callable, Deque, Dict, Iterable, Iterator, List, Optional, Tuple, TypeVar, Union
 
 from .errors import Ended, Refused, refused
+from .pauses import let_others_run
 from .process import Process
+from .rows import Written
 
 Result = TypeVar("Result")
 LONGEST_OPENING = 16_000_000
@@ -58,7 +60,7 @@ class Exchange:
         """The number of the program's process."""
         return self._process.pid
 
-    def open(self, head: str, pieces: Iterator[str]) -> List[str]:
+    def open(self, head: str, pieces: Iterator[Written]) -> List[Written]:
         """Sends the table piece by piece while the pieces are made, and returns those that are more than the program reads at once."""
         told, rest = self._whole(lambda: self._opening(head, pieces))
         if isinstance(told, Refused):
@@ -69,7 +71,7 @@ class Exchange:
         """Sends a command, and returns what its one line says behind the words of the reply. Where it succeeds, there are so many rows more."""
         return self.ask_for_rows(command, reply, rows=rows, question=question)[0]
 
-    def ask_for_rows(self, command: str, reply: str, *, rows: int = 0, question: Optional[str] = None) -> Tuple[str, bytes]:
+    def ask_for_rows(self, command: str, reply: str, *, rows: int = 0, question: Optional[str] = None) -> Tuple[str, bytearray]:
         """The same, and the lines of rows that follow an answer."""
         text = command.encode() + b"\n"
         told = self._whole(lambda: self._one(text, reply, rows, question))
@@ -77,10 +79,9 @@ class Exchange:
             raise told
         return told
 
-    def ask_all(self, commands: Sequence[str], reply: str, *, rows: int) -> List[str]:
-        """Sends many commands without a wait between them, and returns what each line says behind the words of the reply. None may be refused."""
-        text = "".join(command + "\n" for command in commands).encode()
-        return self._whole(lambda: self._many(text, len(commands), reply, rows))
+    def ask_all(self, pieces: Iterable[Written], reply: str) -> str:
+        """Sends many commands without a wait between them, and returns what the first line says behind the words of the reply. None may be refused."""
+        return self._whole(lambda: self._many(pieces, reply))
 
     def settle(self) -> None:
         """Abandons the queries that nobody has any more, if there are any."""
@@ -152,20 +153,20 @@ class Exchange:
                 self._one(b"as %d abandon\n" % holder.client, f"{holder.client} abandoned", 0, None)
                 del self.queries[holder.client]
 
-    def _opening(self, head: str, pieces: Iterator[str]) -> Tuple[Union[Tuple[str, bytes], Refused], List[str]]:
+    def _opening(self, head: str, pieces: Iterator[Written]) -> Tuple[Union[Tuple[str, bytearray], Refused], List[Written]]:
         self._process.send(head.encode())
-        length, count = 0, 0
-        rest: List[str] = []
+        length, rows = 0, 0
+        rest: List[Written] = []
         for piece in pieces:
-            length += len(piece)
+            length += len(piece.text)
             if length > LONGEST_OPENING:
                 rest.append(piece)
             else:
-                self._process.send(piece.encode())
-                count += piece.count("\n")
-        return self._one(b"end\nas 1 room\n", "1 room ", count, None), rest
+                self._process.send(piece.text.encode())
+                rows += piece.rows
+        return self._one(b"end\nas 1 room\n", "1 room ", rows, None), rest
 
-    def _one(self, text: bytes, reply: str, rows: int, question: Optional[str]) -> Union[Tuple[str, bytes], Refused]:
+    def _one(self, text: bytes, reply: str, rows: int, question: Optional[str]) -> Union[Tuple[str, bytearray], Refused]:
         self._process.send(text)
         line = self._process.line()
         if line.startswith(reply):
@@ -176,14 +177,19 @@ class Exchange:
         self._process.rest(0)
         return self._refusal(line, question)
 
-    def _many(self, text: bytes, count: int, reply: str, rows: int) -> List[str]:
-        self._process.send(text)
-        lines = self._process.rest(count).decode().splitlines()
-        for line in lines:
-            if not line.startswith(reply):
-                raise Ended(f"the program says {line}", "reply")
+    def _many(self, pieces: Iterable[Written], reply: str) -> str:
+        count, rows = 0, 0
+        for piece in pieces:
+            self._process.send(piece.text.encode())
+            count += piece.text.count("\n")
+            rows += piece.rows
+            let_others_run()
+        told = b"\n" + self._process.rest(count)
+        if told.count(b"\n" + reply.encode()) < count:
+            wrong = next(line for line in told.decode(errors="replace").splitlines()[1:] if not line.startswith(reply))
+            raise Ended(f"the program says {wrong}", "reply")
         self.rows += rows
-        return [line[len(reply):] for line in lines]
+        return told[1:told.index(b"\n", 1)].decode()[len(reply):]
 
     def _refusal(self, line: str, question: Optional[str]) -> Refused:
         if line.startswith("fault: "):

@@ -8,6 +8,7 @@ import weakref
 from typing import List, Optional
 
 from .errors import Ended, ProgramNotFound
+from .pauses import let_others_run
 
 PIECE = 65_536
 SECONDS_TO_END = 5.0
@@ -58,6 +59,7 @@ class Process:
             finally:
                 self._poll.unregister(self._in)
             left = self._write(left)
+            let_others_run()
 
     def line(self) -> str:
         """The next line."""
@@ -67,16 +69,17 @@ class Process:
         del self._read[:end + 1]
         return line.decode(errors="replace")
 
-    def rest(self, count: int) -> bytes:
+    def rest(self, count: int) -> bytearray:
         """So many lines, which have to be all that is written."""
         found = self._read.count(b"\n")
         while found < count:
             before = len(self._read)
             self._wait()
             found += self._read.count(b"\n", before)
+            let_others_run()
         if found > count or self._read and not self._read.endswith(b"\n"):
             raise Ended(f"the program writes more than {count} lines where it was asked for as many", "reply")
-        read, self._read = bytes(self._read), bytearray()
+        read, self._read = self._read, bytearray()
         return read
 
     def death(self, last: str = "") -> Ended:

@@ -1,17 +1,18 @@
 """Rows as the program reads and writes them."""
 import gc
-import threading
-import time
 from collections.abc import Iterable, Mapping, Set
 from itertools import chain, islice
 from typing import Any, Callable, Iterator, List, NamedTuple, Optional, Sequence, Tuple, TypeVar
 
 from .checks import LEAST, MOST, MOST_ROWS, whole
+from .pauses import let_others_run
 
 Made = TypeVar("Made")
-TOGETHER = 1024
+Shape = Callable[[Sequence[str]], str]
+TOGETHER = 256
+IN_COMMIT = 8
 ANSWER_PIECE = 16_384
-SHORTEST = 0.000_05
+LOOKED_THROUGH = 262_144
 # What stands round the numbers in the line of a row, `level 1 id 3: 45,9`, is blank here.
 BLANKS = bytes.maketrans(b"levid:,\n", b" " * 8)
 
@@ -29,10 +30,11 @@ class Row(NamedTuple):
     values: List[int]
 
 
-def let_others_run() -> None:
-    """Gives up the interpreter for a moment, so that an event loop on the main thread need not wait until it is taken away."""
-    if threading.current_thread() is not threading.main_thread():
-        time.sleep(SHORTEST)
+class Written(NamedTuple):
+    """Some rows as the program reads them."""
+
+    rows: int
+    text: str
 
 
 def pair(level: int, id: int, values: List[int]) -> Tuple[int, List[int]]:
@@ -40,19 +42,22 @@ def pair(level: int, id: int, values: List[int]) -> Tuple[int, List[int]]:
     return id, values
 
 
-def rows_of(text: bytes, width: int, make: Callable[[int, int, List[int]], Made]) -> List[Made]:
+def rows_of(text: bytearray, width: int, make: Callable[[int, int, List[int]], Made]) -> List[Made]:
     """What is made of the level, the id and the values in each line of an answer."""
     if len(text) <= ANSWER_PIECE:
         return _made(text, width, make)
     rows: List[Made] = []
-    begin, collects = 0, gc.isenabled()
+    begin, looked, collects = 0, 0, gc.isenabled()
     try:
-        # Rows are no garbage, and each pass of the collector looks through all of them while every thread waits.
+        # Rows are no garbage. Left to itself, the collector looks through all of them again and again while every thread waits; this looks at the new ones.
         gc.disable()
         while begin < len(text):
             end = text.find(b"\n", begin + ANSWER_PIECE) + 1 or len(text)
             rows += _made(text[begin:end], width, make)
             begin = end
+            if collects and (begin - looked >= LOOKED_THROUGH or begin == len(text)):
+                looked = begin
+                gc.collect(0)
             let_others_run()
     finally:
         if collects:
@@ -60,37 +65,71 @@ def rows_of(text: bytes, width: int, make: Callable[[int, int, List[int]], Made]
     return rows
 
 
-def _made(text: bytes, width: int, make: Callable[[int, int, List[int]], Made]) -> List[Made]:
-    numbers = list(map(int, text.translate(BLANKS).split()))
+def _made(text: bytearray, width: int, make: Callable[[int, int, List[int]], Made]) -> List[Made]:
+    numbers = list(map(int, bytes(text).translate(BLANKS).split()))
     return [make(numbers[at], numbers[at + 1], numbers[at + 2:at + 2 + width]) for at in range(0, len(numbers), 2 + width)]
 
 
-def listed(rows: Any) -> Sequence[Any]:
-    """The rows, which may come one by one, in a list."""
+def in_pieces(rows: Any) -> Iterator[Sequence[Any]]:
+    """The rows, which may come one by one, some at a time."""
     if isinstance(rows, (str, bytes, Mapping)) or not isinstance(rows, Iterable):
         raise TypeError(f"rows is of type {type(rows).__name__}: not a list of rows")
+    count = 0
+    for piece in _sliced(rows):
+        count += len(piece)
+        if count > MOST_ROWS:
+            raise ValueError(f"there are more than {MOST_ROWS} rows: no table holds them (prefq.parts.best asks more)")
+        yield piece
+        let_others_run()
+
+
+def _sliced(rows: Any) -> Iterator[Sequence[Any]]:
+    # Arrays of numpy are taken apart in pieces. A slice of another thing with tolist, such as a series of pandas, may count by its labels.
+    if hasattr(rows, "__array_interface__"):
+        return (rows[at:at + TOGETHER].tolist() for at in range(0, len(rows), TOGETHER))
     if hasattr(rows, "tolist"):
         rows = rows.tolist()
-    found = rows if isinstance(rows, (list, tuple)) else list(islice(rows, MOST_ROWS + 1))
-    if len(found) > MOST_ROWS:
-        raise ValueError(f"there are more than {MOST_ROWS} rows: no table holds them (prefq.parts.best asks more)")
-    return found
+    if isinstance(rows, (list, tuple)):
+        return (rows[at:at + TOGETHER] for at in range(0, len(rows), TOGETHER))
+    one_by_one = iter(rows)
+    return iter(lambda: list(islice(one_by_one, TOGETHER)), [])
 
 
-def texts(rows: Sequence[Any], columns: Sequence[str]) -> Iterator[str]:
-    """Rows as the program reads them, some lines at a time. Rows are counted from 1 in what is wrong."""
-    return _texts(rows, columns, _are_in_range)
+def let_go(pieces: List[Any]) -> None:
+    """Drops the pieces one after the other, since rows that nobody else has are freed with them."""
+    while pieces:
+        pieces.pop()
+        let_others_run()
 
 
-def texts_of_opening(rows: Sequence[Any], columns: Sequence[str]) -> Iterator[str]:
-    """The same without a test of the range, which takes time, and which the program tests when it opens a table."""
-    return _texts(rows, columns, _are_whole)
+def as_lines(rows: Sequence[str]) -> str:
+    """Rows one to a line, as in a table."""
+    return "\n".join(rows) + "\n"
 
 
-def _texts(rows: Sequence[Any], columns: Sequence[str], are_fine: Callable[[Sequence[Any]], bool]) -> Iterator[str]:
-    for begin in range(0, len(rows), TOGETHER):
-        piece = rows[begin:begin + TOGETHER]
-        yield _at_once(piece, len(columns), are_fine) or "".join(line(row, columns, f"row {number}, ") + "\n" for number, row in enumerate(piece, begin + 1))
+def as_commits(client: int) -> Shape:
+    """Rows as commits of a client that insert them, eight at a time."""
+    def commits(rows: Sequence[str]) -> str:
+        return "".join(f"as {client} commit insert {'; insert '.join(rows[at:at + IN_COMMIT])}\n" for at in range(0, len(rows), IN_COMMIT))
+    return commits
+
+
+def texts(pieces: Iterable[Sequence[Any]], columns: Sequence[str], client: int) -> Iterator[Written]:
+    """Rows as commits of a client. Rows are counted from 1 in what is wrong."""
+    return _texts(pieces, columns, as_commits(client), _are_in_range)
+
+
+def texts_of_opening(pieces: Iterable[Sequence[Any]], columns: Sequence[str]) -> Iterator[Written]:
+    """Rows one to a line, without a test of the range, which takes time, and which the program tests when it opens a table."""
+    return _texts(pieces, columns, as_lines, _are_whole)
+
+
+def _texts(pieces: Iterable[Sequence[Any]], columns: Sequence[str], shape: Shape, are_fine: Callable[[Sequence[Any]], bool]) -> Iterator[Written]:
+    begin = 1
+    for rows in pieces:
+        text = _at_once(rows, len(columns), shape, are_fine)
+        yield Written(len(rows), text or shape([line(row, columns, f"row {number}, ") for number, row in enumerate(rows, begin)]))
+        begin += len(rows)
         let_others_run()
 
 
@@ -104,12 +143,12 @@ def line(row: Any, columns: Sequence[str], where: str = "") -> str:
     return ",".join(str(whole(cell, f"{where}column {name}", LEAST, MOST)) for name, cell in zip(columns, cells))
 
 
-def _at_once(rows: Sequence[Any], width: int, are_fine: Callable[[Sequence[Any]], bool]) -> Optional[str]:
+def _at_once(rows: Sequence[Any], width: int, shape: Shape, are_fine: Callable[[Sequence[Any]], bool]) -> Optional[str]:
     """Rows that are lists or tuples of Python's own whole numbers, without a look at each; None where they are not, or where something is wrong."""
     if not {list, tuple}.issuperset(map(type, rows)) or set(map(len, rows)) != {width}:
         return None
     cells = tuple(chain.from_iterable(rows))
-    return (",".join(["%d"] * width) + "\n") * len(rows) % cells if are_fine(cells) else None
+    return shape([",".join(["%d"] * width)] * len(rows)) % cells if are_fine(cells) else None
 
 
 def _are_whole(cells: Sequence[Any]) -> bool:

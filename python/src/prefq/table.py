@@ -1,5 +1,6 @@
 """A table of whole numbers that other threads change and ask."""
 import os
+from itertools import chain
 from typing import Any, Iterable, Iterator, List, Optional, Sequence, Tuple, Type, Union
 
 from . import checks
@@ -9,10 +10,9 @@ from .exchange import Exchange
 from .program import find_program
 from .query import Query
 from .questions import explained
-from .rows import Row, line, listed, texts, texts_of_opening
+from .rows import IN_COMMIT, Row, Written, as_commits, in_pieces, let_go, line, texts, texts_of_opening
 
 Values = Iterable[int]
-TOGETHER = 8
 OUT_OF_RANGE = ("table", 7)
 
 
@@ -38,9 +38,9 @@ class Table:
     def __init__(self, columns: Iterable[str], rows: Iterable[Values] = (), *, capacity: Optional[int] = None, clients: int = 8, block: int = 1024,
                  window: int = 64, timeout: Optional[float] = None, program: Union[str, "os.PathLike[str]", None] = None) -> None:
         self.columns = checks.names(columns)
-        opening = listed(rows)
+        opening = list(in_pieces(rows))
         if capacity is None:
-            capacity = min(checks.MOST_ROWS, max(1024, 2 * len(opening)))
+            capacity = min(checks.MOST_ROWS, max(1024, 2 * sum(map(len, opening))))
         self.capacity = checks.whole(capacity, "capacity", 1, checks.MOST_ROWS)
         self.clients = checks.whole(clients, "clients", 1, 8)
         words = ["--clients", str(self.clients), "--cap", str(self.capacity), "--block", str(checks.whole(block, "block", 1, checks.MOST_ROWS)),
@@ -51,7 +51,8 @@ class Table:
             rest = self._exchange.open(f"table\n{checks.header(self.columns)}", texts_of_opening(opening, self.columns))
             if rest:
                 _test_each(opening, self.columns)
-                self._insert_lines("".join(rest).split("\n")[:-1])
+                commits = as_commits(1)
+                self._insert_all([Written(piece.rows, commits(piece.text.splitlines())) for piece in rest])
         except Refused as why:
             self._exchange.close()
             if (why.kind, why.number) == OUT_OF_RANGE:
@@ -60,6 +61,8 @@ class Table:
         except BaseException:
             self._exchange.close()
             raise
+        finally:
+            let_go(opening)
 
     def __enter__(self) -> "Table":
         return self
@@ -131,20 +134,19 @@ class Table:
         range(1, 3)
         """
         who = self._client(client)
-        return self._insert_lines("".join(texts(listed(rows), self.columns)).split("\n")[:-1], who)
+        return self._insert_all(list(texts(in_pieces(rows), self.columns, who)), who)
 
-    def _insert_lines(self, lines: List[str], who: int = 1) -> range:
-        if not lines:
+    def _insert_all(self, commits: List[Written], who: int = 1) -> range:
+        count = sum(piece.rows for piece in commits)
+        if not count:
             return range(0)
-        commits = [lines[at:at + TOGETHER] for at in range(0, len(lines), TOGETHER)]
         with self._exchange.lock:
             room = self.room()
-            if len(lines) > room:
-                raise Refused(f"full needed {self.capacity - room + len(lines)}", "client", 8)
-            commands = [f"as {who} commit insert {'; insert '.join(commit)}" for commit in commits]
-            first = self._exchange.ask_all(commands, f"{who} committed ", rows=len(lines))[0]
+            if count > room:
+                raise Refused(f"full needed {self.capacity - room + count}", "client", 8)
+            first = self._exchange.ask_all(commits, f"{who} committed ")
         begin = int(first.split()[2])
-        return range(begin, begin + len(lines))
+        return range(begin, begin + count)
 
     def update(self, id: int, values: Values, client: Optional[int] = None) -> None:
         """Gives a row these values. Refused where there is no such row, or no room for one more version.
@@ -177,8 +179,8 @@ class Table:
         ...     hotels.commit(("update", 1, [45, 8]), ("delete", 2), ("insert", [60, 3]))
         3
         """
-        if not 1 <= len(changes) <= TOGETHER:
-            raise ValueError(f"there are {len(changes)} changes: not from 1 to {TOGETHER}")
+        if not 1 <= len(changes) <= IN_COMMIT:
+            raise ValueError(f"there are {len(changes)} changes: not from 1 to {IN_COMMIT}")
         who = self._client(client)
         pieces = [_change(change, self.columns, f"change {place}, ") for place, change in enumerate(changes, 1)]
         more = sum({"insert": 1, "delete": -1}.get(piece.split()[0], 0) for piece in pieces)
@@ -248,9 +250,9 @@ class Table:
         return 1 if client is None else checks.whole(client, "client", 1, self.clients)
 
 
-def _test_each(rows: Iterable[Any], columns: Sequence[str]) -> None:
+def _test_each(pieces: Iterable[Sequence[Any]], columns: Sequence[str]) -> None:
     """Raises what is wrong with the first of the rows whose range has not been tested; others than lists and tuples have been written out one by one."""
-    for number, row in enumerate(rows, 1):
+    for number, row in enumerate(chain.from_iterable(pieces), 1):
         if isinstance(row, (list, tuple)):
             line(row, columns, f"row {number}, ")
 
