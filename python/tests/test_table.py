@@ -1,5 +1,6 @@
 """The table, call by call."""
 import copy
+import inspect
 import pickle
 import random
 
@@ -177,3 +178,20 @@ class Errors(TestCase):
             self.assertIsInstance(error, prefq.Error)
             again = pickle.loads(pickle.dumps(error))
             self.assertEqual((type(again), str(again), vars(again)), (type(error), str(error), vars(error)))
+
+
+class Annotations(TestCase):
+    def test_each_public_call_has_its_types(self):
+        """An editor shows them, and a checker of types finds a wrong argument."""
+        for name in prefq.__all__:
+            thing = getattr(prefq, name)
+            own = vars(thing).items() if inspect.isclass(thing) else [(name, thing)]
+            for call, function in own:
+                if inspect.isfunction(function) and function.__module__.startswith("prefq") and (call == "__init__" or not call.startswith("_")):
+                    self.annotated(f"{name}.{call}", inspect.signature(function))
+
+    def annotated(self, call, signature):
+        self.assertIsNot(signature.return_annotation, inspect.Signature.empty, call)
+        for parameter in signature.parameters.values():
+            if parameter.name != "self":
+                self.assertIsNot(parameter.annotation, inspect.Parameter.empty, f"{call}, {parameter.name}")
