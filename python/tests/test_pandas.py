@@ -166,6 +166,9 @@ class Frames(TestCase):
                             (pandas.DataFrame({"x": [1, "a"]}), "column 'x' has values of"), (pandas.DataFrame(index=[1]), "there are no columns")]:
             with self.subTest(says=says), self.refuses(prefq.Refused, says, kind="table"):
                 prefq.Frame.from_dataframe(frame)
+        for other in ([{"x": 1}], "hotels.csv", None):
+            with self.refuses(TypeError, f"dataframe is of type {type(other).__name__}: not a DataFrame of pandas"):
+                prefq.Frame.from_dataframe(other)
         with self.refuses(TypeError, "5 is no name of a column"):
             prefq.Frame.from_dataframe(pandas.DataFrame({5: [1]}))
         with self.refuses(prefq.Refused, "two columns are called 'x'"):

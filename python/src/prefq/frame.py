@@ -93,6 +93,8 @@ class Frame:
                        **options: Any) -> "Frame":
         """The frame of a DataFrame of pandas. Answers as DataFrames have its index and its types again."""
         from .pandas_frames import encoded_series, index_of
+        if not hasattr(dataframe, "columns") or not hasattr(dataframe, "index"):
+            raise TypeError(f"dataframe is of type {type(dataframe).__name__}: not a DataFrame of pandas (from_records takes records)")
         names = chosen(list(dataframe.columns), columns)
         return cls._made([encoded_series(dataframe[name], name, kinds) for name in names], options, index_of(dataframe.index))
 
