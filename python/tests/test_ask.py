@@ -123,7 +123,8 @@ class Asks(TestCase):
         self.refused(ask("best low(Price)", "--kind", "Price=number"), "no kind 'number'")
         self.refused(ask("best low(City)", "--kind", "City=whole"), "line 2, column 'City' (whole): 'Lyon' is no number")
         self.refused(ask("best low(Price)", text=""), "is empty")
-        self.refused(run("ask", "/nowhere.csv", "best low(x)"), "No such file")
+        self.refused(run("ask", "/nowhere.csv", "best low(x)"), "prefq: /nowhere.csv: No such file")
+        self.refused(ask("best low(a)", text="a;b\n1,5;2\n"), "'1,5' is no number; --decimal , reads decimal commas")
         self.refused(run("ask", HOTELS, QUESTION, "--csv", "--json"), "not allowed with")
         self.refused(run("ask"), "FILE.csv")
         self.refused(ask("best low(Price)", "--plot", "/nowhere/out.svg"), "No such file")
@@ -133,6 +134,7 @@ class Asks(TestCase):
         self.assertEqual((done.returncode, done.stderr), (0, "prefq: no row of 'City' has 'Lion'; did you mean 'Lyon'?\n"))
 
     def test_help(self):
+        self.assertEqual(self.prints(run("--version")), f"prefq {prefq.__version__}\n")
         self.assertIn("python -m prefq serve FILE.csv", self.prints(run("--help")))
         for word in ("examples:", "--plot OUT.svg", "top_level K TERM"):
             self.assertIn(word, self.prints(run("ask", "--help")))

@@ -8,7 +8,7 @@ USAGE = """usage: python -m prefq ask FILE.csv [QUESTION] [--csv | --json | --ht
 ask      prints the best rows of a file
 serve    opens a page on which a file can be asked and changed
 
-python -m prefq ask --help and python -m prefq serve --help say more.
+python -m prefq ask --help and python -m prefq serve --help say more; python -m prefq --version prints the version.
 """
 
 
@@ -22,6 +22,10 @@ def main(arguments: List[str]) -> int:
         return serve(arguments[1:])
     if arguments and arguments[0] in ("-h", "--help", "help"):
         print(USAGE, end="")
+        return 0
+    if arguments and arguments[0] in ("-V", "--version"):
+        from . import __version__
+        print(f"prefq {__version__}")
         return 0
     if arguments:
         print(f"prefq: no command {arguments[0]!r}", file=sys.stderr)

@@ -61,9 +61,19 @@ def main(arguments: Optional[Sequence[str]] = None) -> int:
     except KeyboardInterrupt:
         return 130
     except (Error, OSError, ValueError, TypeError, LookupError) as why:
-        print(f"prefq: {why}", file=sys.stderr)
+        print(f"prefq: {wrong(why)}", file=sys.stderr)
         return 1 if isinstance(why, Ended) else 2
     return 0
+
+
+def wrong(why: BaseException) -> str:
+    """What is wrong, in the words of the command line."""
+    return in_options(f"{why.filename}: {why.strerror}" if isinstance(why, OSError) and why.filename else str(why))
+
+
+def in_options(text: str) -> str:
+    """What is said of arguments of a function, said of options."""
+    return text.replace("decimal=',' reads", "--decimal , reads")
 
 
 def run(options: argparse.Namespace) -> None:
@@ -73,7 +83,8 @@ def run(options: argparse.Namespace) -> None:
     file = File(read_csv(source, options.encoding, options.delimiter, progress), kinds_of(options.kind), MISSING_WORDS, options.decimal)
     if options.question is None:
         for name in file.cells.names:
-            print(f"{name}: {file.column(name)[0].kind}" + (f" ({file.column(name)[0].oddity})" if file.column(name)[0].oddity else ""))
+            column, _ = file.column(name)
+            print(f"{name}: {column.kind}" + (f" ({in_options(column.oddity)})" if column.oddity else ""))
         return
     answer = asked(file, options.question, progress)
     progress.end()

@@ -5,7 +5,7 @@ import sys
 from pathlib import Path
 from typing import Optional, Sequence
 
-from .ask import kinds_of
+from .ask import kinds_of, wrong
 from .desk import SECONDS, Desk
 from .errors import Ended, Error
 from .frame import Frame
@@ -42,7 +42,7 @@ def main(arguments: Optional[Sequence[str]] = None) -> int:
         frame = Frame.from_csv(options.file, columns=columns, kinds=kinds_of(options.kind), encoding=options.encoding, delimiter=options.delimiter,
                                decimal=options.decimal, timeout=SECONDS)
     except (Error, OSError, ValueError, TypeError, LookupError) as why:
-        print(f"prefq: {why}".replace("by columns=[..]", "by --columns"), file=sys.stderr)
+        print(f"prefq: {wrong(why)}".replace("by columns=[..]", "by --columns"), file=sys.stderr)
         return 1 if isinstance(why, Ended) else 2
     with Desk(frame) as desk:
         try:
