@@ -162,7 +162,7 @@ class Exchange:
             if length > LONGEST_OPENING:
                 rest.append(piece)
             else:
-                self._process.send(piece.text.encode())
+                self._process.send(piece.text)
                 rows += piece.rows
         return self._one(b"end\nas 1 room\n", "1 room ", rows, None), rest
 
@@ -180,8 +180,8 @@ class Exchange:
     def _many(self, pieces: Iterable[Written], reply: str) -> str:
         count, rows = 0, 0
         for piece in pieces:
-            self._process.send(piece.text.encode())
-            count += piece.text.count("\n")
+            self._process.send(piece.text)
+            count += piece.text.count(b"\n")
             rows += piece.rows
             let_others_run()
         told = b"\n" + self._process.rest(count)

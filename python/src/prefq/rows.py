@@ -34,7 +34,7 @@ class Written(NamedTuple):
     """Some rows as the program reads them."""
 
     rows: int
-    text: str
+    text: bytes
 
 
 def pair(level: int, id: int, values: List[int]) -> Tuple[int, List[int]]:
@@ -125,11 +125,14 @@ def texts_of_opening(pieces: Iterable[Sequence[Any]], columns: Sequence[str]) ->
 
 
 def _texts(pieces: Iterable[Sequence[Any]], columns: Sequence[str], shape: Shape, are_fine: Callable[[Sequence[Any]], bool]) -> Iterator[Written]:
-    begin = 1
+    begin, count, template = 1, 0, b""
     for rows in pieces:
-        text = _at_once(rows, len(columns), shape, are_fine)
-        yield Written(len(rows), text or shape([line(row, columns, f"row {number}, ") for number, row in enumerate(rows, begin)]))
-        begin += len(rows)
+        if len(rows) != count:
+            count = len(rows)
+            template = shape([",".join(["%d"] * len(columns))] * count).encode()
+        text = _at_once(rows, len(columns), template, are_fine)
+        yield Written(count, text or shape([line(row, columns, f"row {number}, ") for number, row in enumerate(rows, begin)]).encode())
+        begin += count
         let_others_run()
 
 
@@ -143,12 +146,12 @@ def line(row: Any, columns: Sequence[str], where: str = "") -> str:
     return ",".join(str(whole(cell, f"{where}column {name}", LEAST, MOST)) for name, cell in zip(columns, cells))
 
 
-def _at_once(rows: Sequence[Any], width: int, shape: Shape, are_fine: Callable[[Sequence[Any]], bool]) -> Optional[str]:
+def _at_once(rows: Sequence[Any], width: int, template: bytes, are_fine: Callable[[Sequence[Any]], bool]) -> Optional[bytes]:
     """Rows that are lists or tuples of Python's own whole numbers, without a look at each; None where they are not, or where something is wrong."""
     if not {list, tuple}.issuperset(map(type, rows)) or set(map(len, rows)) != {width}:
         return None
     cells = tuple(chain.from_iterable(rows))
-    return shape([",".join(["%d"] * width)] * len(rows)) % cells if are_fine(cells) else None
+    return template % cells if are_fine(cells) else None
 
 
 def _are_whole(cells: Sequence[Any]) -> bool:

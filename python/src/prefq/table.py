@@ -52,7 +52,7 @@ class Table:
             if rest:
                 _test_each(opening, self.columns)
                 commits = as_commits(1)
-                self._insert_all([Written(piece.rows, commits(piece.text.splitlines())) for piece in rest])
+                self._insert_all([Written(piece.rows, commits(piece.text.decode().splitlines()).encode()) for piece in rest])
         except Refused as why:
             self._exchange.close()
             if (why.kind, why.number) == OUT_OF_RANGE:
