@@ -16,6 +16,9 @@ pub mod HeldLevels
 pub mod LevelsBehind
 pub mod LevelByLevel
 pub mod Halves
+pub mod StairLaws
+pub mod LineLaws
+pub mod ChainStairs
 pub mod Selections
 pub mod TwinsAmongBest
 pub mod LevelLaws

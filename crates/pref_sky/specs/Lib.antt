@@ -2,6 +2,7 @@ pub mod Members
 pub mod Best
 pub mod Levels
 pub mod Twins
+pub mod Stairs
 pub mod Windows
 pub mod Answers
 pub mod Meetings

@@ -30,6 +30,7 @@ mod passes;
 mod ranking;
 mod room;
 mod signatures;
+pub mod stairs;
 mod window;
 
 pub use answers::answer;

@@ -1,0 +1,150 @@
+-- Lists of keys are chains, and an order that is the product of two of them within groups is stairs.
+use Rattle.std.proofs.Common.{◌≡◌, ℤ, ℕ, suc, Bool, true, false, cond, not, ◌&&◌, ◌||◌, List, [], ◌∷◌, refl, sym, ◌∙◌, ap, subst, arith}
+use Rattle.std.specs.Prelude.{int_lt, nat_lt}
+use Rattle.std.specs.Ordering.{int_eq}
+use Rattle.std.proofs.lemmas.Int.{ints}
+use Rattle.std.proofs.lemmas.Bool.Decides.{nat_tests}
+use Rattle.pref_term.specs.Better.{cell, in_same_group}
+use Rattle.pref_term.specs.Chains.{IsProductOf, by_chain, by_chains, first_chain, second_chain}
+use Rattle.pref_term.specs.Keys.{keyed}
+use Rattle.pref_term.specs.Order.{RowOrder, is_better, is_same, is_worse}
+use Rattle.pref_term.specs.Walk.{by_scores, by_sides, in_product, in_priority}
+use Rattle.pref_term.specs.declared.chains.Chains.{Chains}
+use Rattle.pref_term.specs.declared.key.Key.{Key}
+use Rattle.pref_term.specs.declared.relation.Relation.{Relation}
+use Rattle.pref_sky.specs.Levels.{entry_order}
+use Rattle.pref_sky.specs.Stairs.{AreStairs, HaveSameTwins, IsChain, IsLine, are_level, better_in, by_row, earlier_in, earlier_twin, first_within, in_turn, second_within}
+use Rattle.pref_sky.specs.declared.entry.Entry.{Entry}
+use Rattle.pref_sky.proofs.StairLaws.{chain_in_turn, grouped_stairs, line_of_one}
+
+-- ---- chains
+
+no_chain : {E : Type 0} → IsChain {E = E} (λ a b. false)
+no_chain = record { strict = record { irreflexive = λ a. refl; transitive = λ a b c h k. h }; between = λ a b c h k. h }
+
+below_itself : (x : ℤ) → int_lt x x ≡ false
+below_itself x = grind (arith, ints)
+
+below_on : (x y z : ℤ) → int_lt x y ≡ true → int_lt y z ≡ true → int_lt x z ≡ true
+below_on x y z h k = grind (arith, ints)
+
+below_between : (x y z : ℤ) → int_lt x z ≡ true → int_lt x y ≡ false → int_lt y z ≡ true
+below_between x y z h k = grind (arith, ints)
+
+numbers_chain : {E : Type 0} (number : E → ℤ) → IsChain (λ a b. int_lt (number a) (number b))
+numbers_chain number = record {
+  strict = record { irreflexive = λ a. below_itself (number a); transitive = λ a b c h k. below_on (number a) (number b) (number c) h k };
+  between = λ a b c h k. below_between (number a) (number b) (number c) h k;
+}
+
+places_chain : {E : Type 0} (place : E → ℕ) → IsChain (λ a b. nat_lt (place a) (place b))
+places_chain place = record {
+  strict = record { irreflexive = λ a. grind (arith, nat_tests); transitive = λ a b c h k. grind (arith, nat_tests) };
+  between = λ a b c h k. grind (arith, nat_tests);
+}
+
+-- a chain of rows is one of entries
+chain_of_entries : (better : List ℤ → List ℤ → Bool) → IsChain better → IsChain {E = Entry} (λ a b. better a.row b.row)
+chain_of_entries better chain = record {
+  strict = record { irreflexive = λ a. chain.strict.irreflexive a.row; transitive = λ a b c h k. chain.strict.transitive a.row b.row c.row h k };
+  between = λ a b c h k. chain.between a.row b.row c.row h k;
+}
+
+by_first : (x y : ℤ) (r : Relation) → is_better (in_priority (by_scores x y) r) ≡ (int_lt x y || ((not (int_lt x y) && not (int_lt y x)) && is_better r))
+by_first x y r = grind arith
+
+pub keys_chain : (keys : List Key) → IsChain (better_in keys)
+keys_chain [] = no_chain
+keys_chain (key ∷ keys) =
+    subst IsChain (sym (λ i a b. by_first (keyed key a) (keyed key b) (by_chain keys a b) i))
+    (chain_in_turn (λ a b. int_lt (keyed key a) (keyed key b)) (better_in keys) (numbers_chain (keyed key)) (keys_chain keys))
+
+pub earlier_chain : (columns : List ℕ) → IsChain (earlier_in columns)
+earlier_chain [] = no_chain
+earlier_chain (col ∷ columns) = chain_in_turn (λ a b. int_lt (cell a col) (cell b col)) (earlier_in columns) (numbers_chain (λ a. cell a col)) (earlier_chain columns)
+
+cells_equal : (x y : ℤ) → int_eq x y ≡ (not (int_lt x y) && not (int_lt y x))
+cells_equal x y = grind (arith, ints)
+
+pub same_group : (columns : List ℕ) (a b : List ℤ) → in_same_group columns a b ≡ are_level (earlier_in columns) a b
+same_group [] a b = refl
+same_group (col ∷ columns) a b = grind (arith, same_group columns a b, cells_equal (cell a col) (cell b col))
+
+-- a comparison by keys says who is better
+scores_sides : (x y : ℤ) (r s : Relation) → r ≡ by_sides (is_better r) (is_better s) → in_priority (by_scores x y) r ≡ by_sides (is_better (in_priority (by_scores x y) r)) (is_better (in_priority (by_scores y x) s))
+scores_sides x y r s h = grind (arith, ints)
+
+sides : (keys : List Key) (a b : List ℤ) → by_chain keys a b ≡ by_sides (better_in keys a b) (better_in keys b a)
+sides [] a b = refl
+sides (key ∷ keys) a b = scores_sides (keyed key a) (keyed key b) (by_chain keys a b) (by_chain keys b a) (sides keys a b)
+
+pub worse_in : (keys : List Key) (a b : List ℤ) → is_worse (by_chain keys a b) ≡ better_in keys b a
+worse_in keys a b =
+    let chain = keys_chain keys in
+    grind (arith, sides keys a b, chain.strict.transitive a b a, chain.strict.irreflexive a)
+
+pub same_in : (keys : List Key) (a b : List ℤ) → is_same (by_chain keys a b) ≡ are_level (better_in keys) a b
+same_in keys a b = grind (arith, sides keys a b)
+
+-- ---- the product of two chains
+
+product_better : (r s : Relation) (rw_ sw : Bool) → is_worse r ≡ rw_ → is_worse s ≡ sw → is_same r ≡ (not (is_better r) && not rw_) → is_same s ≡ (not (is_better s) && not sw)
+    → is_better (in_product r s) ≡ ((not rw_ && not sw) && (is_better r || (is_better s || false)))
+product_better r s rw_ sw h k l m = grind (arith, h, k, l, m)
+
+product_same : (r s : Relation) → is_same (in_product r s) ≡ (is_same r && is_same s)
+product_same r s = grind arith
+
+place_lower : (t u : Bool) (i j : ℕ) → t ≡ u → nat_lt (cond t (suc i) 0) (cond u (suc j) 0) ≡ (t && nat_lt i j)
+place_lower t u i j h = grind (arith, nat_tests)
+
+-- twins, of which the one with the smaller id dominates, are a tie
+twins_tie : (over twin lower same fab fba sab sba tie : Bool) → over ≡ ((not fba && not sba) && (fab || (sab || false))) → same ≡ ((not fab && not fba) && (not sab && not sba))
+    → (twin ≡ true → same ≡ true) → (same ≡ true → tie ≡ (twin && lower)) → (over || (twin && lower)) ≡ ((not fba && not sba) && (fab || (sab || tie)))
+twins_tie over twin lower same fab fba sab sba tie h k l m = grind (arith, h, k, l, m)
+
+module _ (order : RowOrder) (columns : List ℕ) (chains : Chains) (of : IsProductOf order columns chains) where
+  without_groups : AreStairs (λ a b. is_better (by_chains chains a b)) (better_in (first_chain chains)) (better_in (second_chain chains)) (λ a b. false)
+  without_groups = record {
+    first_is_chain = keys_chain (first_chain chains);
+    second_is_chain = keys_chain (second_chain chains);
+    tie_is_chain = no_chain;
+    is = λ a b. product_better (by_chain (first_chain chains) a b) (by_chain (second_chain chains) a b) (better_in (first_chain chains) b a) (better_in (second_chain chains) b a)
+        (worse_in (first_chain chains) a b) (worse_in (second_chain chains) a b) (same_in (first_chain chains) a b) (same_in (second_chain chains) a b);
+  }
+
+  -- rows
+  pub rows_are_stairs : AreStairs order.over (first_within columns chains) (second_within columns chains) (λ a b. false)
+  rows_are_stairs =
+      let product : List ℤ → List ℤ → Bool = λ a b. is_better (by_chains chains a b) in
+      let grouped = grouped_stairs product (better_in (first_chain chains)) (better_in (second_chain chains)) (λ a b. false) without_groups (earlier_in columns) (earlier_chain columns) in
+      record {
+        first_is_chain = grouped.first_is_chain;
+        second_is_chain = grouped.second_is_chain;
+        tie_is_chain = no_chain;
+        is = λ a b. of.over a b ∙ (ap (λ t. t && product a b) (same_group columns a b) ∙ grouped.is a b);
+      }
+
+  -- rows of a group that are the same are level in both chains
+  level_in_both : (a b : List ℤ) → (in_same_group columns a b && is_same (by_chains chains a b)) ≡ (are_level (first_within columns chains) a b && are_level (second_within columns chains) a b)
+  level_in_both a b =
+      grind (arith, same_group columns a b, product_same (by_chain (first_chain chains) a b) (by_chain (second_chain chains) a b), same_in (first_chain chains) a b, same_in (second_chain chains) a b)
+
+  -- entries
+  pub entries_are_stairs : HaveSameTwins order columns chains → AreStairs (entry_order order) (by_row (first_within columns chains)) (by_row (second_within columns chains)) (earlier_twin order)
+  entries_are_stairs alike =
+      let rows = rows_are_stairs in
+      record {
+        first_is_chain = chain_of_entries (first_within columns chains) rows.first_is_chain;
+        second_is_chain = chain_of_entries (second_within columns chains) rows.second_is_chain;
+        tie_is_chain = places_chain (λ e. cond (order.twin e.row e.row) (suc e.id) 0);
+        is = λ a b. twins_tie _ _ _ _ _ _ _ _ _ (rows.is a.row b.row) (level_in_both a.row b.row) (of.twin a.row b.row) (λ h.
+            let s = alike a.row b.row h in
+            place_lower (order.twin a.row a.row) (order.twin b.row b.row) a.id b.id (s.above a.row ∙ s.below b.row) ∙ ap (λ t. t && nat_lt a.id b.id) (s.above a.row));
+      }
+
+  -- where both are one chain, a line
+  pub entries_are_a_line : first_chain chains ≡ second_chain chains → HaveSameTwins order columns chains → IsLine (entry_order order) (by_row (earlier_in columns)) (in_turn (by_row (better_in (first_chain chains))) (earlier_twin order))
+  entries_are_a_line one alike =
+      line_of_one (entry_order order) (by_row (earlier_in columns)) (by_row (better_in (first_chain chains))) (by_row (better_in (second_chain chains))) (earlier_twin order) (λ a b. ap (λ keys. better_in keys a.row b.row) one)
+      (chain_of_entries (earlier_in columns) (earlier_chain columns)) (chain_of_entries (better_in (first_chain chains)) (keys_chain (first_chain chains))) (entries_are_stairs alike)

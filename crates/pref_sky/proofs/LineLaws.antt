@@ -1,0 +1,153 @@
+-- Lines: an entry is of the level behind as many classes as dominate it. Alike entries are of one level.
+use Rattle.std.proofs.Common.{◌≡◌, ℕ, zero, suc, ◌≤◌, ◌+◌, Bool, true, false, cond, not, ◌&&◌, ◌||◌, inl, inr, List, [], ◌∷◌, ◌++◌, length, refl, sym, ◌∙◌, ap, subst, arith}
+use Rattle.std.specs.List.{count_by}
+use Rattle.std.proofs.lemmas.Bool.{cases_lt, both_ways, and_parts, and_from, false_from_ne_true}
+use Rattle.std.proofs.lemmas.List.Sums.{sum_by-cons}
+use Rattle.pref_term.specs.Order.{StandAlike}
+use Rattle.pref_sky.specs.Best.{best, rest}
+use Rattle.pref_sky.specs.Stairs.{AreClassesOf, AreStairs, IsInOrder, IsLine, are_level, comes_first, in_turn}
+use Rattle.pref_sky.proofs.LevelLaws.{count_both}
+use Rattle.pref_sky.proofs.Members.{Among, any_from, any_gives, in_filter, from_filter, in_right}
+use Rattle.pref_sky.proofs.Orders.{one_passes}
+use Rattle.pref_sky.proofs.Removals.{comes_after, best_of_rest_is}
+use Rattle.pref_sky.proofs.StairLaws.{level_above, level_below}
+
+-- the entries of one level
+pub on_level : {E : Type 0} (over : E → E → Bool) (all : List E) (n : ℕ) (x : E) → Among x (best over (rest over all n)) → (comes_after over all n x ≡ true) × (comes_after over all (suc n) x ≡ false)
+on_level over all n x m =
+    let w = from_filter (λ e. comes_after over all n e && not (comes_after over all (suc n) e)) all x (subst (Among x) (best_of_rest_is over all n) m) in
+    let passes = w.1 in
+    (grind (arith, passes), grind (arith, passes))
+
+pub to_level : {E : Type 0} (over : E → E → Bool) (all : List E) (n : ℕ) (x : E) → Among x all → comes_after over all n x ≡ true → comes_after over all (suc n) x ≡ false → Among x (best over (rest over all n))
+to_level over all n x m there behind =
+    subst (Among x) (sym (best_of_rest_is over all n)) (in_filter (λ e. comes_after over all n e && not (comes_after over all (suc n) e)) all x m (grind (arith, there, behind)))
+
+-- alike entries have the same chains over them, and so are of one level
+alike_come_after : {E : Type 0} (over : E → E → Bool) (all : List E) (a b : E) → StandAlike over a b → (n : ℕ) → comes_after over all n a ≡ true → comes_after over all n b ≡ true
+alike_come_after over all a b alike zero h = refl
+alike_come_after over all a b alike (suc n) h =
+    let w = any_gives (λ z. comes_after over all n z && over z a) all h in
+    any_from (λ z. comes_after over all n z && over z b) all w.0 w.1 (sym (ap (λ t. comes_after over all n w.0 && t) (alike.above w.0)) ∙ w.2)
+
+pub alike_on_one_level : {E : Type 0} (over : E → E → Bool) (all : List E) (a b : E) → StandAlike over a b → Among b all → (n : ℕ) → Among a (best over (rest over all n)) → Among b (best over (rest over all n))
+alike_on_one_level over all a b alike mb n m =
+    let w = on_level over all n a m in
+    let back : StandAlike over b a = record { above = λ c. sym (alike.above c); below = λ c. sym (alike.below c) } in
+    to_level over all n b mb (alike_come_after over all a b alike n w.0)
+    (false_from_ne_true (comes_after over all (suc n) b) (λ h. both_ways (comes_after over all (suc n) a) w.1 (alike_come_after over all b a back (suc n) h)))
+
+-- which are alike
+pub stairs_alike : {E : Type 0} (over f s t : E → E → Bool) → AreStairs over f s t → (a b : E) → are_level (comes_first f s t) a b ≡ true → StandAlike over a b
+stairs_alike {E = E} over f s t stairs a b level =
+    let first : are_level f a b ≡ true = grind (arith, level) in
+    let second : are_level s a b ≡ true = grind (arith, level) in
+    let tie : are_level t a b ≡ true = grind (arith, level) in
+    let fa : (c : E) → f c a ≡ f c b = λ c. level_above f stairs.first_is_chain a b c first in
+    let fb : (c : E) → f a c ≡ f b c = λ c. level_below f stairs.first_is_chain a b c first in
+    let sa : (c : E) → s c a ≡ s c b = λ c. level_above s stairs.second_is_chain a b c second in
+    let sb : (c : E) → s a c ≡ s b c = λ c. level_below s stairs.second_is_chain a b c second in
+    record {
+      above = λ c. stairs.is c a ∙ ((λ i. (not (fb c i) && not (sb c i)) && (fa c i || (sa c i || level_above t stairs.tie_is_chain a b c tie i))) ∙ sym (stairs.is c b));
+      below = λ c. stairs.is a c ∙ ((λ i. (not (fa c i) && not (sa c i)) && (fb c i || (sb c i || level_below t stairs.tie_is_chain a b c tie i))) ∙ sym (stairs.is b c));
+    }
+
+module _ {E : Type 0} (over earlier better : E → E → Bool) (line : IsLine over earlier better) where
+  pub line_alike : (a b : E) → are_level (in_turn earlier better) a b ≡ true → StandAlike over a b
+  line_alike a b level =
+      let above : (c : E) → over c a ≡ over c b =
+      λ c. grind (arith, level, line.is c a, line.is c b, level_above earlier line.groups a b c, level_below earlier line.groups a b c, level_above better line.chain a b c) in
+      let below : (c : E) → over a c ≡ over b c =
+      λ c. grind (arith, level, line.is a c, line.is b c, level_above earlier line.groups a b c, level_below earlier line.groups a b c, level_below better line.chain a b c) in
+      record { above = above; below = below }
+
+  -- of classes in order, the last that dominates x has before it all others that do
+  last_over : (classes : List E) (x : E) → IsInOrder (in_turn earlier better) classes → 1 ≤ count_by (λ r. over r x) classes
+      → (r : E) × Among r classes × (over r x ≡ true) × (count_by (λ s. over s x) classes ≤ suc (count_by (λ s. over s r) classes))
+  last_over [] x rises some = absurd (omega (arith, some))
+  last_over (e ∷ others) x rises some =
+      let here = sum_by-cons (λ s. cond (over s x) 1 0) e others in
+      elim (cases_lt 0 (count_by (λ s. over s x) others)) [
+        | inl more ↦
+            let w = last_over others x rises.1 (omega (arith, more)) in
+            let before = rises.0 w.0 w.1 in
+            let stands : over e x ≡ true → over e w.0 ≡ true = λ h. grind (arith, h, before, w.2, line.is e x, line.is w.0 x, line.is e w.0, line.groups.between e w.0 x, line.groups.between x w.0 e) in
+            let there = sum_by-cons (λ s. cond (over s w.0) 1 0) e others in
+            (w.0, inr w.1, w.2, grind (arith, here, there, stands, w.3))
+        | inr none ↦
+            let dominates : over e x ≡ true = grind (arith, here, none, some) in
+            (e, inl refl, dominates, grind (arith, here, none, dominates))
+      ]
+
+  -- an entry that is level with one that dominates a third dominates it too
+  level_over : (a b c : E) → are_level (in_turn earlier better) a b ≡ true → over b c ≡ true → over a c ≡ true
+  level_over a b c level h = grind (arith, level, h, line.is b c, line.is a c, line.groups.between a b c, line.groups.between c b a, line.chain.between b a c)
+
+  strict_line : (a b c : E) → over a b ≡ true → over b c ≡ true → over a c ≡ true
+  strict_line a b c h k = grind (arith, h, k, line.is a b, line.is b c, line.is a c, line.groups.between a b c, line.groups.between c b a, line.chain.strict.transitive a b c)
+
+  level_back : (a b : E) → are_level (in_turn earlier better) a b ≡ true → are_level (in_turn earlier better) b a ≡ true
+  level_back a b h = grind (arith, h)
+
+  module _ (classes all : List E) (are : AreClassesOf (in_turn earlier better) classes all) where
+    -- n entries, each over the next, stand over x just where n classes dominate it
+    classes_above : (n : ℕ) (x : E) → comes_after over all n x ≡ true → n ≤ count_by (λ r. over r x) classes
+    classes_above zero x h = omega arith
+    classes_above (suc n) x h =
+        let w = any_gives (λ z. comes_after over all n z && over z x) all h in
+        let both = and_parts (comes_after over all n w.0) (over w.0 x) w.2 in
+        let r = are.covers w.0 w.1 in
+        let level = r.2 in
+        let each : (s : E) → cond {A = ℕ} (over s w.0) 1 0 + cond {A = ℕ} (are_level (in_turn earlier better) s r.0) 1 0 ≤ cond {A = ℕ} (over s x) 1 0 =
+        λ s. let back = level_back s r.0 in grind (arith, both.1, level, strict_line s w.0 x, level_over r.0 w.0 x, level_over s r.0 x, level_over r.0 s w.0, back, line.is r.0 w.0) in
+        let itself : are_level (in_turn earlier better) r.0 r.0 ≡ true = grind (arith, line.groups.strict.irreflexive r.0, line.chain.strict.irreflexive r.0) in
+        omega (
+          arith,
+          classes_above n w.0 both.0,
+          one_passes (λ s. are_level (in_turn earlier better) s r.0) classes r.0 r.1 itself,
+          count_both (λ s. over s w.0) (λ s. are_level (in_turn earlier better) s r.0) (λ s. over s x) classes each,
+        )
+
+    chain_above : (n : ℕ) (x : E) → n ≤ count_by (λ r. over r x) classes → comes_after over all n x ≡ true
+    chain_above zero x h = refl
+    chain_above (suc n) x h =
+        let w = last_over classes x are.rises (omega (arith, h)) in
+        any_from (λ z. comes_after over all n z && over z x) all w.0 (are.within w.0 w.1) (and_from (comes_after over all n w.0) (over w.0 x) (chain_above n w.0 (omega (arith, h, w.3))) w.2)
+
+    -- the levels: those behind as many classes
+    pub classes_of_level : (n : ℕ) (x : E) → Among x (best over (rest over all n)) → count_by (λ r. over r x) classes ≡ n
+    classes_of_level n x m =
+        let w = on_level over all n x m in
+        elim (cases_lt n (count_by (λ r. over r x) classes)) [
+          | inl more ↦ absurd (both_ways (comes_after over all (suc n) x) w.1 (chain_above (suc n) x (omega (arith, more))))
+          | inr most ↦ omega (arith, most, classes_above n x w.0)
+        ]
+
+    pub level_of_classes : (n : ℕ) (x : E) → Among x all → count_by (λ r. over r x) classes ≡ n → Among x (best over (rest over all n))
+    level_of_classes n x m count =
+        to_level over all n x m (chain_above n x (omega (arith, count)))
+        (false_from_ne_true (comes_after over all (suc n) x) (λ h. let many = classes_above (suc n) x h in omega (arith, many, count)))
+
+  -- a class of which all before it are of its group is behind as many as there are
+  behind_front : (front : List E) (r : E) (back : List E) (x : E) → IsInOrder (in_turn earlier better) (front ++ r ∷ back) → ((z : E) → Among z front → are_level earlier z r ≡ true)
+      → are_level (in_turn earlier better) r x ≡ true → count_by (λ s. over s x) (front ++ r ∷ back) ≡ length front
+  behind_front [] r back x rises group level =
+      elim (cases_lt 0 (count_by (λ s. over s x) (r ∷ back))) [
+        | inl some ↦
+            let w = last_over (r ∷ back) x rises (omega (arith, some)) in
+            elim w.1 [
+              | inl same ↦ let itself = ap (λ s. over s x) (sym same) ∙ w.2 in absurd (grind (arith, itself, level, line.is r x))
+              | inr m ↦ let before = rises.0 w.0 m in absurd (grind (arith, before, w.2, level_over r x w.0 level, line.is w.0 x, level, line.groups.between w.0 r x, line.chain.between w.0 r x))
+            ]
+        | inr none ↦ omega (arith, none)
+      ]
+  behind_front (e ∷ front) r back x rises group level =
+      let before = rises.0 r (in_right front (r ∷ back) r (inl refl)) in
+      let here : over e r ≡ true = grind (arith, before, group e (inl refl), line.is e r) in
+      let dominates : over e x ≡ true = grind (arith, here, level, line.is e r, line.is e x, line.groups.between e x r, line.groups.between x e r, line.chain.between e x r) in
+      grind (arith, behind_front front r back x rises.1 (λ z m. group z (inr m)) level, dominates, sum_by-cons (λ s. cond {A = ℕ} (over s x) 1 0) e (front ++ r ∷ back))
+
+  -- its place is its level
+  pub level_of_place : (front : List E) (r : E) (back all : List E) → AreClassesOf (in_turn earlier better) (front ++ r ∷ back) all → ((z : E) → Among z front → are_level earlier z r ≡ true)
+      → (x : E) → Among x all → are_level (in_turn earlier better) r x ≡ true → Among x (best over (rest over all (length front)))
+  level_of_place front r back all are group x m level = level_of_classes (front ++ r ∷ back) all are (length front) x m (behind_front front r back x are.rises group level)

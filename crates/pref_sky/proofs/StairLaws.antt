@@ -1,0 +1,178 @@
+-- Chains, and stairs: in the order of the first chain one entry stands for all before it.
+use Rattle.std.proofs.Common.{◌≡◌, Bool, true, false, not, ◌&&◌, ◌||◌, inl, inr, List, [], ◌∷◌, ◌++◌, refl, sym, ◌∙◌, ap, filter, arith}
+use Rattle.std.proofs.lemmas.Bool.{cases_Bool, both_ways, false_from_ne_true, cond-true, cond-false}
+use Rattle.pref_term.specs.Order.{IsStrictOrder}
+use Rattle.pref_sky.specs.Best.{best, is_beaten, without_best}
+use Rattle.pref_sky.specs.Stairs.{IsChain, AreStairs, IsLine, IsInOrder, AreApart, are_level, comes_first, in_turn, staying, falling}
+use Rattle.pref_sky.proofs.Members.{Among, any_from, any_gives, in_right, in_either}
+use Rattle.pref_sky.proofs.Removals.{same_answer}
+
+-- one chain, and where that sees no difference another one
+pub chain_in_turn : {E : Type 0} (f g : E → E → Bool) → IsChain f → IsChain g → IsChain (in_turn f g)
+chain_in_turn f g first second = record {
+  strict = record {
+    irreflexive = λ a. grind (arith, first.strict.irreflexive a, second.strict.irreflexive a);
+    transitive = λ a b c ab bc. grind (arith, first.strict.transitive a b c, first.between a b c, first.between a c b, first.between c b a, first.between b a c, second.strict.transitive a b c);
+  };
+  between = λ a b c ac ab. grind (arith, first.strict.transitive a b a, first.strict.irreflexive a, first.between a b c, first.between c b a, first.between b a c, second.between a b c);
+}
+
+-- and its converse
+pub converse_chain : {E : Type 0} (f : E → E → Bool) → IsChain f → IsChain (λ a b. f b a)
+converse_chain f chain = record {
+  strict = record { irreflexive = chain.strict.irreflexive; transitive = λ a b c ab bc. chain.strict.transitive c b a bc ab };
+  between = λ a b c ca ba. grind (arith, chain.between c b a ca);
+}
+
+-- two that are level compare alike with a third
+pub level_above : {E : Type 0} (f : E → E → Bool) → IsChain f → (a b c : E) → are_level f a b ≡ true → f c a ≡ f c b
+level_above f chain a b c level = grind (arith, level, chain.between c a b, chain.between c b a)
+
+pub level_below : {E : Type 0} (f : E → E → Bool) → IsChain f → (a b c : E) → are_level f a b ≡ true → f a c ≡ f b c
+level_below f chain a b c level = grind (arith, level, chain.between a b c, chain.between b a c)
+
+-- nothing dominates an entry that none of a list dominates
+none_beats : {E : Type 0} (over : E → E → Bool) (xs : List E) (x : E) → ((z : E) → Among z xs → over z x ≡ false) → is_beaten over xs x ≡ false
+none_beats over xs x none = false_from_ne_true (is_beaten over xs x) (λ h. let w = any_gives (λ z. over z x) xs h in both_ways (over w.0 x) (none w.0 w.1) w.2)
+
+-- those before one in a list in order
+before_it : {E : Type 0} (before : E → E → Bool) (front : List E) (y : E) (back : List E) → IsInOrder before (front ++ y ∷ back) → (z : E) → Among z front → before z y ≡ true
+before_it before [] y back h z m = absurd m
+before_it before (x ∷ front) y back h z m =
+    elim m [
+      | inl e ↦ ap (λ v. before v y) e ∙ h.0 y (in_right front (y ∷ back) y (inl refl))
+      | inr later ↦ before_it before front y back h.1 z later
+    ]
+
+module _ {E : Type 0} (over f s t : E → E → Bool) (stairs : AreStairs over f s t) where
+  pub strict_stairs : IsStrictOrder over
+  strict_stairs = record {
+    irreflexive = λ a. grind (arith, stairs.is a a, stairs.first_is_chain.strict.irreflexive a, stairs.second_is_chain.strict.irreflexive a, stairs.tie_is_chain.strict.irreflexive a);
+    transitive = λ a b c ab bc.
+        let first : f c a ≡ false = grind (arith, stairs.is a b, stairs.is b c, stairs.first_is_chain.between c b a) in
+        let second : s c a ≡ false = grind (arith, stairs.is a b, stairs.is b c, stairs.second_is_chain.between c b a) in
+        let not_first : f a c ≡ false → (f a b || f b c) ≡ false = λ n. grind (arith, stairs.is a b, stairs.is b c, stairs.first_is_chain.between a c b, stairs.first_is_chain.between b a c) in
+        let not_second : s a c ≡ false → (s a b || s b c) ≡ false = λ n. grind (arith, stairs.is a b, stairs.is b c, stairs.second_is_chain.between a c b, stairs.second_is_chain.between b a c) in
+        grind (arith, stairs.is a b, stairs.is b c, stairs.is a c, first, second, not_first, not_second, stairs.tie_is_chain.strict.transitive a b c);
+  }
+
+  -- a stands for b, which is before it, where neither of the two dominates the other
+  stands_for : (a b c : E) → f a b ≡ false → f c a ≡ false → over a b ≡ false → over b a ≡ false → over b c ≡ true → over a c ≡ true
+  stands_for a b c ab ca n m bc = grind (
+    arith,
+    stairs.is a b,
+    stairs.is b a,
+    stairs.is b c,
+    stairs.is a c,
+    stairs.first_is_chain.between b a c,
+    stairs.first_is_chain.between c b a,
+    stairs.second_is_chain.between b a c,
+    stairs.second_is_chain.between c b a,
+    stairs.second_is_chain.between a c b,
+    stairs.second_is_chain.strict.transitive b c a,
+    stairs.tie_is_chain.between b a c,
+  )
+
+  -- and is alike to what b is alike to
+  alike_for : (a b c : E) → f a b ≡ false → f c a ≡ false → over a b ≡ false → over b a ≡ false → are_level (comes_first f s t) b c ≡ true → are_level (comes_first f s t) a c ≡ true
+  alike_for a b c ab ca n m bc = grind (
+    arith,
+    stairs.is a b,
+    stairs.is b a,
+    stairs.first_is_chain.between b a c,
+    stairs.first_is_chain.between c a b,
+    stairs.first_is_chain.between a b c,
+    stairs.first_is_chain.between c b a,
+    stairs.second_is_chain.between a b c,
+    stairs.second_is_chain.between c a b,
+    stairs.second_is_chain.between c b a,
+    stairs.tie_is_chain.between a b c,
+    stairs.tie_is_chain.between c a b,
+  )
+
+  -- what does not come first does not dominate
+  later : (a b : E) → comes_first f s t b a ≡ false → over b a ≡ false
+  later a b h = grind (arith, stairs.is b a)
+
+  -- one candidate: of a level in order, the last one that is no worse than x in the first chain dominates x, or none does
+  pub last_stands_for_all : (front : List E) (y : E) (back : List E) (x : E) → IsInOrder (λ a b. not (f b a)) (front ++ y ∷ back) → AreApart over (front ++ y ∷ back)
+      → f x y ≡ false → ((z : E) → Among z back → f x z ≡ true) → is_beaten over (front ++ y ∷ back) x ≡ over y x
+  last_stands_for_all front y back x ordered apart reach beyond =
+      let level = front ++ y ∷ back in
+      let here = in_right front (y ∷ back) y (inl refl) in
+      same_answer (is_beaten over level x) (over y x)
+      (λ h.
+      let w = any_gives (λ z. over z x) level h in
+      elim (in_either front (y ∷ back) w.0 w.1) [
+        | inl m ↦ let before = before_it (λ a b. not (f b a)) front y back ordered w.0 m in stands_for y w.0 x (grind (arith, before)) reach (apart y w.0 here w.1) (apart w.0 y w.1 here) w.2
+        | inr m ↦ elim m [ inl same ↦ ap (λ v. over v x) (sym same) ∙ w.2 | inr n ↦ grind (arith, stairs.is w.0 x, beyond w.0 n, w.2) ]
+      ])
+      (λ h. any_from (λ z. over z x) level y here h)
+
+  -- and where one of the level is alike to x, so is that one
+  pub last_is_alike : (front : List E) (y : E) (back : List E) (x z : E) → IsInOrder (λ a b. not (f b a)) (front ++ y ∷ back) → AreApart over (front ++ y ∷ back)
+      → f x y ≡ false → ((w : E) → Among w back → f x w ≡ true) → Among z (front ++ y ∷ back) → are_level (comes_first f s t) z x ≡ true → are_level (comes_first f s t) y x ≡ true
+  last_is_alike front y back x z ordered apart reach beyond m alike =
+      let here = in_right front (y ∷ back) y (inl refl) in
+      elim (in_either front (y ∷ back) z m) [
+        | inl n ↦ let before = before_it (λ a b. not (f b a)) front y back ordered z n in alike_for y z x (grind (arith, before)) reach (apart y z here m) (apart z y m here) alike
+        | inr n ↦ elim n [ inl same ↦ ap (λ v. are_level (comes_first f s t) v x) (sym same) ∙ alike | inr k ↦ grind (arith, beyond z k, alike) ]
+      ]
+
+  -- where none is no worse in the first chain, none dominates
+  pub none_reaches : (level : List E) (x : E) → ((z : E) → Among z level → f x z ≡ true) → is_beaten over level x ≡ false
+  none_reaches level x beyond = none_beats over level x (λ z m. grind (arith, stairs.is z x, beyond z m))
+
+  -- the sweep: y stayed last, and what is left and dominated at all is dominated by y or by one of those left
+  swept : (beaten : E → Bool) (y : E) (left : List E) → IsInOrder (λ a b. not (comes_first f s t b a)) (y ∷ left) → ((z : E) → Among z left → beaten z ≡ is_beaten over (y ∷ left) z)
+      → (staying over y left ≡ filter (λ e. not (beaten e)) left) × (falling over y left ≡ filter beaten left)
+  swept beaten y [] ordered is = (refl, refl)
+  swept beaten y (x ∷ others) ordered is =
+      let kept = filter (λ e. not (beaten e)) others in
+      let lost = filter beaten others in
+      let none = none_beats over others x (λ z m. later x z (grind (arith, ordered.1.0 z m))) in
+      let here : beaten x ≡ over y x = grind (arith, is x (inl refl), none, strict_stairs.irreflexive x) in
+      elim (cases_Bool (over y x)) [
+        | inl h ↦
+            let deeper = swept beaten y others ((λ z m. ordered.0 z (inr m)), ordered.1.1) (λ z m. is z (inr m) ∙ grind (arith, strict_stairs.transitive y x z h)) in (
+              cond-true (over y x) (staying over y others) (x ∷ staying over x others) h ∙ (deeper.0 ∙ sym (cond-false (not (beaten x)) (x ∷ kept) kept (grind (arith, here, h)))),
+              cond-true (over y x) (x ∷ falling over y others) (falling over x others) h ∙ (ap (λ l. x ∷ l) deeper.1 ∙ sym (cond-true (beaten x) (x ∷ lost) lost (here ∙ h))),
+            )
+        | inr n ↦
+            let stands : (z : E) → Among z others → over y z ≡ true → over x z ≡ true =
+            λ z m o. stands_for x y z (grind (arith, ordered.0 x (inl refl))) (grind (arith, ordered.1.0 z m)) (later y x (grind (arith, ordered.0 x (inl refl)))) n o in
+            let deeper = swept beaten x others ordered.1 (λ z m. is z (inr m) ∙ grind (arith, stands z m)) in (
+              cond-false (over y x) (staying over y others) (x ∷ staying over x others) n ∙ (ap (λ l. x ∷ l) deeper.0 ∙ sym (cond-true (not (beaten x)) (x ∷ kept) kept (grind (arith, here, n)))),
+              cond-false (over y x) (x ∷ falling over y others) (falling over x others) n ∙ (deeper.1 ∙ sym (cond-false (beaten x) (x ∷ lost) lost (here ∙ n))),
+            )
+      ]
+
+  -- of entries in order those that stay are the best, and those that go down the others
+  pub sweep_finds_best : (y : E) (left : List E) → IsInOrder (λ a b. not (comes_first f s t b a)) (y ∷ left)
+      → (y ∷ staying over y left ≡ best over (y ∷ left)) × (falling over y left ≡ without_best over (y ∷ left))
+  sweep_finds_best y left ordered =
+      let beaten = is_beaten over (y ∷ left) in
+      let found = swept beaten y left ordered (λ z m. refl) in
+      let none = none_beats over left y (λ z m. later y z (grind (arith, ordered.0 z m))) in
+      let free : beaten y ≡ false = grind (arith, none, strict_stairs.irreflexive y) in
+      let kept = filter (λ e. not (beaten e)) left in (
+        ap (λ l. y ∷ l) found.0 ∙ sym (cond-true (not (beaten y)) (y ∷ kept) kept (grind (arith, free))),
+        found.1 ∙ sym (cond-false (beaten y) (y ∷ filter beaten left) (filter beaten left) free),
+      )
+
+  -- within groups: stairs whose first chain begins with the groups, and the second with their converse
+  pub grouped_stairs : (earlier : E → E → Bool) → IsChain earlier → AreStairs (λ a b. are_level earlier a b && over a b) (in_turn earlier f) (in_turn (λ a b. earlier b a) s) t
+  grouped_stairs earlier groups = record {
+    first_is_chain = chain_in_turn earlier f groups stairs.first_is_chain;
+    second_is_chain = chain_in_turn (λ a b. earlier b a) s (converse_chain earlier groups) stairs.second_is_chain;
+    tie_is_chain = stairs.tie_is_chain;
+    is = λ a b. grind (arith, stairs.is a b);
+  }
+
+-- where both are one chain within groups, they are a line
+pub line_of_one : {E : Type 0} (over earlier f s t : E → E → Bool) → ((a b : E) → f a b ≡ s a b) → IsChain earlier → IsChain f → AreStairs over (in_turn earlier f) (in_turn (λ a b. earlier b a) s) t → IsLine over earlier (in_turn f t)
+line_of_one over earlier f s t one groups chain stairs = record {
+  groups = groups;
+  chain = chain_in_turn f t chain stairs.tie_is_chain;
+  is = λ a b. grind (arith, stairs.is a b, one a b, one b a, chain.strict.transitive a b a, chain.strict.irreflexive a);
+}

@@ -1,0 +1,93 @@
+-- Orders that are one chain, or a product of two chains, within groups, and lists in their order, where one entry is asked in place of all. (this project)
+use Rattle.std.specs.Prelude.{⊤, ◌≡◌, Bool, true, false, cond, not, ◌&&◌, ◌||◌, int_lt, nat_lt, ℕ, suc, ℤ, List, [], ◌∷◌}
+use Rattle.pref_term.specs.Better.{cell, in_same_group}
+use Rattle.pref_term.specs.Chains.{by_chain, by_chains, first_chain, second_chain}
+use Rattle.pref_term.specs.Order.{IsStrictOrder, RowOrder, StandAlike, is_better, is_same}
+use Rattle.pref_term.specs.declared.chains.Chains.{Chains}
+use Rattle.pref_term.specs.declared.key.Key.{Key}
+use Rattle.pref_sky.specs.Members.{Among}
+use Rattle.pref_sky.specs.declared.entry.Entry.{Entry}
+
+-- a chain is a weak order: what is better than another is better than any third, or that third is better than the other
+pub record IsChain {E : Type 0} (better : E → E → Bool) : Type 0 where
+  pub strict : IsStrictOrder better
+  pub between : (a b c : E) → better a c ≡ true → better a b ≡ false → better b c ≡ true
+
+-- neither is better
+abbrev pub are_level : {E : Type 0} → (E → E → Bool) → E → E → Bool
+are_level better a b = not (better a b) && not (better b a)
+
+-- by the first, and where that sees no difference by the second
+abbrev pub in_turn : {E : Type 0} → (E → E → Bool) → (E → E → Bool) → E → E → Bool
+in_turn first second a b = first a b || (are_level first a b && second a b)
+
+-- stairs are (first * second) & tie: no worse in both chains, and better in one of them or in the tie
+pub record AreStairs {E : Type 0} (over first second tie : E → E → Bool) : Type 0 where
+  pub first_is_chain : IsChain first
+  pub second_is_chain : IsChain second
+  pub tie_is_chain : IsChain tie
+  pub is : (a b : E) → over a b ≡ ((not (first b a) && not (second b a)) && (first a b || (second a b || tie a b)))
+
+-- a line is one chain within each group; `earlier` is an order of the groups
+pub record IsLine {E : Type 0} (over earlier better : E → E → Bool) : Type 0 where
+  pub groups : IsChain earlier
+  pub chain : IsChain better
+  pub is : (a b : E) → over a b ≡ (are_level earlier a b && better a b)
+
+-- a comes before b by the first chain, then the second, then the tie
+abbrev pub comes_first : {E : Type 0} → (E → E → Bool) → (E → E → Bool) → (E → E → Bool) → E → E → Bool
+comes_first first second tie = in_turn first (in_turn second tie)
+
+-- each stands before all later ones
+abbrev pub IsInOrder : {E : Type 0} → (E → E → Bool) → List E → Type 0
+IsInOrder before [] = ⊤
+IsInOrder {E = E} before (e ∷ others) = ((x : E) → Among x others → before e x ≡ true) × IsInOrder before others
+
+-- no entry of the list dominates another
+abbrev pub AreApart : {E : Type 0} → (E → E → Bool) → List E → Type 0
+AreApart {E = E} over xs = (x y : E) → Among x xs → Among y xs → over x y ≡ false
+
+-- of entries behind one that stays: those that stay where only the last that stayed is asked
+abbrev pub staying : {E : Type 0} → (E → E → Bool) → E → List E → List E
+staying over last [] = []
+staying over last (e ∷ others) = cond (over last e) (staying over last others) (e ∷ staying over e others)
+
+-- and those that go down
+abbrev pub falling : {E : Type 0} → (E → E → Bool) → E → List E → List E
+falling over last [] = []
+falling over last (e ∷ others) = cond (over last e) (e ∷ falling over last others) (falling over e others)
+
+-- one of each class of a list, in order: each of the list is level with one of them, and they are of the list
+pub record AreClassesOf {E : Type 0} (better : E → E → Bool) (classes all : List E) : Type 0 where
+  pub rises : IsInOrder better classes
+  pub within : (r : E) → Among r classes → Among r all
+  pub covers : (x : E) → Among x all → (r : E) × Among r classes × (are_level better r x ≡ true)
+
+-- by a list of keys
+abbrev pub better_in : List Key → List ℤ → List ℤ → Bool
+better_in keys a b = is_better (by_chain keys a b)
+
+-- by the first of these columns in which the cells differ, of which the smaller one is earlier
+abbrev pub earlier_in : List ℕ → List ℤ → List ℤ → Bool
+earlier_in [] a b = false
+earlier_in (col ∷ columns) a b = in_turn (λ x y. int_lt (cell x col) (cell y col)) (earlier_in columns) a b
+
+-- the two chains, each with the groups before its keys, once in one order and once in the converse
+abbrev pub first_within : List ℕ → Chains → List ℤ → List ℤ → Bool
+first_within columns chains = in_turn (earlier_in columns) (better_in (first_chain chains))
+
+abbrev pub second_within : List ℕ → Chains → List ℤ → List ℤ → Bool
+second_within columns chains = in_turn (λ a b. earlier_in columns b a) (better_in (second_chain chains))
+
+-- of entries, by their rows
+abbrev pub by_row : (List ℤ → List ℤ → Bool) → Entry → Entry → Bool
+by_row better a b = better a.row b.row
+
+-- the smaller id is earlier of two entries that have twins; one without is earlier than one with
+abbrev pub earlier_twin : RowOrder → Entry → Entry → Bool
+earlier_twin order a b = nat_lt (cond (order.twin a.row a.row) (suc a.id) 0) (cond (order.twin b.row b.row) (suc b.id) 0)
+
+-- rows of a group that are the same in both chains have the same twins
+abbrev pub HaveSameTwins : RowOrder → List ℕ → Chains → Type 0
+HaveSameTwins order columns chains =
+    (a b : List ℤ) → (in_same_group columns a b && is_same (by_chains chains a b)) ≡ true → StandAlike order.twin a b
