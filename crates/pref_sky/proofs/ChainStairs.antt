@@ -88,9 +88,9 @@ same_in keys a b = grind (arith, sides keys a b)
 
 -- ---- the product of two chains
 
-product_better : (r s : Relation) (rw_ sw : Bool) → is_worse r ≡ rw_ → is_worse s ≡ sw → is_same r ≡ (not (is_better r) && not rw_) → is_same s ≡ (not (is_better s) && not sw)
-    → is_better (in_product r s) ≡ ((not rw_ && not sw) && (is_better r || (is_better s || false)))
-product_better r s rw_ sw h k l m = grind (arith, h, k, l, m)
+product_better : (r s : Relation) (p q : Bool) → is_worse r ≡ p → is_worse s ≡ q → is_same r ≡ (not (is_better r) && not p) → is_same s ≡ (not (is_better s) && not q)
+    → is_better (in_product r s) ≡ ((not p && not q) && (is_better r || (is_better s || false)))
+product_better r s p q h k l m = grind (arith, h, k, l, m)
 
 product_same : (r s : Relation) → is_same (in_product r s) ≡ (is_same r && is_same s)
 product_same r s = grind arith

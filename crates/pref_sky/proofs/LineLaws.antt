@@ -1,4 +1,4 @@
--- Lines: an entry is of the level behind as many classes as dominate it. Alike entries are of one level.
+-- Classes: alike entries are of one level, and one of each class has the levels. In a line an entry is of the level behind as many classes as dominate it.
 use Rattle.std.proofs.Common.{◌≡◌, ℕ, zero, suc, ◌≤◌, ◌+◌, Bool, true, false, cond, not, ◌&&◌, ◌||◌, inl, inr, List, [], ◌∷◌, ◌++◌, length, refl, sym, ◌∙◌, ap, subst, arith}
 use Rattle.std.specs.List.{count_by}
 use Rattle.std.proofs.lemmas.Bool.{cases_lt, both_ways, and_parts, and_from, false_from_ne_true}
@@ -9,7 +9,7 @@ use Rattle.pref_sky.specs.Stairs.{AreClassesOf, AreStairs, IsInOrder, IsLine, ar
 use Rattle.pref_sky.proofs.LevelLaws.{count_both}
 use Rattle.pref_sky.proofs.Members.{Among, any_from, any_gives, in_filter, from_filter, in_right}
 use Rattle.pref_sky.proofs.Orders.{one_passes}
-use Rattle.pref_sky.proofs.Removals.{comes_after, best_of_rest_is}
+use Rattle.pref_sky.proofs.Removals.{comes_after, comes_after_among_more, best_of_rest_is, same_answer}
 use Rattle.pref_sky.proofs.StairLaws.{level_above, level_below}
 
 -- the entries of one level
@@ -30,12 +30,39 @@ alike_come_after over all a b alike (suc n) h =
     let w = any_gives (λ z. comes_after over all n z && over z a) all h in
     any_from (λ z. comes_after over all n z && over z b) all w.0 w.1 (sym (ap (λ t. comes_after over all n w.0 && t) (alike.above w.0)) ∙ w.2)
 
+alike_back : {E : Type 0} (over : E → E → Bool) (a b : E) → StandAlike over a b → StandAlike over b a
+alike_back over a b alike = record { above = λ c. sym (alike.above c); below = λ c. sym (alike.below c) }
+
 pub alike_on_one_level : {E : Type 0} (over : E → E → Bool) (all : List E) (a b : E) → StandAlike over a b → Among b all → (n : ℕ) → Among a (best over (rest over all n)) → Among b (best over (rest over all n))
 alike_on_one_level over all a b alike mb n m =
     let w = on_level over all n a m in
-    let back : StandAlike over b a = record { above = λ c. sym (alike.above c); below = λ c. sym (alike.below c) } in
     to_level over all n b mb (alike_come_after over all a b alike n w.0)
-    (false_from_ne_true (comes_after over all (suc n) b) (λ h. both_ways (comes_after over all (suc n) a) w.1 (alike_come_after over all b a back (suc n) h)))
+    (false_from_ne_true (comes_after over all (suc n) b) (λ h. both_ways (comes_after over all (suc n) a) w.1 (alike_come_after over all b a (alike_back over a b alike) (suc n) h)))
+
+-- entries with one of each class have the chains of all
+from_all : {E : Type 0} (over : E → E → Bool) (classes all : List E) → AreClassesOf over classes all → (n : ℕ) (x : E) → comes_after over all n x ≡ true → comes_after over classes n x ≡ true
+from_all over classes all are zero x h = refl
+from_all over classes all are (suc n) x h =
+    let w = any_gives (λ z. comes_after over all n z && over z x) all h in
+    let both = and_parts (comes_after over all n w.0) (over w.0 x) w.2 in
+    let r = are.covers w.0 w.1 in
+    let there = from_all over classes all are n r.0 (alike_come_after over all w.0 r.0 (alike_back over r.0 w.0 r.2) n both.0) in
+    any_from (λ z. comes_after over classes n z && over z x) classes r.0 r.1 (and_from (comes_after over classes n r.0) (over r.0 x) there (r.2.below x ∙ both.1))
+
+chains_of_classes : {E : Type 0} (over : E → E → Bool) (classes all : List E) → AreClassesOf over classes all → (n : ℕ) (x : E) → comes_after over classes n x ≡ comes_after over all n x
+chains_of_classes over classes all are n x =
+    same_answer (comes_after over classes n x) (comes_after over all n x) (comes_after_among_more over classes all are.within n x) (from_all over classes all are n x)
+
+-- and so their levels
+pub level_among_all : {E : Type 0} (over : E → E → Bool) (classes all : List E) → AreClassesOf over classes all → (n : ℕ) (r : E) → Among r classes → Among r (best over (rest over classes n)) → Among r (best over (rest over all n))
+level_among_all over classes all are n r mr m =
+    let w = on_level over classes n r m in
+    to_level over all n r (are.within r mr) (sym (chains_of_classes over classes all are n r) ∙ w.0) (sym (chains_of_classes over classes all are (suc n) r) ∙ w.1)
+
+pub level_among_classes : {E : Type 0} (over : E → E → Bool) (classes all : List E) → AreClassesOf over classes all → (n : ℕ) (r : E) → Among r classes → Among r (best over (rest over all n)) → Among r (best over (rest over classes n))
+level_among_classes over classes all are n r mr m =
+    let w = on_level over all n r m in
+    to_level over classes n r mr (chains_of_classes over classes all are n r ∙ w.0) (chains_of_classes over classes all are (suc n) r ∙ w.1)
 
 -- which are alike
 pub stairs_alike : {E : Type 0} (over f s t : E → E → Bool) → AreStairs over f s t → (a b : E) → are_level (comes_first f s t) a b ≡ true → StandAlike over a b
@@ -86,68 +113,64 @@ module _ {E : Type 0} (over earlier better : E → E → Bool) (line : IsLine ov
   strict_line : (a b c : E) → over a b ≡ true → over b c ≡ true → over a c ≡ true
   strict_line a b c h k = grind (arith, h, k, line.is a b, line.is b c, line.is a c, line.groups.between a b c, line.groups.between c b a, line.chain.strict.transitive a b c)
 
-  level_back : (a b : E) → are_level (in_turn earlier better) a b ≡ true → are_level (in_turn earlier better) b a ≡ true
-  level_back a b h = grind (arith, h)
-
-  module _ (classes all : List E) (are : AreClassesOf (in_turn earlier better) classes all) where
-    -- n entries, each over the next, stand over x just where n classes dominate it
-    classes_above : (n : ℕ) (x : E) → comes_after over all n x ≡ true → n ≤ count_by (λ r. over r x) classes
+  module _ (classes all : List E) (rises : IsInOrder (in_turn earlier better) classes) (are : AreClassesOf over classes all) where
+    -- n classes, each over the next, stand over x just where n classes dominate it
+    classes_above : (n : ℕ) (x : E) → comes_after over classes n x ≡ true → n ≤ count_by (λ r. over r x) classes
     classes_above zero x h = omega arith
     classes_above (suc n) x h =
-        let w = any_gives (λ z. comes_after over all n z && over z x) all h in
-        let both = and_parts (comes_after over all n w.0) (over w.0 x) w.2 in
-        let r = are.covers w.0 w.1 in
-        let level = r.2 in
-        let each : (s : E) → cond {A = ℕ} (over s w.0) 1 0 + cond {A = ℕ} (are_level (in_turn earlier better) s r.0) 1 0 ≤ cond {A = ℕ} (over s x) 1 0 =
-        λ s. let back = level_back s r.0 in grind (arith, both.1, level, strict_line s w.0 x, level_over r.0 w.0 x, level_over s r.0 x, level_over r.0 s w.0, back, line.is r.0 w.0) in
-        let itself : are_level (in_turn earlier better) r.0 r.0 ≡ true = grind (arith, line.groups.strict.irreflexive r.0, line.chain.strict.irreflexive r.0) in
+        let w = any_gives (λ z. comes_after over classes n z && over z x) classes h in
+        let both = and_parts (comes_after over classes n w.0) (over w.0 x) w.2 in
+        let each : (s : E) → cond {A = ℕ} (over s w.0) 1 0 + cond {A = ℕ} (are_level (in_turn earlier better) s w.0) 1 0 ≤ cond {A = ℕ} (over s x) 1 0 =
+        λ s. grind (arith, both.1, strict_line s w.0 x, level_over s w.0 x, line.is s w.0) in
+        let itself : are_level (in_turn earlier better) w.0 w.0 ≡ true = grind (arith, line.groups.strict.irreflexive w.0, line.chain.strict.irreflexive w.0) in
         omega (
           arith,
           classes_above n w.0 both.0,
-          one_passes (λ s. are_level (in_turn earlier better) s r.0) classes r.0 r.1 itself,
-          count_both (λ s. over s w.0) (λ s. are_level (in_turn earlier better) s r.0) (λ s. over s x) classes each,
+          one_passes (λ s. are_level (in_turn earlier better) s w.0) classes w.0 w.1 itself,
+          count_both (λ s. over s w.0) (λ s. are_level (in_turn earlier better) s w.0) (λ s. over s x) classes each,
         )
 
-    chain_above : (n : ℕ) (x : E) → n ≤ count_by (λ r. over r x) classes → comes_after over all n x ≡ true
+    chain_above : (n : ℕ) (x : E) → n ≤ count_by (λ r. over r x) classes → comes_after over classes n x ≡ true
     chain_above zero x h = refl
     chain_above (suc n) x h =
-        let w = last_over classes x are.rises (omega (arith, h)) in
-        any_from (λ z. comes_after over all n z && over z x) all w.0 (are.within w.0 w.1) (and_from (comes_after over all n w.0) (over w.0 x) (chain_above n w.0 (omega (arith, h, w.3))) w.2)
+        let w = last_over classes x rises (omega (arith, h)) in
+        any_from (λ z. comes_after over classes n z && over z x) classes w.0 w.1 (and_from (comes_after over classes n w.0) (over w.0 x) (chain_above n w.0 (omega (arith, h, w.3))) w.2)
 
     -- the levels: those behind as many classes
     pub classes_of_level : (n : ℕ) (x : E) → Among x (best over (rest over all n)) → count_by (λ r. over r x) classes ≡ n
     classes_of_level n x m =
         let w = on_level over all n x m in
         elim (cases_lt n (count_by (λ r. over r x) classes)) [
-          | inl more ↦ absurd (both_ways (comes_after over all (suc n) x) w.1 (chain_above (suc n) x (omega (arith, more))))
-          | inr most ↦ omega (arith, most, classes_above n x w.0)
+          | inl more ↦ absurd (both_ways (comes_after over classes (suc n) x) (chains_of_classes over classes all are (suc n) x ∙ w.1) (chain_above (suc n) x (omega (arith, more))))
+          | inr most ↦ omega (arith, most, classes_above n x (chains_of_classes over classes all are n x ∙ w.0))
         ]
 
     pub level_of_classes : (n : ℕ) (x : E) → Among x all → count_by (λ r. over r x) classes ≡ n → Among x (best over (rest over all n))
     level_of_classes n x m count =
-        to_level over all n x m (chain_above n x (omega (arith, count)))
-        (false_from_ne_true (comes_after over all (suc n) x) (λ h. let many = classes_above (suc n) x h in omega (arith, many, count)))
+        to_level over all n x m (sym (chains_of_classes over classes all are n x) ∙ chain_above n x (omega (arith, count)))
+        (sym (chains_of_classes over classes all are (suc n) x) ∙ false_from_ne_true (comes_after over classes (suc n) x) (λ h. let many = classes_above (suc n) x h in omega (arith, many, count)))
 
-  -- a class of which all before it are of its group is behind as many as there are
+  -- what is alike to a class of which all before it are of its group is behind as many as there are
   behind_front : (front : List E) (r : E) (back : List E) (x : E) → IsInOrder (in_turn earlier better) (front ++ r ∷ back) → ((z : E) → Among z front → are_level earlier z r ≡ true)
-      → are_level (in_turn earlier better) r x ≡ true → count_by (λ s. over s x) (front ++ r ∷ back) ≡ length front
-  behind_front [] r back x rises group level =
+      → StandAlike over r x → count_by (λ s. over s x) (front ++ r ∷ back) ≡ length front
+  behind_front [] r back x rises group alike =
       elim (cases_lt 0 (count_by (λ s. over s x) (r ∷ back))) [
         | inl some ↦
             let w = last_over (r ∷ back) x rises (omega (arith, some)) in
+            let dominates : over w.0 r ≡ true = alike.above w.0 ∙ w.2 in
+            let irreflexive = line.chain.strict.irreflexive r in
             elim w.1 [
-              | inl same ↦ let itself = ap (λ s. over s x) (sym same) ∙ w.2 in absurd (grind (arith, itself, level, line.is r x))
-              | inr m ↦ let before = rises.0 w.0 m in absurd (grind (arith, before, w.2, level_over r x w.0 level, line.is w.0 x, level, line.groups.between w.0 r x, line.chain.between w.0 r x))
+              | inl same ↦ let itself = ap (λ s. over s r) (sym same) ∙ dominates in absurd (grind (arith, itself, irreflexive, line.is r r))
+              | inr m ↦ let before = rises.0 w.0 m in absurd (grind (arith, before, dominates, line.is w.0 r, line.chain.strict.transitive r w.0 r, irreflexive))
             ]
         | inr none ↦ omega (arith, none)
       ]
-  behind_front (e ∷ front) r back x rises group level =
+  behind_front (e ∷ front) r back x rises group alike =
       let before = rises.0 r (in_right front (r ∷ back) r (inl refl)) in
-      let here : over e r ≡ true = grind (arith, before, group e (inl refl), line.is e r) in
-      let dominates : over e x ≡ true = grind (arith, here, level, line.is e r, line.is e x, line.groups.between e x r, line.groups.between x e r, line.chain.between e x r) in
-      grind (arith, behind_front front r back x rises.1 (λ z m. group z (inr m)) level, dominates, sum_by-cons (λ s. cond {A = ℕ} (over s x) 1 0) e (front ++ r ∷ back))
+      let dominates : over e r ≡ true = grind (arith, before, group e (inl refl), line.is e r) in
+      grind (arith, behind_front front r back x rises.1 (λ z m. group z (inr m)) alike, dominates, alike.above e, sum_by-cons (λ s. cond {A = ℕ} (over s x) 1 0) e (front ++ r ∷ back))
 
   -- its place is its level
-  pub level_of_place : (front : List E) (r : E) (back all : List E) → AreClassesOf (in_turn earlier better) (front ++ r ∷ back) all → ((z : E) → Among z front → are_level earlier z r ≡ true)
-      → (x : E) → Among x all → are_level (in_turn earlier better) r x ≡ true → Among x (best over (rest over all (length front)))
-  level_of_place front r back all are group x m level = level_of_classes (front ++ r ∷ back) all are (length front) x m (behind_front front r back x are.rises group level)
+  pub level_of_place : (front : List E) (r : E) (back all : List E) → IsInOrder (in_turn earlier better) (front ++ r ∷ back) → AreClassesOf over (front ++ r ∷ back) all
+      → ((z : E) → Among z front → are_level earlier z r ≡ true) → (x : E) → Among x all → StandAlike over r x → Among x (best over (rest over all (length front)))
+  level_of_place front r back all rises are group x m alike = level_of_classes (front ++ r ∷ back) all rises are (length front) x m (behind_front front r back x rises group alike)

@@ -57,11 +57,10 @@ abbrev pub falling : {E : Type 0} → (E → E → Bool) → E → List E → Li
 falling over last [] = []
 falling over last (e ∷ others) = cond (over last e) (e ∷ falling over last others) (falling over e others)
 
--- one of each class of a list, in order: each of the list is level with one of them, and they are of the list
-pub record AreClassesOf {E : Type 0} (better : E → E → Bool) (classes all : List E) : Type 0 where
-  pub rises : IsInOrder better classes
+-- entries of a list, one at least of each class: each of the list is alike to one of them
+pub record AreClassesOf {E : Type 0} (over : E → E → Bool) (classes all : List E) : Type 0 where
   pub within : (r : E) → Among r classes → Among r all
-  pub covers : (x : E) → Among x all → (r : E) × Among r classes × (are_level better r x ≡ true)
+  pub covers : (x : E) → Among x all → (r : E) × Among r classes × StandAlike over r x
 
 -- by a list of keys
 abbrev pub better_in : List Key → List ℤ → List ℤ → Bool

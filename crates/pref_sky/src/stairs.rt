@@ -54,20 +54,6 @@ pub fn one_list_serves_all_groups()
         ≡ in_turn earlier (comes_first first second tie) a b }
 {}
 
-/// A line: an entry is of the level behind as many classes as dominate it. In a list of one group that is the place of its class.
-pub fn a_line_has_the_levels()
-    ensures level { (over earlier better : Entry → Entry → Bool) → IsLine over earlier better
-        → (classes all : List Entry) → AreClassesOf (in_turn earlier better) classes all
-        → (n : ℕ) (x : Entry) → Among x (best over (rest over all n)) → count_by (λ r. over r x) classes ≡ n }
-    ensures each { (over earlier better : Entry → Entry → Bool) → IsLine over earlier better
-        → (classes all : List Entry) → AreClassesOf (in_turn earlier better) classes all
-        → (n : ℕ) (x : Entry) → Among x all → count_by (λ r. over r x) classes ≡ n → Among x (best over (rest over all n)) }
-    ensures place { (over earlier better : Entry → Entry → Bool) → IsLine over earlier better
-        → (front : List Entry) (r : Entry) (back all : List Entry) → AreClassesOf (in_turn earlier better) (front ++ r ∷ back) all
-        → ((z : Entry) → Among z front → are_level earlier z r ≡ true)
-        → (x : Entry) → Among x all → are_level (in_turn earlier better) r x ≡ true → Among x (best over (rest over all (length front))) }
-{}
-
 /// Alike entries are of one level: what dominates one dominates the other, and they dominate the same. In stairs those are alike that are
 /// level in both chains and the tie, in a line those that are of one group and level in its chain.
 pub fn alike_are_of_one_level()
@@ -77,6 +63,30 @@ pub fn alike_are_of_one_level()
         → (a b : Entry) → are_level (comes_first first second tie) a b ≡ true → StandAlike over a b }
     ensures line { (over earlier better : Entry → Entry → Bool) → IsLine over earlier better
         → (a b : Entry) → are_level (in_turn earlier better) a b ≡ true → StandAlike over a b }
+{}
+
+/// One of each class has the levels: it is of one level among these as among all.
+pub fn one_of_each_class_has_the_levels()
+    ensures level { (over : Entry → Entry → Bool) (classes all : List Entry) → AreClassesOf over classes all
+        → (n : ℕ) (r : Entry) → Among r classes → Among r (best over (rest over classes n)) → Among r (best over (rest over all n)) }
+    ensures each { (over : Entry → Entry → Bool) (classes all : List Entry) → AreClassesOf over classes all
+        → (n : ℕ) (r : Entry) → Among r classes → Among r (best over (rest over all n)) → Among r (best over (rest over classes n)) }
+{}
+
+/// A line: an entry is of the level behind as many classes as dominate it. Where all before its class are of its group, that is the
+/// place of the class.
+pub fn a_line_has_the_levels()
+    ensures level { (over earlier better : Entry → Entry → Bool) → IsLine over earlier better
+        → (classes all : List Entry) → IsInOrder (in_turn earlier better) classes → AreClassesOf over classes all
+        → (n : ℕ) (x : Entry) → Among x (best over (rest over all n)) → count_by (λ r. over r x) classes ≡ n }
+    ensures each { (over earlier better : Entry → Entry → Bool) → IsLine over earlier better
+        → (classes all : List Entry) → IsInOrder (in_turn earlier better) classes → AreClassesOf over classes all
+        → (n : ℕ) (x : Entry) → Among x all → count_by (λ r. over r x) classes ≡ n → Among x (best over (rest over all n)) }
+    ensures place { (over earlier better : Entry → Entry → Bool) → IsLine over earlier better
+        → (front : List Entry) (r : Entry) (back all : List Entry)
+        → IsInOrder (in_turn earlier better) (front ++ r ∷ back) → AreClassesOf over (front ++ r ∷ back) all
+        → ((z : Entry) → Among z front → are_level earlier z r ≡ true)
+        → (x : Entry) → Among x all → StandAlike over r x → Among x (best over (rest over all (length front))) }
 {}
 
 /// A list of keys is a chain, whose comparison of two rows says of both which is better; and columns are an order of their groups.
