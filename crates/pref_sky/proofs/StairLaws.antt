@@ -1,10 +1,10 @@
 -- Chains, and stairs: in the order of the first chain one entry stands for all before it.
-use Rattle.std.proofs.Common.{◌≡◌, Bool, true, false, not, ◌&&◌, ◌||◌, inl, inr, List, [], ◌∷◌, ◌++◌, refl, sym, ◌∙◌, ap, filter, arith}
-use Rattle.std.proofs.lemmas.Bool.{cases_Bool, both_ways, false_from_ne_true, cond-true, cond-false}
+use Rattle.std.proofs.Common.{◌≡◌, Bool, true, false, not, ◌&&◌, ◌||◌, inl, inr, List, [], ◌∷◌, ◌++◌, refl, sym, ◌∙◌, ap, subst, filter, arith}
+use Rattle.std.proofs.lemmas.Bool.{cases_Bool, both_ways, false_from_ne_true, cond_both, cond-true, cond-false}
 use Rattle.pref_term.specs.Order.{IsStrictOrder}
 use Rattle.pref_sky.specs.Best.{best, is_beaten, without_best}
 use Rattle.pref_sky.specs.Stairs.{IsChain, AreStairs, IsLine, IsInOrder, AreApart, are_level, comes_first, in_turn, staying, falling}
-use Rattle.pref_sky.proofs.Members.{Among, any_from, any_gives, in_right, in_either}
+use Rattle.pref_sky.proofs.Members.{Among, any_from, any_gives, from_filter, in_right, in_either}
 use Rattle.pref_sky.proofs.Removals.{same_answer}
 
 -- one chain, and where that sees no difference another one
@@ -43,6 +43,23 @@ before_it before (x ∷ front) y back h z m =
       | inl e ↦ ap (λ v. before v y) e ∙ h.0 y (in_right front (y ∷ back) y (inl refl))
       | inr later ↦ before_it before front y back h.1 z later
     ]
+
+-- what passes a filter stays in order
+filter_in_order : {E : Type 0} (before : E → E → Bool) (p : E → Bool) (xs : List E) → IsInOrder before xs → IsInOrder before (filter p xs)
+filter_in_order before p [] h = h
+filter_in_order before p (e ∷ others) h =
+    let deeper = filter_in_order before p others h.1 in
+    cond_both (p e) (e ∷ filter p others) (filter p others) (IsInOrder before) (λ k. ((λ x m. h.0 x (from_filter p others x m).0), deeper)) (λ k. deeper)
+
+in_weaker_order : {E : Type 0} (before weaker : E → E → Bool) → ((a b : E) → before a b ≡ true → weaker a b ≡ true) → (xs : List E) → IsInOrder before xs → IsInOrder weaker xs
+in_weaker_order before weaker then [] h = h
+in_weaker_order before weaker then (e ∷ others) h = ((λ x m. then e x (h.0 x m)), in_weaker_order before weaker then others h.1)
+
+best_are_apart : {E : Type 0} (over : E → E → Bool) (all : List E) → AreApart over (best over all)
+best_are_apart over all x y mx my =
+    let other = from_filter (λ e. not (is_beaten over all e)) all x mx in
+    let free = (from_filter (λ e. not (is_beaten over all e)) all y my).1 in
+    false_from_ne_true (over x y) (λ h. let beaten = any_from (λ z. over z y) all x other.0 h in both_ways (is_beaten over all y) (grind (arith, free)) beaten)
 
 module _ {E : Type 0} (over f s t : E → E → Bool) (stairs : AreStairs over f s t) where
   pub strict_stairs : IsStrictOrder over
@@ -159,6 +176,24 @@ module _ {E : Type 0} (over f s t : E → E → Bool) (stairs : AreStairs over f
         ap (λ l. y ∷ l) found.0 ∙ sym (cond-true (not (beaten y)) (y ∷ kept) kept (grind (arith, free))),
         found.1 ∙ sym (cond-false (beaten y) (y ∷ filter beaten left) (filter beaten left) free),
       )
+
+  -- both lists in order
+  pub sweep_keeps_order : (y : E) (left : List E) → IsInOrder (λ a b. not (comes_first f s t b a)) (y ∷ left)
+      → IsInOrder (λ a b. not (comes_first f s t b a)) (y ∷ staying over y left) × IsInOrder (λ a b. not (comes_first f s t b a)) (falling over y left)
+  sweep_keeps_order y left ordered =
+      let found = sweep_finds_best y left ordered in
+      let comes : E → E → Bool = λ a b. not (comes_first f s t b a) in (
+        subst (IsInOrder comes) (sym found.0) (filter_in_order comes (λ e. not (is_beaten over (y ∷ left) e)) (y ∷ left) ordered),
+        subst (IsInOrder comes) (sym found.1) (filter_in_order comes (is_beaten over (y ∷ left)) (y ∷ left) ordered),
+      )
+
+  -- and those that stay are a level, of which one entry can be asked
+  pub sweep_leaves_a_level : (y : E) (left : List E) → IsInOrder (λ a b. not (comes_first f s t b a)) (y ∷ left)
+      → IsInOrder (λ a b. not (f b a)) (y ∷ staying over y left) × AreApart over (y ∷ staying over y left)
+  sweep_leaves_a_level y left ordered = (
+    in_weaker_order (λ a b. not (comes_first f s t b a)) (λ a b. not (f b a)) (λ a b h. grind (arith, h)) (y ∷ staying over y left) (sweep_keeps_order y left ordered).0,
+    subst (AreApart over) (sym (sweep_finds_best y left ordered).0) (best_are_apart over (y ∷ left)),
+  )
 
   -- within groups: stairs whose first chain begins with the groups, and the second with their converse
   pub grouped_stairs : (earlier : E → E → Bool) → IsChain earlier → AreStairs (λ a b. are_level earlier a b && over a b) (in_turn earlier f) (in_turn (λ a b. earlier b a) s) t

@@ -37,12 +37,19 @@ pub fn the_last_stands_for_all()
         → (a b x : Entry) → first b a ≡ false → first x b ≡ false → first x a ≡ false }
 {}
 
-/// The sweep: of entries in order, those that stay where only the last that stayed is asked are the best, in order, and
-/// those that go down are the others, in order.
+/// The sweep: of entries in order, those that stay where only the last that stayed is asked are the best, and those that go down the
+/// others, both in order. Those that stay are a level of which one entry can be asked.
 pub fn a_sweep_finds_the_best()
-    ensures { (over first second tie : Entry → Entry → Bool) → AreStairs over first second tie
+    ensures best { (over first second tie : Entry → Entry → Bool) → AreStairs over first second tie
         → (y : Entry) (others : List Entry) → IsInOrder (λ a b. not (comes_first first second tie b a)) (y ∷ others)
         → (y ∷ staying over y others ≡ best over (y ∷ others)) × (falling over y others ≡ without_best over (y ∷ others)) }
+    ensures order { (over first second tie : Entry → Entry → Bool) → AreStairs over first second tie
+        → (y : Entry) (others : List Entry) → IsInOrder (λ a b. not (comes_first first second tie b a)) (y ∷ others)
+        → IsInOrder (λ a b. not (comes_first first second tie b a)) (y ∷ staying over y others)
+        × IsInOrder (λ a b. not (comes_first first second tie b a)) (falling over y others) }
+    ensures level { (over first second tie : Entry → Entry → Bool) → AreStairs over first second tie
+        → (y : Entry) (others : List Entry) → IsInOrder (λ a b. not (comes_first first second tie b a)) (y ∷ others)
+        → IsInOrder (λ a b. not (first b a)) (y ∷ staying over y others) × AreApart over (y ∷ staying over y others) }
 {}
 
 /// Stairs within groups are stairs, so one list, in order of group and then as in each of them, serves all groups.
