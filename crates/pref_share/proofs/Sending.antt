@@ -35,7 +35,7 @@ pub term_send : IsSend (term.the_field).row
 term_send = knot.send-Term (search sendable) (search sendable) numbers.the_send number_sets.the_send (λ h s. boxes.the_send h global.the_row _ s heap.the_send frees)
 
 pub ask_send : IsSend ask.the_row
-ask_send = search (sendable, declared_send, as_row_send, term_send, options.the_send, chains.the_send, keys.the_send, scores.the_send, number_sets.the_send, numbers.the_send, modes.the_send, vectors.the_send, heap.the_send, frees) depth 14
+ask_send = search (sendable, declared_send, as_row_send, term_send, options.the_send, boxes.the_send, chains.the_send, keys.the_send, scores.the_send, number_sets.the_send, numbers.the_send, modes.the_send, vectors.the_send, heap.the_send, frees) depth 18
 
 pub act_send : IsSend act.the_row
 act_send = search (sendable, variants_send, as_row_send, ask_send, rows.the_send, boxed_commits.the_send) depth 14

@@ -1,5 +1,6 @@
 -- Orders that are products of two chains. A chain is a list of keys of which the first that differs decides. (this project)
 use Rattle.std.specs.Prelude.{◌≡◌, ◌<◌, Bool, true, false, not, ◌&&◌, ℕ, ℤ, List, [], ◌∷◌, ◌++◌, All}
+use Rattle.std.specs.Option.{option_map_or}
 use Rattle.pref_term.specs.Better.{in_same_group}
 use Rattle.pref_term.specs.Keys.{by_key, key_for}
 use Rattle.pref_term.specs.Order.{RowOrder, is_better, is_same}
@@ -15,12 +16,12 @@ abbrev pub by_chain : List Key → List ℤ → List ℤ → Relation
 by_chain [] a b = Same
 by_chain (key ∷ keys) a b = in_priority (by_key key a b) (by_chain keys a b)
 
--- the two chains: both begin with what they share
+-- the two chains; one alone serves as both
 abbrev pub first_chain : Chains → List Key
-first_chain chains = chains.shared.items ++ chains.first.items
+first_chain chains = chains.first.items
 
 abbrev pub second_chain : Chains → List Key
-second_chain chains = chains.shared.items ++ chains.second.items
+second_chain chains = option_map_or (λ keys. keys.items) chains.second chains.first.items
 
 -- by the product of the two
 abbrev pub by_chains : Chains → List ℤ → List ℤ → Relation
@@ -31,9 +32,8 @@ abbrev pub AreInRow : List Key → Type 0
 AreInRow keys = All (λ key. key.col < 16) keys
 
 pub record IsInRow (chains : Chains) : Type 0 where
-  pub shared : AreInRow chains.shared.items
-  pub first : AreInRow chains.first.items
-  pub second : AreInRow chains.second.items
+  pub first : AreInRow (first_chain chains)
+  pub second : AreInRow (second_chain chains)
 
 -- within the groups of these columns the order is just their product
 pub record IsProductOf (order : RowOrder) (columns : List ℕ) (chains : Chains) : Type 0 where
@@ -41,13 +41,6 @@ pub record IsProductOf (order : RowOrder) (columns : List ℕ) (chains : Chains)
   pub in_row : IsInRow chains
   pub over : (a b : List ℤ) → order.over a b ≡ (in_same_group columns a b && is_better (by_chains chains a b))
   pub twin : (a b : List ℤ) → order.twin a b ≡ true → (in_same_group columns a b && is_same (by_chains chains a b)) ≡ true
-
--- the keys of a preference, or of its converse
-abbrev pub keys_in : Preference → Bool → List Key
-keys_in (scored t) turned = key_for t turned ∷ []
-keys_in (pareto p q) turned = keys_in p turned ++ keys_in q turned
-keys_in (prior p q) turned = keys_in p turned ++ keys_in q turned
-keys_in (reverse p) turned = keys_in p (not turned)
 
 -- it has no product in it
 abbrev pub is_chain : Preference → Bool
@@ -63,28 +56,16 @@ is_paired (pareto p q) = is_chain p && is_chain q
 is_paired (prior p q) = is_chain p && is_paired q
 is_paired (reverse p) = is_paired p
 
--- the keys before the product, and those of its two parts
-abbrev pub shared_keys : Preference → Bool → List Key
-shared_keys (scored t) turned = key_for t turned ∷ []
-shared_keys (pareto p q) turned = []
-shared_keys (prior p q) turned = keys_in p turned ++ shared_keys q turned
-shared_keys (reverse p) turned = shared_keys p (not turned)
-
-abbrev pub first_keys : Preference → Bool → List Key
-first_keys (scored t) turned = []
-first_keys (pareto p q) turned = keys_in p turned
-first_keys (prior p q) turned = first_keys q turned
-first_keys (reverse p) turned = first_keys p (not turned)
-
-abbrev pub second_keys : Preference → Bool → List Key
-second_keys (scored t) turned = []
-second_keys (pareto p q) turned = keys_in q turned
-second_keys (prior p q) turned = second_keys q turned
-second_keys (reverse p) turned = second_keys p (not turned)
+-- the keys of the first of its two chains, or of the second, or of those of its converse: of a product those of one part
+abbrev pub chain_keys : Preference → (second turned : Bool) → List Key
+chain_keys (scored t) second turned = key_for t turned ∷ []
+chain_keys (pareto p q) false turned = chain_keys p false turned
+chain_keys (pareto p q) true turned = chain_keys q true turned
+chain_keys (prior p q) second turned = chain_keys p second turned ++ chain_keys q second turned
+chain_keys (reverse p) second turned = chain_keys p second (not turned)
 
 -- chains with the keys of a preference
 pub record AreChainsOf (p : Preference) (chains : Chains) : Type 0 where
   pub paired : is_paired p ≡ true
-  pub shared : chains.shared.items ≡ shared_keys p false
-  pub first : chains.first.items ≡ first_keys p false
-  pub second : chains.second.items ≡ second_keys p false
+  pub first : first_chain chains ≡ chain_keys p false false
+  pub second : second_chain chains ≡ chain_keys p true false

@@ -33,7 +33,7 @@ pub struct Ask {
     // Whether they are its whole order: a comparison goes over them then, and not over the term.
     flat: bool,
     // The chains whose product the term is.
-    chains: Option<Chains>,
+    chains: Option<Box<Chains>>,
     group: Vec<usize>,
     mode: Mode,
     // Whether of equal rows one is kept.
@@ -56,7 +56,7 @@ impl Model for Ask {
 
     ghost invariant = { λ a. IsAsk (record { preference = preference_of a.term; group = a.group.items; mode = a.mode; distinct = a.distinct })
         × (a.keys.items ≡ leading (preference_of a.term) false) × (a.flat ≡ is_product (preference_of a.term))
-        × (IfSome a.chains (AreChainsOf (preference_of a.term))) };
+        × (IfSome a.chains (λ chains. AreChainsOf (preference_of a.term) chains.value)) };
 }
 
 // By hand, so that letting one go is a call: a derived `drop` is written out, and proved, at each way out of each function that owns one.
@@ -94,6 +94,10 @@ impl Ask {
         let keys = leading_keys(alloc, &term)?;
         let flat = is_product(&term);
         let chains = Chains::of(alloc, &term)?;
+        let chains = match chains {
+            Some(chains) => Some(Box::new(alloc, chains)?),
+            None => None,
+        };
         Ok(Ask {
             term,
             keys,
@@ -246,7 +250,7 @@ impl Dominance for Ask {
 
     fn chains(&self) -> Option<(&[usize], &Chains)> {
         match &self.chains {
-            Some(chains) => Some((self.group(), chains)),
+            Some(chains) => Some((self.group(), &**chains)),
             None => None,
         }
     }

@@ -1,7 +1,8 @@
 //! Orders that are products of two chains, of which a plain chain is one.
 ghost use Rattle.std.specs.Prelude.{◌≡◌, ◌<◌, ◌++◌, false, true, All, IfOk, IfSome, OnOk};
-ghost use Rattle.pref_term.specs.Chains.{AreChainsOf, AreInRow, IsInRow, by_chain, first_chain, first_keys, is_chain, is_paired, keys_in, second_chain, second_keys, shared_keys};
+ghost use Rattle.pref_term.specs.Chains.{AreChainsOf, AreInRow, IsInRow, by_chain, chain_keys, first_chain, is_chain, is_paired, second_chain};
 ghost use Rattle.pref_term.specs.Preference.{preference_of};
+ghost use Rattle.pref_term.specs.declared.relation.Relation.TheVariants.{Neither};
 
 use crate::key::Key;
 use crate::keys::push_leading;
@@ -10,13 +11,12 @@ use crate::term::Term;
 use pref_table::Row;
 use std::alloc::{AllocError, Global};
 
-/// Two chains: lists of keys of which the first that differs decides. Both begin with the keys that they share; where neither goes on, they
-/// are one chain. So `p & (q * r)` is the product of the chains `p & q` and `p & r`, which share `p`.
+/// Two chains: lists of keys of which the first that differs decides. So `p & (q * r)` is the product of the chains `p & q` and `p & r`.
 #[derive(Drop)]
 pub struct Chains {
-    shared: Vec<Key>,
     first: Vec<Key>,
-    second: Vec<Key>,
+    // `None` where both are one chain.
+    second: Option<Vec<Key>>,
 }
 
 impl Chains {
@@ -27,75 +27,54 @@ impl Chains {
         if !is_paired(term) {
             return Ok(None);
         }
-        let mut chains = Chains {
-            shared: Vec::new(alloc),
-            first: Vec::new(alloc),
-            second: Vec::new(alloc),
-        };
-        chains.push(alloc, term, false)?;
-        Ok(Some(chains))
-    }
-
-    /// Puts the chains of a term, or of its converse, behind these.
-    fn push(&mut self, alloc: Global, term: &Term, turned: bool) -> Result<(), AllocError>
-        ensures shared { OnOk result (self.new.shared.items ≡ self.old.shared.items ++ shared_keys (preference_of term.now) turned) }
-        ensures first { OnOk result (self.new.first.items ≡ self.old.first.items ++ first_keys (preference_of term.now) turned) }
-        ensures second { OnOk result (self.new.second.items ≡ self.old.second.items ++ second_keys (preference_of term.now) turned) }
-    {
-        match term {
-            Term::Pareto(p, q) => {
-                push_keys(alloc, &mut self.first, p, turned)?;
-                push_keys(alloc, &mut self.second, q, turned)
-            }
-            Term::Prior(p, q) => {
-                push_keys(alloc, &mut self.shared, p, turned)?;
-                self.push(alloc, q, turned)
-            }
-            Term::Reverse(p) => self.push(alloc, p, !turned),
-            _ => push_leading(alloc, &mut self.shared, term, turned),
+        let first = chain_of(alloc, term, false)?;
+        if is_chain(term) {
+            return Ok(Some(Chains {
+                first,
+                second: None,
+            }));
         }
+        let second = chain_of(alloc, term, true)?;
+        Ok(Some(Chains {
+            first,
+            second: Some(second),
+        }))
     }
 
     /// Whether both are one chain.
     pub fn is_one(&self) -> bool
         ensures { result ≡ true → first_chain self.now ≡ second_chain self.now }
     {
-        self.first.is_empty() && self.second.is_empty()
+        self.second.is_none()
     }
 
-    /// How the first row compares with the second one in the first chain. Takes no memory.
+    /// How the first row compares with the second one in the first chain, which is never `Neither`. Takes no memory.
     pub fn compare_in_first(&self, a: &Row, b: &Row) -> Relation
         requires { IsInRow self.now }
-        ensures { result ≡ by_chain (first_chain self.now) a.now b.now }
+        ensures value { result ≡ by_chain (first_chain self.now) a.now b.now }
+        ensures decided { result ≡ Neither → ⊥ }
     {
-        in_two_lists(&self.shared, &self.first, a, b)
+        compare_in_chain(&self.first, a, b)
     }
 
-    /// How the first row compares with the second one in the second chain. Takes no memory.
+    /// How the first row compares with the second one in the second chain, which is never `Neither`. Takes no memory.
     pub fn compare_in_second(&self, a: &Row, b: &Row) -> Relation
         requires { IsInRow self.now }
-        ensures { result ≡ by_chain (second_chain self.now) a.now b.now }
+        ensures value { result ≡ by_chain (second_chain self.now) a.now b.now }
+        ensures decided { result ≡ Neither → ⊥ }
     {
-        in_two_lists(&self.shared, &self.second, a, b)
-    }
-}
-
-/// By the keys of a chain, and where they see no difference by those that follow.
-fn in_two_lists(keys: &[Key], others: &[Key], a: &Row, b: &Row) -> Relation
-    requires keys { AreInRow keys.now }
-    requires others { AreInRow others.now }
-    ensures { result ≡ by_chain (keys.now ++ others.now) a.now b.now }
-{
-    match compare_in_chain(keys, a, b) {
-        Relation::Same => compare_in_chain(others, a, b),
-        decided => decided,
+        match &self.second {
+            Some(second) => compare_in_chain(second, a, b),
+            None => compare_in_chain(&self.first, a, b),
+        }
     }
 }
 
 /// By the first of these keys in which the rows differ.
 fn compare_in_chain(keys: &[Key], a: &Row, b: &Row) -> Relation
     requires { AreInRow keys.now }
-    ensures { result ≡ by_chain keys.now a.now b.now }
+    ensures value { result ≡ by_chain keys.now a.now b.now }
+    ensures decided { result ≡ Neither → ⊥ }
 {
     for key in keys {
         match key.compare(a, b) {
@@ -130,21 +109,33 @@ fn is_paired(term: &Term) -> bool
     }
 }
 
-/// Puts the keys of a term, or of its converse, behind these.
-fn push_keys(
+/// The keys of the first of a term's two chains, or of the second.
+fn chain_of(alloc: Global, term: &Term, second: bool) -> Result<Vec<Key>, AllocError>
+    ensures { IfOk result (λ keys. keys.items ≡ chain_keys (preference_of term.now) second false) }
+{
+    let mut keys = Vec::new(alloc);
+    push_chain(alloc, &mut keys, term, second, false)?;
+    Ok(keys)
+}
+
+/// Puts the keys of one of the two chains of a term, or of its converse, behind these.
+fn push_chain(
     alloc: Global,
     keys: &mut Vec<Key>,
     term: &Term,
+    second: bool,
     turned: bool,
 ) -> Result<(), AllocError>
-    ensures { OnOk result (keys.new.items ≡ keys.old.items ++ keys_in (preference_of term.now) turned) }
+    ensures { OnOk result (keys.new.items ≡ keys.old.items ++ chain_keys (preference_of term.now) second turned) }
 {
     match term {
-        Term::Pareto(p, q) | Term::Prior(p, q) => {
-            push_keys(alloc, keys, p, turned)?;
-            push_keys(alloc, keys, q, turned)
+        Term::Pareto(_, q) if second => push_chain(alloc, keys, q, second, turned),
+        Term::Pareto(p, _) => push_chain(alloc, keys, p, second, turned),
+        Term::Prior(p, q) => {
+            push_chain(alloc, keys, p, second, turned)?;
+            push_chain(alloc, keys, q, second, turned)
         }
-        Term::Reverse(p) => push_keys(alloc, keys, p, !turned),
+        Term::Reverse(p) => push_chain(alloc, keys, p, second, !turned),
         _ => push_leading(alloc, keys, term, turned),
     }
 }

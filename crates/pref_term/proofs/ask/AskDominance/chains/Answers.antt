@@ -9,8 +9,8 @@ use Rattle.pref_term.proofs.ask.AskDominance.chains.Goals as goal
 pub returns-in-Some : goal.returns-in-Some
 returns-in-Some c =
     let q = c.args.self.now in
-    let chains = c.in-Some.chains in
+    let chains = c.deref.result.now in
     let p : preference_of c.self.inside.term ≡ q.preference = ap (λ (s : Question). s.preference) c.self.view_is in
     let fits : FitsWidth 16 q = (subst IsAsk c.self.view_is c.self.invariant.0).columns in
-    let own : AreChainsOf q.preference chains = subst (λ r. AreChainsOf r chains) p (rw c.in-Some.is at c.self.invariant.3) in
+    let own : AreChainsOf q.preference chains = subst (AreChainsOf q.preference) (sym c.deref.ensures) (subst (λ r. AreChainsOf r c.in-Some.chains.value) p (rw c.in-Some.is at c.self.invariant.3)) in
     subst (λ g. IsProductOf (order_of q) g chains) (sym c.group.ensures.columns) (product_of_chains q chains fits own)
