@@ -8,7 +8,7 @@ use Rattle.std.proofs.lemmas.Int.{ints}
 use Rattle.std.proofs.lemmas.List.Elements.{All-append, All-cons, All-nil}
 use Rattle.pref_term.specs.Better.{cell, missed, outside, score, sets_before}
 use Rattle.pref_term.specs.Columns.{ReadsBelow, column}
-use Rattle.pref_term.specs.Keys.{by_key, by_keys, is_product, key_for, leading, opposed}
+use Rattle.pref_term.specs.Keys.{by_key, by_keys, is_number, is_product, key_for, leading, opposed}
 use Rattle.pref_term.specs.OrderLaws.{and_parts}
 use Rattle.pref_term.specs.Preference.{Base, low, high, around, between, one_of, layered, Preference, scored, pareto, prior, reverse}
 use Rattle.pref_term.specs.Walk.{by_scores, in_priority, in_product, walked}
@@ -116,6 +116,24 @@ leading_in_row (scored t) s h = All-cons (λ key. key.col < 16) (key_for t s) []
 leading_in_row (pareto p q) s h = All-append (λ key. key.col < 16) (leading p s) (leading q s) (leading_in_row p s h.0) (leading_in_row q s h.1)
 leading_in_row (prior p q) s h = leading_in_row p s h.0
 leading_in_row (reverse p) s h = leading_in_row p (not s) h
+
+key_score : (t : Base) (s : Bool) → (key_for t s).score ≡ (key_for t false).score
+key_score (low col) s = refl
+key_score (high col) s = refl
+key_score (around col centre) s = refl
+key_score (between col left right) s = refl
+key_score (one_of col set) s = refl
+key_score (layered col sets) s = refl
+
+-- those of a product have no sets
+pub leading_numbers : (p : Preference) (s : Bool) → is_product p ≡ true → All (λ key. is_number key.score ≡ true) (leading p s)
+leading_numbers (scored t) s h =
+    All-cons (λ key. is_number key.score ≡ true) (key_for t s) [] (ap is_number (key_score t s) ∙ h) (All-nil (λ key. is_number key.score ≡ true))
+leading_numbers (pareto p q) s h =
+    let both = and_parts (is_product p) (is_product q) h in
+    All-append (λ key. is_number key.score ≡ true) (leading p s) (leading q s) (leading_numbers p s both.0) (leading_numbers q s both.1)
+leading_numbers (prior p q) s h = absurd (false≢true h)
+leading_numbers (reverse p) s h = leading_numbers p (not s) h
 
 product-assoc : (r s t : Relation) → in_product (in_product r s) t ≡ in_product r (in_product s t)
 product-assoc Same s t = refl

@@ -44,9 +44,15 @@ leading (pareto p q) turned = leading p turned ++ leading q turned
 leading (prior p q) turned = leading p turned
 leading (reverse p) turned = leading p (not turned)
 
--- it has no priority in it, so its leading keys are its whole order
+-- a number of its value, and no search through sets
+abbrev pub is_number : Score → Bool
+is_number Value = true
+is_number (Distance left right) = true
+is_number (Sets sets) = false
+
+-- it has no priority in it, so its leading keys are its whole order; and it has no sets
 abbrev pub is_product : Preference → Bool
-is_product (scored t) = true
+is_product (scored t) = is_number (key_for t false).score
 is_product (pareto p q) = is_product p && is_product q
 is_product (prior p q) = false
 is_product (reverse p) = is_product p

@@ -30,7 +30,7 @@ pub struct Ask {
     term: Term,
     // The keys that lead the term.
     keys: Vec<Key>,
-    // Whether they are its whole order: a comparison goes over them then, and not over the term.
+    // Whether they are its whole order, without sets: a comparison goes over them then, and not over the term.
     flat: bool,
     // The chains whose product the term is.
     chains: Option<Box<Chains>>,
@@ -217,8 +217,8 @@ impl Dominance for Ask {
 
     /// Compares the group's columns first. Rows of two groups are `Neither`.
     ///
-    /// A product of base terms is one loop over its keys, up to the first after which neither row can be better; another term is walked.
-    /// Takes no memory.
+    /// A product of base terms without sets is one loop over its keys, up to the first after which neither row can be better; another term
+    /// is walked. Takes no memory.
     #[inline(always)]
     fn compare(&self, a: &Row, b: &Row) -> Relation
         ensures better { is_better result ≡ over self.now a.now b.now }

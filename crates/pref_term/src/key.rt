@@ -3,7 +3,7 @@ ghost use Rattle.std.specs.Prelude.{◌≡◌, ◌<◌, ◌+ℤ◌, ◌-ℤ◌, 
 ghost use Rattle.std.specs.List.{list_any};
 ghost use Rattle.std.specs.Ordering.{int_eq};
 ghost use Rattle.pref_term.specs.Better.{outside, sets_before};
-ghost use Rattle.pref_term.specs.Keys.{by_key, from_zero, keyed};
+ghost use Rattle.pref_term.specs.Keys.{by_key, from_zero, is_number, keyed};
 ghost use Rattle.pref_term.specs.Walk.{by_sides};
 
 use crate::relation::Relation;
@@ -144,20 +144,6 @@ impl Key {
         if self.turned { u64::MAX - score } else { score }
     }
 
-    /// Whether values are compared as they are.
-    #[inline(always)]
-    pub(crate) fn is_value(&self) -> bool
-        ensures { result ≡ true → self.now.score ≡ Score.Value }
-    {
-        matches!(self.score, Score::Value)
-    }
-
-    /// Whether it has sets.
-    #[inline(always)]
-    pub(crate) fn has_sets(&self) -> bool {
-        matches!(self.score, Score::Sets(_))
-    }
-
     /// The key of a row less 2^63, where values are compared as they are.
     #[inline(always)]
     fn lowered(&self, row: &Row) -> i64
@@ -171,7 +157,7 @@ impl Key {
 
     /// Whether the first row is better and whether the second is, where values are compared as they are.
     #[inline(always)]
-    pub(crate) fn sides_by_value(&self, a: &Row, b: &Row) -> (bool, bool)
+    fn sides_by_value(&self, a: &Row, b: &Row) -> (bool, bool)
         requires column { self.now.col < 16 }
         requires value { self.now.score ≡ Score.Value }
         ensures { by_sides result.0 result.1 ≡ by_key self.now a.now b.now }
@@ -181,9 +167,23 @@ impl Key {
         (first < second, second < first)
     }
 
+    /// Whether the first row is better and whether the second is, where there are no sets.
+    #[inline(always)]
+    pub(crate) fn sides_by_number(&self, a: &Row, b: &Row) -> (bool, bool)
+        requires column { self.now.col < 16 }
+        requires number { is_number self.now.score ≡ true }
+        ensures { by_sides result.0 result.1 ≡ by_key self.now a.now b.now }
+    {
+        match self.score {
+            Score::Value => self.sides_by_value(a, b),
+            Score::Distance { .. } => self.sides(a, b),
+            Score::Sets(_) => unreachable!(),
+        }
+    }
+
     /// Whether the first row is better and whether the second is.
     #[inline(always)]
-    pub(crate) fn sides(&self, a: &Row, b: &Row) -> (bool, bool)
+    fn sides(&self, a: &Row, b: &Row) -> (bool, bool)
         requires { self.now.col < 16 }
         ensures { by_sides result.0 result.1 ≡ by_key self.now a.now b.now }
     {

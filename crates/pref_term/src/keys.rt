@@ -1,10 +1,9 @@
-//! The keys that lead a term, and the order of a term whose leading keys are all that it has: a product of base terms and of their
-//! converses.
+//! The keys that lead a term, and the order of a term whose leading keys are all that it has: a product of base terms without sets and of
+//! their converses.
 ghost use Rattle.std.specs.Prelude.{◌≡◌, ◌<◌, ◌++◌, false, true, All, Contains, IfOk, OnOk};
 ghost use Rattle.pref_term.specs.Better.{in_same_group};
-ghost use Rattle.pref_term.specs.Keys.{by_keys, is_product, leading};
+ghost use Rattle.pref_term.specs.Keys.{by_keys, is_number, is_product, leading};
 ghost use Rattle.pref_term.specs.Preference.{preference_of};
-ghost use Rattle.pref_term.specs.Walk.{by_sides, in_product};
 
 use crate::key::{Key, Score};
 use crate::relation::Relation;
@@ -61,14 +60,15 @@ pub(crate) fn contains(keys: &[Key], key: &Key) -> bool
     false
 }
 
-/// Whether the term has no priority in it, so that its leading keys are its whole order.
+/// Whether the term has no priority in it, so that its leading keys are its whole order, and no sets. A product with sets is walked: its
+/// search would take each other product the registers that its loop needs.
 pub(crate) fn is_product(term: &Term) -> bool
     ensures { result ≡ is_product (preference_of term.now) }
 {
     match term {
         Term::Pareto(p, q) => is_product(p) && is_product(q),
-        Term::Prior(..) => false,
         Term::Reverse(p) => is_product(p),
+        Term::Pos { .. } | Term::Layered { .. } | Term::Prior(..) => false,
         _ => true,
     }
 }
@@ -87,47 +87,23 @@ pub fn in_same_group(columns: &[usize], a: &Row, b: &Row) -> bool
     true
 }
 
-/// How the first row compares with the second one by the product of these keys.
+/// How the first row compares with the second one by the product of these keys, none of which has sets.
 ///
-/// One loop, which stops at the first key after which neither row can be better. A key that has sets, and those behind it, are left to
-/// a call, so that the loop over numbers keeps all that it needs in few registers. Takes no memory.
+/// One loop, which stops at the first key after which neither row can be better. Takes no memory.
 #[inline]
 pub(crate) fn compare_by_keys(keys: &[Key], a: &Row, b: &Row) -> Relation
-    requires { All (λ key. key.col < 16) keys.now }
+    requires columns { All (λ key. key.col < 16) keys.now }
+    requires numbers { All (λ key. is_number key.score ≡ true) keys.now }
     ensures { result ≡ by_keys keys.now a.now b.now }
 {
     let mut better = false;
     let mut worse = false;
-    for (place, key) in keys.iter().enumerate() {
-        let (first, second) = if key.is_value() {
-            key.sides_by_value(a, b)
-        } else if key.has_sets() {
-            return compare_beside(better, worse, &keys[place..], a, b);
-        } else {
-            key.sides(a, b)
-        };
+    for key in keys {
+        let (first, second) = key.sides_by_number(a, b);
         better |= first;
         worse |= second;
         if better && worse {
             return Relation::Neither;
-        }
-    }
-    Relation::by_sides(better, worse)
-}
-
-/// How the first row compares with the second one by the product of these keys with others, by which the first row is better or the
-/// second is.
-#[inline(never)]
-fn compare_beside(mut better: bool, mut worse: bool, keys: &[Key], a: &Row, b: &Row) -> Relation
-    requires { All (λ key. key.col < 16) keys.now }
-    ensures { result ≡ in_product (by_sides better worse) (by_keys keys.now a.now b.now) }
-{
-    for key in keys {
-        let sides = key.sides(a, b);
-        better |= sides.0;
-        worse |= sides.1;
-        if better && worse {
-            break;
         }
     }
     Relation::by_sides(better, worse)

@@ -4,6 +4,6 @@ use Rattle.pref_term.specs.Walk.{by_sides, in_product}
 use Rattle.pref_term.proofs.keys.compare_by_keys.Given as goal
 
 -- what the keys so far say, beside the keys that are left
-abbrev pub invariant-loop-place : goal.invariant-loop-place
-invariant-loop-place l =
-    in_product (by_sides l.better l.worse) (by_keys (drop l.place l.keys) l.a l.b) ≡ by_keys l.keys l.a l.b
+abbrev pub invariant-loop-key : goal.invariant-loop-key
+invariant-loop-key l =
+    in_product (by_sides l.better l.worse) (by_keys (drop l.key-index l.keys) l.a l.b) ≡ by_keys l.keys l.a l.b

@@ -1,17 +1,22 @@
-use Rattle.std.proofs.Common.{◌≡◌, ◌<◌, false, ap, sym, ◌∙◌}
+use Rattle.std.proofs.Common.{◌≡◌, ◌<◌, true, false, ap, sym, ◌∙◌}
 use Rattle.std.proofs.lemmas.List.Elements.{All-same}
-use Rattle.pref_term.specs.Keys.{by_keys}
+use Rattle.pref_term.specs.Keys.{by_keys, is_number}
 use Rattle.pref_term.specs.Order.{is_better, is_same, is_worse}
 use Rattle.pref_term.specs.Preference.{preference_of}
 use Rattle.pref_term.specs.Walk.{walked}
-use Rattle.pref_term.proofs.KeyLaws.{leading_in_row, product_law}
+use Rattle.pref_term.proofs.KeyLaws.{leading_in_row, leading_numbers, product_law}
 use Rattle.pref_term.proofs.WalkLaws.{walked-better, walked-same, walked-worse}
 use Rattle.pref_term.proofs.ask.Ask.compare_in_group.Goals as goal
 
-pub compare_by_keys-requires : goal.compare_by_keys-requires
-compare_by_keys-requires c =
+pub compare_by_keys-requires-clause-columns : goal.compare_by_keys-requires-clause-columns
+compare_by_keys-requires-clause-columns c =
     All-same (λ key. key.col < 16) _ _ (c.deref.ensures.value ∙ c.self.invariant.1)
     (leading_in_row (preference_of c.self.inside.term) false c.self.invariant.0.columns.preference)
+
+pub compare_by_keys-requires-clause-numbers : goal.compare_by_keys-requires-clause-numbers
+compare_by_keys-requires-clause-numbers c =
+    All-same (λ key. is_number key.score ≡ true) _ _ (c.deref.ensures.value ∙ c.self.invariant.1)
+    (leading_numbers (preference_of c.self.inside.term) false (sym c.self.invariant.2 ∙ c.if-self.true))
 
 -- the keys compare the rows as a walk does
 by_a_walk : (c : goal.After-compare_by_keys) → c.compare_by_keys.result ≡ walked (preference_of c.self.inside.term) c.args.a.now c.args.b.now
