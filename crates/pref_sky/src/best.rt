@@ -58,7 +58,7 @@ pub(crate) fn best_and_others<D: Dominance>(
 /// all that overflowed are returned as best and leave the window. The list doesn't depend on `window`.
 ///
 /// Cost: for each entry of a pass one comparison with each entry of the window at most; one pass where
-/// nothing overflows, and no more passes than entries. Memory: 40 bytes for each entry, and the answer.
+/// nothing overflows, and no more passes than entries. Memory: some 60 bytes for each entry, and the answer.
 /// `Err` is out of memory.
 pub fn best_rows_passes<D: Dominance>(
     alloc: Global,
