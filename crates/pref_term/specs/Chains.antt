@@ -3,7 +3,7 @@ use Rattle.std.specs.Prelude.{◌≡◌, ◌<◌, Bool, true, false, not, ◌&&�
 use Rattle.std.specs.Option.{option_map_or}
 use Rattle.pref_term.specs.Better.{in_same_group}
 use Rattle.pref_term.specs.Keys.{by_key, key_for}
-use Rattle.pref_term.specs.Order.{RowOrder, is_better, is_same}
+use Rattle.pref_term.specs.Order.{RowOrder, StandAlike, is_better, is_same}
 use Rattle.pref_term.specs.Preference.{Preference, scored, pareto, prior, reverse}
 use Rattle.pref_term.specs.Walk.{in_priority, in_product}
 use Rattle.pref_term.specs.declared.chains.Chains.{Chains}
@@ -41,6 +41,8 @@ pub record IsProductOf (order : RowOrder) (columns : List ℕ) (chains : Chains)
   pub in_row : IsInRow chains
   pub over : (a b : List ℤ) → order.over a b ≡ (in_same_group columns a b && is_better (by_chains chains a b))
   pub twin : (a b : List ℤ) → order.twin a b ≡ true → (in_same_group columns a b && is_same (by_chains chains a b)) ≡ true
+  -- rows of a group that are the same in both chains have the same twins
+  pub alike : (a b : List ℤ) → (in_same_group columns a b && is_same (by_chains chains a b)) ≡ true → StandAlike order.twin a b
 
 -- it has no product in it
 abbrev pub is_chain : Preference → Bool

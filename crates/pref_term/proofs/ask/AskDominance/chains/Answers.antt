@@ -2,7 +2,7 @@ use Rattle.std.proofs.Common.{◌≡◌, ap, subst, sym}
 use Rattle.pref_term.specs.AskOrder.{order_of}
 use Rattle.pref_term.specs.Chains.{AreChainsOf, IsProductOf}
 use Rattle.pref_term.specs.Preference.{preference_of}
-use Rattle.pref_term.specs.Question.{FitsWidth, IsAsk, Question}
+use Rattle.pref_term.specs.Question.{IsAsk, Question}
 use Rattle.pref_term.proofs.ChainLaws.{product_of_chains}
 use Rattle.pref_term.proofs.ask.AskDominance.chains.Goals as goal
 
@@ -11,6 +11,6 @@ returns-in-Some c =
     let q = c.args.self.now in
     let chains = c.deref.result.now in
     let p : preference_of c.self.inside.term ≡ q.preference = ap (λ (s : Question). s.preference) c.self.view_is in
-    let fits : FitsWidth 16 q = (subst IsAsk c.self.view_is c.self.invariant.0).columns in
+    let known : IsAsk q = subst IsAsk c.self.view_is c.self.invariant.0 in
     let own : AreChainsOf q.preference chains = subst (AreChainsOf q.preference) (sym c.deref.ensures) (subst (λ r. AreChainsOf r c.in-Some.chains.value) p (rw c.in-Some.is at c.self.invariant.3)) in
-    subst (λ g. IsProductOf (order_of q) g chains) (sym c.group.ensures.columns) (product_of_chains q chains fits own)
+    subst (λ g. IsProductOf (order_of q) g chains) (sym c.group.ensures.columns) (product_of_chains q chains known own)
