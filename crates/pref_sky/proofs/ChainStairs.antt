@@ -13,7 +13,7 @@ use Rattle.pref_term.specs.declared.chains.Chains.{Chains}
 use Rattle.pref_term.specs.declared.key.Key.{Key}
 use Rattle.pref_term.specs.declared.relation.Relation.{Relation}
 use Rattle.pref_sky.specs.Levels.{entry_order}
-use Rattle.pref_sky.specs.Stairs.{AreStairs, HaveSameTwins, IsChain, IsLine, are_level, better_in, by_row, earlier_in, earlier_twin, first_within, in_turn, second_within}
+use Rattle.pref_sky.specs.Stairs.{AreStairs, IsChain, IsLine, are_level, better_in, by_row, earlier_in, earlier_twin, first_within, in_turn, second_within}
 use Rattle.pref_sky.specs.declared.entry.Entry.{Entry}
 use Rattle.pref_sky.proofs.StairLaws.{chain_in_turn, grouped_stairs, line_of_one}
 
@@ -131,20 +131,20 @@ module _ (order : RowOrder) (columns : List ℕ) (chains : Chains) (of : IsProdu
       grind (arith, same_group columns a b, product_same (by_chain (first_chain chains) a b) (by_chain (second_chain chains) a b), same_in (first_chain chains) a b, same_in (second_chain chains) a b)
 
   -- entries
-  pub entries_are_stairs : HaveSameTwins order columns chains → AreStairs (entry_order order) (by_row (first_within columns chains)) (by_row (second_within columns chains)) (earlier_twin order)
-  entries_are_stairs alike =
+  pub entries_are_stairs : AreStairs (entry_order order) (by_row (first_within columns chains)) (by_row (second_within columns chains)) (earlier_twin order)
+  entries_are_stairs =
       let rows = rows_are_stairs in
       record {
         first_is_chain = chain_of_entries (first_within columns chains) rows.first_is_chain;
         second_is_chain = chain_of_entries (second_within columns chains) rows.second_is_chain;
         tie_is_chain = places_chain (λ e. cond (order.twin e.row e.row) (suc e.id) 0);
         is = λ a b. twins_tie _ _ _ _ _ _ _ _ _ (rows.is a.row b.row) (level_in_both a.row b.row) (of.twin a.row b.row) (λ h.
-            let s = alike a.row b.row h in
+            let s = of.alike a.row b.row h in
             place_lower (order.twin a.row a.row) (order.twin b.row b.row) a.id b.id (s.above a.row ∙ s.below b.row) ∙ ap (λ t. t && nat_lt a.id b.id) (s.above a.row));
       }
 
   -- where both are one chain, a line
-  pub entries_are_a_line : first_chain chains ≡ second_chain chains → HaveSameTwins order columns chains → IsLine (entry_order order) (by_row (earlier_in columns)) (in_turn (by_row (better_in (first_chain chains))) (earlier_twin order))
-  entries_are_a_line one alike =
+  pub entries_are_a_line : first_chain chains ≡ second_chain chains → IsLine (entry_order order) (by_row (earlier_in columns)) (in_turn (by_row (better_in (first_chain chains))) (earlier_twin order))
+  entries_are_a_line one =
       line_of_one (entry_order order) (by_row (earlier_in columns)) (by_row (better_in (first_chain chains))) (by_row (better_in (second_chain chains))) (earlier_twin order) (λ a b. ap (λ keys. better_in keys a.row b.row) one)
-      (chain_of_entries (earlier_in columns) (earlier_chain columns)) (chain_of_entries (better_in (first_chain chains)) (keys_chain (first_chain chains))) (entries_are_stairs alike)
+      (chain_of_entries (earlier_in columns) (earlier_chain columns)) (chain_of_entries (better_in (first_chain chains)) (keys_chain (first_chain chains))) entries_are_stairs

@@ -1,8 +1,8 @@
 -- Orders that are one chain, or a product of two chains, within groups, and lists in their order, where one entry is asked in place of all. (this project)
 use Rattle.std.specs.Prelude.{⊤, ◌≡◌, Bool, true, false, cond, not, ◌&&◌, ◌||◌, int_lt, nat_lt, ℕ, suc, ℤ, List, [], ◌∷◌}
-use Rattle.pref_term.specs.Better.{cell, in_same_group}
-use Rattle.pref_term.specs.Chains.{by_chain, by_chains, first_chain, second_chain}
-use Rattle.pref_term.specs.Order.{IsStrictOrder, RowOrder, StandAlike, is_better, is_same}
+use Rattle.pref_term.specs.Better.{cell}
+use Rattle.pref_term.specs.Chains.{by_chain, first_chain, second_chain}
+use Rattle.pref_term.specs.Order.{IsStrictOrder, RowOrder, StandAlike, is_better}
 use Rattle.pref_term.specs.declared.chains.Chains.{Chains}
 use Rattle.pref_term.specs.declared.key.Key.{Key}
 use Rattle.pref_sky.specs.Members.{Among}
@@ -85,8 +85,3 @@ by_row better a b = better a.row b.row
 -- the smaller id is earlier of two entries that have twins; one without is earlier than one with
 abbrev pub earlier_twin : RowOrder → Entry → Entry → Bool
 earlier_twin order a b = nat_lt (cond (order.twin a.row a.row) (suc a.id) 0) (cond (order.twin b.row b.row) (suc b.id) 0)
-
--- rows of a group that are the same in both chains have the same twins
-abbrev pub HaveSameTwins : RowOrder → List ℕ → Chains → Type 0
-HaveSameTwins order columns chains =
-    (a b : List ℤ) → (in_same_group columns a b && is_same (by_chains chains a b)) ≡ true → StandAlike order.twin a b

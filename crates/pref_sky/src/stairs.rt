@@ -4,7 +4,7 @@ ghost use Rattle.std.specs.Prelude.{◌≡◌, ◌&&◌, ◌++◌, ◌∷◌, �
 ghost use Rattle.pref_sky.specs.Best.{best, is_beaten, rest, without_best};
 ghost use Rattle.pref_sky.specs.Levels.{entry_order};
 ghost use Rattle.pref_sky.specs.Members.{Among};
-ghost use Rattle.pref_sky.specs.Stairs.{AreApart, AreClassesOf, AreStairs, HaveSameTwins, IsChain, IsInOrder, IsLine, are_level, better_in, by_row, comes_first, earlier_in, earlier_twin, falling, first_within, in_turn, second_within, staying};
+ghost use Rattle.pref_sky.specs.Stairs.{AreApart, AreClassesOf, AreStairs, IsChain, IsInOrder, IsLine, are_level, better_in, by_row, comes_first, earlier_in, earlier_twin, falling, first_within, in_turn, second_within, staying};
 ghost use Rattle.pref_sky.specs.declared.entry.Entry.{Entry};
 ghost use Rattle.pref_term.specs.Better.{in_same_group};
 ghost use Rattle.pref_term.specs.Chains.{IsProductOf, by_chain, first_chain, second_chain};
@@ -105,14 +105,14 @@ pub fn chains_are_these()
     ensures same_group { (columns : List ℕ) (a b : List ℤ) → in_same_group columns a b ≡ are_level (earlier_in columns) a b }
 {}
 
-/// An order that is a product of two chains within groups is stairs; and so it is as one of entries, where rows that are the same have
-/// the same twins. It is a line where both are one chain.
+/// An order that is a product of two chains within groups is stairs, and so it is as one of entries. It is a line where both are one
+/// chain.
 pub fn products_of_two_chains_are_stairs()
     ensures rows { (order : RowOrder) (columns : List ℕ) (chains : Chains) → IsProductOf order columns chains
         → AreStairs order.over (first_within columns chains) (second_within columns chains) (λ a b. false) }
-    ensures entries { (order : RowOrder) (columns : List ℕ) (chains : Chains) → IsProductOf order columns chains → HaveSameTwins order columns chains
+    ensures entries { (order : RowOrder) (columns : List ℕ) (chains : Chains) → IsProductOf order columns chains
         → AreStairs (entry_order order) (by_row (first_within columns chains)) (by_row (second_within columns chains)) (earlier_twin order) }
     ensures line { (order : RowOrder) (columns : List ℕ) (chains : Chains) → IsProductOf order columns chains
-        → first_chain chains ≡ second_chain chains → HaveSameTwins order columns chains
+        → first_chain chains ≡ second_chain chains
         → IsLine (entry_order order) (by_row (earlier_in columns)) (in_turn (by_row (better_in (first_chain chains))) (earlier_twin order)) }
 {}
