@@ -54,20 +54,16 @@ fn show_mode(alloc: Global, text: &mut Vec<u8>, mode: Mode) -> Result<(), AllocE
 {
     match mode {
         Mode::Best => text.extend_from_slice(b"best "),
-        Mode::TopLevel(count) => {
-            text.extend_from_slice(b"top_level ")?;
-            show_count(alloc, text, count)
-        }
-        Mode::AtLeast(count) => {
-            text.extend_from_slice(b"at_least ")?;
-            show_count(alloc, text, count)
-        }
+        Mode::TopLevel(count) => show_count(alloc, text, b"top_level ", count),
+        Mode::AtLeast(count) => show_count(alloc, text, b"at_least ", count),
     }
 }
 
-fn show_count(alloc: Global, text: &mut Vec<u8>, count: u32) -> Result<(), AllocError>
-    ensures { OnOk result (text.new.items ≡ text.old.items ++ (decimal count ++ codes " ")) }
+/// A word, and a count.
+fn show_count(alloc: Global, text: &mut Vec<u8>, word: &[u8], count: u32) -> Result<(), AllocError>
+    ensures { OnOk result (text.new.items ≡ text.old.items ++ (word.now ++ decimal count ++ codes " ")) }
 {
+    text.extend_from_slice(word)?;
     let digits = count.to_string(alloc)?;
     text.extend_from_slice(digits.as_bytes())?;
     text.extend_from_slice(b" ")
@@ -137,27 +133,24 @@ fn show_more_names(text: &mut Vec<u8>, schema: &Schema, columns: &[usize]) -> Re
     Ok(())
 }
 
-/// These bytes, where they are wanted.
-fn put_if(text: &mut Vec<u8>, wanted: bool, bytes: &[u8]) -> Result<(), AllocError>
-    ensures { OnOk result (text.new.items ≡ text.old.items ++ (if wanted then bytes.now else [])) }
+/// A base term: these bytes, the name of the column, and the values, each after a comma.
+fn show_base(
+    alloc: Global,
+    text: &mut Vec<u8>,
+    schema: &Schema,
+    before: &[u8],
+    col: usize,
+    values: &[i64],
+) -> Result<(), AllocError>
+    requires { col < length schema.now }
+    ensures { OnOk result (text.new.items ≡ text.old.items ++ (before.now ++ shown.name_at schema.now col ++ shown.shown_values values.now ++ codes ")")) }
 {
-    if wanted {
-        text.extend_from_slice(bytes)
-    } else {
-        Ok(())
-    }
+    show_named(text, schema, before, col)?;
+    show_values(alloc, text, values)?;
+    text.extend_from_slice(b")")
 }
 
-/// The two ends of a range, each behind a comma.
-fn show_ends(alloc: Global, text: &mut Vec<u8>, left: i64, right: i64) -> Result<(), AllocError>
-    ensures { OnOk result (text.new.items ≡ text.old.items ++ (codes ", " ++ (signed_decimal left ++ (codes ", " ++ signed_decimal right)))) }
-{
-    text.extend_from_slice(b", ")?;
-    show_number(alloc, text, left)?;
-    text.extend_from_slice(b", ")?;
-    show_number(alloc, text, right)
-}
-
+#[cycle(term)]
 fn show_term(
     alloc: Global,
     text: &mut Vec<u8>,
@@ -168,62 +161,55 @@ fn show_term(
     ensures { OnOk result (text.new.items ≡ text.old.items ++ shown.shown_term schema.now (preference_of term.now)) }
 {
     match term {
-        Term::Low { col } => {
-            show_named(text, schema, b"low(", *col)?;
-            text.extend_from_slice(b")")
-        }
-        Term::High { col } => {
-            show_named(text, schema, b"high(", *col)?;
-            text.extend_from_slice(b")")
-        }
+        Term::Low { col } => show_base(alloc, text, schema, b"low(", *col, &[]),
+        Term::High { col } => show_base(alloc, text, schema, b"high(", *col, &[]),
         Term::Around { col, centre } => {
-            show_named(text, schema, b"around(", *col)?;
-            text.extend_from_slice(b", ")?;
-            show_number(alloc, text, *centre)?;
-            text.extend_from_slice(b")")
+            show_base(alloc, text, schema, b"around(", *col, &[*centre])
         }
         Term::Between { col, left, right } => {
-            show_named(text, schema, b"between(", *col)?;
-            show_ends(alloc, text, *left, *right)?;
-            text.extend_from_slice(b")")
+            show_base(alloc, text, schema, b"between(", *col, &[*left, *right])
         }
-        Term::Pos { col, set } => {
-            show_named(text, schema, b"pos(", *col)?;
-            show_values(alloc, text, set.as_slice())?;
-            text.extend_from_slice(b")")
-        }
+        Term::Pos { col, set } => show_base(alloc, text, schema, b"pos(", *col, set.as_slice()),
         Term::Layered { col, sets } => {
             show_named(text, schema, b"layered(", *col)?;
             show_sets(alloc, text, sets.as_slice())?;
             text.extend_from_slice(b")")
         }
         Term::Pareto(p, q) => {
-            let left = is_prior(p);
-            put_if(text, left, b"(")?;
-            show_term(alloc, text, schema, p)?;
-            put_if(text, left, b")")?;
+            show_part(alloc, text, schema, p, is_prior(p))?;
             text.extend_from_slice(b" * ")?;
-            let right = is_composed(q);
-            put_if(text, right, b"(")?;
-            show_term(alloc, text, schema, q)?;
-            put_if(text, right, b")")
+            show_part(alloc, text, schema, q, is_composed(q))
         }
         Term::Prior(p, q) => {
             show_term(alloc, text, schema, p)?;
             text.extend_from_slice(b" & ")?;
-            let right = is_prior(q);
-            put_if(text, right, b"(")?;
-            show_term(alloc, text, schema, q)?;
-            put_if(text, right, b")")
+            show_part(alloc, text, schema, q, is_prior(q))
         }
         Term::Reverse(p) => {
             text.extend_from_slice(b"-")?;
-            let held = is_composed(p);
-            put_if(text, held, b"(")?;
-            show_term(alloc, text, schema, p)?;
-            put_if(text, held, b")")
+            show_part(alloc, text, schema, p, is_composed(p))
         }
     }
+}
+
+/// A part of a term, in parentheses where they are wanted.
+#[cycle(term)]
+fn show_part(
+    alloc: Global,
+    text: &mut Vec<u8>,
+    schema: &Schema,
+    part: &Term,
+    wanted: bool,
+) -> Result<(), AllocError>
+    requires { ReadsBelow (length schema.now) (preference_of part.now) }
+    ensures { OnOk result (text.new.items ≡ text.old.items ++ shown.held wanted (shown.shown_term schema.now (preference_of part.now))) }
+{
+    if !wanted {
+        return show_term(alloc, text, schema, part);
+    }
+    text.extend_from_slice(b"(")?;
+    show_term(alloc, text, schema, part)?;
+    text.extend_from_slice(b")")
 }
 
 /// The MIN and MAX columns of a clause.
