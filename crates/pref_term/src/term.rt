@@ -169,15 +169,11 @@ impl PartialEq for Term {
     /// One walk over both terms, up to where they differ.
     fn eq(&self, other: &Term) -> bool {
         match (self, other) {
-            (Term::Low { col }, Term::Low { col: same }) => *col == *same,
-            (Term::High { col }, Term::High { col: same }) => *col == *same,
-            (
-                Term::Around { col, centre },
-                Term::Around {
-                    col: same,
-                    centre: point,
-                },
-            ) => *col == *same && *centre == *point,
+            (Term::Low { col: a }, Term::Low { col: b }) => *a == *b,
+            (Term::High { col: a }, Term::High { col: b }) => *a == *b,
+            (Term::Around { col: a, centre: c }, Term::Around { col: b, centre: d }) => {
+                *a == *b && *c == *d
+            }
             (
                 Term::Between { col, left, right },
                 Term::Between {
@@ -186,20 +182,10 @@ impl PartialEq for Term {
                     right: last,
                 },
             ) => *col == *same && *left == *first && *right == *last,
-            (
-                Term::Pos { col, set },
-                Term::Pos {
-                    col: same,
-                    set: values,
-                },
-            ) => *col == *same && *set == *values,
-            (
-                Term::Layered { col, sets },
-                Term::Layered {
-                    col: same,
-                    sets: others,
-                },
-            ) => *col == *same && *sets == *others,
+            (Term::Pos { col: a, set: s }, Term::Pos { col: b, set: t }) => *a == *b && *s == *t,
+            (Term::Layered { col: a, sets: s }, Term::Layered { col: b, sets: t }) => {
+                *a == *b && *s == *t
+            }
             (Term::Pareto(p, q), Term::Pareto(r, s)) => **p == **r && **q == **s,
             (Term::Prior(p, q), Term::Prior(r, s)) => **p == **r && **q == **s,
             (Term::Reverse(p), Term::Reverse(r)) => **p == **r,
