@@ -33,19 +33,16 @@ fn count<'a>(cursor: Cursor<'a>) -> Parsed<'a, u32>
     let Token::Digits(digits) = taken.token else {
         return Err(taken.unexpected());
     };
-    match counted(digits) {
-        Some(count) => Ok((count, taken.next)),
-        None => Err(TermFault::BadCount {
-            at: taken.at as u64,
-        }),
-    }
+    let at = taken.at as u64;
+    let count = counted(digits).ok_or(TermFault::BadCount { at })?;
+    Ok((count, taken.next))
 }
 
 /// Takes the columns of a group and the end behind them.
-fn group_columns<'a>(
+fn group_columns(
     alloc: Global,
     schema: &Schema,
-    cursor: Cursor<'a>,
+    cursor: Cursor<'_>,
 ) -> Result<Vec<usize>, TermFault>
     ensures ok { IfOk result (λ columns. led.ReadsColumns schema.now (ahead cursor.entry) columns.items) }
     ensures err { IfErr result (λ f. led.FailsColumns schema.now (ahead cursor.entry) f) }
@@ -63,7 +60,7 @@ fn group_columns<'a>(
 }
 
 /// Takes the group of a question, which may have no column, and the end.
-fn grouping<'a>(alloc: Global, schema: &Schema, cursor: Cursor<'a>) -> Result<Vec<usize>, TermFault>
+fn grouping(alloc: Global, schema: &Schema, cursor: Cursor<'_>) -> Result<Vec<usize>, TermFault>
     ensures ok { IfOk result (λ columns. led.ReadsGrouping schema.now (ahead cursor.entry) columns.items) }
     ensures err { IfErr result (λ f. led.FailsGrouping schema.now (ahead cursor.entry) f) }
 {
@@ -78,12 +75,7 @@ fn grouping<'a>(alloc: Global, schema: &Schema, cursor: Cursor<'a>) -> Result<Ve
 }
 
 /// Takes what follows the words that say how many are wanted.
-fn rated<'a>(
-    alloc: Global,
-    schema: &Schema,
-    mode: Mode,
-    cursor: Cursor<'a>,
-) -> Result<Ask, TermFault>
+fn rated(alloc: Global, schema: &Schema, mode: Mode, cursor: Cursor<'_>) -> Result<Ask, TermFault>
     requires { IsCount (cut_of mode) }
     ensures ok { IfOk result (λ a. (head : grammar.HeadText) → spells.mode_of head ≡ mode → led.Asks schema.now (reading.operand (reading.in_whole head)) (ahead cursor.entry) a) }
     ensures known { IfOk result (λ a. FitsWidth (length schema.now) a) }
@@ -95,7 +87,7 @@ fn rated<'a>(
 }
 
 /// Takes the word `of`.
-fn of<'a>(cursor: Cursor<'a>) -> Result<Cursor<'a>, TermFault>
+fn of(cursor: Cursor<'_>) -> Result<Cursor<'_>, TermFault>
     ensures ok { IfOk result (λ next. led.PassesOf (ahead cursor.entry) (ahead next)) }
     ensures err { IfErr result (λ f. led.FailsOf (ahead cursor.entry) f) }
 {
@@ -113,10 +105,8 @@ fn direction<'a>(cursor: Cursor<'a>) -> Parsed<'a, Direction>
     ensures err { IfErr result (λ f. led.FailsDirection (ahead cursor.entry) f) }
 {
     let (letters, word) = take_word(cursor)?;
-    match direction_of(letters) {
-        Some(direction) => Ok((direction, word.next)),
-        None => Err(word.unexpected()),
-    }
+    let direction = direction_of(letters).ok_or(word.unexpected())?;
+    Ok((direction, word.next))
 }
 
 /// A dimension of a skyline clause.
@@ -176,7 +166,7 @@ fn extended(alloc: Global, clause: Clause, dimension: Dimension) -> Result<Claus
 }
 
 /// Takes the dimensions of a skyline clause and the end behind them.
-fn dimensions<'a>(alloc: Global, schema: &Schema, cursor: Cursor<'a>) -> Result<Clause, TermFault>
+fn dimensions(alloc: Global, schema: &Schema, cursor: Cursor<'_>) -> Result<Clause, TermFault>
     ensures ok { IfOk result (λ clause. led.ReadsClause schema.now (ahead cursor.entry) (option_map preference_of clause.product) clause.group.items) }
     ensures err { IfErr result (λ f. led.FailsClause schema.now (ahead cursor.entry) f) }
 {
@@ -196,10 +186,10 @@ fn dimensions<'a>(alloc: Global, schema: &Schema, cursor: Cursor<'a>) -> Result<
 }
 
 /// Takes the dimensions of a clause.
-fn clause_ask<'a>(
+fn clause_ask(
     alloc: Global,
     schema: &Schema,
-    cursor: Cursor<'a>,
+    cursor: Cursor<'_>,
     distinct: bool,
 ) -> Result<Ask, TermFault>
     ensures ok { IfOk result (λ a. led.AsksClause schema.now distinct (ahead cursor.entry) a) }
@@ -216,7 +206,7 @@ fn clause_ask<'a>(
 }
 
 /// Takes a whole question, in which no word `distinct` is a word of the clause.
-fn ask<'a>(alloc: Global, schema: &Schema, cursor: Cursor<'a>) -> Result<Ask, TermFault>
+fn ask(alloc: Global, schema: &Schema, cursor: Cursor<'_>) -> Result<Ask, TermFault>
     ensures ok { IfOk result (λ a. led.Asks schema.now reading.start (ahead cursor.entry) a) }
     ensures known { IfOk result (λ a. FitsWidth (length schema.now) a) }
     ensures err { IfErr result (λ f. led.AsksNothing schema.now reading.start (ahead cursor.entry) f) }
@@ -244,7 +234,7 @@ fn ask<'a>(alloc: Global, schema: &Schema, cursor: Cursor<'a>) -> Result<Ask, Te
 }
 
 /// Whether a word `distinct` ahead is one of a skyline clause: the second token behind it is a word.
-fn is_distinct_ahead<'a>(cursor: Cursor<'a>) -> bool
+fn is_distinct_ahead(cursor: Cursor<'_>) -> bool
     ensures { result ≡ distinct.is_distinct_ahead (ahead cursor.entry) }
 {
     let taken = cursor.take();
@@ -282,11 +272,7 @@ fn distinct_clause<'a>(cursor: Cursor<'a>) -> Option<Cursor<'a>>
 }
 
 /// Takes a whole question. Whether a word `distinct` behind `skyline of` is one of the clause or a column is chosen first.
-pub(super) fn question<'a>(
-    alloc: Global,
-    schema: &Schema,
-    cursor: Cursor<'a>,
-) -> Result<Ask, TermFault>
+pub(super) fn question(alloc: Global, schema: &Schema, cursor: Cursor<'_>) -> Result<Ask, TermFault>
     ensures ok { IfOk result (λ a. led.AsksWhole schema.now (ahead cursor.entry) a) }
     ensures known { IfOk result (λ a. FitsWidth (length schema.now) a) }
     ensures err { IfErr result (λ f. led.AsksWholeNothing schema.now (ahead cursor.entry) f) }
