@@ -1,5 +1,9 @@
 //! Preference terms, as the rPref manual has them.
 ghost use Rattle.std.specs.Prelude.{◌≡◌, IfOk, List, ℤ, [], ◌∷◌};
+ghost use Rattle.std.specs.Cmp.Lexicographic.{pointwise};
+ghost use Rattle.std.specs.Cmp.Rules.{comparing};
+ghost use Rattle.std.specs.Ordering.{int_eq};
+ghost use Rattle.std.proofs.Common.{rules};
 
 use std::alloc::{AllocError, Global};
 use std::marker::Model;
@@ -40,11 +44,6 @@ impl Numbers {
 }
 
 impl PartialEq for Numbers {
-    ghost use Rattle.std.proofs.Common.{rules};
-    ghost use Rattle.std.specs.Cmp.Lexicographic.{pointwise};
-    ghost use Rattle.std.specs.Cmp.Rules.{comparing};
-    ghost use Rattle.std.specs.Ordering.{int_eq};
-
     ghost eq = { pointwise int_eq };
 
     ghost laws = { Prim.search (comparing, rules) };
@@ -55,9 +54,6 @@ impl PartialEq for Numbers {
 }
 
 impl Eq for Numbers {
-    ghost use Rattle.std.proofs.Common.{rules};
-    ghost use Rattle.std.specs.Cmp.Rules.{comparing};
-
     ghost laws = { Prim.search (comparing, rules) };
 }
 
@@ -110,11 +106,6 @@ impl NumberSets {
 }
 
 impl PartialEq for NumberSets {
-    ghost use Rattle.std.proofs.Common.{rules};
-    ghost use Rattle.std.specs.Cmp.Lexicographic.{pointwise};
-    ghost use Rattle.std.specs.Cmp.Rules.{comparing};
-    ghost use Rattle.std.specs.Ordering.{int_eq};
-
     ghost eq = { pointwise (pointwise int_eq) };
 
     ghost laws = { Prim.search (comparing, rules) };
@@ -125,9 +116,6 @@ impl PartialEq for NumberSets {
 }
 
 impl Eq for NumberSets {
-    ghost use Rattle.std.proofs.Common.{rules};
-    ghost use Rattle.std.specs.Cmp.Rules.{comparing};
-
     ghost laws = { Prim.search (comparing, rules) };
 }
 
