@@ -19,7 +19,7 @@ pub(crate) struct Cursor<'a> {
 #[derive(Clone, Copy)]
 pub(crate) struct Taken<'a> {
     pub token: Token<'a>,
-    pub at: usize,
+    pub at: u64,
     pub next: Cursor<'a>,
 }
 
@@ -38,12 +38,13 @@ impl<'a> Cursor<'a> {
     pub(crate) fn take(self) -> Taken<'a>
         ensures { ahead self.entry ≡ taken result }
     {
-        let at = self.place + blanks_length(&self.text[self.place..]);
-        let (token, length) = front(&self.text[at..]);
+        let start = self.place + blanks_length(&self.text[self.place..]);
+        let (token, length) = front(&self.text[start..]);
         let next = Cursor {
             text: self.text,
-            place: at + length,
+            place: start + length,
         };
+        let at = start as u64;
         Taken { token, at, next }
     }
 }
@@ -75,6 +76,6 @@ impl<'a> Taken<'a> {
     pub(crate) fn unexpected(self) -> TermFault
         ensures { result ≡ TermFault.Unexpected self.entry.at }
     {
-        TermFault::Unexpected { at: self.at as u64 }
+        TermFault::Unexpected { at: self.at }
     }
 }

@@ -33,8 +33,7 @@ fn count<'a>(cursor: Cursor<'a>) -> Parsed<'a, u32>
     let Token::Digits(digits) = taken.token else {
         return Err(taken.unexpected());
     };
-    let at = taken.at as u64;
-    let count = counted(digits).ok_or(TermFault::BadCount { at })?;
+    let count = counted(digits).ok_or(TermFault::BadCount { at: taken.at })?;
     Ok((count, taken.next))
 }
 

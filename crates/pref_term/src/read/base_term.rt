@@ -51,7 +51,7 @@ pub(super) fn column<'a>(schema: &Schema, cursor: Cursor<'a>) -> Parsed<'a, usiz
     let (letters, word) = take_word(cursor)?;
     match schema.index_of(letters) {
         Some(col) => Ok((col, word.next)),
-        None => Err(TermFault::UnknownColumn { at: word.at as u64 }),
+        None => Err(TermFault::UnknownColumn { at: word.at }),
     }
 }
 
@@ -79,9 +79,7 @@ fn number<'a>(cursor: Cursor<'a>) -> Parsed<'a, i64>
     };
     match signed_number(negative, digits) {
         Some(value) => Ok((value, last.next)),
-        None => Err(TermFault::NumberRange {
-            at: first.at as u64,
-        }),
+        None => Err(TermFault::NumberRange { at: first.at }),
     }
 }
 
@@ -156,9 +154,7 @@ fn range_end<'a>(left: i64, cursor: Cursor<'a>) -> Parsed<'a, i64>
     let taken = cursor.take();
     let (right, next) = number(cursor)?;
     if right < left {
-        return Err(TermFault::EmptyRange {
-            at: taken.at as u64,
-        });
+        return Err(TermFault::EmptyRange { at: taken.at });
     }
     Ok((right, next))
 }

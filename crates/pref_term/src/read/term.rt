@@ -18,7 +18,7 @@ use std::alloc::Global;
 const DEEPEST: usize = 64;
 
 /// How many nestings are open within one that opens there.
-fn deeper(depth: usize, at: usize) -> Result<usize, TermFault>
+fn deeper(depth: usize, at: u64) -> Result<usize, TermFault>
     requires { depth ≤ 64 }
     ensures ok { IfOk result (λ inside. (depth < 64) × (inside ≡ depth + 1)) }
     ensures err { IfErr result (λ f. (64 ≤ depth) × (f ≡ TermFault.TooDeep at)) }
@@ -26,7 +26,7 @@ fn deeper(depth: usize, at: usize) -> Result<usize, TermFault>
     if depth < DEEPEST {
         Ok(depth + 1)
     } else {
-        Err(TermFault::TooDeep { at: at as u64 })
+        Err(TermFault::TooDeep { at })
     }
 }
 
