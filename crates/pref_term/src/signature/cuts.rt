@@ -80,11 +80,6 @@ impl Cuts {
     pub(crate) fn suit(&self, keys: &[Key], group: &[usize]) -> bool
         ensures { result ≡ true → All (Suits keys.now group.now) self.now }
     {
-        for scale in self.as_slice() {
-            if !scale.suits(keys, group) {
-                return false;
-            }
-        }
-        true
+        self.as_slice().iter().all(|scale| scale.suits(keys, group))
     }
 }
