@@ -145,21 +145,7 @@ pub(super) fn around<'a>(schema: &Schema, cursor: Cursor<'a>) -> Parsed<'a, Term
     Ok((Term::Around { col, centre }, rest))
 }
 
-/// Takes the right end of a range, which is no less than its left end.
-fn range_end<'a>(left: i64, cursor: Cursor<'a>) -> Parsed<'a, i64>
-    ensures ok { IfOk result (λ x. led.ReadsEnd left (ahead cursor.entry) x.0 (ahead x.1)) }
-    ensures shorter { IfOk result (λ x. length (ahead x.1) < length (ahead cursor.entry)) }
-    ensures err { IfErr result (λ f. led.FailsEnd left (ahead cursor.entry) f) }
-{
-    let taken = cursor.take();
-    let (right, next) = number(cursor)?;
-    if right < left {
-        return Err(TermFault::EmptyRange { at: taken.at });
-    }
-    Ok((right, next))
-}
-
-/// Takes what follows `between`.
+/// Takes what follows `between`. The right end of a range is no less than its left end.
 pub(super) fn between<'a>(schema: &Schema, cursor: Cursor<'a>) -> Parsed<'a, Term>
     ensures ok { IfOk result (λ x. led.ReadsBase schema.now reading.between_kind (ahead cursor.entry) (preference_of x.0) (ahead x.1)) }
     ensures shorter { IfOk result (λ x. length (ahead x.1) < length (ahead cursor.entry)) }
@@ -169,7 +155,11 @@ pub(super) fn between<'a>(schema: &Schema, cursor: Cursor<'a>) -> Parsed<'a, Ter
     let inside = expect(next, Sign::Comma)?;
     let (left, behind) = number(inside)?;
     let beside = expect(behind, Sign::Comma)?;
-    let (right, end) = range_end(left, beside)?;
+    let (right, end) = number(beside)?;
+    if right < left {
+        let at = beside.take().at;
+        return Err(TermFault::EmptyRange { at });
+    }
     let rest = expect(end, Sign::Right)?;
     Ok((Term::Between { col, left, right }, rest))
 }

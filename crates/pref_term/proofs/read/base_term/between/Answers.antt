@@ -1,8 +1,9 @@
 use Rattle.pref_term.specs.Ahead.{ahead}
-use Rattle.pref_term.specs.Led.{ReadsBase, ReadsEnd, FailsEnd}
-use Rattle.pref_term.specs.Reading.{between_kind}
-use Rattle.pref_term.proofs.LedLemmas.{between_read, column_end_fails, between_left_fails, between_comma_fails, between_right_fails, between_end_fails, err_exit}
-use Rattle.std.proofs.Common.{w64, rules, to_z, of_z, ℤ, sym, subst}
+use Rattle.pref_term.specs.Led.{ReadsBase, ReadsEnd, FailsEnd, first_place}
+use Rattle.pref_term.specs.Reading.{between_kind, end_of}
+use Rattle.pref_term.specs.declared.fault.TermFault.TheVariants.{EmptyRange}
+use Rattle.pref_term.proofs.LedLemmas.{between_read, column_end_fails, between_left_fails, between_comma_fails, between_right_fails, between_end_fails, end_read, end_refused, err_exit}
+use Rattle.std.proofs.Common.{◌≡◌, w64, rules, to_z, of_z, int_lt, ℤ, ap, sym, subst, ◌∙◌}
 use Rattle.std.proofs.lemmas.Int.{to_z-of_z}
 use Rattle.pref_term.specs.Preference.{scored, between}
 use Rattle.pref_term.proofs.read.base_term.between.Goals as goal
@@ -18,16 +19,35 @@ returns-in_err-beside-clause-err c = err_exit _ _ c.from_residual-in_err-beside.
 
 pub returns-in_err-right-clause-err : goal.returns-in_err-right-clause-err
 returns-in_err-right-clause-err c = err_exit _ _ c.from_residual-in_err-right.ensures.1 (between_right_fails c.args.schema.now _ (ahead c.in_ok-col.next) (ahead c.in_ok-inside.inside) (ahead c.in_ok-left.behind) (ahead c.in_ok-beside.beside) c.in_ok-col.col c.in_ok-left.left _ c.in_ok-col.ensures.ok c.in_ok-inside.ensures.ok c.in_ok-left.ensures.ok c.in_ok-beside.ensures.ok
-    (subst (λ (l : ℤ). FailsEnd l (ahead c.in_ok-beside.beside) c.in_err-right.field-0.0) (to_z-of_z w64 c.in_ok-left.left (search rules)) c.in_err-right.ensures.err))
+    (λ names h column lower _. c.in_err-right.ensures.err names h (end_of column lower)))
+
+pub returns-then-right-left-clause-err : goal.returns-then-right-left-clause-err
+returns-then-right-left-clause-err c =
+    let left = c.in_ok-left.left in
+    let right = c.in_ok-right.right in
+    let l : to_z w64 (of_z w64 left) ≡ left = to_z-of_z w64 left (search rules) in
+    let r : to_z w64 (of_z w64 right) ≡ right = to_z-of_z w64 right (search rules) in
+    between_right_fails c.args.schema.now _ (ahead c.in_ok-col.next) (ahead c.in_ok-inside.inside) (ahead c.in_ok-left.behind) (ahead c.in_ok-beside.beside) c.in_ok-col.col left (EmptyRange c.take-at.result.at) c.in_ok-col.ensures.ok c.in_ok-inside.ensures.ok c.in_ok-left.ensures.ok c.in_ok-beside.ensures.ok
+    (subst (λ at. FailsEnd left (ahead c.in_ok-beside.beside) (EmptyRange at)) (ap first_place c.take-at.ensures)
+    (end_refused (ahead c.in_ok-beside.beside) (ahead c.in_ok-right.end) left right c.in_ok-right.ensures.ok (sym (λ i. int_lt (r i) (l i)) ∙ c.if-right-left.true)))
 
 pub returns-in_err-rest-clause-err : goal.returns-in_err-rest-clause-err
-returns-in_err-rest-clause-err c = err_exit _ _ c.from_residual-in_err-rest.ensures.1 (between_end_fails c.args.schema.now _ (ahead c.in_ok-col.next) (ahead c.in_ok-inside.inside) (ahead c.in_ok-left.behind) (ahead c.in_ok-beside.beside) (ahead c.in_ok-right.end) c.in_ok-col.col c.in_ok-left.left c.in_ok-right.right _ c.in_ok-col.ensures.ok c.in_ok-inside.ensures.ok c.in_ok-left.ensures.ok c.in_ok-beside.ensures.ok
-    (subst (λ (l : ℤ). ReadsEnd l (ahead c.in_ok-beside.beside) c.in_ok-right.right (ahead c.in_ok-right.end)) (to_z-of_z w64 c.in_ok-left.left (search rules)) c.in_ok-right.ensures.ok) c.in_err-rest.ensures.err)
+returns-in_err-rest-clause-err c =
+    let left = c.in_ok-left.left in
+    let right = c.in_ok-right.right in
+    let l : to_z w64 (of_z w64 left) ≡ left = to_z-of_z w64 left (search rules) in
+    let r : to_z w64 (of_z w64 right) ≡ right = to_z-of_z w64 right (search rules) in
+    err_exit _ _ c.from_residual-in_err-rest.ensures.1 (between_end_fails c.args.schema.now _ (ahead c.in_ok-col.next) (ahead c.in_ok-inside.inside) (ahead c.in_ok-left.behind) (ahead c.in_ok-beside.beside) (ahead c.in_ok-right.end) c.in_ok-col.col left right _ c.in_ok-col.ensures.ok c.in_ok-inside.ensures.ok c.in_ok-left.ensures.ok c.in_ok-beside.ensures.ok
+    (end_read _ _ left right c.in_ok-right.ensures.ok (sym (λ i. int_lt (r i) (l i)) ∙ c.if-right-left.false)) c.in_err-rest.ensures.err)
 
 pub returns-clause-ok : goal.returns-clause-ok
 returns-clause-ok c =
-    subst (λ (l : ℤ). ReadsBase c.args.schema.now between_kind (ahead c.args.cursor) (scored (between c.in_ok-col.col l (to_z w64 (of_z w64 c.in_ok-right.right)))) (ahead c.in_ok-rest.rest)) (sym (to_z-of_z w64 c.in_ok-left.left (search rules)))
-    (subst (λ (r : ℤ). ReadsBase c.args.schema.now between_kind (ahead c.args.cursor) (scored (between c.in_ok-col.col c.in_ok-left.left r)) (ahead c.in_ok-rest.rest)) (sym (to_z-of_z w64 c.in_ok-right.right (search rules)))
-    (between_read c.args.schema.now _ (ahead c.in_ok-col.next) (ahead c.in_ok-inside.inside) (ahead c.in_ok-left.behind) (ahead c.in_ok-beside.beside) (ahead c.in_ok-right.end) (ahead c.in_ok-rest.rest) c.in_ok-col.col c.in_ok-left.left c.in_ok-right.right
+    let left = c.in_ok-left.left in
+    let right = c.in_ok-right.right in
+    let l : to_z w64 (of_z w64 left) ≡ left = to_z-of_z w64 left (search rules) in
+    let r : to_z w64 (of_z w64 right) ≡ right = to_z-of_z w64 right (search rules) in
+    subst (λ (a : ℤ). ReadsBase c.args.schema.now between_kind (ahead c.args.cursor) (scored (between c.in_ok-col.col a (to_z w64 (of_z w64 right)))) (ahead c.in_ok-rest.rest)) (sym l)
+    (subst (λ (b : ℤ). ReadsBase c.args.schema.now between_kind (ahead c.args.cursor) (scored (between c.in_ok-col.col left b)) (ahead c.in_ok-rest.rest)) (sym r)
+    (between_read c.args.schema.now _ (ahead c.in_ok-col.next) (ahead c.in_ok-inside.inside) (ahead c.in_ok-left.behind) (ahead c.in_ok-beside.beside) (ahead c.in_ok-right.end) (ahead c.in_ok-rest.rest) c.in_ok-col.col left right
     c.in_ok-col.ensures.ok c.in_ok-inside.ensures.ok c.in_ok-left.ensures.ok c.in_ok-beside.ensures.ok
-    (subst (λ (l : ℤ). ReadsEnd l (ahead c.in_ok-beside.beside) c.in_ok-right.right (ahead c.in_ok-right.end)) (to_z-of_z w64 c.in_ok-left.left (search rules)) c.in_ok-right.ensures.ok) c.in_ok-rest.ensures.ok))
+    (end_read _ _ left right c.in_ok-right.ensures.ok (sym (λ i. int_lt (r i) (l i)) ∙ c.if-right-left.false)) c.in_ok-rest.ensures.ok))
