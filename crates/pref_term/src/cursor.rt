@@ -38,12 +38,11 @@ impl<'a> Cursor<'a> {
     pub(crate) fn take(self) -> Taken<'a>
         ensures { ahead self.entry ≡ taken result }
     {
-        let start = self.place + blanks_length(&self.text[self.place..]);
-        let (token, length) = front(&self.text[start..]);
-        let next = Cursor {
-            text: self.text,
-            place: start + length,
-        };
+        let text = self.text;
+        let start = self.place + blanks_length(&text[self.place..]);
+        let (token, length) = front(&text[start..]);
+        let place = start + length;
+        let next = Cursor { text, place };
         let at = start as u64;
         Taken { token, at, next }
     }
