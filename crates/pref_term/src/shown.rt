@@ -29,8 +29,8 @@ pub fn show(alloc: Global, schema: &Schema, ask: &Ask) -> Result<Vec<u8>, AllocE
         show_differing(&mut text, schema, ask.group())?;
         return Ok(text);
     }
-    show_mode(alloc, &mut text, ask.mode())?;
-    show_term(alloc, &mut text, schema, ask.term())?;
+    show_mode(&mut text, ask.mode())?;
+    show_term(&mut text, schema, ask.term())?;
     show_group(&mut text, schema, ask.group())?;
     Ok(text)
 }
@@ -49,64 +49,64 @@ fn show_named(
     text.extend_from_slice(schema.name(col))
 }
 
-fn show_mode(alloc: Global, text: &mut Vec<u8>, mode: Mode) -> Result<(), AllocError>
+fn show_mode(text: &mut Vec<u8>, mode: Mode) -> Result<(), AllocError>
     ensures { OnOk result (text.new.items ≡ text.old.items ++ shown.shown_mode mode) }
 {
     match mode {
         Mode::Best => text.extend_from_slice(b"best "),
-        Mode::TopLevel(count) => show_count(alloc, text, b"top_level ", count),
-        Mode::AtLeast(count) => show_count(alloc, text, b"at_least ", count),
+        Mode::TopLevel(count) => show_count(text, b"top_level ", count),
+        Mode::AtLeast(count) => show_count(text, b"at_least ", count),
     }
 }
 
 /// A word, and a count.
-fn show_count(alloc: Global, text: &mut Vec<u8>, word: &[u8], count: u32) -> Result<(), AllocError>
+fn show_count(text: &mut Vec<u8>, word: &[u8], count: u32) -> Result<(), AllocError>
     ensures { OnOk result (text.new.items ≡ text.old.items ++ (word.now ++ decimal count ++ codes " ")) }
 {
     text.extend_from_slice(word)?;
-    let digits = count.to_string(alloc)?;
+    let digits = count.to_string(*text.allocator())?;
     text.extend_from_slice(digits.as_bytes())?;
     text.extend_from_slice(b" ")
 }
 
-fn show_number(alloc: Global, text: &mut Vec<u8>, value: i64) -> Result<(), AllocError>
+fn show_number(text: &mut Vec<u8>, value: i64) -> Result<(), AllocError>
     ensures { OnOk result (text.new.items ≡ text.old.items ++ signed_decimal value) }
 {
-    let digits = value.to_string(alloc)?;
+    let digits = value.to_string(*text.allocator())?;
     text.extend_from_slice(digits.as_bytes())
 }
 
 /// The values of a set, each after a comma.
-fn show_values(alloc: Global, text: &mut Vec<u8>, set: &[i64]) -> Result<(), AllocError>
+fn show_values(text: &mut Vec<u8>, set: &[i64]) -> Result<(), AllocError>
     ensures { OnOk result (text.new.items ≡ text.old.items ++ shown.shown_values set.now) }
 {
     for value in set {
         text.extend_from_slice(b", ")?;
-        show_number(alloc, text, *value)?;
+        show_number(text, *value)?;
     }
     Ok(())
 }
 
 /// A set in its braces.
-fn show_set(alloc: Global, text: &mut Vec<u8>, set: &Numbers) -> Result<(), AllocError>
+fn show_set(text: &mut Vec<u8>, set: &Numbers) -> Result<(), AllocError>
     ensures { OnOk result (text.new.items ≡ text.old.items ++ shown.shown_set set.now) }
 {
     let Some((first, others)) = set.as_slice().split_first() else {
         return text.extend_from_slice(b"{}");
     };
     text.extend_from_slice(b"{")?;
-    show_number(alloc, text, *first)?;
-    show_values(alloc, text, others)?;
+    show_number(text, *first)?;
+    show_values(text, others)?;
     text.extend_from_slice(b"}")
 }
 
 /// The sets, each after a comma.
-fn show_sets(alloc: Global, text: &mut Vec<u8>, sets: &[Numbers]) -> Result<(), AllocError>
+fn show_sets(text: &mut Vec<u8>, sets: &[Numbers]) -> Result<(), AllocError>
     ensures { OnOk result (text.new.items ≡ text.old.items ++ shown.shown_sets sets.now) }
 {
     for set in sets {
         text.extend_from_slice(b", ")?;
-        show_set(alloc, text, set)?;
+        show_set(text, set)?;
     }
     Ok(())
 }
@@ -135,7 +135,6 @@ fn show_more_names(text: &mut Vec<u8>, schema: &Schema, columns: &[usize]) -> Re
 
 /// A base term: these bytes, the name of the column, and the values, each after a comma.
 fn show_base(
-    alloc: Global,
     text: &mut Vec<u8>,
     schema: &Schema,
     before: &[u8],
@@ -146,48 +145,41 @@ fn show_base(
     ensures { OnOk result (text.new.items ≡ text.old.items ++ (before.now ++ shown.name_at schema.now col ++ shown.shown_values values.now ++ codes ")")) }
 {
     show_named(text, schema, before, col)?;
-    show_values(alloc, text, values)?;
+    show_values(text, values)?;
     text.extend_from_slice(b")")
 }
 
 #[cycle(term)]
-fn show_term(
-    alloc: Global,
-    text: &mut Vec<u8>,
-    schema: &Schema,
-    term: &Term,
-) -> Result<(), AllocError>
+fn show_term(text: &mut Vec<u8>, schema: &Schema, term: &Term) -> Result<(), AllocError>
     requires { ReadsBelow (length schema.now) (preference_of term.now) }
     ensures { OnOk result (text.new.items ≡ text.old.items ++ shown.shown_term schema.now (preference_of term.now)) }
 {
     match term {
-        Term::Low { col } => show_base(alloc, text, schema, b"low(", *col, &[]),
-        Term::High { col } => show_base(alloc, text, schema, b"high(", *col, &[]),
-        Term::Around { col, centre } => {
-            show_base(alloc, text, schema, b"around(", *col, &[*centre])
-        }
+        Term::Low { col } => show_base(text, schema, b"low(", *col, &[]),
+        Term::High { col } => show_base(text, schema, b"high(", *col, &[]),
+        Term::Around { col, centre } => show_base(text, schema, b"around(", *col, &[*centre]),
         Term::Between { col, left, right } => {
-            show_base(alloc, text, schema, b"between(", *col, &[*left, *right])
+            show_base(text, schema, b"between(", *col, &[*left, *right])
         }
-        Term::Pos { col, set } => show_base(alloc, text, schema, b"pos(", *col, set.as_slice()),
+        Term::Pos { col, set } => show_base(text, schema, b"pos(", *col, set.as_slice()),
         Term::Layered { col, sets } => {
             show_named(text, schema, b"layered(", *col)?;
-            show_sets(alloc, text, sets.as_slice())?;
+            show_sets(text, sets.as_slice())?;
             text.extend_from_slice(b")")
         }
         Term::Pareto(p, q) => {
-            show_part(alloc, text, schema, p, is_prior(p))?;
+            show_part(text, schema, p, is_prior(p))?;
             text.extend_from_slice(b" * ")?;
-            show_part(alloc, text, schema, q, is_composed(q))
+            show_part(text, schema, q, is_composed(q))
         }
         Term::Prior(p, q) => {
-            show_term(alloc, text, schema, p)?;
+            show_term(text, schema, p)?;
             text.extend_from_slice(b" & ")?;
-            show_part(alloc, text, schema, q, is_prior(q))
+            show_part(text, schema, q, is_prior(q))
         }
         Term::Reverse(p) => {
             text.extend_from_slice(b"-")?;
-            show_part(alloc, text, schema, p, is_composed(p))
+            show_part(text, schema, p, is_composed(p))
         }
     }
 }
@@ -195,7 +187,6 @@ fn show_term(
 /// A part of a term, in parentheses where they are wanted.
 #[cycle(term)]
 fn show_part(
-    alloc: Global,
     text: &mut Vec<u8>,
     schema: &Schema,
     part: &Term,
@@ -205,10 +196,10 @@ fn show_part(
     ensures { OnOk result (text.new.items ≡ text.old.items ++ shown.held wanted (shown.shown_term schema.now (preference_of part.now))) }
 {
     if !wanted {
-        return show_term(alloc, text, schema, part);
+        return show_term(text, schema, part);
     }
     text.extend_from_slice(b"(")?;
-    show_term(alloc, text, schema, part)?;
+    show_term(text, schema, part)?;
     text.extend_from_slice(b")")
 }
 
