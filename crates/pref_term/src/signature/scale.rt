@@ -1,7 +1,7 @@
 //! Scales: the bits that a signature has of one column.
 ghost use Rattle.std.specs.List.{flat_map};
 ghost use Rattle.std.specs.Prelude.{◌≡◌, ◌<◌, ◌==◌, [], ◌∷◌, bit_and, int_lt, map, not, pos, true};
-ghost use Rattle.pref_term.specs.Leading.{Leads, Suits};
+ghost use Rattle.pref_term.specs.Leading.{Suits};
 ghost use Rattle.pref_term.specs.Signatures.{bits_by, scale_column, signed_onto};
 
 use crate::key::Key;
@@ -43,16 +43,6 @@ fn hashed_onto(word: u64, hash: u64, masks: &[u64]) -> u64
 }
 
 impl Scale {
-    /// The column that it reads.
-    fn column(&self) -> usize
-        ensures { result ≡ scale_column self.now }
-    {
-        match self {
-            Scale::Marks { key, .. } => key.col,
-            Scale::Hashes { col, .. } => *col,
-        }
-    }
-
     /// Puts its bits of a row behind a word's.
     pub(super) fn sign_onto(&self, word: u64, row: &Row) -> u64
         requires { scale_column self.now < 16 }
@@ -64,21 +54,14 @@ impl Scale {
         }
     }
 
-    /// Whether its key is one of these.
-    fn leads(&self, keys: &[Key]) -> bool
-        ensures { result ≡ true → Leads keys.now self.now }
-    {
-        match self {
-            Scale::Marks { key, .. } => contains(keys, key),
-            Scale::Hashes { .. } => false,
-        }
-    }
-
     /// Whether rows of one group of which the first is better or the same, in an order that these keys lead, have no bit of it that the
     /// second lacks: it reads a column of the group, or its key is one of these.
     pub(super) fn suits(&self, keys: &[Key], group: &[usize]) -> bool
         ensures { result ≡ true → Suits keys.now group.now self.now }
     {
-        group.contains(&self.column()) || self.leads(keys)
+        match self {
+            Scale::Marks { key, .. } => group.contains(&key.col) || contains(keys, key),
+            Scale::Hashes { col, .. } => group.contains(col),
+        }
     }
 }
