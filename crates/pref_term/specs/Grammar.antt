@@ -223,13 +223,6 @@ direction_word minimal = min_word
 direction_word maximal = max_word
 direction_word different = diff_word
 
--- the direction that this word names
-abbrev pub direction_in : Option CasedWord → Option Direction
-direction_in (Some min_word) = Some minimal
-direction_in (Some max_word) = Some maximal
-direction_in (Some diff_word) = Some different
-direction_in _ = None
-
 -- the leaves of a dimension
 abbrev pub dim_leaves : DimText → List Leaf
 dim_leaves d = column_name d.column ∷ cased (direction_word d.direction) d.written ∷ []

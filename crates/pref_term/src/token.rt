@@ -1,7 +1,7 @@
 //! The tokens of a question text.
 
 ghost use Rattle.std.specs.Prelude.{◌≡◌};
-ghost use Rattle.pref_term.specs.Grammar.{base_words, keyword_of, cased_of, direction_in, outer_words, word_among};
+ghost use Rattle.pref_term.specs.Grammar.{base_words, keyword_of, cased_of, outer_words, word_among};
 
 /// A byte that is a token by itself.
 #[derive(Clone, Copy)]
@@ -105,17 +105,5 @@ pub(crate) fn cased_word(letters: &[u8]) -> Option<CasedWord>
         Some(CasedWord::Diff)
     } else {
         None
-    }
-}
-
-/// What a word in any case says of a column.
-pub(crate) fn direction_of(letters: &[u8]) -> Option<Direction>
-    ensures { result ≡ direction_in (cased_of letters.now) }
-{
-    match cased_word(letters)? {
-        CasedWord::Min => Some(Direction::Min),
-        CasedWord::Max => Some(Direction::Max),
-        CasedWord::Diff => Some(Direction::Diff),
-        _ => None,
     }
 }

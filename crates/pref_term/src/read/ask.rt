@@ -18,9 +18,7 @@ use crate::fault::TermFault;
 use crate::front::Token;
 use crate::number::counted;
 use crate::term::Term;
-use crate::token::{
-    CasedWord, Direction, Keyword, Sign, cased_word, direction_of, word_of_grammar,
-};
+use crate::token::{CasedWord, Direction, Keyword, Sign, cased_word, word_of_grammar};
 use pref_table::Schema;
 use std::alloc::Global;
 
@@ -104,7 +102,12 @@ fn direction<'a>(cursor: Cursor<'a>) -> Parsed<'a, Direction>
     ensures err { IfErr result (λ f. led.FailsDirection (ahead cursor.entry) f) }
 {
     let (letters, word) = take_word(cursor)?;
-    let direction = direction_of(letters).ok_or(word.unexpected())?;
+    let direction = match cased_word(letters) {
+        Some(CasedWord::Min) => Direction::Min,
+        Some(CasedWord::Max) => Direction::Max,
+        Some(CasedWord::Diff) => Direction::Diff,
+        _ => return Err(word.unexpected()),
+    };
     Ok((direction, word.next))
 }
 
