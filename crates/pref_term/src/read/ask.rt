@@ -199,12 +199,10 @@ fn clause_ask(
     ensures err { IfErr result (λ f. led.AsksClauseNothing schema.now distinct (ahead cursor.entry) f) }
 {
     let Clause { product, group } = dimensions(alloc, schema, cursor)?;
-    match product {
-        Some(term) => Ask::new(alloc, term, group, Mode::Best, distinct).map_err(
-            |_| TermFault::OutOfMemory,
-        ),
-        None => Err(TermFault::NoMinOrMax),
-    }
+    let Some(term) = product else {
+        return Err(TermFault::NoMinOrMax);
+    };
+    Ask::new(alloc, term, group, Mode::Best, distinct).map_err(|_| TermFault::OutOfMemory)
 }
 
 /// Takes a whole question, in which no word `distinct` is a word of the clause.
