@@ -184,18 +184,13 @@ fn show_term(text: &mut Vec<u8>, schema: &Schema, term: &Term) -> Result<(), All
     }
 }
 
-/// A part of a term, in parentheses where they are wanted.
+/// A part of a term, held in parentheses where it needs them.
 #[cycle(term)]
-fn show_part(
-    text: &mut Vec<u8>,
-    schema: &Schema,
-    part: &Term,
-    wanted: bool,
-) -> Result<(), AllocError>
+fn show_part(text: &mut Vec<u8>, schema: &Schema, part: &Term, held: bool) -> Result<(), AllocError>
     requires { ReadsBelow (length schema.now) (preference_of part.now) }
-    ensures { OnOk result (text.new.items ≡ text.old.items ++ shown.held wanted (shown.shown_term schema.now (preference_of part.now))) }
+    ensures { OnOk result (text.new.items ≡ text.old.items ++ shown.held held (shown.shown_term schema.now (preference_of part.now))) }
 {
-    if !wanted {
+    if !held {
         return show_term(text, schema, part);
     }
     text.extend_from_slice(b"(")?;

@@ -1,5 +1,5 @@
 use Rattle.pref_term.specs.Ahead.{ahead}
-use Rattle.pref_term.specs.Led.{ReadsBase, ReadsEnd, FailsEnd, first_place}
+use Rattle.pref_term.specs.Led.{ReadsBase, FailsEnd, first_place}
 use Rattle.pref_term.specs.Reading.{between_kind, end_of}
 use Rattle.pref_term.specs.declared.fault.TermFault.TheVariants.{EmptyRange}
 use Rattle.pref_term.proofs.LedLemmas.{between_read, column_end_fails, between_left_fails, between_comma_fails, between_right_fails, between_end_fails, end_read, end_refused, err_exit}
