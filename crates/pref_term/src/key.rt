@@ -66,7 +66,7 @@ pub(crate) fn sets_before(sets: &[Numbers], value: i64) -> usize
 pub(crate) fn is_member(set: &Numbers, value: i64) -> bool
     ensures { result ≡ list_any (int_eq value) set.now }
 {
-    set.as_slice().iter().any(|own| *own == value)
+    set.as_slice().contains(&value)
 }
 
 impl Score {

@@ -122,9 +122,11 @@ fn by_values(a: i64, b: i64) -> Relation
 fn by_member(a: i64, b: i64, set: &Numbers) -> Relation
     ensures { result ≡ by_scores (better.missed set.now a) (better.missed set.now b) }
 {
-    let first = !is_member(set, a);
-    let second = !is_member(set, b);
-    by_keys(u64::from(first), u64::from(second))
+    match (is_member(set, a), is_member(set, b)) {
+        (true, false) => Relation::Better,
+        (false, true) => Relation::Worse,
+        _ => Relation::Same,
+    }
 }
 
 /// A value in an earlier set is better than one in a later set, or in none.
