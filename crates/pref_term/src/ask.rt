@@ -153,9 +153,9 @@ impl Ask {
         }
     }
 
-    /// Compares two rows by the term alone. A call of its own, so that the test of their groups before it is small enough to be inlined
-    /// where rows are compared.
-    #[inline(never)]
+    /// Compares two rows by the term alone. Inlined where rows are compared, since each of its two ways is a call of its own, with the
+    /// registers that it needs and no more.
+    #[inline(always)]
     fn compare_in_group(&self, a: &Row, b: &Row) -> Relation
         ensures better { is_better result ≡ better self.now.preference a.now b.now }
         ensures worse { is_worse result ≡ better self.now.preference b.now a.now }

@@ -90,7 +90,7 @@ pub fn in_same_group(columns: &[usize], a: &Row, b: &Row) -> bool
 /// How the first row compares with the second one by the product of these keys, none of which has sets.
 ///
 /// One loop, which stops at the first key after which neither row can be better. Takes no memory.
-#[inline]
+#[inline(never)]
 pub(crate) fn compare_by_keys(keys: &[Key], a: &Row, b: &Row) -> Relation
     requires columns { All (λ key. key.col < 16) keys.now }
     requires numbers { All (λ key. is_number key.score ≡ true) keys.now }

@@ -15,6 +15,7 @@ use pref_table::Row;
 ///
 /// One walk: each base term's scores are compared at most once. A product stops at a part that decides
 /// for neither row, and a priority at its first part that sees a difference. Takes no memory.
+#[inline(never)]
 pub fn compare(term: &Term, a: &Row, b: &Row) -> Relation
     requires { ReadsBelow 16 (preference_of term.now) }
     ensures better { is_better result ≡ better.better (preference_of term.now) a.now b.now }
