@@ -118,7 +118,7 @@ mode_same (AtLeast k) = (unsigned_Decides k k).1 refl
 group_eq-Decides : (a b : List ℕ) → Decides (pointwise ◌==◌ a b) (a ≡ b)
 group_eq-Decides a b = slice_eq-Decides unsigned_Decides a b _ refl
 
-bool_Decides : (a b : Bool) → Decides (beq a b) (a ≡ b)
+pub bool_Decides : (a b : Bool) → Decides (beq a b) (a ≡ b)
 bool_Decides true true = (λ h. refl, λ e. refl)
 bool_Decides true false = (λ h. cc, λ e. cc)
 bool_Decides false true = (λ h. cc, λ e. cc)

@@ -12,7 +12,7 @@ use pref_table::Row;
 use std::alloc::{AllocError, Global};
 
 /// How a value is scored. Less is better.
-#[derive(Drop)]
+#[derive(Drop, PartialEq)]
 pub(crate) enum Score {
     /// As it is.
     Value,
@@ -24,7 +24,7 @@ pub(crate) enum Score {
 
 /// A base term, or its converse: the column, how its values are scored, and whether higher scores are better. A column counts from 0, and
 /// is below 16.
-#[derive(Drop)]
+#[derive(Drop, PartialEq)]
 pub(crate) struct Key {
     pub(crate) col: usize,
     pub(crate) score: Score,
@@ -100,24 +100,6 @@ impl Score {
                 right: *right,
             }),
             Score::Sets(sets) => Ok(Score::Sets(sets.copy(alloc)?)),
-        }
-    }
-
-    /// Whether they are the same.
-    fn is(&self, other: &Score) -> bool
-        ensures { result ≡ true → self.now ≡ other.now }
-    {
-        match (self, other) {
-            (Score::Value, Score::Value) => true,
-            (
-                Score::Distance { left, right },
-                Score::Distance {
-                    left: first,
-                    right: last,
-                },
-            ) => *left == *first && *right == *last,
-            (Score::Sets(sets), Score::Sets(others)) => *sets == *others,
-            _ => false,
         }
     }
 }
@@ -211,12 +193,5 @@ impl Key {
             score: self.score.copy(alloc)?,
             turned: self.turned,
         })
-    }
-
-    /// Whether they are the same.
-    pub(crate) fn is(&self, other: &Key) -> bool
-        ensures { result ≡ true → self.now ≡ other.now }
-    {
-        self.col == other.col && self.turned == other.turned && self.score.is(&other.score)
     }
 }

@@ -52,12 +52,7 @@ pub(crate) fn push_leading(
 pub(crate) fn contains(keys: &[Key], key: &Key) -> bool
     ensures { result ≡ true → Contains keys.now key.now }
 {
-    for own in keys {
-        if own.is(key) {
-            return true;
-        }
-    }
-    false
+    keys.contains(key)
 }
 
 /// Whether the term has no priority in it, so that its leading keys are its whole order, and no sets. A product with sets is walked: its
