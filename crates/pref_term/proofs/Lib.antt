@@ -1,6 +1,7 @@
 pub mod Sizes
 pub mod WalkLaws
 pub mod KeyLaws
+pub mod KeyEqual
 pub mod ChainLaws
 pub mod SignatureWords
 pub mod SignatureLaws
