@@ -1,6 +1,6 @@
 -- Orders that are products of two chains. A chain is a list of keys of which the first that differs decides. (this project)
-use Rattle.std.specs.Prelude.{◌≡◌, ◌<◌, Bool, true, false, not, ◌&&◌, ℕ, ℤ, List, [], ◌∷◌, ◌++◌, All}
-use Rattle.std.specs.Option.{option_map_or}
+use Rattle.std.specs.Prelude.{◌≡◌, ◌<◌, Option, Bool, true, false, not, ◌&&◌, ℕ, ℤ, List, [], ◌∷◌, ◌++◌, All}
+use Rattle.std.specs.Option.{option_map, option_map_or}
 use Rattle.pref_term.specs.Better.{in_same_group}
 use Rattle.pref_term.specs.Keys.{by_key, key_for}
 use Rattle.pref_term.specs.Order.{RowOrder, StandAlike, is_better, is_same}
@@ -22,6 +22,10 @@ first_chain chains = chains.first.items
 
 abbrev pub second_chain : Chains → List Key
 second_chain chains = option_map_or (λ keys. keys.items) chains.second chains.first.items
+
+-- the second where it has a list of its own
+abbrev pub own_second : Chains → Option (List Key)
+own_second chains = option_map (λ keys. keys.items) chains.second
 
 -- by the product of the two
 abbrev pub by_chains : Chains → List ℤ → List ℤ → Relation

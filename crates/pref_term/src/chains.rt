@@ -1,6 +1,6 @@
 //! Orders that are products of two chains, of which a plain chain is one.
 ghost use Rattle.std.specs.Prelude.{◌≡◌, ◌<◌, ◌++◌, false, true, All, IfOk, IfSome, OnOk};
-ghost use Rattle.pref_term.specs.Chains.{AreChainsOf, AreInRow, IsInRow, by_chain, chain_keys, first_chain, is_chain, is_paired, second_chain};
+ghost use Rattle.pref_term.specs.Chains.{AreChainsOf, AreInRow, IsInRow, by_chain, chain_keys, first_chain, is_chain, is_paired, own_second, second_chain};
 ghost use Rattle.pref_term.specs.Preference.{preference_of};
 ghost use Rattle.pref_term.specs.declared.relation.Relation.TheVariants.{Neither};
 
@@ -41,6 +41,37 @@ impl Chains {
         }))
     }
 
+    /// The same two chains again. Takes memory for their lists, and for the sets. `Err` is out of memory.
+    pub fn copy(&self, alloc: Global) -> Result<Chains, AllocError>
+        ensures first { IfOk result (λ copied. first_chain copied ≡ first_chain self.now) }
+        ensures second { IfOk result (λ copied. second_chain copied ≡ second_chain self.now) }
+        ensures one { IfOk result (λ copied. own_second copied ≡ own_second self.now) }
+    {
+        let first = copy_chain(alloc, &self.first)?;
+        let second = match &self.second {
+            Some(second) => Some(copy_chain(alloc, second)?),
+            None => None,
+        };
+        Ok(Chains { first, second })
+    }
+
+    /// Whether they are the same two chains: the same keys in the same order. One chain that serves as both is not the same as two. Takes
+    /// no memory.
+    pub fn is_same(&self, other: &Chains) -> bool
+        ensures first { result ≡ true → first_chain self.now ≡ first_chain other.now }
+        ensures second { result ≡ true → second_chain self.now ≡ second_chain other.now }
+        ensures differ { result ≡ false → first_chain self.now ≡ first_chain other.now → own_second self.now ≡ own_second other.now → ⊥ }
+    {
+        if !is_same_list(&self.first, &other.first) {
+            return false;
+        }
+        match (&self.second, &other.second) {
+            (Some(second), Some(other)) => is_same_list(second, other),
+            (None, None) => true,
+            _ => false,
+        }
+    }
+
     /// Whether both are one chain.
     pub fn is_one(&self) -> bool
         ensures { result ≡ true → first_chain self.now ≡ second_chain self.now }
@@ -68,6 +99,25 @@ impl Chains {
             None => compare_in_chain(&self.first, a, b),
         }
     }
+}
+
+/// The same keys again.
+fn copy_chain(alloc: Global, keys: &[Key]) -> Result<Vec<Key>, AllocError>
+    ensures { IfOk result (λ copied. copied.items ≡ keys.now) }
+{
+    let mut copied = Vec::with_capacity(alloc, keys.len())?;
+    for key in keys {
+        copied.push(key.copy(alloc)?)?;
+    }
+    Ok(copied)
+}
+
+/// Whether they are the same keys in the same order.
+fn is_same_list(keys: &[Key], other: &[Key]) -> bool
+    ensures same { result ≡ true → keys.now ≡ other.now }
+    ensures differ { result ≡ false → keys.now ≡ other.now → ⊥ }
+{
+    keys == other
 }
 
 /// By the first of these keys in which the rows differ.
