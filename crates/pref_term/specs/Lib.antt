@@ -13,6 +13,7 @@ pub mod PreferenceCode
 pub mod Walk
 pub mod Keys
 pub mod Chains
+pub mod SameChains
 pub mod Signatures
 pub mod Leading
 pub mod Token
