@@ -77,6 +77,16 @@ fn is_one(ask: &Ask) -> Option<bool> {
     }
 }
 
+/// A copy of a question's chains is the same two, and one chain where they are one.
+fn check_copy(rt: &impl Abort, alloc: Global, question: &str, ask: &Ask) -> Result<(), Fail> {
+    if let Some((_, chains)) = ask.chains() {
+        let copied = chains.copy(alloc)?;
+        let found = (copied.is_same(chains), copied.is_one());
+        assert_same(rt, question, &found, &(true, chains.is_one()));
+    }
+    Ok(())
+}
+
 fn check_chains(
     rt: &impl Abort,
     alloc: Global,
@@ -87,6 +97,7 @@ fn check_chains(
         let ask = ask_over(alloc, &XY, question.as_bytes())?;
         assert_same(rt, *question, &is_one(&ask), wanted);
         check_pairs(rt, question, &ask, rows);
+        check_copy(rt, alloc, question, &ask)?;
     }
     Ok(())
 }
@@ -96,4 +107,37 @@ fn check_chains(
 fn a_product_of_two_chains_compares_in_each(rt: HostRuntime) -> Result<(), Fail> {
     let rows = small_rows(rt.alloc())?;
     check_chains(&rt, rt.alloc(), &rows, &QUESTIONS)
+}
+
+/// Pairs of questions, and whether their chains are the same two.
+const PAIRS: [(&str, &str, bool); 10] = [
+    ("best low(x)", "at_least 3 low(x) by y", true),
+    ("best high(x) & low(y)", "best -low(x) & -high(y)", true),
+    ("best around(x, 1)", "best between(x, 1, 1)", true),
+    ("skyline of x min, y max", "best low(x) * high(y)", true),
+    ("best low(x) * high(y)", "best high(y) * low(x)", false),
+    ("best low(x) * high(y)", "best low(x) * low(y)", false),
+    ("best low(x)", "best low(x) * low(x)", false),
+    ("best low(x)", "best low(x) & low(y)", false),
+    ("best low(x)", "best low(y)", false),
+    ("best low(x) & pos(y, 0)", "best low(x) & pos(y, 1)", false),
+];
+
+/// Whether two questions have the same two chains; `None` where one of them has none.
+fn have_same(first: &Ask, second: &Ask) -> Option<bool> {
+    match (first.chains(), second.chains()) {
+        (Some((_, chains)), Some((_, others))) => Some(chains.is_same(others)),
+        _ => None,
+    }
+}
+
+#[test]
+fn chains_are_the_same_where_their_keys_are(rt: HostRuntime) -> Result<(), Fail> {
+    for (first, second, wanted) in PAIRS {
+        let one = ask_over(rt.alloc(), &XY, first.as_bytes())?;
+        let other = ask_over(rt.alloc(), &XY, second.as_bytes())?;
+        let found = have_same(&one, &other);
+        assert_same(&rt, (first, second), &found, &Some(wanted));
+    }
+    Ok(())
 }

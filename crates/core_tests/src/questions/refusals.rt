@@ -6,7 +6,7 @@ ghost use Rattle.pref_term.specs.Question.{FitsWidth};
 use super::{XYG, row_over};
 use crate::same::{assert_same, assert_same_list};
 use pref_table::Schema;
-use pref_term::{Ask, Dominance, Mode, Relation, TermFault, read_ask, show};
+use pref_term::{Ask, Chains, Dominance, Mode, Relation, TermFault, read_ask, show};
 use std::alloc::Global;
 use std::process::Abort;
 use std::test::Fail;
@@ -76,5 +76,38 @@ fn a_refused_showing_is_told_and_made_again(rt: HostRuntime) -> Result<(), Fail>
     let schema = columns(rt.alloc())?;
     let ask = read_ask(rt.alloc(), &schema, QUESTION)?;
     check_showing(&rt, rt.alloc(), &schema, &ask);
+    Ok(())
+}
+
+/// A copy of these chains, made again where memory was refused.
+fn copied_in_the_end(rt: &impl Abort, alloc: Global, chains: &Chains) -> Chains {
+    match chains.copy(alloc) {
+        Ok(copied) => copied,
+        Err(_) => chains.copy(alloc).expect(rt, "memory"),
+    }
+}
+
+/// Whether the chains of a question are those that are copied; `None` where it has none.
+fn are_copied(rt: &impl Abort, alloc: Global, question: &str) -> Result<Option<bool>, Fail> {
+    let schema = columns(alloc)?;
+    let ask = read_ask(alloc, &schema, question.as_bytes())?;
+    match ask.chains() {
+        Some((_, chains)) => {
+            let copied = copied_in_the_end(rt, alloc, chains);
+            Ok(Some(copied.is_same(chains)))
+        }
+        None => Ok(None),
+    }
+}
+
+#[test]
+fn a_refused_copy_of_chains_is_told_and_made_again(rt: HostRuntime) -> Result<(), Fail> {
+    for question in [
+        "best low(x) & (-around(y, -3) * high(g))",
+        "best pos(g, 1, 2) & (low(x) * layered(y, {1, 2}, {3}))",
+    ] {
+        let found = are_copied(&rt, rt.alloc(), question)?;
+        assert_same(&rt, question, &found, &Some(true));
+    }
     Ok(())
 }
