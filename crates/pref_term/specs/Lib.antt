@@ -11,6 +11,7 @@ pub mod Equal
 pub mod EqualLaws
 pub mod PreferenceCode
 pub mod Walk
+pub mod RelationLaws
 pub mod Keys
 pub mod Chains
 pub mod SameChains
