@@ -6,13 +6,12 @@ use Rattle.std.proofs.lemmas.List.Elements.{All-append, All-same}
 use Rattle.pref_term.specs.Better.{in_same_group}
 use Rattle.pref_term.specs.Chains.{AreChainsOf, AreInRow, IsProductOf, by_chain, by_chains, chain_keys, is_chain, is_paired}
 use Rattle.pref_term.specs.Columns.{ReadsBelow}
-use Rattle.pref_term.specs.AskOrder.{order_of, order_of_twins_alike}
+use Rattle.pref_term.specs.AskOrder.{order_of, order_of_twins_are_alike}
 use Rattle.pref_term.specs.Keys.{by_key, key_for}
 use Rattle.pref_term.specs.Order.{is_better, is_same}
 use Rattle.pref_term.specs.OrderLaws.{and_parts}
 use Rattle.pref_term.specs.Preference.{Preference, scored, pareto, prior, reverse}
 use Rattle.pref_term.specs.Question.{Question, IsAsk, alike}
-use Rattle.pref_term.specs.TwinLaws.{twins_alike}
 use Rattle.pref_term.specs.Walk.{in_priority, in_product, walked}
 use Rattle.pref_term.specs.declared.chains.Chains.{Chains}
 use Rattle.pref_term.specs.declared.key.Key.{Key}
@@ -107,7 +106,7 @@ alike_in_chains q chains a b h =
     ap (λ r. in_same_group q.group a b && r) (ap is_same (chains_law q.preference chains a b h) ∙ walked-same q.preference a b)
 
 -- the order of a question is the product of the chains of its preference, within its groups
-pub product_of_chains : (q : Question) (chains : Chains) → IsAsk q → AreChainsOf q.preference chains → IsProductOf (order_of q) q.group chains
+pub product_of_chains : (q : Question) (chains : Chains) → IsAsk q → AreChainsOf q.preference chains → IsProductOf (order_of q) q.group chains q.distinct
 product_of_chains q chains known h = record {
   group = known.columns.group;
   in_row = record {
@@ -115,6 +114,5 @@ product_of_chains q chains known h = record {
     second = All-same (λ key. key.col < 16) _ _ h.second (keys_in_row q.preference true false known.columns.preference);
   };
   over = λ a b. ap (λ r. in_same_group q.group a b && r) (sym (walked-better q.preference a b) ∙ ap is_better (sym (chains_law q.preference chains a b h)));
-  twin = λ a b twin. alike_in_chains q chains a b h ∙ twins_alike q a b twin;
-  alike = λ a b same. order_of_twins_alike q known a b (sym (alike_in_chains q chains a b h) ∙ same);
+  twin = λ a b. order_of_twins_are_alike q known a b ∙ ap (λ t. q.distinct && t) (sym (alike_in_chains q chains a b h));
 }

@@ -1,5 +1,6 @@
 -- The order of an ask: within its groups, by its preference; and which rows it keeps one of. (skyline with DIFF and DISTINCT; psel on a grouped table)
-use Rattle.std.proofs.Common.{◌≡◌, Bool, true, false, List, ℤ, refl, sym, ◌∙◌}
+use Rattle.std.proofs.Common.{◌≡◌, Bool, true, false, List, ℤ, refl, sym, ap, ◌∙◌}
+use Rattle.std.specs.Prelude.{◌&&◌}
 use Rattle.pref_term.specs.Better.{better, in_same_group, same}
 use Rattle.pref_term.specs.Order.{IsRowOrder, IsStrictOrder, RowOrder, StandAlike}
 use Rattle.pref_term.specs.OrderLaws.{and_made, and_parts, over_not_self, over_on, alike_above, alike_below}
@@ -36,6 +37,14 @@ order_of_twins_alike q known a b h = go q.distinct refl
         twins_have_twins (order_of q) (order_of_is_row_order q) a b
         (and_made q.distinct _ keeps (sym (clause_twins q a b (known.clause keeps).preference) ∙ h))
     go false all = record { above = λ c. rw all refl; below = λ c. rw all refl }
+
+-- twins are just the rows of one group that are the same, where of equal rows one is kept
+pub order_of_twins_are_alike : (q : Question) → IsAsk q → (a b : List ℤ) → (order_of q).twin a b ≡ (q.distinct && alike q a b)
+order_of_twins_are_alike q known a b = go q.distinct refl
+  where
+    go : (d : Bool) → q.distinct ≡ d → (order_of q).twin a b ≡ (q.distinct && alike q a b)
+    go true keeps = ap (λ t. q.distinct && t) (sym (clause_twins q a b (known.clause keeps).preference))
+    go false all = rw all refl
 
 -- a row dominates rows of its own group alone
 pub order_of_stays_in_groups : (q : Question) (a b : List ℤ) → (order_of q).over a b ≡ true → in_same_group q.group a b ≡ true

@@ -3,7 +3,7 @@ use Rattle.std.specs.Prelude.{◌≡◌, ◌<◌, Option, Bool, true, false, not
 use Rattle.std.specs.Option.{option_map, option_map_or}
 use Rattle.pref_term.specs.Better.{in_same_group}
 use Rattle.pref_term.specs.Keys.{by_key, key_for}
-use Rattle.pref_term.specs.Order.{RowOrder, StandAlike, is_better, is_same}
+use Rattle.pref_term.specs.Order.{RowOrder, is_better, is_same}
 use Rattle.pref_term.specs.Preference.{Preference, scored, pareto, prior, reverse}
 use Rattle.pref_term.specs.Walk.{in_priority, in_product}
 use Rattle.pref_term.specs.declared.chains.Chains.{Chains}
@@ -39,14 +39,19 @@ pub record IsInRow (chains : Chains) : Type 0 where
   pub first : AreInRow (first_chain chains)
   pub second : AreInRow (second_chain chains)
 
--- within the groups of these columns the order is just their product
-pub record IsProductOf (order : RowOrder) (columns : List ℕ) (chains : Chains) : Type 0 where
+-- the order that two chains say within the groups of these columns: better in their product; and where of equal rows one is kept, those that are the same in both are twins
+abbrev pub chain_order : List ℕ → Chains → (distinct : Bool) → RowOrder
+chain_order columns chains distinct = record {
+  over = λ a b. in_same_group columns a b && is_better (by_chains chains a b);
+  twin = λ a b. distinct && (in_same_group columns a b && is_same (by_chains chains a b));
+}
+
+-- the order is just what these chains say
+pub record IsProductOf (order : RowOrder) (columns : List ℕ) (chains : Chains) (distinct : Bool) : Type 0 where
   pub group : All (λ col. col < 16) columns
   pub in_row : IsInRow chains
-  pub over : (a b : List ℤ) → order.over a b ≡ (in_same_group columns a b && is_better (by_chains chains a b))
-  pub twin : (a b : List ℤ) → order.twin a b ≡ true → (in_same_group columns a b && is_same (by_chains chains a b)) ≡ true
-  -- rows of a group that are the same in both chains have the same twins
-  pub alike : (a b : List ℤ) → (in_same_group columns a b && is_same (by_chains chains a b)) ≡ true → StandAlike order.twin a b
+  pub over : (a b : List ℤ) → order.over a b ≡ (chain_order columns chains distinct).over a b
+  pub twin : (a b : List ℤ) → order.twin a b ≡ (chain_order columns chains distinct).twin a b
 
 -- it has no product in it
 abbrev pub is_chain : Preference → Bool

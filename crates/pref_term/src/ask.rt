@@ -248,9 +248,9 @@ impl Dominance for Ask {
         self.group()
     }
 
-    fn chains(&self) -> Option<(&[usize], &Chains)> {
+    fn chains(&self) -> Option<(&[usize], &Chains, bool)> {
         match &self.chains {
-            Some(chains) => Some((self.group(), &**chains)),
+            Some(chains) => Some((self.group(), &**chains, self.distinct)),
             None => None,
         }
     }
