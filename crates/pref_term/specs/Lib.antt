@@ -14,6 +14,7 @@ pub mod Walk
 pub mod RelationLaws
 pub mod Keys
 pub mod Chains
+pub mod ChainOrder
 pub mod SameChains
 pub mod Signatures
 pub mod Leading

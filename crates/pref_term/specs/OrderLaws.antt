@@ -86,7 +86,7 @@ module _ {R : Type 0} {B S C T : R → R → Bool} (o : IsOrder B S) (u : IsOrde
   both_back a b h = let x = and_parts (S a b) (T a b) h in and_made (S b a) (T b a) (o.alike_back a b x.0) (u.alike_back a b x.1)
 
   -- better in one part, and better or the same in the other
-  beats : R → R → Bool
+  unfoldable pub beats : R → R → Bool
   beats a b = (B a b && (C a b || T a b)) || (C a b && (B a b || S a b))
 
   -- the same, as a choice of facts
@@ -132,7 +132,7 @@ module _ {R : Type 0} {B S C T : R → R → Bool} (o : IsOrder B S) (u : IsOrde
         | inr x ↦ inr (then_weak u a b c x.0 k.1, weak_on o a b c x.1 k.0)
       ]
 
-  pareto_order : IsOrder beats (λ a b. S a b && T a b)
+  pub pareto_order : IsOrder beats (λ a b. S a b && T a b)
   unfolding beats
   pareto_order = record {
     alike_self = λ a. and_made (S a a) (T a a) (o.alike_self a) (u.alike_self a);
@@ -144,7 +144,7 @@ module _ {R : Type 0} {B S C T : R → R → Bool} (o : IsOrder B S) (u : IsOrde
     before_alike = λ a b c h k. facts_beat a c (beats_weak a b c (beats_facts a b h) (alike_parts b c k));
   }
 
-  prior_order : IsOrder (λ a b. B a b || (S a b && C a b)) (λ a b. S a b && T a b)
+  pub prior_order : IsOrder (λ a b. B a b || (S a b && C a b)) (λ a b. S a b && T a b)
   prior_order = record {
     alike_self = λ a. and_made (S a a) (T a a) (o.alike_self a) (u.alike_self a);
     alike_back = both_back;
