@@ -1,5 +1,5 @@
 -- Lists of keys are chains, and an order that is the product of two of them within groups is stairs.
-use Rattle.std.proofs.Common.{◌≡◌, ℤ, ℕ, suc, Bool, true, false, cond, not, ◌&&◌, ◌||◌, List, [], ◌∷◌, refl, sym, ◌∙◌, ap, subst, arith}
+use Rattle.std.proofs.Common.{◌≡◌, ℤ, ℕ, Bool, true, false, not, ◌&&◌, ◌||◌, List, [], ◌∷◌, refl, sym, ◌∙◌, ap, subst, arith}
 use Rattle.std.specs.Prelude.{int_lt, nat_lt}
 use Rattle.std.specs.Ordering.{int_eq}
 use Rattle.std.proofs.lemmas.Int.{ints}
@@ -8,6 +8,7 @@ use Rattle.pref_term.specs.Better.{cell, in_same_group}
 use Rattle.pref_term.specs.Chains.{IsProductOf, by_chain, by_chains, first_chain, second_chain}
 use Rattle.pref_term.specs.Keys.{keyed}
 use Rattle.pref_term.specs.Order.{RowOrder, is_better, is_same, is_worse}
+use Rattle.pref_term.specs.RelationLaws.{product-same}
 use Rattle.pref_term.specs.Walk.{by_scores, by_sides, in_product, in_priority}
 use Rattle.pref_term.specs.declared.chains.Chains.{Chains}
 use Rattle.pref_term.specs.declared.key.Key.{Key}
@@ -92,18 +93,16 @@ product_better : (r s : Relation) (p q : Bool) → is_worse r ≡ p → is_worse
     → is_better (in_product r s) ≡ ((not p && not q) && (is_better r || (is_better s || false)))
 product_better r s p q h k l m = grind (arith, h, k, l, m)
 
-product_same : (r s : Relation) → is_same (in_product r s) ≡ (is_same r && is_same s)
-product_same r s = grind arith
-
-place_lower : (t u : Bool) (i j : ℕ) → t ≡ u → nat_lt (cond t (suc i) 0) (cond u (suc j) 0) ≡ (t && nat_lt i j)
-place_lower t u i j h = grind (arith, nat_tests)
-
 -- twins, of which the one with the smaller id dominates, are a tie
-twins_tie : (over twin lower same fab fba sab sba tie : Bool) → over ≡ ((not fba && not sba) && (fab || (sab || false))) → same ≡ ((not fab && not fba) && (not sab && not sba))
-    → (twin ≡ true → same ≡ true) → (same ≡ true → tie ≡ (twin && lower)) → (over || (twin && lower)) ≡ ((not fba && not sba) && (fab || (sab || tie)))
-twins_tie over twin lower same fab fba sab sba tie h k l m = grind (arith, h, k, l, m)
+twins_tie : (over twin lower same fab fba sab sba distinct : Bool) → over ≡ ((not fba && not sba) && (fab || (sab || false))) → same ≡ ((not fab && not fba) && (not sab && not sba))
+    → twin ≡ (distinct && same) → (over || (twin && lower)) ≡ ((not fba && not sba) && (fab || (sab || (distinct && lower))))
+twins_tie over twin lower same fab fba sab sba distinct h k l = grind (arith, h, k, l)
 
-module _ (order : RowOrder) (columns : List ℕ) (chains : Chains) (of : IsProductOf order columns chains) where
+tie_chain : (distinct : Bool) → IsChain (earlier_twin distinct)
+tie_chain true = places_chain (λ e. e.id)
+tie_chain false = no_chain
+
+module _ (order : RowOrder) (columns : List ℕ) (chains : Chains) (distinct : Bool) (of : IsProductOf order columns chains distinct) where
   without_groups : AreStairs (λ a b. is_better (by_chains chains a b)) (better_in (first_chain chains)) (better_in (second_chain chains)) (λ a b. false)
   without_groups = record {
     first_is_chain = keys_chain (first_chain chains);
@@ -128,23 +127,21 @@ module _ (order : RowOrder) (columns : List ℕ) (chains : Chains) (of : IsProdu
   -- rows of a group that are the same are level in both chains
   level_in_both : (a b : List ℤ) → (in_same_group columns a b && is_same (by_chains chains a b)) ≡ (are_level (first_within columns chains) a b && are_level (second_within columns chains) a b)
   level_in_both a b =
-      grind (arith, same_group columns a b, product_same (by_chain (first_chain chains) a b) (by_chain (second_chain chains) a b), same_in (first_chain chains) a b, same_in (second_chain chains) a b)
+      grind (arith, same_group columns a b, product-same (by_chain (first_chain chains) a b) (by_chain (second_chain chains) a b), same_in (first_chain chains) a b, same_in (second_chain chains) a b)
 
   -- entries
-  pub entries_are_stairs : AreStairs (entry_order order) (by_row (first_within columns chains)) (by_row (second_within columns chains)) (earlier_twin order)
+  pub entries_are_stairs : AreStairs (entry_order order) (by_row (first_within columns chains)) (by_row (second_within columns chains)) (earlier_twin distinct)
   entries_are_stairs =
       let rows = rows_are_stairs in
       record {
         first_is_chain = chain_of_entries (first_within columns chains) rows.first_is_chain;
         second_is_chain = chain_of_entries (second_within columns chains) rows.second_is_chain;
-        tie_is_chain = places_chain (λ e. cond (order.twin e.row e.row) (suc e.id) 0);
-        is = λ a b. twins_tie _ _ _ _ _ _ _ _ _ (rows.is a.row b.row) (level_in_both a.row b.row) (of.twin a.row b.row) (λ h.
-            let s = of.alike a.row b.row h in
-            place_lower (order.twin a.row a.row) (order.twin b.row b.row) a.id b.id (s.above a.row ∙ s.below b.row) ∙ ap (λ t. t && nat_lt a.id b.id) (s.above a.row));
+        tie_is_chain = tie_chain distinct;
+        is = λ a b. twins_tie _ _ _ _ _ _ _ _ _ (rows.is a.row b.row) (level_in_both a.row b.row) (of.twin a.row b.row);
       }
 
   -- where both are one chain, a line
-  pub entries_are_a_line : first_chain chains ≡ second_chain chains → IsLine (entry_order order) (by_row (earlier_in columns)) (in_turn (by_row (better_in (first_chain chains))) (earlier_twin order))
+  pub entries_are_a_line : first_chain chains ≡ second_chain chains → IsLine (entry_order order) (by_row (earlier_in columns)) (in_turn (by_row (better_in (first_chain chains))) (earlier_twin distinct))
   entries_are_a_line one =
-      line_of_one (entry_order order) (by_row (earlier_in columns)) (by_row (better_in (first_chain chains))) (by_row (better_in (second_chain chains))) (earlier_twin order) (λ a b. ap (λ keys. better_in keys a.row b.row) one)
+      line_of_one (entry_order order) (by_row (earlier_in columns)) (by_row (better_in (first_chain chains))) (by_row (better_in (second_chain chains))) (earlier_twin distinct) (λ a b. ap (λ keys. better_in keys a.row b.row) one)
       (chain_of_entries (earlier_in columns) (earlier_chain columns)) (chain_of_entries (better_in (first_chain chains)) (keys_chain (first_chain chains))) entries_are_stairs

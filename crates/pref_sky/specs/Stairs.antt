@@ -1,8 +1,8 @@
 -- Orders that are one chain, or a product of two chains, within groups, and lists in their order, where one entry is asked in place of all. (this project)
-use Rattle.std.specs.Prelude.{⊤, ◌≡◌, Bool, true, false, cond, not, ◌&&◌, ◌||◌, int_lt, nat_lt, ℕ, suc, ℤ, List, [], ◌∷◌}
+use Rattle.std.specs.Prelude.{⊤, ◌≡◌, Bool, true, false, cond, not, ◌&&◌, ◌||◌, int_lt, nat_lt, ℕ, ℤ, List, [], ◌∷◌}
 use Rattle.pref_term.specs.Better.{cell}
 use Rattle.pref_term.specs.Chains.{by_chain, first_chain, second_chain}
-use Rattle.pref_term.specs.Order.{IsStrictOrder, RowOrder, StandAlike, is_better}
+use Rattle.pref_term.specs.Order.{IsStrictOrder, StandAlike, is_better}
 use Rattle.pref_term.specs.declared.chains.Chains.{Chains}
 use Rattle.pref_term.specs.declared.key.Key.{Key}
 use Rattle.pref_sky.specs.Members.{Among}
@@ -82,6 +82,6 @@ second_within columns chains = in_turn (λ a b. earlier_in columns b a) (better_
 abbrev pub by_row : (List ℤ → List ℤ → Bool) → Entry → Entry → Bool
 by_row better a b = better a.row b.row
 
--- the smaller id is earlier of two entries that have twins; one without is earlier than one with
-abbrev pub earlier_twin : RowOrder → Entry → Entry → Bool
-earlier_twin order a b = nat_lt (cond (order.twin a.row a.row) (suc a.id) 0) (cond (order.twin b.row b.row) (suc b.id) 0)
+-- of entries, the smaller id is earlier where of equal rows one is kept
+abbrev pub earlier_twin : (distinct : Bool) → Entry → Entry → Bool
+earlier_twin distinct a b = distinct && nat_lt a.id b.id

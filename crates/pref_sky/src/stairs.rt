@@ -108,11 +108,11 @@ pub fn chains_are_these()
 /// An order that is a product of two chains within groups is stairs, and so it is as one of entries. It is a line where both are one
 /// chain.
 pub fn products_of_two_chains_are_stairs()
-    ensures rows { (order : RowOrder) (columns : List ℕ) (chains : Chains) → IsProductOf order columns chains
+    ensures rows { (order : RowOrder) (columns : List ℕ) (chains : Chains) (distinct : Bool) → IsProductOf order columns chains distinct
         → AreStairs order.over (first_within columns chains) (second_within columns chains) (λ a b. false) }
-    ensures entries { (order : RowOrder) (columns : List ℕ) (chains : Chains) → IsProductOf order columns chains
-        → AreStairs (entry_order order) (by_row (first_within columns chains)) (by_row (second_within columns chains)) (earlier_twin order) }
-    ensures line { (order : RowOrder) (columns : List ℕ) (chains : Chains) → IsProductOf order columns chains
+    ensures entries { (order : RowOrder) (columns : List ℕ) (chains : Chains) (distinct : Bool) → IsProductOf order columns chains distinct
+        → AreStairs (entry_order order) (by_row (first_within columns chains)) (by_row (second_within columns chains)) (earlier_twin distinct) }
+    ensures line { (order : RowOrder) (columns : List ℕ) (chains : Chains) (distinct : Bool) → IsProductOf order columns chains distinct
         → first_chain chains ≡ second_chain chains
-        → IsLine (entry_order order) (by_row (earlier_in columns)) (in_turn (by_row (better_in (first_chain chains))) (earlier_twin order)) }
+        → IsLine (entry_order order) (by_row (earlier_in columns)) (in_turn (by_row (better_in (first_chain chains))) (earlier_twin distinct)) }
 {}
