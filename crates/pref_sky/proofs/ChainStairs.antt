@@ -38,14 +38,14 @@ numbers_chain number = record {
   between = λ a b c h k. below_between (number a) (number b) (number c) h k;
 }
 
-places_chain : {E : Type 0} (place : E → ℕ) → IsChain (λ a b. nat_lt (place a) (place b))
+pub places_chain : {E : Type 0} (place : E → ℕ) → IsChain (λ a b. nat_lt (place a) (place b))
 places_chain place = record {
   strict = record { irreflexive = λ a. grind (arith, nat_tests); transitive = λ a b c h k. grind (arith, nat_tests) };
   between = λ a b c h k. grind (arith, nat_tests);
 }
 
 -- a chain of rows is one of entries
-chain_of_entries : (better : List ℤ → List ℤ → Bool) → IsChain better → IsChain {E = Entry} (λ a b. better a.row b.row)
+pub chain_of_entries : (better : List ℤ → List ℤ → Bool) → IsChain better → IsChain {E = Entry} (λ a b. better a.row b.row)
 chain_of_entries better chain = record {
   strict = record { irreflexive = λ a. chain.strict.irreflexive a.row; transitive = λ a b c h k. chain.strict.transitive a.row b.row c.row h k };
   between = λ a b c h k. chain.between a.row b.row c.row h k;

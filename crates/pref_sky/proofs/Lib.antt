@@ -19,6 +19,7 @@ pub mod Halves
 pub mod StairLaws
 pub mod LineLaws
 pub mod ChainStairs
+pub mod ChainOrders
 pub mod Selections
 pub mod TwinsAmongBest
 pub mod LevelLaws

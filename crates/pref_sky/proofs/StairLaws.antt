@@ -51,7 +51,7 @@ filter_in_order before p (e ∷ others) h =
     let deeper = filter_in_order before p others h.1 in
     cond_both (p e) (e ∷ filter p others) (filter p others) (IsInOrder before) (λ k. ((λ x m. h.0 x (from_filter p others x m).0), deeper)) (λ k. deeper)
 
-in_weaker_order : {E : Type 0} (before weaker : E → E → Bool) → ((a b : E) → before a b ≡ true → weaker a b ≡ true) → (xs : List E) → IsInOrder before xs → IsInOrder weaker xs
+pub in_weaker_order : {E : Type 0} (before weaker : E → E → Bool) → ((a b : E) → before a b ≡ true → weaker a b ≡ true) → (xs : List E) → IsInOrder before xs → IsInOrder weaker xs
 in_weaker_order before weaker then [] h = h
 in_weaker_order before weaker then (e ∷ others) h = ((λ x m. then e x (h.0 x m)), in_weaker_order before weaker then others h.1)
 

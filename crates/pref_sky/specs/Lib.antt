@@ -8,6 +8,7 @@ pub mod Answers
 pub mod Meetings
 pub mod Signatures
 pub mod Items
+pub mod ChainOrders
 pub mod Passes
 pub mod Partials
 pub mod Starts

@@ -18,6 +18,7 @@
 mod answers;
 mod apart;
 mod best;
+mod chain_order;
 mod entry;
 mod item;
 pub mod laws;

@@ -1,0 +1,130 @@
+//! Two chains within groups of columns, which say an order of entries, and the one in which entries are kept.
+
+ghost use Rattle.std.specs.Prelude.{◌≡◌, ◌<◌, All};
+ghost use Rattle.std.specs.List.Sorted.{IsPermutation};
+ghost use Rattle.std.specs.Ordering.{is_gt, is_lt};
+ghost use Rattle.pref_sky.specs.Stairs.{earlier_in, first_within};
+ghost use Rattle.pref_term.specs.Chains.{IsInRow, by_chain, first_chain, second_chain};
+ghost use Rattle.pref_term.specs.Order.{is_better, is_worse};
+
+use crate::entry::Entry;
+use pref_table::Row;
+use pref_term::{Chains, Relation, in_same_group};
+use std::cmp::Ordering;
+
+/// Which of two rows stands first by the first of these columns in which they differ.
+#[inline(always)]
+fn compare_groups(columns: &[usize], a: &Row, b: &Row) -> Ordering
+    requires { All (λ col. col < 16) columns.now }
+    ensures less { is_lt result ≡ earlier_in columns.now a.now b.now }
+    ensures greater { is_gt result ≡ earlier_in columns.now b.now a.now }
+{
+    for col in columns {
+        match a.cell(*col).cmp(&b.cell(*col)) {
+            Ordering::Equal => {}
+            decided => return decided,
+        }
+    }
+    Ordering::Equal
+}
+
+/// The better row stands first.
+fn better_first(relation: Relation) -> Ordering
+    ensures less { is_lt result ≡ is_better relation }
+    ensures greater { is_gt result ≡ is_worse relation }
+{
+    match relation {
+        Relation::Better => Ordering::Less,
+        Relation::Worse => Ordering::Greater,
+        Relation::Same | Relation::Neither => Ordering::Equal,
+    }
+}
+
+/// A copy of what an order says that is a product of two chains within groups: the columns of the groups, the chains, and whether rows of
+/// a group that are the same in both are twins.
+#[derive(Drop)]
+pub(crate) struct ChainOrder {
+    pub(crate) columns: Vec<usize>,
+    pub(crate) chains: Chains,
+    pub(crate) distinct: bool,
+    ghost group: { All (λ col. col < 16) columns.items },
+    ghost in_row: { IsInRow chains },
+}
+
+impl ChainOrder {
+    // Here, since what the file names at its top may not name the struct.
+    ghost use Rattle.pref_sky.specs.ChainOrders.{AreInOrder, comes_before, own_order};
+
+    /// How two rows compare in the second chain, where they compare so in the first: one chain that serves as both is not asked again.
+    #[inline(always)]
+    fn compare_in_second(&self, a: &Row, b: &Row, first: Relation) -> Relation
+        requires { first ≡ by_chain (first_chain self.now.chains) a.now b.now }
+        ensures { result ≡ by_chain (second_chain self.now.chains) a.now b.now }
+    {
+        if self.chains.is_one() {
+            first
+        } else {
+            self.chains.compare_in_second(a, b)
+        }
+    }
+
+    /// Which of two entries stands first: by group, then by the first chain, the second, and the id. Takes no memory.
+    #[tactic(auto, using(crate::proofs::ChainStairs::worse_in))]
+    pub(crate) fn compare(&self, a: &Entry, b: &Entry) -> Ordering
+        ensures less { is_lt result ≡ comes_before self.now a.now b.now }
+        ensures greater { is_gt result ≡ comes_before self.now b.now a.now }
+    {
+        match compare_groups(&self.columns, &a.row, &b.row) {
+            Ordering::Equal => {}
+            decided => return decided,
+        }
+        let first = self.chains.compare_in_first(&a.row, &b.row);
+        match better_first(first) {
+            Ordering::Equal => {}
+            decided => return decided,
+        }
+        match better_first(self.compare_in_second(&a.row, &b.row, first)) {
+            Ordering::Equal => a.id.cmp(&b.id),
+            decided => decided,
+        }
+    }
+
+    /// Whether an entry stands before another by group and first chain alone. Takes no memory.
+    pub(crate) fn is_earlier(&self, a: &Entry, b: &Entry) -> bool
+        ensures { result ≡ first_within self.now.columns.items self.now.chains a.now.row b.now.row }
+    {
+        match compare_groups(&self.columns, &a.row, &b.row) {
+            Ordering::Less => true,
+            Ordering::Equal => self.chains.compare_in_first(&a.row, &b.row).is_better(),
+            Ordering::Greater => false,
+        }
+    }
+
+    /// Whether an entry dominates another. Takes no memory.
+    #[inline(always)]
+    pub(crate) fn is_over(&self, a: &Entry, b: &Entry) -> bool
+        ensures { result ≡ own_order self.now a.now b.now }
+    {
+        if !in_same_group(&self.columns, &a.row, &b.row) {
+            return false;
+        }
+        let first = self.chains.compare_in_first(&a.row, &b.row);
+        if first.is_worse() {
+            return false;
+        }
+        match (first, self.compare_in_second(&a.row, &b.row, first)) {
+            (Relation::Better, Relation::Better | Relation::Same)
+            | (Relation::Same, Relation::Better) => true,
+            (Relation::Same, Relation::Same) => self.distinct && a.id < b.id,
+            _ => false,
+        }
+    }
+
+    /// Puts entries in order. Takes no memory.
+    pub(crate) fn sort(&self, entries: &mut [Entry])
+        ensures permutation { IsPermutation entries.old entries.new }
+        ensures in_order { AreInOrder self.now entries.new }
+    {
+        entries.sort_unstable_by(|a, b| self.compare(a, b));
+    }
+}
