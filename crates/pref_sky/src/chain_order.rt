@@ -1,15 +1,16 @@
 //! Two chains within groups of columns, which say an order of entries, and the one in which entries are kept.
 
-ghost use Rattle.std.specs.Prelude.{◌≡◌, ◌<◌, All};
+ghost use Rattle.std.specs.Prelude.{◌≡◌, ◌<◌, true, All, IfOk, IfSome};
 ghost use Rattle.std.specs.List.Sorted.{IsPermutation};
 ghost use Rattle.std.specs.Ordering.{is_gt, is_lt};
 ghost use Rattle.pref_sky.specs.Stairs.{earlier_in, first_within};
-ghost use Rattle.pref_term.specs.Chains.{IsInRow, by_chain, first_chain, second_chain};
+ghost use Rattle.pref_term.specs.Chains.{IsInRow, IsProductOf, by_chain, first_chain, second_chain};
 ghost use Rattle.pref_term.specs.Order.{is_better, is_worse};
 
 use crate::entry::Entry;
 use pref_table::Row;
-use pref_term::{Chains, Relation, in_same_group};
+use pref_term::{Chains, Dominance, Relation, in_same_group};
+use std::alloc::{AllocError, Global};
 use std::cmp::Ordering;
 
 /// Which of two rows stands first by the first of these columns in which they differ.
@@ -54,6 +55,40 @@ pub(crate) struct ChainOrder {
 impl ChainOrder {
     // Here, since what the file names at its top may not name the struct.
     ghost use Rattle.pref_sky.specs.ChainOrders.{AreInOrder, comes_before, own_order};
+
+    /// A copy of what an order says; `None` where it is no product of two chains, or doesn't say. Takes memory for the copy, and `Err` is
+    /// out of memory.
+    pub(crate) fn of<D: Dominance>(
+        alloc: Global,
+        dominance: &D,
+    ) -> Result<Option<ChainOrder>, AllocError>
+        ensures { IfOk result (λ found. IfSome found (λ order. IsProductOf (D.order dominance.now) order.columns.items order.chains order.distinct)) }
+    {
+        let Some((columns, chains, distinct)) = dominance.chains() else {
+            return Ok(None);
+        };
+        let columns = Vec::from_slice(alloc, columns)?;
+        let chains = chains.copy(alloc)?;
+        Ok(Some(ChainOrder {
+            columns,
+            chains,
+            distinct,
+        }))
+    }
+
+    /// Whether it is what this order says. Takes no memory.
+    pub(crate) fn is_of<D: Dominance>(&self, dominance: &D) -> bool
+        ensures { result ≡ true → IsProductOf (D.order dominance.now) self.now.columns.items self.now.chains self.now.distinct }
+    {
+        match dominance.chains() {
+            Some((columns, chains, distinct)) => {
+                self.distinct == distinct
+                    && self.columns.as_slice() == columns
+                    && self.chains.is_same(chains)
+            }
+            None => false,
+        }
+    }
 
     /// How two rows compare in the second chain, where they compare so in the first: one chain that serves as both is not asked again.
     #[inline(always)]
