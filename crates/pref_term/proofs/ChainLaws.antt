@@ -1,10 +1,11 @@
--- A preference that is a product of two chains is the product of its keys in these.
-use Rattle.std.proofs.Common.{◌≡◌, ◌<◌, ℤ, Bool, true, false, not, List, [], ◌∷◌, ◌++◌, refl, sym, ap, ◌∙◌}
+-- A preference that is a product of two chains, perhaps with a tie, is that of its keys in these.
+use Rattle.std.proofs.Common.{◌≡◌, ◌<◌, ℤ, Bool, true, false, not, if◌then◌else◌, List, [], ◌∷◌, ◌++◌, refl, sym, ap, ◌∙◌}
 use Rattle.std.specs.Prelude.{◌&&◌}
 use Rattle.std.proofs.lemmas.Bool.{false≢true}
-use Rattle.std.proofs.lemmas.List.Elements.{All-append, All-same}
+use Rattle.std.proofs.lemmas.List.{append-nil}
+use Rattle.std.proofs.lemmas.List.Elements.{All-append, All-nil, All-same}
 use Rattle.pref_term.specs.Better.{in_same_group}
-use Rattle.pref_term.specs.Chains.{AreChainsOf, AreInRow, IsProductOf, by_chain, by_chains, chain_keys, is_chain, is_paired}
+use Rattle.pref_term.specs.Chains.{AreChainsOf, AreInRow, IsProductOf, by_chain, by_chains, chain_keys, is_chain, is_paired, keys_behind}
 use Rattle.pref_term.specs.Columns.{ReadsBelow}
 use Rattle.pref_term.specs.AskOrder.{order_of, order_of_twins_are_alike}
 use Rattle.pref_term.specs.Keys.{by_key, key_for}
@@ -14,6 +15,8 @@ use Rattle.pref_term.specs.Preference.{Preference, scored, pareto, prior, revers
 use Rattle.pref_term.specs.Question.{Question, IsAsk, alike}
 use Rattle.pref_term.specs.Walk.{in_priority, in_product, walked}
 use Rattle.pref_term.specs.declared.chains.Chains.{Chains}
+use Rattle.pref_term.specs.declared.chains.Role.{Role}
+use Rattle.pref_term.specs.declared.chains.Role.TheVariants.{First, Second, Tie}
 use Rattle.pref_term.specs.declared.key.Key.{Key}
 use Rattle.pref_term.specs.declared.relation.Relation.{Relation}
 use Rattle.pref_term.specs.declared.relation.Relation.TheVariants.{Better, Worse, Same, Neither}
@@ -32,12 +35,12 @@ priority-assoc Worse s t = refl
 priority-assoc Same s t = refl
 priority-assoc Neither s t = refl
 
--- p & (q * r) is the product of p & q and p & r
-priority_of_product : (r s t : Relation) → in_product (in_priority r s) (in_priority r t) ≡ in_priority r (in_product s t)
-priority_of_product Better s t = refl
-priority_of_product Worse s t = refl
-priority_of_product Same s t = refl
-priority_of_product Neither s t = refl
+-- p & ((q * r) & s) is the product of p & q and p & r, with the tie s
+chain_before : (r s t u : Relation) → in_priority (in_product (in_priority r s) (in_priority r t)) u ≡ in_priority r (in_priority (in_product s t) u)
+chain_before Better s t u = refl
+chain_before Worse s t u = refl
+chain_before Same s t u = refl
+chain_before Neither s t u = refl
 
 product_itself : (r : Relation) → in_product r r ≡ r
 product_itself Better = refl
@@ -50,68 +53,126 @@ chain-append [] ys a b = refl
 chain-append (x ∷ xs) ys a b =
     ap (in_priority (by_key x a b)) (chain-append xs ys a b) ∙ sym (priority-assoc (by_key x a b) (by_chain xs a b) (by_chain ys a b))
 
--- a chain is its keys
-chain_law : (p : Preference) (second s : Bool) (a b : List ℤ) → is_chain p ≡ true → by_chain (chain_keys p second s) a b ≡ directed s p a b
-chain_law (scored t) second s a b h = priority_same (by_key (key_for t s) a b) ∙ key_law t s a b
-chain_law (pareto p q) second s a b h = absurd (false≢true h)
-chain_law (prior p q) second s a b h =
-    let both = and_parts (is_chain p) (is_chain q) h in
-    chain-append (chain_keys p second s) (chain_keys q second s) a b
-    ∙ ((λ i. in_priority (chain_law p second s a b both.0 i) (chain_law q second s a b both.1 i)) ∙ sym (directed_priority s p q a b))
-chain_law (reverse p) second s a b h = chain_law p second (not s) a b h ∙ directed_reverse s p a b
-
--- a product of two chains is that of their keys
-paired_law : (p : Preference) (s : Bool) (a b : List ℤ) → is_paired p ≡ true
-    → in_product (by_chain (chain_keys p false s) a b) (by_chain (chain_keys p true s) a b) ≡ directed s p a b
-paired_law (scored t) s a b h = product_itself (by_chain (key_for t s ∷ []) a b) ∙ chain_law (scored t) false s a b refl
-paired_law (pareto p q) s a b h =
-    let both = and_parts (is_chain p) (is_chain q) h in
-    (λ i. in_product (chain_law p false s a b both.0 i) (chain_law q true s a b both.1 i)) ∙ sym (directed_product s p q a b)
-paired_law (prior p q) s a b h =
-    let both = and_parts (is_chain p) (is_paired q) h in
-    let chain : Bool → Relation = λ second. by_chain (chain_keys q second s) a b in
-    (λ i. in_product (chain-append (chain_keys p false s) (chain_keys q false s) a b i) (chain-append (chain_keys p true s) (chain_keys q true s) a b i))
-    ∙ ((λ i. in_product (in_priority (chain_law p false s a b both.0 i) (chain false)) (in_priority (chain_law p true s a b both.0 i) (chain true)))
-    ∙ (priority_of_product (directed s p a b) (chain false) (chain true)
-    ∙ (ap (in_priority (directed s p a b)) (paired_law q s a b both.1) ∙ sym (directed_priority s p q a b))))
-paired_law (reverse p) s a b h = paired_law p (not s) a b h ∙ directed_reverse s p a b
-
-chains_law : (p : Preference) (chains : Chains) (a b : List ℤ) → AreChainsOf p chains → by_chains chains a b ≡ walked p a b
-chains_law p chains a b h = (λ i. in_product (by_chain (h.first i) a b) (by_chain (h.second i) a b)) ∙ paired_law p false a b h.paired
-
 -- of a plain chain both are the same
-pub one_chain : (p : Preference) (s : Bool) → is_chain p ≡ true → chain_keys p false s ≡ chain_keys p true s
+pub one_chain : (p : Preference) (s : Bool) → is_chain p ≡ true → chain_keys p First s ≡ chain_keys p Second s
 one_chain (scored t) s h = refl
 one_chain (pareto p q) s h = absurd (false≢true h)
 one_chain (prior p q) s h =
     let both = and_parts (is_chain p) (is_chain q) h in
-    λ i. one_chain p s both.0 i ++ one_chain q s both.1 i
+    rw both.0 (λ i. one_chain p s both.0 i ++ one_chain q s both.1 i)
 one_chain (reverse p) s h = one_chain p (not s) h
 
+-- and there is no tie
+pub no_tie : (p : Preference) (s : Bool) → is_chain p ≡ true → chain_keys p Tie s ≡ []
+no_tie (scored t) s h = refl
+no_tie (pareto p q) s h = absurd (false≢true h)
+no_tie (prior p q) s h =
+    let both = and_parts (is_chain p) (is_chain q) h in
+    rw both.0 (λ i. no_tie p s both.0 i ++ no_tie q s both.1 i)
+no_tie (reverse p) s h = no_tie p (not s) h
+
+-- a chain is its keys
+chain_law : (p : Preference) (s : Bool) (a b : List ℤ) → is_chain p ≡ true → by_chain (chain_keys p First s) a b ≡ directed s p a b
+chain_law (scored t) s a b h = priority_same (by_key (key_for t s) a b) ∙ key_law t s a b
+chain_law (pareto p q) s a b h = absurd (false≢true h)
+chain_law (prior p q) s a b h =
+    let both = and_parts (is_chain p) (is_chain q) h in
+    rw both.0 (chain-append (chain_keys p First s) (chain_keys q First s) a b
+    ∙ ((λ i. in_priority (chain_law p s a b both.0 i) (chain_law q s a b both.1 i)) ∙ sym (directed_priority s p q a b)))
+chain_law (reverse p) s a b h = chain_law p (not s) a b h ∙ directed_reverse s p a b
+
+second_law : (p : Preference) (s : Bool) (a b : List ℤ) → is_chain p ≡ true → by_chain (chain_keys p Second s) a b ≡ directed s p a b
+second_law p s a b h = ap (λ keys. by_chain keys a b) (sym (one_chain p s h)) ∙ chain_law p s a b h
+
+-- by three lists of keys
+by_lists : (first second tie : List Key) → List ℤ → List ℤ → Relation
+by_lists first second tie a b = in_priority (in_product (by_chain first a b) (by_chain second a b)) (by_chain tie a b)
+
+chain_before_lists : (first_before second_before first second tie : List Key) (r : Relation) (a b : List ℤ) → by_chain first_before a b ≡ r → by_chain second_before a b ≡ r
+    → by_lists (first_before ++ first) (second_before ++ second) tie a b ≡ in_priority r (by_lists first second tie a b)
+unfolding by_lists
+chain_before_lists first_before second_before first second tie r a b h k =
+    (λ i. in_priority (in_product (chain-append first_before first a b i) (chain-append second_before second a b i)) (by_chain tie a b))
+    ∙ ((λ i. in_priority (in_product (in_priority (h i) (by_chain first a b)) (in_priority (k i) (by_chain second a b))) (by_chain tie a b))
+    ∙ chain_before r (by_chain first a b) (by_chain second a b) (by_chain tie a b))
+
+chain_behind_lists : (first second tie behind : List Key) (a b : List ℤ)
+    → by_lists (first ++ []) (second ++ []) (tie ++ behind) a b ≡ in_priority (by_lists first second tie a b) (by_chain behind a b)
+unfolding by_lists
+chain_behind_lists first second tie behind a b =
+    (λ i. in_priority (in_product (by_chain (append-nil first i) a b) (by_chain (append-nil second i) a b)) (chain-append tie behind a b i))
+    ∙ sym (priority-assoc (in_product (by_chain first a b) (by_chain second a b)) (by_chain tie a b) (by_chain behind a b))
+
+-- a preference, or its converse, compares two rows by its keys, where it is a product of two chains
+abbrev HasKeys : Preference → Bool → List ℤ → List ℤ → Type 0
+HasKeys p s a b = is_paired p ≡ true → by_lists (chain_keys p First s) (chain_keys p Second s) (chain_keys p Tie s) a b ≡ directed s p a b
+
+paired_law : (p : Preference) (s : Bool) (a b : List ℤ) → HasKeys p s a b
+unfolding by_lists
+paired_law (scored t) s a b h = priority_same _ ∙ (product_itself (by_chain (key_for t s ∷ []) a b) ∙ chain_law (scored t) s a b refl)
+paired_law (pareto p q) s a b h =
+    let both = and_parts (is_chain p) (is_chain q) h in
+    priority_same _ ∙ ((λ i. in_product (chain_law p s a b both.0 i) (second_law q s a b both.1 i)) ∙ sym (directed_product s p q a b))
+paired_law (prior p q) s a b h = go (is_chain p) refl h (paired_law p s a b) (paired_law q s a b)
+  where
+    go : (chain : Bool) → is_chain p ≡ chain → (if chain then is_paired q else (is_paired p && is_chain q)) ≡ true → HasKeys p s a b → HasKeys q s a b
+        → by_lists
+        (chain_keys p First s ++ (if chain then chain_keys q First s else []))
+        (chain_keys p Second s ++ (if chain then chain_keys q Second s else []))
+        (chain_keys p Tie s ++ (if chain then chain_keys q Tie s else chain_keys q First s)) a b ≡ directed s (prior p q) a b
+    go true e k before behind =
+        ap (λ keys. by_lists (chain_keys p First s ++ chain_keys q First s) (chain_keys p Second s ++ chain_keys q Second s) (keys ++ chain_keys q Tie s) a b) (no_tie p s e)
+        ∙ (chain_before_lists (chain_keys p First s) (chain_keys p Second s) (chain_keys q First s) (chain_keys q Second s) (chain_keys q Tie s) (directed s p a b) a b
+        (chain_law p s a b e) (second_law p s a b e)
+        ∙ (ap (in_priority (directed s p a b)) (behind k) ∙ sym (directed_priority s p q a b)))
+    go false e k before behind =
+        let both = and_parts (is_paired p) (is_chain q) k in
+        chain_behind_lists (chain_keys p First s) (chain_keys p Second s) (chain_keys p Tie s) (chain_keys q First s) a b
+        ∙ ((λ i. in_priority (before both.0 i) (chain_law q s a b both.1 i)) ∙ sym (directed_priority s p q a b))
+paired_law (reverse p) s a b h = paired_law p (not s) a b h ∙ directed_reverse s p a b
+
+chains_law : (p : Preference) (chains : Chains) (a b : List ℤ) → AreChainsOf p chains → by_chains chains a b ≡ walked p a b
+unfolding by_lists
+chains_law p chains a b h = (λ i. by_lists (h.first i) (h.second i) (h.tie i) a b) ∙ paired_law p false a b h.paired
+
+either_in_row : (chain : Bool) (keys others : List Key) → AreInRow keys → AreInRow others → AreInRow (if chain then keys else others)
+either_in_row true keys others h k = h
+either_in_row false keys others h k = k
+
+behind_in_row : (role : Role) (keys : List Key) → AreInRow keys → AreInRow (keys_behind role keys)
+behind_in_row First keys h = All-nil (λ key. key.col < 16)
+behind_in_row Second keys h = All-nil (λ key. key.col < 16)
+behind_in_row Tie keys h = h
+
 -- they read the columns of the preference
-keys_in_row : (p : Preference) (second s : Bool) → ReadsBelow 16 p → AreInRow (chain_keys p second s)
-keys_in_row (scored t) second s h = leading_in_row (scored t) s h
-keys_in_row (pareto p q) false s h = keys_in_row p false s h.0
-keys_in_row (pareto p q) true s h = keys_in_row q true s h.1
-keys_in_row (prior p q) second s h =
-    All-append (λ key. key.col < 16) (chain_keys p second s) (chain_keys q second s) (keys_in_row p second s h.0) (keys_in_row q second s h.1)
-keys_in_row (reverse p) second s h = keys_in_row p second (not s) h
+keys_in_row : (p : Preference) (role : Role) (s : Bool) → ReadsBelow 16 p → AreInRow (chain_keys p role s)
+keys_in_row (scored t) First s h = leading_in_row (scored t) s h
+keys_in_row (scored t) Second s h = leading_in_row (scored t) s h
+keys_in_row (scored t) Tie s h = All-nil (λ key. key.col < 16)
+keys_in_row (pareto p q) First s h = keys_in_row p First s h.0
+keys_in_row (pareto p q) Second s h = keys_in_row q Second s h.1
+keys_in_row (pareto p q) Tie s h = All-nil (λ key. key.col < 16)
+keys_in_row (prior p q) role s h =
+    All-append (λ key. key.col < 16) (chain_keys p role s) _ (keys_in_row p role s h.0)
+    (either_in_row (is_chain p) (chain_keys q role s) (keys_behind role (chain_keys q First s)) (keys_in_row q role s h.1) (behind_in_row role (chain_keys q First s) (keys_in_row q First s h.1)))
+keys_in_row (reverse p) role s h = keys_in_row p role (not s) h
 
 -- ---- the law
 
--- rows of a group are the same in both chains just where they are the same to the question
+-- rows of a group are the same by the chains just where they are the same to the question
 alike_in_chains : (q : Question) (chains : Chains) (a b : List ℤ) → AreChainsOf q.preference chains
     → (in_same_group q.group a b && is_same (by_chains chains a b)) ≡ alike q a b
 alike_in_chains q chains a b h =
     ap (λ r. in_same_group q.group a b && r) (ap is_same (chains_law q.preference chains a b h) ∙ walked-same q.preference a b)
 
--- the order of a question is the product of the chains of its preference, within its groups
+-- the order of a question is that of the chains of its preference, within its groups
 pub product_of_chains : (q : Question) (chains : Chains) → IsAsk q → AreChainsOf q.preference chains → IsProductOf (order_of q) q.group chains q.distinct
 product_of_chains q chains known h = record {
   group = known.columns.group;
   in_row = record {
-    first = All-same (λ key. key.col < 16) _ _ h.first (keys_in_row q.preference false false known.columns.preference);
-    second = All-same (λ key. key.col < 16) _ _ h.second (keys_in_row q.preference true false known.columns.preference);
+    first = All-same (λ key. key.col < 16) _ _ h.first (keys_in_row q.preference First false known.columns.preference);
+    second = All-same (λ key. key.col < 16) _ _ h.second (keys_in_row q.preference Second false known.columns.preference);
+    tie = All-same (λ key. key.col < 16) _ _ h.tie (keys_in_row q.preference Tie false known.columns.preference);
   };
   over = λ a b. ap (λ r. in_same_group q.group a b && r) (sym (walked-better q.preference a b) ∙ ap is_better (sym (chains_law q.preference chains a b h)));
   twin = λ a b. order_of_twins_are_alike q known a b ∙ ap (λ t. q.distinct && t) (sym (alike_in_chains q chains a b h));

@@ -1,18 +1,20 @@
 -- No public contract cites this.
--- What two chains say within groups is a row order, and it is the product of these chains. (this project)
+-- What chains say within groups is a row order, and it is the product of these chains. (this project)
 use Rattle.std.proofs.Common.{◌≡◌, ◌<◌, ℤ, ℕ, Bool, true, false, List, [], ◌∷◌, refl, sym, ap, subst, ◌∙◌}
 use Rattle.std.specs.Prelude.{◌&&◌, ◌||◌, All, int_lt}
 use Rattle.std.specs.Ordering.{int_eq}
 use Rattle.std.proofs.lemmas.Bool.{false≢true}
 use Rattle.std.proofs.lemmas.Bool.Decides.{Decides-int_eq}
 use Rattle.pref_term.specs.Better.{cell, in_same_group}
-use Rattle.pref_term.specs.Chains.{IsInRow, IsProductOf, by_chain, by_chains, chain_order, first_chain, second_chain}
+use Rattle.pref_term.specs.Chains.{IsInRow, IsProductOf, by_chain, by_chains, chain_order, first_chain, second_chain, tie_chain}
 use Rattle.pref_term.specs.Keys.{by_key, keyed}
 use Rattle.pref_term.specs.Order.{IsRowOrder, StandAlike, is_better, is_same}
 use Rattle.pref_term.specs.OrderLaws.{IsOrder, and_made, beats, group_back, group_on, pareto_order, prior_order, same_test, scores_order}
 use Rattle.pref_term.specs.RelationLaws.{priority-better, priority-same, product-better, product-same, scores-better, scores-same}
+use Rattle.pref_term.specs.Walk.{in_product}
 use Rattle.pref_term.specs.declared.chains.Chains.{Chains}
 use Rattle.pref_term.specs.declared.key.Key.{Key}
+use Rattle.pref_term.specs.declared.relation.Relation.{Relation}
 
 -- an order is one by tests that agree with its own
 order_by : {R : Type 0} {B S C T : R → R → Bool} → IsOrder B S → ((a b : R) → B a b ≡ C a b) → ((a b : R) → S a b ≡ T a b) → IsOrder C T
@@ -43,12 +45,21 @@ chain_is_order [] = record {
 chain_is_order (key ∷ keys) = order_by (prior_order (scores_order (keyed key)) (chain_is_order keys)) (key_before key keys) (key_alike key keys)
 
 -- and so is the product of two
-chains_are_order : (chains : Chains) → IsOrder (λ a b. is_better (by_chains chains a b)) (λ a b. is_same (by_chains chains a b))
+product_is_order : (first second : List Key)
+    → IsOrder (λ a b. is_better (in_product (by_chain first a b) (by_chain second a b))) (λ a b. is_same (in_product (by_chain first a b) (by_chain second a b)))
 unfolding beats
+product_is_order first second =
+    order_by (pareto_order (chain_is_order first) (chain_is_order second))
+    (λ a b. sym (product-better (by_chain first a b) (by_chain second a b)))
+    (λ a b. sym (product-same (by_chain first a b) (by_chain second a b)))
+
+-- with a tie too
+chains_are_order : (chains : Chains) → IsOrder (λ a b. is_better (by_chains chains a b)) (λ a b. is_same (by_chains chains a b))
 chains_are_order chains =
-    order_by (pareto_order (chain_is_order (first_chain chains)) (chain_is_order (second_chain chains)))
-    (λ a b. sym (product-better (by_chain (first_chain chains) a b) (by_chain (second_chain chains) a b)))
-    (λ a b. sym (product-same (by_chain (first_chain chains) a b) (by_chain (second_chain chains) a b)))
+    let product : List ℤ → List ℤ → Relation = λ a b. in_product (by_chain (first_chain chains) a b) (by_chain (second_chain chains) a b) in
+    order_by (prior_order (product_is_order (first_chain chains) (second_chain chains)) (chain_is_order (tie_chain chains)))
+    (λ a b. sym (priority-better (product a b) (by_chain (tie_chain chains) a b)))
+    (λ a b. sym (priority-same (product a b) (by_chain (tie_chain chains) a b)))
 
 group_self : (columns : List ℕ) (a : List ℤ) → in_same_group columns a a ≡ true
 group_self [] a = refl

@@ -32,7 +32,7 @@ pub struct Ask {
     keys: Vec<Key>,
     // Whether they are its whole order, without sets: a comparison goes over them then, and not over the term.
     flat: bool,
-    // The chains whose product the term is.
+    // The chains that the term is, where it is a product of two.
     chains: Option<Box<Chains>>,
     group: Vec<usize>,
     mode: Mode,

@@ -1,6 +1,6 @@
-//! Orders that are products of two chains, of which a plain chain is one.
-ghost use Rattle.std.specs.Prelude.{◌≡◌, ◌<◌, ◌++◌, false, true, All, IfOk, IfSome, OnOk};
-ghost use Rattle.pref_term.specs.Chains.{AreChainsOf, AreInRow, IsInRow, by_chain, chain_keys, first_chain, is_chain, is_paired, own_second, second_chain};
+//! Orders that are products of two chains, perhaps with a tie, of which a plain chain is one.
+ghost use Rattle.std.specs.Prelude.{◌≡◌, ◌<◌, ◌++◌, [], false, true, All, IfOk, IfSome, OnOk};
+ghost use Rattle.pref_term.specs.Chains.{AreChainsOf, AreInRow, IsInRow, by_chain, chain_keys, first_chain, is_chain, is_paired, own_second, second_chain, tie_chain};
 ghost use Rattle.pref_term.specs.Preference.{preference_of};
 ghost use Rattle.pref_term.specs.declared.relation.Relation.TheVariants.{Neither};
 
@@ -11,58 +11,76 @@ use crate::term::Term;
 use pref_table::Row;
 use std::alloc::{AllocError, Global};
 
-/// Two chains: lists of keys of which the first that differs decides. So `p & (q * r)` is the product of the chains `p & q` and `p & r`.
+/// Two chains, and a third one for their ties: lists of keys of which the first that differs decides. So `p & (q * r)` is the product of
+/// the chains `p & q` and `p & r`, and in `(q * r) & s` the chain `s` decides between rows that are the same in `q` and in `r`.
 #[derive(Drop)]
 pub struct Chains {
     first: Vec<Key>,
     // `None` where both are one chain.
     second: Option<Vec<Key>>,
+    // Empty where nothing decides between rows that are the same in both.
+    tie: Vec<Key>,
+}
+
+/// What a list of keys is in `Chains`.
+#[derive(Clone, Copy, PartialEq, Eq)]
+pub(crate) enum Role {
+    First,
+    Second,
+    Tie,
 }
 
 impl Chains {
-    /// The chains whose product a term is; `None` where it is no product of two chains. Takes memory for their lists, and for the sets.
+    /// The chains that a term is; `None` where it is no product of two chains. Takes memory for their lists, and for the sets.
     pub(crate) fn of(alloc: Global, term: &Term) -> Result<Option<Chains>, AllocError>
         ensures { IfOk result (λ found. IfSome found (AreChainsOf (preference_of term.now))) }
     {
         if !is_paired(term) {
             return Ok(None);
         }
-        let first = chain_of(alloc, term, false)?;
+        let first = chain_of(alloc, term, Role::First)?;
+        let tie = chain_of(alloc, term, Role::Tie)?;
         if is_chain(term) {
             return Ok(Some(Chains {
                 first,
                 second: None,
+                tie,
             }));
         }
-        let second = chain_of(alloc, term, true)?;
+        let second = chain_of(alloc, term, Role::Second)?;
         Ok(Some(Chains {
             first,
             second: Some(second),
+            tie,
         }))
     }
 
-    /// The same two chains again. Takes memory for their lists, and for the sets. `Err` is out of memory.
+    /// The same chains again. Takes memory for their lists, and for the sets. `Err` is out of memory.
     pub fn copy(&self, alloc: Global) -> Result<Chains, AllocError>
         ensures first { IfOk result (λ copied. first_chain copied ≡ first_chain self.now) }
         ensures second { IfOk result (λ copied. second_chain copied ≡ second_chain self.now) }
         ensures one { IfOk result (λ copied. own_second copied ≡ own_second self.now) }
+        ensures tie { IfOk result (λ copied. tie_chain copied ≡ tie_chain self.now) }
     {
         let first = copy_chain(alloc, &self.first)?;
         let second = match &self.second {
             Some(second) => Some(copy_chain(alloc, second)?),
             None => None,
         };
-        Ok(Chains { first, second })
+        let tie = copy_chain(alloc, &self.tie)?;
+        Ok(Chains { first, second, tie })
     }
 
-    /// Whether they are the same two chains: the same keys in the same order. One chain that serves as both is not the same as two. Takes
+    /// Whether they are the same chains: the same keys in the same order. One chain that serves as both is not the same as two. Takes
     /// no memory.
     pub fn is_same(&self, other: &Chains) -> bool
         ensures first { result ≡ true → first_chain self.now ≡ first_chain other.now }
         ensures second { result ≡ true → second_chain self.now ≡ second_chain other.now }
-        ensures differ { result ≡ false → first_chain self.now ≡ first_chain other.now → own_second self.now ≡ own_second other.now → ⊥ }
+        ensures tie { result ≡ true → tie_chain self.now ≡ tie_chain other.now }
+        ensures differ { result ≡ false → first_chain self.now ≡ first_chain other.now → own_second self.now ≡ own_second other.now
+            → tie_chain self.now ≡ tie_chain other.now → ⊥ }
     {
-        if !is_same_list(&self.first, &other.first) {
+        if !is_same_list(&self.first, &other.first) || !is_same_list(&self.tie, &other.tie) {
             return false;
         }
         match (&self.second, &other.second) {
@@ -72,11 +90,12 @@ impl Chains {
         }
     }
 
-    /// Whether both are one chain.
+    /// Whether both are one chain, without a tie.
     pub fn is_one(&self) -> bool
-        ensures { result ≡ true → first_chain self.now ≡ second_chain self.now }
+        ensures both { result ≡ true → first_chain self.now ≡ second_chain self.now }
+        ensures tie { result ≡ true → tie_chain self.now ≡ [] }
     {
-        self.second.is_none()
+        self.second.is_none() && self.tie.is_empty()
     }
 
     /// How the first row compares with the second one in the first chain, which is never `Neither`. Takes no memory.
@@ -98,6 +117,15 @@ impl Chains {
             Some(second) => compare_in_chain(second, a, b),
             None => compare_in_chain(&self.first, a, b),
         }
+    }
+
+    /// How the first row compares with the second one in the tie, which is never `Neither`. Takes no memory.
+    pub fn compare_in_tie(&self, a: &Row, b: &Row) -> Relation
+        requires { IsInRow self.now }
+        ensures value { result ≡ by_chain (tie_chain self.now) a.now b.now }
+        ensures decided { result ≡ Neither → ⊥ }
+    {
+        compare_in_chain(&self.tie, a, b)
     }
 }
 
@@ -147,45 +175,53 @@ fn is_chain(term: &Term) -> bool
     }
 }
 
-/// Whether the term is a chain, or a product of two chains, perhaps behind a chain.
+/// Whether the term is a chain, or a product of two chains, perhaps with chains before and behind it.
 fn is_paired(term: &Term) -> bool
     ensures { result ≡ is_paired (preference_of term.now) }
 {
     match term {
         Term::Pareto(p, q) => is_chain(p) && is_chain(q),
-        Term::Prior(p, q) => is_chain(p) && is_paired(q),
+        Term::Prior(p, q) if is_chain(p) => is_paired(q),
+        Term::Prior(p, q) => is_paired(p) && is_chain(q),
         Term::Reverse(p) => is_paired(p),
         _ => true,
     }
 }
 
-/// The keys of the first of a term's two chains, or of the second.
-fn chain_of(alloc: Global, term: &Term, second: bool) -> Result<Vec<Key>, AllocError>
-    ensures { IfOk result (λ keys. keys.items ≡ chain_keys (preference_of term.now) second false) }
+/// The keys that play this role in a term.
+fn chain_of(alloc: Global, term: &Term, role: Role) -> Result<Vec<Key>, AllocError>
+    ensures { IfOk result (λ keys. keys.items ≡ chain_keys (preference_of term.now) role false) }
 {
     let mut keys = Vec::new(alloc);
-    push_chain(alloc, &mut keys, term, second, false)?;
+    push_chain(alloc, &mut keys, term, role, false)?;
     Ok(keys)
 }
 
-/// Puts the keys of one of the two chains of a term, or of its converse, behind these.
+/// Puts the keys that play this role in a term, or in its converse, behind these.
 fn push_chain(
     alloc: Global,
     keys: &mut Vec<Key>,
     term: &Term,
-    second: bool,
+    role: Role,
     turned: bool,
 ) -> Result<(), AllocError>
-    ensures { OnOk result (keys.new.items ≡ keys.old.items ++ chain_keys (preference_of term.now) second turned) }
+    ensures { OnOk result (keys.new.items ≡ keys.old.items ++ chain_keys (preference_of term.now) role turned) }
 {
-    match term {
-        Term::Pareto(_, q) if second => push_chain(alloc, keys, q, second, turned),
-        Term::Pareto(p, _) => push_chain(alloc, keys, p, second, turned),
-        Term::Prior(p, q) => {
-            push_chain(alloc, keys, p, second, turned)?;
-            push_chain(alloc, keys, q, second, turned)
+    match (term, role) {
+        (Term::Prior(p, q), _) => {
+            push_chain(alloc, keys, p, role, turned)?;
+            if is_chain(p) {
+                push_chain(alloc, keys, q, role, turned)
+            } else if role == Role::Tie {
+                push_chain(alloc, keys, q, Role::First, turned)
+            } else {
+                Ok(())
+            }
         }
-        Term::Reverse(p) => push_chain(alloc, keys, p, second, !turned),
+        (Term::Reverse(p), _) => push_chain(alloc, keys, p, role, !turned),
+        (_, Role::Tie) => Ok(()),
+        (Term::Pareto(p, _), Role::First) => push_chain(alloc, keys, p, role, turned),
+        (Term::Pareto(_, q), Role::Second) => push_chain(alloc, keys, q, role, turned),
         _ => push_leading(alloc, keys, term, turned),
     }
 }

@@ -75,8 +75,9 @@ pub trait Dominance {
     }
 
     /// The order as a product of two chains, within the groups of some columns: of rows that are equal in these, one dominates the other
-    /// just where it is better in one chain and better or the same in the other. The third is whether there are twins: they are just the
-    /// rows of a group that are the same in both chains. `None` where it is no such product, or where it doesn't say; this body says nothing.
+    /// just where it is better in one chain and better or the same in the other, or the same in both and better in their tie. The third
+    /// is whether there are twins: they are just the rows of a group that are the same in both chains and in the tie. `None` where it is
+    /// no such product, or where it doesn't say; this body says nothing.
     fn chains(&self) -> Option<(&[usize], &Chains, bool)>
         ensures { IfSome result (λ found. IsProductOf (order self.now) found.0.now found.1.now found.2) }
     {
