@@ -5,16 +5,16 @@ use Rattle.std.specs.Ordering.{int_eq}
 use Rattle.std.proofs.lemmas.Int.{ints}
 use Rattle.std.proofs.lemmas.Bool.Decides.{nat_tests}
 use Rattle.pref_term.specs.Better.{cell, in_same_group}
-use Rattle.pref_term.specs.Chains.{IsProductOf, by_chain, by_chains, first_chain, second_chain}
+use Rattle.pref_term.specs.Chains.{IsProductOf, by_chain, by_chains, first_chain, second_chain, tie_chain}
 use Rattle.pref_term.specs.Keys.{keyed}
 use Rattle.pref_term.specs.Order.{RowOrder, is_better, is_same, is_worse}
-use Rattle.pref_term.specs.RelationLaws.{product-same}
+use Rattle.pref_term.specs.RelationLaws.{priority-same, product-same}
 use Rattle.pref_term.specs.Walk.{by_scores, by_sides, in_product, in_priority}
 use Rattle.pref_term.specs.declared.chains.Chains.{Chains}
 use Rattle.pref_term.specs.declared.key.Key.{Key}
 use Rattle.pref_term.specs.declared.relation.Relation.{Relation}
 use Rattle.pref_sky.specs.Levels.{entry_order}
-use Rattle.pref_sky.specs.Stairs.{AreStairs, IsChain, IsLine, are_level, better_in, by_row, earlier_in, earlier_twin, first_within, in_turn, second_within}
+use Rattle.pref_sky.specs.Stairs.{AreStairs, IsChain, IsLine, are_level, better_in, by_row, earlier_in, earlier_twin, first_within, in_turn, second_within, tie_or_twin}
 use Rattle.pref_sky.specs.declared.entry.Entry.{Entry}
 use Rattle.pref_sky.proofs.StairLaws.{chain_in_turn, grouped_stairs, line_of_one}
 
@@ -89,59 +89,71 @@ same_in keys a b = grind (arith, sides keys a b)
 
 -- ---- the product of two chains
 
-product_better : (r s : Relation) (p q : Bool) → is_worse r ≡ p → is_worse s ≡ q → is_same r ≡ (not (is_better r) && not p) → is_same s ≡ (not (is_better s) && not q)
-    → is_better (in_product r s) ≡ ((not p && not q) && (is_better r || (is_better s || false)))
-product_better r s p q h k l m = grind (arith, h, k, l, m)
+product_better : (r s t : Relation) (p q : Bool) → is_worse r ≡ p → is_worse s ≡ q → is_same r ≡ (not (is_better r) && not p) → is_same s ≡ (not (is_better s) && not q)
+    → is_better (in_priority (in_product r s) t) ≡ ((not p && not q) && (is_better r || (is_better s || is_better t)))
+product_better r s t p q h k l m = grind (arith, h, k, l, m)
 
--- twins, of which the one with the smaller id dominates, are a tie
-twins_tie : (over twin lower same fab fba sab sba distinct : Bool) → over ≡ ((not fba && not sba) && (fab || (sab || false))) → same ≡ ((not fab && not fba) && (not sab && not sba))
-    → twin ≡ (distinct && same) → (over || (twin && lower)) ≡ ((not fba && not sba) && (fab || (sab || (distinct && lower))))
-twins_tie over twin lower same fab fba sab sba distinct h k l = grind (arith, h, k, l)
+-- twins, of which the one with the smaller id dominates, are a tie behind that of the rows
+twins_tie : (over twin lower same fab fba sab sba tab tba distinct : Bool) → over ≡ ((not fba && not sba) && (fab || (sab || tab)))
+    → same ≡ (((not fab && not fba) && (not sab && not sba)) && (not tab && not tba)) → twin ≡ (distinct && same)
+    → (over || (twin && lower)) ≡ ((not fba && not sba) && (fab || (sab || (tab || ((not tab && not tba) && (distinct && lower))))))
+twins_tie over twin lower same fab fba sab sba tab tba distinct h k l = grind (arith, h, k, l)
 
-tie_chain : (distinct : Bool) → IsChain (earlier_twin distinct)
-tie_chain true = places_chain (λ e. e.id)
-tie_chain false = no_chain
+twins_chain : (distinct : Bool) → IsChain (earlier_twin distinct)
+twins_chain true = places_chain (λ e. e.id)
+twins_chain false = no_chain
 
 module _ (order : RowOrder) (columns : List ℕ) (chains : Chains) (distinct : Bool) (of : IsProductOf order columns chains distinct) where
-  without_groups : AreStairs (λ a b. is_better (by_chains chains a b)) (better_in (first_chain chains)) (better_in (second_chain chains)) (λ a b. false)
+  without_groups : AreStairs (λ a b. is_better (by_chains chains a b)) (better_in (first_chain chains)) (better_in (second_chain chains)) (better_in (tie_chain chains))
   without_groups = record {
     first_is_chain = keys_chain (first_chain chains);
     second_is_chain = keys_chain (second_chain chains);
-    tie_is_chain = no_chain;
-    is = λ a b. product_better (by_chain (first_chain chains) a b) (by_chain (second_chain chains) a b) (better_in (first_chain chains) b a) (better_in (second_chain chains) b a)
+    tie_is_chain = keys_chain (tie_chain chains);
+    is = λ a b. product_better (by_chain (first_chain chains) a b) (by_chain (second_chain chains) a b) (by_chain (tie_chain chains) a b) (better_in (first_chain chains) b a) (better_in (second_chain chains) b a)
         (worse_in (first_chain chains) a b) (worse_in (second_chain chains) a b) (same_in (first_chain chains) a b) (same_in (second_chain chains) a b);
   }
 
   -- rows
-  pub rows_are_stairs : AreStairs order.over (first_within columns chains) (second_within columns chains) (λ a b. false)
+  pub rows_are_stairs : AreStairs order.over (first_within columns chains) (second_within columns chains) (better_in (tie_chain chains))
   rows_are_stairs =
       let product : List ℤ → List ℤ → Bool = λ a b. is_better (by_chains chains a b) in
-      let grouped = grouped_stairs product (better_in (first_chain chains)) (better_in (second_chain chains)) (λ a b. false) without_groups (earlier_in columns) (earlier_chain columns) in
+      let grouped = grouped_stairs product (better_in (first_chain chains)) (better_in (second_chain chains)) (better_in (tie_chain chains)) without_groups (earlier_in columns) (earlier_chain columns) in
       record {
         first_is_chain = grouped.first_is_chain;
         second_is_chain = grouped.second_is_chain;
-        tie_is_chain = no_chain;
+        tie_is_chain = grouped.tie_is_chain;
         is = λ a b. of.over a b ∙ (ap (λ t. t && product a b) (same_group columns a b) ∙ grouped.is a b);
       }
 
-  -- rows of a group that are the same are level in both chains
-  level_in_both : (a b : List ℤ) → (in_same_group columns a b && is_same (by_chains chains a b)) ≡ (are_level (first_within columns chains) a b && are_level (second_within columns chains) a b)
-  level_in_both a b =
-      grind (arith, same_group columns a b, product-same (by_chain (first_chain chains) a b) (by_chain (second_chain chains) a b), same_in (first_chain chains) a b, same_in (second_chain chains) a b)
+  -- rows of a group that are the same are level in both chains and in the tie
+  level_in_all : (a b : List ℤ)
+      → (in_same_group columns a b && is_same (by_chains chains a b)) ≡ ((are_level (first_within columns chains) a b && are_level (second_within columns chains) a b) && are_level (better_in (tie_chain chains)) a b)
+  level_in_all a b =
+      let product = in_product (by_chain (first_chain chains) a b) (by_chain (second_chain chains) a b) in
+      grind (
+        arith,
+        same_group columns a b,
+        priority-same product (by_chain (tie_chain chains) a b),
+        product-same (by_chain (first_chain chains) a b) (by_chain (second_chain chains) a b),
+        same_in (first_chain chains) a b,
+        same_in (second_chain chains) a b,
+        same_in (tie_chain chains) a b,
+      )
 
   -- entries
-  pub entries_are_stairs : AreStairs (entry_order order) (by_row (first_within columns chains)) (by_row (second_within columns chains)) (earlier_twin distinct)
+  pub entries_are_stairs : AreStairs (entry_order order) (by_row (first_within columns chains)) (by_row (second_within columns chains)) (tie_or_twin chains distinct)
   entries_are_stairs =
       let rows = rows_are_stairs in
       record {
         first_is_chain = chain_of_entries (first_within columns chains) rows.first_is_chain;
         second_is_chain = chain_of_entries (second_within columns chains) rows.second_is_chain;
-        tie_is_chain = tie_chain distinct;
-        is = λ a b. twins_tie _ _ _ _ _ _ _ _ _ (rows.is a.row b.row) (level_in_both a.row b.row) (of.twin a.row b.row);
+        tie_is_chain = chain_in_turn (by_row (better_in (tie_chain chains))) (earlier_twin distinct) (chain_of_entries (better_in (tie_chain chains)) rows.tie_is_chain) (twins_chain distinct);
+        is = λ a b. twins_tie _ _ _ _ _ _ _ _ _ _ _ (rows.is a.row b.row) (level_in_all a.row b.row) (of.twin a.row b.row);
       }
 
-  -- where both are one chain, a line
-  pub entries_are_a_line : first_chain chains ≡ second_chain chains → IsLine (entry_order order) (by_row (earlier_in columns)) (in_turn (by_row (better_in (first_chain chains))) (earlier_twin distinct))
-  entries_are_a_line one =
-      line_of_one (entry_order order) (by_row (earlier_in columns)) (by_row (better_in (first_chain chains))) (by_row (better_in (second_chain chains))) (earlier_twin distinct) (λ a b. ap (λ keys. better_in keys a.row b.row) one)
-      (chain_of_entries (earlier_in columns) (earlier_chain columns)) (chain_of_entries (better_in (first_chain chains)) (keys_chain (first_chain chains))) entries_are_stairs
+  -- where both are one chain and there is no tie, a line
+  pub entries_are_a_line : first_chain chains ≡ second_chain chains → tie_chain chains ≡ [] → IsLine (entry_order order) (by_row (earlier_in columns)) (in_turn (by_row (better_in (first_chain chains))) (earlier_twin distinct))
+  entries_are_a_line one none =
+      subst (λ keys. IsLine (entry_order order) (by_row (earlier_in columns)) (in_turn (by_row (better_in (first_chain chains))) (in_turn (by_row (better_in keys)) (earlier_twin distinct)))) none
+      (line_of_one (entry_order order) (by_row (earlier_in columns)) (by_row (better_in (first_chain chains))) (by_row (better_in (second_chain chains))) (tie_or_twin chains distinct) (λ a b. ap (λ keys. better_in keys a.row b.row) one)
+      (chain_of_entries (earlier_in columns) (earlier_chain columns)) (chain_of_entries (better_in (first_chain chains)) (keys_chain (first_chain chains))) entries_are_stairs)

@@ -1,7 +1,7 @@
 -- Orders that are one chain, or a product of two chains, within groups, and lists in their order, where one entry is asked in place of all. (this project)
 use Rattle.std.specs.Prelude.{⊤, ◌≡◌, Bool, true, false, cond, not, ◌&&◌, ◌||◌, int_lt, nat_lt, ℕ, ℤ, List, [], ◌∷◌}
 use Rattle.pref_term.specs.Better.{cell}
-use Rattle.pref_term.specs.Chains.{by_chain, first_chain, second_chain}
+use Rattle.pref_term.specs.Chains.{by_chain, first_chain, second_chain, tie_chain}
 use Rattle.pref_term.specs.Order.{IsStrictOrder, StandAlike, is_better}
 use Rattle.pref_term.specs.declared.chains.Chains.{Chains}
 use Rattle.pref_term.specs.declared.key.Key.{Key}
@@ -85,3 +85,7 @@ by_row better a b = better a.row b.row
 -- of entries, the smaller id is earlier where of equal rows one is kept
 abbrev pub earlier_twin : (distinct : Bool) → Entry → Entry → Bool
 earlier_twin distinct a b = distinct && nat_lt a.id b.id
+
+-- of entries, by the tie of the chains, and then the earlier twin
+abbrev pub tie_or_twin : Chains → (distinct : Bool) → Entry → Entry → Bool
+tie_or_twin chains distinct = in_turn (by_row (better_in (tie_chain chains))) (earlier_twin distinct)

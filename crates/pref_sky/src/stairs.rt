@@ -1,13 +1,13 @@
 //! Laws of lists in the order of a chain, where one entry is asked in place of all. Each is the contract of a function that does nothing.
 
-ghost use Rattle.std.specs.Prelude.{◌≡◌, ◌&&◌, ◌++◌, ◌∷◌, ℕ, ℤ, Bool, true, false, not, List, count_by, length};
+ghost use Rattle.std.specs.Prelude.{◌≡◌, ◌&&◌, ◌++◌, [], ◌∷◌, ℕ, ℤ, Bool, true, false, not, List, count_by, length};
 ghost use Rattle.pref_sky.specs.Best.{best, is_beaten, rest, without_best};
 ghost use Rattle.pref_sky.specs.Levels.{entry_order};
 ghost use Rattle.pref_sky.specs.Members.{Among};
-ghost use Rattle.pref_sky.specs.Stairs.{AreApart, AreClassesOf, AreStairs, IsChain, IsInOrder, IsLine, are_level, better_in, by_row, comes_first, earlier_in, earlier_twin, falling, first_within, in_turn, second_within, staying};
+ghost use Rattle.pref_sky.specs.Stairs.{AreApart, AreClassesOf, AreStairs, IsChain, IsInOrder, IsLine, are_level, better_in, by_row, comes_first, earlier_in, earlier_twin, falling, first_within, in_turn, second_within, staying, tie_or_twin};
 ghost use Rattle.pref_sky.specs.declared.entry.Entry.{Entry};
 ghost use Rattle.pref_term.specs.Better.{in_same_group};
-ghost use Rattle.pref_term.specs.Chains.{IsProductOf, by_chain, first_chain, second_chain};
+ghost use Rattle.pref_term.specs.Chains.{IsProductOf, by_chain, first_chain, second_chain, tie_chain};
 ghost use Rattle.pref_term.specs.Order.{IsStrictOrder, RowOrder, StandAlike, is_same, is_worse};
 ghost use Rattle.pref_term.specs.declared.chains.Chains.{Chains};
 ghost use Rattle.pref_term.specs.declared.key.Key.{Key};
@@ -105,14 +105,14 @@ pub fn chains_are_these()
     ensures same_group { (columns : List ℕ) (a b : List ℤ) → in_same_group columns a b ≡ are_level (earlier_in columns) a b }
 {}
 
-/// An order that is a product of two chains within groups is stairs, and so it is as one of entries. It is a line where both are one
-/// chain.
+/// An order that is a product of two chains within groups is stairs with the chains' tie, and so it is as one of entries, where twins are
+/// a tie behind that. It is a line where both are one chain and there is no tie.
 pub fn products_of_two_chains_are_stairs()
     ensures rows { (order : RowOrder) (columns : List ℕ) (chains : Chains) (distinct : Bool) → IsProductOf order columns chains distinct
-        → AreStairs order.over (first_within columns chains) (second_within columns chains) (λ a b. false) }
+        → AreStairs order.over (first_within columns chains) (second_within columns chains) (better_in (tie_chain chains)) }
     ensures entries { (order : RowOrder) (columns : List ℕ) (chains : Chains) (distinct : Bool) → IsProductOf order columns chains distinct
-        → AreStairs (entry_order order) (by_row (first_within columns chains)) (by_row (second_within columns chains)) (earlier_twin distinct) }
+        → AreStairs (entry_order order) (by_row (first_within columns chains)) (by_row (second_within columns chains)) (tie_or_twin chains distinct) }
     ensures line { (order : RowOrder) (columns : List ℕ) (chains : Chains) (distinct : Bool) → IsProductOf order columns chains distinct
-        → first_chain chains ≡ second_chain chains
+        → first_chain chains ≡ second_chain chains → tie_chain chains ≡ []
         → IsLine (entry_order order) (by_row (earlier_in columns)) (in_turn (by_row (better_in (first_chain chains))) (earlier_twin distinct)) }
 {}
