@@ -1,9 +1,9 @@
-//! Two chains within groups of columns, which say an order of entries, and the one in which entries are kept.
+//! Two chains with a tie, within groups of columns, which say an order of entries, and the one in which entries are kept.
 
 ghost use Rattle.std.specs.Prelude.{◌≡◌, ◌<◌, true, All, IfOk, IfSome};
 ghost use Rattle.std.specs.List.Sorted.{IsPermutation};
 ghost use Rattle.std.specs.Ordering.{is_gt, is_lt};
-ghost use Rattle.pref_sky.specs.Stairs.{earlier_in, first_within};
+ghost use Rattle.pref_sky.specs.Stairs.{earlier_in, first_within, tie_or_twin};
 ghost use Rattle.pref_term.specs.Chains.{IsInRow, IsProductOf, by_chain, first_chain, second_chain};
 ghost use Rattle.pref_term.specs.Order.{is_better, is_worse};
 
@@ -41,8 +41,8 @@ fn better_first(relation: Relation) -> Ordering
     }
 }
 
-/// A copy of what an order says that is a product of two chains within groups: the columns of the groups, the chains, and whether rows of
-/// a group that are the same in both are twins.
+/// A copy of what an order says that is a product of two chains within groups: the columns of the groups, the chains with their tie, and
+/// whether rows of a group that are the same in all of these are twins.
 #[derive(Drop)]
 pub(crate) struct ChainOrder {
     pub(crate) columns: Vec<usize>,
@@ -103,7 +103,7 @@ impl ChainOrder {
         }
     }
 
-    /// Which of two entries stands first: by group, then by the first chain, the second, and the id. Takes no memory.
+    /// Which of two entries stands first: by group, then by the first chain, the second, the tie, and the id. Takes no memory.
     #[tactic(auto, using(crate::proofs::ChainStairs::worse_in))]
     pub(crate) fn compare(&self, a: &Entry, b: &Entry) -> Ordering
         ensures less { is_lt result ≡ comes_before self.now a.now b.now }
@@ -119,6 +119,10 @@ impl ChainOrder {
             decided => return decided,
         }
         match better_first(self.compare_in_second(&a.row, &b.row, first)) {
+            Ordering::Equal => {}
+            decided => return decided,
+        }
+        match better_first(self.chains.compare_in_tie(&a.row, &b.row)) {
             Ordering::Equal => a.id.cmp(&b.id),
             decided => decided,
         }
@@ -135,8 +139,18 @@ impl ChainOrder {
         }
     }
 
+    /// Whether an entry dominates another that is the same in both chains: it is better in the tie, or the earlier twin.
+    #[tactic(auto, using(crate::proofs::ChainStairs::same_in))]
+    fn is_over_in_tie(&self, a: &Entry, b: &Entry) -> bool
+        ensures { result ≡ tie_or_twin self.now.chains self.now.distinct a.now b.now }
+    {
+        let tie = self.chains.compare_in_tie(&a.row, &b.row);
+        tie.is_better() || (tie.is_same() && self.distinct && a.id < b.id)
+    }
+
     /// Whether an entry dominates another. Takes no memory.
     #[inline(always)]
+    #[tactic(auto, using(crate::proofs::ChainStairs::same_in))]
     pub(crate) fn is_over(&self, a: &Entry, b: &Entry) -> bool
         ensures { result ≡ own_order self.now a.now b.now }
     {
@@ -150,7 +164,7 @@ impl ChainOrder {
         match (first, self.compare_in_second(&a.row, &b.row, first)) {
             (Relation::Better, Relation::Better | Relation::Same)
             | (Relation::Same, Relation::Better) => true,
-            (Relation::Same, Relation::Same) => self.distinct && a.id < b.id,
+            (Relation::Same, Relation::Same) => self.is_over_in_tie(a, b),
             _ => false,
         }
     }
