@@ -44,25 +44,27 @@ fn product(first: Relation, second: Relation) -> Relation {
     }
 }
 
-/// How two rows of one group compare by the product of a question's chains; `None` where it has none.
-fn by_chains(ask: &Ask, a: &Row, b: &Row) -> Option<Relation> {
+/// How two rows of one group compare by the product of a question's chains, and whether they are twins; `None` where it has none.
+fn by_chains(ask: &Ask, a: &Row, b: &Row) -> Option<(Relation, bool)> {
     match ask.chains() {
-        Some((_, chains)) => Some(product(
-            chains.compare_in_first(a, b),
-            chains.compare_in_second(a, b),
-        )),
+        Some((_, chains, distinct)) => {
+            let first = chains.compare_in_first(a, b);
+            let found = product(first, chains.compare_in_second(a, b));
+            Some((found, distinct && found.is_same()))
+        }
         None => None,
     }
 }
 
-/// All pairs of these rows compare by the product of the question's chains as by the question, in one group.
+/// All pairs of these rows compare by the product of the question's chains as by the question, in one group, and are twins where they are
+/// to the question.
 fn check_pairs(rt: &impl Abort, question: &str, ask: &Ask, rows: &[Row]) {
     for first in rows {
         for second in rows {
             let found = by_chains(ask, first, second);
             let near = in_same_group(ask.group(), first, second);
             if near && found.is_some() {
-                let wanted = ask.compare(first, second);
+                let wanted = (ask.compare(first, second), ask.twin(first, second));
                 assert_same(rt, (question, first, second), &found, &Some(wanted));
             }
         }
@@ -72,14 +74,14 @@ fn check_pairs(rt: &impl Abort, question: &str, ask: &Ask, rows: &[Row]) {
 /// Whether a question is one chain, where it is a product of two.
 fn is_one(ask: &Ask) -> Option<bool> {
     match ask.chains() {
-        Some((_, chains)) => Some(chains.is_one()),
+        Some((_, chains, _)) => Some(chains.is_one()),
         None => None,
     }
 }
 
 /// A copy of a question's chains is the same two, and one chain where they are one.
 fn check_copy(rt: &impl Abort, alloc: Global, question: &str, ask: &Ask) -> Result<(), Fail> {
-    if let Some((_, chains)) = ask.chains() {
+    if let Some((_, chains, _)) = ask.chains() {
         let copied = chains.copy(alloc)?;
         let found = (copied.is_same(chains), copied.is_one());
         assert_same(rt, question, &found, &(true, chains.is_one()));
@@ -126,7 +128,7 @@ const PAIRS: [(&str, &str, bool); 10] = [
 /// Whether two questions have the same two chains; `None` where one of them has none.
 fn have_same(first: &Ask, second: &Ask) -> Option<bool> {
     match (first.chains(), second.chains()) {
-        (Some((_, chains)), Some((_, others))) => Some(chains.is_same(others)),
+        (Some((_, chains, _)), Some((_, others, _))) => Some(chains.is_same(others)),
         _ => None,
     }
 }

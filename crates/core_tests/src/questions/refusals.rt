@@ -92,7 +92,7 @@ fn are_copied(rt: &impl Abort, alloc: Global, question: &str) -> Result<Option<b
     let schema = columns(alloc)?;
     let ask = read_ask(alloc, &schema, question.as_bytes())?;
     match ask.chains() {
-        Some((_, chains)) => {
+        Some((_, chains, _)) => {
             let copied = copied_in_the_end(rt, alloc, chains);
             Ok(Some(copied.is_same(chains)))
         }
