@@ -74,7 +74,7 @@ module _ {E : Type 0} (over f s t : E → E → Bool) (stairs : AreStairs over f
   }
 
   -- a stands for b, which is before it, where neither of the two dominates the other
-  stands_for : (a b c : E) → f a b ≡ false → f c a ≡ false → over a b ≡ false → over b a ≡ false → over b c ≡ true → over a c ≡ true
+  pub stands_for : (a b c : E) → f a b ≡ false → f c a ≡ false → over a b ≡ false → over b a ≡ false → over b c ≡ true → over a c ≡ true
   stands_for a b c ab ca n m bc = grind (
     arith,
     stairs.is a b,
@@ -108,7 +108,7 @@ module _ {E : Type 0} (over f s t : E → E → Bool) (stairs : AreStairs over f
   )
 
   -- what does not come first does not dominate
-  later : (a b : E) → comes_first f s t b a ≡ false → over b a ≡ false
+  pub later : (a b : E) → comes_first f s t b a ≡ false → over b a ≡ false
   later a b h = grind (arith, stairs.is b a)
 
   -- one candidate: of a level in order, the last one that is no worse than x in the first chain dominates x, or none does
