@@ -34,6 +34,7 @@ pub mod Planning
 pub mod Making
 pub mod Opening
 pub mod Starting
+pub mod Layering
 pub mod Ranks
 pub mod PartLaws
 pub mod Listings

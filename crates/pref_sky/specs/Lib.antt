@@ -12,5 +12,6 @@ pub mod ChainOrders
 pub mod Passes
 pub mod Partials
 pub mod Starts
+pub mod Layers
 pub mod Parts
 pub mod Held

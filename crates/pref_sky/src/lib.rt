@@ -22,6 +22,7 @@ mod chain_order;
 mod entry;
 mod item;
 pub mod laws;
+mod layers;
 mod level;
 mod meeting;
 mod merge;
