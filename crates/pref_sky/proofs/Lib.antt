@@ -35,7 +35,9 @@ pub mod Making
 pub mod Opening
 pub mod Starting
 pub mod Layering
+pub mod MergedLists
 pub mod Ranks
+pub mod RankedAbove
 pub mod PartLaws
 pub mod Listings
 pub mod PartSteps

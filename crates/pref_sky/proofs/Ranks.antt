@@ -24,7 +24,7 @@ use Rattle.pref_sky.proofs.RankedLevels.{one_level}
 abbrev pub ComesBefore : Ranked → Ranked → Type 0
 ComesBefore r s = (r.level < s.level) ⊎ ((r.level ≡ s.level) × (r.id < s.id))
 
-one_way : (r s : Ranked) → ComesBefore r s → ComesBefore s r → ⊥
+pub one_way : (r s : Ranked) → ComesBefore r s → ComesBefore s r → ⊥
 one_way r s there back =
     elim there [
       | inl above ↦ elim back [ inl below ↦ omega (arith, above, below) | inr level ↦ omega (arith, above, level.0) ]
@@ -81,7 +81,7 @@ level_rises n (x ∷ xs) rises = (
   level_rises n xs rises.1,
 )
 
-upto_rises : (level : ℕ → List Entry) (n : ℕ) → ((k : ℕ) → HaveDifferentIds (level k)) → RisesBy ComesBefore (ranked_upto level n)
+pub upto_rises : (level : ℕ → List Entry) (n : ℕ) → ((k : ℕ) → HaveDifferentIds (level k)) → RisesBy ComesBefore (ranked_upto level n)
 upto_rises level zero different = tt
 upto_rises level (suc n) different =
     rises_beside ComesBefore (ranked_upto level n) (one_level (suc n) (level n)) (upto_rises level n different) (level_rises (suc n) (in_order_of_id (level n)) (rises_in_order (level n) (different n)))

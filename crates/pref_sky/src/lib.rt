@@ -26,6 +26,7 @@ mod layers;
 mod level;
 mod meeting;
 mod merge;
+mod merging;
 mod part;
 mod partial;
 mod passes;

@@ -1,0 +1,93 @@
+//! Entries in the order of two chains: new ones are merged into those that are in order, and all are listed with their levels.
+
+ghost use Rattle.std.specs.List.Sorted.{IsPermutation};
+ghost use Rattle.std.specs.Prelude.{◌≡◌, ◌≤◌, ◌<◌, ◌++◌, ◌^◌, true, false, Bool, List, length, take, drop, IfOk};
+ghost use Rattle.pref_sky.specs.ChainOrders.{AreInOrder, comes_before};
+ghost use Rattle.pref_sky.specs.Layers.{AreLevels};
+ghost use Rattle.pref_sky.specs.Levels.{HaveDifferentIds, levels};
+ghost use Rattle.pref_sky.specs.Members.{Among};
+ghost use Rattle.pref_sky.specs.declared.entry.Entry.{Entry};
+ghost use Rattle.pref_term.specs.Order.{IsStrictOrder};
+
+use crate::chain_order::ChainOrder;
+use crate::entry::{Entry, Ranked};
+use std::alloc::{AllocError, Global};
+
+/// How many entries of a list in order come before this one: a search by halves.
+fn count_before(order: &ChainOrder, entries: &[Entry], entry: &Entry) -> usize
+    requires { AreInOrder order.now entries.now }
+    ensures within { result ≤ length entries.now }
+    ensures front { (e : Entry) → Among e (take result entries.now) → comes_before order.now e entry.now ≡ true }
+    ensures back { (e : Entry) → Among e (drop result entries.now) → comes_before order.now e entry.now ≡ false }
+{
+    entries.partition_point(|held| order.compare(held, entry).is_lt())
+}
+
+/// Two lists that are in order as one. Stretches of the first one are copied as they are, so that few entries go in among many fast.
+fn merge(
+    alloc: Global,
+    order: &ChainOrder,
+    sorted: &[Entry],
+    coming: &[Entry],
+) -> Result<Vec<Entry>, AllocError>
+    requires sorted { AreInOrder order.now sorted.now }
+    requires coming { AreInOrder order.now coming.now }
+    ensures permutation { IfOk result (λ all. IsPermutation (sorted.now ++ coming.now) all.items) }
+    ensures in_order { IfOk result (λ all. AreInOrder order.now all.items) }
+{
+    let mut all = Vec::with_capacity(alloc, sorted.len().saturating_add(coming.len()))?;
+    let mut rest = sorted;
+    for entry in coming {
+        let (front, back) = rest.split_at(count_before(order, rest, entry));
+        all.extend_from_slice(front)?;
+        all.push(*entry)?;
+        rest = back;
+    }
+    all.extend_from_slice(rest)?;
+    Ok(all)
+}
+
+/// The entries of a list in order, and those of one in any order, in order.
+///
+/// Cost: a copy of all, and for each of the others what a sort of them takes and a search by halves among the first list. Memory: the
+/// copy, and one of the others.
+pub(crate) fn merged(
+    alloc: Global,
+    order: &ChainOrder,
+    sorted: &[Entry],
+    recent: &[Entry],
+) -> Result<Vec<Entry>, AllocError>
+    requires { AreInOrder order.now sorted.now }
+    ensures permutation { IfOk result (λ all. IsPermutation (sorted.now ++ recent.now) all.items) }
+    ensures in_order { IfOk result (λ all. AreInOrder order.now all.items) }
+{
+    let mut coming = Vec::from_slice(alloc, recent)?;
+    order.sort(&mut coming);
+    merge(alloc, order, sorted, &coming)
+}
+
+/// The entries above the cut, in order of level, then id, where so many levels are above each of these.
+pub(crate) fn ranked_by(
+    alloc: Global,
+    cut: usize,
+    entries: &[Entry],
+    above: &[usize],
+) -> Result<Vec<Ranked>, AllocError>
+    requires { cut < 2 ^ 32 }
+    ensures { (over : Entry → Entry → Bool) → IsStrictOrder over → HaveDifferentIds entries.now → AreLevels over cut entries.now entries.now above.now
+        → IfOk result (λ ranked. ranked.items ≡ levels over entries.now cut) }
+{
+    let held = above.iter().filter(|above| **above < cut).count();
+    let mut ranked = Vec::with_capacity(alloc, held)?;
+    for (entry, above) in entries.iter().zip(above) {
+        if *above < cut {
+            ranked.push(Ranked {
+                level: *above as u32 + 1,
+                id: entry.id,
+                row: entry.row,
+            })?;
+        }
+    }
+    ranked.sort_unstable_by_key(|entry| (entry.level, entry.id));
+    Ok(ranked)
+}
