@@ -5,9 +5,8 @@ use Rattle.std.proofs.lemmas.Bool.{both_ways, not-true, not_from_false, false_fr
 use Rattle.std.proofs.lemmas.List.Sums.{sum_by-append}
 use Rattle.pref_term.specs.Order.{IsStrictOrder}
 use Rattle.pref_sky.specs.declared.entry.Entry.{Entry}
-use Rattle.pref_sky.specs.Best.{best, is_beaten, without_best}
+use Rattle.pref_sky.specs.Best.{IsApart, best, is_beaten, without_best}
 use Rattle.pref_sky.specs.Levels.{HaveDifferentIds, in_order_of_id}
-use Rattle.pref_sky.specs.Passes.{IsApart}
 use Rattle.pref_sky.proofs.Members.{Among, any_from, any_gives, in_filter, from_filter, in_left, in_right, in_either}
 use Rattle.pref_sky.proofs.Removals.{same_answer}
 use Rattle.pref_sky.proofs.Orders.{SameMembers, from_in_order}

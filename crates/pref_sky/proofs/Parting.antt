@@ -5,8 +5,8 @@ use Rattle.std.proofs.lemmas.Bool.{both_ways, not_from_false, false_from_ne_true
 use Rattle.std.proofs.lemmas.List.Sums.{sum_by-cons, sum_by-append}
 use Rattle.std.proofs.lemmas.List.Filters.{sum_by-filter_both}
 use Rattle.pref_term.specs.Order.{IsStrictOrder}
-use Rattle.pref_sky.specs.Best.{is_beaten}
-use Rattle.pref_sky.specs.Passes.{IsApart, IsFree, Parted}
+use Rattle.pref_sky.specs.Best.{IsApart, is_beaten}
+use Rattle.pref_sky.specs.Passes.{IsFree, Parted}
 use Rattle.pref_sky.proofs.Members.{Among, any_from, any_gives, in_filter, from_filter, in_left, in_right, in_either, from_map, in_map}
 use Rattle.pref_sky.proofs.Removals.{same_answer, unbeaten_over}
 

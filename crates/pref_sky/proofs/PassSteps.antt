@@ -9,8 +9,8 @@ use Rattle.std.specs.List.{count_by}
 use Rattle.std.proofs.lemmas.Bool.{cases_lt, both_ways, le-ltb, lt-ltb, not-true, not_from_false, false_from_ne_true}
 use Rattle.std.proofs.lemmas.List.Sums.{sum_by-cons, sum_by-append}
 use Rattle.pref_term.specs.Order.{IsStrictOrder, StandAlike}
-use Rattle.pref_sky.specs.Best.{is_beaten, best}
-use Rattle.pref_sky.specs.Passes.{IsApart, IsClear, Sifted, Somewhere, Passing, Parted}
+use Rattle.pref_sky.specs.Best.{IsApart, best, is_beaten}
+use Rattle.pref_sky.specs.Passes.{IsClear, Sifted, Somewhere, Passing, Parted}
 use Rattle.pref_sky.specs.Passes.Somewhere.{is_best, is_early, is_late, is_overflow, is_left, is_rest}
 use Rattle.pref_sky.proofs.Members.{Among, any_from, any_gives, in_filter, from_filter, in_left, in_right, in_either, place_of}
 use Rattle.pref_sky.proofs.Removals.{unbeaten_over}

@@ -9,11 +9,10 @@ use Rattle.pref_sky.specs.declared.entry.Entry.{Entry}
 use Rattle.pref_sky.specs.declared.entry.Ranked.{Ranked}
 use Rattle.pref_sky.specs.declared.level.Level.{Level}
 use Rattle.pref_sky.specs.declared.level.Step.{Step}
-use Rattle.pref_sky.specs.Best.{best, rest, is_beaten, without_best}
+use Rattle.pref_sky.specs.Best.{IsApart, best, is_beaten, rest, without_best}
 use Rattle.pref_sky.specs.Levels.{HaveDifferentIds, in_order_of_id, at_level, entry_of, levels}
 use Rattle.pref_sky.specs.Meetings.{length_of_level}
 use Rattle.pref_sky.specs.Partials.{ranked_from, ranked_after, stepped, HasRoomAt, HaveRoom, HoldTheSame, held_at, Reordered}
-use Rattle.pref_sky.specs.Passes.{IsApart}
 use Rattle.pref_sky.proofs.Members.{Among, in_left, in_right, in_either, from_map}
 use Rattle.pref_sky.proofs.Removals.{comes_after}
 use Rattle.pref_sky.proofs.Orders.{SameMembers, among_in_order, from_in_order, same_in_order, count_in_order}

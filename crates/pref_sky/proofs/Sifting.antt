@@ -4,8 +4,7 @@ use Rattle.std.specs.List.Sorted.{IsPermutation}
 use Rattle.std.proofs.lemmas.Bool.{both_ways, false_from_ne_true}
 use Rattle.std.proofs.lemmas.List.Sorted.{list_any-IsPermutation}
 use Rattle.pref_sky.specs.declared.entry.Entry.{Entry}
-use Rattle.pref_sky.specs.Best.{is_beaten}
-use Rattle.pref_sky.specs.Passes.{IsApart}
+use Rattle.pref_sky.specs.Best.{IsApart, is_beaten}
 use Rattle.pref_term.specs.Order.{StandAlike}
 use Rattle.pref_sky.proofs.PassSteps.{clear_if_alike, unbeaten_if}
 use Rattle.pref_sky.proofs.Members.{Among, among_place, any_from, any_gives}

@@ -10,10 +10,10 @@ use Rattle.pref_term.specs.Order.{IsStrictOrder}
 use Rattle.pref_sky.specs.declared.entry.Entry.{Entry}
 use Rattle.pref_sky.specs.declared.level.Level.{Level}
 use Rattle.pref_sky.specs.declared.level.Step.{Step}
-use Rattle.pref_sky.specs.Best.{best, is_beaten, without_best}
+use Rattle.pref_sky.specs.Best.{IsApart, best, is_beaten, without_best}
 use Rattle.pref_sky.specs.Levels.{HaveDifferentIds, entry_of, levels}
 use Rattle.pref_sky.specs.Partials.{AreMoved, HasRoomAt, Reordered, held_at, ranked_from, stepped}
-use Rattle.pref_sky.specs.Passes.{IsApart, IsFree}
+use Rattle.pref_sky.specs.Passes.{IsFree}
 use Rattle.pref_sky.specs.Starts.{AreApart, Start, StartAt, chosen, starting}
 use Rattle.pref_sky.proofs.Members.{Among, from_filter, in_left, in_right, in_either}
 use Rattle.pref_sky.proofs.Merges.{is_at}

@@ -3,10 +3,9 @@
 use Rattle.std.specs.Prelude.{⊤, ◌≡◌, ◌==◌, ◌≤◌, ◌<◌, ◌⊎◌, ℕ, suc, Bool, true, false, cond, List, [], ◌∷◌}
 use Rattle.pref_sky.specs.declared.entry.Entry.{Entry}
 use Rattle.pref_sky.specs.declared.level.Level.{Level}
-use Rattle.pref_sky.specs.Best.{is_beaten}
+use Rattle.pref_sky.specs.Best.{IsApart, is_beaten}
 use Rattle.pref_sky.specs.Members.{Among}
 use Rattle.pref_sky.specs.Partials.{held_at}
-use Rattle.pref_sky.specs.Passes.{IsApart}
 
 -- of no level does an entry dominate another
 abbrev pub AreApart : (Entry → Entry → Bool) → List Level → Type 0

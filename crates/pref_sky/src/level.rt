@@ -3,10 +3,9 @@
 ghost use Rattle.std.specs.List.{swap};
 ghost use Rattle.std.specs.List.Sorted.{IsPermutation};
 ghost use Rattle.std.specs.Prelude.{◌≡◌, ◌≤◌, ◌<◌, ◌+◌, ℕ, [], ◌∷◌, true, false, length, map, take, drop, vec_len, OnOk};
-ghost use Rattle.pref_sky.specs.Best.{is_beaten};
+ghost use Rattle.pref_sky.specs.Best.{IsApart, is_beaten};
 ghost use Rattle.pref_sky.specs.Levels.{entry_order};
 ghost use Rattle.pref_sky.specs.Members.{Among};
-ghost use Rattle.pref_sky.specs.Passes.{IsApart};
 ghost use Rattle.pref_sky.specs.Partials.{HasRoom, stepped};
 ghost use Rattle.pref_sky.specs.Signatures.{AreSigned, IsSignedBy, Moved, signature_by};
 ghost use Rattle.pref_sky.specs.declared.entry.Entry.{Entry};

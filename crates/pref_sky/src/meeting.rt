@@ -1,9 +1,8 @@
 //! An entry before a list: one comparison a pair.
 
 ghost use Rattle.std.specs.Prelude.{◌≡◌, ◌<◌, [], ◌∷◌, length, is_some, IfSome};
-ghost use Rattle.pref_sky.specs.Best.{is_beaten};
+ghost use Rattle.pref_sky.specs.Best.{IsApart, is_beaten};
 ghost use Rattle.pref_sky.specs.Levels.{entry_order};
-ghost use Rattle.pref_sky.specs.Passes.{IsApart};
 ghost use Rattle.pref_sky.specs.Signatures.{AreSigned};
 ghost use Rattle.pref_sky.specs.declared.entry.Entry.{Entry};
 

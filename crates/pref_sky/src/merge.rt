@@ -2,12 +2,12 @@
 //! memory. Held entries of one level never meet again, and none is copied but those that go down.
 
 ghost use Rattle.std.specs.Prelude.{◌≡◌, ◌≤◌, ◌<◌, ◌++◌, ◌+◌, ◌^◌, ℕ, [], ◌∷◌, suc, false, true, Bool, length, map, count_by, vec_len, IfOk, OnOk};
-ghost use Rattle.pref_sky.specs.Best.{best, is_beaten, without_best};
+ghost use Rattle.pref_sky.specs.Best.{IsApart, best, is_beaten, without_best};
 ghost use Rattle.pref_sky.specs.Levels.{HaveDifferentIds, entry_of, entry_order};
 ghost use Rattle.pref_sky.specs.Meetings.{is_kept};
 ghost use Rattle.pref_sky.specs.Members.{SameMembers};
 ghost use Rattle.pref_sky.specs.Partials.{AreMoved, HasRoom, HasRoomAt, HaveRoom, HoldTheSame, IsPlanned, Opened, Reordered, held_at, ranked_after, ranked_from, stepped};
-ghost use Rattle.pref_sky.specs.Passes.{IsApart, IsFree};
+ghost use Rattle.pref_sky.specs.Passes.{IsFree};
 ghost use Rattle.pref_sky.specs.Signatures.{AreSigned, AreSignedBy, IsSignedBy, LevelsAreSigned, Moved, StepsAreSignedBy};
 ghost use Rattle.pref_sky.specs.Starts.{AreApart, Start, StartAt, StartWithin, starting};
 ghost use Rattle.pref_sky.specs.declared.entry.Entry.{Entry};

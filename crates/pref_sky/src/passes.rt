@@ -2,8 +2,9 @@
 //! the others.
 
 ghost use Rattle.std.specs.Prelude.{◌≡◌, ◌≤◌, ◌<◌, ◌+◌, ◌++◌, [], ◌∷◌, ℕ, Bool, List, filter, not, length, count_by, IfOk, OnOk};
+ghost use Rattle.pref_sky.specs.Best.{IsApart};
 ghost use Rattle.pref_sky.specs.Items.{item_order};
-ghost use Rattle.pref_sky.specs.Passes.{IsApart, IsClear, IsMet, Parted, Passes, Sifted};
+ghost use Rattle.pref_sky.specs.Passes.{IsClear, IsMet, Parted, Passes, Sifted};
 ghost use Rattle.pref_term.specs.Order.{IsStrictOrder};
 ghost use Rattle.pref_sky.specs.declared.item.Item.{Item};
 

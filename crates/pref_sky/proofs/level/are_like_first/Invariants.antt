@@ -1,9 +1,8 @@
 use Rattle.std.proofs.Common.{◌≡◌, false, take}
 use Rattle.pref_sky.specs.declared.entry.Entry.{Entry}
-use Rattle.pref_sky.specs.Best.{is_beaten}
+use Rattle.pref_sky.specs.Best.{IsApart, is_beaten}
 use Rattle.pref_sky.specs.Levels.{entry_order}
 use Rattle.pref_sky.specs.Members.{Among}
-use Rattle.pref_sky.specs.Passes.{IsApart}
 use Rattle.pref_sky.proofs.level.are_like_first.Given as goal
 
 -- none of the others so far dominates an entry

@@ -4,9 +4,8 @@ use Rattle.std.proofs.lemmas.Bool.{cases_lt}
 use Rattle.std.proofs.lemmas.List.{get_or_default}
 use Rattle.std.proofs.lemmas.List.Sorted.{IsPermutation-swap, IsPermutation-trans}
 use Rattle.pref_sky.specs.declared.entry.Entry.{Entry}
-use Rattle.pref_sky.specs.Best.{is_beaten}
+use Rattle.pref_sky.specs.Best.{IsApart, is_beaten}
 use Rattle.pref_sky.specs.Levels.{entry_order}
-use Rattle.pref_sky.specs.Passes.{IsApart}
 use Rattle.pref_sky.proofs.Signings.{length_beside, swapped_beside}
 use Rattle.pref_sky.proofs.SetApart.{each_in_front, each_behind, one_more_stays, others_go}
 use Rattle.pref_sky.proofs.level.move_back.Goals as goal

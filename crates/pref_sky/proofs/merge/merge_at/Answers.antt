@@ -2,10 +2,10 @@ use Rattle.std.proofs.Common.{◌≡◌, ◌≤◌, ◌<◌, ◌+◌, ◌++◌, 
 use Rattle.std.specs.List.{count_by}
 use Rattle.std.proofs.lemmas.Bool.{lt-ltb}
 use Rattle.std.proofs.lemmas.Result.{IfOk-weaker}
-use Rattle.pref_sky.specs.Best.{best, without_best}
+use Rattle.pref_sky.specs.Best.{IsApart, best, without_best}
 use Rattle.pref_sky.specs.Levels.{entry_order}
 use Rattle.pref_sky.specs.Members.{SameMembers}
-use Rattle.pref_sky.specs.Passes.{IsApart, IsFree}
+use Rattle.pref_sky.specs.Passes.{IsFree}
 use Rattle.pref_sky.specs.Partials.{held_at, stepped}
 use Rattle.pref_sky.proofs.Opening.{here_is, held_now, room_now, now_reordered, opened_reordered}
 use Rattle.pref_sky.specs.Signatures.{LevelsAreSigned}

@@ -3,10 +3,10 @@ use Rattle.std.specs.List.{count_by}
 use Rattle.std.proofs.lemmas.Bool.{both_ways, eqb-true, lt-ltb}
 use Rattle.std.proofs.lemmas.List.{length-map}
 use Rattle.pref_sky.specs.declared.entry.Entry.{Entry}
-use Rattle.pref_sky.specs.Best.{best, without_best}
+use Rattle.pref_sky.specs.Best.{IsApart, best, without_best}
 use Rattle.pref_sky.specs.Levels.{entry_order, levels}
 use Rattle.pref_sky.specs.Members.{Among, SameMembers}
-use Rattle.pref_sky.specs.Passes.{IsApart, IsFree}
+use Rattle.pref_sky.specs.Passes.{IsFree}
 use Rattle.pref_sky.specs.Partials.{HasRoomAt, Reordered, held_at, ranked_from, stepped}
 use Rattle.pref_sky.specs.Signatures.{StepsAreSignedBy}
 use Rattle.pref_sky.specs.Starts.{starting}
