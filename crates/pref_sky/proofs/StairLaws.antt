@@ -2,8 +2,8 @@
 use Rattle.std.proofs.Common.{◌≡◌, Bool, true, false, not, ◌&&◌, ◌||◌, inl, inr, List, [], ◌∷◌, ◌++◌, refl, sym, ◌∙◌, ap, subst, filter, arith}
 use Rattle.std.proofs.lemmas.Bool.{cases_Bool, both_ways, false_from_ne_true, cond_both, cond-true, cond-false}
 use Rattle.pref_term.specs.Order.{IsStrictOrder}
-use Rattle.pref_sky.specs.Best.{best, is_beaten, without_best}
-use Rattle.pref_sky.specs.Stairs.{IsChain, AreStairs, IsLine, IsInOrder, AreApart, are_level, comes_first, in_turn, staying, falling}
+use Rattle.pref_sky.specs.Best.{IsApart, best, is_beaten, without_best}
+use Rattle.pref_sky.specs.Stairs.{IsChain, AreStairs, IsLine, IsInOrder, are_level, comes_first, in_turn, staying, falling}
 use Rattle.pref_sky.proofs.Members.{Among, any_from, any_gives, from_filter, in_right, in_either}
 use Rattle.pref_sky.proofs.Removals.{same_answer}
 
@@ -55,7 +55,7 @@ pub in_weaker_order : {E : Type 0} (before weaker : E → E → Bool) → ((a b 
 in_weaker_order before weaker then [] h = h
 in_weaker_order before weaker then (e ∷ others) h = ((λ x m. then e x (h.0 x m)), in_weaker_order before weaker then others h.1)
 
-best_are_apart : {E : Type 0} (over : E → E → Bool) (all : List E) → AreApart over (best over all)
+best_are_apart : {E : Type 0} (over : E → E → Bool) (all : List E) → IsApart over (best over all)
 best_are_apart over all x y mx my =
     let other = from_filter (λ e. not (is_beaten over all e)) all x mx in
     let free = (from_filter (λ e. not (is_beaten over all e)) all y my).1 in
@@ -112,7 +112,7 @@ module _ {E : Type 0} (over f s t : E → E → Bool) (stairs : AreStairs over f
   later a b h = grind (arith, stairs.is b a)
 
   -- one candidate: of a level in order, the last one that is no worse than x in the first chain dominates x, or none does
-  pub last_stands_for_all : (front : List E) (y : E) (back : List E) (x : E) → IsInOrder (λ a b. not (f b a)) (front ++ y ∷ back) → AreApart over (front ++ y ∷ back)
+  pub last_stands_for_all : (front : List E) (y : E) (back : List E) (x : E) → IsInOrder (λ a b. not (f b a)) (front ++ y ∷ back) → IsApart over (front ++ y ∷ back)
       → f x y ≡ false → ((z : E) → Among z back → f x z ≡ true) → is_beaten over (front ++ y ∷ back) x ≡ over y x
   last_stands_for_all front y back x ordered apart reach beyond =
       let level = front ++ y ∷ back in
@@ -127,7 +127,7 @@ module _ {E : Type 0} (over f s t : E → E → Bool) (stairs : AreStairs over f
       (λ h. any_from (λ z. over z x) level y here h)
 
   -- and where one of the level is alike to x, so is that one
-  pub last_is_alike : (front : List E) (y : E) (back : List E) (x z : E) → IsInOrder (λ a b. not (f b a)) (front ++ y ∷ back) → AreApart over (front ++ y ∷ back)
+  pub last_is_alike : (front : List E) (y : E) (back : List E) (x z : E) → IsInOrder (λ a b. not (f b a)) (front ++ y ∷ back) → IsApart over (front ++ y ∷ back)
       → f x y ≡ false → ((w : E) → Among w back → f x w ≡ true) → Among z (front ++ y ∷ back) → are_level (comes_first f s t) z x ≡ true → are_level (comes_first f s t) y x ≡ true
   last_is_alike front y back x z ordered apart reach beyond m alike =
       let here = in_right front (y ∷ back) y (inl refl) in
@@ -189,10 +189,10 @@ module _ {E : Type 0} (over f s t : E → E → Bool) (stairs : AreStairs over f
 
   -- and those that stay are a level, of which one entry can be asked
   pub sweep_leaves_a_level : (y : E) (left : List E) → IsInOrder (λ a b. not (comes_first f s t b a)) (y ∷ left)
-      → IsInOrder (λ a b. not (f b a)) (y ∷ staying over y left) × AreApart over (y ∷ staying over y left)
+      → IsInOrder (λ a b. not (f b a)) (y ∷ staying over y left) × IsApart over (y ∷ staying over y left)
   sweep_leaves_a_level y left ordered = (
     in_weaker_order (λ a b. not (comes_first f s t b a)) (λ a b. not (f b a)) (λ a b h. grind (arith, h)) (y ∷ staying over y left) (sweep_keeps_order y left ordered).0,
-    subst (AreApart over) (sym (sweep_finds_best y left ordered).0) (best_are_apart over (y ∷ left)),
+    subst (IsApart over) (sym (sweep_finds_best y left ordered).0) (best_are_apart over (y ∷ left)),
   )
 
   -- within groups: stairs whose first chain begins with the groups, and the second with their converse

@@ -43,10 +43,6 @@ abbrev pub IsInOrder : {E : Type 0} → (E → E → Bool) → List E → Type 0
 IsInOrder before [] = ⊤
 IsInOrder {E = E} before (e ∷ others) = ((x : E) → Among x others → before e x ≡ true) × IsInOrder before others
 
--- no entry of the list dominates another
-abbrev pub AreApart : {E : Type 0} → (E → E → Bool) → List E → Type 0
-AreApart {E = E} over xs = (x y : E) → Among x xs → Among y xs → over x y ≡ false
-
 -- of entries behind one that stays: those that stay where only the last that stayed is asked
 abbrev pub staying : {E : Type 0} → (E → E → Bool) → E → List E → List E
 staying over last [] = []

@@ -1,10 +1,10 @@
 //! Laws of lists in the order of a chain, where one entry is asked in place of all. Each is the contract of a function that does nothing.
 
 ghost use Rattle.std.specs.Prelude.{◌≡◌, ◌&&◌, ◌++◌, [], ◌∷◌, ℕ, ℤ, Bool, true, false, not, List, count_by, length};
-ghost use Rattle.pref_sky.specs.Best.{best, is_beaten, rest, without_best};
+ghost use Rattle.pref_sky.specs.Best.{best, is_beaten, rest, without_best, IsApart};
 ghost use Rattle.pref_sky.specs.Levels.{entry_order};
 ghost use Rattle.pref_sky.specs.Members.{Among};
-ghost use Rattle.pref_sky.specs.Stairs.{AreApart, AreClassesOf, AreStairs, IsChain, IsInOrder, IsLine, are_level, better_in, by_row, comes_first, earlier_in, earlier_twin, falling, first_within, in_turn, second_within, staying, tie_or_twin};
+ghost use Rattle.pref_sky.specs.Stairs.{AreClassesOf, AreStairs, IsChain, IsInOrder, IsLine, are_level, better_in, by_row, comes_first, earlier_in, earlier_twin, falling, first_within, in_turn, second_within, staying, tie_or_twin};
 ghost use Rattle.pref_sky.specs.declared.entry.Entry.{Entry};
 ghost use Rattle.pref_term.specs.Better.{in_same_group};
 ghost use Rattle.pref_term.specs.Chains.{IsProductOf, by_chain, first_chain, second_chain, tie_chain};
@@ -23,12 +23,12 @@ pub fn stairs_are_an_order()
 pub fn the_last_stands_for_all()
     ensures candidate { (over first second tie : Entry → Entry → Bool) → AreStairs over first second tie
         → (front : List Entry) (y : Entry) (back : List Entry) (x : Entry)
-        → IsInOrder (λ a b. not (first b a)) (front ++ y ∷ back) → AreApart over (front ++ y ∷ back)
+        → IsInOrder (λ a b. not (first b a)) (front ++ y ∷ back) → IsApart over (front ++ y ∷ back)
         → first x y ≡ false → ((z : Entry) → Among z back → first x z ≡ true)
         → is_beaten over (front ++ y ∷ back) x ≡ over y x }
     ensures alike { (over first second tie : Entry → Entry → Bool) → AreStairs over first second tie
         → (front : List Entry) (y : Entry) (back : List Entry) (x z : Entry)
-        → IsInOrder (λ a b. not (first b a)) (front ++ y ∷ back) → AreApart over (front ++ y ∷ back)
+        → IsInOrder (λ a b. not (first b a)) (front ++ y ∷ back) → IsApart over (front ++ y ∷ back)
         → first x y ≡ false → ((w : Entry) → Among w back → first x w ≡ true) → Among z (front ++ y ∷ back)
         → are_level (comes_first first second tie) z x ≡ true → are_level (comes_first first second tie) y x ≡ true }
     ensures none { (over first second tie : Entry → Entry → Bool) → AreStairs over first second tie
@@ -49,7 +49,7 @@ pub fn a_sweep_finds_the_best()
         × IsInOrder (λ a b. not (comes_first first second tie b a)) (falling over y others) }
     ensures level { (over first second tie : Entry → Entry → Bool) → AreStairs over first second tie
         → (y : Entry) (others : List Entry) → IsInOrder (λ a b. not (comes_first first second tie b a)) (y ∷ others)
-        → IsInOrder (λ a b. not (first b a)) (y ∷ staying over y others) × AreApart over (y ∷ staying over y others) }
+        → IsInOrder (λ a b. not (first b a)) (y ∷ staying over y others) × IsApart over (y ∷ staying over y others) }
 {}
 
 /// Stairs within groups are stairs, so one list, in order of group and then as in each of them, serves all groups.
