@@ -116,9 +116,9 @@ clear_by_place over xs e n all each x m =
     (ap (λ y. over y e) (sym w.2) ∙ both.0, ap (over e) (sym w.2) ∙ both.1)
 
 -- a pass, where something went out of the early items
-pub sift_early : {E : Type 0} (over : E → E → Bool) (input best left : List E) (before : ℕ) (early late overflow rest new more : List E) (e : E) → Among e input → Sifted over e early new rest more
-    → Passing over input best left before early late overflow rest → Passing over input best left before new late overflow more
-sift_early {E = E} over input best left before early late overflow rest new more e there s p =
+pub sift_early : {E : Type 0} (over : E → E → Bool) (window : ℕ) (input best left : List E) (before : ℕ) (early late overflow rest new more : List E) (e : E) → Among e input → Sifted over e early new rest more
+    → Passing over window input best left before early late overflow rest → Passing over window input best left before new late overflow more
+sift_early {E = E} over window input best left before early late overflow rest new more e there s p =
     let old : (x : E) → Among x new ⊎ Among x late → Among x early ⊎ Among x late = λ x m. elim m [ inl a ↦ inl (s.within x a) | inr b ↦ inr b ] in
     record {
       covers = λ x m. elim (p.covers x m) [
@@ -146,13 +146,14 @@ sift_early {E = E} over input best left before early late overflow rest new more
       settled = λ x z mx mz. p.settled x z (s.within x mx) mz;
       fresh = p.fresh;
       more = omega (arith, p.more, s.longer);
+      fits = omega (arith, p.fits, s.lengths, s.longer);
       falls = λ h. omega (arith, p.falls h, s.lengths);
     }
 
 -- and out of the late ones
-pub sift_late : {E : Type 0} (over : E → E → Bool) (input best left : List E) (before : ℕ) (early late overflow rest new more : List E) (e : E) → Among e input → Sifted over e late new rest more
-    → Passing over input best left before early late overflow rest → Passing over input best left before early new overflow more
-sift_late {E = E} over input best left before early late overflow rest new more e there s p =
+pub sift_late : {E : Type 0} (over : E → E → Bool) (window : ℕ) (input best left : List E) (before : ℕ) (early late overflow rest new more : List E) (e : E) → Among e input → Sifted over e late new rest more
+    → Passing over window input best left before early late overflow rest → Passing over window input best left before early new overflow more
+sift_late {E = E} over window input best left before early late overflow rest new more e there s p =
     let old : (x : E) → Among x early ⊎ Among x new → Among x early ⊎ Among x late = λ x m. elim m [ inl a ↦ inl a | inr b ↦ inr (s.within x b) ] in
     record {
       covers = λ x m. elim (p.covers x m) [
@@ -180,13 +181,14 @@ sift_late {E = E} over input best left before early late overflow rest new more 
       settled = p.settled;
       fresh = λ h. omega (arith, p.fresh h, s.lengths, s.longer);
       more = omega (arith, p.more, s.longer);
+      fits = omega (arith, p.fits, s.lengths, s.longer);
       falls = λ h. omega (arith, p.falls h, s.longer);
     }
 
 -- the next item is dominated by a held one
-pub drops : {E : Type 0} (over : E → E → Bool) (input best left : List E) (before : ℕ) (early late overflow rest : List E) (e w : E) → Among w early ⊎ Among w late → over w e ≡ true
-    → Passing over input best (e ∷ left) before early late overflow rest → Passing over input best left before early late overflow (rest ++ e ∷ [])
-drops {E = E} over input best left before early late overflow rest e w held above p =
+pub drops : {E : Type 0} (over : E → E → Bool) (window : ℕ) (input best left : List E) (before : ℕ) (early late overflow rest : List E) (e w : E) → Among w early ⊎ Among w late → over w e ≡ true
+    → Passing over window input best (e ∷ left) before early late overflow rest → Passing over window input best left before early late overflow (rest ++ e ∷ [])
+drops {E = E} over window input best left before early late overflow rest e w held above p =
     let holds : Among w input = elim held [ inl a ↦ p.within w (is_early a) | inr b ↦ p.within w (is_late b) ] in
     record {
       covers = λ x m. elim (p.covers x m) [
@@ -217,13 +219,14 @@ drops {E = E} over input best left before early late overflow rest e w held abov
       settled = p.settled;
       fresh = p.fresh;
       more = omega (arith, p.more, length-append rest (e ∷ []));
+      fits = p.fits;
       falls = λ h. omega (arith, p.falls h, length-append rest (e ∷ []));
     }
 
 -- it overflows: the window is full
-pub overflows : {E : Type 0} (over : E → E → Bool) (input best left : List E) (before : ℕ) (early late overflow rest : List E) (e : E) → IsClear over early e → (length late ≡ 0 → 0 < length early)
-    → Passing over input best (e ∷ left) before early late overflow rest → Passing over input best left before early late (overflow ++ e ∷ []) rest
-overflows {E = E} over input best left before early late overflow rest e clear full p =
+pub overflows : {E : Type 0} (over : E → E → Bool) (window : ℕ) (input best left : List E) (before : ℕ) (early late overflow rest : List E) (e : E) → IsClear over early e → (length late ≡ 0 → 0 < length early)
+    → Passing over window input best (e ∷ left) before early late overflow rest → Passing over window input best left before early late (overflow ++ e ∷ []) rest
+overflows {E = E} over window input best left before early late overflow rest e clear full p =
     let long = length-append overflow (e ∷ []) in
     record {
       covers = λ x m. elim (p.covers x m) [
@@ -260,13 +263,14 @@ overflows {E = E} over input best left before early late overflow rest e clear f
       ];
       fresh = λ h. omega (arith, h, long);
       more = p.more;
+      fits = p.fits;
       falls = λ h. elim (some_or_none overflow) [ inl some ↦ p.falls some | inr none ↦ let early_some = full (p.fresh none) in omega (arith, early_some, p.more) ];
     }
 
 -- it joins the early ones: nothing overflowed so far
-pub joins_early : {E : Type 0} (over : E → E → Bool) → IsStrictOrder over → (input best left : List E) (before : ℕ) (early late overflow rest : List E) (e : E) → IsClear over early e → IsClear over late e → length overflow ≡ 0
-    → Passing over input best (e ∷ left) before early late overflow rest → Passing over input best left before (early ++ e ∷ []) late overflow rest
-joins_early {E = E} over strict input best left before early late overflow rest e clear_early clear_late none p =
+pub joins_early : {E : Type 0} (over : E → E → Bool) → IsStrictOrder over → (window : ℕ) (input best left : List E) (before : ℕ) (early late overflow rest : List E) (e : E) → IsClear over early e → IsClear over late e → length early + length late < window → length overflow ≡ 0
+    → Passing over window input best (e ∷ left) before early late overflow rest → Passing over window input best left before (early ++ e ∷ []) late overflow rest
+joins_early {E = E} over strict window input best left before early late overflow rest e clear_early clear_late room none p =
     let from : (x : E) → Among x (early ++ e ∷ []) ⊎ Among x late → (Among x early ⊎ Among x late) ⊎ (x ≡ e) =
     λ x m. elim m [
       | inl a ↦ elim (in_either early (e ∷ []) x a) [ inl old ↦ inl (inl old) | inr new ↦ elim new [ inl same ↦ inr same | inr void ↦ absurd void ] ]
@@ -301,13 +305,14 @@ joins_early {E = E} over strict input best left before early late overflow rest 
       settled = λ x z mx mz. let gone = none_of_empty overflow z none mz in (absurd gone, absurd gone);
       fresh = p.fresh;
       more = p.more;
+      fits = omega (arith, room, length-append early (e ∷ []));
       falls = λ h. omega (arith, h, none);
     }
 
 -- it joins the late ones
-pub joins_late : {E : Type 0} (over : E → E → Bool) → IsStrictOrder over → (input best left : List E) (before : ℕ) (early late overflow rest : List E) (e : E) → IsClear over early e → IsClear over late e → 0 < length overflow
-    → Passing over input best (e ∷ left) before early late overflow rest → Passing over input best left before early (late ++ e ∷ []) overflow rest
-joins_late {E = E} over strict input best left before early late overflow rest e clear_early clear_late some p =
+pub joins_late : {E : Type 0} (over : E → E → Bool) → IsStrictOrder over → (window : ℕ) (input best left : List E) (before : ℕ) (early late overflow rest : List E) (e : E) → IsClear over early e → IsClear over late e → length early + length late < window → 0 < length overflow
+    → Passing over window input best (e ∷ left) before early late overflow rest → Passing over window input best left before early (late ++ e ∷ []) overflow rest
+joins_late {E = E} over strict window input best left before early late overflow rest e clear_early clear_late room some p =
     let from : (x : E) → Among x early ⊎ Among x (late ++ e ∷ []) → (Among x early ⊎ Among x late) ⊎ (x ≡ e) =
     λ x m. elim m [
       | inl a ↦ inl (inl a)
@@ -342,13 +347,14 @@ joins_late {E = E} over strict input best left before early late overflow rest e
       settled = p.settled;
       fresh = λ h. omega (arith, h, some);
       more = p.more;
+      fits = omega (arith, room, length-append late (e ∷ []));
       falls = p.falls;
     }
 
 -- a pass ends: what is early is best
-pub ends : {E : Type 0} (over : E → E → Bool) → IsStrictOrder over → (input best : List E) (before : ℕ) (early late overflow rest : List E)
-    → Passing over input best [] before early late overflow rest → Passing over input (best ++ early) overflow (length rest) late [] [] rest
-ends {E = E} over strict input best before early late overflow rest p =
+pub ends : {E : Type 0} (over : E → E → Bool) → IsStrictOrder over → (window : ℕ) (input best : List E) (before : ℕ) (early late overflow rest : List E)
+    → Passing over window input best [] before early late overflow rest → Passing over window input (best ++ early) overflow (length rest) late [] [] rest
+ends {E = E} over strict window input best before early late overflow rest p =
     let below : (x : E) → Among x early → (y : E) → Somewhere best early late overflow [] rest y → (Among y rest → over y x ≡ false) → over y x ≡ false =
     λ x mx y m others. elim m [
       | is_best a ↦ p.clear y x a (inl (inl mx))
@@ -397,21 +403,22 @@ ends {E = E} over strict input best before early late overflow rest p =
       settled = λ x z mx mz. absurd mz;
       fresh = λ h. refl;
       more = omega arith;
+      fits = omega (arith, p.fits);
       falls = λ h. omega (arith, h);
     }
 
 -- more is settled at the end of a pass than at its begin
-pub more_settled : {E : Type 0} (over : E → E → Bool) (input best left : List E) (before : ℕ) (first early late overflow rest : List E)
-    → length best + length first + length left + before ≡ length input → 0 < length left → Passing over input best [] before early late overflow rest → length best + before < length best + length early + length rest
-more_settled over input best left before first early late overflow rest long some p =
+pub more_settled : {E : Type 0} (over : E → E → Bool) (window : ℕ) (input best left : List E) (before : ℕ) (first early late overflow rest : List E)
+    → length best + length first + length left + before ≡ length input → 0 < length left → Passing over window input best [] before early late overflow rest → length best + before < length best + length early + length rest
+more_settled over window input best left before first early late overflow rest long some p =
     elim (some_or_none overflow) [
       | inl more ↦ let f = p.falls more in omega (arith, f)
       | inr none ↦ let l = p.lengths in let fresh = p.fresh none in omega (arith, l, fresh, none, long, some)
     ]
 
 -- all passes begin
-pub begins : {E : Type 0} (over : E → E → Bool) (input : List E) → Passing over input [] input 0 [] [] [] []
-begins over input =
+pub begins : {E : Type 0} (over : E → E → Bool) (window : ℕ) (input : List E) → Passing over window input [] input 0 [] [] [] []
+begins over window input =
     record {
       covers = λ x m. is_left m;
       within = λ x m. elim m [ is_best a ↦ absurd a | is_early a ↦ absurd a | is_late a ↦ absurd a | is_overflow a ↦ absurd a | is_left a ↦ a | is_rest a ↦ absurd a ];
@@ -424,13 +431,14 @@ begins over input =
       settled = λ x z mx mz. absurd mx;
       fresh = λ h. refl;
       more = omega arith;
+      fits = omega arith;
       falls = λ h. omega (arith, h);
     }
 
 -- all passes end: the best are told, and the others are the rest
-pub parted : {E : Type 0} (over : E → E → Bool) (input best left : List E) (before : ℕ) (early late overflow rest : List E) → length left ≡ 0 → length early ≡ 0 → length late ≡ 0 → length overflow ≡ 0
-    → Passing over input best left before early late overflow rest → Parted over input best rest
-parted {E = E} over input best left before early late overflow rest left_none early_none late_none overflow_none p =
+pub parted : {E : Type 0} (over : E → E → Bool) (window : ℕ) (input best left : List E) (before : ℕ) (early late overflow rest : List E) → length left ≡ 0 → length early ≡ 0 → length late ≡ 0 → length overflow ≡ 0
+    → Passing over window input best left before early late overflow rest → Parted over input best rest
+parted {E = E} over window input best left before early late overflow rest left_none early_none late_none overflow_none p =
     let of_two : (x : E) → Among x input → Among x best ⊎ Among x rest =
     λ x m. elim (p.covers x m) [
       | is_best a ↦ inl a
@@ -458,16 +466,16 @@ parted {E = E} over input best left before early late overflow rest left_none ea
     }
 
 -- the same, of lists that are these
-pub passing_as : {E : Type 0} (over : E → E → Bool) (input best left early late overflow rest best_now left_now early_now late_now overflow_now rest_now : List E)
+pub passing_as : {E : Type 0} (over : E → E → Bool) (window : ℕ) (input best left early late overflow rest best_now left_now early_now late_now overflow_now rest_now : List E)
     → best_now ≡ best → left_now ≡ left → early_now ≡ early → late_now ≡ late → overflow_now ≡ overflow → rest_now ≡ rest
-    → Passing over input best left (length rest) early late overflow rest → Passing over input best_now left_now (length rest_now) early_now late_now overflow_now rest_now
-passing_as over input best left early late overflow rest best_now left_now early_now late_now overflow_now rest_now b l e t o r p =
-    subst (λ v. Passing over input v left_now (length rest_now) early_now late_now overflow_now rest_now) (sym b)
-    (subst (λ v. Passing over input best v (length rest_now) early_now late_now overflow_now rest_now) (sym l)
-    (subst (λ v. Passing over input best left (length rest_now) v late_now overflow_now rest_now) (sym e)
-    (subst (λ v. Passing over input best left (length rest_now) early v overflow_now rest_now) (sym t)
-    (subst (λ v. Passing over input best left (length rest_now) early late v rest_now) (sym o)
-    (subst (λ v. Passing over input best left (length v) early late overflow v) (sym r) p)))))
+    → Passing over window input best left (length rest) early late overflow rest → Passing over window input best_now left_now (length rest_now) early_now late_now overflow_now rest_now
+passing_as over window input best left early late overflow rest best_now left_now early_now late_now overflow_now rest_now b l e t o r p =
+    subst (λ v. Passing over window input v left_now (length rest_now) early_now late_now overflow_now rest_now) (sym b)
+    (subst (λ v. Passing over window input best v (length rest_now) early_now late_now overflow_now rest_now) (sym l)
+    (subst (λ v. Passing over window input best left (length rest_now) v late_now overflow_now rest_now) (sym e)
+    (subst (λ v. Passing over window input best left (length rest_now) early v overflow_now rest_now) (sym t)
+    (subst (λ v. Passing over window input best left (length rest_now) early late v rest_now) (sym o)
+    (subst (λ v. Passing over window input best left (length v) early late overflow v) (sym r) p)))))
 
 -- the best of a list are among it
 pub of_best : {E : Type 0} (over : E → E → Bool) (all top others : List E) → Parted over all top others → (x : E) → Among x top → Among x all

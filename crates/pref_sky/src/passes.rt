@@ -57,9 +57,9 @@ struct Pass {
 fn take_in(window: usize, pass: &mut Pass, item: Item) -> Result<(), AllocError>
     requires { 0 < window }
     ensures { OnOk result ((over : Item → Item → Bool) → IsStrictOrder over → (input best left : List Item) (before : ℕ)
-        → Passes over input best (item ∷ left) before pass.old
+        → Passes over window input best (item ∷ left) before pass.old
         → IsClear over pass.old.early.items item → IsClear over pass.old.late.items item
-        → Passes over input best left before pass.new) }
+        → Passes over window input best left before pass.new) }
 {
     if pass.late.len() >= window.saturating_sub(pass.early.len()) {
         pass.overflow.push(item)?;
@@ -82,7 +82,7 @@ fn offer<D: Dominance>(
 ) -> Result<(), AllocError>
     requires { 0 < window }
     ensures { let over = item_order (D.order dominance.now) pool.now in
-        OnOk result ((input best left : List Item) (before : ℕ) → Passes over input best (item ∷ left) before pass.old → Passes over input best left before pass.new) }
+        OnOk result ((input best left : List Item) (before : ℕ) → Passes over window input best (item ∷ left) before pass.old → Passes over window input best left before pass.new) }
 {
     if sift(dominance, pool, &mut pass.early, &item, &mut pass.rest)? {
         pass.rest.push(item)?;
@@ -106,7 +106,7 @@ fn offer_all<D: Dominance>(
 ) -> Result<(), AllocError>
     requires { 0 < window }
     ensures { let over = item_order (D.order dominance.now) pool.now in
-        OnOk result ((input best : List Item) (before : ℕ) → Passes over input best items.now before pass.old → Passes over input best [] before pass.new) }
+        OnOk result ((input best : List Item) (before : ℕ) → Passes over window input best items.now before pass.old → Passes over window input best [] before pass.new) }
 {
     for item in items {
         offer(dominance, pool, window, pass, *item)?;

@@ -19,18 +19,18 @@ each_pass-preserved g c =
     let start = c.each_pass.pass in
     let before = length start.rest.items in
     let end = c.offer_all.new.pass in
-    let passed : Passes over items best [] before end =
-    (c.in_ok-offer_all.ensures {u = tt}) items best before (subst (λ l. Passes over items best l before start) (sym c.deref.ensures.value) inv.so_far) in
+    let passed : Passes over c.args.window items best [] before end =
+    (c.in_ok-offer_all.ensures {u = tt}) items best before (subst (λ l. Passes over c.args.window items best l before start) (sym c.deref.ensures.value) inv.so_far) in
     let some : 0 < length left = omega (arith, eqb-false (vec_len c.each_pass.input) 0 (sym c.is_empty.ensures ∙ c.each_pass-test.true), c.each_pass.input.ok.0) in
     let more : length best + before < length best + length end.early.items + length end.rest.items =
-    more_settled over items best left before start.early.items end.early.items end.late.items end.overflow.items end.rest.items (omega (arith, inv.so_far.lengths, inv.late, inv.overflow)) some passed in
+    more_settled over c.args.window items best left before start.early.items end.early.items end.late.items end.overflow.items end.rest.items (omega (arith, inv.so_far.lengths, inv.late, inv.overflow)) some passed in
     let s = c.in_ok-input-2.ensures in
     let strict = item_order_is_strict row_order c.args.pool.now (entry_order_is_strict row_order (g.met.D.Dominance.laws c.args.dominance.now)) in
     let now = c.settle.new.pass in
     record {
-      so_far = passing_as over items (best ++ end.early.items) end.overflow.items end.late.items [] [] end.rest.items
+      so_far = passing_as over c.args.window items (best ++ end.early.items) end.overflow.items end.late.items [] [] end.rest.items
           c.settle.new.best.items c.in_ok-input-2.input.items now.early.items now.late.items now.overflow.items now.rest.items s.best s.input s.early s.late s.overflow s.rest
-          (ends over strict items best before end.early.items end.late.items end.overflow.items end.rest.items passed);
+          (ends over strict c.args.window items best before end.early.items end.late.items end.overflow.items end.rest.items passed);
       late = ap length s.late;
       overflow = ap length s.overflow;
       empty = λ h. ap length s.early ∙ passed.fresh (ap length (sym s.input) ∙ h);
@@ -48,11 +48,11 @@ each_pass-smaller g c =
     let start = c.each_pass.pass in
     let before = length start.rest.items in
     let end = c.offer_all.new.pass in
-    let passed : Passes over items best [] before end =
-    (c.in_ok-offer_all.ensures {u = tt}) items best before (subst (λ l. Passes over items best l before start) (sym c.deref.ensures.value) inv.so_far) in
+    let passed : Passes over c.args.window items best [] before end =
+    (c.in_ok-offer_all.ensures {u = tt}) items best before (subst (λ l. Passes over c.args.window items best l before start) (sym c.deref.ensures.value) inv.so_far) in
     let some : 0 < length left = omega (arith, eqb-false (vec_len c.each_pass.input) 0 (sym c.is_empty.ensures ∙ c.each_pass-test.true), c.each_pass.input.ok.0) in
     let more : length best + before < length best + length end.early.items + length end.rest.items =
-    more_settled over items best left before start.early.items end.early.items end.late.items end.overflow.items end.rest.items (omega (arith, inv.so_far.lengths, inv.late, inv.overflow)) some passed in
+    more_settled over c.args.window items best left before start.early.items end.early.items end.late.items end.overflow.items end.rest.items (omega (arith, inv.so_far.lengths, inv.late, inv.overflow)) some passed in
     let s = c.in_ok-input-2.ensures in
     omega (arith, more, ap length s.best, length-append best end.early.items, ap length s.rest, passed.lengths)
 
@@ -62,7 +62,7 @@ returns-clause-parted g c =
     let inv = c.each_pass.invariant in
     let a = c.each_pass.pass in
     let none : length c.each_pass.input.items ≡ 0 = omega (arith, eqb-true (vec_len c.each_pass.input) 0 (sym c.is_empty.ensures ∙ c.each_pass-test.false), c.each_pass.input.ok.0) in
-    parted over c.args.items.now c.each_pass.best.items c.each_pass.input.items (length a.rest.items) a.early.items a.late.items a.overflow.items a.rest.items none (inv.empty none) inv.late inv.overflow inv.so_far
+    parted over c.args.window c.args.items.now c.each_pass.best.items c.each_pass.input.items (length a.rest.items) a.early.items a.late.items a.overflow.items a.rest.items none (inv.empty none) inv.late inv.overflow inv.so_far
 
 -- one item at most
 pub returns-then-items-le1-clause-parted : goal.returns-then-items-le1-clause-parted

@@ -14,9 +14,9 @@ loop-item-preserved g c input best before p =
     let inv = c.loop-item.invariant input best before p in
     let told = c.in_ok-offer.ensures {u = tt} in
     let next : (d : Item) → drop i items ≡ get_or items i d ∷ drop (i + 1) items = λ d. drop-cons items i d c.loop-item-test.true ∙ ap (λ n. get_or items i d ∷ drop n items) (sym (add-one i)) in
-    told input best (drop (i + 1) items) before (subst (λ l. Passes over input best l before c.loop-item.pass) (next (record { signature = 0; place = 0 })) inv)
+    told input best (drop (i + 1) items) before (subst (λ l. Passes over c.args.window input best l before c.loop-item.pass) (next (record { signature = 0; place = 0 })) inv)
 
 pub returns : goal.returns
 returns g c input best before p =
     let over = item_order (g.D.Dominance.order c.args.dominance.now) c.args.pool.now in
-    subst (λ l. Passes over input best l before c.loop-item.pass) (drop_of_length-le c.args.items.now (omega (arith, c.loop-item-test.false))) (c.loop-item.invariant input best before p)
+    subst (λ l. Passes over c.args.window input best l before c.loop-item.pass) (drop_of_length-le c.args.items.now (omega (arith, c.loop-item-test.false))) (c.loop-item.invariant input best before p)
