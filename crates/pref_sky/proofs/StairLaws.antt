@@ -1,11 +1,11 @@
 -- Chains, and stairs: in the order of the first chain one entry stands for all before it.
 use Rattle.std.proofs.Common.{◌≡◌, Bool, true, false, not, ◌&&◌, ◌||◌, inl, inr, List, [], ◌∷◌, ◌++◌, refl, sym, ◌∙◌, ap, subst, filter, arith}
-use Rattle.std.proofs.lemmas.Bool.{cases_Bool, both_ways, false_from_ne_true, cond_both, cond-true, cond-false}
+use Rattle.std.proofs.lemmas.Bool.{both_ways, false_from_ne_true, cond_both}
 use Rattle.pref_term.specs.Order.{IsStrictOrder}
 use Rattle.pref_sky.specs.Best.{IsApart, best, is_beaten, without_best}
-use Rattle.pref_sky.specs.Stairs.{IsChain, AreStairs, IsLine, IsInOrder, are_level, comes_first, in_turn, staying, falling}
-use Rattle.pref_sky.proofs.Members.{Among, any_from, any_gives, from_filter, in_right, in_either}
-use Rattle.pref_sky.proofs.Removals.{same_answer}
+use Rattle.pref_sky.specs.Stairs.{IsChain, AreStairs, IsLine, IsInOrder, are_level, comes_first, in_turn}
+use Rattle.pref_sky.proofs.Members.{Among, any_from, any_gives, from_filter, in_left, in_right, in_either}
+use Rattle.pref_sky.proofs.Removals.{beaten_by_best, same_answer}
 
 -- one chain, and where that sees no difference another one
 pub chain_in_turn : {E : Type 0} (f g : E → E → Bool) → IsChain f → IsChain g → IsChain (in_turn f g)
@@ -60,6 +60,29 @@ best_are_apart over all x y mx my =
     let other = from_filter (λ e. not (is_beaten over all e)) all x mx in
     let free = (from_filter (λ e. not (is_beaten over all e)) all y my).1 in
     false_from_ne_true (over x y) (λ h. let beaten = any_from (λ z. over z y) all x other.0 h in both_ways (is_beaten over all y) (grind (arith, free)) beaten)
+
+-- both parts of a list in order are in order
+behind : {E : Type 0} (before : E → E → Bool) (front back : List E) → IsInOrder before (front ++ back) → IsInOrder before back
+behind before [] back h = h
+behind before (e ∷ front) back h = behind before front back h.1
+
+ahead : {E : Type 0} (before : E → E → Bool) (front back : List E) → IsInOrder before (front ++ back) → IsInOrder before front
+ahead before [] back h = tt
+ahead before (e ∷ front) back h = ((λ x m. h.0 x (in_left front back x m)), ahead before front back h.1)
+
+-- so are its best and the others, and the best are a level, of which one entry can be asked
+pub both_are_in_order : {E : Type 0} (over f s t : E → E → Bool) (all : List E) → IsInOrder (λ a b. not (comes_first f s t b a)) all
+    → IsInOrder (λ a b. not (comes_first f s t b a)) (best over all) × IsInOrder (λ a b. not (comes_first f s t b a)) (without_best over all)
+both_are_in_order over f s t all ordered = (
+  filter_in_order (λ a b. not (comes_first f s t b a)) (λ e. not (is_beaten over all e)) all ordered,
+  filter_in_order (λ a b. not (comes_first f s t b a)) (is_beaten over all) all ordered,
+)
+
+pub best_are_a_level : {E : Type 0} (over f s t : E → E → Bool) (all : List E) → IsInOrder (λ a b. not (comes_first f s t b a)) all → IsInOrder (λ a b. not (f b a)) (best over all) × IsApart over (best over all)
+best_are_a_level over f s t all ordered = (
+  in_weaker_order (λ a b. not (comes_first f s t b a)) (λ a b. not (f b a)) (λ a b h. grind (arith, h)) (best over all) (both_are_in_order over f s t all ordered).0,
+  best_are_apart over all,
+)
 
 module _ {E : Type 0} (over f s t : E → E → Bool) (stairs : AreStairs over f s t) where
   pub strict_stairs : IsStrictOrder over
@@ -140,60 +163,39 @@ module _ {E : Type 0} (over f s t : E → E → Bool) (stairs : AreStairs over f
   pub none_reaches : (level : List E) (x : E) → ((z : E) → Among z level → f x z ≡ true) → is_beaten over level x ≡ false
   none_reaches level x beyond = none_beats over level x (λ z m. grind (arith, stairs.is z x, beyond z m))
 
-  -- the sweep: y stayed last, and what is left and dominated at all is dominated by y or by one of those left
-  swept : (beaten : E → Bool) (y : E) (left : List E) → IsInOrder (λ a b. not (comes_first f s t b a)) (y ∷ left) → ((z : E) → Among z left → beaten z ≡ is_beaten over (y ∷ left) z)
-      → (staying over y left ≡ filter (λ e. not (beaten e)) left) × (falling over y left ≡ filter beaten left)
-  swept beaten y [] ordered is = (refl, refl)
-  swept beaten y (x ∷ others) ordered is =
-      let kept = filter (λ e. not (beaten e)) others in
-      let lost = filter beaten others in
-      let none = none_beats over others x (λ z m. later x z (grind (arith, ordered.1.0 z m))) in
-      let here : beaten x ≡ over y x = grind (arith, is x (inl refl), none, strict_stairs.irreflexive x) in
-      elim (cases_Bool (over y x)) [
-        | inl h ↦
-            let deeper = swept beaten y others ((λ z m. ordered.0 z (inr m)), ordered.1.1) (λ z m. is z (inr m) ∙ grind (arith, strict_stairs.transitive y x z h)) in (
-              cond-true (over y x) (staying over y others) (x ∷ staying over x others) h ∙ (deeper.0 ∙ sym (cond-false (not (beaten x)) (x ∷ kept) kept (grind (arith, here, h)))),
-              cond-true (over y x) (x ∷ falling over y others) (falling over x others) h ∙ (ap (λ l. x ∷ l) deeper.1 ∙ sym (cond-true (beaten x) (x ∷ lost) lost (here ∙ h))),
-            )
-        | inr n ↦
-            let stands : (z : E) → Among z others → over y z ≡ true → over x z ≡ true =
-            λ z m o. stands_for x y z (grind (arith, ordered.0 x (inl refl))) (grind (arith, ordered.1.0 z m)) (later y x (grind (arith, ordered.0 x (inl refl)))) n o in
-            let deeper = swept beaten x others ordered.1 (λ z m. is z (inr m) ∙ grind (arith, stands z m)) in (
-              cond-false (over y x) (staying over y others) (x ∷ staying over x others) n ∙ (ap (λ l. x ∷ l) deeper.0 ∙ sym (cond-true (not (beaten x)) (x ∷ kept) kept (grind (arith, here, n)))),
-              cond-false (over y x) (x ∷ falling over y others) (falling over x others) n ∙ (deeper.1 ∙ sym (cond-false (beaten x) (x ∷ lost) lost (here ∙ n))),
-            )
-      ]
+  -- of entries in order only those before one dominate it
+  beaten_by_those_before : (front : List E) (x : E) (back : List E) → IsInOrder (λ a b. not (comes_first f s t b a)) (front ++ x ∷ back) → is_beaten over (front ++ x ∷ back) x ≡ is_beaten over front x
+  beaten_by_those_before front x back ordered =
+      let all = front ++ x ∷ back in
+      let those = behind (λ a b. not (comes_first f s t b a)) front (x ∷ back) ordered in
+      same_answer (is_beaten over all x) (is_beaten over front x)
+      (λ h.
+      let w = any_gives (λ z. over z x) all h in
+      elim (in_either front (x ∷ back) w.0 w.1) [
+        | inl m ↦ any_from (λ z. over z x) front w.0 m w.2
+        | inr m ↦ absurd (elim m [
+          | inl same ↦ both_ways (over x x) (strict_stairs.irreflexive x) (ap (λ v. over v x) (sym same) ∙ w.2)
+          | inr n ↦ both_ways (over w.0 x) (later x w.0 (grind (arith, those.0 w.0 n))) w.2
+        ])
+      ])
+      (λ h. let w = any_gives (λ z. over z x) front h in any_from (λ z. over z x) all w.0 (in_left front (x ∷ back) w.0 w.1) w.2)
 
-  -- of entries in order those that stay are the best, and those that go down the others
-  pub sweep_finds_best : (y : E) (left : List E) → IsInOrder (λ a b. not (comes_first f s t b a)) (y ∷ left)
-      → (y ∷ staying over y left ≡ best over (y ∷ left)) × (falling over y left ≡ without_best over (y ∷ left))
-  sweep_finds_best y left ordered =
-      let beaten = is_beaten over (y ∷ left) in
-      let found = swept beaten y left ordered (λ z m. refl) in
-      let none = none_beats over left y (λ z m. later y z (grind (arith, ordered.0 z m))) in
-      let free : beaten y ≡ false = grind (arith, none, strict_stairs.irreflexive y) in
-      let kept = filter (λ e. not (beaten e)) left in (
-        ap (λ l. y ∷ l) found.0 ∙ sym (cond-true (not (beaten y)) (y ∷ kept) kept (grind (arith, free))),
-        found.1 ∙ sym (cond-false (beaten y) (y ∷ filter beaten left) (filter beaten left) free),
-      )
+  -- so the first one is best
+  pub first_is_best : (x : E) (others : List E) → IsInOrder (λ a b. not (comes_first f s t b a)) (x ∷ others) → is_beaten over (x ∷ others) x ≡ false
+  first_is_best x others ordered = beaten_by_those_before [] x others ordered
 
-  -- both lists in order
-  pub sweep_keeps_order : (y : E) (left : List E) → IsInOrder (λ a b. not (comes_first f s t b a)) (y ∷ left)
-      → IsInOrder (λ a b. not (comes_first f s t b a)) (y ∷ staying over y left) × IsInOrder (λ a b. not (comes_first f s t b a)) (falling over y left)
-  sweep_keeps_order y left ordered =
-      let found = sweep_finds_best y left ordered in
-      let comes : E → E → Bool = λ a b. not (comes_first f s t b a) in (
-        subst (IsInOrder comes) (sym found.0) (filter_in_order comes (λ e. not (is_beaten over (y ∷ left) e)) (y ∷ left) ordered),
-        subst (IsInOrder comes) (sym found.1) (filter_in_order comes (is_beaten over (y ∷ left)) (y ∷ left) ordered),
-      )
-
-  -- and those that stay are a level, of which one entry can be asked
-  pub sweep_leaves_a_level : (y : E) (left : List E) → IsInOrder (λ a b. not (comes_first f s t b a)) (y ∷ left)
-      → IsInOrder (λ a b. not (f b a)) (y ∷ staying over y left) × IsApart over (y ∷ staying over y left)
-  sweep_leaves_a_level y left ordered = (
-    in_weaker_order (λ a b. not (comes_first f s t b a)) (λ a b. not (f b a)) (λ a b h. grind (arith, h)) (y ∷ staying over y left) (sweep_keeps_order y left ordered).0,
-    subst (IsApart over) (sym (sweep_finds_best y left ordered).0) (best_are_apart over (y ∷ left)),
-  )
+  -- and the last best one of those before x dominates it, or none of all does
+  pub last_best_stands_for_all : (front : List E) (x : E) (back : List E) → IsInOrder (λ a b. not (comes_first f s t b a)) (front ++ x ∷ back)
+      → (stayed : List E) (y : E) → best over front ≡ stayed ++ y ∷ [] → is_beaten over (front ++ x ∷ back) x ≡ over y x
+  last_best_stands_for_all front x back ordered stayed y is =
+      let comes : E → E → Bool = λ a b. not (comes_first f s t b a) in
+      let level = best_are_a_level over f s t front (ahead comes front (x ∷ back) ordered) in
+      let there : Among y (best over front) = subst (Among y) (sym is) (in_right stayed (y ∷ []) y (inl refl)) in
+      let before = before_it comes front x back ordered y (from_filter (λ e. not (is_beaten over front e)) front y there).0 in
+      beaten_by_those_before front x back ordered ∙
+      (sym (beaten_by_best over strict_stairs front x) ∙
+      (ap (λ l. is_beaten over l x) is ∙
+      last_stands_for_all stayed y [] x (subst (IsInOrder (λ a b. not (f b a))) is level.0) (subst (IsApart over) is level.1) (grind (arith, before)) (λ z m. absurd m)))
 
   -- within groups: stairs whose first chain begins with the groups, and the second with their converse
   pub grouped_stairs : (earlier : E → E → Bool) → IsChain earlier → AreStairs (λ a b. are_level earlier a b && over a b) (in_turn earlier f) (in_turn (λ a b. earlier b a) s) t

@@ -43,16 +43,6 @@ abbrev pub IsInOrder : {E : Type 0} → (E → E → Bool) → List E → Type 0
 IsInOrder before [] = ⊤
 IsInOrder {E = E} before (e ∷ others) = ((x : E) → Among x others → before e x ≡ true) × IsInOrder before others
 
--- of entries behind one that stays: those that stay where only the last that stayed is asked
-abbrev pub staying : {E : Type 0} → (E → E → Bool) → E → List E → List E
-staying over last [] = []
-staying over last (e ∷ others) = cond (over last e) (staying over last others) (e ∷ staying over e others)
-
--- and those that go down
-abbrev pub falling : {E : Type 0} → (E → E → Bool) → E → List E → List E
-falling over last [] = []
-falling over last (e ∷ others) = cond (over last e) (e ∷ falling over last others) (falling over e others)
-
 -- entries of a list, one at least of each class: each of the list is alike to one of them
 pub record AreClassesOf {E : Type 0} (over : E → E → Bool) (classes all : List E) : Type 0 where
   pub within : (r : E) → Among r classes → Among r all

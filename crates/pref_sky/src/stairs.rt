@@ -4,7 +4,7 @@ ghost use Rattle.std.specs.Prelude.{◌≡◌, ◌&&◌, ◌++◌, [], ◌∷◌
 ghost use Rattle.pref_sky.specs.Best.{best, is_beaten, rest, without_best, IsApart};
 ghost use Rattle.pref_sky.specs.Levels.{entry_order};
 ghost use Rattle.pref_sky.specs.Members.{Among};
-ghost use Rattle.pref_sky.specs.Stairs.{AreClassesOf, AreStairs, IsChain, IsInOrder, IsLine, are_level, better_in, by_row, comes_first, earlier_in, earlier_twin, falling, first_within, in_turn, second_within, staying, tie_or_twin};
+ghost use Rattle.pref_sky.specs.Stairs.{AreClassesOf, AreStairs, IsChain, IsInOrder, IsLine, are_level, better_in, by_row, comes_first, earlier_in, earlier_twin, first_within, in_turn, second_within, tie_or_twin};
 ghost use Rattle.pref_sky.specs.declared.entry.Entry.{Entry};
 ghost use Rattle.pref_term.specs.Better.{in_same_group};
 ghost use Rattle.pref_term.specs.Chains.{IsProductOf, by_chain, first_chain, second_chain, tie_chain};
@@ -37,19 +37,24 @@ pub fn the_last_stands_for_all()
         → (a b x : Entry) → first b a ≡ false → first x b ≡ false → first x a ≡ false }
 {}
 
-/// The sweep: of entries in order, those that stay where only the last that stayed is asked are the best, and those that go down the
-/// others, both in order. Those that stay are a level of which one entry can be asked.
+/// The sweep: of entries in order, the last best one of those before an entry dominates it, or none of all does; and none dominates the
+/// first. So one pass that asks the last that stayed parts them into the best and the others. Both are in order, and the best are a
+/// level of which one entry can be asked.
 pub fn a_sweep_finds_the_best()
-    ensures best { (over first second tie : Entry → Entry → Bool) → AreStairs over first second tie
-        → (y : Entry) (others : List Entry) → IsInOrder (λ a b. not (comes_first first second tie b a)) (y ∷ others)
-        → (y ∷ staying over y others ≡ best over (y ∷ others)) × (falling over y others ≡ without_best over (y ∷ others)) }
-    ensures order { (over first second tie : Entry → Entry → Bool) → AreStairs over first second tie
-        → (y : Entry) (others : List Entry) → IsInOrder (λ a b. not (comes_first first second tie b a)) (y ∷ others)
-        → IsInOrder (λ a b. not (comes_first first second tie b a)) (y ∷ staying over y others)
-        × IsInOrder (λ a b. not (comes_first first second tie b a)) (falling over y others) }
-    ensures level { (over first second tie : Entry → Entry → Bool) → AreStairs over first second tie
-        → (y : Entry) (others : List Entry) → IsInOrder (λ a b. not (comes_first first second tie b a)) (y ∷ others)
-        → IsInOrder (λ a b. not (first b a)) (y ∷ staying over y others) × IsApart over (y ∷ staying over y others) }
+    ensures first { (over first second tie : Entry → Entry → Bool) → AreStairs over first second tie
+        → (x : Entry) (others : List Entry) → IsInOrder (λ a b. not (comes_first first second tie b a)) (x ∷ others)
+        → is_beaten over (x ∷ others) x ≡ false }
+    ensures next { (over first second tie : Entry → Entry → Bool) → AreStairs over first second tie
+        → (front : List Entry) (x : Entry) (back : List Entry) → IsInOrder (λ a b. not (comes_first first second tie b a)) (front ++ x ∷ back)
+        → (stayed : List Entry) (last : Entry) → best over front ≡ stayed ++ last ∷ []
+        → is_beaten over (front ++ x ∷ back) x ≡ over last x }
+    ensures order { (over first second tie : Entry → Entry → Bool) (all : List Entry)
+        → IsInOrder (λ a b. not (comes_first first second tie b a)) all
+        → IsInOrder (λ a b. not (comes_first first second tie b a)) (best over all)
+        × IsInOrder (λ a b. not (comes_first first second tie b a)) (without_best over all) }
+    ensures level { (over first second tie : Entry → Entry → Bool) (all : List Entry)
+        → IsInOrder (λ a b. not (comes_first first second tie b a)) all
+        → IsInOrder (λ a b. not (first b a)) (best over all) × IsApart over (best over all) }
 {}
 
 /// Stairs within groups are stairs, so one list, in order of group and then as in each of them, serves all groups.
