@@ -17,7 +17,7 @@ use Rattle.pref_sky.proofs.Members.{Among, in_either, from_map}
 use Rattle.pref_sky.proofs.RankedLevels.{count_parts, one_level, ranked_cut}
 use Rattle.pref_sky.proofs.Ranks.{from_upto, take_level, take_upto}
 
-all_pass : {E : Type 0} (p : E → Bool) (xs : List E) → ((x : E) → Among x xs → p x ≡ true) → filter p xs ≡ xs
+pub all_pass : {E : Type 0} (p : E → Bool) (xs : List E) → ((x : E) → Among x xs → p x ≡ true) → filter p xs ≡ xs
 all_pass p [] all = refl
 all_pass p (x ∷ xs) all = ap (λ b. cond b (x ∷ filter p xs) (filter p xs)) (all x (inl refl)) ∙ ap (λ l. x ∷ l) (all_pass p xs (λ y m. all y (inr m)))
 

@@ -43,3 +43,4 @@ pub mod Listings
 pub mod PartSteps
 pub mod PartLoops
 pub mod FirstLevels
+pub mod FirstRanked

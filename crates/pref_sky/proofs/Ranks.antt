@@ -67,7 +67,7 @@ at_upto level n k e m =
     let entries_same : w.entry ≡ e = sym (ap entry_of w.is) in
     (omega (arith, w.below, same), subst (λ j. Among e (level j)) same (subst (λ x. Among x (level w.place)) entries_same w.there))
 
-rises_beside : {E : Type 0} (before : E → E → Type 0) (xs ys : List E) → RisesBy before xs → RisesBy before ys → ((x y : E) → Among x xs → Among y ys → before x y) → RisesBy before (xs ++ ys)
+pub rises_beside : {E : Type 0} (before : E → E → Type 0) (xs ys : List E) → RisesBy before xs → RisesBy before ys → ((x y : E) → Among x xs → Among y ys → before x y) → RisesBy before (xs ++ ys)
 rises_beside before [] ys rx ry apart = ry
 rises_beside before (x ∷ xs) ys rx ry apart = (
   λ y m. elim (in_either xs ys y m) [ inl a ↦ rx.0 y a | inr b ↦ apart x y (inl refl) b ],

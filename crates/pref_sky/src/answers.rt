@@ -1,6 +1,6 @@
 //! The answer of an ask, from a partial result.
 
-ghost use Rattle.std.specs.Prelude.{◌≡◌, ◌<◌, ◌≤◌, ◌++◌, [], Bool, take, List, length, map, nat_lt, count_by, filter, IfOk, OnOk, All};
+ghost use Rattle.std.specs.Prelude.{◌≡◌, ◌<◌, ◌≤◌, ◌++◌, [], Bool, take, List, length, map, nat_lt, ℕ, count_by, filter, IfOk, OnOk, All};
 ghost use Rattle.pref_term.specs.AskOrder.{order_of};
 ghost use Rattle.pref_term.specs.Better.{in_same_group};
 ghost use Rattle.pref_term.specs.Question.{cut_of};
@@ -127,11 +127,41 @@ fn first_levels(levels: &[Level], least: usize) -> &[Level]
     levels
 }
 
+/// Keeps the first levels that hold so many entries together; all where they hold fewer. Takes no memory.
+fn keep_first_levels(ranked: &mut Vec<Ranked>, least: usize)
+    ensures { (over : Entry → Entry → Bool) (entries : List Entry) (cut : ℕ) → ranked.old.items ≡ levels over entries cut
+        → ranked.new.items ≡ at_least (in_same_group []) least ranked.old.items }
+{
+    if least == 0 {
+        ranked.clear();
+        return;
+    }
+    if least <= ranked.len() {
+        let last = ranked[least - 1].level;
+        let count = ranked.partition_point(|entry| entry.level <= last);
+        ranked.truncate(count);
+    }
+}
+
+/// The first levels that hold so many entries together. Where levels are held, they are chosen before they are listed: to list and
+/// sort all would cost more.
+fn first_ranked(alloc: Global, partial: &Partial, least: usize) -> Result<Vec<Ranked>, AllocError>
+    ensures { (over : Entry → Entry → Bool) (entries : List Entry) (cut : ℕ) → partial.now ≡ levels over entries cut
+        → IfOk result (λ ranked. ranked.items ≡ at_least (in_same_group []) least partial.now) }
+{
+    if let Some(levels) = partial.levels() {
+        return ranked_of(alloc, first_levels(levels, least));
+    }
+    let mut ranked = partial.ranked(alloc)?;
+    keep_first_levels(&mut ranked, least);
+    Ok(ranked)
+}
+
 /// The answer of an ask, in order of level, then id, from a partial result at [`Ask::cut`]: where this
 /// holds the levels up to the cut of some entries, it is the ask's selection from all of them.
 ///
-/// Cost: that of [`Partial::ranked`], and for "at least" without groups that of the levels that are told. For "at least" in groups
-/// each held entry is also compared by its group's columns with those on the levels before, until `k` of its group are found. Memory:
+/// Cost: that of [`Partial::ranked`], and for "at least" without groups, where levels are held, that of the levels that are told
+/// alone. For "at least" in groups each held entry is also compared by its group's columns with those on the levels before, until `k` of its group are found. Memory:
 /// the list alone, and for "at least" in groups a byte for each held entry. `Err` is out of memory.
 pub fn answer(alloc: Global, ask: &Ask, partial: &Partial) -> Result<Vec<Ranked>, AllocError>
     ensures { (entries : List Entry) → partial.now ≡ levels (entry_order (order_of ask.now)) entries (cut_of ask.now.mode)
@@ -139,11 +169,7 @@ pub fn answer(alloc: Global, ask: &Ask, partial: &Partial) -> Result<Vec<Ranked>
 {
     match ask.mode() {
         Mode::Best | Mode::TopLevel(_) => partial.ranked(alloc),
-        Mode::AtLeast(k) => match partial.levels() {
-            Some(levels) if ask.group().is_empty() => {
-                ranked_of(alloc, first_levels(levels, k as usize))
-            }
-            _ => at_least(alloc, ask.group(), k, partial.ranked(alloc)?),
-        },
+        Mode::AtLeast(k) if ask.group().is_empty() => first_ranked(alloc, partial, k as usize),
+        Mode::AtLeast(k) => at_least(alloc, ask.group(), k, partial.ranked(alloc)?),
     }
 }

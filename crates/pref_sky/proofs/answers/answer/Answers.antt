@@ -1,4 +1,4 @@
-use Rattle.std.proofs.Common.{◌≡◌, ℕ, eqb-true, List, [], ◌∷◌, length, map, refl, sym, ◌∙◌, ap, subst, arith}
+use Rattle.std.proofs.Common.{◌≡◌, ℕ, eqb-true, List, [], ◌∷◌, length, refl, sym, ◌∙◌, ap, arith}
 use Rattle.std.proofs.lemmas.Result.{IfOk-weaker}
 use Rattle.pref_term.specs.AskOrder.{order_of, order_of_is_row_order}
 use Rattle.pref_term.specs.Better.{in_same_group}
@@ -7,10 +7,8 @@ use Rattle.pref_term.specs.Question.{Question, cut_of}
 use Rattle.pref_sky.specs.declared.entry.Entry.{Entry}
 use Rattle.pref_sky.specs.declared.entry.Ranked.{Ranked}
 use Rattle.pref_sky.specs.Answers.{at_least, answer_of, selected}
-use Rattle.pref_sky.specs.Levels.{HaveDifferentIds, entry_of, entry_order, levels}
-use Rattle.pref_sky.specs.Partials.{ranked_from}
+use Rattle.pref_sky.specs.Levels.{entry_order, levels}
 use Rattle.pref_sky.proofs.Enough.{enough}
-use Rattle.pref_sky.proofs.FirstLevels.{first_differ}
 use Rattle.pref_sky.proofs.Merges.{entry_order_is_strict, entry_order_stays_in_groups}
 use Rattle.pref_sky.proofs.answers.answer.Goals as goal
 
@@ -27,31 +25,24 @@ selected_from ask k found entries mode held =
     ap (at_least same k) (held ∙ sym (ap (λ m. levels over entries (cut_of m)) mode))
     ∙ (sym (enough over (entry_order_is_strict (order_of ask) (order_of_is_row_order ask)) same (entry_order_stays_in_groups ask) entries k) ∙ ap (λ m. selected over same m entries) mode)
 
-pub returns-in_ok-ranked-in_default : goal.returns-in_ok-ranked-in_default
-returns-in_ok-ranked-in_default c entries held =
-    let ask = c.args.ask.now in
-    let k : ℕ = c.in-AtLeast.k in
-    let ranked = c.in_ok-ranked-in_default.field-0.items in
-    let mode : AtLeast k ≡ ask.mode = sym (sym c.mode.ensures.mode ∙ c.in-AtLeast.is) in
-    let told = c.in_ok-ranked-in_default.ensures ∙ held in
-    let is = told ∙ sym (ap (λ m. levels (entry_order (order_of ask)) entries (cut_of m)) mode) in
-    IfOk-weaker c.at_least.result _ _ (λ v h.
-    h (entry_order (order_of ask)) entries is ∙ (ap (λ g. at_least (in_same_group g) k ranked) c.group-in_default.ensures.columns ∙ selected_from ask k ranked entries mode told))
-    c.at_least.ensures
-
-pub ranked_of-requires-clause-ids : goal.ranked_of-requires-clause-ids
-ranked_of-requires-clause-ids c =
-    let whole = subst (λ l. HaveDifferentIds (map entry_of l)) (sym c.in-Some.ensures.held.0) c.levels.ensures.ids in
-    subst (λ l. HaveDifferentIds (map entry_of (ranked_from 1 l))) (sym c.first_levels.ensures.first) (first_differ (length c.first_levels.result.now) c.in-Some.levels.now whole)
-
-pub returns-in-Some : goal.returns-in-Some
-returns-in-Some c entries held =
+pub returns-in-AtLeast : goal.returns-in-AtLeast
+returns-in-AtLeast c entries held =
     let ask = c.args.ask.now in
     let k : ℕ = c.in-AtLeast.k in
     let mode : AtLeast k ≡ ask.mode = sym (sym c.mode.ensures.mode ∙ c.in-AtLeast.is) in
     let one_group : [] ≡ ask.group = no_column c.group.result.now (eqb-true (length c.group.result.now) 0 (sym (c.if-is_empty.ensures {u = tt}))) ∙ c.group.ensures.columns in
-    IfOk-weaker c.ranked_of.result _ _ (λ v h.
-    h ∙ (c.first_levels.ensures.enough
-    ∙ (ap (at_least (in_same_group []) k) c.in-Some.ensures.held.0
-    ∙ (ap (λ g. at_least (in_same_group g) k c.args.partial.now) one_group ∙ selected_from ask k c.args.partial.now entries mode held))))
-    c.ranked_of.ensures
+    IfOk-weaker c.first_ranked.result _ _ (λ v h.
+    h ∙ (ap (λ g. at_least (in_same_group g) k c.args.partial.now) one_group ∙ selected_from ask k c.args.partial.now entries mode held))
+    (c.first_ranked.ensures (entry_order (order_of ask)) entries (cut_of ask.mode) held)
+
+pub returns-in_ok-ranked-in-AtLeast-2 : goal.returns-in_ok-ranked-in-AtLeast-2
+returns-in_ok-ranked-in-AtLeast-2 c entries held =
+    let ask = c.args.ask.now in
+    let k : ℕ = c.in-AtLeast.k in
+    let ranked = c.in_ok-ranked-in-AtLeast-2.field-0.items in
+    let mode : AtLeast k ≡ ask.mode = sym (sym c.mode.ensures.mode ∙ c.in-AtLeast.is) in
+    let told = c.in_ok-ranked-in-AtLeast-2.ensures {u = tt} ∙ held in
+    let is = told ∙ sym (ap (λ m. levels (entry_order (order_of ask)) entries (cut_of m)) mode) in
+    IfOk-weaker c.at_least.result _ _ (λ v h.
+    h (entry_order (order_of ask)) entries is ∙ (ap (λ g. at_least (in_same_group g) k ranked) c.group-in-AtLeast-2.ensures.columns ∙ selected_from ask k ranked entries mode told))
+    c.at_least.ensures
