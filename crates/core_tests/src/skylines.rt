@@ -6,4 +6,5 @@ mod groups;
 mod passes;
 mod plain;
 mod refusals;
+mod shapes;
 mod ties;

@@ -31,11 +31,11 @@ fn two_levels_of_many_groups(rt: HostRuntime) -> Result<(), Fail> {
     check_cuttings(&rt, alloc, &ask, 2, &entries, 800, &[500, 1199])
 }
 
-/// Adds two pieces to a partial result that holds nothing, each by an order of its own.
-fn add_by_two<D: Dominance, E: Dominance>(
+/// Adds two pieces to a partial result that holds nothing, each by an order and up to a cut of its own.
+pub(super) fn add_by_two<D: Dominance, E: Dominance>(
     alloc: Global,
-    first: &D,
-    second: &E,
+    first: (&D, u32),
+    second: (&E, u32),
     partial: &mut Partial,
     front: &[Entry],
     back: &[Entry],
@@ -43,8 +43,8 @@ fn add_by_two<D: Dominance, E: Dominance>(
     requires nothing { partial.old ≡ [] }
     requires ids { HaveDifferentIds (front.now ++ back.now) }
 {
-    partial.add(alloc, first, 2, 1, front)?;
-    partial.add(alloc, second, 2, 1, back)
+    partial.add(alloc, first.0, 2, first.1, front)?;
+    partial.add(alloc, second.0, 2, second.1, back)
 }
 
 /// To a partial result that holds nothing the first three entries are added by the first order, the others by the second one.
@@ -61,7 +61,7 @@ fn check_added_by_two<D: Dominance, E: Dominance>(
     requires ids { HaveDifferentIds entries.now }
 {
     let (front, back) = entries.split_at(entries.len().min(3));
-    add_by_two(alloc, first, second, partial, front, back)?;
+    add_by_two(alloc, (first, 1), (second, 1), partial, front, back)?;
     let held = partial.ranked(alloc)?;
     check_places(rt, alloc, "held", &held, places)
 }

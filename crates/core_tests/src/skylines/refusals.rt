@@ -133,6 +133,113 @@ fn a_refused_add_to_several_groups_changes_nothing_and_is_made_again(
     check_refused(&rt, alloc, &ask, &entries, 3)
 }
 
+/// One chain: some rows join a level, others are a new one before, between or behind those that are held.
+#[test]
+fn a_refused_add_to_one_chain_changes_nothing_and_is_made_again(
+    rt: HostRuntime,
+) -> Result<(), Fail> {
+    let alloc = rt.alloc();
+    let rows = [
+        (5, 1),
+        (7, 1),
+        (5, 2),
+        (6, 1),
+        (5, 3),
+        (4, 9),
+        (7, 2),
+        (4, 8),
+    ];
+    let entries = numbered(alloc, &rows)?;
+    let ask = ask_of(alloc, b"top_level 2 low(x)")?;
+    check_refused(&rt, alloc, &ask, &entries, 4)
+}
+
+/// A product behind a chain, whose second piece moves the first one down.
+#[test]
+fn a_refused_add_to_a_product_behind_a_chain_changes_nothing_and_is_made_again(
+    rt: HostRuntime,
+) -> Result<(), Fail> {
+    let alloc = rt.alloc();
+    let rows = [
+        (5, 5),
+        (6, 4),
+        (6, 6),
+        (7, 3),
+        (4, 5),
+        (5, 4),
+        (1, 30),
+        (3, 9),
+    ];
+    let entries = numbered(alloc, &rows)?;
+    let ask = ask_of(alloc, b"top_level 2 between(y, 3, 9) & (low(x) * low(y))")?;
+    check_refused(&rt, alloc, &ask, &entries, 4)
+}
+
+/// A product within groups, of which one is new in the second piece.
+#[test]
+fn a_refused_add_to_a_product_within_groups_changes_nothing_and_is_made_again(
+    rt: HostRuntime,
+) -> Result<(), Fail> {
+    let alloc = rt.alloc();
+    let rows = [
+        (5, 1),
+        (9, 1),
+        (7, 2),
+        (8, 1),
+        (6, 2),
+        (2, 3),
+        (7, 1),
+        (7, 2),
+    ];
+    let entries = numbered(alloc, &rows)?;
+    let ask = ask_of(alloc, b"top_level 2 low(x) * around(x, 7) by y")?;
+    check_refused(&rt, alloc, &ask, &entries, 4)
+}
+
+/// What is held, listed again where that was refused.
+fn ranked_in_the_end(rt: &impl Abort, alloc: Global, partial: &Partial) -> Vec<Ranked> {
+    match partial.ranked(alloc) {
+        Ok(ranked) => ranked,
+        Err(_) => partial.ranked(alloc).expect(rt, "memory"),
+    }
+}
+
+/// Entries that were added in two pieces to a partial result that holds nothing are listed up to a cut, also where that was refused before.
+fn check_refused_list<D: Dominance>(
+    rt: &impl Abort,
+    alloc: Global,
+    dominance: &D,
+    cut: u32,
+    partial: &mut Partial,
+    entries: &[Entry],
+) -> Result<(), Fail>
+    requires nothing { partial.old ≡ [] }
+    requires ids { HaveDifferentIds entries.now }
+{
+    let (front, back) = entries.split_at(entries.len().min(4));
+    let held = add_in_two(alloc, dominance, cut, partial, front, back)?;
+    let ranked = ranked_in_the_end(rt, alloc, partial);
+    assert_same_list(rt, "listed", &ranked, &held);
+    Ok(())
+}
+
+#[test]
+fn a_refused_list_is_made_again(rt: HostRuntime) -> Result<(), Fail> {
+    let alloc = rt.alloc();
+    let entries = numbered(alloc, &PAIRS)?;
+    for text in [
+        b"best low(x)".as_slice(),
+        b"best low(x) * low(y)".as_slice(),
+        b"best low(x) by y".as_slice(),
+        b"skyline of distinct x min, y min".as_slice(),
+    ] {
+        let ask = ask_of(alloc, text)?;
+        let mut partial = Partial::empty();
+        check_refused_list(&rt, alloc, &ask, 3, &mut partial, &entries)?;
+    }
+    Ok(())
+}
+
 /// An answer, made again where it was refused: what is held must have stayed.
 fn answer_in_the_end(
     rt: &impl Abort,
