@@ -105,6 +105,7 @@ fn a_refused_copy_of_chains_is_told_and_made_again(rt: HostRuntime) -> Result<()
     for question in [
         "best low(x) & (-around(y, -3) * high(g))",
         "best pos(g, 1, 2) & (low(x) * layered(y, {1, 2}, {3}))",
+        "best (low(x) * pos(y, 1)) & (pos(g, 1) & high(x))",
     ] {
         let found = are_copied(&rt, rt.alloc(), question)?;
         assert_same(&rt, question, &found, &Some(true));
