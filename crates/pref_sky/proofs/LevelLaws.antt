@@ -127,7 +127,7 @@ pub held_after_pieces : (over : Entry → Entry → Bool) → IsStrictOrder over
 held_after_pieces over strict cut pieces different = cut_into over strict cut [] [] pieces (levels_of_none over cut) different
 
 -- where each entry that passes p passes q, no more pass p
-count_within : {E : Type 0} (p q : E → Bool) (xs : List E) → ((x : E) → p x ≡ true → q x ≡ true) → count_by p xs ≤ count_by q xs
+pub count_within : {E : Type 0} (p q : E → Bool) (xs : List E) → ((x : E) → p x ≡ true → q x ≡ true) → count_by p xs ≤ count_by q xs
 count_within p q [] within = omega arith
 count_within p q (x ∷ xs) within =
     let here : cond {A = ℕ} (p x) 1 0 ≤ cond (q x) 1 0 =

@@ -44,3 +44,5 @@ pub mod PartSteps
 pub mod PartLoops
 pub mod FirstLevels
 pub mod FirstRanked
+pub mod SortedLevels
+pub mod UpperLevels

@@ -13,5 +13,6 @@ pub mod Passes
 pub mod Partials
 pub mod Starts
 pub mod Layers
+pub mod Sorted
 pub mod Parts
 pub mod Held

@@ -33,6 +33,7 @@ mod passes;
 mod ranking;
 mod room;
 mod signatures;
+mod sorted;
 pub mod stairs;
 mod window;
 
