@@ -1,4 +1,4 @@
--- Loops over parts: entries are dealt out, and the levels of all parts are put together.
+-- Loops over parts: entries are dealt out, and those of all parts are gathered.
 use Rattle.std.proofs.Common.{◌≡◌, ℕ, zero, suc, ◌≤◌, ◌<◌, ◌+◌, false, inl, inr, List, [], ◌∷◌, ◌++◌, length, take, drop, get_or, set, Vec, Global, refl, sym, ◌∙◌, ap, subst, arith, add-one, append_assoc, filter, eq-eqb}
 use Rattle.std.proofs.lemmas.Bool.{eqb-true, false_from_ne_true}
 use Rattle.std.proofs.lemmas.List.{drop_more}
@@ -47,11 +47,3 @@ pub no_level : (place : ℕ) (held : List Level) → length held ≤ place → h
 no_level place [] past = refl
 no_level zero (level ∷ behind) past = absurd (omega (arith, past))
 no_level (suc place) (level ∷ behind) past = no_level place behind (omega (arith, past))
-
--- one level more is put together
-pub level_together : (parts : List Part) (place : ℕ) (levels : List Level) (level : Level) → length levels ≡ place → level.entries.items ≡ all_at parts place → ranked_from 1 levels ≡ ranked_upto (all_at parts) place
-    → ranked_from 1 (levels ++ level ∷ []) ≡ ranked_upto (all_at parts) (place + 1)
-level_together parts place levels level long is before =
-    ranked_push 1 (suc place) levels level (omega (arith, long))
-    ∙ (ap (λ l. l ++ one_level (suc place) level.entries.items) before
-    ∙ (ap (λ e. ranked_upto (all_at parts) place ++ one_level (suc place) e) is ∙ ap (ranked_upto (all_at parts)) (sym (add-one place))))

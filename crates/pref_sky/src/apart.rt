@@ -10,11 +10,10 @@ ghost use Rattle.pref_sky.specs.declared.level.Step.{Step};
 ghost use Rattle.pref_term.specs.Order.{StaysWithin};
 
 use crate::entry::{Entry, Ranked};
-use crate::level::{Level, Step, count_of};
+use crate::level::{Step, count_of};
 use crate::part::Part;
 use crate::ranking::{push_level, sort_behind};
-use crate::signatures::signatures_of;
-use pref_term::{Cuts, Dominance, mixed};
+use pref_term::{Dominance, mixed};
 use std::alloc::{AllocError, Global};
 
 /// How many parts there are.
@@ -126,35 +125,6 @@ fn deepest(parts: &[Part]) -> usize
     deepest
 }
 
-/// The entries of all parts at one level, unordered.
-fn entries_at(alloc: Global, parts: &[Part], place: usize) -> Result<Vec<Entry>, AllocError>
-    ensures { IfOk result (λ entries. entries.items ≡ all_at parts.now place) }
-{
-    let mut entries = Vec::new(alloc);
-    for part in parts {
-        entries.extend_from_slice(part.at(place))?;
-    }
-    Ok(entries)
-}
-
-/// Levels that hold the entries of all parts, without cuts.
-fn levels_together(alloc: Global, parts: &[Part]) -> Result<Vec<Level>, AllocError>
-    ensures ranked { IfOk result (λ levels. ranked_from 1 levels.items ≡ ranked_parts parts.now) }
-    ensures signed { IfOk result (λ levels. AreSignedBy (signature_by []) levels.items) }
-    ensures bound { IfOk result (λ levels. length levels.items < 2 ^ 32) }
-{
-    let mut levels = Vec::new(alloc);
-    for place in 0..deepest(parts) {
-        let entries = entries_at(alloc, parts, place)?;
-        let signatures = signatures_of(alloc, &Cuts::none(), &entries)?;
-        levels.push(Level {
-            entries,
-            signatures,
-        })?;
-    }
-    Ok(levels)
-}
-
 /// Puts the entries of all parts at one level, unordered, behind those of the levels before it.
 fn push_parts(
     ranked: &mut Vec<Ranked>,
@@ -211,18 +181,6 @@ impl Parts {
         let parts = empty_parts(alloc)?;
         let columns = Vec::from_slice(alloc, columns)?;
         Ok(Parts { columns, parts })
-    }
-
-    /// A part that holds what all of them hold, in new lists.
-    pub(crate) fn together(&self, alloc: Global) -> Result<Part, AllocError>
-        ensures { IfOk result (λ part. ranked_from 1 part.levels.items ≡ ranked_parts self.now.parts.items) }
-    {
-        let levels = levels_together(alloc, &self.parts)?;
-        Ok(Part {
-            levels,
-            cuts: Cuts::none(),
-            held_when_signed: 0,
-        })
     }
 
     /// The entries of all parts, in order of level, then id.

@@ -8,10 +8,12 @@ ghost use Rattle.pref_sky.specs.Parts.{ranked_parts};
 ghost use Rattle.pref_sky.specs.declared.entry.Entry.{Entry};
 
 use crate::apart::Parts;
+use crate::chain_order::ChainOrder;
 use crate::entry::{Entry, Ranked};
 use crate::level::{Level, count_of};
 use crate::part::Part;
 use crate::ranking::{push_level, sort_behind};
+use crate::sorted::SortedEntries;
 use pref_term::Dominance;
 use std::alloc::{AllocError, Global};
 use std::marker::Model;
@@ -21,6 +23,8 @@ use std::marker::Model;
 pub(crate) enum Held {
     /// Nothing was added.
     Nothing,
+    /// In the order of two chains, where the order of the first addition is their product.
+    Sorted(SortedEntries),
     /// All entries together.
     Whole(Part),
     /// In parts, which the order never compares with each other.
@@ -31,7 +35,9 @@ pub(crate) enum Held {
 ///
 /// A contract sees the list of them. What it holds is by one order and one cut, so each `add` is made
 /// with the order and the cut of the first. Each entry is in it once, 136 bytes and 8 for its
-/// signature; where the order compares rows within groups alone, there are 1,024 small lists beside them.
+/// signature; where the order compares rows within groups alone, there are 1,024 small lists beside them. Where the order is a product
+/// of two chains, as of a plain chain, entries have no signature, and beside those of the levels it holds up to an eighth as many, and
+/// 64, and a block, that may be below the cut.
 pub struct Partial {
     held: Held,
 }
@@ -71,7 +77,8 @@ pub(crate) fn ranked_of(alloc: Global, levels: &[Level]) -> Result<Vec<Ranked>, 
     Ok(ranked)
 }
 
-/// What is held after the first addition: parts where the order compares rows within groups alone.
+/// What is held after the first addition: entries in the order of two chains where the order is their product, and else parts where it
+/// compares rows within groups alone.
 fn begun<D: Dominance>(
     alloc: Global,
     dominance: &D,
@@ -86,6 +93,10 @@ fn begun<D: Dominance>(
         IfOk result (λ held. (before : List Entry) → HaveDifferentIds (before ++ entries.now) → [] ≡ levels over before cut
         → ranked_held held ≡ levels over (before ++ entries.now) cut) }
 {
+    if let Some(order) = ChainOrder::of(alloc, dominance)? {
+        let sorted = SortedEntries::of(alloc, order, cut, entries)?;
+        return Ok(Held::Sorted(sorted));
+    }
     let columns = dominance.groups();
     if columns.is_empty() {
         let part = Part::of(alloc, dominance, window, cut, entries)?;
@@ -96,25 +107,32 @@ fn begun<D: Dominance>(
     Ok(Held::Apart(parts))
 }
 
-/// Adds to parts by an order that may compare rows of two of them: their entries are put together. Gives what is then held.
-fn added_together<D: Dominance>(
+/// What is held where an addition is by an order or a cut that does not go with what was held: the entries of its levels and the new
+/// ones are begun anew.
+fn begun_anew<D: Dominance>(
     alloc: Global,
     dominance: &D,
     window: usize,
     cut: u32,
-    parts: &Parts,
+    ranked: &[Ranked],
     entries: &[Entry],
 ) -> Result<Held, AllocError>
     requires window { 0 < window }
-    requires ids { HaveDifferentIds (map entry_of (ranked_parts parts.now.parts.items) ++ entries.now) }
+    requires ids { HaveDifferentIds (map entry_of ranked.now ++ entries.now) }
     ensures ids { IfOk result (λ held. HaveDifferentIds (map entry_of (ranked_held held))) }
     ensures ok { let over = entry_order (D.order dominance.now) in
-        IfOk result (λ held. (before : List Entry) → HaveDifferentIds (before ++ entries.now) → ranked_parts parts.now.parts.items ≡ levels over before cut
+        IfOk result (λ held. (before : List Entry) → HaveDifferentIds (before ++ entries.now) → ranked.now ≡ levels over before cut
         → ranked_held held ≡ levels over (before ++ entries.now) cut) }
 {
-    let mut part = parts.together(alloc)?;
-    part.add(alloc, dominance, window, cut, entries)?;
-    Ok(Held::Whole(part))
+    let mut all = Vec::with_capacity(alloc, ranked.len().saturating_add(entries.len()))?;
+    for entry in ranked {
+        all.push(Entry {
+            row: entry.row,
+            id: entry.id,
+        })?;
+    }
+    all.extend_from_slice(entries)?;
+    begun(alloc, dominance, window, cut, &all)
 }
 
 impl Partial {
@@ -136,13 +154,15 @@ impl Partial {
 
     /// The entries that are held, with their levels, in order of level, then id.
     ///
-    /// Cost: one copy of them, and a sort of each level by id; of parts for each level a look at each part. Memory: the
-    /// list alone. `Err` is out of memory.
+    /// Cost: one copy of them, and a sort of each level by id; of parts for each level a look at each part. Where the order is a product
+    /// of two chains their levels are found only now, by a search by halves among the levels for each entry. Memory: the
+    /// list alone, and of two chains a copy of what is held. `Err` is out of memory.
     pub fn ranked(&self, alloc: Global) -> Result<Vec<Ranked>, AllocError>
         ensures { IfOk result (λ ranked. ranked.items ≡ self.now) }
     {
         match &self.held {
             Held::Nothing => Ok(Vec::new(alloc)),
+            Held::Sorted(sorted) => sorted.ranked(alloc),
             Held::Whole(part) => ranked_of(alloc, &part.levels),
             Held::Apart(parts) => parts.ranked(alloc),
         }
@@ -155,7 +175,7 @@ impl Partial {
     {
         match &self.held {
             Held::Whole(part) => Some(&part.levels),
-            Held::Nothing | Held::Apart(_) => None,
+            Held::Nothing | Held::Sorted(_) | Held::Apart(_) => None,
         }
     }
 
@@ -173,7 +193,12 @@ impl Partial {
     ///
     /// Where the order names [groups](pref_term::Dominance::groups), all this goes for the entries of one part: the cells
     /// of its group tell in which of 1,024 parts an entry is, and it meets no others. What comes is copied once more then.
-    /// An order that names others than the first one puts all parts together, once, at the cost of a copy.
+    ///
+    /// Where the order is a product of two [chains](pref_term::Dominance::chains), new entries are put behind the others as they are, but for those
+    /// that one of the last level is seen to dominate, by a search by halves. Once they are an eighth of what is held, and 64, all are
+    /// merged, and those below the cut dropped.
+    ///
+    /// An order with other groups, chains or cut than the first one begins anew with what is held, at the cost of a copy.
     ///
     /// `Err` is out of memory; the partial result is then as it was.
     pub fn add<D: Dominance>(
@@ -198,12 +223,21 @@ impl Partial {
                 self.held = begun(alloc, dominance, window, cut, entries)?;
                 Ok(())
             }
+            Held::Sorted(sorted) => {
+                if sorted.cut == cut && sorted.order.is_of(dominance) {
+                    return sorted.add(alloc, entries);
+                }
+                let ranked = sorted.ranked(alloc)?;
+                self.held = begun_anew(alloc, dominance, window, cut, &ranked, entries)?;
+                Ok(())
+            }
             Held::Whole(part) => part.add(alloc, dominance, window, cut, entries),
             Held::Apart(parts) => {
                 if parts.columns.as_slice() == dominance.groups() {
                     return parts.add(alloc, dominance, window, cut, entries);
                 }
-                self.held = added_together(alloc, dominance, window, cut, parts, entries)?;
+                let ranked = parts.ranked(alloc)?;
+                self.held = begun_anew(alloc, dominance, window, cut, &ranked, entries)?;
                 Ok(())
             }
         }

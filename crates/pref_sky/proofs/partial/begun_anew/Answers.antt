@@ -1,0 +1,23 @@
+use Rattle.std.proofs.Common.{◌≡◌, ◌++◌, [], List, map, take, take_all, sym, ◌∙◌, ap, subst}
+use Rattle.std.proofs.lemmas.Result.{IfOk-weaker}
+use Rattle.pref_sky.specs.Levels.{HaveDifferentIds, entry_of, entry_order, levels}
+use Rattle.pref_sky.proofs.LevelLaws.{levels_of_none}
+use Rattle.pref_sky.proofs.Merges.{entry_order_is_strict, merge}
+use Rattle.pref_sky.proofs.partial.begun_anew.Goals as goal
+
+-- what is begun with has the levels of all
+pub returns-clause-ok : goal.returns-clause-ok
+returns-clause-ok g c =
+    let row_order = g.D.Dominance.order c.args.dominance.now in
+    let over = entry_order row_order in
+    let strict = entry_order_is_strict row_order (g.met.D.Dominance.laws c.args.dominance.now) in
+    let ranked = c.args.ranked.now in
+    let entries = c.args.entries.now in
+    let cut = c.args.cut in
+    let held = map entry_of ranked in
+    let copied : c.loop-entry.all.items ≡ held = c.loop-entry.invariant ∙ ap (map entry_of) (take_all c.loop-entry.entry-index ranked c.loop-entry-test.false) in
+    let whole : c.deref.result.now ≡ held ++ entries = c.deref.ensures.value ∙ ((c.in_ok-extend_from_slice.ensures {u = tt}).items ∙ ap (λ l. l ++ entries) copied) in
+    IfOk-weaker c.begun.result _ _ (λ made begun before apart is.
+    begun [] (subst HaveDifferentIds (sym whole) c.requires.ids) (levels_of_none over cut)
+    ∙ (ap (λ l. levels over l cut) whole
+    ∙ (ap (λ l. levels over (map entry_of l ++ entries) cut) is ∙ merge over strict before entries cut apart (subst (λ l. HaveDifferentIds (map entry_of l ++ entries)) is c.requires.ids)))) c.begun.ensures.ok
