@@ -1,5 +1,5 @@
 -- The reports of clients, and what follows from them of the whole run.
-use Rattle.std.proofs.Common.{◌≡◌, ℕ, suc, ◌<◌, true, List, [], ◌++◌, length, map, get_or, Option, Some, None, slice_get, refl, sym, ap, ◌∙◌, subst, arith, inl, inr, ⊎_elim}
+use Rattle.std.proofs.Common.{◌≡◌, ℕ, suc, ◌<◌, Bool, true, false, List, [], ◌++◌, length, map, get_or, Option, Some, None, slice_get, refl, sym, ap, ◌∙◌, subst, arith, inl, inr, ⊎_elim}
 use Rattle.std.specs.Option.{is_some, option_or}
 use Rattle.std.specs.List.{All}
 use Rattle.std.proofs.lemmas.List.{append-nil}
@@ -17,7 +17,7 @@ use Rattle.pref_share.specs.Openings.{Opening, IsLegalFrom, HasCall, calls_at}
 use Rattle.pref_share.specs.Standing.{Standing}
 use Rattle.pref_share.specs.Clients.{Sees, IsInUse}
 use Rattle.pref_share.specs.Runs.{RunsTo, StopsAt, IsJointRun, IsPart}
-use Rattle.pref_share.specs.Reports.{Ends, Did, IsFoundInUse, IsWithin, AreReports, IsFirstStopped}
+use Rattle.pref_share.specs.Reports.{WasLetIn, Ends, Did, IsFoundInUse, IsWithin, AreReports, IsFirstStopped}
 use Rattle.pref_share.specs.Settling.{Settles}
 use Rattle.pref_share.proofs.Prefixes.{prefix_self, prefix_trans}
 use Rattle.pref_share.proofs.Refusing.{stops_in_use}
@@ -33,11 +33,14 @@ sees_on o s t u a b = record {
 }
 
 -- why a client stopped that is found in use is so still, and where it had not stopped it is that it is in use
-ends_in_use : (o : Opening) (held : ℕ → Type 0) (s t : Standing) (rest : List Act) (stopped : Option ShareFault) → IsInUse o s (suc s.counter) t → Ends held s rest stopped
-    → Ends held t rest (option_or stopped (Some (ClientInUse (suc s.counter))))
-ends_in_use o held s t rest None in_use h = (stops_in_use o s t (suc s.counter) in_use).1
-ends_in_use o held s t rest (Some fault) in_use h = stays fault h
+ends_in_use : (o : Opening) (said : ℕ → Bool → Type 0) (s t : Standing) (rest : List Act) (stopped : Option ShareFault) → IsInUse o s (suc s.counter) t → Ends said s rest stopped
+    → Ends said t rest (option_or stopped (Some (ClientInUse (suc s.counter))))
+ends_in_use o said s t rest None in_use h = ((stops_in_use o s t (suc s.counter) in_use).1, inl h)
+ends_in_use o said s t rest (Some fault) in_use h = (stays fault h.0, subst (λ number. WasLetIn (said number) rest fault) (sym in_use.sees.same) h.1)
   where
+    held : ℕ → Type 0
+    held client = said client false
+
     stays : (fault : ShareFault) → StopsAt held s rest fault → StopsAt held t rest fault
     stays (Core fault) h = h
     stays (ClientInUse number) h = subst (λ n. (n ≡ suc t.counter) × HasCall t.seen t.number n) (sym h.0) (stops_in_use o s t (suc s.counter) in_use).1
@@ -50,20 +53,21 @@ is_stopped None fault = refl
 is_stopped (Some other) fault = refl
 
 -- what a client did is so still where its report is settled, which says then that it shares the history, or is in use
-did_settled : {J : Type 0} (o : Opening) (may_hold : ℕ → ℕ → Type 0) (s : Standing) (acts : List Act) (history : List Op) (old new : Report J) → Did o may_hold s acts old → Settles o history old new → Did o may_hold s acts new × IsWithin o history new
-did_settled {J} o may_hold s acts history old new d (inl h) = (
-  subst (λ (r : Report J). Did o may_hold s acts r) (sym h.same) d,
+did_settled : {J : Type 0} (o : Opening) (says : ℕ → ℕ → Bool → Type 0) (s : Standing) (acts : List Act) (history : List Op) (old new : Report J) → Did o says s acts old → Settles o history old new → Did o says s acts new × IsWithin o history new
+did_settled {J} o says s acts history old new d (inl h) = (
+  subst (λ (r : Report J). Did o says s acts r) (sym h.same) d,
   subst (λ (r : Report J). IsWithin o history r) (sym h.same) (record { inside = h.is_in.inside; alone = inl h.is_in.alone }),
 )
-did_settled {J} o may_hold s acts history old new d (inr h) = (
+did_settled {J} o says s acts history old new d (inr h) = (
   record {
     done = d.done;
     rest = d.rest;
     in_order = d.in_order;
     last = d.last;
     runs = subst (λ (v : Vec Reply). RunsTo o s d.done v.items d.last) (sym h.replies) d.runs;
+    let_in = d.let_in;
     since = sees_on o d.last old.client new.client d.since h.in_use.sees;
-    ends = subst (λ (x : Option ShareFault). Ends (λ client. may_hold client (length d.done)) new.client d.rest x) (sym h.stopped) (ends_in_use o (λ client. may_hold client (length d.done)) old.client new.client d.rest old.stopped h.in_use d.ends);
+    ends = subst (λ (x : Option ShareFault). Ends (λ client. says client (length d.done)) new.client d.rest x) (sym h.stopped) (ends_in_use o (λ client. says client (length d.done)) old.client new.client d.rest old.stopped h.in_use d.ends);
   },
   record { inside = subst (λ (l : List Op). IsPrefix l history) (sym h.seen) (prefix_self history); alone = inr (ap is_some h.stopped ∙ is_stopped old.stopped (ClientInUse (suc old.client.counter)), h.seen, holds) },
 )
@@ -72,18 +76,18 @@ did_settled {J} o may_hold s acts history old new d (inr h) = (
     holds = let in_use = (stops_in_use o old.client new.client (suc old.client.counter) h.in_use).1 in subst (λ n. HasCall history new.client.number n) in_use.0 (subst (λ (l : List Op). HasCall l new.client.number (suc old.client.counter)) h.seen in_use.1)
 
 -- The reports of all clients, from what each worker did and what was found after the joins.
-pub are_reports : {A J : Type 0} (o : Opening) (may_hold : ℕ → ℕ → Type 0) (history : List Op) (client : A → Standing) (acts : A → Vec Act) (jobs : List A) (before after : List (Report J)) (clients : List Standing) (lists : List (Vec Act))
+pub are_reports : {A J : Type 0} (o : Opening) (says : ℕ → ℕ → Bool → Type 0) (history : List Op) (client : A → Standing) (acts : A → Vec Act) (jobs : List A) (before after : List (Report J)) (clients : List Standing) (lists : List (Vec Act))
     → map client jobs ≡ clients → map acts jobs ≡ lists → IsLegalFrom o history → length before ≡ length jobs → length after ≡ length before
-    → ((i : ℕ) (job : A) (d : Report J) → i < length jobs → Did o may_hold (client (get_or jobs i job)) (acts (get_or jobs i job)).items (get_or before i d))
-    → ((i : ℕ) (d : Report J) → i < length before → Settles o history (get_or before i d) (get_or after i d)) → AreReports o may_hold clients lists after
-are_reports {A} {J} o may_hold history client acts jobs before after clients lists paired listed legal worked kept did settles = record {
+    → ((i : ℕ) (job : A) (d : Report J) → i < length jobs → Did o says (client (get_or jobs i job)) (acts (get_or jobs i job)).items (get_or before i d))
+    → ((i : ℕ) (d : Report J) → i < length before → Settles o history (get_or before i d) (get_or after i d)) → AreReports o says clients lists after
+are_reports {A} {J} o says history client acts jobs before after clients lists paired listed legal worked kept did settles = record {
   history = history;
   legal = legal;
   reported = kept ∙ worked ∙ sym (length_map client jobs) ∙ ap length paired;
   each = each;
 }
   where
-    each : (i : ℕ) (s : Standing) (list : Vec Act) → slice_get clients i ≡ Some s → slice_get lists i ≡ Some list → (report : Report J) × (slice_get after i ≡ Some report) × Did o may_hold s list.items report × IsWithin o history report
+    each : (i : ℕ) (s : Standing) (list : Vec Act) → slice_get clients i ≡ Some s → slice_get lists i ≡ Some list → (report : Report J) × (slice_get after i ≡ Some report) × Did o says s list.items report × IsWithin o history report
     each i s list at listed_at =
         let given = given_at client acts jobs clients lists paired listed i s list at listed_at in
         let j : A = given.0 in
@@ -91,16 +95,16 @@ are_reports {A} {J} o may_hold history client acts jobs before after clients lis
         let found = there after i (omega (arith, short, worked, kept)) in
         let r : Report J = found.0 in
         let old : Report J = get_or before i r in
-        let done : Did o may_hold (client j) (acts j).items old = subst (λ (x : A). Did o may_hold (client x) (acts x).items old) (get_or_from_slice_get jobs i j j given.1) (did i j r short) in
-        let mine : Did o may_hold s list.items old = subst (λ (l : Vec Act). Did o may_hold s l.items old) given.3 (subst (λ (x : Standing). Did o may_hold x (acts j).items old) given.2 done) in
+        let done : Did o says (client j) (acts j).items old = subst (λ (x : A). Did o says (client x) (acts x).items old) (get_or_from_slice_get jobs i j j given.1) (did i j r short) in
+        let mine : Did o says s list.items old = subst (λ (l : Vec Act). Did o says s l.items old) given.3 (subst (λ (x : Standing). Did o says x (acts j).items old) given.2 done) in
         let settled : Settles o history old r = subst (λ (x : Report J). Settles o history old x) (get_or_from_slice_get after i r r found.1) (settles i r (omega (arith, short, worked))) in
-        let both = did_settled o may_hold s list.items history old r mine settled in
+        let both = did_settled o says s list.items history old r mine settled in
         (r, found.1, both.0, both.1)
 
 -- The parts of all clients, where none stopped.
-pub joint : {J : Type 0} (o : Opening) (may_hold : ℕ → ℕ → Type 0) (clients : List Standing) (lists : List (Vec Act)) (reports : List (Report J)) (out : List (Vec Reply))
-    → AreReports o may_hold clients lists reports → All (λ r. r.stopped ≡ None) reports → out ≡ map (λ r. r.replies) reports → IsJointRun o clients lists out
-joint {J} o may_hold clients lists reports out all none given = record {
+pub joint : {J : Type 0} (o : Opening) (says : ℕ → ℕ → Bool → Type 0) (clients : List Standing) (lists : List (Vec Act)) (reports : List (Report J)) (out : List (Vec Reply))
+    → AreReports o says clients lists reports → All (λ r. r.stopped ≡ None) reports → out ≡ map (λ r. r.replies) reports → IsJointRun o clients lists out
+joint {J} o says clients lists reports out all none given = record {
   history = all.history;
   legal = all.legal;
   lists = ap length given ∙ length_map (λ r. r.replies) reports ∙ all.reported;
@@ -111,7 +115,7 @@ joint {J} o may_hold clients lists reports out all none given = record {
     part i s list at listed_at =
         let (r, r_at, did, within) = all.each i s list at listed_at in
         let went_on : r.stopped ≡ None = subst (λ (x : Report J). x.stopped ≡ None) (get_or_from_slice_get reports i r r r_at) (All-get_or (λ (x : Report J). x.stopped ≡ None) reports i r (slice_get_within reports i r r_at) none) in
-        let nothing_left : did.rest ≡ [] = subst (λ (x : Option ShareFault). Ends (λ client. may_hold client (length did.done)) r.client did.rest x) went_on did.ends in
+        let nothing_left : did.rest ≡ [] = subst (λ (x : Option ShareFault). Ends (λ client. says client (length did.done)) r.client did.rest x) went_on did.ends in
         let did_all : did.done ≡ list.items = sym (did.in_order ∙ ap (λ rest. did.done ++ rest) nothing_left ∙ append-nil did.done) in
         let alone : calls_at o all.history r.client.number ≡ Some r.client.counter = ⊎_elim (λ e. e) (λ (x : IsFoundInUse all.history r). let apart : true ≡ is_some {T = ShareFault} None = sym x.0 ∙ ap is_some went_on in absurd (cc)) within.alone in (
           r.replies,
@@ -125,9 +129,9 @@ joint {J} o may_hold clients lists reports out all none given = record {
         )
 
 -- Why the first of these clients stopped that did, as each client may stop: with these acts left, and held only where its gate may hold it.
-pub first_stops : {J : Type 0} (o : Opening) (may_hold : ℕ → ℕ → Type 0) (clients : List Standing) (lists : List (Vec Act)) (reports : List (Report J)) (fault : ShareFault)
-    → AreReports o may_hold clients lists reports → length lists ≡ length clients → IsFirstStopped reports fault → (s : Standing) × (rest : List Act) × (turn : ℕ) × StopsAt (λ client. may_hold client turn) s rest fault
-first_stops {J} o may_hold clients lists reports fault all many first =
+pub first_stops : {J : Type 0} (o : Opening) (says : ℕ → ℕ → Bool → Type 0) (clients : List Standing) (lists : List (Vec Act)) (reports : List (Report J)) (fault : ShareFault)
+    → AreReports o says clients lists reports → length lists ≡ length clients → IsFirstStopped reports fault → (s : Standing) × (rest : List Act) × (turn : ℕ) × StopsAt (λ client. says client turn false) s rest fault
+first_stops {J} o says clients lists reports fault all many first =
     let place : ℕ = length first.before in
     let here : slice_get reports place ≡ Some first.report = ap (λ (l : List (Report J)). slice_get l place) first.in_order ∙ behind first.before first.after first.report in
     let short : place < length clients = omega (arith, slice_get_within reports place first.report here, all.reported) in
@@ -137,4 +141,4 @@ first_stops {J} o may_hold clients lists reports fault all many first =
     let found : Some r ≡ Some first.report = sym r_at ∙ here in
     let same : r ≡ first.report = cc in
     let stopped : r.stopped ≡ Some fault = ap (λ (x : Report J). x.stopped) same ∙ first.stopped in
-    (r.client, did.rest, length did.done, subst (λ (x : Option ShareFault). Ends (λ client. may_hold client (length did.done)) r.client did.rest x) stopped did.ends)
+    (r.client, did.rest, length did.done, (subst (λ (x : Option ShareFault). Ends (λ client. says client (length did.done)) r.client did.rest x) stopped did.ends).0)

@@ -1,12 +1,17 @@
 -- Runs of acts, one act longer, and what stands at a place of two lists.
-use Rattle.std.proofs.Common.{◌≡◌, ℕ, zero, suc, ◌<◌, List, [], ◌∷◌, ◌++◌, ◌+◌, length, map, Some, slice_get, refl, sym, ap, ◌∙◌, subst, arith}
+use Rattle.std.proofs.Common.{◌≡◌, ℕ, zero, suc, ◌<◌, Bool, true, List, [], ◌∷◌, ◌++◌, ◌+◌, length, map, Some, slice_get, refl, sym, ap, ◌∙◌, subst, arith, inr, ⊎_elim}
+use Rattle.std.proofs.lemmas.Bool.{cases_eq}
 use Rattle.std.proofs.lemmas.List.{length-append}
 use Rattle.std.proofs.lemmas.Option.{slice_get_within}
 use Rattle.pref_core.specs.declared.event.Act.{Act}
 use Rattle.pref_core.specs.declared.event.Reply.{Reply}
+use Rattle.pref_share.specs.declared.fault.ShareFault.{ShareFault}
+use Rattle.pref_share.specs.declared.fault.ShareFault.TheVariants.{Core, ClientInUse, Held, Closed}
 use Rattle.pref_share.specs.Openings.{Opening}
 use Rattle.pref_share.specs.Standing.{Standing}
-use Rattle.pref_share.specs.Runs.{StepsTo, Runs, none, then, RunsTo}
+use Rattle.pref_share.specs.Performing.{nobody}
+use Rattle.pref_share.specs.Runs.{StepsTo, Runs, none, then, RunsTo, StopsAt}
+use Rattle.pref_share.specs.Reports.{WasLetIn}
 
 pub runs_none : (o : Opening) (s : Standing) (replies : List Reply) → replies ≡ [] → RunsTo o s [] replies s
 runs_none o s replies e = subst (λ (l : List Reply). RunsTo o s [] l s) (sym e) (record { stands = []; runs = none })
@@ -30,6 +35,28 @@ same_number o s t acts replies run = go acts replies run.stands t run.runs
     go : (acts : List Act) (replies : List Reply) (stands : List Standing) (u : Standing) → Runs o s acts replies stands u → u.number ≡ s.number
     go _ _ _ _ none = refl
     go _ _ _ _ (then acts replies stands t act reply u runs step) = step.same ∙ go acts replies stands t runs
+
+-- the gate let in one act more
+pub let_in_more : (said : ℕ → Bool → Type 0) (acts : List Act) (act : Act) → ((turn : ℕ) → turn < length acts → said turn true) → said (length acts) true → (turn : ℕ) → turn < length (acts ++ act ∷ []) → said turn true
+let_in_more said acts act before now turn lt =
+    ⊎_elim (λ (e : turn ≡ length acts). subst (λ n. said n true) (sym e) now) (λ (apart : turn ≡ length acts → ⊥). before turn (omega (arith, apart, lt, length-append acts (act ∷ [])))) (cases_eq turn (length acts))
+
+-- why a client stops before an act it does with more acts behind it, and with a gate
+pub stops_before : (held : ℕ → Type 0) (s : Standing) (act : Act) (more : List Act) (fault : ShareFault) → StopsAt nobody s (act ∷ []) fault → StopsAt held s (act ∷ more) fault
+stops_before held s act more (Core fault) h = h
+stops_before held s act more (ClientInUse number) h = h
+stops_before held s act more (Held client) h = absurd h.2
+stops_before held s act more Closed h = h
+
+pub was_let_in : (said : Bool → Type 0) (rest : List Act) (fault : ShareFault) → said true → WasLetIn said rest fault
+was_let_in said rest (Core fault) h = inr h
+was_let_in said rest (ClientInUse number) h = inr h
+was_let_in said rest (Held client) h = tt
+was_let_in said rest Closed h = inr h
+
+pub none_left : {A : Type 0} (xs : List A) → length xs ≡ 0 → xs ≡ []
+none_left [] e = refl
+none_left (x ∷ xs) e = absurd (omega arith)
 
 pub there : {B : Type 0} (l : List B) (i : ℕ) → i < length l → (b : B) × (slice_get l i ≡ Some b)
 there [] i lt = absurd (omega arith)

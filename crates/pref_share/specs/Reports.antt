@@ -1,33 +1,39 @@
 -- What is reported of clients that ran acts on threads, and why a run is refused. (this project)
-use Rattle.std.specs.Prelude.{◌≡◌, ℕ, suc, true, List, [], ◌∷◌, ◌++◌, length, All, slice_get, Option, Some, None, is_some, ◌⊎◌}
+use Rattle.std.specs.Prelude.{◌≡◌, ℕ, suc, ◌<◌, Bool, true, false, List, [], ◌∷◌, ◌++◌, length, All, slice_get, Option, Some, None, is_some, ◌⊎◌}
 use Rattle.std.specs.Global.{Vec}
 use mathlib.Core.List.{IsPrefix}
 use Rattle.pref_core.specs.declared.call.Op.{Op}
 use Rattle.pref_core.specs.declared.event.Act.{Act}
 use Rattle.pref_core.specs.declared.fault.CoreFault.TheVariants.{OutOfMemory}
 use Rattle.pref_share.specs.declared.fault.ShareFault.{ShareFault}
-use Rattle.pref_share.specs.declared.fault.ShareFault.TheVariants.{Core}
+use Rattle.pref_share.specs.declared.fault.ShareFault.TheVariants.{Core, Held}
 use Rattle.pref_share.specs.declared.run.Report.{Report}
 use Rattle.pref_share.specs.Openings.{Opening, IsLegalFrom, HasCall, calls_at}
 use Rattle.pref_share.specs.Standing.{Standing}
 use Rattle.pref_share.specs.Clients.{Sees}
 use Rattle.pref_share.specs.Runs.{RunsTo, StopsAt}
 
--- the client did all its acts, or this is why it stopped
-abbrev pub Ends : (ℕ → Type 0) → Standing → List Act → Option ShareFault → Type 0
-Ends held s rest None = rest ≡ []
-Ends held s rest (Some fault) = StopsAt held s rest fault
+-- the gate let the client in to its next act, unless it has none left or is held
+abbrev pub WasLetIn : (Bool → Type 0) → List Act → ShareFault → Type 0
+WasLetIn said rest (Held client) = Unit {0}
+WasLetIn said rest fault = (rest ≡ []) ⊎ said true
 
--- The client did the first of these acts with these replies, and has seen no less since. Of the turn of the next the gate says whether it may hold
--- the client.
-pub record Did {J : Type 0} (o : Opening) (may_hold : ℕ → ℕ → Type 0) (s : Standing) (acts : List Act) (report : Report J) : Type 0 where
+-- the client did all its acts, or this is why it stopped, by what the gate said at that turn
+abbrev pub Ends : (ℕ → Bool → Type 0) → Standing → List Act → Option ShareFault → Type 0
+Ends said s rest None = rest ≡ []
+Ends said s rest (Some fault) = StopsAt (λ client. said client false) s rest fault × WasLetIn (said s.number) rest fault
+
+-- The client did the first of these acts with these replies, and has seen no less since. The gate let it in to each of them, and was asked
+-- at the turn of the next.
+pub record Did {J : Type 0} (o : Opening) (says : ℕ → ℕ → Bool → Type 0) (s : Standing) (acts : List Act) (report : Report J) : Type 0 where
   pub done : List Act
   pub rest : List Act
   pub in_order : acts ≡ done ++ rest
   pub last : Standing
   pub runs : RunsTo o s done report.replies.items last
   pub since : Sees o last report.client
-  pub ends : Ends (λ client. may_hold client (length done)) report.client rest report.stopped
+  pub let_in : (turn : ℕ) → turn < length done → says s.number turn true
+  pub ends : Ends (λ client. says client (length done)) report.client rest report.stopped
 
 -- The client is in use: it stopped, and has seen the whole history, which holds its next call, though it has not made it.
 abbrev pub IsFoundInUse : {J : Type 0} → List Op → Report J → Type 0
@@ -39,12 +45,12 @@ pub record IsWithin {J : Type 0} (o : Opening) (history : List Op) (report : Rep
   pub alone : (calls_at o history report.client.number ≡ Some report.client.counter) ⊎ IsFoundInUse history report
 
 -- What came of the acts of all clients, one list for each: there is one legal history of which all have seen a beginning.
-pub record AreReports {J : Type 0} (o : Opening) (may_hold : ℕ → ℕ → Type 0) (clients : List Standing) (acts : List (Vec Act)) (reports : List (Report J)) : Type 0 where
+pub record AreReports {J : Type 0} (o : Opening) (says : ℕ → ℕ → Bool → Type 0) (clients : List Standing) (acts : List (Vec Act)) (reports : List (Report J)) : Type 0 where
   pub history : List Op
   pub legal : IsLegalFrom o history
   pub reported : length reports ≡ length clients
   pub each : (i : ℕ) (client : Standing) (list : Vec Act) → slice_get clients i ≡ Some client → slice_get acts i ≡ Some list
-      → (report : Report J) × (slice_get reports i ≡ Some report) × Did o may_hold client list.items report × IsWithin o history report
+      → (report : Report J) × (slice_get reports i ≡ Some report) × Did o says client list.items report × IsWithin o history report
 
 -- why the first of these clients stopped that did, in order of number
 pub record IsFirstStopped {J : Type 0} (reports : List (Report J)) (fault : ShareFault) : Type 0 where
@@ -56,5 +62,5 @@ pub record IsFirstStopped {J : Type 0} (reports : List (Report J)) (fault : Shar
   pub stopped : report.stopped ≡ Some fault
 
 -- Why a run is refused, which gives no reports then: out of memory; or there are right reports, and this is why the first client stopped that did.
-abbrev pub RefusesRun : (J : Type 0) → Opening → (ℕ → ℕ → Type 0) → List Standing → List (Vec Act) → ShareFault → Type 0
-RefusesRun J o may_hold clients acts fault = (fault ≡ Core OutOfMemory) ⊎ ((reports : List (Report J)) × AreReports o may_hold clients acts reports × IsFirstStopped reports fault)
+abbrev pub RefusesRun : (J : Type 0) → Opening → (ℕ → ℕ → Bool → Type 0) → List Standing → List (Vec Act) → ShareFault → Type 0
+RefusesRun J o says clients acts fault = (fault ≡ Core OutOfMemory) ⊎ ((reports : List (Report J)) × AreReports o says clients acts reports × IsFirstStopped reports fault)

@@ -2,7 +2,7 @@
 
 mod acts;
 
-ghost use Rattle.std.specs.Prelude.{◌≡◌, false, ◌⊎◌, ◌<◌, ℕ, All, None, map, length, vec_len, slice_index_or, IfOk, IfErr};
+ghost use Rattle.std.specs.Prelude.{◌≡◌, ◌⊎◌, ◌<◌, ℕ, All, None, map, length, vec_len, slice_index_or, IfOk, IfErr};
 ghost use Rattle.pref_core.specs.declared.fault.CoreFault.TheVariants.{OutOfMemory};
 ghost use Rattle.pref_share.specs.Openings.{IsLegalFrom};
 ghost use Rattle.pref_share.specs.Standing.{newcomers};
@@ -26,15 +26,15 @@ use std::thread::Threads;
 
 /// What holds up each act, and is informed of it.
 pub trait Gate {
-    ghost use Rattle.std.specs.Prelude.{ℕ};
+    ghost use Rattle.std.specs.Prelude.{ℕ, Bool};
 
-    /// What is so whenever this gate answers false, by the client's number and its turn. The author of a gate picks it, and
-    /// `before` is proved to keep it: `⊥` for a gate that holds no client.
-    ghost may_hold: { Self → ℕ → ℕ → Type 0 };
+    /// What is so whenever this gate gives an answer, by the client's number, its turn and the answer. The author of a gate picks it,
+    /// and `before` is proved to keep it: `answer ≡ true` for a gate that holds no client.
+    ghost says: { Self → ℕ → ℕ → Bool → Type 0 };
 
     /// Called before each act of a client, whose turns count from 0. Where it answers false the client stops.
     fn before(&self, client: u8, turn: usize) -> bool
-        ensures { result ≡ false → may_hold self.now client turn };
+        ensures { says self.now client turn result };
 
     /// Called once the act is answered.
     fn after(&self, client: u8, turn: usize);
@@ -86,7 +86,7 @@ pub fn run_each<J: Naming + Send + Sync, R: Threads + Wait + Sync, G: Gate + Syn
     gate: &G,
 ) -> Result<Vec<Report<J>>, AllocError>
     requires { vec_len acts ≡ vec_len clients }
-    ensures { IfOk result (λ reports. AreReports J.opening (G.may_hold gate.now) clients.items acts.items reports.items) }
+    ensures { IfOk result (λ reports. AreReports J.opening (G.says gate.now) clients.items acts.items reports.items) }
 {
     let jobs = paired(alloc, clients, acts)?;
     let mut reports = work_all(rt, alloc, board, jobs, gate)?;
@@ -115,7 +115,7 @@ pub fn run_all<J: Naming + Send + Sync, R: Threads + Wait + Sync, G: Gate + Sync
     requires lists { vec_len acts ≡ vec_len clients }
     ensures joint { IfOk result (λ replies. IsJointRun J.opening clients.items acts.items replies.items) }
     ensures sequential { IfOk result (λ replies. IsSequential J.opening acts.items replies.items) }
-    ensures refused { IfErr result (RefusesRun J J.opening (G.may_hold gate.now) clients.items acts.items) }
+    ensures refused { IfErr result (RefusesRun J J.opening (G.says gate.now) clients.items acts.items) }
 {
     let reports = run_each(rt, alloc, board, clients, acts, gate)?;
     let replies = replies_of(alloc, reports)?;
@@ -158,7 +158,7 @@ fn work<J: Naming, R: Wait, G: Gate>(
     job: Job<J>,
 ) -> Report<J>
     requires room { HasRoom job }
-    ensures { Did J.opening (G.may_hold gate.now) job.client job.acts.items result }
+    ensures { Did J.opening (G.says gate.now) job.client job.acts.items result }
 {
     let Job {
         mut client,
@@ -206,14 +206,14 @@ fn work_all<J: Naming + Send + Sync, R: Threads + Wait + Sync, G: Gate + Sync>(
 ) -> Result<Vec<Report<J>>, AllocError>
     requires room { All HasRoom jobs.items }
     ensures len { IfOk result (λ reports. vec_len reports ≡ vec_len jobs) }
-    ensures each { IfOk result (λ reports. (i : ℕ) (job : _) (d : _) → i < vec_len jobs → Did J.opening (G.may_hold gate.now) (slice_index_or jobs.items i job).client (slice_index_or jobs.items i job).acts.items (slice_index_or reports.items i d)) }
+    ensures each { IfOk result (λ reports. (i : ℕ) (job : _) (d : _) → i < vec_len jobs → Did J.opening (G.says gate.now) (slice_index_or jobs.items i job).client (slice_index_or jobs.items i job).acts.items (slice_index_or reports.items i d)) }
 {
     thread::map_vec(
         rt,
         jobs,
         &|job: Job<J>| -> Report<J>
             requires { HasRoom job }
-            ensures { Did J.opening (G.may_hold gate.entry.now) job.client job.acts.items result }
+            ensures { Did J.opening (G.says gate.entry.now) job.client job.acts.items result }
         { work(rt, alloc, board, gate, job) },
     )
 }

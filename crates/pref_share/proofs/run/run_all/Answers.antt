@@ -1,4 +1,4 @@
-use Rattle.std.proofs.Common.{◌≡◌, ℕ, List, Err, IfErr, ⊎_elim, ap, arith, inl, inr, length, rules, subst, sym}
+use Rattle.std.proofs.Common.{◌≡◌, ℕ, Bool, List, Err, IfErr, ⊎_elim, ap, arith, inl, inr, length, rules, subst, sym}
 use Rattle.pref_core.specs.declared.fault.CoreFault.TheVariants.{OutOfMemory}
 use Rattle.pref_share.specs.declared.fault.ShareFault.{ShareFault}
 use Rattle.pref_share.specs.declared.fault.ShareFault.TheVariants.{Core}
@@ -11,7 +11,7 @@ use Rattle.pref_share.proofs.run.run_all.Goals as goal
 
 pub returns-clause-joint : goal.returns-clause-joint
 returns-clause-joint g c =
-    joint g.J.Naming.opening (g.G.Gate.may_hold c.args.gate.now) c.args.clients.items c.args.acts.items c.in_ok-reports.reports.items c.in_ok-replies.replies.items c.in_ok-reports.ensures c.in_ok-replies.ensures.done c.in_ok-replies.ensures.all
+    joint g.J.Naming.opening (g.G.Gate.says c.args.gate.now) c.args.clients.items c.args.acts.items c.in_ok-reports.reports.items c.in_ok-replies.replies.items c.in_ok-reports.ensures c.in_ok-replies.ensures.done c.in_ok-replies.ensures.all
 
 pub returns-clause-sequential : goal.returns-clause-sequential
 returns-clause-sequential g c =
@@ -23,8 +23,8 @@ returns-clause-sequential g c =
 pub returns-in_err-replies-clause-refused : goal.returns-in_err-replies-clause-refused
 returns-in_err-replies-clause-refused g c =
     let o = g.J.Naming.opening in
-    let may_hold : ℕ → ℕ → Type 0 = g.G.Gate.may_hold c.args.gate.now in
-    let Refused : ShareFault → Type 0 = RefusesRun g.row.J.Denot o may_hold c.args.clients.items c.args.acts.items in
+    let says : ℕ → ℕ → Bool → Type 0 = g.G.Gate.says c.args.gate.now in
+    let Refused : ShareFault → Type 0 = RefusesRun g.row.J.Denot o says c.args.clients.items c.args.acts.items in
     let fault = c.in_err-replies.field-0.0 in
     let refused : Refused fault = ⊎_elim (λ (first : IsFirstStopped c.in_ok-reports.reports.items fault). inr (c.in_ok-reports.reports.items, c.in_ok-reports.ensures, first)) (λ (memory : fault ≡ Core OutOfMemory). inl memory) c.in_err-replies.ensures.first in
     let is : c.from_residual-in_err-replies.result ≡ Err fault = search rules in
