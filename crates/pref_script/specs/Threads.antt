@@ -1,5 +1,5 @@
 -- The output of a script whose clients run on threads. (this project)
-use Rattle.std.specs.Prelude.{ℕ, suc, ◌≡◌, ◌+◌, ◌&&◌, ◌⊎◌, List, [], ◌∷◌, length, Bool, nat_le, nat_lt, if◌then◌else◌, Some, Result, Ok, Err, slice_get}
+use Rattle.std.specs.Prelude.{ℕ, suc, ◌≡◌, ◌+◌, ◌&&◌, ◌⊎◌, List, [], ◌∷◌, length, Bool, true, nat_le, nat_lt, if◌then◌else◌, Some, Result, Ok, Err, slice_get}
 use Rattle.std.specs.Global.{Vec}
 use Rattle.std.specs.declared.marker.Brand.{Brand}
 use Rattle.pref_core.specs.Limits.{Limits}
@@ -63,29 +63,29 @@ pub record TellsJointRun (limits : Limits) (script : Script) (text : List ℕ) :
   pub told : text ≡ threads_text limits script replies
 
 -- why the acts have no replies: the board was not opened, or the run of its clients is refused
-abbrev pub ClosesOrStops : (J : Type 0) → Opening → (ℕ → ℕ → Type 0) → List (Vec Act) → ShareFault → Type 0
-ClosesOrStops J o may_hold acts why = (why ≡ share.Closed) ⊎ RefusesRun J o may_hold (newcomers o.limits.clients) acts why
+abbrev pub ClosesOrStops : (J : Type 0) → Opening → (ℕ → ℕ → Bool → Type 0) → List (Vec Act) → ShareFault → Type 0
+ClosesOrStops J o says acts why = (why ≡ share.Closed) ⊎ RefusesRun J o says (newcomers o.limits.clients) acts why
 
 -- the same of a board that is named by `Brand`, for another reason than out of memory
-abbrev pub StopsClients : Opening → (ℕ → ℕ → Type 0) → List (Vec Act) → ShareFault → Type 0
-StopsClients o may_hold acts (share.Core why) = ⊥
-StopsClients o may_hold acts why = ClosesOrStops Brand o may_hold acts why
+abbrev pub StopsClients : Opening → (ℕ → ℕ → Bool → Type 0) → List (Vec Act) → ShareFault → Type 0
+StopsClients o says acts (share.Core why) = ⊥
+StopsClients o says acts why = ClosesOrStops Brand o says acts why
 
--- The clients of a script were stopped, behind a gate that says this of each turn at which it holds a client.
-pub record WereStopped (limits : Limits) (may_hold : ℕ → ℕ → Type 0) (script : Script) (why : ShareFault) : Type 0 where
+-- The clients of a script were stopped, behind a gate that says this of each turn with its answer.
+pub record WereStopped (limits : Limits) (says : ℕ → ℕ → Bool → Type 0) (script : Script) (why : ShareFault) : Type 0 where
   pub acts : List (Vec Act)
   pub of_script : AreActs limits.clients (accepted_events script.commands) acts
-  pub stops : StopsClients (opening_of limits script) may_hold acts why
+  pub stops : StopsClients (opening_of limits script) says acts why
 
 -- what an input gives whose clients run on threads behind such a gate: the text of a joint run, a fault, or why they were stopped
-abbrev pub TellsOnThreads : Limits → (ℕ → ℕ → Type 0) → List ℕ → Result (List ℕ) RunFault → Type 0
-TellsOnThreads limits may_hold bytes (Ok text) = (script : Script) × (script_of limits bytes ≡ Ok script) × TellsJointRun limits script text
-TellsOnThreads limits may_hold bytes (Err (fault.Threads why)) = (script : Script) × (script_of limits bytes ≡ Ok script) × WereStopped limits may_hold script why
-TellsOnThreads limits may_hold bytes (Err why) = ScriptFault why (script_of limits bytes)
+abbrev pub TellsOnThreads : Limits → (ℕ → ℕ → Bool → Type 0) → List ℕ → Result (List ℕ) RunFault → Type 0
+TellsOnThreads limits says bytes (Ok text) = (script : Script) × (script_of limits bytes ≡ Ok script) × TellsJointRun limits script text
+TellsOnThreads limits says bytes (Err (fault.Threads why)) = (script : Script) × (script_of limits bytes ≡ Ok script) × WereStopped limits says script why
+TellsOnThreads limits says bytes (Err why) = ScriptFault why (script_of limits bytes)
 
 -- what a gate says that is always open
-abbrev pub always_open : ℕ → ℕ → Type 0
-always_open client turn = ⊥
+abbrev pub always_open : ℕ → ℕ → Bool → Type 0
+always_open client turn answer = answer ≡ true
 
 -- no client was held
 abbrev pub HoldsNobody : RunFault → Type 0

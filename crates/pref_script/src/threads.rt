@@ -30,7 +30,9 @@ use std::thread::Threads;
 pub struct OpenGate;
 
 impl Gate for OpenGate {
-    ghost may_hold = { λ gate client turn. ⊥ };
+    ghost use Rattle.std.specs.Prelude.{◌≡◌, true};
+
+    ghost says = { λ gate client turn answer. answer ≡ true };
 
     fn before(&self, _client: u8, _turn: usize) -> bool {
         true
@@ -56,7 +58,7 @@ fn joint_replies<J: Naming + Send + Sync, R: Threads + Wait + Sync, G: Gate + Sy
     ensures sequential { IfOk result (λ replies. IsSequential (record { limits = setup; rows = rows.now }) acts.items replies.items) }
     ensures room { IfOk result (λ replies. setup.capacity < length rows.now → ⊥) }
     ensures stops { IfErr result (λ why. (setup.capacity < length rows.now) × (why ≡ ShareFault.Core (core.Full (length rows.now)))
-        ⊎ (setup.capacity < length rows.now → ⊥) × ClosesOrStops J (record { limits = setup; rows = rows.now }) (G.may_hold gate.now) acts.items why) }
+        ⊎ (setup.capacity < length rows.now → ⊥) × ClosesOrStops J (record { limits = setup; rows = rows.now }) (G.says gate.now) acts.items why) }
 {
     let (board, clients) = open_board::<J, R>(rt, alloc, name, setup, rows)?;
     let replies = run_all(rt, alloc, &board, clients, acts, gate);
@@ -82,7 +84,7 @@ pub fn run_threads<R: Threads + Wait + Sync, G: Gate + Sync>(
     setup: Setup,
     gate: &G,
 ) -> Result<String, RunFault>
-    ensures { TellsOnThreads setup (G.may_hold gate.now) bytes.now (in_bytes result) }
+    ensures { TellsOnThreads setup (G.says gate.now) bytes.now (in_bytes result) }
 {
     let Script {
         schema,

@@ -1,5 +1,5 @@
 //! Scripts whose clients run on threads.
-ghost use Rattle.std.specs.Prelude.{◌≡◌};
+ghost use Rattle.std.specs.Prelude.{◌≡◌, false};
 
 use crate::runs::{Full, Narrow, Run, defaults, ended, in_steps, roomy};
 use crate::same::assert_same;
@@ -25,7 +25,7 @@ struct HoldsUntil {
 }
 
 impl Gate for HoldsUntil {
-    ghost may_hold = { λ gate client turn. client ≡ gate.held };
+    ghost says = { λ gate client turn answer. answer ≡ false → client ≡ gate.held };
 
     fn before(&self, client: u8, _turn: usize) -> bool {
         if client != self.held {
@@ -55,7 +55,7 @@ struct StopsAt {
 }
 
 impl Gate for StopsAt {
-    ghost may_hold = { λ gate client turn. (client ≡ gate.client) × (turn ≡ gate.turn) };
+    ghost says = { λ gate client turn answer. answer ≡ false → (client ≡ gate.client) × (turn ≡ gate.turn) };
 
     fn before(&self, client: u8, turn: usize) -> bool {
         client != self.client || turn != self.turn

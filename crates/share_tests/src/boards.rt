@@ -28,7 +28,9 @@ pub fn first_two<'a, J: Naming>(
 pub struct Open;
 
 impl Gate for Open {
-    ghost may_hold = { λ gate client turn. ⊥ };
+    ghost use Rattle.std.specs.Prelude.{◌≡◌, true};
+
+    ghost says = { λ gate client turn answer. answer ≡ true };
 
     fn before(&self, _client: u8, _turn: usize) -> bool {
         true

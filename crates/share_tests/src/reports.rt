@@ -23,9 +23,9 @@ struct HoldsAt {
 }
 
 impl Gate for HoldsAt {
-    ghost use Rattle.std.specs.Prelude.{◌≡◌};
+    ghost use Rattle.std.specs.Prelude.{◌≡◌, false};
 
-    ghost may_hold = { λ gate client turn. (client ≡ gate.held) × (turn ≡ gate.at) };
+    ghost says = { λ gate client turn answer. answer ≡ false → (client ≡ gate.held) × (turn ≡ gate.at) };
 
     fn before(&self, client: u8, turn: usize) -> bool {
         client != self.held || turn != self.at

@@ -37,9 +37,9 @@ struct Holds {
 }
 
 impl Gate for Holds {
-    ghost use Rattle.std.specs.Prelude.{◌≡◌};
+    ghost use Rattle.std.specs.Prelude.{◌≡◌, false};
 
-    ghost may_hold = { λ gate client turn. client ≡ gate.held };
+    ghost says = { λ gate client turn answer. answer ≡ false → client ≡ gate.held };
 
     fn before(&self, client: u8, _turn: usize) -> bool {
         client != self.held || is_reached(&self.answered, 1)
@@ -64,9 +64,9 @@ fn held_until(held: u8, until: u8) -> Holds {
 struct HoldsTwo;
 
 impl Gate for HoldsTwo {
-    ghost use Rattle.std.specs.Prelude.{◌≡◌, ◌⊎◌};
+    ghost use Rattle.std.specs.Prelude.{◌≡◌, ◌⊎◌, false};
 
-    ghost may_hold = { λ gate client turn. (client ≡ 3) × (turn ≡ 2) ⊎ (client ≡ 5) × (turn ≡ 0) };
+    ghost says = { λ gate client turn answer. answer ≡ false → (client ≡ 3) × (turn ≡ 2) ⊎ (client ≡ 5) × (turn ≡ 0) };
 
     fn before(&self, client: u8, turn: usize) -> bool {
         !(client == 3 && turn == 2 || client == 5 && turn == 0)
@@ -84,9 +84,9 @@ struct HoldsScans {
 }
 
 impl Gate for HoldsScans {
-    ghost use Rattle.std.specs.Prelude.{◌≡◌, ◌⊎◌};
+    ghost use Rattle.std.specs.Prelude.{◌≡◌, ◌⊎◌, false};
 
-    ghost may_hold = { λ gate client turn. (client ≡ 1) ⊎ (turn ≡ 0) };
+    ghost says = { λ gate client turn answer. answer ≡ false → (client ≡ 1) ⊎ (turn ≡ 0) };
 
     fn before(&self, client: u8, turn: usize) -> bool {
         if client != 1 {
