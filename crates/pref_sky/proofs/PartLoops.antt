@@ -1,14 +1,13 @@
 -- Loops over parts: entries are dealt out, and those of all parts are gathered.
-use Rattle.std.proofs.Common.{◌≡◌, ℕ, zero, suc, ◌≤◌, ◌<◌, ◌+◌, false, inl, inr, List, [], ◌∷◌, ◌++◌, length, take, drop, get_or, set, Vec, Global, refl, sym, ◌∙◌, ap, subst, arith, add-one, append_assoc, filter, eq-eqb}
+use Rattle.std.proofs.Common.{◌≡◌, ℕ, zero, suc, ◌≤◌, ◌<◌, ◌+◌, false, inl, inr, List, [], ◌∷◌, ◌++◌, length, take, drop, get_or, set, Vec, Global, refl, sym, ◌∙◌, ap, subst, arith, append_assoc, filter, eq-eqb}
 use Rattle.std.proofs.lemmas.Bool.{eqb-true, false_from_ne_true}
 use Rattle.std.proofs.lemmas.List.{drop_more}
 use Rattle.pref_sky.specs.declared.entry.Entry.{Entry}
 use Rattle.pref_sky.specs.declared.level.Level.{Level}
 use Rattle.pref_sky.specs.declared.part.Part.{Part}
-use Rattle.pref_sky.specs.Partials.{held_at, ranked_from}
-use Rattle.pref_sky.specs.Parts.{all_at, coming_of, is_in, ranked_upto}
+use Rattle.pref_sky.specs.Partials.{held_at}
+use Rattle.pref_sky.specs.Parts.{all_at, coming_of, is_in}
 use Rattle.pref_sky.proofs.Listings.{same_or_not, listed_at, listed_set_here, listed_set_other}
-use Rattle.pref_sky.proofs.RankedLevels.{one_level, ranked_push}
 use Rattle.pref_sky.proofs.Staying.{leaves, stays}
 
 -- one entry more is dealt out

@@ -1,9 +1,9 @@
 -- The entries of the levels up to a cut, where it is known how many levels are above each.
-use Rattle.std.proofs.Common.{◌≡◌, ℕ, zero, suc, ◌≤◌, ◌<◌, ◌+◌, ◌-◌, Bool, true, false, cond, not, ◌&&◌, inl, inr, List, [], ◌∷◌, ◌++◌, length, get_or, map, refl, sym, ◌∙◌, ap, subst, arith, filter, ltb, ◌==◌}
+use Rattle.std.proofs.Common.{◌≡◌, ℕ, zero, suc, ◌≤◌, ◌<◌, ◌-◌, Bool, true, false, cond, not, ◌&&◌, inl, inr, List, [], ◌∷◌, length, get_or, map, refl, sym, ◌∙◌, ap, subst, arith, filter, ltb, ◌==◌}
 use Rattle.std.specs.Prelude.{All}
 use Rattle.std.specs.List.{count_by}
 use Rattle.std.specs.List.Sorted.{IsPermutation}
-use Rattle.std.proofs.lemmas.Bool.{and_parts, and_from, both_ways, cases_Bool, ltb-false, ltb-true, not-true, not_from_false, false_from_ne_true}
+use Rattle.std.proofs.lemmas.Bool.{and_parts, both_ways, cases_Bool, ltb-false, ltb-true, not-true, false_from_ne_true}
 use Rattle.std.proofs.lemmas.List.Elements.{filter_passes}
 use Rattle.std.proofs.lemmas.List.Sorted.{sum_by-IsPermutation}
 use Rattle.std.proofs.lemmas.List.Sums.{sum_by-cons}
@@ -13,12 +13,12 @@ use Rattle.pref_sky.specs.Best.{best, is_beaten, rest}
 use Rattle.pref_sky.specs.Items.{entry_at}
 use Rattle.pref_sky.specs.Layers.{AreLevels, HasAbove}
 use Rattle.pref_sky.specs.Levels.{HaveDifferentIds, entry_of, levels}
-use Rattle.pref_sky.specs.Sorted.{AreLowest, is_below}
+use Rattle.pref_sky.specs.Sorted.{AreLowest}
 use Rattle.pref_sky.specs.Stairs.{IsInOrder}
 use Rattle.pref_sky.specs.Starts.{chosen}
 use Rattle.pref_sky.proofs.Members.{Among, any_from, from_filter}
 use Rattle.pref_sky.proofs.Removals.{comes_after, comes_after_upto, best_of_rest_is, rest_is}
-use Rattle.pref_sky.proofs.Orders.{SameMembers, same_if_permuted}
+use Rattle.pref_sky.proofs.Orders.{same_if_permuted}
 use Rattle.pref_sky.proofs.LevelLaws.{count_and}
 use Rattle.pref_sky.proofs.Merges.{HoldsLevels, is_at, same_best}
 use Rattle.pref_sky.proofs.SortedLevels.{count_levels, some_differ, some_levels}

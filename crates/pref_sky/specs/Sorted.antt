@@ -1,6 +1,6 @@
 -- No public contract cites this.
 -- Entries of two chains, kept in the order of these: their levels are found only when they are asked for. (this project)
-use Rattle.std.specs.Prelude.{⊤, ◌≡◌, ◌≤◌, ◌<◌, ◌-◌, ◌⊎◌, ◌++◌, ℕ, Bool, true, List, [], ◌∷◌, All, count_by, length, slice_index_or}
+use Rattle.std.specs.Prelude.{◌≡◌, ◌≤◌, ◌<◌, ◌-◌, ◌⊎◌, ℕ, Bool, true, List, [], ◌∷◌, All, count_by, length}
 use Rattle.std.specs.Coded.{Coded-set, Unit-prop, coded_bool, ×_prop, Π_prop, →_prop}
 use Rattle.pref_sky.specs.declared.chain_order.ChainOrder.{ChainOrder}
 use Rattle.pref_sky.specs.declared.entry.Entry.{Entry}

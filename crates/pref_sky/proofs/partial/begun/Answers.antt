@@ -1,4 +1,4 @@
-use Rattle.std.proofs.Common.{◌≡◌, ◌++◌, List, Bool, map, sym, ◌∙◌, ap, subst}
+use Rattle.std.proofs.Common.{◌++◌, map, sym, ◌∙◌, ap, subst}
 use Rattle.std.specs.Prelude.{IfSome}
 use Rattle.pref_term.specs.Chains.{IsProductOf}
 use Rattle.pref_sky.specs.declared.chain_order.ChainOrder.{ChainOrder}

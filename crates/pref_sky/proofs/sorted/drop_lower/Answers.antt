@@ -1,4 +1,4 @@
-use Rattle.std.proofs.Common.{◌≡◌, ◌++◌, ◌+◌, ◌<◌, ◌≤◌, ℕ, suc, [], ◌∷◌, List, Bool, true, false, cond, ltb, length, get_or, set, take, drop, filter, Vec, Global, sym, ◌∙◌, ap, subst, arith, add-one, append-nil}
+use Rattle.std.proofs.Common.{◌≡◌, ◌++◌, ◌+◌, ◌<◌, ℕ, [], ◌∷◌, List, Bool, true, false, cond, ltb, length, get_or, set, take, drop, filter, Vec, Global, sym, ◌∙◌, ap, arith, add-one, append-nil}
 use Rattle.std.proofs.lemmas.Bool.{le-ltb, lt-ltb}
 use Rattle.std.proofs.lemmas.List.{drop-drop, drop-set-lt, get_or_default, length-set, take_more_set}
 use Rattle.std.proofs.lemmas.List.Elements.{filter_more}

@@ -1,4 +1,4 @@
-use Rattle.std.proofs.Common.{◌≡◌, ◌≤◌, nat_lt, drop, filter, length, take, vec_len}
+use Rattle.std.proofs.Common.{◌≡◌, ◌≤◌, nat_lt, drop, filter, length, take}
 use Rattle.pref_sky.specs.Starts.{chosen}
 use Rattle.pref_sky.proofs.sorted.drop_lower.Given as goal
 

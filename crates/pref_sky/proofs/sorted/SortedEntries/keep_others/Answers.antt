@@ -1,4 +1,4 @@
-use Rattle.std.proofs.Common.{◌≡◌, ◌++◌, ◌+◌, ◌<◌, ◌⊎◌, inl, inr, ℕ, Bool, true, false, [], ◌∷◌, List, cond, length, map, take, get_or, Vec, Global, Result, sym, ◌∙◌, ap, subst, arith, append_assoc, refl}
+use Rattle.std.proofs.Common.{◌≡◌, ◌++◌, ◌+◌, inl, inr, ℕ, true, [], ◌∷◌, List, map, take, Vec, Global, sym, ◌∙◌, ap, subst, append_assoc}
 use Rattle.std.specs.Prelude.{is_ok}
 use Rattle.std.proofs.lemmas.Bool.{cases_Bool, cond-true, cond-false}
 use Rattle.std.proofs.lemmas.List.{take_more}

@@ -1,7 +1,6 @@
-use Rattle.std.proofs.Common.{◌≡◌, ◌++◌, ◌<◌, List, ℕ, length, map, ltb, filter, sym, ◌∙◌, ap, subst, not}
+use Rattle.std.proofs.Common.{◌≡◌, ◌++◌, ◌<◌, ltb, sym, ◌∙◌, ap, subst, not}
 use Rattle.std.specs.Prelude.{All}
 use Rattle.std.specs.List.Sorted.{IsPermutation}
-use Rattle.pref_sky.specs.declared.entry.Entry.{Entry}
 use Rattle.pref_sky.specs.ChainOrders.{AreInOrder, comes_before, own_order}
 use Rattle.pref_sky.specs.Layers.{AreLevels}
 use Rattle.pref_sky.specs.Levels.{HaveDifferentIds, levels}

@@ -2,7 +2,6 @@ use Rattle.std.proofs.Common.{◌≡◌, ◌++◌, [], sym, ◌∙◌, ap, subst
 use Rattle.pref_sky.specs.ChainOrders.{AreInOrder, own_order}
 use Rattle.pref_sky.specs.Levels.{HaveDifferentIds, entry_of, levels}
 use Rattle.pref_sky.proofs.LevelLaws.{levels_of_none}
-use Rattle.pref_sky.proofs.SortedLevels.{upper_differ}
 use Rattle.pref_sky.proofs.sorted.SortedEntries.new.Goals as goal
 
 pub invariant_of-result : goal.invariant_of-result

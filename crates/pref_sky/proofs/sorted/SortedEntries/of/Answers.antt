@@ -1,5 +1,4 @@
-use Rattle.std.proofs.Common.{◌≡◌, ◌++◌, List, map, sym, ◌∙◌, ap, subst, append_assoc}
-use Rattle.pref_sky.specs.declared.entry.Entry.{Entry}
+use Rattle.std.proofs.Common.{◌≡◌, ◌++◌, map, sym, ◌∙◌, ap, subst, append_assoc}
 use Rattle.pref_sky.specs.ChainOrders.{own_order}
 use Rattle.pref_sky.specs.Levels.{HaveDifferentIds, entry_of, levels}
 use Rattle.pref_sky.proofs.LevelLaws.{first_differ, held_differ}

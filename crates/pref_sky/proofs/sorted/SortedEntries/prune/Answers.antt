@@ -1,4 +1,4 @@
-use Rattle.std.proofs.Common.{◌≡◌, ◌++◌, ◌-◌, ◌<◌, [], get_or, length, map, sym, ◌∙◌, ap, subst, append-nil}
+use Rattle.std.proofs.Common.{◌≡◌, ◌++◌, ◌-◌, ◌<◌, get_or, length, map, sym, ◌∙◌, ap, subst, append-nil}
 use Rattle.std.specs.Prelude.{All}
 use Rattle.pref_sky.specs.ChainOrders.{own_order}
 use Rattle.pref_sky.specs.Levels.{HaveDifferentIds, entry_of, levels}
