@@ -200,6 +200,15 @@ fn a_product_behind_a_chain(rt: HostRuntime) -> Result<(), Fail> {
 }
 
 #[test]
+fn a_product_before_a_chain(rt: HostRuntime) -> Result<(), Fail> {
+    check_shapes(
+        &rt,
+        rt.alloc(),
+        b"best (between(x, 5, 9) * between(y, 12, 20)) & high(x)",
+    )
+}
+
+#[test]
 fn a_product_within_groups(rt: HostRuntime) -> Result<(), Fail> {
     check_shapes(&rt, rt.alloc(), b"best low(x) * around(x, 7) by y")
 }
