@@ -34,7 +34,7 @@ LOCKED = {
         ("let query = &asking.query;", "let query = &asking.query; let taken = board.master.lock(rt);"),
         ("let Some((now, block)) = found else {", "drop(taken); let Some((now, block)) = found else {"),
     ],
-    "pref_share/src/run/acts.rt": [
+    "pref_share/src/client/acts.rt": [
         ("client.scan(alloc)", "client.scan(rt, alloc, board)"),
         ("client.get(id)", "client.get(rt, board, id)"),
         ("client.room()", "client.room(rt, board)"),

@@ -15,8 +15,8 @@ use Rattle.pref_share.specs.Openings.{Opening, IsLegalFrom, HasCall}
 use Rattle.pref_share.specs.Standing.{Standing}
 use Rattle.pref_share.specs.Clients.{Sees, IsInUse, asks_for_memory, RefusesCall, RefusesChange, RefusesFinish}
 use Rattle.pref_share.specs.Scanning.{RefusesScan, RefusesGet}
-use Rattle.pref_share.specs.Runs.{call_of}
-use Rattle.pref_share.specs.Performing.{Performs, reply_or_stop}
+use Rattle.pref_share.specs.Runs.{Performs, call_of}
+use Rattle.pref_share.specs.Performing.{reply_or_stop}
 use Rattle.pref_share.proofs.Acting.{sees_same, refused_by_itself, refused_change, not_done, got_none, no_query, all_scanned}
 
 -- a call that asks for memory is an act that may

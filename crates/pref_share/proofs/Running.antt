@@ -9,8 +9,7 @@ use Rattle.pref_share.specs.declared.fault.ShareFault.{ShareFault}
 use Rattle.pref_share.specs.declared.fault.ShareFault.TheVariants.{Core, ClientInUse, Held, Closed}
 use Rattle.pref_share.specs.Openings.{Opening}
 use Rattle.pref_share.specs.Standing.{Standing}
-use Rattle.pref_share.specs.Performing.{nobody}
-use Rattle.pref_share.specs.Runs.{StepsTo, Runs, none, then, RunsTo, StopsAt}
+use Rattle.pref_share.specs.Runs.{StepsTo, Runs, none, then, RunsTo, StopsAt, nobody}
 use Rattle.pref_share.specs.Reports.{WasLetIn}
 
 pub runs_none : (o : Opening) (s : Standing) (replies : List Reply) → replies ≡ [] → RunsTo o s [] replies s

@@ -1,9 +1,8 @@
 -- No public contract cites this.
 -- What the parts of a run do.
-use Rattle.std.specs.Prelude.{◌≡◌, ℕ, List, [], ◌∷◌, Some, Result, Ok, Err, MatchResult}
+use Rattle.std.specs.Prelude.{◌≡◌, List, Some, Result, Ok, Err}
 use mathlib.Core.List.{IsPrefix}
 use Rattle.pref_core.specs.declared.call.Op.{Op}
-use Rattle.pref_core.specs.declared.event.Act.{Act}
 use Rattle.pref_core.specs.declared.event.Reply.{Reply}
 use Rattle.pref_core.specs.declared.event.Reply.TheVariants.{Refused}
 use Rattle.pref_core.specs.declared.fault.CoreFault.{CoreFault}
@@ -12,16 +11,6 @@ use Rattle.pref_share.specs.declared.fault.ShareFault.{ShareFault}
 use Rattle.pref_share.specs.declared.fault.ShareFault.TheVariants.{Core}
 use Rattle.pref_share.specs.Openings.{Opening, calls_at}
 use Rattle.pref_share.specs.Standing.{Standing}
-use Rattle.pref_share.specs.Clients.{Sees}
-use Rattle.pref_share.specs.Runs.{StepsTo, StopsAt}
-
--- where there is no gate
-abbrev pub nobody : ℕ → Type 0
-nobody client = ⊥
-
--- an act, done, or why it stops the client
-abbrev pub Performs : Opening → Standing → Act → Result Reply ShareFault → Standing → Type 0
-Performs o old act result new = MatchResult result (λ reply. StepsTo o old act reply new) (λ fault. Sees o old new × StopsAt nobody new (act ∷ []) fault)
 
 -- the reply that a refusal of the table is; any other stops the client
 abbrev pub reply_or_stop_core : CoreFault → Result Reply ShareFault

@@ -1,5 +1,5 @@
 -- Acts of clients on threads, and when they with their replies are one run of the sequential table. (this project)
-use Rattle.std.specs.Prelude.{◌≡◌, ℕ, suc, ◌<◌, true, List, [], ◌∷◌, ◌++◌, length, slice_get, Option, Some, None, ◌⊎◌}
+use Rattle.std.specs.Prelude.{◌≡◌, ℕ, suc, ◌<◌, true, List, [], ◌∷◌, ◌++◌, length, slice_get, Option, Some, None, Result, MatchResult, ◌⊎◌}
 use Rattle.std.specs.Option.{option_map}
 use Rattle.std.specs.Global.{Vec}
 use mathlib.Core.List.{IsPrefix}
@@ -17,6 +17,7 @@ use Rattle.pref_share.specs.declared.fault.ShareFault.{ShareFault}
 use Rattle.pref_share.specs.declared.fault.ShareFault.TheVariants.{Core, ClientInUse, Held, Closed}
 use Rattle.pref_share.specs.Openings.{Opening, IsLegalFrom, HasCall, state_at, calls_at}
 use Rattle.pref_share.specs.Standing.{Asking, Standing}
+use Rattle.pref_share.specs.Clients.{Sees}
 
 -- the open query of a client, as its own acts give it: the table at its begin is that of the history that it began at
 abbrev pub open_of : Opening → Asking → Open
@@ -118,3 +119,11 @@ StopsAt held s rest (Core fault) = (fault ≡ OutOfMemory) × WantsMemoryNext re
 StopsAt held s rest (ClientInUse number) = (number ≡ suc s.counter) × HasCall s.seen s.number number
 StopsAt held s rest (Held client) = (client ≡ s.number) × (0 < length rest) × held client
 StopsAt held s rest Closed = ReadsNext rest
+
+-- where there is no gate
+abbrev pub nobody : ℕ → Type 0
+nobody client = ⊥
+
+-- an act, done, or why it stops the client
+abbrev pub Performs : Opening → Standing → Act → Result Reply ShareFault → Standing → Type 0
+Performs o old act result new = MatchResult result (λ reply. StepsTo o old act reply new) (λ fault. Sees o old new × StopsAt nobody new (act ∷ []) fault)

@@ -1,5 +1,6 @@
 //! A client, which may go to a thread of its own, and the words by which clients pass on what they have seen.
 
+mod acts;
 mod calls;
 mod reads;
 

@@ -1,7 +1,5 @@
 //! Act lists of clients, each on a thread of its own.
 
-mod acts;
-
 ghost use Rattle.std.specs.Prelude.{◌≡◌, ◌⊎◌, ◌<◌, ℕ, All, None, map, length, vec_len, slice_index_or, IfOk, IfErr};
 ghost use Rattle.pref_core.specs.declared.fault.CoreFault.TheVariants.{OutOfMemory};
 ghost use Rattle.pref_share.specs.Openings.{IsLegalFrom};
@@ -17,7 +15,6 @@ use crate::client::Client;
 use crate::fault::ShareFault;
 use crate::history::Prefix;
 use crate::master::Master;
-use acts::perform;
 use pref_core::{Act, CoreFault, Reply};
 use std::alloc::{AllocError, Global};
 use std::sync::Wait;
@@ -177,7 +174,7 @@ fn work<J: Naming, R: Wait, G: Gate>(
                 stopped,
             };
         }
-        match perform(rt, alloc, board, &mut client, act) {
+        match client.act(rt, alloc, board, act) {
             Ok(reply) => replies.push_reserved(reply),
             Err(fault) => {
                 return Report {

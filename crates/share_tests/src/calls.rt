@@ -5,50 +5,14 @@ ghost use Rattle.std.specs.Prelude.{◌≡◌};
 use crate::acts::{Does, act_of, refused_text, replies_text, reply_text, row_of, rows, setup};
 use crate::boards::{begin_low, first_two};
 use crate::same::assert_same;
-use pref_core::{Act, Event, RankedList, Reply, Setup, replay};
-use pref_share::{Board, Client, Name, Naming, ShareFault, open_board};
+use pref_core::{Event, Setup, replay};
+use pref_share::{Board, Client, Name, Naming, open_board};
 use pref_table::Row;
 use std::alloc::Global;
 use std::marker::Brand;
 use std::process::Abort;
 use std::sync::Wait;
 use std::test::Fail;
-
-/// One call of a client, and its reply.
-fn reply_to<J: Naming, R: Wait>(
-    rt: &R,
-    alloc: Global,
-    board: &Board<J>,
-    client: &mut Client<J>,
-    act: Act,
-) -> Result<Reply, ShareFault> {
-    Ok(match act {
-        Act::Insert(row) => Reply::Inserted(client.insert(rt, alloc, board, row)?),
-        Act::Update(id, row) => {
-            client.update(rt, alloc, board, id, row)?;
-            Reply::Updated(id)
-        }
-        Act::Delete(id) => {
-            client.delete(rt, alloc, board, id)?;
-            Reply::Deleted(id)
-        }
-        Act::Commit(commit) => {
-            Reply::Committed(client.commit(rt, alloc, board, *commit.commit())?)
-        }
-        Act::Begin(ask) => match client.begin(rt, alloc, board, ask) {
-            Ok(blocks) => Reply::Begun(blocks),
-            Err(refusal) => return Err(refusal.fault),
-        },
-        Act::Scan => Reply::Left(client.scan(alloc)?),
-        Act::Finish => Reply::Answer(RankedList::of(client.finish(rt, alloc, board)?)),
-        Act::Abandon => {
-            client.abandon(rt, alloc, board)?;
-            Reply::Abandoned
-        }
-        Act::Get(id) => Reply::Found(id, client.get(id)?),
-        Act::Room => Reply::Room(client.room()?),
-    })
-}
 
 /// Adds the reply to one call of a client to a text.
 fn push_told<J: Naming, R: Wait>(
@@ -59,7 +23,7 @@ fn push_told<J: Naming, R: Wait>(
     does: Does,
     text: &mut String,
 ) -> Result<(), Fail> {
-    let reply = match reply_to(rt, alloc, board, client, act_of(alloc, does)?) {
+    let reply = match client.act(rt, alloc, board, act_of(alloc, does)?) {
         Ok(reply) => reply_text(alloc, &reply),
         Err(fault) => refused_text(alloc, &fault),
     };

@@ -2,8 +2,7 @@ use Rattle.std.proofs.Common.{◌≡◌, ◌++◌, ◌∷◌, ◌∙◌, [], Boo
 use Rattle.std.proofs.lemmas.List.{append_assoc, length-append}
 use Rattle.std.specs.Vec.Iter.{into_iter_items}
 use Rattle.pref_share.specs.Clients.{Sees}
-use Rattle.pref_share.specs.Performing.{nobody}
-use Rattle.pref_share.specs.Runs.{StopsAt}
+use Rattle.pref_share.specs.Runs.{StopsAt, nobody}
 use Rattle.pref_share.proofs.Acting.{sees_same}
 use Rattle.pref_share.proofs.Running.{none_left, runs_none, runs_more, length_told, same_number, let_in_more, stops_before, was_let_in}
 use Rattle.pref_share.proofs.run.work.Goals as goal
@@ -49,8 +48,8 @@ returns-in-Err g c =
     let o = g.J.Naming.opening in
     let says : ℕ → ℕ → Bool → Type 0 = g.G.Gate.says c.args.gate.now in
     let turn : c.len-turn.result ≡ length c.loop-act.yielded = c.len-turn.ensures ∙ c.loop-act.replies.ok.0 ∙ length_told o _ _ _ _ c.loop-act.invariant.0 in
-    let stopped : Sees o c.loop-act.client c.perform.new.client × StopsAt nobody c.perform.new.client (c.in-Some.act ∷ []) c.in-Err.fault = c.in-Err.ensures in
-    let number : c.number-number.result ≡ c.perform.new.client.number = c.number-number.ensures.value ∙ sym (same_number o _ _ _ _ c.loop-act.invariant.0) ∙ sym stopped.0.same in
+    let stopped : Sees o c.loop-act.client c.act.new.self × StopsAt nobody c.act.new.self (c.in-Some.act ∷ []) c.in-Err.fault = c.in-Err.ensures in
+    let number : c.number-number.result ≡ c.act.new.self.number = c.number-number.ensures.value ∙ sym (same_number o _ _ _ _ c.loop-act.invariant.0) ∙ sym stopped.0.same in
     record {
       done = c.loop-act.yielded;
       rest = c.in-Some.act ∷ into_iter_items c.next.new.self;
@@ -60,8 +59,8 @@ returns-in-Err g c =
       since = stopped.0;
       let_in = c.loop-act.invariant.4;
       ends = (
-        stops_before (λ client. says client (length c.loop-act.yielded) false) c.perform.new.client c.in-Some.act (into_iter_items c.next.new.self) c.in-Err.fault stopped.1,
-        was_let_in (says c.perform.new.client.number (length c.loop-act.yielded)) _ c.in-Err.fault (rw (number, turn) at c.if-not-before.ensures),
+        stops_before (λ client. says client (length c.loop-act.yielded) false) c.act.new.self c.in-Some.act (into_iter_items c.next.new.self) c.in-Err.fault stopped.1,
+        was_let_in (says c.act.new.self.number (length c.loop-act.yielded)) _ c.in-Err.fault (rw (number, turn) at c.if-not-before.ensures),
       );
     }
 

@@ -1,8 +1,8 @@
 //! One act of a client, by its calls, and the reply to it. What the table refuses is a reply.
 
 ghost use Rattle.std.specs.Prelude.{◌≡◌, IfOk, IfErr};
-ghost use Rattle.pref_share.specs.Performing.{Performs, reply_or_stop};
-ghost use Rattle.pref_share.specs.Runs.{StepsTo};
+ghost use Rattle.pref_share.specs.Performing.{reply_or_stop};
+ghost use Rattle.pref_share.specs.Runs.{Performs, StepsTo};
 
 use crate::board::Board;
 use crate::book::Naming;
@@ -12,19 +12,33 @@ use pref_core::{Act, CoreFault, RankedList, Reply};
 use std::alloc::Global;
 use std::sync::Wait;
 
-/// One act of a client.
-pub(crate) fn perform<J: Naming, R: Wait>(
-    rt: &R,
-    alloc: Global,
-    board: &Board<J>,
-    client: &mut Client<J>,
-    act: Act,
-) -> Result<Reply, ShareFault>
-    ensures { Performs J.opening client.old act result client.new }
-{
-    match answer(rt, alloc, board, client, act) {
-        Ok(reply) => Ok(reply),
-        Err(fault) => refused(fault),
+impl<J: Naming> Client<J> {
+    /// Does an act by the call that it is, and gives the reply to it: that of the sequential table, whose refusals are replies. Waits for
+    /// the board, unless the act is a scan, a get or a room.
+    ///
+    /// Refused `OutOfMemory`, which only an act that asks for memory is, `Closed`, which only a scan, a get or a room is, and `ClientInUse`.
+    /// The client's counter and its query are as they were then.
+    ///
+    /// ```text
+    /// match client.act(rt, alloc, &board, Act::Get(3))? {
+    ///     Reply::Found(id, row) => println!(rt; "{id}: {}", row.cell(0))?,
+    ///     Reply::Refused(fault) => println!(rt; "{fault}")?,
+    ///     _ => unreachable!(),
+    /// }
+    /// ```
+    pub fn act<R: Wait>(
+        &mut self,
+        rt: &R,
+        alloc: Global,
+        board: &Board<J>,
+        act: Act,
+    ) -> Result<Reply, ShareFault>
+        ensures { Performs J.opening self.old act result self.new }
+    {
+        match answer(rt, alloc, board, self, act) {
+            Ok(reply) => Ok(reply),
+            Err(fault) => refused(fault),
+        }
     }
 }
 

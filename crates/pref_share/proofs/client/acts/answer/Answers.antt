@@ -3,7 +3,7 @@ use Rattle.pref_core.specs.declared.call.Call.TheVariants.{Insert as CallInsert,
 use Rattle.pref_core.specs.declared.event.Act.TheVariants.{Insert, Update, Delete, Commit, Begin, Abandon}
 use Rattle.pref_share.proofs.Acting.{inserted, updated, deleted, commits, begun, scanned_step, finished, abandoned, got, has_room}
 use Rattle.pref_share.proofs.Refusing.{change_refused, quiet_refused, finish_refused, scan_refused, get_refused, room_refused, passed_on}
-use Rattle.pref_share.proofs.run.acts.answer.Goals as goal
+use Rattle.pref_share.proofs.client.acts.answer.Goals as goal
 
 pub returns-in_ok-insert-in-Insert-clause-answered : goal.returns-in_ok-insert-in-Insert-clause-answered
 returns-in_ok-insert-in-Insert-clause-answered g c = rw (c.in-Insert.is) (inserted g.J.Naming.opening c.args.client.now _ c.in-Insert.row _ c.in_ok-insert-in-Insert.ensures.inserted)
