@@ -69,6 +69,13 @@ fn at_least_five_of_nine_rows(rt: HostRuntime) -> Result<(), Fail> {
         b"at_least 5 low(x) * low(y)",
         &PAIRS,
         &places,
+    )?;
+    check_answer(
+        &rt,
+        rt.alloc(),
+        b"at_least 5 low(x) * low(y) * low(x)",
+        &PAIRS,
+        &places,
     )
 }
 
@@ -91,6 +98,14 @@ fn top_two_levels_of_nine_rows(rt: HostRuntime) -> Result<(), Fail> {
         &rt,
         rt.alloc(),
         b"top_level 2 low(x) * low(y)",
+        &PAIRS,
+        &places,
+    )?;
+    // A product of three is held level by level.
+    check_answer(
+        &rt,
+        rt.alloc(),
+        b"top_level 2 low(x) * low(y) * low(x)",
         &PAIRS,
         &places,
     )

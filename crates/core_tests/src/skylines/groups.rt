@@ -89,6 +89,9 @@ fn a_second_order_compares_all_that_is_held(rt: HostRuntime) -> Result<(), Fail>
     let by_y = b"best low(x) by y";
     let ties = [(5, 1), (5, 2), (5, 3), (4, 9), (5, 4), (6, 1)];
     check_orders(&rt, alloc, by_y, b"best low(x)", &ties, &[(1, 4)])?;
+    // A product of three is held in parts by its groups.
+    let three_by_y = b"best low(x) * low(x) * low(x) by y";
+    check_orders(&rt, alloc, three_by_y, b"best low(x)", &ties, &[(1, 4)])?;
     let first_five = [(1, 1), (1, 2), (1, 3), (1, 4), (1, 5)];
     check_orders(&rt, alloc, b"best low(x)", by_y, &ties, &first_five)?;
     let rows = [(5, 1), (6, 2), (7, 3), (5, 0), (6, 9), (8, 8)];
