@@ -96,5 +96,7 @@ fn a_second_order_compares_all_that_is_held(rt: HostRuntime) -> Result<(), Fail>
     check_orders(&rt, alloc, b"best low(x)", by_y, &ties, &first_five)?;
     let rows = [(5, 1), (6, 2), (7, 3), (5, 0), (6, 9), (8, 8)];
     let places = [(1, 2), (1, 3), (1, 4), (1, 6)];
-    check_orders(&rt, alloc, by_y, b"best low(y) by x", &rows, &places)
+    check_orders(&rt, alloc, by_y, b"best low(y) by x", &rows, &places)?;
+    let three_by_x = b"best low(y) * low(y) * low(y) by x";
+    check_orders(&rt, alloc, three_by_y, three_by_x, &rows, &places)
 }
