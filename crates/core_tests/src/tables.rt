@@ -79,7 +79,7 @@ fn pairs_of(alloc: Global, text: &[u8]) -> Result<Vec<(i64, i64)>, TableFault> {
     Ok(pairs)
 }
 
-const TABLES: [(&str, &[(i64, i64)]); 12] = [
+const TABLES: [(&str, &[(i64, i64)]); 13] = [
     ("a,b\n1,2\n-3,+4\n", &[(1, 2), (-3, 4)]),
     ("a,b\n1,2\n\"3\",4\n5,6", &[(1, 2), (3, 4), (5, 6)]),
     ("a,b\n1,2\n3,4\r\n5,6\r\n", &[(1, 2), (3, 4), (5, 6)]),
@@ -95,6 +95,10 @@ const TABLES: [(&str, &[(i64, i64)]); 12] = [
     ),
     ("\u{FEFF}a,b\n1,2\n", &[(1, 2)]),
     ("a,b\n", &[]),
+    (
+        "\"a\",b,c,d,e,f,g,h,i,j,k,l,m,n,o,p\n1,2,3,4,5,6,7,8,9,10,11,12,13,14,15,\"16\"\n",
+        &[(1, 2)],
+    ),
 ];
 
 /// Rows of plain digits are read another way than the rows behind the first other line.
@@ -167,6 +171,36 @@ const REFUSED: [(&str, TableFault); 17] = [
 #[test]
 fn refused_texts(rt: HostRuntime) {
     check_refused(&rt, rt.alloc(), &REFUSED);
+}
+
+/// Texts of which a record has one field more than a table has columns, unless commas are inside quotes.
+const WIDE: [(&str, TableFault); 9] = [
+    ("\"a\",,,,,,,,,,,,,,,,", TableFault::TooManyColumns),
+    ("\n\r\n\"a\",,,,,,,,,,,,,,,,\n1", TableFault::TooManyColumns),
+    (
+        "\",,,,,,,,,,,,,,,,\"\"\"\n1",
+        TableFault::BadName { col: 1 },
+    ),
+    ("a\n,,,,,,,,,,,,,,,,\n", TableFault::Width { row: 1 }),
+    (
+        "a\n1\n\"2\"\r\"3\",,,,,,,,,,,,,,,,",
+        TableFault::Width { row: 3 },
+    ),
+    ("a\n\"1\n\",,,,,,,,,,,,,,,,\n", TableFault::Width { row: 1 }),
+    (
+        "a\nx\n,,,,,,,,,,,,,,,,",
+        TableFault::NotWhole { row: 1, col: 1 },
+    ),
+    (
+        "a\n\"1,,,,,,,,,,,,,,,,\"",
+        TableFault::NotWhole { row: 1, col: 1 },
+    ),
+    ("a\n1\"2,,,,,,,,,,,,,,,,\"", TableFault::Width { row: 1 }),
+];
+
+#[test]
+fn records_of_too_many_fields(rt: HostRuntime) {
+    check_refused(&rt, rt.alloc(), &WIDE);
 }
 
 /// Adds a line to a text this many times.

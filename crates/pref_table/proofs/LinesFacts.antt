@@ -127,10 +127,10 @@ records-enough (suc n) (suc m) s xs between a b = by (next_record default_config
         let after = next-facts xs s [] [] p e in
         records-some n s xs p e ∙ ap (λ (t : List (List (List ℕ))). p.0 ∷ t) (more p.1 p.2 after.0 (omega arith) (omega arith)) ∙ sym (records-some m s xs p e)
 
-records-of : (n : ℕ) (xs : List ℕ) → length xs < n → records_from default_config n st.StartRecord xs ≡ records default_config xs
+pub records-of : (n : ℕ) (xs : List ℕ) → length xs < n → records_from default_config n st.StartRecord xs ≡ records default_config xs
 records-of n xs enough = records-enough n (length xs + 1) st.StartRecord xs refl enough (omega arith)
 
-records-first : (xs : List ℕ) (fields : List (List ℕ)) (ended : State) (left : List ℕ) (rest : List (List (List ℕ)))
+pub records-first : (xs : List ℕ) (fields : List (List ℕ)) (ended : State) (left : List ℕ) (rest : List (List (List ℕ)))
     → next_record default_config st.StartRecord [] [] xs ≡ Some (fields, ended, left) → ((n : ℕ) → length left < n → records_from default_config n ended left ≡ rest)
     → records default_config xs ≡ fields ∷ rest
 records-first xs fields ended left rest e more =
@@ -145,14 +145,23 @@ records-feed xs =
     let same : records_from default_config (suc (suc (length xs))) st.StartRecord (10 ∷ xs) ≡ records_from default_config (suc (suc (length xs))) st.StartRecord xs = refl in
     sym (records-of (suc (suc (length xs))) (10 ∷ xs) (omega arith)) ∙ same ∙ records-of (suc (suc (length xs))) xs (omega arith)
 
--- and so does one behind a carriage return
-records-after_return : (n : ℕ) (after : List ℕ) → IsLineEnd after → length after < n → records_from default_config n st.AfterCr after ≡ records default_config after
-unfolding next_record records_from
-records-after_return zero after ends enough = absurd (omega arith)
-records-after_return (suc n) after (inl none) enough = rw none refl
-records-after_return (suc n) after (inr (more, feed)) enough =
-    let same : records_from default_config (suc n) st.AfterCr (10 ∷ more) ≡ records_from default_config (suc n) st.StartRecord (10 ∷ more) = refl in
-    rw feed (same ∙ records-of (suc n) (10 ∷ more) (omega (arith, ap length feed)))
+-- behind a carriage return a record begins as at the start of a text
+starts-after_return : (byte : ℕ) → step default_config st.AfterCr byte ≡ step default_config st.StartRecord byte
+starts-after_return byte = by (byte == 10) refl
+  where
+    by : (feed : Bool) → (byte == 10) ≡ feed → step default_config st.AfterCr byte ≡ step default_config st.StartRecord byte
+    by true e = let is : byte ≡ 10 = eqb-true byte 10 e in rw is refl
+    by false e = rw e refl
+
+next-after_return : (xs : List ℕ) → next_record default_config st.AfterCr [] [] xs ≡ next_record default_config st.StartRecord [] [] xs
+unfolding next_record
+next-after_return [] = refl
+next-after_return (byte ∷ rest) = rw (starts-after_return byte) refl
+
+pub records-after_return : (n : ℕ) (after : List ℕ) → length after < n → records_from default_config n st.AfterCr after ≡ records default_config after
+unfolding records_from
+records-after_return zero after enough = absurd (omega arith)
+records-after_return (suc n) after enough = rw (next-after_return after) (records-of (suc n) after enough)
 
 -- a plain line is the first record of a text that begins with it
 records-line : (line after : List ℕ) → IsPlainLine line → IsLineEnd after → records default_config (line ++ after) ≡ slice_split is_comma line ∷ records default_config after
@@ -165,7 +174,7 @@ records-line line after plain (inr (left, feed)) =
 records-return : (line after : List ℕ) → IsPlainLine line → IsLineEnd after → records default_config (line ++ 13 ∷ after) ≡ slice_split is_comma line ∷ records default_config after
 records-return line after plain ends =
     records-first (line ++ 13 ∷ after) (slice_split is_comma line) st.AfterCr after (records default_config after)
-    (reads-record line (13 ∷ after) st.AfterCr after plain (ends-return after)) (λ n h. records-after_return n after ends h)
+    (reads-record line (13 ∷ after) st.AfterCr after plain (ends-return after)) (λ n h. records-after_return n after h)
 
 records-alone : (line : List ℕ) → IsPlainLine line → records default_config line ≡ slice_split is_comma line ∷ []
 unfolding next_record records_from

@@ -5,6 +5,7 @@ mod fault;
 mod line;
 mod lines;
 mod number;
+mod records;
 mod row;
 mod schema;
 mod table;

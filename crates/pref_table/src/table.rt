@@ -4,7 +4,7 @@ ghost use Rattle.csv.specs.Records.{fields_of};
 ghost use Rattle.pref_table.specs.Lines.{IsLineEnd, IsPlainLine, header_names, rows_with};
 ghost use Rattle.pref_table.specs.Names.{schema_of};
 ghost use Rattle.pref_table.specs.Number.{without_blanks};
-ghost use Rattle.pref_table.specs.Records.{HasLeft, ReadsFirst};
+ghost use Rattle.pref_table.specs.Records.{HasLeft, ReadsFirst, ReadsNext};
 ghost use Rattle.pref_table.specs.Rows.{row_of};
 ghost use Rattle.pref_table.specs.Tables.{Gives, table_of, table_of_records, without_marks};
 ghost use Rattle.csv.specs.Reading.{default_config, error_kind, records, stops_reader, strip_bom};
@@ -12,6 +12,7 @@ ghost use Rattle.csv.specs.Reading.{default_config, error_kind, records, stops_r
 use crate::fault::TableFault;
 use crate::lines::{cut_header, plain_rows};
 use crate::number::trim_blanks;
+use crate::records::{Next, next_in};
 use crate::row::{Row, cell_at};
 use crate::schema::{MAX_COLUMNS, Schema};
 use csv::{ByteRecord, Reader, ReaderBuilder};
@@ -51,15 +52,23 @@ fn read_next(reader: &mut Reader<&[u8]>, row: &mut ByteRecord) -> Result<bool, c
     Ok(found)
 }
 
-/// The same, of a text in memory, where only memory can fail.
-fn next_record(reader: &mut Reader<&[u8]>, row: &mut ByteRecord) -> Result<bool, TableFault>
-    ensures found { IfOk result (λ found. ReadsFirst reader.old reader.new found (fields_of row.new)) }
+/// Reads the next record of a text in memory, where it has no more fields than a table has columns. Only memory can fail.
+fn next_record<'text>(
+    reader: &mut Reader<&[u8]>,
+    row: &mut ByteRecord,
+    text: &'text [u8],
+) -> Result<Next<'text>, TableFault>
+    requires { HasLeft reader.old (records default_config text.now) }
+    ensures next { IfOk result (λ next. ReadsNext reader.new text.now (fields_of row.new) next) }
     ensures memory { IfErr result (λ fault. fault ≡ TableFault.OutOfMemory) }
 {
-    let Ok(found) = read_next(reader, row) else {
-        return Err(TableFault::OutOfMemory);
-    };
-    Ok(found)
+    let next = next_in(text);
+    if let Next::Narrow(_) = next {
+        let Ok(_found) = read_next(reader, row) else {
+            return Err(TableFault::OutOfMemory);
+        };
+    }
+    Ok(next)
 }
 
 fn field_of(row: &ByteRecord, col: usize) -> &[u8]
@@ -72,13 +81,10 @@ fn field_of(row: &ByteRecord, col: usize) -> &[u8]
     field
 }
 
-/// The schema of a header. A header may be all commas for megabytes, so its names are counted before they are listed.
+/// The schema of a header.
 fn read_schema(alloc: Global, header: &ByteRecord) -> Result<Schema, TableFault>
     ensures { Gives (λ schema. schema) result (schema_of (map without_blanks (fields_of header.now))) }
 {
-    if header.len() > MAX_COLUMNS {
-        return Err(TableFault::TooManyColumns);
-    }
     let mut names: Vec<&[u8]> = Vec::new(alloc);
     for col in 0..header.len() {
         names.push(trim_blanks(field_of(header, col)))?;
@@ -100,42 +106,53 @@ fn record_row(schema: &Schema, row: u64, cells_text: &ByteRecord) -> Result<Row,
     Ok(Row::of_cells(cells))
 }
 
-/// Reads the names in the first record.
-fn read_header(
+/// Reads the names in the first record of a text, and gives what follows it.
+fn read_header<'text>(
     alloc: Global,
     reader: &mut Reader<&[u8]>,
     record: &mut ByteRecord,
-) -> Result<Schema, TableFault>
-    ensures names { (left : List (List (List ℕ))) → HasLeft reader.old left → Gives (λ schema. schema) result (header_names left) }
-    ensures rest { IfOk result (λ _. (left : List (List (List ℕ))) → HasLeft reader.old left → HasLeft reader.new (drop 1 left)) }
+    text: &'text [u8],
+) -> Result<(Schema, &'text [u8]), TableFault>
+    requires { HasLeft reader.old (records default_config text.now) }
+    ensures names { Gives (λ read. read.0) result (header_names (records default_config text.now)) }
+    ensures rest { IfOk result (λ read. records default_config read.1.now ≡ drop 1 (records default_config text.now)) }
+    ensures left { IfOk result (λ read. HasLeft reader.new (records default_config read.1.now)) }
 {
-    if !next_record(reader, record)? {
-        return Err(TableFault::NoColumns);
+    match next_record(reader, record, text)? {
+        Next::Nothing => Err(TableFault::NoColumns),
+        Next::Wide => Err(TableFault::TooManyColumns),
+        Next::Narrow(rows) => Ok((read_schema(alloc, record)?, rows)),
     }
-    read_schema(alloc, record)
 }
 
-/// Reads the rows behind those that are read already, up to the end of the text.
+/// Reads the rows of a text behind those that are read already, up to its end.
 fn read_rows(
     schema: &Schema,
     mut rows: Vec<Row>,
     reader: &mut Reader<&[u8]>,
     record: &mut ByteRecord,
+    text: &[u8],
 ) -> Result<Vec<Row>, TableFault>
-    requires { length rows.items ≤ 65536 }
-    ensures { (left : List (List (List ℕ))) → HasLeft reader.old left
-        → Gives (λ rows. rows.items) result (rows_with (length schema.now) rows.items left) }
+    requires few { length rows.items ≤ 65536 }
+    requires left { HasLeft reader.old (records default_config text.now) }
+    ensures { Gives (λ rows. rows.items) result (rows_with (length schema.now) rows.items (records default_config text.now)) }
 {
+    let _width = schema.width();
+    let mut left = text;
     for row in rows.len() as u64 + 1..MAX_ROWS + 1 {
-        if !next_record(reader, record)? {
-            return Ok(rows);
+        match next_record(reader, record, left)? {
+            Next::Nothing => return Ok(rows),
+            Next::Wide => return Err(TableFault::Width { row }),
+            Next::Narrow(more) => {
+                rows.push(record_row(schema, row, record)?)?;
+                left = more;
+            }
         }
-        rows.push(record_row(schema, row, record)?)?;
     }
-    if next_record(reader, record)? {
-        return Err(TableFault::TooManyRows);
+    match next_in(left) {
+        Next::Nothing => Ok(rows),
+        _ => Err(TableFault::TooManyRows),
     }
-    Ok(rows)
 }
 
 /// The table of a header and the lines under it. The first lines are read without csv, as far as they are rows of plain digits.
@@ -146,13 +163,19 @@ fn read_lines(alloc: Global, header: &[u8], lines: &[u8]) -> Result<(Schema, Vec
     ensures { Gives (λ table. (table.0, table.1.items)) result (table_of_records (records default_config (header.now ++ lines.now))) }
 {
     let mut record = ByteRecord::new(alloc);
-    let schema = read_header(alloc, &mut reader_of(alloc, header), &mut record)?;
+    let (schema, _) = read_header(alloc, &mut reader_of(alloc, header), &mut record, header)?;
     let (rows, left) = plain_rows(alloc, schema.width(), lines)?;
     if left.len() <= 1 {
         // At most a line feed is left, and no record.
         return Ok((schema, rows));
     }
-    let rows = read_rows(&schema, rows, &mut reader_of(alloc, left), &mut record)?;
+    let rows = read_rows(
+        &schema,
+        rows,
+        &mut reader_of(alloc, left),
+        &mut record,
+        left,
+    )?;
     Ok((schema, rows))
 }
 
@@ -163,8 +186,8 @@ fn read_records(alloc: Global, text: &[u8]) -> Result<(Schema, Vec<Row>), TableF
 {
     let mut reader = reader_of(alloc, text);
     let mut record = ByteRecord::new(alloc);
-    let schema = read_header(alloc, &mut reader, &mut record)?;
-    let rows = read_rows(&schema, Vec::new(alloc), &mut reader, &mut record)?;
+    let (schema, lines) = read_header(alloc, &mut reader, &mut record, text)?;
+    let rows = read_rows(&schema, Vec::new(alloc), &mut reader, &mut record, lines)?;
     Ok((schema, rows))
 }
 

@@ -1,12 +1,10 @@
-use Rattle.std.proofs.Common.{refl}
+use Rattle.std.proofs.Common.{arith, map}
+use Rattle.std.proofs.lemmas.List.{length-map}
+use Rattle.pref_table.specs.Number.{without_blanks}
+use Rattle.pref_table.proofs.NamesFacts.{schema_of-many}
 use Rattle.pref_table.proofs.table.read_header.Goals as goal
 
-pub returns-then-not-branch-clause-names : goal.returns-then-not-branch-clause-names
-returns-then-not-branch-clause-names c = λ left h.
-    let none = rw c.if-not-branch.true at (c.in_ok-next_record.ensures.found left h) in
-    rw none refl
-
-pub returns-clause-names : goal.returns-clause-names
-returns-clause-names c = λ left h.
-    let (rest, some, after) = rw c.if-not-branch.false at (c.in_ok-next_record.ensures.found left h) in
-    rw some c.read_schema.ensures
+pub returns-in-Wide-clause-names : goal.returns-in-Wide-clause-names
+returns-in-Wide-clause-names c =
+    let (fields, more, some, many) = rw c.in-Wide.is at c.in_ok-next_record.ensures.next in
+    rw some (schema_of-many (map without_blanks fields) (omega (arith, many, length-map fields without_blanks)))

@@ -10,7 +10,7 @@ returns-in_err-schema c =
     let header = c.args.header.now in
     let fault = c.in_err-schema.field-0.0 in
     let p = err_from_is_err_and c.from_residual.result c.from_residual.ensures.1 in
-    rw (p.1, p.2) (fails-on fault _ _ (c.in_err-schema.ensures.names (records default_config header) c.reader_of.ensures)
+    rw (p.1, p.2) (fails-on fault _ _ (c.in_err-schema.ensures.names)
     (table-no_names header c.args.lines.now c.requires.plain c.requires.ends fault))
 
 pub returns-then-left-le1 : goal.returns-then-left-le1
@@ -19,7 +19,7 @@ returns-then-left-le1 c =
     let schema = c.in_ok-schema.schema in
     let left = c.in_ok-rows.left.now in
     let rows = c.in_ok-rows.rows.items in
-    let names = c.in_ok-schema.ensures.names (records default_config header) c.reader_of.ensures in
+    let names = c.in_ok-schema.ensures.names in
     let plain = rw c.width.ensures.value at c.in_ok-rows.ensures.rows in
     table-lines header c.args.lines.now c.requires.plain c.requires.ends schema (Ok rows) names
     (plain ∙ rows_with-none (length schema) rows (records default_config left) (records-none_left left c.in_ok-rows.ensures.left (omega arith)))
@@ -32,17 +32,17 @@ returns-in_err-rows-2 c =
     let header = c.args.header.now in
     let schema = c.in_ok-schema.schema in
     let fault = c.in_err-rows-2.field-0.0 in
-    let names = c.in_ok-schema.ensures.names (records default_config header) c.reader_of.ensures in
+    let names = c.in_ok-schema.ensures.names in
     let plain = rw c.width.ensures.value at c.in_ok-rows.ensures.rows in
     let p = err_from_is_err_and c.from_residual-in_err-rows-2.result c.from_residual-in_err-rows-2.ensures.1 in
-    rw (p.1, p.2) (fails-on fault _ _ (c.in_err-rows-2.ensures (records default_config c.in_ok-rows.left.now) c.reader_of-2.ensures)
+    rw (p.1, p.2) (fails-on fault _ _ c.in_err-rows-2.ensures
     (λ e. table-lines header c.args.lines.now c.requires.plain c.requires.ends schema (Err fault) names (plain ∙ e)))
 
 pub returns : goal.returns
 returns c =
     let header = c.args.header.now in
     let schema = c.in_ok-schema.schema in
-    let names = c.in_ok-schema.ensures.names (records default_config header) c.reader_of.ensures in
+    let names = c.in_ok-schema.ensures.names in
     let plain = rw c.width.ensures.value at c.in_ok-rows.ensures.rows in
     table-lines header c.args.lines.now c.requires.plain c.requires.ends schema (Ok c.in_ok-rows-2.rows.items) names
-    (plain ∙ c.in_ok-rows-2.ensures (records default_config c.in_ok-rows.left.now) c.reader_of-2.ensures)
+    (plain ∙ c.in_ok-rows-2.ensures)

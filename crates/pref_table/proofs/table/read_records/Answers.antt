@@ -9,20 +9,17 @@ returns-in_err-schema c =
     let left = records default_config c.args.text.now in
     let fault = c.in_err-schema.field-0.0 in
     let p = err_from_is_err_and c.from_residual.result c.from_residual.ensures.1 in
-    rw (p.1, p.2) (fails-on fault _ _ (c.in_err-schema.ensures.names left c.reader_of-reader.ensures) (table-names left fault))
+    rw (p.1, p.2) (fails-on fault _ _ c.in_err-schema.ensures.names (table-names left fault))
 
 pub returns-in_err-rows : goal.returns-in_err-rows
 returns-in_err-rows c =
     let left = records default_config c.args.text.now in
     let fault = c.in_err-rows.field-0.0 in
-    let names = c.in_ok-schema.ensures.names left c.reader_of-reader.ensures in
-    let rest = c.in_ok-schema.ensures.rest left c.reader_of-reader.ensures in
+    let schema = c.in_ok-schema.schema in
     let p = err_from_is_err_and c.from_residual-in_err-rows.result c.from_residual-in_err-rows.ensures.1 in
-    rw (p.1, p.2) (fails-on fault _ _ (rw c.new.ensures.items at (c.in_err-rows.ensures _ rest)) (table-rows left c.in_ok-schema.schema (Err fault) names))
+    rw (p.1, p.2) (fails-on fault _ _ (rw (c.new.ensures.items, c.in_ok-schema.ensures.rest) at c.in_err-rows.ensures) (table-rows left schema (Err fault) c.in_ok-schema.ensures.names))
 
 pub returns : goal.returns
 returns c =
     let left = records default_config c.args.text.now in
-    let names = c.in_ok-schema.ensures.names left c.reader_of-reader.ensures in
-    let rest = c.in_ok-schema.ensures.rest left c.reader_of-reader.ensures in
-    table-rows left c.in_ok-schema.schema (Ok c.in_ok-rows.rows.items) names (rw c.new.ensures.items at (c.in_ok-rows.ensures _ rest))
+    table-rows left c.in_ok-schema.schema (Ok c.in_ok-rows.rows.items) c.in_ok-schema.ensures.names (rw (c.new.ensures.items, c.in_ok-schema.ensures.rest) at c.in_ok-rows.ensures)
