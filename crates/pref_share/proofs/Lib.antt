@@ -16,3 +16,4 @@ pub mod Parts
 pub mod Reaching
 pub mod Interleavings
 pub mod Reporting
+pub mod Pairs

@@ -1,19 +1,21 @@
 -- Runs of acts, one act longer, and what stands at a place of two lists.
-use Rattle.std.proofs.Common.{◌≡◌, ℕ, zero, suc, ◌<◌, Bool, true, List, [], ◌∷◌, ◌++◌, ◌+◌, length, map, Some, slice_get, refl, sym, ap, ◌∙◌, subst, arith, inr, ⊎_elim}
+use Rattle.std.proofs.Common.{◌≡◌, ℕ, zero, suc, ◌<◌, Bool, true, false, List, [], ◌∷◌, ◌++◌, ◌+◌, ◌^◌, length, map, get_or, Some, None, Result, Ok, slice_get, refl, sym, ap, ◌∙◌, subst, arith, inr, ⊎_elim}
 use Rattle.std.proofs.lemmas.Bool.{cases_eq}
-use Rattle.std.proofs.lemmas.List.{length-append}
-use Rattle.std.proofs.lemmas.Option.{slice_get_within}
+use Rattle.std.proofs.lemmas.List.{append_assoc, get_or-map, length-append}
+use Rattle.std.proofs.lemmas.Option.{get_or_from_slice_get, slice_get_within}
+use Rattle.std.specs.Global.{Vec}
+use Rattle.std.specs.List.{All}
+use Rattle.std.specs.Prelude.{IfOk}
 use Rattle.pref_core.specs.declared.event.Act.{Act}
 use Rattle.pref_core.specs.declared.event.Reply.{Reply}
 use Rattle.pref_share.specs.declared.fault.ShareFault.{ShareFault}
 use Rattle.pref_share.specs.declared.fault.ShareFault.TheVariants.{Core, ClientInUse, Held, Closed}
-use Rattle.pref_share.specs.Openings.{Opening}
+use Rattle.pref_share.specs.Clients.{Sees}
+use Rattle.pref_share.specs.Openings.{IsLegalFrom, Opening}
 use Rattle.pref_share.specs.Standing.{Standing}
 use Rattle.pref_share.specs.Runs.{StepsTo, Runs, none, then, RunsTo, StopsAt, nobody}
-use Rattle.pref_share.specs.Reports.{WasLetIn}
-
-pub runs_none : (o : Opening) (s : Standing) (replies : List Reply) → replies ≡ [] → RunsTo o s [] replies s
-runs_none o s replies e = subst (λ (l : List Reply). RunsTo o s [] l s) (sym e) (record { stands = []; runs = none })
+use Rattle.pref_share.specs.Reports.{DidActs, WasLetIn}
+use Rattle.pref_share.proofs.Acting.{sees_same}
 
 pub runs_more : (o : Opening) (s t u : Standing) (acts : List Act) (replies longer : List Reply) (act : Act) (reply : Reply) → RunsTo o s acts replies t → StepsTo o t act reply u → longer ≡ replies ++ reply ∷ [] → RunsTo o s (acts ++ act ∷ []) longer u
 runs_more o s t u acts replies longer act reply run step grown =
@@ -53,9 +55,84 @@ was_let_in said rest (ClientInUse number) h = inr h
 was_let_in said rest (Held client) h = tt
 was_let_in said rest Closed h = inr h
 
-pub none_left : {A : Type 0} (xs : List A) → length xs ≡ 0 → xs ≡ []
-none_left [] e = refl
-none_left (x ∷ xs) e = absurd (omega arith)
+-- Where a client stands in its task, at the turn of the next act: it has done the first of the acts, and the task took the replies.
+pub record Goes {T : Type 0} (o : Opening) (says : ℕ → ℕ → Bool → Type 0) (left : T → List Act) (took : T → List Reply → Type 0) (s : Standing) (acts : List Act) (client : Standing) (task : T) (turn : ℕ) : Type 0 where
+  pub done : List Act
+  pub replies : List Reply
+  pub runs : RunsTo o s done replies client
+  pub in_order : acts ≡ done ++ left task
+  pub legal : IsLegalFrom o client.seen
+  pub taken : took task replies
+  pub turns : turn ≡ length done
+  pub let_in : (turn : ℕ) → turn < length done → says s.number turn true
+
+module _ {T : Type 0} (o : Opening) (says : ℕ → ℕ → Bool → Type 0) (left : T → List Act) (took : T → List Reply → Type 0) (s : Standing) (acts : List Act) where
+  abbrev Now : Standing → T → ℕ → Type 0
+  Now client task turn = Goes o says left took s acts client task turn
+
+  pub goes_first : (task : T) → acts ≡ left task → took task [] → IsLegalFrom o s.seen → Now s task 0
+  goes_first task same fresh legal = record {
+    done = [];
+    replies = [];
+    runs = record { stands = []; runs = none };
+    in_order = same;
+    legal = legal;
+    taken = fresh;
+    turns = refl;
+    let_in = λ turn lt. absurd (omega arith);
+  }
+
+  -- the next act came, and was answered
+  pub goes_more : (client next : Standing) (old came taken : T) (turn : ℕ) (act : Act) (reply : Reply) → Now client old turn → left old ≡ act ∷ left came → ((replies : List Reply) → took old replies → took came replies) → says s.number turn true
+      → StepsTo o client act reply next → left taken ≡ left came → ((replies : List Reply) → took came replies → took taken (replies ++ reply ∷ [])) → Now next taken (turn + 1)
+  goes_more client next old came taken turn act reply now comes kept said step same takes = record {
+    done = now.done ++ act ∷ [];
+    replies = now.replies ++ reply ∷ [];
+    runs = runs_more o s client next now.done now.replies (now.replies ++ reply ∷ []) act reply now.runs step refl;
+    in_order = now.in_order ∙ ap (λ rest. now.done ++ rest) (comes ∙ ap (λ rest. act ∷ rest) (sym same)) ∙ sym (append_assoc now.done (act ∷ []) (left taken));
+    legal = step.legal;
+    taken = takes now.replies (kept now.replies now.taken);
+    turns = ap (λ n. n + 1) now.turns ∙ sym (length-append now.done (act ∷ []));
+    let_in = let_in_more (says s.number) now.done act now.let_in (subst (λ n. says s.number n true) now.turns said);
+  }
+
+  -- it was held before the next act
+  pub goes_held : (client : Standing) (old came : T) (turn : ℕ) (act : Act) → Now client old turn → left old ≡ act ∷ left came → ((replies : List Reply) → took old replies → took came replies) → says s.number turn false
+      → (replies : List Reply) × took came replies × DidActs o says s acts client replies (Some (Held s.number))
+  goes_held client old came turn act now comes kept said = (
+    now.replies,
+    kept now.replies now.taken,
+    record {
+      done = now.done;
+      rest = act ∷ left came;
+      in_order = now.in_order ∙ ap (λ rest. now.done ++ rest) comes;
+      last = client;
+      runs = now.runs;
+      since = sees_same o client client now.legal refl;
+      let_in = now.let_in;
+      ends = ((sym (same_number o s client now.done now.replies now.runs), omega arith, subst (λ n. says s.number n false) now.turns said), tt);
+    },
+  )
+
+  -- the next act stopped it
+  pub goes_no_further : (client stopped : Standing) (old came : T) (turn : ℕ) (act : Act) (fault : ShareFault) → Now client old turn → left old ≡ act ∷ left came → ((replies : List Reply) → took old replies → took came replies) → says s.number turn true
+      → Sees o client stopped × StopsAt nobody stopped (act ∷ []) fault → (replies : List Reply) × took came replies × DidActs o says s acts stopped replies (Some fault)
+  goes_no_further client stopped old came turn act fault now comes kept said (sees, stops) =
+      let number : s.number ≡ stopped.number = sym (same_number o s client now.done now.replies now.runs) ∙ sym sees.same in
+      let said_here : says stopped.number (length now.done) true = subst (λ n. says n (length now.done) true) number (subst (λ n. says s.number n true) now.turns said) in (
+        now.replies,
+        kept now.replies now.taken,
+        record {
+          done = now.done;
+          rest = act ∷ left came;
+          in_order = now.in_order ∙ ap (λ rest. now.done ++ rest) comes;
+          last = client;
+          runs = now.runs;
+          since = sees;
+          let_in = now.let_in;
+          ends = (stops_before (λ client. says client (length now.done) false) stopped act (left came) fault stops, was_let_in (says stopped.number (length now.done)) (act ∷ left came) fault said_here);
+        },
+      )
 
 pub there : {B : Type 0} (l : List B) (i : ℕ) → i < length l → (b : B) × (slice_get l i ≡ Some b)
 there [] i lt = absurd (omega arith)
@@ -86,3 +163,19 @@ given_at {A} {B} {C} client acts jobs clients lists paired listed i s list at li
     let client_is : client j ≡ s = (let a : slice_get (map client jobs) i ≡ Some (client j) = mapped client jobs i j job.1 in let b : slice_get clients i ≡ Some (client j) = ap (λ (l : List B). slice_get l i) (sym paired) ∙ a in let e : Some (client j) ≡ Some s = sym b ∙ at in cc) in
     let acts_is : acts j ≡ list = (let a : slice_get (map acts jobs) i ≡ Some (acts j) = mapped acts jobs i j job.1 in let b : slice_get lists i ≡ Some (acts j) = ap (λ (l : List C). slice_get l i) (sym listed) ∙ a in let e : Some (acts j) ≡ Some list = sym b ∙ listed_at in cc) in
     (j, job.1, client_is, acts_is)
+
+-- what holds of all images holds so of what has them
+pub all_mapped : {A B : Type 0} (f : A → B) (P : B → Type 0) (xs : List A) (ys : List B) → map f xs ≡ ys → All P ys → All (λ x. P (f x)) xs
+all_mapped f P xs ys same all = λ i d lt. subst P (ap (λ l. get_or l i (f d)) (sym same) ∙ get_or-map f xs i d (f d) lt) (all i (f d) (omega (arith, lt, ap length same, length_map f xs)))
+
+-- what the results at a place say, all of which are there
+pub told_at : {A E : Type 0} (P : A → Type 0) (all : List (Result A E)) (xs : List A) → map Ok xs ≡ all → (i : ℕ) (d : A) → i < length xs → IfOk (get_or all i (Ok d)) P → P (get_or xs i d)
+told_at P all xs same i d lt h = let is = ap (λ l. get_or l i (Ok d)) (sym same) ∙ get_or-map Ok xs i d (Ok d) lt in rw is at h
+
+-- lists that a vector holds are short
+pub few_each : {A : Type 0} (f : A → List Act) (xs : List A) (acts : List (Vec Act)) → map f xs ≡ map (λ list. list.items) acts → All (λ x. length (f x) < 2 ^ 63) xs
+few_each f xs acts same = λ i d lt.
+    let (list, at) = there acts i (omega (arith, lt, ap length same, length_map f xs, length_map (λ (l : Vec Act). l.items) acts)) in
+    let here : get_or (map f xs) i (f d) ≡ list.items = get_or_from_slice_get (map f xs) i list.items (f d) (ap (λ (l : List (List Act)). slice_get l i) same ∙ mapped (λ (l : Vec Act). l.items) acts i list at) in
+    let is : f (get_or xs i d) ≡ list.items = sym (get_or-map f xs i d (f d) lt) ∙ here in
+    omega (arith, ap length is, list.ok.0, list.ok.1, list.small)

@@ -4,14 +4,16 @@ use Rattle.std.specs.Global.{Vec}
 use mathlib.Core.List.{IsPrefix}
 use Rattle.pref_core.specs.declared.call.Op.{Op}
 use Rattle.pref_core.specs.declared.event.Act.{Act}
+use Rattle.pref_core.specs.declared.event.Reply.{Reply}
 use Rattle.pref_core.specs.declared.fault.CoreFault.TheVariants.{OutOfMemory}
 use Rattle.pref_share.specs.declared.fault.ShareFault.{ShareFault}
 use Rattle.pref_share.specs.declared.fault.ShareFault.TheVariants.{Core, Held}
 use Rattle.pref_share.specs.declared.run.Report.{Report}
 use Rattle.pref_share.specs.Openings.{Opening, IsLegalFrom, HasCall, calls_at}
-use Rattle.pref_share.specs.Standing.{Standing}
+use Rattle.pref_share.specs.Standing.{Standing, newcomers}
 use Rattle.pref_share.specs.Clients.{Sees}
-use Rattle.pref_share.specs.Runs.{RunsTo, StopsAt}
+use Rattle.pref_share.specs.Interleavings.{IsSequential}
+use Rattle.pref_share.specs.Runs.{IsJointRun, RunsTo, StopsAt}
 
 -- the gate let the client in to its next act, unless it has none left or is held
 abbrev pub WasLetIn : (Bool → Type 0) → List Act → ShareFault → Type 0
@@ -25,24 +27,30 @@ Ends said s rest (Some fault) = StopsAt (λ client. said client false) s rest fa
 
 -- The client did the first of these acts with these replies, and has seen no less since. The gate let it in to each of them, and was asked
 -- at the turn of the next.
-pub record Did {J : Type 0} (o : Opening) (says : ℕ → ℕ → Bool → Type 0) (s : Standing) (acts : List Act) (report : Report J) : Type 0 where
+pub record DidActs (o : Opening) (says : ℕ → ℕ → Bool → Type 0) (s : Standing) (acts : List Act) (client : Standing) (replies : List Reply) (stopped : Option ShareFault) : Type 0 where
   pub done : List Act
   pub rest : List Act
   pub in_order : acts ≡ done ++ rest
   pub last : Standing
-  pub runs : RunsTo o s done report.replies.items last
-  pub since : Sees o last report.client
+  pub runs : RunsTo o s done replies last
+  pub since : Sees o last client
   pub let_in : (turn : ℕ) → turn < length done → says s.number turn true
-  pub ends : Ends (λ client. says client (length done)) report.client rest report.stopped
+  pub ends : Ends (λ client. says client (length done)) client rest stopped
+
+abbrev pub Did : {J : Type 0} → Opening → (ℕ → ℕ → Bool → Type 0) → Standing → List Act → Report J → Type 0
+Did o says s acts report = DidActs o says s acts report.client report.replies.items report.stopped
 
 -- The client is in use: it stopped, and has seen the whole history, which holds its next call, though it has not made it.
-abbrev pub IsFoundInUse : {J : Type 0} → List Op → Report J → Type 0
-IsFoundInUse history report = (is_some report.stopped ≡ true) × (report.client.seen ≡ history) × HasCall history report.client.number (suc report.client.counter)
+abbrev pub IsFoundInUse : List Op → Standing → Option ShareFault → Type 0
+IsFoundInUse history client stopped = (is_some stopped ≡ true) × (client.seen ≡ history) × HasCall history client.number (suc client.counter)
 
 -- The client has seen a beginning of the history, which holds just the calls that it made, unless it is in use.
-pub record IsWithin {J : Type 0} (o : Opening) (history : List Op) (report : Report J) : Type 0 where
-  pub inside : IsPrefix report.client.seen history
-  pub alone : (calls_at o history report.client.number ≡ Some report.client.counter) ⊎ IsFoundInUse history report
+pub record StandsWithin (o : Opening) (history : List Op) (client : Standing) (stopped : Option ShareFault) : Type 0 where
+  pub inside : IsPrefix client.seen history
+  pub alone : (calls_at o history client.number ≡ Some client.counter) ⊎ IsFoundInUse history client stopped
+
+abbrev pub IsWithin : {J : Type 0} → Opening → List Op → Report J → Type 0
+IsWithin o history report = StandsWithin o history report.client report.stopped
 
 -- What came of the acts of all clients, one list for each: there is one legal history of which all have seen a beginning.
 pub record AreReports {J : Type 0} (o : Opening) (says : ℕ → ℕ → Bool → Type 0) (clients : List Standing) (acts : List (Vec Act)) (reports : List (Report J)) : Type 0 where
@@ -64,3 +72,16 @@ pub record IsFirstStopped {J : Type 0} (reports : List (Report J)) (fault : Shar
 -- Why a run is refused, which gives no reports then: out of memory; or there are right reports, and this is why the first client stopped that did.
 abbrev pub RefusesRun : (J : Type 0) → Opening → (ℕ → ℕ → Bool → Type 0) → List Standing → List (Vec Act) → ShareFault → Type 0
 RefusesRun J o says clients acts fault = (fault ≡ Core OutOfMemory) ⊎ ((reports : List (Report J)) × AreReports o says clients acts reports × IsFirstStopped reports fault)
+
+-- there is a list of replies for each task, which took those
+pub record AreTaken {T : Type 0} (took : T → T → List Reply → Type 0) (tasks done : List T) (replies : List (Vec Reply)) : Type 0 where
+  pub lists : length replies ≡ length tasks
+  pub tasks_done : length done ≡ length tasks
+  pub each : (i : ℕ) (first task : T) → slice_get tasks i ≡ Some first → slice_get done i ≡ Some task → (list : Vec Reply) × (slice_get replies i ≡ Some list) × took first task list.items
+
+-- What tasks took, whose acts these are, is a joint run, and so that of the sequential table for one interleaving.
+pub record RanTasks {T : Type 0} (o : Opening) (took : T → T → List Reply → Type 0) (acts : List (Vec Act)) (tasks done : List T) : Type 0 where
+  pub replies : List (Vec Reply)
+  pub taken : AreTaken took tasks done replies
+  pub joint : IsJointRun o (newcomers o.limits.clients) acts replies
+  pub sequential : IsSequential o acts replies

@@ -18,9 +18,11 @@ pub mod laws;
 mod master;
 mod published;
 mod run;
+mod task;
 
 pub use board::{Board, open_board};
 pub use book::{Name, Naming};
 pub use client::{Client, Word};
 pub use fault::{BeginFault, ShareFault};
-pub use run::{Gate, Report, run_all, run_each};
+pub use run::{Gate, Report, run_all, run_each, run_tasks};
+pub use task::Task;

@@ -1,13 +1,15 @@
 //! Act lists of clients, each on a thread of its own.
 
-ghost use Rattle.std.specs.Prelude.{◌≡◌, ◌⊎◌, ◌<◌, ℕ, All, None, map, length, vec_len, slice_index_or, IfOk, IfErr};
+ghost use Rattle.std.specs.Prelude.{◌≡◌, ◌⊎◌, ◌<◌, ◌^◌, ℕ, All, None, Ok, List, [], map, length, vec_len, slice_index_or, IfOk, IfErr};
+ghost use Rattle.std.specs.Global.{Vec as VecValue};
+ghost use Rattle.pref_core.specs.declared.event.Act.{Act as ActValue};
 ghost use Rattle.pref_core.specs.declared.fault.CoreFault.TheVariants.{OutOfMemory};
 ghost use Rattle.pref_share.specs.Openings.{IsLegalFrom};
 ghost use Rattle.pref_share.specs.Standing.{newcomers};
 ghost use Rattle.pref_share.specs.Runs.{IsJointRun};
 ghost use Rattle.pref_share.specs.Interleavings.{IsSequential};
-ghost use Rattle.pref_share.specs.Reports.{AreReports, Did, IsFirstStopped, RefusesRun};
-ghost use Rattle.pref_share.specs.Settling.{HasRoom, Settles};
+ghost use Rattle.pref_share.specs.Reports.{AreReports, IsFirstStopped, RanTasks, RefusesRun};
+ghost use Rattle.pref_share.specs.Settling.{AreWorked, DidTask, IsFirstOf, Settles, report_of};
 
 use crate::board::Board;
 use crate::book::Naming;
@@ -15,6 +17,7 @@ use crate::client::Client;
 use crate::fault::ShareFault;
 use crate::history::Prefix;
 use crate::master::Master;
+use crate::task::{Listed, Task};
 use pref_core::{Act, CoreFault, Reply};
 use std::alloc::{AllocError, Global};
 use std::sync::Wait;
@@ -50,12 +53,19 @@ pub struct Report<J: Naming> {
     pub stopped: Option<ShareFault>,
 }
 
-/// A client with its acts, and room for a reply to each.
+/// A client with its task.
 #[derive(Drop)]
-struct Job<J: Naming> {
+struct Job<J: Naming, T> {
     client: Client<J>,
-    acts: Vec<Act>,
-    replies: Vec<Reply>,
+    task: T,
+}
+
+/// What came of a client's task: the client, the task as it is then, and why the client stopped, where it did not do all acts.
+#[derive(Drop)]
+struct Worked<J: Naming, T> {
+    client: Client<J>,
+    task: T,
+    stopped: Option<ShareFault>,
 }
 
 /// Runs each client's acts on a thread of its own, in order, with the gate's `before` and `after` round each, and reports what came
@@ -85,9 +95,9 @@ pub fn run_each<J: Naming + Send + Sync, R: Threads + Wait + Sync, G: Gate + Syn
     requires { vec_len acts ≡ vec_len clients }
     ensures { IfOk result (λ reports. AreReports J.opening (G.says gate.now) clients.items acts.items reports.items) }
 {
-    let jobs = paired(alloc, clients, acts)?;
-    let mut reports = work_all(rt, alloc, board, jobs, gate)?;
-    let _whole = settle_all(rt, board, &mut reports);
+    let tasks = all_listed(alloc, acts)?;
+    let worked = work_tasks(rt, alloc, board, clients, tasks, gate)?;
+    let reports = reports_of(alloc, worked)?;
     Ok(reports)
 }
 
@@ -119,131 +129,269 @@ pub fn run_all<J: Naming + Send + Sync, R: Threads + Wait + Sync, G: Gate + Sync
     Ok(replies)
 }
 
-/// Each client with its acts.
-fn paired<J: Naming>(
+/// Runs each client's task on a thread of its own, as [`run_each`] runs acts, and gives the tasks as they are then. The replies that
+/// they took are those of one legal history, and so of the sequential table for one interleaving of the acts.
+///
+/// Refused as [`run_all`] is, and `OutOfMemory` also where a task is out of memory.
+///
+/// ```text
+/// let tasks = run_tasks(rt, alloc, &board, clients, tasks, &gate)?;
+/// ```
+pub fn run_tasks<
+    J: Naming + Send + Sync,
+    R: Threads + Wait + Sync,
+    G: Gate + Sync,
+    T: Task + Send + Drop,
+>(
+    rt: &R,
+    alloc: Global,
+    board: &Board<J>,
+    clients: Vec<Client<J>>,
+    tasks: Vec<T>,
+    gate: &G,
+) -> Result<Vec<T>, ShareFault>
+    requires clients { clients.items ≡ newcomers J.opening.limits.clients }
+    requires lists { vec_len tasks ≡ vec_len clients }
+    requires fresh { All (λ task. T.took task task []) tasks.items }
+    requires few { All (λ task. length (T.left task) < 2 ^ 63) tasks.items }
+    ensures ran { IfOk result (λ done. (acts : List (VecValue ActValue)) → map (λ list. list.items) acts ≡ map T.left tasks.items → RanTasks J.opening T.took acts tasks.items done.items) }
+    ensures refused { IfErr result (λ fault. (acts : List (VecValue ActValue)) → map (λ list. list.items) acts ≡ map T.left tasks.items → RefusesRun J J.opening (G.says gate.now) clients.items acts fault) }
+{
+    let worked = work_tasks(rt, alloc, board, clients, tasks, gate)?;
+    let done = tasks_of(alloc, worked)?;
+    Ok(done)
+}
+
+/// Lists of acts as tasks.
+fn all_listed(alloc: Global, acts: Vec<Vec<Act>>) -> Result<Vec<Listed>, AllocError>
+    ensures acts { IfOk result (λ tasks. map ⟦<Listed as Task>⟧.left tasks.items ≡ map (λ list. list.items) acts.items) }
+    ensures fresh { IfOk result (λ tasks. All (λ task. task.replies.items ≡ []) tasks.items) }
+{
+    let mut tasks = Vec::new(alloc);
+    for list in acts {
+        tasks.push(Listed::new(alloc, list)?)?;
+    }
+    Ok(tasks)
+}
+
+/// Each client with its task.
+fn paired<J: Naming, T: Task + Drop>(
     alloc: Global,
     clients: Vec<Client<J>>,
-    acts: Vec<Vec<Act>>,
-) -> Result<Vec<Job<J>>, AllocError>
-    requires { vec_len acts ≡ vec_len clients }
+    tasks: Vec<T>,
+) -> Result<Vec<Job<J, T>>, AllocError>
+    requires { vec_len tasks ≡ vec_len clients }
     ensures clients { IfOk result (λ jobs. map (λ job. job.client) jobs.items ≡ clients.items) }
-    ensures acts { IfOk result (λ jobs. map (λ job. job.acts) jobs.items ≡ acts.items) }
-    ensures room { IfOk result (λ jobs. All HasRoom jobs.items) }
+    ensures tasks { IfOk result (λ jobs. map (λ job. job.task) jobs.items ≡ tasks.items) }
 {
     let mut jobs = Vec::new(alloc);
-    let mut lists = acts.into_iter();
+    let mut left = tasks.into_iter();
     for client in clients {
-        let Some(acts) = lists.next() else {
+        let Some(task) = left.next() else {
             unreachable!()
         };
-        let replies = Vec::with_capacity(alloc, acts.len())?;
-        jobs.push(Job {
-            client,
-            acts,
-            replies,
-        })?;
+        jobs.push(Job { client, task })?;
     }
     Ok(jobs)
 }
 
-/// The acts of one client, in order, until one stops it.
-fn work<J: Naming, R: Wait, G: Gate>(
+/// The acts of one client's task, in order, until one stops it.
+fn work<J: Naming, R: Wait, G: Gate, T: Task + Drop>(
     rt: &R,
     alloc: Global,
     board: &Board<J>,
     gate: &G,
-    job: Job<J>,
-) -> Report<J>
-    requires room { HasRoom job }
-    ensures { Did J.opening (G.says gate.now) job.client job.acts.items result }
+    job: Job<J, T>,
+) -> Result<Worked<J, T>, AllocError>
+    requires fresh { T.took job.task job.task [] }
+    requires few { length (T.left job.task) < 2 ^ 63 }
+    ensures { IfOk result (λ worked. DidTask J.opening (G.says gate.now) (T.took job.task) job.client (T.left job.task) worked) }
 {
     let Job {
         mut client,
-        acts,
-        mut replies,
+        mut task,
     } = job;
     let number = client.number();
     let _seen = client.seen();
-    for act in acts {
-        let turn = replies.len();
+    let mut turn = 0;
+    while let Some(act) = task.next(alloc)? {
         if !gate.before(number, turn) {
             let stopped = Some(ShareFault::Held { client: number });
-            return Report {
+            return Ok(Worked {
                 client,
-                replies,
+                task,
                 stopped,
-            };
+            });
         }
         match client.act(rt, alloc, board, act) {
-            Ok(reply) => replies.push_reserved(reply),
+            Ok(reply) => task.take(reply)?,
             Err(fault) => {
-                return Report {
+                return Ok(Worked {
                     client,
-                    replies,
+                    task,
                     stopped: Some(fault),
-                };
+                });
             }
         }
         gate.after(number, turn);
+        turn += 1;
     }
-    Report {
+    Ok(Worked {
         client,
-        replies,
+        task,
         stopped: None,
-    }
+    })
 }
 
 /// The work of each client, on a thread of its own.
-fn work_all<J: Naming + Send + Sync, R: Threads + Wait + Sync, G: Gate + Sync>(
+fn work_all<
+    J: Naming + Send + Sync,
+    R: Threads + Wait + Sync,
+    G: Gate + Sync,
+    T: Task + Send + Drop,
+>(
     rt: &R,
     alloc: Global,
     board: &Board<J>,
-    jobs: Vec<Job<J>>,
+    jobs: Vec<Job<J, T>>,
     gate: &G,
-) -> Result<Vec<Report<J>>, AllocError>
-    requires room { All HasRoom jobs.items }
-    ensures len { IfOk result (λ reports. vec_len reports ≡ vec_len jobs) }
-    ensures each { IfOk result (λ reports. (i : ℕ) (job : _) (d : _) → i < vec_len jobs → Did J.opening (G.says gate.now) (slice_index_or jobs.items i job).client (slice_index_or jobs.items i job).acts.items (slice_index_or reports.items i d)) }
+) -> Result<Vec<Result<Worked<J, T>, AllocError>>, AllocError>
+    requires fresh { All (λ job. T.took job.task job.task []) jobs.items }
+    requires few { All (λ job. length (T.left job.task) < 2 ^ 63) jobs.items }
+    ensures len { IfOk result (λ all. vec_len all ≡ vec_len jobs) }
+    ensures each { IfOk result (λ all. (i : ℕ) (job : _) (d : _) → i < vec_len jobs → IfOk (slice_index_or all.items i d) (λ worked. DidTask J.opening (G.says gate.now) (T.took (slice_index_or jobs.items i job).task) (slice_index_or jobs.items i job).client (T.left (slice_index_or jobs.items i job).task) worked)) }
 {
     thread::map_vec(
         rt,
         jobs,
-        &|job: Job<J>| -> Report<J>
-            requires { HasRoom job }
-            ensures { Did J.opening (G.says gate.entry.now) job.client job.acts.items result }
+        &|job: Job<J, T>| -> Result<Worked<J, T>, AllocError>
+            requires { T.took job.task job.task [] × (length (T.left job.task) < 2 ^ 63) }
+            ensures { IfOk result (λ worked. DidTask J.opening (G.says gate.entry.now) (T.took job.task) job.client (T.left job.task) worked) }
         { work(rt, alloc, board, gate, job) },
     )
 }
 
-/// Settles each report, by the whole history.
-fn settle_each<J: Naming>(master: &mut Master<J>, reports: &mut [Report<J>])
-    ensures same { master.new ≡ master.old }
-    ensures settled { (i : ℕ) (d : _) → i < length reports.old → Settles J.opening master.old (slice_index_or reports.old i d) (slice_index_or reports.new i d) }
+/// What came of all tasks, where each had memory.
+fn all_worked<J: Naming, T: Task + Drop>(
+    alloc: Global,
+    all: Vec<Result<Worked<J, T>, AllocError>>,
+) -> Result<Vec<Worked<J, T>>, AllocError>
+    ensures { IfOk result (λ worked. map Ok worked.items ≡ all.items) }
 {
-    for report in reports.iter_mut() {
-        settle(master, report);
+    let mut list = Vec::new(alloc);
+    for worked in all {
+        list.push(worked?)?;
+    }
+    Ok(list)
+}
+
+/// What came of each client's task, which is settled by the whole history.
+fn work_tasks<
+    J: Naming + Send + Sync,
+    R: Threads + Wait + Sync,
+    G: Gate + Sync,
+    T: Task + Send + Drop,
+>(
+    rt: &R,
+    alloc: Global,
+    board: &Board<J>,
+    clients: Vec<Client<J>>,
+    tasks: Vec<T>,
+    gate: &G,
+) -> Result<Vec<Worked<J, T>>, AllocError>
+    requires lists { vec_len tasks ≡ vec_len clients }
+    requires fresh { All (λ task. T.took task task []) tasks.items }
+    requires few { All (λ task. length (T.left task) < 2 ^ 63) tasks.items }
+    ensures { IfOk result (λ worked. AreWorked J.opening (G.says gate.now) T.left T.took clients.items tasks.items worked.items) }
+{
+    let jobs = paired(alloc, clients, tasks)?;
+    let mut worked = all_worked(alloc, work_all(rt, alloc, board, jobs, gate)?)?;
+    let _whole = settle_all(rt, board, &mut worked);
+    Ok(worked)
+}
+
+/// Settles what came of each task, by the whole history.
+fn settle_each<J: Naming, T: Drop>(master: &mut Master<J>, all: &mut [Worked<J, T>])
+    ensures same { master.new ≡ master.old }
+    ensures settled { (i : ℕ) (d : _) → i < length all.old → Settles J.opening master.old (slice_index_or all.old i d) (slice_index_or all.new i d) }
+{
+    for worked in all.iter_mut() {
+        settle(master, worked);
     }
 }
 
 /// A client is in use where the whole history holds a call of it that it has not made. That is reported where it has not stopped.
-fn settle<J: Naming>(master: &mut Master<J>, report: &mut Report<J>)
+fn settle<J: Naming, T: Drop>(master: &mut Master<J>, worked: &mut Worked<J, T>)
     ensures same { master.new ≡ master.old }
-    ensures settled { Settles J.opening master.old report.old report.new }
+    ensures settled { Settles J.opening master.old worked.old worked.new }
 {
-    if let Err(fault) = report.client.settle(master) {
-        report.stopped = report.stopped.or(Some(fault));
+    if let Err(fault) = worked.client.settle(master) {
+        worked.stopped = worked.stopped.or(Some(fault));
     }
 }
 
-/// Settles each report, and gives the whole history.
-fn settle_all<J: Naming, R: Wait>(rt: &R, board: &Board<J>, reports: &mut [Report<J>]) -> Prefix<J>
+/// Settles what came of each task, and gives the whole history.
+fn settle_all<J: Naming, R: Wait, T: Drop>(
+    rt: &R,
+    board: &Board<J>,
+    all: &mut [Worked<J, T>],
+) -> Prefix<J>
     ensures legal { IsLegalFrom J.opening result }
-    ensures settled { (i : ℕ) (d : _) → i < length reports.old → Settles J.opening result (slice_index_or reports.old i d) (slice_index_or reports.new i d) }
+    ensures settled { (i : ℕ) (d : _) → i < length all.old → Settles J.opening result (slice_index_or all.old i d) (slice_index_or all.new i d) }
 {
     let mut guard = board.master.lock(rt);
     let master = &mut *guard;
-    settle_each(master, reports);
+    settle_each(master, all);
     master.whole()
+}
+
+/// What came of lists of acts, as reports.
+fn reports_of<J: Naming>(
+    alloc: Global,
+    all: Vec<Worked<J, Listed>>,
+) -> Result<Vec<Report<J>>, AllocError>
+    ensures { IfOk result (λ reports. reports.items ≡ map report_of all.items) }
+{
+    let mut reports = Vec::new(alloc);
+    for worked in all {
+        let Worked {
+            client,
+            task,
+            stopped,
+        } = worked;
+        reports.push(Report {
+            client,
+            replies: task.into_replies(),
+            stopped,
+        })?;
+    }
+    Ok(reports)
+}
+
+/// The tasks, where no client stopped; else why the first did that stopped.
+fn tasks_of<J: Naming, T: Task + Drop>(
+    alloc: Global,
+    all: Vec<Worked<J, T>>,
+) -> Result<Vec<T>, ShareFault>
+    ensures all { IfOk result (λ tasks. tasks.items ≡ map (λ worked. worked.task) all.items) }
+    ensures done { IfOk result (λ _. All (λ worked. worked.stopped ≡ None) all.items) }
+    ensures first { IfErr result (λ fault. IsFirstOf all.items fault ⊎ (fault ≡ ShareFault.Core OutOfMemory)) }
+{
+    let mut tasks = Vec::new(alloc);
+    for worked in all {
+        let Worked {
+            client: _client,
+            task,
+            stopped,
+        } = worked;
+        if let Some(why) = stopped {
+            return Err(why);
+        }
+        if tasks.push(task).is_err() {
+            return Err(ShareFault::Core(CoreFault::OutOfMemory));
+        }
+    }
+    Ok(tasks)
 }
 
 /// The replies, where no client stopped; else why the first did that stopped.

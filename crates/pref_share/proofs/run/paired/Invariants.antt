@@ -1,8 +1,6 @@
 use Rattle.std.proofs.Common.{◌≡◌, ◌++◌, map}
-use Rattle.std.specs.List.{All}
 use Rattle.std.specs.Vec.Iter.{into_iter_items}
-use Rattle.pref_share.specs.Settling.{HasRoom}
 use Rattle.pref_share.proofs.run.paired.Given as goal
 
 abbrev pub invariant-loop-client : goal.invariant-loop-client
-invariant-loop-client g l = (map (λ job. job.client) l.jobs.items ≡ l.yielded) × (map (λ job. job.acts) l.jobs.items ++ into_iter_items l.lists ≡ l.fn.acts.items) × All HasRoom l.jobs.items
+invariant-loop-client g l = (map (λ job. job.client) l.jobs.items ≡ l.yielded) × (map (λ job. job.task) l.jobs.items ++ into_iter_items l.left ≡ l.fn.tasks.items)

@@ -1,10 +1,9 @@
-use Rattle.std.proofs.Common.{◌≡◌, ◌++◌, ℕ, ◌<◌, length, true}
-use Rattle.std.specs.Vec.{vec_capacity}
-use Rattle.std.specs.Vec.Iter.{into_iter_items}
-use Rattle.pref_share.specs.Openings.{IsLegalFrom}
-use Rattle.pref_share.specs.Runs.{RunsTo}
+use Rattle.std.proofs.Common.{length}
+use Rattle.pref_share.proofs.Running.{Goes}
 use Rattle.pref_share.proofs.run.work.Given as goal
 
-abbrev pub invariant-loop-act : goal.invariant-loop-act
-invariant-loop-act g l =
-    RunsTo g.J.Naming.opening l.fn.job.client l.yielded l.replies.items l.client × (l.yielded ++ into_iter_items l.act-iterator ≡ l.fn.job.acts.items) × IsLegalFrom g.J.Naming.opening l.client.seen × (vec_capacity l.replies ≡ vec_capacity l.fn.job.replies) × ((turn : ℕ) → turn < length l.yielded → g.G.Gate.says l.fn.gate l.fn.job.client.number turn true)
+abbrev pub invariant-loop-task : goal.invariant-loop-task
+invariant-loop-task g l = Goes g.J.Naming.opening (g.G.Gate.says l.fn.gate) g.T.Task.left (g.T.Task.took l.fn.job.task) l.fn.job.client (g.T.Task.left l.fn.job.task) l.client l.task l.turn
+
+abbrev pub decreases-loop-task : goal.decreases-loop-task
+decreases-loop-task g l = length (g.T.Task.left l.task)

@@ -1,0 +1,6 @@
+use Rattle.std.proofs.Common.{◌≡◌, ◌++◌, map, Ok}
+use Rattle.std.specs.Vec.Iter.{into_iter_items}
+use Rattle.pref_share.proofs.run.all_worked.Given as goal
+
+abbrev pub invariant-loop-worked : goal.invariant-loop-worked
+invariant-loop-worked g l = (map Ok l.list.items ≡ l.yielded) × (l.yielded ++ into_iter_items l.worked-iterator ≡ l.fn.all.items)

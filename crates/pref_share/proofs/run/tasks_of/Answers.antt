@@ -1,0 +1,27 @@
+use Rattle.std.proofs.Common.{◌≡◌, ◌++◌, ◌∷◌, [], ◌∙◌, List, None, ap, inl, rules, sym}
+use Rattle.std.proofs.lemmas.List.{append_assoc, map-append}
+use Rattle.std.proofs.lemmas.List.Elements.{All-push}
+use Rattle.std.specs.Vec.Iter.{into_iter_items}
+use Rattle.pref_share.specs.declared.run.Worked.{Worked}
+use Rattle.pref_share.proofs.run.tasks_of.Goals as goal
+
+pub loop-worked-preserved : goal.loop-worked-preserved
+loop-worked-preserved g c =
+    let yielded : List (Worked g.row.J.Denot g.row.T.Denot) = c.loop-worked.yielded in
+    let worked : Worked g.row.J.Denot g.row.T.Denot = c.in-Some.worked in
+    let grown : c.push.new.self.items ≡ c.loop-worked.tasks.items ++ worked.task ∷ [] = search rules in
+    let went_on : worked.stopped ≡ None = search rules in (
+      grown ∙ ap (λ l. l ++ worked.task ∷ []) c.loop-worked.invariant.0 ∙ sym (map-append (λ x. x.task) yielded (worked ∷ [])),
+      All-push (λ (x : Worked g.row.J.Denot g.row.T.Denot). x.stopped ≡ None) yielded worked c.loop-worked.invariant.1 went_on,
+      append_assoc yielded _ _ ∙ ap (λ rest. yielded ++ rest) (sym c.in-Some.ensures.steps.0) ∙ c.loop-worked.invariant.2,
+    )
+
+pub returns-in-Some-stopped-clause-first : goal.returns-in-Some-stopped-clause-first
+returns-in-Some-stopped-clause-first g c = inl (record {
+  before = c.loop-worked.yielded;
+  worked = c.in-Some.worked;
+  after = into_iter_items c.next.new.self;
+  in_order = sym (ap (λ rest. c.loop-worked.yielded ++ rest) (sym c.in-Some.ensures.steps.0) ∙ c.loop-worked.invariant.2);
+  went_on = c.loop-worked.invariant.1;
+  stopped = search rules;
+})

@@ -1,0 +1,7 @@
+use Rattle.std.proofs.Common.{◌≡◌, ◌++◌, None, map}
+use Rattle.std.specs.List.{All}
+use Rattle.std.specs.Vec.Iter.{into_iter_items}
+use Rattle.pref_share.proofs.run.tasks_of.Given as goal
+
+abbrev pub invariant-loop-worked : goal.invariant-loop-worked
+invariant-loop-worked g l = (l.tasks.items ≡ map (λ worked. worked.task) l.yielded) × All (λ worked. worked.stopped ≡ None) l.yielded × (l.yielded ++ into_iter_items l.worked-iterator ≡ l.fn.all.items)
