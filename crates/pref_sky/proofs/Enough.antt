@@ -160,3 +160,8 @@ enough over strict same within all k =
       | inl fewer ↦ ap (at_least same k) (sym (past_all over strict all k (omega arith)))
       | inr more ↦ past_k over strict same within all k (length all) more
     ]
+
+-- all pass
+pub all_pass : {E : Type 0} (p : E → Bool) (xs : List E) → ((x : E) → Among x xs → p x ≡ true) → filter p xs ≡ xs
+all_pass p [] all = refl
+all_pass p (x ∷ xs) all = ap (λ b. cond b (x ∷ filter p xs) (filter p xs)) (all x (inl refl)) ∙ ap (λ l. x ∷ l) (all_pass p xs (λ y m. all y (inr m)))

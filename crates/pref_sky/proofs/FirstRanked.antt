@@ -1,5 +1,5 @@
 -- Of ranked entries in order of level: the first levels that hold so many together.
-use Rattle.std.proofs.Common.{◌≡◌, ℕ, zero, suc, ◌≤◌, ◌<◌, ◌+◌, ◌-◌, Bool, true, false, cond, List, [], ◌∷◌, ◌++◌, map, length, get_or, take, drop, filter, leb, ltb, refl, sym, ◌∙◌, ap, arith, append-nil}
+use Rattle.std.proofs.Common.{◌≡◌, ℕ, zero, suc, ◌≤◌, ◌<◌, ◌+◌, Bool, true, false, cond, List, [], ◌∷◌, ◌++◌, map, length, get_or, take, drop, filter, leb, ltb, refl, sym, ◌∙◌, ap, arith, append-nil}
 use Rattle.std.specs.List.{count_by}
 use Rattle.std.specs.List.Sorted.{IsNonDecreasingBy, IsPartitionPoint}
 use Rattle.std.proofs.lemmas.Bool.{le-ltb, lt-ltb, leb-true, leb-false}
@@ -12,8 +12,7 @@ use Rattle.pref_sky.specs.declared.entry.Ranked.{Ranked}
 use Rattle.pref_sky.specs.Answers.{at_least, count_before}
 use Rattle.pref_sky.specs.Best.{best, rest}
 use Rattle.pref_sky.specs.Levels.{at_level, in_order_of_id, levels}
-use Rattle.pref_sky.proofs.Enough.{levels_upto, none_pass}
-use Rattle.pref_sky.proofs.FirstLevels.{all_pass}
+use Rattle.pref_sky.proofs.Enough.{all_pass, levels_upto, none_pass}
 use Rattle.pref_sky.proofs.Members.{Among, among_place, from_map, place_of}
 use Rattle.pref_sky.proofs.Orders.{RisesBy}
 use Rattle.pref_sky.proofs.Ranks.{rises_beside}

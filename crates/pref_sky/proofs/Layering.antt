@@ -26,12 +26,12 @@ zip_at R (x ∷ xs) [] d c long each = absurd (omega (arith, long))
 zip_at R (x ∷ xs) (y ∷ ys) d c long each = (each 0 (omega arith), zip_at R xs ys d c (omega (arith, long)) (λ j l. each (suc j) (omega (arith, l))))
 
 -- a chain of n entries stands over it, and none of more, unless it is below the cut
-pub record IsBehind {E : Type 0} (over : E → E → Bool) (cut : ℕ) (all : List E) (e : E) (n : ℕ) : Type 0 where
+pub record HasChain {E : Type 0} (over : E → E → Bool) (cut : ℕ) (all : List E) (e : E) (n : ℕ) : Type 0 where
   pub within : n ≤ cut
   pub after : comes_after over all n e ≡ true
   pub no_more : n < cut → comes_after over all (suc n) e ≡ false
 
-has_above : {E : Type 0} (over : E → E → Bool) (cut : ℕ) (all : List E) (e : E) (n : ℕ) → Among e all → IsBehind over cut all e n → HasAbove over cut all e n
+has_above : {E : Type 0} (over : E → E → Bool) (cut : ℕ) (all : List E) (e : E) (n : ℕ) → Among e all → HasChain over cut all e n → HasAbove over cut all e n
 has_above over cut all e n m behind = record {
   within = behind.within;
   here = λ l. subst (Among e) (sym (best_of_rest_is over all n))
@@ -40,7 +40,7 @@ has_above over cut all e n m behind = record {
 }
 
 -- of which there is one number
-is_level : {E : Type 0} (over : E → E → Bool) (cut : ℕ) (all : List E) (e : E) (n k : ℕ) → IsBehind over cut all e n → k < cut → comes_after over all k e ≡ true → comes_after over all (suc k) e ≡ false → n ≡ k
+is_level : {E : Type 0} (over : E → E → Bool) (cut : ℕ) (all : List E) (e : E) (n k : ℕ) → HasChain over cut all e n → k < cut → comes_after over all k e ≡ true → comes_after over all (suc k) e ≡ false → n ≡ k
 is_level over cut all e n k behind within after none =
     elim (cases_lt k n) [
       | inl more ↦ absurd (both_ways (comes_after over all (suc k) e) none (comes_after_upto over all (suc k) n e (omega (arith, more)) behind.after))
@@ -62,19 +62,10 @@ pub record IsLastOf (above : List ℕ) (i k p : ℕ) : Type 0 where
 -- the first i entries have their numbers, and the last of each level is known
 pub record AreLayers {E : Type 0} (over : E → E → Bool) (cut : ℕ) (all : List E) (d : E) (i : ℕ) (above last : List ℕ) : Type 0 where
   pub long : length above ≡ i
-  pub levels : (j : ℕ) → j < i → IsBehind over cut all (get_or all j d) (get_or above j 0)
+  pub levels : (j : ℕ) → j < i → HasChain over cut all (get_or all j d) (get_or above j 0)
   pub within : length last ≤ cut
   pub lasts : (k : ℕ) → k < length last → IsLastOf above i k (get_or last k 0)
   pub known : (j : ℕ) → j < i → get_or above j 0 < cut → get_or above j 0 < length last
-
-pub layers_begin : {E : Type 0} (over : E → E → Bool) (cut : ℕ) (all : List E) (d : E) → AreLayers over cut all d 0 [] []
-layers_begin over cut all d = record {
-  long = refl;
-  levels = λ j l. absurd (omega (arith, l));
-  within = omega arith;
-  lasts = λ k l. absurd (omega (arith, l));
-  known = λ j l. absurd (omega (arith, l));
-}
 
 pub layers_end : {E : Type 0} (over : E → E → Bool) (cut : ℕ) (all : List E) (d : E) (i : ℕ) (above last : List ℕ) → AreLayers over cut all d i above last → i ≡ length all → AreLevels over cut all all above
 layers_end over cut all d i above last layers done =
@@ -177,7 +168,7 @@ module _ {E : Type 0} (over f s t : E → E → Bool) (stairs : AreStairs over f
 
     -- so the last ones tell how many levels are above the next entry
     pub next_behind : (count : ℕ) → count ≤ length last → (0 < count → over (get_or all (get_or last (count - 1) 0) d) (get_or all i d) ≡ true)
-        → (count < length last → over (get_or all (get_or last count 0) d) (get_or all i d) ≡ false) → IsBehind over cut all (get_or all i d) count
+        → (count < length last → over (get_or all (get_or last count 0) d) (get_or all i d) ≡ false) → HasChain over cut all (get_or all i d) count
     next_behind count le so_many no_more = record {
       within = omega (arith, le, layers.within);
       after = chain_of count le so_many;
@@ -190,13 +181,13 @@ module _ {E : Type 0} (over f s t : E → E → Bool) (stairs : AreStairs over f
       ];
     }
 
-    module _ (count : ℕ) (le : count ≤ length last) (behind : IsBehind over cut all (get_or all i d) count) where
-      levels_more : (j : ℕ) → j < i + 1 → IsBehind over cut all (get_or all j d) (get_or (above ++ count ∷ []) j 0)
+    module _ (count : ℕ) (le : count ≤ length last) (behind : HasChain over cut all (get_or all i d) count) where
+      levels_more : (j : ℕ) → j < i + 1 → HasChain over cut all (get_or all j d) (get_or (above ++ count ∷ []) j 0)
       levels_more j l = elim (cases_lt j i) [
-        | inl old ↦ subst (IsBehind over cut all (get_or all j d)) (sym (number_kept above i count layers.long j old)) (layers.levels j old)
+        | inl old ↦ subst (HasChain over cut all (get_or all j d)) (sym (number_kept above i count layers.long j old)) (layers.levels j old)
         | inr new ↦
             let here : i ≡ j = omega (arith, l, new) in
-            subst (λ n. IsBehind over cut all (get_or all n d) (get_or (above ++ count ∷ []) n 0)) here (subst (IsBehind over cut all (get_or all i d)) (sym (number_here above i count layers.long)) behind)
+            subst (λ n. HasChain over cut all (get_or all n d) (get_or (above ++ count ∷ []) n 0)) here (subst (HasChain over cut all (get_or all i d)) (sym (number_here above i count layers.long)) behind)
       ]
 
       long_more : length (above ++ count ∷ []) ≡ i + 1

@@ -1,5 +1,5 @@
 -- Entries in parts: where an order compares within parts alone, each part holds the levels of its own entries.
-use Rattle.std.proofs.Common.{◌≡◌, ℕ, zero, suc, ◌≤◌, ◌<◌, ◌+◌, ◌^◌, ◌/◌, Bool, true, false, cond, not, ◌&&◌, ltb, inl, inr, List, ℤ, [], ◌∷◌, ◌++◌, length, map, refl, sym, ◌∙◌, ap, subst, arith, append-nil, filter, eqb, eq-eqb, max, ◌-◌}
+use Rattle.std.proofs.Common.{◌≡◌, ℕ, zero, suc, ◌≤◌, ◌<◌, ◌+◌, ◌^◌, ◌/◌, Bool, true, false, cond, not, ◌&&◌, ltb, inl, inr, List, ℤ, [], ◌∷◌, ◌++◌, length, map, refl, sym, ◌∙◌, ap, subst, arith, filter, eqb, eq-eqb, max}
 use Rattle.std.specs.List.{count_by}
 use Rattle.std.proofs.lemmas.Bool.{cases_Bool, cases_lt, eqb-true, not_from_false, and_parts, or_cases}
 use Rattle.std.proofs.lemmas.Bool.Decides.{Decides-int_eq, nat_tests}
@@ -10,21 +10,19 @@ use Rattle.pref_term.specs.Better.{cell, in_same_group}
 use Rattle.pref_term.specs.Order.{RowOrder, StaysWithin}
 use Rattle.pref_term.specs.Signatures.{mixed}
 use Rattle.pref_sky.specs.declared.entry.Entry.{Entry}
-use Rattle.pref_sky.specs.declared.level.Level.{Level}
-use Rattle.pref_sky.specs.declared.part.Part.{Part}
 use Rattle.pref_sky.specs.Best.{best, is_beaten, rest, without_best}
 use Rattle.pref_sky.specs.Levels.{HaveDifferentIds, at_level, entry_of, entry_order, levels}
 use Rattle.pref_sky.specs.Partials.{held_at, ranked_from}
-use Rattle.pref_sky.specs.Parts.{ArePartedBy, all_at, depth, is_in, levels_of, mixed_onto, part_of, ranked_parts, ranked_upto}
+use Rattle.pref_sky.specs.Parts.{ArePartedBy, all_at, depth, is_in, levels_of, mixed_onto, part_of, parts_by, ranked_parts, ranked_upto}
 use Rattle.pref_sky.proofs.Members.{Among, any_from, any_gives, in_filter, from_filter, in_left, in_right, in_either, from_map}
 use Rattle.pref_sky.proofs.Orders.{one_passes}
 use Rattle.pref_sky.proofs.Removals.{filter_filter, same_answer}
-use Rattle.pref_sky.proofs.Merges.{count_filter, different_best, different_filter}
+use Rattle.pref_sky.proofs.Merges.{different_best, different_filter}
 use Rattle.pref_sky.proofs.Enough.{among_map, filter_agree_among, none_pass}
 use Rattle.pref_sky.proofs.HeldLevels.{beaten_by_more, different_by_count}
 use Rattle.pref_sky.proofs.LevelLaws.{count_both, count_and, count_filtered}
 use Rattle.pref_sky.proofs.RankedLevels.{count_joined, count_level, level_differs, count_parts, one_level}
-use Rattle.pref_sky.proofs.Ranks.{AreWithin, held_there, held_upto, levels_upto_is, same_upto, to_upto, within_if_same}
+use Rattle.pref_sky.proofs.Ranks.{held_there, held_upto, levels_upto_is, same_upto, to_upto, within_if_same}
 
 -- an entry is over entries of its own part alone
 abbrev pub IsWithin : (Entry → Entry → Bool) → (Entry → ℕ) → Type 0
@@ -85,28 +83,28 @@ module _ (over : Entry → Entry → Bool) (number : Entry → ℕ) (within : Is
   level_in_part all n = ap (best over) (rest_in_part all n) ∙ best_in_part (rest over all n)
 
 -- what is at a level of a part is at the level
-to_all : (parts : List Part) (part n : ℕ) (e : Entry) → Among e (held_at n (levels_of part parts)) → Among e (all_at parts n)
+to_all : (parts : List (List (List Entry))) (part n : ℕ) (e : Entry) → Among e (held_at n (levels_of part parts)) → Among e (all_at parts n)
 to_all [] part n e m = m
-to_all (first ∷ others) zero n e m = in_left (held_at n first.levels.items) (all_at others n) e m
-to_all (first ∷ others) (suc part) n e m = in_right (held_at n first.levels.items) (all_at others n) e (to_all others part n e m)
+to_all (first ∷ others) zero n e m = in_left (held_at n first) (all_at others n) e m
+to_all (first ∷ others) (suc part) n e m = in_right (held_at n first) (all_at others n) e (to_all others part n e m)
 
-from_all : (parts : List Part) (n : ℕ) (e : Entry) → Among e (all_at parts n) → (part : ℕ) × Among e (held_at n (levels_of part parts))
+from_all : (parts : List (List (List Entry))) (n : ℕ) (e : Entry) → Among e (all_at parts n) → (part : ℕ) × Among e (held_at n (levels_of part parts))
 from_all [] n e m = absurd m
 from_all (first ∷ others) n e m =
-    elim (in_either (held_at n first.levels.items) (all_at others n) e m) [
+    elim (in_either (held_at n first) (all_at others n) e m) [
       | inl here ↦ (0, here)
       | inr further ↦ let w = from_all others n e further in (suc w.0, w.1)
     ]
 
-within_depth : (parts : List Part) (part : ℕ) → length (levels_of part parts) ≤ depth parts
+pub within_depth : (parts : List (List (List Entry))) (part : ℕ) → length (levels_of part parts) ≤ depth parts
 within_depth [] part = omega arith
-within_depth (first ∷ others) zero = le-max_left (length first.levels.items) (depth others)
-within_depth (first ∷ others) (suc part) = omega (arith, within_depth others part, le-max_right (length first.levels.items) (depth others))
+within_depth (first ∷ others) zero = le-max_left (length first) (depth others)
+within_depth (first ∷ others) (suc part) = omega (arith, within_depth others part, le-max_right (length first) (depth others))
 
 -- how many of a kind the parts hold
-abbrev pub total : (Entry → Bool) → List Part → ℕ
+abbrev pub total : (Entry → Bool) → List (List (List Entry)) → ℕ
 total p [] = 0
-total p (part ∷ others) = count_by p (map entry_of (ranked_from 1 part.levels.items)) + total p others
+total p (part ∷ others) = count_by p (map entry_of (ranked_from 1 part)) + total p others
 
 abbrev sum_upto : (ℕ → ℕ) → ℕ → ℕ
 sum_upto f zero = 0
@@ -132,15 +130,15 @@ count_upto : (p : Entry → Bool) (level : ℕ → List Entry) (n : ℕ) → cou
 count_upto p level zero = refl
 count_upto p level (suc n) = omega (arith, count_upto p level n, count_joined p (ranked_upto level n) (one_level (suc n) (level n)), count_level p (suc n) (level n))
 
-held_past : (p : Entry → Bool) (held : List Level) (k : ℕ) → length held ≤ k → count_by p (held_at k held) ≡ 0
+held_past : (p : Entry → Bool) (held : List (List Entry)) (k : ℕ) → length held ≤ k → count_by p (held_at k held) ≡ 0
 held_past p [] k le = refl
 held_past p (level ∷ behind) zero le = absurd (omega (arith, le))
 held_past p (level ∷ behind) (suc k) le = held_past p behind k (omega (arith, le))
 
-sum_of_all : (p : Entry → Bool) (parts : List Part) (n : ℕ) → depth parts ≤ n → sum_upto (λ k. count_by p (all_at parts k)) n ≡ total p parts
+sum_of_all : (p : Entry → Bool) (parts : List (List (List Entry))) (n : ℕ) → depth parts ≤ n → sum_upto (λ k. count_by p (all_at parts k)) n ≡ total p parts
 sum_of_all p [] n le = sum_past (λ k. count_by p (all_at [] k)) 0 n (λ k above. refl) (omega arith)
 sum_of_all p (part ∷ others) n le =
-    let held = part.levels.items in
+    let held = part in
     let here : ℕ → ℕ = λ k. count_by p (held_at k held) in
     let there : ℕ → ℕ = λ k. count_by p (all_at others k) in
     let mine : length held ≤ n = omega (arith, le, le-max_left (length held) (depth others)) in
@@ -155,52 +153,34 @@ sum_of_all p (part ∷ others) n le =
       sum_of_all p others n theirs,
     )
 
-pub count_all : (p : Entry → Bool) (parts : List Part) → count_by p (map entry_of (ranked_parts parts)) ≡ total p parts
+pub count_all : (p : Entry → Bool) (parts : List (List (List Entry))) → count_by p (map entry_of (ranked_parts parts)) ≡ total p parts
 count_all p parts = count_upto p (all_at parts) (depth parts) ∙ sum_of_all p parts (depth parts) (omega arith)
 
-count_part : (p : Entry → Bool) (parts : List Part) (part : ℕ) → count_by p (map entry_of (ranked_from 1 (levels_of part parts))) ≤ total p parts
+count_part : (p : Entry → Bool) (parts : List (List (List Entry))) (part : ℕ) → count_by p (map entry_of (ranked_from 1 (levels_of part parts))) ≤ total p parts
 count_part p [] part = omega arith
 count_part p (first ∷ others) zero = omega arith
 count_part p (first ∷ others) (suc part) = omega (arith, count_part p others part)
 
-count_level_of_all : (p : Entry → Bool) (parts : List Part) (k : ℕ) → count_by p (all_at parts k) ≤ total p parts
+count_level_of_all : (p : Entry → Bool) (parts : List (List (List Entry))) (k : ℕ) → count_by p (all_at parts k) ≤ total p parts
 count_level_of_all p [] k = omega arith
 count_level_of_all p (part ∷ others) k =
-    let held = part.levels.items in
+    let held = part in
     omega (arith, count_level_of_all p others k, sum_by-append (λ (e : Entry). cond (p e) 1 0) (held_at k held) (all_at others k), count_parts p k held)
 
-pub part_differs : (parts : List Part) → HaveDifferentIds (map entry_of (ranked_parts parts)) → (part : ℕ) → HaveDifferentIds (map entry_of (ranked_from 1 (levels_of part parts)))
+pub part_differs : (parts : List (List (List Entry))) → HaveDifferentIds (map entry_of (ranked_parts parts)) → (part : ℕ) → HaveDifferentIds (map entry_of (ranked_from 1 (levels_of part parts)))
 part_differs parts different part = record { once = λ id. omega (arith, different.once id, count_all (λ e. eqb e.id id) parts, count_part (λ e. eqb e.id id) parts part) }
 
-pub all_differ : (parts : List Part) → HaveDifferentIds (map entry_of (ranked_parts parts)) → (k : ℕ) → HaveDifferentIds (all_at parts k)
+pub all_differ : (parts : List (List (List Entry))) → HaveDifferentIds (map entry_of (ranked_parts parts)) → (k : ℕ) → HaveDifferentIds (all_at parts k)
 all_differ parts different k = record { once = λ id. omega (arith, different.once id, count_all (λ e. eqb e.id id) parts, count_level_of_all (λ e. eqb e.id id) parts k) }
 
--- a part with the entries that come to it has different ids
-pub coming_differ : (number : Entry → ℕ) (parts : List Part) (coming : List Entry) (part : ℕ) → HaveDifferentIds (map entry_of (ranked_parts parts) ++ coming)
-    → HaveDifferentIds (map entry_of (ranked_from 1 (levels_of part parts)) ++ filter (is_in number part) coming)
-coming_differ number parts coming part different =
-    record {
-      once = λ id.
-          let p : Entry → Bool = λ e. eqb e.id id in
-          omega (
-            arith,
-            different.once id,
-            sum_by-append (λ e. cond (p e) 1 0) (map entry_of (ranked_parts parts)) coming,
-            sum_by-append (λ e. cond (p e) 1 0) (map entry_of (ranked_from 1 (levels_of part parts))) (filter (is_in number part) coming),
-            count_all p parts,
-            count_part p parts part,
-            count_filter p (is_in number part) coming,
-          );
-    }
-
-held_number : (number : Entry → ℕ) (parts : List Part) → ArePartedBy number parts → (part k : ℕ) (e : Entry) → Among e (held_at k (levels_of part parts)) → number e ≡ part
+held_number : (number : Entry → ℕ) (parts : List (List (List Entry))) → ArePartedBy number parts → (part k : ℕ) (e : Entry) → Among e (held_at k (levels_of part parts)) → number e ≡ part
 held_number number parts parted part k e m =
     let held = levels_of part parts in
     parted part (at_level (suc k) e) (subst (Among (at_level (suc k) e)) (sym (held_upto held)) (to_upto (λ j. held_at j held) (length held) k e (held_there k held e m) m))
 
 -- parts that hold the levels of some entries, and levels of each part's entries
 module _ (over : Entry → Entry → Bool) (number : Entry → ℕ) (within : IsWithin over number) (cut : ℕ) where
-  pub hold_apart : (parts : List Part) (all : List Entry) → HaveDifferentIds all → HaveDifferentIds (map entry_of (ranked_parts parts)) → ArePartedBy number parts → ranked_parts parts ≡ levels over all cut
+  pub hold_apart : (parts : List (List (List Entry))) (all : List Entry) → HaveDifferentIds all → HaveDifferentIds (map entry_of (ranked_parts parts)) → ArePartedBy number parts → ranked_parts parts ≡ levels over all cut
       → (part : ℕ) → ranked_from 1 (levels_of part parts) ≡ levels over (filter (is_in number part) all) cut
   hold_apart parts all different apart parted is part =
       let held = levels_of part parts in
@@ -223,7 +203,7 @@ module _ (over : Entry → Entry → Bool) (number : Entry → ℕ) (within : Is
       (held_there k held e there, there))
       ∙ sym (levels_upto_is over (filter mine all) cut))
 
-  pub hold_together : (parts : List Part) (all : List Entry) → HaveDifferentIds all → HaveDifferentIds (map entry_of (ranked_parts parts))
+  pub hold_together : (parts : List (List (List Entry))) (all : List Entry) → HaveDifferentIds all → HaveDifferentIds (map entry_of (ranked_parts parts))
       → ((part : ℕ) → ranked_from 1 (levels_of part parts) ≡ levels over (filter (is_in number part) all) cut) → ranked_parts parts ≡ levels over all cut
   hold_together parts all different apart each =
       let whole : ℕ → List Entry = λ k. best over (rest over all k) in
@@ -244,24 +224,16 @@ module _ (over : Entry → Entry → Bool) (number : Entry → ℕ) (within : Is
       (omega (arith, w.0, within_depth parts part), to_all parts part k e w.1))
       ∙ sym (levels_upto_is over all cut)
 
-parts_within : (old new : List Part) → ((part : ℕ) → ranked_from 1 (levels_of part new) ≡ ranked_from 1 (levels_of part old)) → AreWithin (all_at new) (depth new) (all_at old) (depth old)
-parts_within old new same k e below m =
-    let u = from_all new k e m in
-    let mine = levels_of u.0 new in
-    let theirs = levels_of u.0 old in
-    let w = within_if_same (λ j. held_at j mine) (λ j. held_at j theirs) (length mine) (length theirs) (sym (held_upto mine) ∙ (same u.0 ∙ held_upto theirs)) k e (held_there k mine e u.1) u.1 in
-    (omega (arith, w.0, within_depth old u.0), to_all old u.0 k e w.1)
-
 sum_first : (f : ℕ → ℕ) (n : ℕ) → sum_upto f (suc n) ≡ f 0 + sum_upto (λ k. f (suc k)) n
 sum_first f zero = omega arith
 sum_first f (suc n) = omega (arith, sum_first f n)
 
 -- no more of a kind are held in a part than were and come to it
-abbrev pub NoMore : (ℕ → List Entry) → List Part → List Part → Type 0
+abbrev pub NoMore : (ℕ → List Entry) → List (List (List Entry)) → List (List (List Entry)) → Type 0
 NoMore comes old new = (p : Entry → Bool) (part : ℕ)
     → count_by p (map entry_of (ranked_from 1 (levels_of part new))) ≤ count_by p (map entry_of (ranked_from 1 (levels_of part old))) + count_by p (comes part)
 
-total_within : (p : Entry → Bool) (comes : ℕ → List Entry) (old new : List Part) → NoMore comes old new → total p new ≤ total p old + sum_upto (λ k. count_by p (comes k)) (length new)
+total_within : (p : Entry → Bool) (comes : ℕ → List Entry) (old new : List (List (List Entry))) → NoMore comes old new → total p new ≤ total p old + sum_upto (λ k. count_by p (comes k)) (length new)
 total_within p comes old [] more = omega arith
 total_within p comes [] (first ∷ new) more =
     let deeper = total_within p (λ k. comes (suc k)) [] new (λ q part. more q (suc part)) in
@@ -281,7 +253,7 @@ sum_of_parts p number coming (suc n) =
     omega (arith, sum_of_parts p number coming n, count_filtered p (is_in number n) coming, both)
 
 -- what the parts hold after an addition has different ids
-pub differ_after : (number : Entry → ℕ) (old new : List Part) (coming : List Entry) → HaveDifferentIds (map entry_of (ranked_parts old) ++ coming) → NoMore (λ part. filter (is_in number part) coming) old new
+pub differ_after : (number : Entry → ℕ) (old new : List (List (List Entry))) (coming : List Entry) → HaveDifferentIds (map entry_of (ranked_parts old) ++ coming) → NoMore (λ part. filter (is_in number part) coming) old new
     → HaveDifferentIds (map entry_of (ranked_parts new))
 differ_after number old new coming different more =
     different_by_count (map entry_of (ranked_parts old)) coming (map entry_of (ranked_parts new)) different (λ p. omega (
@@ -297,7 +269,7 @@ none_counted : (p : Entry → Bool) (xs : List Entry) → ((x : Entry) → Among
 none_counted p xs none = sym (length-filter p xs) ∙ ap length (none_pass p xs none)
 
 -- and each of them is in its part
-pub parted_after : (number : Entry → ℕ) (old new : List Part) (coming : List Entry) → ArePartedBy number old → NoMore (λ part. filter (is_in number part) coming) old new → ArePartedBy number new
+pub parted_after : (number : Entry → ℕ) (old new : List (List (List Entry))) (coming : List Entry) → ArePartedBy number old → NoMore (λ part. filter (is_in number part) coming) old new → ArePartedBy number new
 parted_after number old new coming parted more part r m =
     elim (cases_Bool (is_in number part (entry_of r))) [
       | inl here ↦ eqb-true (number (entry_of r)) part here
@@ -313,28 +285,24 @@ parted_after number old new coming parted more part r m =
           absurd (omega (arith, one, more other part, none_held, none_came))
     ]
 
--- parts that hold the same, but for their order within a level
-pub same_parts : (old new : List Part) → HaveDifferentIds (map entry_of (ranked_parts old)) → ((part : ℕ) → ranked_from 1 (levels_of part new) ≡ ranked_from 1 (levels_of part old)) → ranked_parts new ≡ ranked_parts old
-same_parts old new different same =
-    let also = differ_after (λ e. 0) old new [] (subst HaveDifferentIds (sym (append-nil (map entry_of (ranked_parts old)))) different) (λ p part. omega (arith, ap (λ l. count_by p (map entry_of l)) (same part))) in
-    same_upto (all_at new) (all_at old) (depth new) (depth old) (all_differ new also) (all_differ old different) (parts_within old new same) (parts_within new old (λ part. sym (same part)))
-
 mixed_below : (word : ℕ) (columns : List ℕ) (row : List ℤ) → word < 2 ^ 64 → mixed_onto word columns row < 2 ^ 64
 mixed_below word [] row below = below
 mixed_below word (col ∷ columns) row below = mixed_below (mixed word (cell row col)) columns row (omega arith)
 
+-- the number of a part
+pub part_below : (columns : List ℕ) (e : Entry) → part_of columns e < parts_by columns
+part_below [] e = omega arith
+part_below (col ∷ columns) e = omega (arith, mixed_below 0 (col ∷ columns) e.row (omega arith))
+
 -- parts without entries
-depth_none : (parts : List Part) → ((part : ℕ) → levels_of part parts ≡ []) → depth parts ≡ 0
+pub depth_none : (parts : List (List (List Entry))) → ((part : ℕ) → levels_of part parts ≡ []) → depth parts ≡ 0
 depth_none [] none = refl
 depth_none (first ∷ others) none = ap (λ n. max n (depth others)) (ap length (none 0)) ∙ ap (max 0) (depth_none others (λ part. none (suc part)))
 
-pub nothing_held : (parts : List Part) → ((part : ℕ) → levels_of part parts ≡ []) → ranked_parts parts ≡ []
+pub nothing_held : (parts : List (List (List Entry))) → ((part : ℕ) → levels_of part parts ≡ []) → ranked_parts parts ≡ []
 nothing_held parts none = ap (ranked_upto (all_at parts)) (depth_none parts none)
 
--- no part has more levels than a level's number can tell
-pub depth_bound : (parts : List Part) → depth parts < 2 ^ 32
-depth_bound [] = omega arith
-depth_bound (part ∷ others) =
-    let mine : length part.levels.items ≤ 2 ^ 32 - 1 = omega (arith, part.bound) in
-    let theirs : depth others ≤ 2 ^ 32 - 1 = omega (arith, depth_bound others) in
-    omega (arith, max-le mine theirs)
+-- no part has more levels than so many
+pub depth_within : (parts : List (List (List Entry))) (most : ℕ) → ((part : ℕ) → length (levels_of part parts) ≤ most) → depth parts ≤ most
+depth_within [] most each = omega arith
+depth_within (first ∷ others) most each = max-le (each 0) (depth_within others most (λ part. each (suc part)))

@@ -1,14 +1,11 @@
--- Lists that are parted into their best and the others: by what their items stand for, and where a list that is apart meets them.
-use Rattle.std.proofs.Common.{◌≡◌, ℕ, Bool, true, cond, not, inl, inr, List, [], ◌∷◌, ◌++◌, refl, sym, ◌∙◌, ap, subst, arith, filter, map}
+-- Lists that are parted into their best and the others, by what their items stand for.
+use Rattle.std.proofs.Common.{◌≡◌, Bool, cond, not, List, [], ◌∷◌, refl, sym, ◌∙◌, ap, subst, arith, map}
 use Rattle.std.specs.List.{count_by}
-use Rattle.std.proofs.lemmas.Bool.{both_ways, not_from_false, false_from_ne_true, not-true}
-use Rattle.std.proofs.lemmas.List.Sums.{sum_by-cons, sum_by-append}
-use Rattle.std.proofs.lemmas.List.Filters.{sum_by-filter_both}
-use Rattle.pref_term.specs.Order.{IsStrictOrder}
-use Rattle.pref_sky.specs.Best.{IsApart, is_beaten}
-use Rattle.pref_sky.specs.Passes.{IsFree, Parted}
-use Rattle.pref_sky.proofs.Members.{Among, any_from, any_gives, in_filter, from_filter, in_left, in_right, in_either, from_map, in_map}
-use Rattle.pref_sky.proofs.Removals.{same_answer, unbeaten_over}
+use Rattle.std.proofs.lemmas.List.Sums.{sum_by-cons}
+use Rattle.pref_sky.specs.Best.{is_beaten}
+use Rattle.pref_sky.specs.Passes.{Parted}
+use Rattle.pref_sky.proofs.Members.{Among, any_from, any_gives, in_filter, from_filter, from_map, in_map}
+use Rattle.pref_sky.proofs.Removals.{same_answer}
 
 pub count_map : {E F : Type 0} (f : E → F) (p : F → Bool) (xs : List E) → count_by p (map f xs) ≡ count_by (λ x. p (f x)) xs
 count_map f p [] = refl
@@ -54,77 +51,3 @@ parted_map f below over all top others agree p =
       };
       bag = λ q. omega (arith, count_map f q top, count_map f q others, p.bag (λ x. q (f x)), count_map f q all);
     }
-
--- what is dominated by a list is dominated by one of its best
-beaten_by_top : {E : Type 0} (over : E → E → Bool) → IsStrictOrder over → (coming top others : List E) → Parted over coming top others → (e : E) → is_beaten over coming e ≡ true → is_beaten over top e ≡ true
-beaten_by_top over strict coming top others p e h =
-    let t = unbeaten_over over strict (λ _. true) coming e h in
-    any_from (λ x. over x e) top t.0 (p.best_are.back t.0 (in_filter (λ x. not (is_beaten over coming x)) coming t.0 t.1 (not_from_false (is_beaten over coming t.0) t.4))) t.3
-
--- a list that is apart, and items that come to it, which nothing of it dominates
-pub parted_merge : {E : Type 0} (over : E → E → Bool) → IsStrictOrder over → (held coming top others : List E) → IsApart over held → IsFree over held coming → Parted over coming top others
-    → Parted over (held ++ coming) (filter (λ x. not (is_beaten over top x)) held ++ top) (others ++ filter (is_beaten over top) held)
-parted_merge {E = E} over strict held coming top others apart free p =
-    let all = held ++ coming in
-    let beaten_top = is_beaten over top in
-    let stay = filter (λ x. not (beaten_top x)) held in
-    let go = filter beaten_top held in
-    let of_coming : (x : E) → Among x top → Among x coming = λ x m. (from_filter (λ y. not (is_beaten over coming y)) coming x (p.best_are.there x m)).0 in
-    let held_beaten : (x : E) → Among x held → is_beaten over all x ≡ beaten_top x =
-    λ x m. same_answer (is_beaten over all x) (beaten_top x)
-    (λ h.
-    let w = any_gives (λ y. over y x) all h in
-    elim (in_either held coming w.0 w.1) [
-      | inl old ↦ absurd (both_ways (over w.0 x) (apart w.0 x old m) w.2)
-      | inr new ↦ beaten_by_top over strict coming top others p x (any_from (λ y. over y x) coming w.0 new w.2)
-    ])
-    (λ h. let w = any_gives (λ y. over y x) top h in any_from (λ y. over y x) all w.0 (in_right held coming w.0 (of_coming w.0 w.1)) w.2) in
-    let coming_beaten : (x : E) → Among x coming → is_beaten over all x ≡ is_beaten over coming x =
-    λ x m. same_answer (is_beaten over all x) (is_beaten over coming x)
-    (λ h.
-    let w = any_gives (λ y. over y x) all h in
-    elim (in_either held coming w.0 w.1) [
-      | inl old ↦ absurd (both_ways (is_beaten over held x) (free x m) (any_from (λ y. over y x) held w.0 old w.2))
-      | inr new ↦ any_from (λ y. over y x) coming w.0 new w.2
-    ])
-    (λ h. let w = any_gives (λ y. over y x) coming h in any_from (λ y. over y x) all w.0 (in_right held coming w.0 w.1) w.2) in
-    record {
-      best_are = record {
-        there = λ x m. elim (in_either stay top x m) [
-          | inl old ↦
-              let w = from_filter (λ y. not (beaten_top y)) held x old in
-              in_filter (λ y. not (is_beaten over all y)) all x (in_left held coming x w.0) (ap not (held_beaten x w.0) ∙ w.1)
-          | inr new ↦
-              let w = from_filter (λ y. not (is_beaten over coming y)) coming x (p.best_are.there x new) in
-              in_filter (λ y. not (is_beaten over all y)) all x (in_right held coming x w.0) (ap not (coming_beaten x w.0) ∙ w.1)
-        ];
-        back = λ x m.
-            let w = from_filter (λ y. not (is_beaten over all y)) all x m in
-            elim (in_either held coming x w.0) [
-              | inl old ↦ in_left stay top x (in_filter (λ y. not (beaten_top y)) held x old (ap not (sym (held_beaten x old)) ∙ w.1))
-              | inr new ↦ in_right stay top x (p.best_are.back x (in_filter (λ y. not (is_beaten over coming y)) coming x new (ap not (sym (coming_beaten x new)) ∙ w.1)))
-            ];
-      };
-      others_are = record {
-        there = λ x m. elim (in_either others go x m) [
-          | inl new ↦ let w = from_filter (is_beaten over coming) coming x (p.others_are.there x new) in in_filter (is_beaten over all) all x (in_right held coming x w.0) (coming_beaten x w.0 ∙ w.1)
-          | inr old ↦ let w = from_filter beaten_top held x old in in_filter (is_beaten over all) all x (in_left held coming x w.0) (held_beaten x w.0 ∙ w.1)
-        ];
-        back = λ x m.
-            let w = from_filter (is_beaten over all) all x m in
-            elim (in_either held coming x w.0) [
-              | inl old ↦ in_right others go x (in_filter beaten_top held x old (sym (held_beaten x old) ∙ w.1))
-              | inr new ↦ in_left others go x (p.others_are.back x (in_filter (is_beaten over coming) coming x new (sym (coming_beaten x new) ∙ w.1)))
-            ];
-      };
-      bag = λ q.
-          let f : E → ℕ = λ y. cond (q y) 1 0 in
-          omega (arith, sum_by-append f stay top, sum_by-append f others go, sum_by-append f held coming, sum_by-filter_both beaten_top (λ x. not (beaten_top x)) (λ x. refl) f held, p.bag q);
-    }
-
--- none of the best dominates another
-pub best_are_apart : {E : Type 0} (over : E → E → Bool) (all top others : List E) → Parted over all top others → IsApart over top
-best_are_apart over all top others p x y mx my =
-    let v = from_filter (λ z. not (is_beaten over all z)) all x (p.best_are.there x mx) in
-    let w = from_filter (λ z. not (is_beaten over all z)) all y (p.best_are.there y my) in
-    false_from_ne_true (over x y) (λ above. both_ways (is_beaten over all y) (not-true (is_beaten over all y) w.1) (any_from (λ z. over z y) all x v.0 above))

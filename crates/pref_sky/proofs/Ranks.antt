@@ -8,7 +8,6 @@ use Rattle.std.proofs.Math.Seq.{take-length}
 use borrow.Rule.Slice.PartMut.{mid_of, post_of, put_mid}
 use Rattle.pref_sky.specs.declared.entry.Entry.{Entry}
 use Rattle.pref_sky.specs.declared.entry.Ranked.{Ranked}
-use Rattle.pref_sky.specs.declared.level.Level.{Level}
 use Rattle.pref_sky.specs.Best.{best, rest}
 use Rattle.pref_sky.specs.Levels.{HaveDifferentIds, in_order_of_id, at_level, entry_of, levels}
 use Rattle.pref_sky.specs.Partials.{ranked_from, held_at}
@@ -118,25 +117,25 @@ levels_upto_is over all zero = refl
 levels_upto_is over all (suc n) = ap (λ l. l ++ one_level (suc n) (best over (rest over all n))) (levels_upto_is over all n)
 
 -- held levels
-pub take_level : (k n m : ℕ) (held : List Level) → m ≡ k + n → ranked_from k (take (suc n) held) ≡ ranked_from k (take n held) ++ one_level m (held_at n held)
+pub take_level : (k n m : ℕ) (held : List (List Entry)) → m ≡ k + n → ranked_from k (take (suc n) held) ≡ ranked_from k (take n held) ++ one_level m (held_at n held)
 take_level k zero m [] at = refl
 take_level k zero m (level ∷ behind) at =
     let same : k ≡ m = omega (arith, at) in
-    append-nil (one_level k level.entries.items) ∙ ap (λ j. one_level j level.entries.items) same
+    append-nil (one_level k level) ∙ ap (λ j. one_level j level) same
 take_level k (suc n) m [] at = refl
 take_level k (suc n) m (level ∷ behind) at =
-    let one = one_level k level.entries.items in
+    let one = one_level k level in
     ap (λ l. one ++ l) (take_level (suc k) n m behind (omega (arith, at))) ∙ sym (append_assoc one (ranked_from (suc k) (take n behind)) (one_level m (held_at n behind)))
 
-pub take_upto : (held : List Level) (n : ℕ) → ranked_from 1 (take n held) ≡ ranked_upto (λ k. held_at k held) n
+pub take_upto : (held : List (List Entry)) (n : ℕ) → ranked_from 1 (take n held) ≡ ranked_upto (λ k. held_at k held) n
 take_upto held zero = refl
 take_upto held (suc n) = let next : suc n ≡ 1 + n = omega arith in take_level 1 n (suc n) held next ∙ ap (λ l. l ++ one_level (suc n) (held_at n held)) (take_upto held n)
 
-pub held_upto : (held : List Level) → ranked_from 1 held ≡ ranked_upto (λ k. held_at k held) (length held)
+pub held_upto : (held : List (List Entry)) → ranked_from 1 held ≡ ranked_upto (λ k. held_at k held) (length held)
 held_upto held = ap (ranked_from 1) (sym (take-length held)) ∙ take_upto held (length held)
 
 -- a level that holds something is there
-pub held_there : (k : ℕ) (held : List Level) (e : Entry) → Among e (held_at k held) → k < length held
+pub held_there : (k : ℕ) (held : List (List Entry)) (e : Entry) → Among e (held_at k held) → k < length held
 held_there k [] e m = absurd m
 held_there zero (level ∷ behind) e m = omega arith
 held_there (suc k) (level ∷ behind) e m = omega (arith, held_there k behind e m)

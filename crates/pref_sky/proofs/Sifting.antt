@@ -1,23 +1,135 @@
--- Lists of which no entry is over another: what stands as one of them does, and the list in another order.
-use Rattle.std.proofs.Common.{◌≡◌, ◌∙◌, ◌<◌, ℕ, Bool, false, subst, List, length, get_or, sym}
+-- What goes out of a list where an item meets it, and what the item is clear of.
+use Rattle.std.proofs.Common.{◌≡◌, ℕ, ◌<◌, ◌≤◌, ◌+◌, ◌-◌, Bool, true, false, cond, ◌&&◌, inl, inr, List, [], ◌∷◌, ◌++◌, length, refl, sym, ◌∙◌, ap, arith, length-append, ltb, get_or, suc, zero, set}
+use Rattle.std.specs.List.{swap_remove}
 use Rattle.std.specs.List.Sorted.{IsPermutation}
-use Rattle.std.proofs.lemmas.Bool.{both_ways, false_from_ne_true}
-use Rattle.std.proofs.lemmas.List.Sorted.{list_any-IsPermutation}
+use Rattle.std.proofs.lemmas.Bool.{and_right, cases_lt, both_ways, le-ltb, lt-ltb}
+use Rattle.std.proofs.lemmas.List.{length-take-le, length-set}
+use Rattle.std.proofs.lemmas.List.Sorted.{IsPermutation-swap_remove, length_permutation, sum_by-IsPermutation}
+use Rattle.std.proofs.lemmas.List.Sums.{sum_by-cons, sum_by-append, sum_by-swap_remove}
+use Rattle.pref_term.specs.Order.{RowOrder, StandAlike}
+use Rattle.pref_term.specs.Signatures.{is_within}
 use Rattle.pref_sky.specs.declared.entry.Entry.{Entry}
-use Rattle.pref_sky.specs.Best.{IsApart, is_beaten}
-use Rattle.pref_term.specs.Order.{StandAlike}
-use Rattle.pref_sky.proofs.PassSteps.{clear_if_alike, unbeaten_if}
-use Rattle.pref_sky.proofs.Members.{Among, among_place, any_from, any_gives}
+use Rattle.pref_sky.specs.declared.item.Item.{Item}
+use Rattle.pref_sky.specs.Best.{IsApart}
+use Rattle.pref_sky.specs.Items.{is_word, item_order, place_order}
+use Rattle.pref_sky.specs.Passes.{IsClear, IsTold, Sifted}
+use Rattle.pref_sky.proofs.Members.{Among, in_left, in_right, in_either, place_of}
+use Rattle.pref_sky.proofs.Orders.{same_if_permuted}
 
--- where none of a list is over another, none is over what stands as one of them does
-pub met_alike : (over : Entry → Entry → Bool) (all : List Entry) (place : ℕ) (other d e : Entry) → place < length all → other ≡ get_or all place d → StandAlike over other e → IsApart over all → is_beaten over all e ≡ false
-met_alike over all place other d e inside at alike apart =
-    unbeaten_if over all e (λ x m. (clear_if_alike over all other e (subst (λ y. Among y all) (sym at) (among_place all place d inside)) alike apart x m).0)
+-- the first so many of a list are clear
+abbrev pub AreClear : {E : Type 0} → (E → E → Bool) → List E → E → ℕ → Type 0
+AreClear {E = E} over xs e n = (k : ℕ) (d : E) → k < n → (over (get_or xs k d) e ≡ false) × (over e (get_or xs k d) ≡ false)
 
--- a list of which none is over another, in any order
-pub apart_in_any_order : (over : Entry → Entry → Bool) (xs ys : List Entry) → IsPermutation xs ys → IsApart over xs → IsApart over ys
-apart_in_any_order over xs ys same apart x y mx my =
-    false_from_ne_true (over x y) (λ above.
-    let v = any_gives (over x) xs (list_any-IsPermutation (over x) xs ys same ∙ any_from (over x) ys y my above) in
-    let w = any_gives (λ z. over z v.0) xs (list_any-IsPermutation (λ z. over z v.0) xs ys same ∙ any_from (λ z. over z v.0) ys x mx v.2) in
-    both_ways (over w.0 v.0) (apart w.0 v.0 w.1 v.1) w.2)
+-- and of some of it the signatures tell
+abbrev pub AreTold : List Item → Item → ℕ → ℕ → Type 0
+AreTold xs e from to = (k : ℕ) (d : Item) → from ≤ k → k < to → IsTold e.signature (get_or xs k d)
+
+-- nothing went out so far
+pub sifted_none : {E : Type 0} (over : E → E → Bool) (e : E) (old rest : List E) → Sifted over e old old rest rest
+sifted_none over e old rest =
+    record {
+      splits = λ x m. inl m;
+      keeps = λ x m. m;
+      within = λ x m. m;
+      went = λ x m. inl m;
+      bag = λ p. refl;
+      lengths = refl;
+      longer = omega arith;
+    }
+
+-- where one of a list that is apart stands as an item does, all of it is clear of the item
+pub clear_if_alike : {E : Type 0} (over : E → E → Bool) (xs : List E) (y e : E) → Among y xs → StandAlike over y e → IsApart over xs → IsClear over xs e
+clear_if_alike over xs y e here alike apart x m = (sym (alike.above x) ∙ apart x y m here, sym (alike.below x) ∙ apart y x here m)
+
+-- what stands at a place of a list does so whatever would stand in its place outside
+pub get_or_any : {E : Type 0} (xs : List E) (i : ℕ) (d e : E) → i < length xs → get_or xs i d ≡ get_or xs i e
+get_or_any [] i d e l = absurd (omega (arith, l))
+get_or_any (x ∷ xs) zero d e l = refl
+get_or_any (x ∷ xs) (suc i) d e l = get_or_any xs i d e (omega (arith, l))
+
+shorter : {E : Type 0} (xs : List E) (i : ℕ) (x : E) → i < length xs → length (swap_remove xs i x) + 1 ≡ length xs
+shorter xs i x inside = omega (arith, inside, length-take-le (length xs - 1) (set xs i (get_or xs (length xs - 1) x)) (omega (arith, length-set xs i (get_or xs (length xs - 1) x))))
+
+-- one more goes out, that the item dominates: the last one takes its place
+pub sifted_more : {E : Type 0} (over : E → E → Bool) (e : E) (old held start rest : List E) (i : ℕ) (x : E) → i < length held → x ≡ get_or held i x → over e x ≡ true
+    → Sifted over e old held start rest → Sifted over e old (swap_remove held i x) start (rest ++ x ∷ [])
+sifted_more {E = E} over e old held start rest i x inside is above s =
+    let moved = IsPermutation-swap_remove held i x inside is in
+    let same = same_if_permuted held (x ∷ swap_remove held i x) moved in
+    record {
+      splits = λ y m. elim (s.splits y m) [
+        | inl a ↦ elim (same.there y a) [ inl this ↦ inr (in_right rest (x ∷ []) y (inl this)) | inr b ↦ inl b ]
+        | inr b ↦ inr (in_left rest (x ∷ []) y b)
+      ];
+      keeps = λ y m. in_left rest (x ∷ []) y (s.keeps y m);
+      within = λ y m. s.within y (same.back y (inr m));
+      went = λ y m. elim (in_either rest (x ∷ []) y m) [
+        | inl a ↦ s.went y a
+        | inr b ↦ elim b [ inl this ↦ inr (s.within y (same.back y (inl this)), ap (over e) this ∙ above) | inr void ↦ absurd void ]
+      ];
+      bag = λ p. let f : E → ℕ = λ y. cond (p y) 1 0 in omega (arith, s.bag p, sum_by-swap_remove f held i x inside, ap f is, sum_by-append f rest (x ∷ []), sum_by-cons f x []);
+      lengths = omega (arith, s.lengths, shorter held i x inside, length-append rest (x ∷ []));
+      longer = omega (arith, s.longer, length-append rest (x ∷ []));
+    }
+
+below_differs : (k n : ℕ) → k < n → k ≡ n → ⊥
+below_differs k n below same = both_ways (ltb k n) (le-ltb k n (omega (arith, same))) (lt-ltb k n below)
+
+-- what was asked place by place stays so where the last one is moved to a later place
+pub clear_after_move : {E : Type 0} (over : E → E → Bool) (xs ys : List E) (e : E) (n long : ℕ) → n < long
+    → ((k : ℕ) (d : E) → (k ≡ n → ⊥) → k + 1 < long → get_or ys k d ≡ get_or xs k d)
+    → AreClear over xs e n → AreClear over ys e n
+clear_after_move over xs ys e n long inside same each k d below =
+    let is = same k d (below_differs k n below) (omega (arith, below, inside)) in
+    let both = each k d below in
+    (ap (λ y. over y e) is ∙ both.0, ap (over e) is ∙ both.1)
+
+-- and one place more is asked
+pub clear_more : {E : Type 0} (over : E → E → Bool) (xs : List E) (e : E) (n : ℕ) (y : E) → n < length xs → y ≡ get_or xs n y → over y e ≡ false → over e y ≡ false
+    → AreClear over xs e n → AreClear over xs e (n + 1)
+clear_more over xs e n y inside at above below each k d within =
+    elim (cases_lt k n) [
+      | inl before ↦ each k d before
+      | inr here ↦
+          let same : k ≡ n = omega (arith, within, here) in
+          let is : get_or xs k d ≡ y = ap (λ m. get_or xs m d) same ∙ (get_or_any xs n d y inside ∙ sym at) in
+          (ap (λ z. over z e) is ∙ above, ap (over e) is ∙ below)
+    ]
+
+-- what was asked place by place is clear
+pub clear_by_place : {E : Type 0} (over : E → E → Bool) (xs : List E) (e : E) (n : ℕ) → length xs ≤ n → AreClear over xs e n → IsClear over xs e
+clear_by_place over xs e n all each x m =
+    let w = place_of xs x x m in
+    let both = each w.0 x (omega (arith, w.1, all)) in
+    (ap (λ y. over y e) (sym w.2) ∙ both.0, ap (over e) (sym w.2) ∙ both.1)
+
+-- two of the list change places
+pub sifted_moved : {E : Type 0} (over : E → E → Bool) (e : E) (old held start rest moved : List E) → IsPermutation held moved → Sifted over e old held start rest → Sifted over e old moved start rest
+sifted_moved {E = E} over e old held start rest moved permuted s =
+    let same = same_if_permuted held moved permuted in
+    record {
+      splits = λ y m. elim (s.splits y m) [ inl a ↦ inl (same.there y a) | inr b ↦ inr b ];
+      keeps = s.keeps;
+      within = λ y m. s.within y (same.back y m);
+      went = s.went;
+      bag = λ p. let f : E → ℕ = λ y. cond (p y) 1 0 in omega (arith, s.bag p, sum_by-IsPermutation f held moved permuted);
+      lengths = omega (arith, s.lengths, length_permutation held moved permuted);
+      longer = s.longer;
+    }
+
+-- items of which the signatures tell are clear
+told_is_clear : (order : RowOrder) (pool : List Entry) (x e : Item) → IsTold e.signature x → (item_order order pool x e ≡ false) × (item_order order pool e x ≡ false)
+told_is_clear order pool x e told =
+    let below : Bool = place_order order pool x.place e.place in
+    let above : Bool = place_order order pool e.place x.place in (
+      and_right (is_word x) (is_word e && (is_within x.signature e.signature && below)) (and_right (is_word e) (is_within x.signature e.signature && below) (ap (λ w. w && below) told.0)),
+      and_right (is_word e) (is_word x && (is_within e.signature x.signature && above)) (and_right (is_word x) (is_within e.signature x.signature && above) (ap (λ w. w && above) told.1)),
+    )
+
+pub clear_upto : (order : RowOrder) (pool : List Entry) (xs : List Item) (e : Item) (from to : ℕ) → AreClear (item_order order pool) xs e from
+    → AreTold xs e from to → AreClear (item_order order pool) xs e to
+clear_upto order pool xs e from to clear told k d within =
+    elim (cases_lt k from) [
+      | inl before ↦ clear k d before
+      | inr behind ↦ told_is_clear order pool (get_or xs k d) e (told k d behind within)
+    ]

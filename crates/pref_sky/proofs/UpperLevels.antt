@@ -15,14 +15,14 @@ use Rattle.pref_sky.specs.Layers.{AreLevels, HasAbove}
 use Rattle.pref_sky.specs.Levels.{HaveDifferentIds, entry_of, levels}
 use Rattle.pref_sky.specs.Sorted.{AreLowest}
 use Rattle.pref_sky.specs.Stairs.{IsInOrder}
-use Rattle.pref_sky.specs.Starts.{chosen}
+use Rattle.pref_sky.specs.Layers.{chosen}
 use Rattle.pref_sky.proofs.Members.{Among, any_from, from_filter}
 use Rattle.pref_sky.proofs.Removals.{comes_after, comes_after_upto, best_of_rest_is, rest_is}
 use Rattle.pref_sky.proofs.Orders.{same_if_permuted}
 use Rattle.pref_sky.proofs.LevelLaws.{count_and}
 use Rattle.pref_sky.proofs.Merges.{HoldsLevels, is_at, same_best}
 use Rattle.pref_sky.proofs.SortedLevels.{count_levels, some_differ, some_levels}
-use Rattle.pref_sky.proofs.Starting.{Starts, from_chosen, in_chosen}
+use Rattle.pref_sky.proofs.Chosen.{Starts, from_chosen, in_chosen}
 
 starts_among : (entries : List Entry) (starts : List ℕ) (x : Entry) (n : ℕ) → Starts x n entries starts → Among x entries
 starts_among [] starts x n m = absurd m

@@ -1,6 +1,7 @@
 -- No public contract cites this.
 -- Items: signatures, and places in a pool of entries.
-use Rattle.std.specs.Prelude.{◌≡◌, ◌<◌, Bool, ◌&&◌, nat_lt, ◌^◌, ℕ, List, [], length, get_or, map, All}
+use Rattle.std.specs.Prelude.{◌≡◌, ◌<◌, Bool, ◌&&◌, nat_lt, ◌^◌, ℕ, zero, suc, List, [], ◌∷◌, length, get_or, map, All, Vec}
+use Rattle.std.specs.Global.{Global}
 use Rattle.pref_term.specs.Order.{RowOrder}
 use Rattle.pref_term.specs.Signatures.{is_within}
 use Rattle.pref_sky.specs.declared.entry.Entry.{Entry}
@@ -35,3 +36,28 @@ pub record IsItem (rule : Entry → ℕ) (pool : List Entry) (item : Item) : Typ
 
 abbrev pub AreItems : (Entry → ℕ) → List Entry → List Item → Type 0
 AreItems rule pool items = All (IsItem rule pool) items
+
+-- the same of levels, and of parts
+abbrev pub AreAllItems : (Entry → ℕ) → List Entry → List (Vec Item Global) → Type 0
+AreAllItems rule pool levels = All (λ (level : Vec Item Global). AreItems rule pool level.items) levels
+
+abbrev pub levels_at : List Entry → List (Vec Item Global) → List (List Entry)
+levels_at pool levels = map (λ (level : Vec Item Global). entries_at pool level.items) levels
+
+abbrev pub AreInPool : (Entry → ℕ) → List Entry → List (Vec (Vec Item Global) Global) → Type 0
+AreInPool rule pool parts = All (λ (part : Vec (Vec Item Global) Global). AreAllItems rule pool part.items) parts
+
+abbrev pub parts_at : List Entry → List (Vec (Vec Item Global) Global) → List (List (List Entry))
+parts_at pool parts = map (λ (part : Vec (Vec Item Global) Global). levels_at pool part.items) parts
+
+-- the items of the level behind the first n: none where there is no such level
+abbrev pub items_at : ℕ → List (Vec Item Global) → List Item
+items_at n [] = []
+items_at zero (level ∷ behind) = level.items
+items_at (suc n) (level ∷ behind) = items_at n behind
+
+-- the levels of the part behind the first n: none where there is no such part
+abbrev pub levels_in : ℕ → List (Vec (Vec Item Global) Global) → List (Vec Item Global)
+levels_in n [] = []
+levels_in zero (part ∷ others) = part.items
+levels_in (suc n) (part ∷ others) = levels_in n others

@@ -11,7 +11,8 @@ pub mod Items
 pub mod ChainOrders
 pub mod Passes
 pub mod Partials
-pub mod Starts
+pub mod Arrivals
+pub mod Made
 pub mod Layers
 pub mod Sorted
 pub mod Parts

@@ -1,5 +1,5 @@
 -- Orders that are one chain, or a product of two chains, within groups, and lists in their order, where one entry is asked in place of all. (this project)
-use Rattle.std.specs.Prelude.{⊤, ◌≡◌, Bool, true, false, cond, not, ◌&&◌, ◌||◌, int_lt, nat_lt, ℕ, ℤ, List, [], ◌∷◌}
+use Rattle.std.specs.Prelude.{⊤, ◌≡◌, Bool, true, false, not, ◌&&◌, ◌||◌, int_lt, nat_lt, ℕ, ℤ, List, [], ◌∷◌}
 use Rattle.pref_term.specs.Better.{cell}
 use Rattle.pref_term.specs.Chains.{by_chain, first_chain, second_chain, tie_chain}
 use Rattle.pref_term.specs.Order.{IsStrictOrder, StandAlike, is_better}

@@ -7,13 +7,11 @@ ghost use Rattle.pref_term.specs.Question.{cut_of};
 ghost use Rattle.pref_sky.specs.Answers.{answer_of, at_least, count_before};
 ghost use Rattle.pref_sky.specs.Levels.{entry_order, levels};
 ghost use Rattle.pref_sky.specs.Meetings.{length_of_level};
-ghost use Rattle.pref_sky.specs.Partials.{ranked_from};
 ghost use Rattle.pref_sky.specs.declared.entry.Entry.{Entry};
 ghost use Rattle.pref_sky.specs.declared.entry.Ranked.{Ranked};
 
 use crate::entry::Ranked;
-use crate::level::Level;
-use crate::partial::{Partial, ranked_of};
+use crate::partial::Partial;
 use pref_term::{Ask, Mode, in_same_group};
 use std::alloc::{AllocError, Global};
 
@@ -112,21 +110,6 @@ fn at_least(
     Ok(ranked)
 }
 
-/// The first of these levels that hold so many entries together; all where they hold fewer.
-fn first_levels(levels: &[Level], least: usize) -> &[Level]
-    ensures first { result.now ≡ take (length result.now) levels.now }
-    ensures enough { ranked_from 1 result.now ≡ at_least (in_same_group []) least (ranked_from 1 levels.now) }
-{
-    let mut left = least;
-    for (place, level) in levels.iter().enumerate() {
-        if left == 0 {
-            return &levels[..place];
-        }
-        left = left.saturating_sub(level.entries.len());
-    }
-    levels
-}
-
 /// Keeps the first levels that hold so many entries together; all where they hold fewer. Takes no memory.
 fn keep_first_levels(ranked: &mut Vec<Ranked>, least: usize)
     ensures { (over : Entry → Entry → Bool) (entries : List Entry) (cut : ℕ) → ranked.old.items ≡ levels over entries cut
@@ -143,15 +126,11 @@ fn keep_first_levels(ranked: &mut Vec<Ranked>, least: usize)
     }
 }
 
-/// The first levels that hold so many entries together. Where levels are held, they are chosen before they are listed: to list and
-/// sort all would cost more.
+/// The first levels that hold so many entries together.
 fn first_ranked(alloc: Global, partial: &Partial, least: usize) -> Result<Vec<Ranked>, AllocError>
     ensures { (over : Entry → Entry → Bool) (entries : List Entry) (cut : ℕ) → partial.now ≡ levels over entries cut
         → IfOk result (λ ranked. ranked.items ≡ at_least (in_same_group []) least partial.now) }
 {
-    if let Some(levels) = partial.levels() {
-        return ranked_of(alloc, first_levels(levels, least));
-    }
     let mut ranked = partial.ranked(alloc)?;
     keep_first_levels(&mut ranked, least);
     Ok(ranked)
@@ -160,9 +139,9 @@ fn first_ranked(alloc: Global, partial: &Partial, least: usize) -> Result<Vec<Ra
 /// The answer of an ask, in order of level, then id, from a partial result at [`Ask::cut`]: where this
 /// holds the levels up to the cut of some entries, it is the ask's selection from all of them.
 ///
-/// Cost: that of [`Partial::ranked`], and for "at least" without groups, where levels are held, that of the levels that are told
-/// alone. For "at least" in groups each held entry is also compared by its group's columns with those on the levels before, until `k` of its group are found. Memory:
-/// the list alone, and for "at least" in groups a byte for each held entry. `Err` is out of memory.
+/// Cost: that of [`Partial::ranked`]. For "at least" in groups each held entry is also compared by its group's columns with those on the
+/// levels before, until `k` of its group are found. Memory: the list alone, and for "at least" in groups a byte for each held entry.
+/// `Err` is out of memory.
 pub fn answer(alloc: Global, ask: &Ask, partial: &Partial) -> Result<Vec<Ranked>, AllocError>
     ensures { (entries : List Entry) → partial.now ≡ levels (entry_order (order_of ask.now)) entries (cut_of ask.now.mode)
         → IfOk result (λ ranked. ranked.items ≡ answer_of ask.now entries) }

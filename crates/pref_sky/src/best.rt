@@ -2,54 +2,13 @@
 
 ghost use Rattle.std.specs.Prelude.{◌≡◌, ◌<◌, ◌≤◌, ℕ, [], All, length, map, IfOk};
 ghost use Rattle.pref_sky.specs.Best.{best};
-ghost use Rattle.pref_sky.specs.Items.{entries_at};
 ghost use Rattle.pref_sky.specs.Levels.{HaveDifferentIds, entry_order, in_order_of_id};
-ghost use Rattle.pref_sky.specs.Passes.{Parted};
-ghost use Rattle.pref_sky.specs.Signatures.{AreSigned, IsSignedBy};
-ghost use Rattle.pref_sky.specs.declared.entry.Entry.{Entry};
 
 use crate::entry::Entry;
-use crate::item::Item;
 use crate::passes::best_and_rest;
-use crate::signatures::{SignedEntries, cuts_of, items_of, signatures_of};
+use crate::signatures::{cuts_of, items_of};
 use pref_term::Dominance;
 use std::alloc::{AllocError, Global};
-
-/// The best of some entries, each with its signature, where the others are, and the number of passes.
-#[derive(Drop)]
-pub(crate) struct BestAndOthers {
-    pub(crate) best: SignedEntries,
-    pub(crate) others: Vec<Item>,
-    pub(crate) passes: u64,
-}
-
-/// Parts entries with their signatures beside them into the best and the others, each in no order, by passes with a
-/// window of so many.
-pub(crate) fn best_and_others<D: Dominance>(
-    alloc: Global,
-    dominance: &D,
-    window: usize,
-    entries: &[Entry],
-    signatures: &[u64],
-) -> Result<BestAndOthers, AllocError>
-    requires window { 0 < window }
-    requires signed { AreSigned (entry_order (D.order dominance.now)) [] [] entries.now signatures.now }
-    ensures parted { IfOk result (λ found. Parted (entry_order (D.order dominance.now)) entries.now found.best.entries.items (entries_at entries.now found.others.items)) }
-    ensures within { IfOk result (λ found. All (λ item. item.place < length entries.now) found.others.items) }
-    ensures passes { IfOk result (λ found. found.passes ≤ length entries.now) }
-    ensures signed { IfOk result (λ found. (rule : Entry → ℕ) → signatures.now ≡ map rule entries.now
-        → IsSignedBy rule found.best × (map (λ item. item.signature) found.others.items ≡ map rule (entries_at entries.now found.others.items))) }
-{
-    let items = items_of(alloc, signatures)?;
-    let found = best_and_rest(alloc, dominance, window, entries, &items)?;
-    let mut best = SignedEntries::new(alloc);
-    best.extend_from_items(entries, &found.best)?;
-    Ok(BestAndOthers {
-        best,
-        others: found.rest,
-        passes: found.passes,
-    })
-}
 
 /// The entries that no entry dominates, in order of id, and the number of passes.
 ///
@@ -72,13 +31,14 @@ pub fn best_rows_passes<D: Dominance>(
     ensures passes { IfOk result (λ found. found.1 ≤ length entries.now) }
 {
     let cuts = cuts_of(alloc, dominance, entries)?;
-    let signatures = signatures_of(alloc, &cuts, entries)?;
-    let found = best_and_others(alloc, dominance, window, entries, &signatures)?;
-    let passes = found.passes;
-    let signed = found.best;
-    let mut best = signed.entries;
+    let items = items_of(alloc, &cuts, entries)?;
+    let found = best_and_rest(alloc, dominance, window, entries, &[], &items)?;
+    let mut best = Vec::with_capacity(alloc, found.best.len())?;
+    for item in &found.best {
+        best.push(entries[item.place])?;
+    }
     best.sort_unstable_by_key(|entry| entry.id);
-    Ok((best, passes))
+    Ok((best, found.passes))
 }
 
 /// The entries that no entry dominates, in order of id: the list of [`best_rows_passes`], at its cost.

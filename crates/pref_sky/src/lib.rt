@@ -16,22 +16,20 @@
 #![tactic(auto)]
 
 mod answers;
-mod apart;
+mod arrival;
 mod best;
 mod chain_order;
 mod entry;
 mod item;
 pub mod laws;
 mod layers;
-mod level;
-mod meeting;
-mod merge;
+mod making;
 mod merging;
-mod part;
 mod partial;
+mod parts;
 mod passes;
+mod pool;
 mod ranking;
-mod room;
 mod signatures;
 mod sorted;
 pub mod stairs;

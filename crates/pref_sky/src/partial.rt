@@ -7,12 +7,9 @@ ghost use Rattle.pref_sky.specs.Partials.{ranked_from};
 ghost use Rattle.pref_sky.specs.Parts.{ranked_parts};
 ghost use Rattle.pref_sky.specs.declared.entry.Entry.{Entry};
 
-use crate::apart::Parts;
 use crate::chain_order::ChainOrder;
 use crate::entry::{Entry, Ranked};
-use crate::level::{Level, count_of};
-use crate::part::Part;
-use crate::ranking::{push_level, sort_behind};
+use crate::parts::Parts;
 use crate::sorted::SortedEntries;
 use pref_term::Dominance;
 use std::alloc::{AllocError, Global};
@@ -25,19 +22,16 @@ pub(crate) enum Held {
     Nothing,
     /// In the order of two chains, where the order of the first addition is their product.
     Sorted(SortedEntries),
-    /// All entries together.
-    Whole(Part),
     /// In parts, which the order never compares with each other.
     Apart(Parts),
 }
 
 /// The entries of the levels 1 to a cut among all that were added, in order of level, then id.
 ///
-/// A contract sees the list of them. What it holds is by one order and one cut, so each `add` is made
-/// with the order and the cut of the first. Each entry is in it once, 136 bytes and 8 for its
-/// signature; where the order compares rows within groups alone, there are 1,024 small lists beside them. Where the order is a product
-/// of two chains, as of a plain chain, entries have no signature, and beside those of the levels it holds up to an eighth as many, and
-/// 64, and a block, that may be below the cut.
+/// A contract sees the list of them. Each `add` is made with the order and the cut of the first. Each entry is in it once, 136 bytes and 16 for
+/// its signature and place, beside up to as many again, and 2,048, that are held no more. Where the order is a product of two chains, as of a
+/// plain chain, entries have neither, and beside those of the levels it holds up to an eighth as many, and 64, and a block, that may be
+/// below the cut.
 pub struct Partial {
     held: Held,
 }
@@ -62,21 +56,6 @@ impl Model for Partial {
     ghost invariant = { λ a. HaveDifferentIds (map entry_of (ranked_held a.held)) };
 }
 
-/// The entries of levels, in order of level, then id.
-pub(crate) fn ranked_of(alloc: Global, levels: &[Level]) -> Result<Vec<Ranked>, AllocError>
-    requires ids { HaveDifferentIds (map entry_of (ranked_from 1 levels.now)) }
-    requires bound { length levels.now < 2 ^ 32 }
-    ensures { IfOk result (λ ranked. ranked.items ≡ ranked_from 1 levels.now) }
-{
-    let mut ranked = Vec::with_capacity(alloc, count_of(levels))?;
-    for (above, level) in levels.iter().enumerate() {
-        let start = ranked.len();
-        push_level(&mut ranked, above as u32 + 1, &level.entries)?;
-        sort_behind(&mut ranked, start);
-    }
-    Ok(ranked)
-}
-
 /// What is held after the first addition: entries in the order of two chains where the order is their product, and else parts where it
 /// compares rows within groups alone.
 fn begun<D: Dominance>(
@@ -97,13 +76,7 @@ fn begun<D: Dominance>(
         let sorted = SortedEntries::of(alloc, order, cut, entries)?;
         return Ok(Held::Sorted(sorted));
     }
-    let columns = dominance.groups();
-    if columns.is_empty() {
-        let part = Part::of(alloc, dominance, window, cut, entries)?;
-        return Ok(Held::Whole(part));
-    }
-    let mut parts = Parts::new(alloc, columns)?;
-    parts.add(alloc, dominance, window, cut, entries)?;
+    let parts = Parts::of(alloc, dominance, window, cut, entries)?;
     Ok(Held::Apart(parts))
 }
 
@@ -154,7 +127,7 @@ impl Partial {
 
     /// The entries that are held, with their levels, in order of level, then id.
     ///
-    /// Cost: one copy of them, and a sort of each level by id; of parts for each level a look at each part. Where the order is a product
+    /// Cost: one copy of them, and a sort of each level by id; where there are groups, for each level a look at 1,024 parts. Where the order is a product
     /// of two chains their levels are found only now, by a search by halves among the levels for each entry. Memory: the
     /// list alone, and of two chains a copy of what is held. `Err` is out of memory.
     pub fn ranked(&self, alloc: Global) -> Result<Vec<Ranked>, AllocError>
@@ -163,36 +136,22 @@ impl Partial {
         match &self.held {
             Held::Nothing => Ok(Vec::new(alloc)),
             Held::Sorted(sorted) => sorted.ranked(alloc),
-            Held::Whole(part) => ranked_of(alloc, &part.levels),
             Held::Apart(parts) => parts.ranked(alloc),
-        }
-    }
-
-    /// The levels, where all entries are held together and not in parts.
-    pub(crate) fn levels(&self) -> Option<&[Level]>
-        ensures held { IfSome result (λ levels. (ranked_from 1 levels.now ≡ self.now) × (length levels.now < 2 ^ 32)) }
-        ensures ids { HaveDifferentIds (map entry_of self.now) }
-    {
-        match &self.held {
-            Held::Whole(part) => Some(&part.levels),
-            Held::Nothing | Held::Sorted(_) | Held::Apart(_) => None,
         }
     }
 
     /// Adds entries, of which none has an id that is held: where it held the levels 1 to `cut` of a list,
     /// it then holds those of this list followed by the new entries.
     ///
-    /// Held entries of one level are never compared with each other again. Cost: for each new entry a search
-    /// by halves for the first level that does not dominate it, of which each step compares it with the
-    /// entries of one level until one dominates it or is the same; for each level that something comes to, the
-    /// best of what comes, and at most one comparison for each pair of one of these best and an entry that is
-    /// held there. Once 48 entries are held, or 16 of the first 128, signatures spare most of these: a new
-    /// entry is signed then, and again with all others each time that a good eighth more are held. Copied are the new entries that start at a level, those that join one, and those
-    /// that go down one; what stays at a level is not. Memory: a number for each new entry and its signature,
-    /// lists as long as what comes to a level, and room for what joins.
+    /// Held entries of one level are never compared with each other again. Cost: for each new entry a search by halves for a level that is
+    /// not seen to dominate it, of which each step compares it with up to 32 entries of one level; for each level that something comes to,
+    /// at most one comparison for each pair of an entry that comes and one that is held or came there, and a list of 16 bytes an entry.
+    /// Once 48 entries are held, signatures spare most comparisons: a new entry is signed then, and again with all others each time that a
+    /// good eighth more are held. Copied is each new entry that is not seen to be below the cut, once, and now and then all that are held.
+    /// Memory: these copies and lists.
     ///
     /// Where the order names [groups](pref_term::Dominance::groups), all this goes for the entries of one part: the cells
-    /// of its group tell in which of 1,024 parts an entry is, and it meets no others. What comes is copied once more then.
+    /// of its group tell in which of 1,024 parts an entry is, and it meets no others.
     ///
     /// Where the order is a product of two [chains](pref_term::Dominance::chains), new entries are put behind the others as they are, but for those
     /// that one of the last level is seen to dominate, by a search by halves. Once they are an eighth of what is held, and 64, all are
@@ -231,7 +190,6 @@ impl Partial {
                 self.held = begun_anew(alloc, dominance, window, cut, &ranked, entries)?;
                 Ok(())
             }
-            Held::Whole(part) => part.add(alloc, dominance, window, cut, entries),
             Held::Apart(parts) => {
                 if parts.columns.as_slice() == dominance.groups() {
                     return parts.add(alloc, dominance, window, cut, entries);

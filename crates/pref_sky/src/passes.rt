@@ -1,17 +1,33 @@
 //! Block-nested-loops over items (Börzsönyi, Kossmann, Stocker 2001): passes by a window of bounded size, which give the best and
 //! the others.
 
-ghost use Rattle.std.specs.Prelude.{◌≡◌, ◌≤◌, ◌<◌, ◌+◌, ◌++◌, [], ◌∷◌, ℕ, Bool, List, filter, not, length, count_by, IfOk, OnOk};
+ghost use Rattle.std.specs.Prelude.{◌≡◌, ◌≤◌, ◌<◌, ◌+◌, ◌++◌, [], ◌∷◌, ℕ, Bool, List, get_or, length, IfOk, OnOk};
 ghost use Rattle.pref_sky.specs.Best.{IsApart};
 ghost use Rattle.pref_sky.specs.Items.{item_order};
-ghost use Rattle.pref_sky.specs.Passes.{IsClear, IsMet, Parted, Passes, Sifted};
+ghost use Rattle.pref_sky.specs.Passes.{AreShared, IsClear, IsMet, IsTold, Parted, Passes, Shares, Sifted};
 ghost use Rattle.pref_term.specs.Order.{IsStrictOrder};
 ghost use Rattle.pref_sky.specs.declared.item.Item.{Item};
 
 use crate::entry::Entry;
 use crate::item::{Item, compare_items};
-use pref_term::{Dominance, Relation};
+use pref_term::{Dominance, Relation, is_within};
 use std::alloc::{AllocError, Global};
+
+/// The place of the first item, from one on, whose signature leaves open how it compares with what has this one.
+#[inline(always)]
+fn next_open(items: &[Item], from: usize, signature: u64) -> usize
+    requires { from ≤ length items.now }
+    ensures from { from ≤ result }
+    ensures within { result ≤ length items.now }
+    ensures told { (k : ℕ) (d : Item) → from ≤ k → k < result → IsTold signature (get_or items.now k d) }
+{
+    for (skipped, other) in items[from..].iter().enumerate() {
+        if is_within(other.signature, signature) || is_within(signature, other.signature) {
+            return from + skipped;
+        }
+    }
+    items.len()
+}
 
 /// Moves what an item dominates out of a list, behind others, and tells whether something of the list dominates it. One comparison
 /// for each of the list whose signature leaves open how the two compare, until one dominates the item, or is alike: the list is to
@@ -27,10 +43,14 @@ fn sift<D: Dominance>(
     ensures met { let over = item_order (D.order dominance.now) pool.now in
         IfOk result (λ beaten. IsApart over held.old.items → IsMet over held.new.items item.now beaten) }
 {
-    let mut place = 0;
+    let mut place = next_open(held, 0, item.signature);
     'each: while place < held.len() {
         match compare_items(dominance, pool, &held[place], item) {
-            Relation::Better => return Ok(true),
+            Relation::Better => {
+                // What dominates one item is likely to dominate the next: it is met sooner then.
+                held.swap(place / 2, place);
+                return Ok(true);
+            }
             Relation::Same => return Ok(false),
             Relation::Worse => {
                 let beaten = held.swap_remove(place);
@@ -38,6 +58,7 @@ fn sift<D: Dominance>(
             }
             Relation::Neither => place += 1,
         }
+        place = next_open(held, place, item.signature);
     }
     Ok(false)
 }
@@ -56,7 +77,9 @@ struct Pass {
 /// Takes an item that is apart from all that is held into the window, or lets it overflow where that is full.
 fn take_in(window: usize, pass: &mut Pass, item: Item) -> Result<(), AllocError>
     requires { 0 < window }
-    ensures { OnOk result ((over : Item → Item → Bool) → IsStrictOrder over → (input best left : List Item) (before : ℕ)
+    ensures shared { OnOk result ((input best left : List Item) (before : ℕ)
+        → Shares window input best (item ∷ left) before pass.old → Shares window input best left before pass.new) }
+    ensures passed { OnOk result ((over : Item → Item → Bool) → IsStrictOrder over → (input best left : List Item) (before : ℕ)
         → Passes over window input best (item ∷ left) before pass.old
         → IsClear over pass.old.early.items item → IsClear over pass.old.late.items item
         → Passes over window input best left before pass.new) }
@@ -81,7 +104,8 @@ fn offer<D: Dominance>(
     item: Item,
 ) -> Result<(), AllocError>
     requires { 0 < window }
-    ensures { let over = item_order (D.order dominance.now) pool.now in
+    ensures shared { OnOk result ((input best left : List Item) (before : ℕ) → Shares window input best (item ∷ left) before pass.old → Shares window input best left before pass.new) }
+    ensures passed { let over = item_order (D.order dominance.now) pool.now in
         OnOk result ((input best left : List Item) (before : ℕ) → Passes over window input best (item ∷ left) before pass.old → Passes over window input best left before pass.new) }
 {
     if sift(dominance, pool, &mut pass.early, &item, &mut pass.rest)? {
@@ -105,7 +129,8 @@ fn offer_all<D: Dominance>(
     items: &[Item],
 ) -> Result<(), AllocError>
     requires { 0 < window }
-    ensures { let over = item_order (D.order dominance.now) pool.now in
+    ensures shared { OnOk result ((input best : List Item) (before : ℕ) → Shares window input best items.now before pass.old → Shares window input best [] before pass.new) }
+    ensures passed { let over = item_order (D.order dominance.now) pool.now in
         OnOk result ((input best : List Item) (before : ℕ) → Passes over window input best items.now before pass.old → Passes over window input best [] before pass.new) }
 {
     for item in items {
@@ -131,42 +156,51 @@ fn settle(alloc: Global, pass: &mut Pass, best: &mut Vec<Item>) -> Result<Vec<It
     ensures overflow { OnOk result (pass.new.overflow.items ≡ []) }
     ensures rest { OnOk result (pass.new.rest.items ≡ pass.old.rest.items) }
 {
-    best.extend_from_slice(&pass.early)?;
+    let early = std::mem::replace(&mut pass.early, Vec::new(alloc));
     pass.early = std::mem::replace(&mut pass.late, Vec::new(alloc));
+    if best.is_empty() {
+        *best = early;
+    } else {
+        best.extend_from_slice(&early)?;
+    }
     Ok(std::mem::replace(&mut pass.overflow, Vec::new(alloc)))
 }
 
-/// Parts items into the best, which none of them dominates, and the rest, by passes with a window of so many items.
+/// Parts items into the best, which none of them dominates, and the rest, by passes with a window that has room for so many beside the
+/// held ones. Of these none is to dominate another: they are the window as the first pass begins.
 pub(crate) fn best_and_rest<D: Dominance>(
     alloc: Global,
     dominance: &D,
     window: usize,
     pool: &[Entry],
+    held: &[Item],
     items: &[Item],
 ) -> Result<Found, AllocError>
     requires { 0 < window }
-    ensures parted { IfOk result (λ found. Parted (item_order (D.order dominance.now) pool.now) items.now found.best.items found.rest.items) }
+    ensures parted { let over = item_order (D.order dominance.now) pool.now in
+        IfOk result (λ found. IsApart over held.now → Parted over (held.now ++ items.now) found.best.items found.rest.items) }
+    ensures shared { IfOk result (λ found. AreShared (held.now ++ items.now) found.best.items found.rest.items) }
     ensures passes { IfOk result (λ found. found.passes ≤ length items.now) }
 {
-    if items.len() <= 1 {
-        let best = Vec::from_slice(alloc, items)?;
-        return Ok(Found {
-            best,
-            rest: Vec::new(alloc),
-            passes: items.len() as u64,
-        });
-    }
+    let mut best = Vec::new(alloc);
     let mut pass = Pass {
-        early: Vec::new(alloc),
+        early: Vec::from_slice(alloc, held)?,
         late: Vec::new(alloc),
         overflow: Vec::new(alloc),
         rest: Vec::new(alloc),
     };
-    let mut best = Vec::new(alloc);
+    if items.is_empty() {
+        return Ok(Found {
+            best: pass.early,
+            rest: pass.rest,
+            passes: 0,
+        });
+    }
+    let room = window.saturating_add(held.len());
     let mut input = Vec::from_slice(alloc, items)?;
     let mut passes = 0;
     'each_pass: while !input.is_empty() {
-        offer_all(dominance, pool, window, &mut pass, &input)?;
+        offer_all(dominance, pool, room, &mut pass, &input)?;
         input = settle(alloc, &mut pass, &mut best)?;
         passes += 1;
     }

@@ -3,10 +3,9 @@
 
 ghost use Rattle.std.specs.Prelude.{◌≡◌, ◌≤◌, ◌<◌, ◌++◌, ◌-◌, [], true, nat_lt, List, All, filter, length, map, slice_index, vec_len, IfOk, OnErr, OnOk};
 ghost use Rattle.pref_sky.specs.ChainOrders.{AreInOrder, own_order};
-ghost use Rattle.pref_sky.specs.Layers.{AreLevels};
 ghost use Rattle.pref_sky.specs.Levels.{HaveDifferentIds, entry_of, levels};
 ghost use Rattle.pref_sky.specs.Sorted.{AreInOrder-prop, AreLowest, HoldsUpper, is_below};
-ghost use Rattle.pref_sky.specs.Starts.{chosen};
+ghost use Rattle.pref_sky.specs.Layers.{AreLevels, chosen};
 ghost use Rattle.pref_sky.specs.declared.entry.Entry.{Entry};
 
 use crate::chain_order::ChainOrder;

@@ -4,7 +4,6 @@ use Rattle.std.proofs.lemmas.List.Sorted.{IsPartitionPoint-from_clause, IsPartit
 use Rattle.pref_term.specs.Better.{in_same_group}
 use Rattle.pref_sky.specs.declared.entry.Ranked.{Ranked}
 use Rattle.pref_sky.specs.Answers.{at_least}
-use Rattle.pref_sky.specs.Levels.{levels}
 use Rattle.pref_sky.proofs.FirstRanked.{all_ranked, first_ranked, levels_sorted, none_ranked}
 use Rattle.pref_sky.proofs.answers.keep_first_levels.Goals as goal
 

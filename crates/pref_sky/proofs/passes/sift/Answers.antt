@@ -1,12 +1,17 @@
-use Rattle.std.proofs.Common.{◌≡◌, ◌∙◌, ◌<◌, true, length, sym, ap, subst, arith, vec_len}
+use Rattle.std.proofs.Common.{◌≡◌, ◌∙◌, ◌<◌, ◌+◌, ◌/◌, true, length, sym, ap, subst, arith, vec_len, Vec}
+use Rattle.std.specs.Global.{Global}
 use Rattle.std.specs.List.{swap_remove}
+use Rattle.std.proofs.lemmas.List.Sorted.{IsPermutation-swap}
 use Rattle.pref_term.specs.Order.{is_better, is_worse, is_same}
+use Rattle.pref_sky.specs.declared.item.Item.{Item}
 use Rattle.pref_sky.specs.Items.{item_order}
 use Rattle.pref_sky.specs.Members.{Among}
-use Rattle.pref_sky.proofs.Members.{among_place}
 use Rattle.pref_sky.specs.Passes.{Sifted}
-use Rattle.pref_sky.proofs.PassSteps.{clear_if_alike, clear_after_move, clear_by_place, clear_more, get_or_any, sifted_more}
+use Rattle.pref_sky.proofs.Members.{among_place, any_from}
+use Rattle.pref_sky.proofs.Orders.{same_if_permuted}
+use Rattle.pref_sky.proofs.Sifting.{AreClear, AreTold, clear_if_alike, clear_after_move, clear_by_place, clear_more, clear_upto, get_or_any, sifted_more, sifted_moved, sifted_none}
 use Rattle.pref_sky.proofs.passes.sift.Goals as goal
+use Rattle.pref_sky.proofs.passes.sift.Goals.{in-Worse+in_ok-push-in-Worse, in-Neither}
 
 -- one of the list is alike
 pub returns-in-Same-clause-met : goal.returns-in-Same-clause-met
@@ -19,35 +24,81 @@ returns-in-Same-clause-met g c apart =
     clear_if_alike over held y c.args.item.now (subst (λ z. Among z held) (sym c.index.ensures) (among_place held c.each.place y inside)) (c.compare_items.ensures.stand_alike (ap is_same c.in-Same.is))
     (λ a b ma mb. apart a b (back a ma) (back b mb))
 
--- the item dominates this one, which goes out
-pub each-preserved-in-Continue-1 : goal.each-preserved-in-Continue-1
-each-preserved-in-Continue-1 g c =
+-- one of the list dominates the item: it goes to a place further up
+pub returns-in-Better-clause-sifted : goal.returns-in-Better-clause-sifted
+returns-in-Better-clause-sifted g c =
     let over = item_order (g.D.Dominance.order c.args.dominance.now) c.args.pool.now in
+    let held = c.each.held.items in
+    let inside : c.each.place < length held = omega (arith, c.each-test.true, c.len.ensures, c.each.held.ok.0) in
+    sifted_moved over c.args.item.now c.args.held.now.items held c.args.rest.now.items c.each.rest.items c.swap.new.self.items
+    (IsPermutation-swap held c.swap.new.self.items (c.each.place / 2) c.each.place (omega (arith, inside)) inside c.swap.ensures.items) c.each.invariant.sifted
+
+pub returns-in-Better-clause-met : goal.returns-in-Better-clause-met
+returns-in-Better-clause-met g c apart =
+    let over = item_order (g.D.Dominance.order c.args.dominance.now) c.args.pool.now in
+    let held = c.each.held.items in
+    let moved = c.swap.new.self.items in
+    let y = c.index.result.now in
+    let inside : c.each.place < length held = omega (arith, c.each-test.true, c.len.ensures, c.each.held.ok.0) in
+    let same = same_if_permuted held moved (IsPermutation-swap held moved (c.each.place / 2) c.each.place (omega (arith, inside)) inside c.swap.ensures.items) in
+    any_from (λ x. over x c.args.item.now) moved y (same.there y (subst (λ z. Among z held) (sym c.index.ensures) (among_place held c.each.place y inside)))
+    (sym c.compare_items.ensures.better ∙ ap is_better c.in-Better.is)
+
+-- the first places are told by the signatures
+pub each-init : goal.each-init
+each-init g c =
+    let order = g.D.Dominance.order c.args.dominance.now in
+    let pool = c.args.pool.now in
+    let item = c.args.item.now in
+    let held = c.args.held.now.items in
+    let place = c.next_open-place.result in
+    let told : AreTold held item 0 place = subst (λ l. AreTold l item 0 place) c.deref.ensures.value c.next_open-place.ensures.told in
+    record {
+      inside = omega (arith, c.next_open-place.ensures.within, ap length c.deref.ensures.value);
+      sifted = sifted_none (item_order order pool) item held c.args.rest.now.items;
+      clear = clear_upto order pool held item 0 place (λ k d within. absurd (omega (arith, within))) told;
+    }
+
+-- one goes out, which the item dominates, or the item is clear of one more
+pub each-preserved : goal.each-preserved
+each-preserved g c =
+    let order = g.D.Dominance.order c.args.dominance.now in
+    let pool = c.args.pool.now in
+    let over = item_order order pool in
     let item = c.args.item.now in
     let old = c.args.held.now.items in
     let start = c.args.rest.now.items in
     let held = c.each.held.items in
     let rest = c.each.rest.items in
     let i = c.each.place in
-    let x = c.swap_remove-beaten.result in
+    let met = c.match-compare_items in
     let inside : i < length held = omega (arith, c.each-test.true, c.len.ensures, c.each.held.ok.0) in
-    let is : x ≡ c.index.result.now = c.swap_remove-beaten.ensures.value ∙ (get_or_any held i x c.index.result.now inside ∙ sym c.index.ensures) in
-    let above : over item x ≡ true = ap (over item) is ∙ (sym c.compare_items.ensures.worse ∙ ap is_worse c.in-Worse.is) in
-    let more = sifted_more over item old held start rest i x inside c.swap_remove-beaten.ensures.value above c.each.invariant.sifted in
+    let step : Sifted over item old met.held.items start met.rest.items × AreClear over met.held.items item met.place =
+    elim met.branch [
+      | in-Worse+in_ok-push-in-Worse w ↦
+          let x = w.swap_remove-beaten.result in
+          let is : x ≡ c.index.result.now = w.swap_remove-beaten.ensures.value ∙ (get_or_any held i x c.index.result.now inside ∙ sym c.index.ensures) in
+          let above : over item x ≡ true = ap (over item) is ∙ (sym c.compare_items.ensures.worse ∙ ap is_worse w.in-Worse.is) in
+          let more = sifted_more over item old held start rest i x inside w.swap_remove-beaten.ensures.value above c.each.invariant.sifted in
+          let held_is : met.held.items ≡ swap_remove held i x = ap (λ (v : Vec Item Global). v.items) w.held-is ∙ w.swap_remove-beaten.ensures.items in
+          let clear = clear_after_move over held w.swap_remove-beaten.new.self.items item i (vec_len c.each.held) (omega (arith, c.each-test.true, c.len.ensures)) w.swap_remove-beaten.ensures.by_index.1 c.each.invariant.clear in (
+            subst (λ l. Sifted over item old l start met.rest.items) (sym held_is)
+                (subst (λ l. Sifted over item old (swap_remove held i x) start l) (sym (ap (λ (v : Vec Item Global). v.items) w.rest-is ∙ w.in_ok-push-in-Worse.ensures.items)) more),
+            subst (λ n. AreClear over met.held.items item n) (sym w.place-is) (subst (λ (v : Vec Item Global). AreClear over v.items item i) (sym w.held-is) clear),
+          )
+      | in-Neither w ↦
+          let clear = clear_more over held item i c.index.result.now inside c.index.ensures (sym c.compare_items.ensures.better ∙ ap is_better w.in-Neither.is) (sym c.compare_items.ensures.worse ∙ ap is_worse w.in-Neither.is) c.each.invariant.clear in (
+            subst (λ (v : Vec Item Global). Sifted over item old v.items start met.rest.items) (sym w.held-is)
+                (subst (λ (v : Vec Item Global). Sifted over item old held start v.items) (sym w.rest-is) c.each.invariant.sifted),
+            subst (λ n. AreClear over met.held.items item n) (sym w.place-is) (subst (λ (v : Vec Item Global). AreClear over v.items item (i + 1)) (sym w.held-is) clear),
+          )
+    ] in
+    let next = c.next_open-place-in-each.result in
+    let told : AreTold met.held.items item met.place next = subst (λ l. AreTold l item met.place next) c.deref-in-each.ensures.value c.next_open-place-in-each.ensures.told in
     record {
-      sifted = subst (λ l. Sifted over item old l start c.push.new.self.items) (sym c.swap_remove-beaten.ensures.items) (subst (λ l. Sifted over item old (swap_remove held i x) start l) (sym c.in_ok-push-in-Worse.ensures.items) more);
-      clear = clear_after_move over held c.swap_remove-beaten.new.self.items item i (vec_len c.each.held) (omega (arith, c.each-test.true, c.len.ensures)) c.swap_remove-beaten.ensures.by_index.1 c.each.invariant.clear;
-    }
-
--- it is apart from this one
-pub each-preserved : goal.each-preserved
-each-preserved g c =
-    let over = item_order (g.D.Dominance.order c.args.dominance.now) c.args.pool.now in
-    let held = c.each.held.items in
-    let inside : c.each.place < length held = omega (arith, c.each-test.true, c.len.ensures, c.each.held.ok.0) in
-    record {
-      sifted = c.each.invariant.sifted;
-      clear = clear_more over held c.args.item.now c.each.place c.index.result.now inside c.index.ensures (sym c.compare_items.ensures.better ∙ ap is_better c.in-Neither.is) (sym c.compare_items.ensures.worse ∙ ap is_worse c.in-Neither.is) c.each.invariant.clear;
+      inside = omega (arith, c.next_open-place-in-each.ensures.within, ap length c.deref-in-each.ensures.value);
+      sifted = step.0;
+      clear = clear_upto order pool met.held.items item met.place next step.1 told;
     }
 
 pub returns-clause-met : goal.returns-clause-met

@@ -3,8 +3,8 @@ use Rattle.std.proofs.lemmas.Bool.{le-ltb, lt-ltb}
 use Rattle.std.proofs.lemmas.List.{drop-drop, drop-set-lt, get_or_default, length-set, take_more_set}
 use Rattle.std.proofs.lemmas.List.Elements.{filter_more}
 use Rattle.pref_sky.specs.declared.entry.Entry.{Entry}
-use Rattle.pref_sky.specs.Starts.{chosen}
-use Rattle.pref_sky.proofs.Starting.{chosen_more}
+use Rattle.pref_sky.specs.Layers.{chosen}
+use Rattle.pref_sky.proofs.Chosen.{chosen_more}
 use Rattle.pref_sky.proofs.Staying.{same_there}
 use Rattle.pref_sky.proofs.sorted.drop_lower.Goals as goal
 use Rattle.pref_sky.proofs.sorted.drop_lower.Goals.{then-index-cut, else-index-cut}

@@ -1,5 +1,5 @@
 use Rattle.std.proofs.Common.{◌≡◌, ◌≤◌, nat_lt, drop, filter, length, take}
-use Rattle.pref_sky.specs.Starts.{chosen}
+use Rattle.pref_sky.specs.Layers.{chosen}
 use Rattle.pref_sky.proofs.sorted.drop_lower.Given as goal
 
 abbrev pub invariant-loop-place : goal.invariant-loop-place

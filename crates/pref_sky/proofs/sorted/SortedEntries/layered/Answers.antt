@@ -4,7 +4,7 @@ use Rattle.std.specs.List.Sorted.{IsPermutation}
 use Rattle.pref_sky.specs.ChainOrders.{AreInOrder, comes_before, own_order}
 use Rattle.pref_sky.specs.Layers.{AreLevels}
 use Rattle.pref_sky.specs.Levels.{HaveDifferentIds, levels}
-use Rattle.pref_sky.specs.Starts.{chosen}
+use Rattle.pref_sky.specs.Layers.{chosen}
 use Rattle.pref_sky.proofs.ChainOrders.{own_is_strict}
 use Rattle.pref_sky.proofs.UpperLevels.{chosen_in_order, layered_above, layered_ids, layered_levels, levels_long, numbers_upper}
 use Rattle.pref_sky.proofs.sorted.SortedEntries.layered.Goals as goal

@@ -1,0 +1,197 @@
+-- What an addition makes of parts: each holds the levels of what it held and of what came to it.
+use Rattle.std.proofs.Common.{◌≡◌, ℕ, zero, suc, ◌≤◌, ◌+◌, ◌-◌, Bool, true, cond, not, inl, inr, ◌⊎◌, List, [], ◌∷◌, ◌++◌, length, take, drop, filter, map, eqb, refl, sym, ◌∙◌, ap, subst, arith, append-nil, Vec, Global}
+use Rattle.std.specs.Prelude.{All}
+use Rattle.std.proofs.lemmas.Bool.{cases_Bool, cond-true, cond-false}
+use Rattle.std.proofs.lemmas.List.{length-map, map-append, take-map, drop-map}
+use Rattle.std.proofs.lemmas.List.Elements.{All-append, All-drop, All-take, filter-append}
+use Rattle.std.proofs.lemmas.List.Sums.{sum_by-append}
+use Rattle.pref_term.specs.Order.{IsStrictOrder}
+use Rattle.pref_sky.specs.declared.arrival.Arrival.{Arrival}
+use Rattle.pref_sky.specs.declared.entry.Entry.{Entry}
+use Rattle.pref_sky.specs.declared.making.Made.{Made}
+use Rattle.pref_sky.specs.Arrivals.{KeepsUpper, arrived, coming_to}
+use Rattle.pref_sky.specs.Best.{best, is_beaten, rest}
+use Rattle.pref_sky.specs.Items.{AreAllItems, AreInPool, AreItems, entries_at, levels_at, levels_in, parts_at}
+use Rattle.pref_sky.specs.declared.item.Item.{Item}
+use Rattle.pref_sky.specs.Levels.{HaveDifferentIds, entry_of, levels}
+use Rattle.pref_sky.specs.Made.{ArePartsMade, IsPartMade, LeaveAlone, new_levels}
+use Rattle.pref_sky.specs.Partials.{IsBehind, IsMade, held_at, replaced}
+use Rattle.pref_sky.specs.Parts.{ArePartedBy, depth, is_in, levels_of, ranked_parts, ranked_upto}
+use Rattle.pref_sky.proofs.Halves.{beaten_by_rest}
+use Rattle.pref_sky.proofs.LevelLaws.{first_differ}
+use Rattle.pref_sky.proofs.Members.{Among, all_among, among_all, any_from, any_gives, from_filter}
+use Rattle.pref_sky.proofs.Merges.{different_filter}
+use Rattle.pref_sky.proofs.PartItems.{Part, in_pool_if, in_pool_of, levels_of_at, same_or_not}
+use Rattle.pref_sky.proofs.PartLaws.{IsWithin, NoMore, depth_within, hold_apart, hold_together, level_in_part, within_depth}
+use Rattle.pref_sky.proofs.Ranks.{held_there, held_upto, levels_upto_is, within_if_same}
+use Rattle.pref_sky.proofs.Removals.{comes_after}
+use Rattle.pref_sky.proofs.Replacements.{taken_long}
+use Rattle.pref_sky.proofs.SortedLevels.{kept_levels}
+
+-- what a function makes of others in the place of some
+replaced_map : {A B : Type 0} (f : A → B) (n : ℕ) (others all : List A) → map f (replaced n others all) ≡ replaced n (map f others) (map f all)
+replaced_map f n others all =
+    let back = drop (n + length others) all in
+    let whole = map-append f (take n all ++ others) back in
+    let begun = map-append f (take n all) others in
+    let front = take-map f n all in
+    let last = drop-map f (n + length others) all in
+    let long = length-map others f in
+    cc
+
+-- nothing comes
+nothing_comes : (over : Entry → Entry → Bool) (cut : ℕ) (held : List (List Entry)) → IsMade over cut held held []
+nothing_comes over cut held = record { counts = λ p. omega arith; merged = λ before different is. is ∙ ap (λ l. levels over l cut) (sym (append-nil before)) }
+
+-- a part is made, or left alone
+made_or_not : (part : ℕ) (all : List Made) → ((made : Made) × Among made all × (made.part ≡ part)) ⊎ LeaveAlone all part
+made_or_not part [] = inr (λ k d inside. absurd (omega (arith, inside)))
+made_or_not part (made ∷ all) =
+    elim (same_or_not made.part part) [
+      | inl here ↦ inl (made, inl refl, here)
+      | inr other ↦
+          elim (made_or_not part all) [
+            | inl w ↦ inl (w.0, inr w.1, w.2)
+            | inr alone ↦
+                inr (among_all (λ (m : Made). m.part ≡ part → ⊥) (made ∷ all) (λ m among.
+                elim among [ inl same ↦ subst (λ (x : Made). x.part ≡ part → ⊥) (sym same) other | inr later ↦ all_among (λ (x : Made). x.part ≡ part → ⊥) all alone m later ]))
+          ]
+    ]
+
+-- parts in which those that were made are in their places
+module _ (over : Entry → Entry → Bool) (cut : ℕ) (rule : Entry → ℕ) (pool : List Entry) (parts new : List Part) (arrivals : List Arrival) (all : List Made) (are : ArePartsMade over cut rule pool parts arrivals all)
+    (put : All (λ made. levels_in made.part new ≡ replaced made.first (new_levels made) (levels_in made.part parts)) all) (others : (part : ℕ) → LeaveAlone all part → levels_in part new ≡ levels_in part parts) where
+  is_put : (made : Made) → Among made all → levels_in made.part new ≡ replaced made.first (new_levels made) (levels_in made.part parts)
+  is_put = all_among (λ (m : Made). levels_in m.part new ≡ replaced m.first (new_levels m) (levels_in m.part parts)) all put
+
+  is_made : (made : Made) → Among made all → IsPartMade over cut rule pool parts arrivals made
+  is_made = all_among (IsPartMade over cut rule pool parts arrivals) all are.each
+
+  pub part_after : (part : ℕ) → IsMade over cut (levels_of part (parts_at pool parts)) (levels_of part (parts_at pool new)) (map (arrived pool) (coming_to part arrivals))
+  part_after part =
+      let was = levels_of part (parts_at pool parts) in
+      elim (made_or_not part all) [
+        | inl w ↦
+            let made = w.0 in
+            let held = levels_in made.part parts in
+            let now : levels_of made.part (parts_at pool new) ≡ replaced made.first (levels_at pool (new_levels made)) (levels_at pool held) =
+            levels_of_at pool made.part new ∙ (ap (levels_at pool) (is_put made w.1) ∙ replaced_map (λ (level : Vec Item Global). entries_at pool level.items) made.first (new_levels made) held) in
+            subst (λ p. IsMade over cut (levels_of p (parts_at pool parts)) (levels_of p (parts_at pool new)) (map (arrived pool) (coming_to p arrivals))) w.2
+            (subst (λ l. IsMade over cut l (levels_of made.part (parts_at pool new)) (map (arrived pool) (coming_to made.part arrivals))) (sym (levels_of_at pool made.part parts))
+            (subst (λ l. IsMade over cut (levels_at pool held) l (map (arrived pool) (coming_to made.part arrivals))) (sym now) (is_made made w.1).made))
+        | inr alone ↦
+            let same : levels_of part (parts_at pool new) ≡ was = levels_of_at pool part new ∙ (ap (levels_at pool) (others part alone) ∙ sym (levels_of_at pool part parts)) in
+            subst (λ l. IsMade over cut was l (map (arrived pool) (coming_to part arrivals))) (sym same)
+            (subst (λ l. IsMade over cut was was (map (arrived pool) l)) (sym (are.others part alone)) (nothing_comes over cut was))
+      ]
+
+  pub in_pool_after : AreInPool rule pool parts → AreInPool rule pool new
+  in_pool_after in_pool =
+      let IsLevel : Vec Item Global → Type 0 = λ level. AreItems rule pool level.items in
+      in_pool_if rule pool new (λ n inside.
+      elim (made_or_not n all) [
+        | inl w ↦
+            let made = w.0 in
+            let held = levels_in made.part parts in
+            let news = new_levels made in
+            let there : AreAllItems rule pool held = in_pool_of rule pool parts in_pool made.part in
+            let back = made.first + length news in
+            subst (λ p. AreAllItems rule pool (levels_in p new)) w.2
+            (subst (AreAllItems rule pool) (sym (is_put made w.1))
+            (All-append IsLevel (take made.first held ++ news) (drop back held)
+            (All-append IsLevel (take made.first held) news (All-take IsLevel made.first held there)
+            (All-take IsLevel (made.end - made.first) (drop made.first made.levels.items) (All-drop IsLevel made.first made.levels.items (is_made made w.1).items)))
+            (All-drop IsLevel back held there)))
+        | inr alone ↦ subst (AreAllItems rule pool) (sym (others n alone)) (in_pool_of rule pool parts in_pool n)
+      ])
+
+  pub depth_after : (most : ℕ) → cut ≤ most → depth (parts_at pool parts) ≤ most → depth (parts_at pool new) ≤ most
+  depth_after most cut_fits shallow =
+      let counted : (some : List Part) (part : ℕ) → length (levels_of part (parts_at pool some)) ≡ length (levels_in part some) =
+      λ some part. ap length (levels_of_at pool part some) ∙ length-map (levels_in part some) (λ (level : Vec Item Global). entries_at pool level.items) in
+      let before : (part : ℕ) → length (levels_in part parts) ≤ most = λ part. omega (arith, counted parts part, within_depth (parts_at pool parts) part, shallow) in
+      depth_within (parts_at pool new) most (λ part.
+      elim (made_or_not part all) [
+        | inl w ↦
+            let made = w.0 in
+            let one = is_made made w.1 in
+            subst (λ p. length (levels_of p (parts_at pool new)) ≤ most) w.2
+            (omega (arith, counted new made.part, ap length (is_put made w.1), taken_long made.first made.end made.levels.items (levels_in made.part parts) one.fits.inside one.fits.first one.fits.new, one.no_deeper, before made.part, cut_fits))
+        | inr alone ↦ omega (arith, counted new part, ap length (others part alone), before part)
+      ])
+
+-- those that come to a part are those of its number
+through_map : {E F : Type 0} (f : E → F) (q : F → Bool) (p : E → Bool) (xs : List E) → ((x : E) → Among x xs → q (f x) ≡ p x) → filter q (map f xs) ≡ map f (filter p xs)
+through_map f q p [] agree = refl
+through_map f q p (x ∷ xs) agree =
+    let deeper = through_map f q p xs (λ y m. agree y (inr m)) in
+    let here = agree x (inl refl) in
+    elim (cases_Bool (p x)) [
+      | inl passes ↦
+          cond-true (q (f x)) (f x ∷ filter q (map f xs)) (filter q (map f xs)) (here ∙ passes)
+          ∙ (ap (λ l. f x ∷ l) deeper ∙ ap (map f) (sym (cond-true (p x) (x ∷ filter p xs) (filter p xs) passes)))
+      | inr fails ↦
+          cond-false (q (f x)) (f x ∷ filter q (map f xs)) (filter q (map f xs)) (here ∙ fails)
+          ∙ (deeper ∙ ap (map f) (sym (cond-false (p x) (x ∷ filter p xs) (filter p xs) fails)))
+    ]
+
+pub coming_of : (number : Entry → ℕ) (pool : List Entry) (arrivals : List Arrival) → All (λ a. number (arrived pool a) ≡ a.part) arrivals → (part : ℕ)
+    → filter (is_in number part) (map (arrived pool) arrivals) ≡ map (arrived pool) (coming_to part arrivals)
+coming_of number pool arrivals of_part part =
+    through_map (arrived pool) (is_in number part) (λ (a : Arrival). eqb a.part part) arrivals (λ a m. ap (λ n. eqb n part) (all_among (λ (b : Arrival). number (arrived pool b) ≡ b.part) arrivals of_part a m))
+
+-- all parts, of which each is made of what came to it
+module _ (over : Entry → Entry → Bool) (number : Entry → ℕ) (cut : ℕ) (old new : List (List (List Entry))) (coming : List Entry)
+    (after : (part : ℕ) → IsMade over cut (levels_of part old) (levels_of part new) (filter (is_in number part) coming)) where
+  pub no_more : NoMore (λ part. filter (is_in number part) coming) old new
+  no_more p part = (after part).counts p
+
+  pub added : IsWithin over number → (before : List Entry) → HaveDifferentIds (before ++ coming) → HaveDifferentIds (map entry_of (ranked_parts old)) → HaveDifferentIds (map entry_of (ranked_parts new))
+      → ArePartedBy number old → ranked_parts old ≡ levels over before cut → ranked_parts new ≡ levels over (before ++ coming) cut
+  added within before different apart new_apart parted is =
+      hold_together over number within cut new (before ++ coming) different new_apart (λ part.
+      let mine = is_in number part in
+      let both : filter mine (before ++ coming) ≡ filter mine before ++ filter mine coming = filter-append mine before coming in
+      (after part).merged (filter mine before) (subst HaveDifferentIds both (different_filter mine (before ++ coming) different))
+      (hold_apart over number within cut old before (first_differ before coming different) apart parted is part)
+      ∙ ap (λ l. levels over l cut) (sym both))
+
+-- what is below the cut of its part is below that of all
+late : (over : Entry → Entry → Bool) (number : Entry → ℕ) → IsWithin over number → (cut : ℕ) (old : List (List (List Entry))) (before : List Entry) → HaveDifferentIds before → HaveDifferentIds (map entry_of (ranked_parts old)) → ArePartedBy number old
+    → ranked_parts old ≡ levels over before cut → (x : Entry) (n : ℕ) → cut ≤ n → IsBehind over (levels_of (number x) old) n x → comes_after over before cut x ≡ true
+late over number within zero old before different apart parted is x n low behind = refl
+late over number within (suc c) old before different apart parted is x n low behind =
+    let part = number x in
+    let held = levels_of part old in
+    let mine = is_in number part in
+    let some : ℕ → List Entry = λ j. best over (rest over (filter mine before) j) in
+    let k = n - 1 in
+    let same : ranked_upto (λ j. held_at j held) (length held) ≡ ranked_upto some (suc c) =
+    sym (held_upto held) ∙ (hold_apart over number within (suc c) old before different apart parted is part ∙ levels_upto_is over (filter mine before) (suc c)) in
+    let next : suc k ≡ n = omega (arith, low) in
+    let w = any_gives (λ y. over y x) (held_at k held) (behind k next) in
+    let v = within_if_same (λ j. held_at j held) some (length held) (suc c) same k w.0 (held_there k held w.0 w.1) w.1 in
+    let here : k ≡ c = omega (arith, low, v.0) in
+    let u = from_filter mine (best over (rest over before k)) w.0 (subst (Among w.0) (level_in_part over number within part before k) v.1) in
+    let left = from_filter (λ e. not (is_beaten over (rest over before k) e)) (rest over before k) w.0 u.0 in
+    sym (beaten_by_rest over before c x) ∙ any_from (λ y. over y x) (rest over before c) w.0 (subst (λ j. Among w.0 (rest over before j)) here left.0) w.2
+
+-- of what comes, what is below the cut may be left out
+module _ (over : Entry → Entry → Bool) (number : Entry → ℕ) (cut : ℕ) (old : List (List (List Entry))) (entries kept : List Entry) (upper : KeepsUpper over cut number old entries kept) where
+  pub some_differ : (held : List Entry) → HaveDifferentIds (held ++ entries) → HaveDifferentIds (held ++ kept)
+  some_differ held different =
+      record {
+        once = λ id.
+            let p : Entry → Bool = λ e. eqb e.id id in
+            omega (arith, different.once id, upper.counts p, sum_by-append (λ e. cond (p e) 1 0) held kept, sum_by-append (λ e. cond (p e) 1 0) held entries);
+      }
+
+  pub upper_levels : IsStrictOrder over → IsWithin over number → (before : List Entry) → HaveDifferentIds (before ++ entries) → HaveDifferentIds (map entry_of (ranked_parts old) ++ entries) → ArePartedBy number old
+      → ranked_parts old ≡ levels over before cut → levels over (before ++ kept) cut ≡ levels over (before ++ entries) cut
+  upper_levels strict within before different apart parted is =
+      kept_levels over strict cut before entries (subst (λ l. HaveDifferentIds (map entry_of l ++ entries)) is apart) kept upper.within
+      (λ x m. elim (upper.covers x m) [
+        | inl stays ↦ inl stays
+        | inr below ↦ inr (late over number within cut old before (first_differ before entries different) (first_differ (map entry_of (ranked_parts old)) entries apart) parted is x below.0 below.1 below.3)
+      ])
+      upper.counts before different refl

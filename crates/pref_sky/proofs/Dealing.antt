@@ -1,0 +1,125 @@
+-- One entry more comes to parts, and what comes is put in order.
+use Rattle.std.proofs.Common.{Bor, ◌≡◌, ◌∙◌, ℕ, ◌≤◌, ◌<◌, ◌+◌, Bool, false, cond, inl, inr, List, [], ◌∷◌, ◌++◌, Vec, Global, get_or, length, map, sym, ap, subst, arith}
+use Rattle.std.specs.Fn.{Called}
+use Rattle.std.specs.List.Sorted.{IsPermutation, IsSortedBy, IsSortedByKeyClosure}
+use Rattle.std.specs.Ordering.{is_lt, nat_cmp, ordering_then}
+use Rattle.std.specs.Prelude.{All, count_by}
+use Rattle.std.proofs.lemmas.Bool.Decides.{nat_tests}
+use Rattle.std.proofs.lemmas.Fn.{always_returns_same}
+use Rattle.std.proofs.lemmas.List.{map-append}
+use Rattle.std.proofs.lemmas.List.Elements.{All-push}
+use Rattle.std.proofs.lemmas.List.Sorted.{sum_by-IsPermutation}
+use Rattle.std.proofs.lemmas.List.Sums.{sum_by-append}
+use denote.Param.Members.{Mut}
+use Rattle.pref_sky.specs.declared.entry.Entry.{Entry}
+use Rattle.pref_sky.specs.declared.item.Item.{Item}
+use Rattle.pref_sky.specs.declared.arrival.Arrival.{Arrival}
+use Rattle.pref_sky.specs.Arrivals.{AreDealt, IsArrival, KeepsUpper, arrived, deals_before}
+use Rattle.pref_sky.specs.Items.{AreAllItems, AreInPool, IsItem, levels_at, parts_at}
+use Rattle.pref_sky.specs.Partials.{IsBehind}
+use Rattle.pref_sky.specs.Parts.{levels_of}
+use Rattle.pref_sky.proofs.Members.{all_among, in_either, in_left, in_right, map_agree_among}
+use Rattle.pref_sky.proofs.Orders.{same_if_permuted}
+use Rattle.pref_sky.proofs.Pools.{entry_behind, entry_more, item_more, levels_more, part_here}
+
+-- ---- what came stays where it is while the pool grows
+
+pub part_stays : (rule : Entry → ℕ) (pool more now : List Entry) (parts : List (Vec (Vec Item Global) Global)) (n : ℕ) (part : Vec (Vec Item Global) Global) → AreInPool rule pool parts → n < length parts → part ≡ get_or parts n part
+    → now ≡ pool ++ more → levels_at now part.items ≡ levels_of n (parts_at pool parts)
+part_stays rule pool more now parts n part are inside is grown =
+    let here = subst (λ (p : Vec (Vec Item Global) Global). AreAllItems rule pool p.items) (sym is) (are n part inside) in
+    ap (λ l. levels_at l part.items) grown ∙ (levels_more rule pool more part.items here ∙ sym (part_here pool parts n part inside is))
+
+module _ (over : Entry → Entry → Bool) (rule : Entry → ℕ) (number : Entry → ℕ) (parts : List (List (List Entry))) where
+  arrived_more : (pool more : List Entry) (a : Arrival) → IsArrival over rule number pool parts a → arrived (pool ++ more) a ≡ arrived pool a
+  arrived_more pool more a is = entry_more pool more a.item.place is.starts.item.within
+
+  arrival_more : (pool more : List Entry) (a : Arrival) → IsArrival over rule number pool parts a → IsArrival over rule number (pool ++ more) parts a
+  arrival_more pool more a is =
+      let same = arrived_more pool more a is in
+      record {
+        part = ap number same ∙ is.part;
+        starts = record { item = item_more rule pool more a.item is.starts.item; within = is.starts.within; behind = subst (IsBehind over (levels_of a.part parts) a.start) (sym same) is.starts.behind };
+      }
+
+  -- an entry that was put into the pool for a part
+  pub arrival_here : (pool : List Entry) (e : Entry) (levels : List (List Entry)) (a : Arrival) → levels ≡ levels_of a.part parts → number e ≡ a.part → IsItem rule (pool ++ e ∷ []) a.item → a.item.place ≡ length pool
+      → a.start ≤ length levels → IsBehind over levels a.start e → IsArrival over rule number (pool ++ e ∷ []) parts a
+  arrival_here pool e levels a here numbered is placed within behind =
+      let same : arrived (pool ++ e ∷ []) a ≡ e = entry_behind pool e a.item placed in
+      record {
+        part = ap number same ∙ numbered;
+        starts = record {
+          item = is;
+          within = subst (λ l. a.start ≤ length l) here within;
+          behind = subst (λ x. IsBehind over (levels_of a.part parts) a.start x) (sym same) (subst (λ l. IsBehind over l a.start e) here behind);
+        };
+      }
+
+  pub arrivals_push : (pool : List Entry) (e : Entry) (arrivals : List Arrival) (a : Arrival) → All (IsArrival over rule number pool parts) arrivals → IsArrival over rule number (pool ++ e ∷ []) parts a
+      → All (IsArrival over rule number (pool ++ e ∷ []) parts) (arrivals ++ a ∷ [])
+  arrivals_push pool e arrivals a are is =
+      All-push (IsArrival over rule number (pool ++ e ∷ []) parts) arrivals a (λ k d inside. arrival_more pool (e ∷ []) (get_or arrivals k d) (are k d inside)) is
+
+  pub arrived_push : (pool : List Entry) (e : Entry) (arrivals : List Arrival) (a : Arrival) → All (IsArrival over rule number pool parts) arrivals → arrived (pool ++ e ∷ []) a ≡ e
+      → map (arrived (pool ++ e ∷ [])) (arrivals ++ a ∷ []) ≡ map (arrived pool) arrivals ++ e ∷ []
+  arrived_push pool e arrivals a are is =
+      let now = arrived (pool ++ e ∷ []) in
+      map-append now arrivals (a ∷ [])
+      ∙ (ap (λ l. l ++ now a ∷ []) (map_agree_among now (arrived pool) arrivals (λ x m. arrived_more pool (e ∷ []) x (all_among (IsArrival over rule number pool parts) arrivals are x m)))
+      ∙ ap (λ y. map (arrived pool) arrivals ++ y ∷ []) is)
+
+-- ---- those that are not below the cut are kept
+
+module _ (over : Entry → Entry → Bool) (cut : ℕ) (number : Entry → ℕ) (parts : List (List (List Entry))) where
+  count_push : (p : Entry → Bool) (entries : List Entry) (e : Entry) → count_by p (entries ++ e ∷ []) ≡ count_by p entries + count_by p (e ∷ [])
+  count_push p entries e = sum_by-append (λ (x : Entry). cond (p x) 1 0) entries (e ∷ [])
+
+  pub keeps_one : (entries kept : List Entry) (e : Entry) → KeepsUpper over cut number parts entries kept → KeepsUpper over cut number parts (entries ++ e ∷ []) (kept ++ e ∷ [])
+  keeps_one entries kept e keeps =
+      record {
+        within = λ x m. elim (in_either kept (e ∷ []) x m) [ inl old ↦ in_left entries (e ∷ []) x (keeps.within x old) | inr new ↦ in_right entries (e ∷ []) x new ];
+        covers = λ x m. elim (in_either entries (e ∷ []) x m) [
+          | inl old ↦ elim (keeps.covers x old) [ inl there ↦ inl (in_left kept (e ∷ []) x there) | inr below ↦ inr below ]
+          | inr new ↦ inl (in_right kept (e ∷ []) x new)
+        ];
+        counts = λ p. omega (arith, keeps.counts p, count_push p entries e, count_push p kept e);
+      }
+
+  pub drops_one : (entries kept : List Entry) (e : Entry) (n : ℕ) → cut ≤ n → n ≤ length (levels_of (number e) parts) → IsBehind over (levels_of (number e) parts) n e
+      → KeepsUpper over cut number parts entries kept → KeepsUpper over cut number parts (entries ++ e ∷ []) kept
+  drops_one entries kept e n low there behind keeps =
+      record {
+        within = λ x m. in_left entries (e ∷ []) x (keeps.within x m);
+        covers = λ x m. elim (in_either entries (e ∷ []) x m) [
+          | inl old ↦ keeps.covers x old
+          | inr new ↦ elim new [
+            | inl same ↦ inr (n, low, subst (λ y. n ≤ length (levels_of (number y) parts)) (sym same) there, subst (λ y. IsBehind over (levels_of (number y) parts) n y) (sym same) behind)
+            | inr void ↦ absurd void
+          ]
+        ];
+        counts = λ p. omega (arith, keeps.counts p, count_push p entries e);
+      }
+
+  pub keeps_moved : (entries kept moved : List Entry) → IsPermutation kept moved → KeepsUpper over cut number parts entries kept → KeepsUpper over cut number parts entries moved
+  keeps_moved entries kept moved permuted keeps =
+      let same = same_if_permuted kept moved permuted in
+      record {
+        within = λ x m. keeps.within x (same.back x m);
+        covers = λ x m. elim (keeps.covers x m) [ inl there ↦ inl (same.there x there) | inr below ↦ inr below ];
+        counts = λ p. omega (arith, keeps.counts p, sum_by-IsPermutation (λ (x : Entry). cond (p x) 1 0) kept moved permuted);
+      }
+
+-- ---- the order in which they are sorted: by part, then start
+
+abbrev pub comes_before : Arrival → Arrival → Bool
+comes_before a b = is_lt (ordering_then (nat_cmp a.part b.part) (nat_cmp a.start b.start))
+
+not_before : (a b : Arrival) → comes_before a b ≡ false → deals_before a b ≡ false
+not_before a b h = grind (arith, nat_tests, h)
+
+pub dealt_by_key : {F : Type 0} {g : Mut F (Bor Arrival × Unit {0}) (ℕ × ℕ)} {f : F} (arrivals : List Arrival) → IsSortedByKeyClosure g (λ x y. ordering_then (nat_cmp x.0 y.0) (nat_cmp x.1 y.1)) f arrivals
+    → ((a : Bor Arrival × Unit {0}) (r : ℕ × ℕ) (f' : F) → Called g f a r f' → (r ≡ (a.0.now.part, a.0.now.start)) × (f' ≡ f)) → AreDealt arrivals
+dealt_by_key {g = g} {f = f} arrivals by called =
+    let sorted : IsSortedBy comes_before arrivals = by (λ a. (a.part, a.start)) (always_returns_same g (λ a r. r ≡ (a.0.now.part, a.0.now.start)) f called) in
+    λ k d from inside. not_before (get_or arrivals (k + 1) d) (get_or arrivals k d) (sorted k d from inside)

@@ -1,0 +1,328 @@
+-- What an addition makes of levels: from the first one to which something comes, each new level is the best of the held one and of what comes to it.
+use Rattle.std.proofs.Common.{◌≡◌, ℕ, zero, suc, ◌≤◌, ◌<◌, ◌+◌, ◌-◌, Bool, true, cond, ◌⊎◌, inl, inr, List, [], ◌∷◌, ◌++◌, length, map, drop, get_or, refl, sym, ◌∙◌, ap, subst, arith, filter, append_assoc, length-append, length-drop}
+use Rattle.std.specs.List.{count_by, sum_by}
+use Rattle.std.proofs.lemmas.Bool.{cases_lt, both_ways}
+use Rattle.std.proofs.lemmas.List.{drop_all, drop-append-le, get_or_append_left, get_or-append_right, get_or-drop}
+use Rattle.std.proofs.lemmas.List.Sums.{sum_by-append, sum_by-cons, sum_by_push, sum_by-take-drop}
+use Rattle.pref_term.specs.Order.{IsStrictOrder}
+use Rattle.pref_sky.specs.declared.entry.Entry.{Entry}
+use Rattle.pref_sky.specs.Best.{IsApart, best, is_beaten, rest, without_best}
+use Rattle.pref_sky.specs.Levels.{HaveDifferentIds, entry_of, levels}
+use Rattle.pref_sky.specs.Partials.{IsBehind, IsMade, held_at, ranked_from, replaced}
+use Rattle.pref_sky.specs.Parts.{ranked_upto}
+use Rattle.pref_sky.specs.Passes.{Parted}
+use Rattle.pref_sky.proofs.Members.{Among, any_from, any_gives, in_filter, from_filter, in_left, in_right, in_either}
+use Rattle.pref_sky.proofs.Removals.{beaten_by_best, best_of_rest_is, comes_after, comes_after_among_more, comes_after_upto, rest_is, same_chains}
+use Rattle.pref_sky.proofs.Orders.{SameMembers, among_in_order}
+use Rattle.pref_sky.proofs.Merges.{HoldsLevels, different_best, is_at, same_best}
+use Rattle.pref_sky.proofs.HeldLevels.{beaten_by_more, best_apart, best_of_same, best_without, different_by_count, left_without, same_behind, same_beside, same_sym, same_then, without_of_same}
+use Rattle.pref_sky.proofs.Halves.{beaten_by_rest}
+use Rattle.pref_sky.proofs.LevelLaws.{held_differ}
+use Rattle.pref_sky.proofs.LevelByLevel.{best_with_top, without_with_top}
+use Rattle.pref_sky.proofs.RankedLevels.{count_joined, count_level, level_differs, one_level}
+use Rattle.pref_sky.proofs.Replacements.{replaced_behind, replaced_front, replaced_middle, sum_by-replaced}
+use Rattle.pref_sky.proofs.Ranks.{held_there, held_upto, levels_upto_is, same_upto, within_if_same}
+
+-- the levels of a list up to a cut are held
+pub record Holds (over : Entry → Entry → Bool) (all : List Entry) (cut : ℕ) (held : List (List Entry)) : Type 0 where
+  pub there : (k : ℕ) (e : Entry) → Among e (held_at k held) → (k < cut) × Among e (best over (rest over all k))
+  pub back : (k : ℕ) (e : Entry) → k < cut → Among e (best over (rest over all k)) → Among e (held_at k held)
+
+holds_if : (over : Entry → Entry → Bool) (all : List Entry) (cut : ℕ) (held : List (List Entry)) → ranked_from 1 held ≡ levels over all cut → Holds over all cut held
+holds_if over all cut held is =
+    let mine : ℕ → List Entry = λ k. held_at k held in
+    let theirs : ℕ → List Entry = λ k. best over (rest over all k) in
+    let same : ranked_upto mine (length held) ≡ ranked_upto theirs cut = sym (held_upto held) ∙ (is ∙ levels_upto_is over all cut) in
+    record {
+      there = λ k e m. within_if_same mine theirs (length held) cut same k e (held_there k held e m) m;
+      back = λ k e below m. (within_if_same theirs mine cut (length held) (sym same) k e below m).1;
+    }
+
+levels_if : (over : Entry → Entry → Bool) (all : List Entry) (cut : ℕ) (held : List (List Entry)) → HaveDifferentIds all → ((k : ℕ) → HaveDifferentIds (held_at k held)) → Holds over all cut held → ranked_from 1 held ≡ levels over all cut
+levels_if over all cut held different each holds =
+    let mine : ℕ → List Entry = λ k. held_at k held in
+    let theirs : ℕ → List Entry = λ k. best over (rest over all k) in
+    held_upto held
+    ∙ (same_upto mine theirs (length held) cut each (λ k. different_best over all k different) (λ k e below m. holds.there k e m)
+    (λ k e below m. let h = holds.back k e below m in (held_there k held e h, h)) ∙ sym (levels_upto_is over all cut))
+
+-- what is behind n held levels has a chain of n over it
+behind_chain : (over : Entry → Entry → Bool) → IsStrictOrder over → (before : List Entry) (cut : ℕ) (held : List (List Entry)) → Holds over before cut held → (n : ℕ) (e : Entry) → IsBehind over held n e
+    → (n ≤ cut) × (comes_after over before n e ≡ true)
+behind_chain over strict before cut held holds zero e behind = (omega arith, refl)
+behind_chain over strict before cut held holds (suc n) e behind =
+    let w = any_gives (λ x. over x e) (held_at n held) (behind n refl) in
+    let level = holds.there n w.0 w.1 in (
+      omega (arith, level.0),
+      sym (beaten_by_rest over before n e) ∙ (sym (beaten_by_best over strict (rest over before n) e) ∙ any_from (λ x. over x e) (best over (rest over before n)) w.0 level.1 w.2),
+    )
+
+-- each of these is behind n levels or more
+abbrev pub AreBehind : (Entry → Entry → Bool) → List (List Entry) → ℕ → List Entry → Type 0
+AreBehind over held n later = (e : Entry) → Among e later → (start : ℕ) × (n ≤ start) × IsBehind over held start e
+
+-- n levels are told, from the first one that is made on, where `down` came down to the next one, and `later` starts there or behind it
+pub record Merging (over : Entry → Entry → Bool) (before coming : List Entry) (cut first n : ℕ) (made : List (List Entry)) (down later : List Entry) : Type 0 where
+  pub upto : n ≤ cut
+  pub told : (k : ℕ) → first ≤ k → k < n → SameMembers (held_at k made) (best over (rest over (before ++ coming) k))
+  pub left : SameMembers (rest over (before ++ coming) n) ((down ++ later) ++ rest over before n)
+
+-- what comes is behind the first levels
+module _ (over : Entry → Entry → Bool) (strict : IsStrictOrder over) (before coming : List Entry) (cut first : ℕ) (old : List (List Entry)) (holds : Holds over before cut old) (starts : AreBehind over old first coming) where
+  late : (e : Entry) → Among e coming → comes_after over before first e ≡ true
+  late e m = let s = starts e m in comes_after_upto over before first s.0 e s.1 (behind_chain over strict before cut old holds s.0 e s.2).1
+
+  first_holds : HoldsLevels over before (before ++ coming) first
+  first_holds =
+      record {
+        within = in_left before coming;
+        kept = λ x m early. elim (in_either before coming x m) [
+          | inl is ↦ is
+          | inr new ↦ absurd (both_ways (comes_after over (before ++ coming) first x) early (comes_after_among_more over before (before ++ coming) (in_left before coming) first x (late x new)))
+        ];
+      }
+
+  -- so they stay as they are
+  front_stays : (k : ℕ) → k < first → k < cut → SameMembers (held_at k old) (best over (rest over (before ++ coming) k))
+  front_stays k front below =
+      let all = before ++ coming in
+      let mine : SameMembers (held_at k old) (best over (rest over before k)) = record { there = λ x m. (holds.there k x m).1; back = λ x m. holds.back k x below m } in
+      let same = same_best over strict before all first first_holds k (omega arith) in
+      same_then (held_at k old) (best over (rest over before k)) (best over (rest over all k)) mine
+      (subst (λ l. SameMembers l (best over (rest over all k))) (sym (best_of_rest_is over before k)) (subst (SameMembers (filter (is_at over before k) before)) (sym (best_of_rest_is over all k)) same))
+
+  merging_begins : (made : List (List Entry)) (some : Entry) → Among some coming → Merging over before coming cut first first made [] coming
+  merging_begins made some among =
+      let all = before ++ coming in
+      let chains = same_chains over strict before all first first_holds.within first_holds.kept first in
+      record {
+        upto = let s = starts some among in let reach = (behind_chain over strict before cut old holds s.0 some s.2).0 in omega (arith, s.1, reach);
+        told = λ k from below. absurd (omega (arith, from, below));
+        left = record {
+          there = λ x m.
+              let w = from_filter (comes_after over all first) all x (subst (Among x) (rest_is over all first) m) in
+              elim (in_either before coming x w.0) [
+                | inl is ↦
+                    in_right coming (rest over before first) x (subst (Among x) (sym (rest_is over before first)) (in_filter (comes_after over before first) before x is (chains x (omega arith) ∙ w.1)))
+                | inr new ↦ in_left coming (rest over before first) x new
+              ];
+          back = λ x m.
+              subst (Among x) (sym (rest_is over all first))
+              (elim (in_either coming (rest over before first) x m) [
+                | inl new ↦ in_filter (comes_after over all first) all x (in_right before coming x new) (sym (chains x (omega arith)) ∙ late x new)
+                | inr is ↦
+                    let w = from_filter (comes_after over before first) before x (subst (Among x) (rest_is over before first) is) in
+                    in_filter (comes_after over all first) all x (in_left before coming x w.0) (sym (chains x (omega arith)) ∙ w.1)
+              ]);
+        };
+      }
+
+-- of three lists the second comes first
+second_first : (xs ys zs : List Entry) → SameMembers ((xs ++ ys) ++ zs) (ys ++ (xs ++ zs))
+second_first xs ys zs =
+    record {
+      there = λ e m. elim (in_either (xs ++ ys) zs e m) [
+        | inl front ↦ elim (in_either xs ys e front) [ inl x ↦ in_right ys (xs ++ zs) e (in_left xs zs e x) | inr y ↦ in_left ys (xs ++ zs) e y ]
+        | inr z ↦ in_right ys (xs ++ zs) e (in_right xs zs e z)
+      ];
+      back = λ e m. elim (in_either ys (xs ++ zs) e m) [
+        | inl y ↦ in_left (xs ++ ys) zs e (in_right xs ys e y)
+        | inr behind ↦ elim (in_either xs zs e behind) [ inl x ↦ in_left (xs ++ ys) zs e (in_left xs ys e x) | inr z ↦ in_right (xs ++ ys) zs e z ]
+      ];
+    }
+
+-- the level at a place, of lists that are put together
+held_is : (k : ℕ) (held : List (List Entry)) → held_at k held ≡ get_or held k []
+held_is k [] = refl
+held_is zero (level ∷ behind) = refl
+held_is (suc k) (level ∷ behind) = held_is k behind
+
+held_front : (k : ℕ) (xs ys : List (List Entry)) → k < length xs → held_at k (xs ++ ys) ≡ held_at k xs
+held_front k xs ys inside = held_is k (xs ++ ys) ∙ (get_or_append_left xs ys [] k inside ∙ sym (held_is k xs))
+
+held_behind : (k : ℕ) (xs ys : List (List Entry)) → length xs ≤ k → held_at k (xs ++ ys) ≡ held_at (k - length xs) ys
+held_behind k xs ys past = held_is k (xs ++ ys) ∙ (get_or-append_right xs ys (length xs) k [] refl past ∙ sym (held_is (k - length xs) ys))
+
+-- one level more is told
+merging_more : (over : Entry → Entry → Bool) → IsStrictOrder over → (before coming : List Entry) (cut first n : ℕ) (old made : List (List Entry)) (down here later top others : List Entry) → n < cut → length made ≡ n → Holds over before cut old
+    → AreBehind over old (suc n) later → Parted over (held_at n old ++ (down ++ here)) top others → Merging over before coming cut first n made down (here ++ later)
+    → Merging over before coming cut first (suc n) (made ++ top ∷ []) others later
+merging_more over strict before coming cut first n old made down here later top others below long holds starts parted m =
+    let all = before ++ coming in
+    let left = rest over before n in
+    let held = held_at n old in
+    let now = down ++ here in
+    let both = now ++ left in
+    let held_best : SameMembers held (best over left) = record { there = λ x among. (holds.there n x among).1; back = λ x among. holds.back n x below among } in
+    let lower : (x : Entry) → Among x later → is_beaten over both x ≡ true =
+    λ x among.
+    let s = starts x among in
+    let chain = (behind_chain over strict before cut old holds s.0 x s.2).1 in
+    beaten_by_more over left both x (in_right now left) (beaten_by_rest over before n x ∙ comes_after_upto over before (suc n) s.0 x s.1 chain) in
+    let whole : SameMembers (rest over all n) (later ++ both) =
+    same_then (rest over all n) ((now ++ later) ++ left) (later ++ both) (subst (λ l. SameMembers (rest over all n) (l ++ left)) (sym (append_assoc down here later)) m.left) (second_first now later left) in
+    let told_here : SameMembers top (best over (rest over all n)) =
+    same_then top (best over (held ++ now)) (best over (rest over all n)) parted.best_are
+    (same_then (best over (held ++ now)) (best over both) (best over (rest over all n)) (best_with_top over strict now left held held_best)
+    (same_then (best over both) (best over (later ++ both)) (best over (rest over all n)) (same_sym (best over (later ++ both)) (best over both) (best_without over strict later both lower))
+    (same_sym (best over (rest over all n)) (best over (later ++ both)) (best_of_same over (rest over all n) (later ++ both) whole)))) in
+    let lost = without_best over left in
+    record {
+      upto = omega (arith, below);
+      told = λ k from inside. elim (cases_lt k n) [
+        | inl before_it ↦ subst (λ l. SameMembers l (best over (rest over all k))) (sym (held_front k made (top ∷ []) (omega (arith, long, before_it)))) (m.told k from before_it)
+        | inr past ↦
+            let same : n ≡ k = omega (arith, inside, past) in
+            let none : n - length made ≡ 0 = omega (arith, long) in
+            let at : held_at n (made ++ top ∷ []) ≡ top = held_behind n made (top ∷ []) (omega (arith, long)) ∙ ap (λ j. held_at j (top ∷ [])) none in
+            subst (λ j. SameMembers (held_at j (made ++ top ∷ [])) (best over (rest over all j))) same (subst (λ l. SameMembers l (best over (rest over all n))) (sym at) told_here)
+      ];
+      left =
+          same_then (without_best over (rest over all n)) (later ++ without_best over both) ((others ++ later) ++ lost)
+          (same_then (without_best over (rest over all n)) (without_best over (later ++ both)) (later ++ without_best over both) (without_of_same over (rest over all n) (later ++ both) whole) (left_without over strict later both lower))
+          (same_then (later ++ without_best over both) (later ++ (others ++ lost)) ((others ++ later) ++ lost)
+          (same_behind later (without_best over both) (others ++ lost)
+          (same_then (without_best over both) (without_best over (held ++ now) ++ lost) (others ++ lost) (without_with_top over strict now left held held_best)
+          (same_beside (without_best over (held ++ now)) others lost (same_sym others (without_best over (held ++ now)) parted.others_are))))
+          (same_sym ((others ++ later) ++ lost) (later ++ (others ++ lost)) (second_first others later lost)));
+    }
+
+-- where nothing comes, what is left stays the same
+rest_stays : (over : Entry → Entry → Bool) (all before : List Entry) (n k : ℕ) → n ≤ k → SameMembers (rest over all n) (rest over before n) → SameMembers (rest over all k) (rest over before k)
+rest_stays over all before n zero past same = let none : n ≡ 0 = omega (arith, past) in subst (λ j. SameMembers (rest over all j) (rest over before j)) none same
+rest_stays over all before n (suc k) past same =
+    elim (cases_lt k n) [
+      | inl last ↦ let at : n ≡ suc k = omega (arith, past, last) in subst (λ j. SameMembers (rest over all j) (rest over before j)) at same
+      | inr further ↦ without_of_same over (rest over all k) (rest over before k) (rest_stays over all before n k further same)
+    ]
+
+-- the levels that were made, in the place of those that there were
+module _ (first n : ℕ) (old made : List (List Entry)) (inside : first ≤ length old) (long : length made ≡ n) (from : first ≤ n) where
+  reach : first + length (drop first made) ≡ n
+  reach = omega (arith, long, from, length-drop first made)
+
+  new_front : (k : ℕ) → k < first → held_at k (replaced first (drop first made) old) ≡ held_at k old
+  new_front k below = held_is k (replaced first (drop first made) old) ∙ (replaced_front first (drop first made) old inside k [] below ∙ sym (held_is k old))
+
+  new_made : (k : ℕ) → first ≤ k → k < n → held_at k (replaced first (drop first made) old) ≡ held_at k made
+  new_made k past below =
+      let place : first + (k - first) ≡ k = omega (arith, past) in
+      held_is k (replaced first (drop first made) old)
+      ∙ (replaced_middle first (drop first made) old inside k [] past (omega (arith, reach, below)) ∙ (get_or-drop first made (k - first) [] ∙ (ap (λ j. get_or made j []) place ∙ sym (held_is k made))))
+
+  new_behind : (k : ℕ) → n ≤ k → held_at k (replaced first (drop first made) old) ≡ held_at k old
+  new_behind k past = held_is k (replaced first (drop first made) old) ∙ (replaced_behind first (drop first made) old inside k [] (omega (arith, reach, past)) ∙ sym (held_is k old))
+
+-- the end: after the last level, or where nothing comes further
+module _ (over : Entry → Entry → Bool) (strict : IsStrictOrder over) (before coming : List Entry) (cut first n : ℕ) (old made : List (List Entry)) (down later : List Entry) (holds : Holds over before cut old) (starts : AreBehind over old first coming)
+    (inside : first ≤ length old) (long : length made ≡ n) (from : first ≤ n) (ended : (cut ≤ n) ⊎ ((down ≡ []) × (later ≡ []))) (m : Merging over before coming cut first n made down later) where
+  behind_stays : (k : ℕ) → n ≤ k → k < cut → SameMembers (held_at k old) (best over (rest over (before ++ coming) k))
+  behind_stays k past below =
+      elim ended [
+        | inl done ↦ absurd (omega (arith, past, below, done))
+        | inr none ↦
+            let all = before ++ coming in
+            let same : SameMembers (rest over all n) (rest over before n) = subst (λ l. SameMembers (rest over all n) (l ++ rest over before n)) (ap (λ l. l ++ later) none.0 ∙ none.1) m.left in
+            same_then (held_at k old) (best over (rest over before k)) (best over (rest over all k)) (record { there = λ x among. (holds.there k x among).1; back = λ x among. holds.back k x below among })
+            (same_sym (best over (rest over all k)) (best over (rest over before k)) (best_of_same over (rest over all k) (rest over before k) (rest_stays over all before n k past same)))
+      ]
+
+  new_level : (k : ℕ) → k < cut → SameMembers (held_at k (replaced first (drop first made) old)) (best over (rest over (before ++ coming) k))
+  new_level k below =
+      let P : List Entry → Type 0 = λ l. SameMembers l (best over (rest over (before ++ coming) k)) in
+      elim (cases_lt k first) [
+        | inl front ↦ subst P (sym (new_front first n old made inside long from k front)) (front_stays over strict before coming cut first old holds starts k front below)
+        | inr past ↦ elim (cases_lt k n) [
+          | inl told ↦ subst P (sym (new_made first n old made inside long from k past told)) (m.told k past told)
+          | inr behind ↦ subst P (sym (new_behind first n old made inside long from k behind)) (behind_stays k behind below)
+        ]
+      ]
+
+  merging_ends : Holds over (before ++ coming) cut (replaced first (drop first made) old)
+  merging_ends =
+      record {
+        there = λ k e among. elim (cases_lt k cut) [
+          | inl below ↦ (below, (new_level k below).there e among)
+          | inr past ↦ let at = new_behind first n old made inside long from k (omega (arith, past, m.upto)) in let over_cut = (holds.there k e (subst (Among e) at among)).0 in absurd (omega (arith, past, over_cut))
+        ];
+        back = λ k e below. (new_level k below).back e;
+      }
+
+-- how many of a kind levels hold
+count_held : (p : Entry → Bool) (k : ℕ) (held : List (List Entry)) → count_by p (map entry_of (ranked_from k held)) ≡ sum_by (count_by p) held
+count_held p k [] = refl
+count_held p k (level ∷ behind) =
+    omega (arith, count_joined p (one_level k level) (ranked_from (suc k) behind), count_level p k level, count_held p (suc k) behind, sum_by-cons (count_by p) level behind)
+
+count_behind : (p : Entry → Bool) (n : ℕ) (held : List (List Entry)) → sum_by (count_by p) (drop n held) ≡ count_by p (held_at n held) + sum_by (count_by p) (drop (suc n) held)
+count_behind p zero [] = refl
+count_behind p zero (level ∷ behind) = sum_by-cons (count_by p) level behind
+count_behind p (suc n) [] = refl
+count_behind p (suc n) (level ∷ behind) = count_behind p n behind
+
+-- levels up to the n-th were made, where `down` came down to it, and `later` starts there or behind it
+pub record Making (over : Entry → Entry → Bool) (cut first n : ℕ) (old made : List (List Entry)) (coming down later : List Entry) : Type 0 where
+  pub long : length made ≡ n
+  pub from : first ≤ n
+  pub counts : (p : Entry → Bool) → (sum_by (count_by p) (drop first made) + (count_by p down + count_by p later)) + sum_by (count_by p) (drop n old) ≤ sum_by (count_by p) (drop first old) + count_by p coming
+  pub merging : (before : List Entry) → Holds over before cut old → Merging over before coming cut first n made down later
+
+pub making_begins : (over : Entry → Entry → Bool) → IsStrictOrder over → (cut first : ℕ) (old made : List (List Entry)) (coming : List Entry) → length made ≡ first → AreBehind over old first coming → (some : Entry) → Among some coming
+    → Making over cut first first old made coming [] coming
+making_begins over strict cut first old made coming long starts some among =
+    record {
+      long = long;
+      from = omega arith;
+      counts = λ p. omega (arith, ap (sum_by (count_by p)) (drop_all first made (omega (arith, long))));
+      merging = λ before holds. merging_begins over strict before coming cut first old holds starts made some among;
+    }
+
+pub making_more : (over : Entry → Entry → Bool) → IsStrictOrder over → (cut first n : ℕ) (old made : List (List Entry)) (coming down here later top others : List Entry) → n < cut → AreBehind over old (suc n) later
+    → ((p : Entry → Bool) → count_by p top + count_by p others ≡ count_by p (held_at n old) + (count_by p down + count_by p here)) → (IsApart over (held_at n old) → Parted over (held_at n old ++ (down ++ here)) top others)
+    → Making over cut first n old made coming down (here ++ later) → Making over cut first (suc n) old (made ++ top ∷ []) coming others later
+making_more over strict cut first n old made coming down here later top others below starts bag parted making =
+    let long = making.long in
+    let from = making.from in
+    record {
+      long = omega (arith, long, length-append made (top ∷ []));
+      from = omega (arith, from);
+      counts = λ p.
+          omega (
+            arith,
+            making.counts p,
+            bag p,
+            count_behind p n old,
+            sum_by-append (λ (e : Entry). cond (p e) 1 0) here later,
+            ap (sum_by (count_by p)) (drop-append-le first made (top ∷ []) (omega (arith, long, from))),
+            sum_by_push (count_by p) (drop first made) top,
+          );
+      merging = λ before holds.
+          let apart : IsApart over (held_at n old) =
+          λ x y mx my. best_apart over (rest over before n) x y (among_in_order (best over (rest over before n)) x (holds.there n x mx).1) (among_in_order (best over (rest over before n)) y (holds.there n y my).1) in
+          merging_more over strict before coming cut first n old made down here later top others below long holds starts (parted apart) (making.merging before holds);
+    }
+
+pub making_ends : (over : Entry → Entry → Bool) → IsStrictOrder over → (cut first n : ℕ) (old made : List (List Entry)) (coming down later : List Entry) → first ≤ length old → AreBehind over old first coming
+    → (cut ≤ n) ⊎ ((down ≡ []) × (later ≡ [])) → Making over cut first n old made coming down later → IsMade over cut old (replaced first (drop first made) old) coming
+making_ends over strict cut first n old made coming down later inside starts ended making =
+    let new = replaced first (drop first made) old in
+    let counts : (p : Entry → Bool) → count_by p (map entry_of (ranked_from 1 new)) ≤ count_by p (map entry_of (ranked_from 1 old)) + count_by p coming =
+    λ p.
+    omega (
+      arith,
+      making.counts p,
+      count_held p 1 new,
+      count_held p 1 old,
+      sum_by-replaced first (drop first made) old inside (count_by p),
+      ap (λ j. sum_by (count_by p) (drop j old)) (reach first n old made inside making.long making.from),
+      sum_by-take-drop (count_by p) old first,
+    ) in
+    record {
+      counts = counts;
+      merged = λ before different is.
+          let holds = holds_if over before cut old is in
+          let held_differs = subst (λ l. HaveDifferentIds (map entry_of l ++ coming)) (sym is) (held_differ over before coming cut different) in
+          let new_differs = different_by_count (map entry_of (ranked_from 1 old)) coming (map entry_of (ranked_from 1 new)) held_differs counts in
+          levels_if over (before ++ coming) cut new different (λ k. level_differs k new new_differs)
+          (merging_ends over strict before coming cut first n old made down later holds starts inside making.long making.from ended (making.merging before holds));
+    }

@@ -1,0 +1,90 @@
+-- Arrivals in order of part, then of start: those that come to one part stand together.
+use Rattle.std.proofs.Common.{◌≡◌, ℕ, ◌≤◌, ◌<◌, ◌+◌, Bool, false, ◌&&◌, ◌||◌, ltb, eqb, eq-eqb, inl, inr, List, ◌++◌, length, get_or, take, drop, filter, sym, ◌∙◌, ap, subst, arith, append-nil, length-take, length-drop, get_or-drop}
+use Rattle.std.specs.Prelude.{All}
+use Rattle.std.specs.List.Sorted.{IsNonDecreasingBy}
+use Rattle.std.proofs.lemmas.Bool.{and_from, both_ways, cases_lt, eqb-true, false_from_ne_true, lt-ltb, or_left, or_right}
+use Rattle.std.proofs.lemmas.List.{get_or-take, get_or_default, take-append-drop}
+use Rattle.std.proofs.lemmas.List.Elements.{filter-append}
+use Rattle.std.proofs.lemmas.List.Sorted.{IsNonDecreasingBy-from_all_adjacent}
+use Rattle.pref_sky.specs.declared.arrival.Arrival.{Arrival}
+use Rattle.pref_sky.specs.Arrivals.{AreDealt, AreInOrderOfStart, coming_to}
+use Rattle.pref_sky.proofs.Members.{Among, all_among, from_filter}
+use Rattle.pref_sky.proofs.Enough.{all_pass, none_pass}
+
+-- the parts do not fall, nor do the starts within one
+parts_stay : (p q s t : ℕ) → (ltb p q || (eqb p q && ltb s t)) ≡ false → q ≤ p
+parts_stay p q s t before =
+    elim (cases_lt p q) [ inl less ↦ absurd (both_ways (ltb p q || (eqb p q && ltb s t)) before (or_left (ltb p q) (eqb p q && ltb s t) (lt-ltb p q less))) | inr le ↦ le ]
+
+starts_stay : (p q s t : ℕ) → (ltb p q || (eqb p q && ltb s t)) ≡ false → p ≡ q → ltb s t ≡ false
+starts_stay p q s t before same =
+    false_from_ne_true (ltb s t)
+    (λ early. both_ways (ltb p q || (eqb p q && ltb s t)) before (or_right (ltb p q) (eqb p q && ltb s t) (and_from (eqb p q) (ltb s t) (eq-eqb p q same) early)))
+
+dealt_by_part : (arrivals : List Arrival) → AreDealt arrivals → IsNonDecreasingBy (λ (a : Arrival). a.part) arrivals
+dealt_by_part arrivals dealt =
+    IsNonDecreasingBy-from_all_adjacent (λ (a : Arrival). a.part) arrivals
+    (λ k d inside.
+    let next = get_or arrivals (k + 1) d in
+    let here = get_or arrivals k d in
+    parts_stay next.part here.part next.start here.start (dealt k d (omega arith) inside))
+
+-- the first is of the first part
+pub first_part : (arrivals : List Arrival) (d : Arrival) → AreDealt arrivals → All (λ a. (get_or arrivals 0 d).part ≤ a.part) arrivals
+first_part arrivals d dealt k e inside =
+    let begins : 0 < length arrivals = omega (arith, inside) in
+    omega (arith, dealt_by_part arrivals dealt 0 k e (omega arith) inside, ap (λ (a : Arrival). a.part) (get_or_default arrivals 0 d e begins))
+
+pub dealt_behind : (arrivals : List Arrival) (n : ℕ) → AreDealt arrivals → AreDealt (drop n arrivals)
+dealt_behind arrivals n dealt k d from inside =
+    let there : (n + k) + 1 < length arrivals = omega (arith, inside, length-drop n arrivals) in
+    let next : n + (k + 1) ≡ (n + k) + 1 = omega arith in
+    let stays : (a b : Arrival) → a ≡ get_or arrivals ((n + k) + 1) d → b ≡ get_or arrivals (n + k) d → (ltb a.part b.part || (eqb a.part b.part && ltb a.start b.start)) ≡ false =
+    λ a b first second.
+    subst (λ x. (ltb x.part b.part || (eqb x.part b.part && ltb x.start b.start)) ≡ false) (sym first)
+    (let at : Arrival = get_or arrivals ((n + k) + 1) d in subst (λ x. (ltb at.part x.part || (eqb at.part x.part && ltb at.start x.start)) ≡ false) (sym second) (dealt (n + k) d (omega arith) there)) in
+    stays (get_or (drop n arrivals) (k + 1) d) (get_or (drop n arrivals) k d) (get_or-drop n arrivals (k + 1) d ∙ ap (λ j. get_or arrivals j d) next) (get_or-drop n arrivals k d)
+
+module _ (part : ℕ) (arrivals : List Arrival) (n : ℕ) (dealt : AreDealt arrivals) where
+  -- in order of start within one part
+  pub by_start : All (λ a. a.part ≡ part) (take n arrivals) → AreInOrderOfStart (take n arrivals)
+  by_start here k d from inside =
+      let short : k + 1 < n = omega (arith, inside, length-take n arrivals) in
+      let there : k + 1 < length arrivals = omega (arith, inside, length-take n arrivals) in
+      let next = get_or (take n arrivals) (k + 1) d in
+      let this = get_or (take n arrivals) k d in
+      let next_is : next ≡ get_or arrivals (k + 1) d = get_or-take n arrivals (k + 1) d short in
+      let this_is : this ≡ get_or arrivals k d = get_or-take n arrivals k d (omega (arith, short)) in
+      let stays : (ltb next.part this.part || (eqb next.part this.part && ltb next.start this.start)) ≡ false =
+      subst (λ x. (ltb x.part this.part || (eqb x.part this.part && ltb x.start this.start)) ≡ false) (sym next_is)
+      (let at : Arrival = get_or arrivals (k + 1) d in subst (λ x. (ltb at.part x.part || (eqb at.part x.part && ltb at.start x.start)) ≡ false) (sym this_is) (dealt k d (omega arith) there)) in
+      starts_stay next.part this.part next.start this.start stays (here (k + 1) d inside ∙ sym (here k d (omega (arith, inside))))
+
+  -- what is behind those of the first part is of later ones
+  pub later_behind : All (λ a. part ≤ a.part) arrivals → ((d : Arrival) → n < length arrivals → (get_or arrivals n d).part ≡ part → ⊥) → All (λ a. part < a.part) (drop n arrivals)
+  later_behind first other k d inside =
+      let there : n + k < length arrivals = omega (arith, inside, length-drop n arrivals) in
+      let begins : n < length arrivals = omega (arith, there) in
+      let later : (get_or arrivals n d).part ≤ (get_or arrivals (n + k) d).part = dealt_by_part arrivals dealt n (n + k) d (omega arith) there in
+      let least : part ≤ (get_or arrivals n d).part = first n d begins in
+      let beyond : part < (get_or arrivals (n + k) d).part =
+      elim (cases_lt part (get_or arrivals n d).part) [ inl less ↦ omega (arith, less, later) | inr le ↦ absurd (other d begins (omega (arith, le, least))) ] in
+      subst (λ (a : Arrival). part < a.part) (sym (get_or-drop n arrivals k d)) beyond
+
+  -- and those of the first part are in front
+  pub coming_in_front : All (λ a. a.part ≡ part) (take n arrivals) → All (λ a. part < a.part) (drop n arrivals) → take n arrivals ≡ coming_to part arrivals
+  coming_in_front here behind =
+      let front = take n arrivals in
+      let back = drop n arrivals in
+      let mine : Arrival → Bool = λ a. eqb a.part part in
+      sym (
+      ap (filter mine) (sym (take-append-drop n arrivals))
+      ∙ (filter-append mine front back
+      ∙ (ap (λ l. l ++ filter mine back) (all_pass mine front (λ a m. eq-eqb a.part part (all_among (λ (b : Arrival). b.part ≡ part) front here a m)))
+      ∙ (ap (λ l. front ++ l) (none_pass mine back (λ a m. false_from_ne_true (mine a) (λ same. omega (arith, eqb-true a.part part same, all_among (λ (b : Arrival). part < b.part) back behind a m))))
+      ∙ append-nil front)))
+      )
+
+-- those that come to a part are of it
+pub coming_are : (part : ℕ) (arrivals : List Arrival) (a : Arrival) → Among a (coming_to part arrivals) → a.part ≡ part
+coming_are part arrivals a m = eqb-true a.part part (from_filter (λ (b : Arrival). eqb b.part part) arrivals a m).1

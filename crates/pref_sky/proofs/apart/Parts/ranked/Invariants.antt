@@ -1,6 +1,0 @@
-use Rattle.std.proofs.Common.{◌≡◌}
-use Rattle.pref_sky.specs.Parts.{all_at, ranked_upto}
-use Rattle.pref_sky.proofs.apart.Parts.ranked.Given as goal
-
-abbrev pub invariant-loop-place : goal.invariant-loop-place
-invariant-loop-place l = l.ranked.items ≡ ranked_upto (all_at l.self.parts.items) l.place

@@ -1,0 +1,6 @@
+use Rattle.std.proofs.Common.{◌≡◌, take}
+use Rattle.pref_sky.specs.Items.{entries_at}
+use Rattle.pref_sky.proofs.best.best_rows_passes.Given as goal
+
+abbrev pub invariant-loop-item : goal.invariant-loop-item
+invariant-loop-item g l = l.best.items ≡ entries_at l.entries (take l.item-index l.item-items)

@@ -1,0 +1,10 @@
+use Rattle.std.proofs.Common.{◌≡◌, ◌≤◌, ◌-◌, length, take}
+use Rattle.std.specs.Prelude.{All}
+use Rattle.pref_sky.specs.declared.arrival.Arrival.{Arrival}
+use Rattle.pref_sky.proofs.making.count_starting.Given as goal
+
+abbrev pub invariant-front : goal.invariant-front
+invariant-front l = record { within : l.count ≤ length l.arrivals; here : All (λ (a : Arrival). a.start ≡ l.place) (take l.count l.arrivals) }
+
+abbrev pub decreases-front : goal.decreases-front
+decreases-front l = length l.arrivals - l.count

@@ -1,0 +1,122 @@
+use Rattle.std.proofs.Common.{◌≡◌, ◌≤◌, ◌<◌, ◌⊎◌, inl, inr, ◌++◌, map, get_or, length, take, drop, vec_len, sym, ◌∙◌, ap, subst, arith}
+use Rattle.std.proofs.lemmas.Bool.{both_ways, eqb-true}
+use Rattle.std.specs.Prelude.{All}
+use Rattle.pref_sky.specs.declared.arrival.Arrival.{Arrival}
+use Rattle.pref_sky.specs.Items.{AreAllItems, item_order, items_at}
+use Rattle.pref_sky.specs.Levels.{entry_order}
+use Rattle.pref_sky.specs.Passes.{AreShared, Parted}
+use Rattle.pref_sky.specs.Best.{IsApart}
+use Rattle.pref_sky.specs.Signatures.{signature_by}
+use Rattle.pref_sky.proofs.Members.{among_place}
+use Rattle.pref_sky.proofs.Merges.{entry_order_is_strict}
+use Rattle.pref_sky.proofs.MadeItems.{MakingItems, first_inside, first_starts, making_items_begin, making_items_end, making_items_more}
+use Rattle.pref_sky.proofs.making.made_of.Goals as goal
+use Rattle.pref_sky.proofs.making.made_of.Goals.{then-each_level-test+else-not-is_empty, then-is_empty, else-is_empty, else-each_level-test}
+
+pub each_level-init : goal.each_level-init
+each_level-init g c =
+    let order = g.D.Dominance.order c.args.dominance.now in
+    let strict = entry_order_is_strict order (g.met.D.Dominance.laws c.args.dominance.now) in
+    let cuts = c.args.pool.now.cuts in
+    let pool = c.args.pool.now.entries.items in
+    let arrivals = c.args.arrivals.now in
+    let levels = c.args.levels.now in
+    let none : Arrival = record { part = 0; start = 0; item = record { signature = 0; place = 0 } } in
+    let first : Arrival = get_or arrivals 0 none in
+    let made = c.push_empty.new.levels in
+    let given = c.in_ok-push_empty.ensures {u = tt} in
+    let long : length made.items ≡ first.start = omega (arith, given.long, c.new-made.ensures.len, made.ok.0) in
+    let are : AreAllItems (signature_by cuts) pool made.items = given.items (signature_by cuts) pool (λ k d inside. absurd (omega (arith, inside, ap length c.new-made.ensures.items))) in
+    record {
+      so_far = subst (λ l. MakingItems order cuts pool c.args.cut first.start levels arrivals made.items l arrivals) (sym c.new-down.ensures.items)
+          (making_items_begin order strict cuts pool c.args.cut first.start levels arrivals c.requires.start (first_starts arrivals none c.requires.some c.requires.in_order) c.requires.in_order made.items long are first (among_place arrivals 0 none c.requires.some));
+      no_deeper = omega (arith, long, made.ok.0, first_inside (entry_order order) (signature_by cuts) pool levels arrivals none c.requires.some c.requires.start);
+    }
+
+pub each_level-preserved : goal.each_level-preserved
+each_level-preserved g c =
+    let order = g.D.Dominance.order c.args.dominance.now in
+    let strict = entry_order_is_strict order (g.met.D.Dominance.laws c.args.dominance.now) in
+    let cuts = c.args.pool.now.cuts in
+    let pool = c.args.pool.now.entries.items in
+    let arrivals = c.args.arrivals.now in
+    let levels = c.args.levels.now in
+    let none : Arrival = record { part = 0; start = 0; item = record { signature = 0; place = 0 } } in
+    let first : Arrival = get_or arrivals 0 none in
+    let inv = c.each_level.invariant in
+    let made = c.each_level.made.items in
+    let rest = c.each_level.rest.now in
+    let count = c.count_starting.result in
+    let here : c.len-place.result ≡ length made = omega (arith, c.len-place.ensures, c.each_level.made.ok.0) in
+    let below : length made < c.args.cut = omega (arith, c.each_level-test.true, c.len.ensures, c.each_level.made.ok.0) in
+    let others = c.count_starting.ensures.others inv.so_far.in_order (λ k d inside. omega (arith, here, inv.so_far.behind k d inside)) in
+    let later : All (λ (a : Arrival). length made < a.start) (drop count rest) = λ k d inside. omega (arith, here, others k d inside) in
+    let held_is : c.level_at-held.result.now ≡ items_at (length made) levels = c.level_at-held.ensures ∙ ap (λ n. items_at n levels) here in
+    let now = c.push_items.new.items.items in
+    let pushed = (c.in_ok-push_items.ensures {u = tt}) ∙ ap (λ l. c.each_level.down.items ++ map (λ (a : Arrival). a.item) l) c.split_at.ensures.front in
+    let top = c.in_ok-found.found.best in
+    let down = c.in_ok-found.found.rest.items in
+    let shared : AreShared (items_at (length made) levels ++ now) top.items down =
+    subst (λ l. AreShared (l ++ now) top.items down) held_is (subst (λ l. AreShared (c.level_at-held.result.now ++ l) top.items down) c.deref-in-each_level.ensures.value c.in_ok-found.ensures.shared) in
+    let parted : IsApart (item_order order pool) (items_at (length made) levels) → Parted (item_order order pool) (items_at (length made) levels ++ now) top.items down =
+    subst (λ l. IsApart (item_order order pool) l → Parted (item_order order pool) (l ++ now) top.items down) held_is
+    (subst (λ l. IsApart (item_order order pool) c.level_at-held.result.now → Parted (item_order order pool) (c.level_at-held.result.now ++ l) top.items down) c.deref-in-each_level.ensures.value
+    (subst (λ l. IsApart (item_order order l) c.level_at-held.result.now → Parted (item_order order l) (c.level_at-held.result.now ++ c.deref-in-each_level.result.now) top.items down) c.deref.ensures.value c.in_ok-found.ensures.parted)) in
+    let after = making_items_more order strict cuts pool c.args.cut first.start levels arrivals c.requires.start (first_starts arrivals none c.requires.some c.requires.in_order) c.requires.suit c.requires.items
+    made c.each_level.down.items now down rest count top below later pushed shared parted inv.so_far in
+    record {
+      so_far = subst (λ l. MakingItems order cuts pool c.args.cut first.start levels arrivals c.push.new.self.items down l) (sym c.split_at.ensures.back)
+          (subst (λ l. MakingItems order cuts pool c.args.cut first.start levels arrivals l down (drop count rest)) (sym (c.in_ok-push.ensures {u = tt}).items) after);
+      no_deeper = omega (arith, below, (c.in_ok-push.ensures {u = tt}).len, c.each_level.made.ok.0);
+    }
+
+pub returns-clause-fits : goal.returns-clause-fits
+returns-clause-fits g c =
+    let order = g.D.Dominance.order c.args.dominance.now in
+    let levels = c.args.levels.now in
+    let none : Arrival = record { part = 0; start = 0; item = record { signature = 0; place = 0 } } in
+    let from = c.each_level.invariant.so_far.making.from in
+    let end : c.len-end.result ≡ length c.each_level.made.items = omega (arith, c.len-end.ensures, c.each_level.made.ok.0) in
+    let more = (c.in_ok-push_empty-2.ensures {u = tt}).long in
+    let long = c.push_empty-2.new.levels.ok.0 in
+    record {
+      first = omega (arith, end, from);
+      inside = first_inside (entry_order order) (signature_by c.args.pool.now.cuts) c.args.pool.now.entries.items levels c.args.arrivals.now none c.requires.some c.requires.start;
+      new = omega (arith, more, long, c.len-end.ensures);
+      old = omega (arith, more, long);
+      no_more = λ n past past_all. omega (arith, more, long, c.len-end.ensures, past, past_all);
+    }
+
+pub returns-clause-items : goal.returns-clause-items
+returns-clause-items g c = (c.in_ok-push_empty-2.ensures {u = tt}).items (signature_by c.args.pool.now.cuts) c.args.pool.now.entries.items c.each_level.invariant.so_far.made_items
+
+pub returns-clause-made : goal.returns-clause-made
+returns-clause-made g c =
+    let order = g.D.Dominance.order c.args.dominance.now in
+    let strict = entry_order_is_strict order (g.met.D.Dominance.laws c.args.dominance.now) in
+    let cuts = c.args.pool.now.cuts in
+    let pool = c.args.pool.now.entries.items in
+    let arrivals = c.args.arrivals.now in
+    let levels = c.args.levels.now in
+    let none : Arrival = record { part = 0; start = 0; item = record { signature = 0; place = 0 } } in
+    let first : Arrival = get_or arrivals 0 none in
+    let made = c.each_level.made in
+    let down = c.each_level.down in
+    let rest = c.each_level.rest.now in
+    let end : c.len-end.result ≡ length made.items = omega (arith, c.len-end.ensures, made.ok.0) in
+    let front : take c.len-end.result c.push_empty-2.new.levels.items ≡ made.items =
+    ap (λ n. take n c.push_empty-2.new.levels.items) c.len-end.ensures ∙ (c.in_ok-push_empty-2.ensures {u = tt}).front in
+    let ended : (c.args.cut ≤ length made.items) ⊎ ((length down.items ≡ 0) × (length rest ≡ 0)) =
+    elim c.each_level-test.branch [
+      | then-each_level-test+else-not-is_empty w ↦ elim w.if-is_empty.branch [
+        | then-is_empty v ↦
+            let no_down : vec_len down ≡ 0 = eqb-true (vec_len down) 0 (sym (v.if-is_empty.ensures {u = tt})) in
+            let no_rest : length rest ≡ 0 = eqb-true (length rest) 0 (sym v.is_empty-then-is_empty.ensures ∙ (sym v.value-is ∙ w.if-not-is_empty.false)) in
+            inr (omega (arith, no_down, down.ok.0), no_rest)
+        | else-is_empty v ↦ absurd (both_ways w.is_empty.result v.if-is_empty.false (sym v.value-is ∙ w.if-not-is_empty.false))
+      ]
+      | else-each_level-test w ↦ inl (omega (arith, w.each_level-test.false, c.len.ensures, made.ok.0))
+    ] in
+    making_items_end order strict cuts pool c.args.cut first.start levels arrivals c.requires.start (first_starts arrivals none c.requires.some c.requires.in_order)
+    made.items c.push_empty-2.new.levels.items down.items rest c.len-end.result
+    (first_inside (entry_order order) (signature_by cuts) pool levels arrivals none c.requires.some c.requires.start) end front ended c.each_level.invariant.so_far

@@ -1,0 +1,30 @@
+use Rattle.std.proofs.Common.{◌∙◌, ◌<◌, sym, ap, subst, arith}
+use Rattle.std.specs.Prelude.{All}
+use Rattle.pref_sky.specs.Items.{parts_at}
+use Rattle.pref_sky.specs.Members.{Among}
+use Rattle.pref_sky.specs.Partials.{ranked_from}
+use Rattle.pref_sky.specs.Parts.{parts_by}
+use Rattle.pref_sky.specs.Signatures.{signature_by}
+use Rattle.pref_sky.proofs.PartLaws.{depth_none, nothing_held}
+use Rattle.pref_sky.proofs.Pools.{none_held, none_in_pool}
+use Rattle.pref_sky.proofs.parts.Parts.new.Goals as goal
+
+pub invariant_of-result : goal.invariant_of-result
+invariant_of-result c =
+    let pool = c.new.result.entries.items in
+    let parts = c.in_ok-parts.parts.items in
+    let none = c.in_ok-parts.ensures.none in
+    let columns = c.in_ok-columns.ensures.items in
+    record {
+      within = subst (All (λ col. col < 16)) (sym columns) c.requires;
+      long = c.in_ok-parts.ensures.long ∙ ap parts_by (sym columns);
+      items = none_in_pool (signature_by c.new.result.cuts) pool parts none;
+      parted = λ part r m. absurd (subst (λ l. Among r (ranked_from 1 l)) (none_held pool parts none part) m);
+      shallow = omega (arith, depth_none (parts_at pool parts) (none_held pool parts none));
+    }
+
+pub returns-clause-nothing : goal.returns-clause-nothing
+returns-clause-nothing c =
+    let pool = c.new.result.entries.items in
+    let parts = c.in_ok-parts.parts.items in
+    nothing_held (parts_at pool parts) (none_held pool parts c.in_ok-parts.ensures.none)

@@ -1,0 +1,7 @@
+use Rattle.std.proofs.Common.{◌≡◌}
+use Rattle.pref_sky.specs.Items.{parts_at}
+use Rattle.pref_sky.specs.Parts.{all_at, ranked_upto}
+use Rattle.pref_sky.proofs.parts.Parts.ranked.Given as goal
+
+abbrev pub invariant-loop-place : goal.invariant-loop-place
+invariant-loop-place l = l.ranked.items ≡ ranked_upto (all_at (parts_at l.self.pool.entries.items l.self.parts.items)) l.place

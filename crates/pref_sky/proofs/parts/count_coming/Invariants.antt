@@ -1,0 +1,12 @@
+use Rattle.std.proofs.Common.{◌≡◌, ◌≤◌, ◌-◌, length, take}
+use Rattle.std.specs.Prelude.{All}
+use Rattle.pref_sky.proofs.parts.count_coming.Given as goal
+
+abbrev pub invariant-front : goal.invariant-front
+invariant-front l = record {
+  within : l.count ≤ length l.arrivals;
+  here : All (λ a. a.part ≡ l.part) (take l.count l.arrivals);
+}
+
+abbrev pub decreases-front : goal.decreases-front
+decreases-front l = length l.arrivals - l.count

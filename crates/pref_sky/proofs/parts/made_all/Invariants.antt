@@ -1,0 +1,12 @@
+use Rattle.std.proofs.Common.{length}
+use Rattle.pref_sky.specs.Levels.{entry_order}
+use Rattle.pref_sky.specs.Signatures.{signature_by}
+use Rattle.pref_sky.proofs.PartSteps.{MakingParts}
+use Rattle.pref_sky.proofs.parts.made_all.Given as goal
+
+abbrev pub invariant-each_part : goal.invariant-each_part
+invariant-each_part g l =
+    MakingParts (entry_order (g.D.Dominance.order l.dominance)) l.cut (signature_by l.pool.cuts) l.pool.entries.items l.parts l.arrivals l.rest l.all.items
+
+abbrev pub decreases-each_part : goal.decreases-each_part
+decreases-each_part g l = length l.rest

@@ -1,0 +1,11 @@
+use Rattle.std.proofs.Common.{◌≡◌, ◌++◌, suc, drop, map}
+use Rattle.pref_sky.specs.Items.{parts_at}
+use Rattle.pref_sky.specs.Levels.{at_level}
+use Rattle.pref_sky.specs.Parts.{all_at}
+use Rattle.pref_sky.proofs.parts.push_parts.Given as goal
+
+-- the entries of the parts that are left are put behind
+abbrev pub invariant-loop-levels : goal.invariant-loop-levels
+invariant-loop-levels l =
+    let one = map (at_level (suc l.place)) in
+    l.ranked.items ++ one (all_at (parts_at l.pool (drop l.levels-index l.parts)) l.place) ≡ l.initial.ranked.items ++ one (all_at (parts_at l.pool l.parts) l.place)

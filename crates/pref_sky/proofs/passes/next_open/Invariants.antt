@@ -1,0 +1,7 @@
+use Rattle.std.proofs.Common.{ℕ, ◌≤◌, ◌<◌, ◌+◌, get_or}
+use Rattle.pref_sky.specs.declared.item.Item.{Item}
+use Rattle.pref_sky.specs.Passes.{IsTold}
+use Rattle.pref_sky.proofs.passes.next_open.Given as goal
+
+abbrev pub invariant-loop-skipped : goal.invariant-loop-skipped
+invariant-loop-skipped l = (k : ℕ) (d : Item) → l.from ≤ k → k < l.from + l.skipped → IsTold l.signature (get_or l.items k d)

@@ -1,0 +1,46 @@
+-- No public contract cites this.
+-- Levels that are made anew beside those that there are, and parts whose levels are.
+use Rattle.std.specs.Prelude.{◌≡◌, ◌≢◌, ◌≤◌, ◌<◌, ◌-◌, nat_lt, Bool, ℕ, List, [], All, length, map, max, take, drop, Vec}
+use Rattle.std.specs.Global.{Global}
+use Rattle.pref_sky.specs.declared.arrival.Arrival.{Arrival}
+use Rattle.pref_sky.specs.declared.entry.Entry.{Entry}
+use Rattle.pref_sky.specs.declared.item.Item.{Item}
+use Rattle.pref_sky.specs.declared.making.Made.{Made}
+use Rattle.pref_sky.specs.Arrivals.{arrived, coming_to}
+use Rattle.pref_sky.specs.Items.{AreAllItems, levels_at, levels_in}
+use Rattle.pref_sky.specs.Partials.{IsMade, replaced}
+use Rattle.pref_sky.specs.Stairs.{IsInOrder}
+
+-- the levels that are new
+abbrev pub new_levels : Made → List (Vec Item Global)
+new_levels made = take (made.end - made.first) (drop made.first made.levels.items)
+
+-- they fit among levels: there is room for these and for the new ones
+pub record Fits (made : Made) (levels : List (Vec Item Global)) : Type 0 where
+  pub first : made.first ≤ made.end
+  pub inside : made.first ≤ length levels
+  pub new : made.end ≤ length made.levels.items
+  pub old : length levels ≤ length made.levels.items
+  pub no_more : (n : ℕ) → made.end ≤ n → length levels ≤ n → length made.levels.items ≤ n
+
+-- in order of part, each part once at most
+abbrev pub AreInOrderOfPart : List Made → Type 0
+AreInOrderOfPart all = IsInOrder (λ a b. nat_lt a.part b.part) all
+
+-- no levels of this part are made
+abbrev pub LeaveAlone : List Made → ℕ → Type 0
+LeaveAlone all part = All (λ made. made.part ≢ part) all
+
+-- what these arrivals make of the levels of one of these parts
+pub record IsPartMade (over : Entry → Entry → Bool) (cut : ℕ) (rule : Entry → ℕ) (pool : List Entry) (parts : List (Vec (Vec Item Global) Global)) (arrivals : List Arrival) (one : Made) : Type 0 where
+  pub part : one.part < length parts
+  pub fits : Fits one (levels_in one.part parts)
+  pub no_deeper : one.end ≤ max cut (length (levels_in one.part parts))
+  pub items : AreAllItems rule pool one.levels.items
+  pub made : IsMade over cut (levels_at pool (levels_in one.part parts)) (replaced one.first (levels_at pool (new_levels one)) (levels_at pool (levels_in one.part parts))) (map (arrived pool) (coming_to one.part arrivals))
+
+-- and of all parts: what is left alone is a part to which nothing comes
+pub record ArePartsMade (over : Entry → Entry → Bool) (cut : ℕ) (rule : Entry → ℕ) (pool : List Entry) (parts : List (Vec (Vec Item Global) Global)) (arrivals : List Arrival) (all : List Made) : Type 0 where
+  pub each : All (IsPartMade over cut rule pool parts arrivals) all
+  pub once : AreInOrderOfPart all
+  pub others : (part : ℕ) → LeaveAlone all part → coming_to part arrivals ≡ []

@@ -1,0 +1,109 @@
+//! New entries of parts: each in its part, with the levels that it is seen to be below.
+
+ghost use Rattle.std.specs.Prelude.{◌≡◌, ◌≤◌, ◌<◌, ◌++◌, List, All, length, map, IfOk};
+ghost use Rattle.pref_sky.specs.Arrivals.{AreDealt, IsArrival, KeepsUpper, arrived};
+ghost use Rattle.pref_sky.specs.Items.{AreAllItems, AreInPool, levels_at, parts_at};
+ghost use Rattle.pref_sky.specs.Levels.{entry_order};
+ghost use Rattle.pref_sky.specs.Partials.{IsBehind};
+ghost use Rattle.pref_sky.specs.Parts.{part_of, parts_by};
+ghost use Rattle.pref_sky.specs.Signatures.{signature_by};
+ghost use Rattle.pref_sky.specs.declared.entry.Entry.{Entry};
+ghost use Rattle.pref_sky.specs.declared.arrival.Arrival.{Arrival};
+
+use crate::entry::Entry;
+use crate::item::Item;
+use crate::pool::Pool;
+use crate::signatures::signature_of;
+use pref_term::{Dominance, mixed};
+use std::alloc::{AllocError, Global};
+
+/// A new entry: its part, how many levels there it is seen to be below, and its item.
+#[derive(Clone, Copy)]
+pub(crate) struct Arrival {
+    pub(crate) part: usize,
+    pub(crate) start: usize,
+    pub(crate) item: Item,
+}
+
+/// The part that holds an entry: its cells in these columns, mixed, tell it.
+fn part_of(columns: &[usize], entry: &Entry) -> usize
+    requires { All (λ col. col < 16) columns.now }
+    ensures number { result ≡ part_of columns.now entry.now }
+    ensures within { result < parts_by columns.now }
+{
+    let mut word = 0;
+    for col in columns {
+        word = mixed(word, entry.row.cell(*col));
+    }
+    (word >> 54) as usize
+}
+
+/// How many of the first levels are seen to be above an entry. The last is asked first, since most entries that come late are below it;
+/// then a search by halves. Any number of levels above it is right.
+#[inline(always)]
+fn start_of<D: Dominance>(
+    dominance: &D,
+    pool: &Pool,
+    levels: &[Vec<Item>],
+    entry: &Entry,
+    signature: u64,
+) -> usize
+    requires { AreAllItems (signature_by pool.now.cuts) pool.now.entries.items levels.now }
+    ensures within { result ≤ length levels.now }
+    ensures behind { IsBehind (entry_order (D.order dominance.now)) (levels_at pool.now.entries.items levels.now) result entry.now }
+{
+    let count = levels.len();
+    if count == 0 {
+        return 0;
+    }
+    if pool.dominates(dominance, &levels[count - 1], entry, signature) {
+        return count;
+    }
+    let mut low = 0;
+    let mut high = count - 1;
+    'halves: while low < high {
+        let middle = low + (high - low) / 2;
+        if pool.dominates(dominance, &levels[middle], entry, signature) {
+            low = middle + 1;
+        } else {
+            high = middle;
+        }
+    }
+    low
+}
+
+/// Puts the entries that are not seen to be below the cut into the pool. Gives their arrivals, in order of part, then of the level at which they start.
+/// After an `Err` the pool holds some of them.
+pub(crate) fn arrivals_of<D: Dominance>(
+    alloc: Global,
+    dominance: &D,
+    cut: u32,
+    columns: &[usize],
+    pool: &mut Pool,
+    parts: &[Vec<Vec<Item>>],
+    entries: &[Entry],
+) -> Result<Vec<Arrival>, AllocError>
+    requires columns { All (λ col. col < 16) columns.now }
+    requires long { length parts.now ≡ parts_by columns.now }
+    requires items { AreInPool (signature_by pool.old.cuts) pool.old.entries.items parts.now }
+    ensures cuts { pool.new.cuts ≡ pool.old.cuts }
+    ensures pool { (more : List Entry) × (pool.new.entries.items ≡ pool.old.entries.items ++ more) }
+    ensures arrivals { IfOk result (λ arrivals. All (IsArrival (entry_order (D.order dominance.now)) (signature_by pool.new.cuts) (part_of columns.now) pool.new.entries.items
+        (parts_at pool.old.entries.items parts.now)) arrivals.items) }
+    ensures upper { IfOk result (λ arrivals. KeepsUpper (entry_order (D.order dominance.now)) cut (part_of columns.now) (parts_at pool.old.entries.items parts.now)
+        entries.now (map (arrived pool.new.entries.items) arrivals.items)) }
+    ensures dealt { IfOk result (λ arrivals. AreDealt arrivals.items) }
+{
+    let mut arrivals = Vec::new(alloc);
+    for entry in entries {
+        let part = part_of(columns, entry);
+        let signature = signature_of(&pool.cuts, entry);
+        let start = start_of(dominance, pool, &parts[part], entry, signature);
+        if start < cut as usize {
+            let item = pool.push(entry, signature)?;
+            arrivals.push(Arrival { part, start, item })?;
+        }
+    }
+    arrivals.sort_unstable_by_key(|arrival| (arrival.part, arrival.start));
+    Ok(arrivals)
+}

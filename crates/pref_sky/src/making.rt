@@ -1,0 +1,145 @@
+//! What an addition makes of the levels of a part: they are made anew beside those that there are, as far as something comes to them.
+
+ghost use Rattle.std.specs.Prelude.{◌≡◌, ◌≤◌, ◌<◌, ◌++◌, ℕ, List, All, length, map, max, take, drop, vec_len, IfOk, OnOk};
+ghost use Rattle.pref_sky.specs.Arrivals.{AreInOrderOfStart, StartsAt, arrived};
+ghost use Rattle.pref_sky.specs.Items.{AreAllItems, items_at, levels_at};
+ghost use Rattle.pref_sky.specs.Made.{Fits, new_levels};
+ghost use Rattle.pref_sky.specs.Levels.{entry_order};
+ghost use Rattle.pref_sky.specs.Partials.{IsMade, replaced};
+ghost use Rattle.pref_sky.specs.Signatures.{signature_by};
+ghost use Rattle.pref_sky.specs.declared.arrival.Arrival.{Arrival};
+ghost use Rattle.pref_sky.specs.declared.entry.Entry.{Entry};
+ghost use Rattle.pref_term.specs.Signatures.{Suit};
+
+use crate::arrival::Arrival;
+use crate::item::Item;
+use crate::passes::best_and_rest;
+use crate::pool::Pool;
+use pref_term::Dominance;
+use std::alloc::{AllocError, Global};
+
+/// The levels of a part as they are to be: those from the place `first` on, up to `end`, are new, and the others stand empty for those
+/// that there are.
+#[derive(Drop)]
+pub(crate) struct Made {
+    pub(crate) part: usize,
+    pub(crate) first: usize,
+    pub(crate) end: usize,
+    pub(crate) levels: Vec<Vec<Item>>,
+}
+
+/// The items at the level behind the first `place`: none where there is no such level.
+pub(crate) fn level_at(levels: &[Vec<Item>], place: usize) -> &[Item]
+    ensures { result.now ≡ items_at place levels.now }
+{
+    if place < levels.len() {
+        &levels[place]
+    } else {
+        &[]
+    }
+}
+
+/// How many of these, which are in order of it, start behind the first `place` levels.
+fn count_starting(arrivals: &[Arrival], place: usize) -> usize
+    ensures within { result ≤ length arrivals.now }
+    ensures here { All (λ a. a.start ≡ place) (take result arrivals.now) }
+    ensures others { AreInOrderOfStart arrivals.now → All (λ a. place ≤ a.start) arrivals.now → All (λ a. place < a.start) (drop result arrivals.now) }
+{
+    let mut count = 0;
+    'front: while count < arrivals.len() && arrivals[count].start == place {
+        count += 1;
+    }
+    count
+}
+
+/// Puts the items of arrivals behind others.
+fn push_items(items: &mut Vec<Item>, arrivals: &[Arrival]) -> Result<(), AllocError>
+    ensures { OnOk result (items.new.items ≡ items.old.items ++ map (λ a. a.item) arrivals.now) }
+{
+    for arrival in arrivals {
+        items.push(arrival.item)?;
+    }
+    Ok(())
+}
+
+/// Puts empty levels behind others, so that there are at least so many.
+fn push_empty(alloc: Global, levels: &mut Vec<Vec<Item>>, count: usize) -> Result<(), AllocError>
+    ensures front { OnOk result (take (vec_len levels.old) levels.new.items ≡ levels.old.items) }
+    ensures long { OnOk result (vec_len levels.new ≡ max (vec_len levels.old) count) }
+    ensures items { (rule : Entry → ℕ) (pool : List Entry) → AreAllItems rule pool levels.old.items → OnOk result (AreAllItems rule pool levels.new.items) }
+{
+    'each: while levels.len() < count {
+        levels.push(Vec::new(alloc))?;
+    }
+    Ok(())
+}
+
+/// Makes the levels of a part anew as these come to it: from the one at which the first starts, as far down as something comes. Of what
+/// comes to a level, with what is held there, the best stay, and the others go down.
+pub(crate) fn made_of<D: Dominance>(
+    alloc: Global,
+    dominance: &D,
+    window: usize,
+    cut: u32,
+    pool: &Pool,
+    part: usize,
+    levels: &[Vec<Item>],
+    arrivals: &[Arrival],
+) -> Result<Made, AllocError>
+    requires window { 0 < window }
+    requires suit { Suit (D.order dominance.now) pool.now.cuts }
+    requires items { AreAllItems (signature_by pool.now.cuts) pool.now.entries.items levels.now }
+    requires start { All (StartsAt (entry_order (D.order dominance.now)) (signature_by pool.now.cuts) pool.now.entries.items (levels_at pool.now.entries.items levels.now)) arrivals.now }
+    requires in_order { AreInOrderOfStart arrivals.now }
+    requires some { 0 < length arrivals.now }
+    ensures part { IfOk result (λ made. made.part ≡ part) }
+    ensures fits { IfOk result (λ made. Fits made levels.now) }
+    ensures no_deeper { IfOk result (λ made. made.end ≤ max cut (length levels.now)) }
+    ensures items { IfOk result (λ made. AreAllItems (signature_by pool.now.cuts) pool.now.entries.items made.levels.items) }
+    ensures made { let entries = pool.now.entries.items in
+        IfOk result (λ made. IsMade (entry_order (D.order dominance.now)) cut (levels_at entries levels.now)
+        (replaced made.first (levels_at entries (new_levels made)) (levels_at entries levels.now)) (map (arrived entries) arrivals.now)) }
+{
+    let first = arrivals[0].start;
+    let mut made = Vec::new(alloc);
+    push_empty(alloc, &mut made, first)?;
+    let mut down = Vec::new(alloc);
+    let mut rest = arrivals;
+    'each_level: while made.len() < cut as usize && !(down.is_empty() && rest.is_empty()) {
+        let place = made.len();
+        let (here, behind) = rest.split_at(count_starting(rest, place));
+        push_items(&mut down, here)?;
+        rest = behind;
+        let held = level_at(levels, place);
+        let found = best_and_rest(alloc, dominance, window, &pool.entries, held, &down)?;
+        made.push(found.best)?;
+        down = found.rest;
+    }
+    let end = made.len();
+    push_empty(alloc, &mut made, levels.len())?;
+    Ok(Made {
+        part,
+        first,
+        end,
+        levels: made,
+    })
+}
+
+/// Puts the new levels in the place of those that there are. Takes no memory.
+pub(crate) fn put(alloc: Global, levels: &mut Vec<Vec<Item>>, made: Made)
+    requires { Fits made levels.old.items }
+    ensures { levels.new.items ≡ replaced made.first (new_levels made) levels.old.items }
+{
+    let Made {
+        part: _,
+        first,
+        end,
+        levels: mut new,
+    } = made;
+    for place in 0..levels.len() {
+        if place < first || end <= place {
+            new[place] = std::mem::replace(&mut levels[place], Vec::new(alloc));
+        }
+    }
+    *levels = new;
+}

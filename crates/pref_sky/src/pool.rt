@@ -1,0 +1,245 @@
+//! Entries in one pool, and the cuts by which their items are signed.
+
+ghost use Rattle.std.specs.Prelude.{◌≡◌, ◌++◌, ◌∷◌, [], true, ℕ, List, length, vec_len, IfOk, OnOk, OnErr};
+ghost use Rattle.pref_sky.specs.Best.{is_beaten};
+ghost use Rattle.pref_sky.specs.Items.{AreAllItems, AreInPool, AreItems, IsItem, entries_at, levels_at, parts_at};
+ghost use Rattle.pref_sky.specs.Levels.{entry_order};
+ghost use Rattle.pref_sky.specs.Signatures.{signature_by};
+ghost use Rattle.pref_sky.specs.declared.entry.Entry.{Entry};
+ghost use Rattle.pref_term.specs.Signatures.{Suit};
+
+use crate::entry::{Entry, compare};
+use crate::item::Item;
+use crate::signatures::{cuts_of, signature_of};
+use pref_term::{Cuts, Dominance, Relation, is_within};
+use std::alloc::{AllocError, Global};
+
+/// The fewest held entries beside which what comes is signed. Beside fewer most of what comes is dominated after
+/// a few comparisons, and to sign an entry takes as many instructions as six or seven.
+const MANY: usize = 48;
+
+/// How many more entries are held, beside an eighth of them, before cuts are made anew: what comes later may be other than
+/// the first entries were, as in a table that is sorted, and cuts for these then tell nothing of it. Cuts that are made
+/// more often cost more than they spare where entries come in no order.
+const MORE: usize = 1024;
+
+/// How many items of a level are asked whether they dominate an entry that comes: the first ones, since what dominates many moves to
+/// the front.
+const NEAR: usize = 32;
+
+/// Entries, and the cuts by which their items are signed.
+#[derive(Drop)]
+pub(crate) struct Pool {
+    pub(crate) entries: Vec<Entry>,
+    pub(crate) cuts: Cuts,
+    /// How many entries were held when the cuts were made.
+    pub(crate) held_when_signed: usize,
+    /// How many entries there are to be when it is looked again how many of them are held.
+    pub(crate) look_at: usize,
+}
+
+impl Pool {
+    /// No entries. Takes no memory.
+    pub(crate) fn new(alloc: Global) -> Pool
+        ensures { result.entries.items ≡ [] }
+    {
+        Pool {
+            entries: Vec::new(alloc),
+            cuts: Cuts::none(),
+            held_when_signed: 0,
+            look_at: 0,
+        }
+    }
+
+    /// Whether the cuts suit the order, and hardly more entries are here than at the last look.
+    pub(crate) fn is_fresh<D: Dominance>(&self, dominance: &D) -> bool
+        ensures { result ≡ true → Suit (D.order dominance.now) self.now.cuts }
+    {
+        self.entries.len() < self.look_at && dominance.suits(&self.cuts)
+    }
+
+    /// How many entries there are to be when it is looked again how many of them are held: an eighth more and 16, since to look costs a step
+    /// for each part. Any number is right.
+    pub(crate) fn next_look(&self) -> usize {
+        let count = self.entries.len();
+        count.saturating_add(count / 8).saturating_add(16)
+    }
+
+    /// Whether so many held entries are too few for signatures to be worth their cost: one in 64 of those that come is counted with
+    /// them. Any answer is right.
+    fn are_few(held: usize, coming: usize) -> bool {
+        held < MANY.saturating_sub(coming / 64)
+    }
+
+    /// Whether the cuts suit the order, and serve where so many entries are held and so many come.
+    pub(crate) fn serves<D: Dominance>(&self, dominance: &D, held: usize, coming: usize) -> bool
+        ensures { result ≡ true → Suit (D.order dominance.now) self.now.cuts }
+    {
+        if !dominance.suits(&self.cuts) {
+            return false;
+        }
+        if self.cuts.is_none() {
+            return Pool::are_few(held, coming);
+        }
+        let before = self.held_when_signed;
+        held <= before.saturating_add(before / 8).saturating_add(MORE)
+    }
+
+    /// Cuts that suit the order: none where few entries are held, and else some for the entries of the pool or for those that come,
+    /// where these are more.
+    pub(crate) fn cuts_beside<D: Dominance>(
+        &self,
+        alloc: Global,
+        dominance: &D,
+        held: usize,
+        coming: &[Entry],
+    ) -> Result<Cuts, AllocError>
+        ensures { IfOk result (λ cuts. Suit (D.order dominance.now) cuts) }
+    {
+        if Pool::are_few(held, coming.len()) {
+            return Ok(Cuts::none());
+        }
+        if coming.len() > self.entries.len() {
+            cuts_of(alloc, dominance, coming)
+        } else {
+            cuts_of(alloc, dominance, &self.entries)
+        }
+    }
+
+    /// Puts an entry behind the others.
+    pub(crate) fn push(&mut self, entry: &Entry, signature: u64) -> Result<Item, AllocError>
+        requires { signature ≡ signature_by self.old.cuts entry.now }
+        ensures entries { OnOk result (self.new.entries.items ≡ self.old.entries.items ++ entry.now ∷ []) }
+        ensures as_before { OnErr result (self.new.entries.items ≡ self.old.entries.items) }
+        ensures cuts { self.new.cuts ≡ self.old.cuts }
+        ensures item { IfOk result (λ item. IsItem (signature_by self.new.cuts) self.new.entries.items item) }
+        ensures place { IfOk result (λ item. item.place ≡ length self.old.entries.items) }
+    {
+        let place = self.entries.len();
+        self.entries.push(*entry)?;
+        Ok(Item { signature, place })
+    }
+
+    /// Whether one of the first items of a level is seen to dominate an entry, by one comparison for each whose signature leaves it open.
+    #[inline(always)]
+    pub(crate) fn dominates<D: Dominance>(
+        &self,
+        dominance: &D,
+        items: &[Item],
+        entry: &Entry,
+        signature: u64,
+    ) -> bool
+        requires { AreItems (signature_by self.now.cuts) self.now.entries.items items.now }
+        ensures { result ≡ true → is_beaten (entry_order (D.order dominance.now)) (entries_at self.now.entries.items items.now) entry.now ≡ true }
+    {
+        for item in &items[..items.len().min(NEAR)] {
+            if is_within(item.signature, signature) {
+                match compare(dominance, &self.entries[item.place], entry) {
+                    Relation::Better => return true,
+                    Relation::Same => return false,
+                    Relation::Worse | Relation::Neither => {}
+                }
+            }
+        }
+        false
+    }
+
+    /// Signs items of its entries by its cuts. Takes no memory.
+    fn sign(&self, items: &mut Vec<Item>)
+        requires { (rule : Entry → ℕ) × AreItems rule self.now.entries.items items.old.items }
+        ensures entries { entries_at self.now.entries.items items.new.items ≡ entries_at self.now.entries.items items.old.items }
+        ensures items { AreItems (signature_by self.now.cuts) self.now.entries.items items.new.items }
+    {
+        for place in 0..items.len() {
+            let item = items[place];
+            items[place].signature = signature_of(&self.cuts, &self.entries[item.place]);
+        }
+    }
+
+    /// Signs the items of levels by its cuts. Takes no memory.
+    pub(crate) fn sign_levels(&self, levels: &mut Vec<Vec<Item>>)
+        requires { (rule : Entry → ℕ) × AreAllItems rule self.now.entries.items levels.old.items }
+        ensures entries { levels_at self.now.entries.items levels.new.items ≡ levels_at self.now.entries.items levels.old.items }
+        ensures items { AreAllItems (signature_by self.now.cuts) self.now.entries.items levels.new.items }
+    {
+        for place in 0..levels.len() {
+            self.sign(&mut levels[place]);
+        }
+    }
+
+    /// Signs the items of parts by its cuts. Takes no memory.
+    pub(crate) fn sign_parts(&self, parts: &mut Vec<Vec<Vec<Item>>>)
+        requires { (rule : Entry → ℕ) × AreInPool rule self.now.entries.items parts.old.items }
+        ensures long { vec_len parts.new ≡ vec_len parts.old }
+        ensures entries { parts_at self.now.entries.items parts.new.items ≡ parts_at self.now.entries.items parts.old.items }
+        ensures items { AreInPool (signature_by self.now.cuts) self.now.entries.items parts.new.items }
+    {
+        for place in 0..parts.len() {
+            self.sign_levels(&mut parts[place]);
+        }
+    }
+}
+
+/// Puts the entries of items behind those of another pool. Gives their items there.
+fn take_items(
+    alloc: Global,
+    pool: &mut Vec<Entry>,
+    entries: &[Entry],
+    items: &[Item],
+) -> Result<Vec<Item>, AllocError>
+    requires { (rule : Entry → ℕ) × AreItems rule entries.now items.now }
+    ensures more { (more : List Entry) × (pool.new.items ≡ pool.old.items ++ more) }
+    ensures entries { IfOk result (λ taken. entries_at pool.new.items taken.items ≡ entries_at entries.now items.now) }
+    ensures items { (rule : Entry → ℕ) → AreItems rule entries.now items.now → IfOk result (λ taken. AreItems rule pool.new.items taken.items) }
+{
+    let mut taken = Vec::with_capacity(alloc, items.len())?;
+    for item in items {
+        let place = pool.len();
+        pool.push(entries[item.place])?;
+        taken.push(Item {
+            signature: item.signature,
+            place,
+        })?;
+    }
+    Ok(taken)
+}
+
+/// The same for the items of levels.
+fn take_levels(
+    alloc: Global,
+    pool: &mut Vec<Entry>,
+    entries: &[Entry],
+    levels: &[Vec<Item>],
+) -> Result<Vec<Vec<Item>>, AllocError>
+    requires { (rule : Entry → ℕ) × AreAllItems rule entries.now levels.now }
+    ensures more { (more : List Entry) × (pool.new.items ≡ pool.old.items ++ more) }
+    ensures entries { IfOk result (λ taken. levels_at pool.new.items taken.items ≡ levels_at entries.now levels.now) }
+    ensures items { (rule : Entry → ℕ) → AreAllItems rule entries.now levels.now → IfOk result (λ taken. AreAllItems rule pool.new.items taken.items) }
+{
+    let mut taken = Vec::with_capacity(alloc, levels.len())?;
+    for level in levels {
+        let items = take_items(alloc, pool, entries, level)?;
+        taken.push(items)?;
+    }
+    Ok(taken)
+}
+
+/// The same for the items of parts.
+pub(crate) fn take_parts(
+    alloc: Global,
+    pool: &mut Vec<Entry>,
+    entries: &[Entry],
+    parts: &[Vec<Vec<Item>>],
+) -> Result<Vec<Vec<Vec<Item>>>, AllocError>
+    requires { (rule : Entry → ℕ) × AreInPool rule entries.now parts.now }
+    ensures entries { IfOk result (λ taken. parts_at pool.new.items taken.items ≡ parts_at entries.now parts.now) }
+    ensures items { (rule : Entry → ℕ) → AreInPool rule entries.now parts.now → IfOk result (λ taken. AreInPool rule pool.new.items taken.items) }
+    ensures long { IfOk result (λ taken. length taken.items ≡ length parts.now) }
+{
+    let mut taken = Vec::with_capacity(alloc, parts.len())?;
+    for part in parts {
+        let levels = take_levels(alloc, pool, entries, part)?;
+        taken.push(levels)?;
+    }
+    Ok(taken)
+}
