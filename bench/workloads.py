@@ -333,6 +333,13 @@ def gets(kind, count, rows=20_000, cap=30_000):
     return lines + [f"as 1 get {r.choice(kinds[kind])}" for _ in range(count)], options(cap)
 
 
+def begins(rows, pairs, keeps):
+    """Begins and abandons of one client, while an open query of another one keeps a version of each row, or after that one ended too."""
+    lines = table(["x"], [[i] for i in range(rows)]) + ["as 1 begin best low(x)"]
+    lines += [f"as 2 update {i} {i}" for i in range(1, rows + 1)] + ([] if keeps else ["as 1 abandon"])
+    return lines + ["as 2 begin best low(x)", "as 2 abandon"] * pairs, options(2 * rows)
+
+
 # what grows, by the number of rows; changes, live and churn have as many commands as slots
 GROWING = {
     "load": load,
@@ -445,6 +452,7 @@ ALL |= {f"{name}-{n}": lambda make=make, n=n: make(n) for name, make in GROWING.
 ALL |= {f"churn-after-{changes}": lambda c=changes: churn(c, 30_000) for age in AGES for changes in (age, age + SAMPLE)}
 ALL |= {f"gets-{kind}": lambda k=kind: gets(k, GETS) for kind in ("home", "moved", "deleted", "never")}
 ALL["gets-none"] = lambda: gets("home", 0)
+ALL |= {f"begins-beside-{beside}": lambda k=beside == "kept": begins(32_768, 2_000, k) for beside in ("kept", "none")}
 ALL |= {f"choice-{name}": make for name, (_, make) in CHOICES.items()}
 ALL |= {f"shape-{name}-{arrival}-b{block}-w{window}": lambda name=name, arrival=arrival, b=block, w=window: shape(name, arrival, ALL_ROWS, b, w)
         for name in SHAPES for arrival in ARRIVALS for block, window in blocks_and_windows(BLOCKS, WINDOWS)}

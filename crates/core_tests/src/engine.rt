@@ -3,6 +3,7 @@
 mod calls;
 mod commits;
 mod copies;
+mod ends;
 mod fixtures;
 mod index;
 mod moves;

@@ -6,6 +6,7 @@ use Rattle.std.proofs.lemmas.List.{map-set}
 use Rattle.std.proofs.lemmas.Option.{slice_get-map}
 use Rattle.std.proofs.lemmas.Bool.{le-leb, and_parts, eqb-true, eq-eqb, cases_eq, true≢false}
 use Rattle.pref_core.specs.declared.store.version.Version.{Version}
+use Rattle.pref_core.specs.declared.store.caller.Caller.{Caller}
 use Rattle.pref_core.specs.declared.store.places.Zone.{Zone}
 use Rattle.pref_core.specs.declared.store.places.Zone.TheVariants.{Live}
 use Rattle.pref_sky.specs.declared.entry.Entry.{Entry}
@@ -74,10 +75,10 @@ module _ (next made id : ℕ) (slots : List (Option Version)) (within : AllByRec
       here = ap (λ b. Some (record version { death = close_at made (b || false) version.death })) (eq-eqb id version.id (sym its))
 
 -- A version of a row is in no query's way: it has not ended.
-pub row_alive : (next made id : ℕ) (ns : List ℕ) (version : Version) → IsWithin next made (Some version) → is_row made id (Some version) ≡ true → zone_of ns (Some version) ≡ Live
-row_alive next made id ns version w r = go version.death w.2 (and_parts (eqb version.id id) (is_visible made version) r).1
+pub row_alive : (next made id : ℕ) (callers : List Caller) (version : Version) → IsWithin next made (Some version) → is_row made id (Some version) ≡ true → zone_of callers (Some version) ≡ Live
+row_alive next made id callers version w r = go version.death w.2 (and_parts (eqb version.id id) (is_visible made version) r).1
   where
-    go : (death : Option ℕ) → EndsBy made death → is_visible made (record version { death = death }) ≡ true → zone_of ns (Some (record version { death = death })) ≡ Live
+    go : (death : Option ℕ) → EndsBy made death → is_visible made (record version { death = death }) ≡ true → zone_of callers (Some (record version { death = death })) ≡ Live
     go None ends v = refl
     go (Some death) ends v = absurd (let w = rw (le-leb version.birth made w.1, le-leb death made ends) at v in cc)
 
@@ -132,9 +133,9 @@ links_ended made place slots version links ends h = subst (λ l. AreLinks l link
     gone (Some death) e = rw (le-leb death made e, hidden) refl
 
 -- One zone is written.
-pub closed_zones : (ns : List ℕ) (slots : List (Option Version)) (zones new : List Zone) (place : ℕ) (slot : Option Version) (zone : Zone) → zones ≡ map (zone_of ns) slots → zone ≡ zone_of ns slot → new ≡ set zones place zone → new ≡ map (zone_of ns) (set slots place slot)
-closed_zones ns slots zones new place slot zone listed is told =
-    told ∙ (λ i. set (listed i) place (is i)) ∙ sym (map-set (zone_of ns) slots place slot)
+pub closed_zones : (callers : List Caller) (slots : List (Option Version)) (zones new : List Zone) (place : ℕ) (slot : Option Version) (zone : Zone) → zones ≡ map (zone_of callers) slots → zone ≡ zone_of callers slot → new ≡ set zones place zone → new ≡ map (zone_of callers) (set slots place slot)
+closed_zones callers slots zones new place slot zone listed is told =
+    told ∙ (λ i. set (listed i) place (is i)) ∙ sym (map-set (zone_of callers) slots place slot)
 
-pub filled_zones : (ns : List ℕ) (closed : List (Option Version)) (zones new : List Zone) (place : ℕ) (row : Option Version) (fresh : Entry) (made : ℕ) → zones ≡ map (zone_of ns) closed → row ≡ born made fresh → new ≡ set zones place Live → new ≡ map (zone_of ns) (set closed place row)
-filled_zones ns closed zones new place row fresh made listed is told = closed_zones ns closed zones new place row Live listed (sym (ap (zone_of ns) is)) told
+pub filled_zones : (callers : List Caller) (closed : List (Option Version)) (zones new : List Zone) (place : ℕ) (row : Option Version) (fresh : Entry) (made : ℕ) → zones ≡ map (zone_of callers) closed → row ≡ born made fresh → new ≡ set zones place Live → new ≡ map (zone_of callers) (set closed place row)
+filled_zones callers closed zones new place row fresh made listed is told = closed_zones callers closed zones new place row Live listed (sym (ap (zone_of callers) is)) told

@@ -71,18 +71,18 @@ fills_none ns made places slots e = ap (λ l. is_some (filled ns made l [] slots
 
 -- A free slot's zone is free, and it shows no row.
 pub free_there : (contents : Contents) (zones : List Zone) (links : List ℕ) (place : ℕ) → IsTracked contents zones links → is_free (stamps contents) contents.slots place ≡ true → slice_get zones place ≡ Some Free
-free_there contents zones links place h f = go (slice_get zones place) refl (ap (λ z. free_at z place) h.listed ∙ sym (free_zone contents.next_id contents.stamp (begins contents.callers) contents.slots place h.within) ∙ f)
+free_there contents zones links place h f = go (slice_get zones place) refl (ap (λ z. free_at z place) h.listed ∙ sym (free_zone contents.next_id contents.stamp contents.callers contents.slots place h.within) ∙ f)
   where
     go : (o : Option Zone) → slice_get zones place ≡ o → elim o as (λ x. Bool) [ None ↦ false | Some zone ↦ is_free_zone zone ] ≡ true → slice_get zones place ≡ Some Free
     go None e is = absurd (cc)
     go (Some Free) e is = e
-    go (Some Ended) e is = absurd (cc)
+    go (Some (Ended keeper)) e is = absurd (cc)
     go (Some Live) e is = absurd (cc)
 
 pub free_inside : (contents : Contents) (zones : List Zone) (links : List ℕ) (place : ℕ) → IsTracked contents zones links → is_free (stamps contents) contents.slots place ≡ true → place < length contents.slots
 free_inside contents zones links place h f =
     let inside = slice_get_within zones place Free (free_there contents zones links place h f) in
-    let long = ap length h.listed ∙ length-map contents.slots (zone_of (begins contents.callers)) in
+    let long = ap length h.listed ∙ length-map contents.slots (zone_of contents.callers) in
     omega arith
 
 -- The ids that the slots show, with one more.
@@ -275,17 +275,18 @@ module _ (contents : Contents) (zones : List Zone) (links : List ℕ) (id place 
   end_inside = slice_get_within contents.slots place (Some version) at
 
   pub end_alive : slice_get zones place ≡ Some Live
-  end_alive = ap (λ z. slice_get z place) h.listed ∙ slice_get-map (zone_of (begins contents.callers)) contents.slots place ∙ ap (option_map (zone_of (begins contents.callers))) at ∙ ap Some (row_alive contents.next_id contents.stamp id (begins contents.callers) version within_here row_here)
+  end_alive = ap (λ z. slice_get z place) h.listed ∙ slice_get-map (zone_of contents.callers) contents.slots place ∙ ap (option_map (zone_of contents.callers)) at ∙ ap Some (row_alive contents.next_id contents.stamp id contents.callers version within_here row_here)
 
   pub end_slots : set contents.slots place last ≡ map (close (id ∷ []) contents.stamp) contents.slots
   end_slots = ap (set contents.slots place) (sym closes) ∙ sym (one_closed contents.next_id contents.stamp id contents.slots h.within place version h.ids row at)
 
-  pub end_tracked : (zone : Zone) (zones_new : List Zone) (links_new : List ℕ) → zone ≡ zone_of (begins contents.callers) last → zones_new ≡ set zones place zone → AreLinks (set (ids_of contents.stamp contents.slots) place None) links_new
+  pub end_tracked : (zone : Zone) (zones_new : List Zone) (links_new : List ℕ) → zone ≡ zone_of contents.callers last → zones_new ≡ set zones place zone → AreLinks (set (ids_of contents.stamp contents.slots) place None) links_new
       → IsTracked (with_slots (set contents.slots place last) contents) zones_new links_new
   end_tracked zone zones_new links_new is told linked = record {
     few = let long = length-set contents.slots place last in let few = h.few in omega arith;
+    seats = h.seats;
     within = subst (AllByRecursion (IsWithin contents.next_id contents.stamp)) (sym end_slots) (within_closed (id ∷ []) contents.next_id contents.stamp contents.slots h.within);
-    listed = closed_zones (begins contents.callers) contents.slots zones zones_new place last zone h.listed is told;
+    listed = closed_zones contents.callers contents.slots zones zones_new place last zone h.listed is told;
     linked = subst (λ s. AreLinks (ids_of contents.stamp (set contents.slots place s)) links_new) closes (links_ended contents.stamp place contents.slots version links_new within_here.2 linked);
     ids = subst (λ l. AreIds (2 ^ 64) (id_at (ids_of contents.stamp l))) (sym end_slots) (ids_closed (id ∷ []) contents.stamp contents.slots h.ids);
   }
@@ -304,8 +305,8 @@ module _ (contents : Contents) (zones : List Zone) (links : List ℕ) (id place 
   replace_tracked entry new same is =
       let named : version.id ≡ id = eqb-true version.id id visible_here.0 in
       let low : entry.id < contents.next_id = omega (arith, within_here.0, named, same) in
-      let zone : zone_of (begins contents.callers) new ≡ zone_of (begins contents.callers) (get_or contents.slots place new) =
-      ap (zone_of (begins contents.callers)) is ∙ sym (ap (zone_of (begins contents.callers)) (here new) ∙ row_alive contents.next_id contents.stamp id (begins contents.callers) version within_here row_here) in
+      let zone : zone_of contents.callers new ≡ zone_of contents.callers (get_or contents.slots place new) =
+      ap (zone_of contents.callers) is ∙ sym (ap (zone_of contents.callers) (here new) ∙ row_alive contents.next_id contents.stamp id contents.callers version within_here row_here) in
       let fresh : shown contents.stamp (born contents.stamp entry) ≡ Some entry.id = rw (le-leb contents.stamp contents.stamp (omega arith)) refl in
       let before : shown contents.stamp (Some version) ≡ Some version.id = rw visible_here.1 refl in
       let id_here : shown contents.stamp new ≡ shown contents.stamp (get_or contents.slots place new) =
@@ -313,8 +314,9 @@ module _ (contents : Contents) (zones : List Zone) (links : List ℕ) (id place 
       let ids_same = map-set_same (shown contents.stamp) contents.slots place new new id_here in
       record {
         few = let long = length-set contents.slots place new in let few = h.few in omega arith;
+        seats = h.seats;
         within = subst (λ r. AllByRecursion (IsWithin contents.next_id contents.stamp) (set contents.slots place r)) (sym is) (within-set contents.next_id contents.stamp contents.slots place (born contents.stamp entry) (low, omega arith, tt) h.within);
-        listed = h.listed ∙ sym (map-set_same (zone_of (begins contents.callers)) contents.slots place new new zone);
+        listed = h.listed ∙ sym (map-set_same (zone_of contents.callers) contents.slots place new new zone);
         linked = subst (λ ids. AreLinks ids links) (sym ids_same) h.linked;
         ids = subst (λ ids. AreIds (2 ^ 64) (id_at ids)) (sym ids_same) h.ids;
       }
@@ -325,8 +327,9 @@ pub begin_tracked : (contents : Contents) (zones : List Zone) (links : List ℕ)
     → IsTracked (with_slots (set contents.slots place row) contents) zones_new links_new
 begin_tracked contents zones links entry place row zones_new links_new h free absent low small is told linked = record {
   few = let long = length-set contents.slots place row in let few = h.few in omega arith;
+  seats = h.seats;
   within = subst (λ r. AllByRecursion (IsWithin contents.next_id contents.stamp) (set contents.slots place r)) (sym is) (within-set contents.next_id contents.stamp contents.slots place (born contents.stamp entry) (low, omega arith, tt) h.within);
-  listed = filled_zones (begins contents.callers) contents.slots zones zones_new place row entry contents.stamp h.listed is told;
+  listed = filled_zones contents.callers contents.slots zones zones_new place row entry contents.stamp h.listed is told;
   linked = links_born contents.stamp place entry row contents.slots links_new is linked;
   ids = subst (λ r. AreIds (2 ^ 64) (id_at (ids_of contents.stamp (set contents.slots place r)))) (sym is) (ids_born contents.stamp place entry contents.slots small (free_inside contents zones links place h free) absent h.ids);
 }

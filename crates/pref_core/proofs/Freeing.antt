@@ -13,7 +13,7 @@ use Rattle.pref_core.specs.Table.{among}
 use Rattle.pref_core.specs.State.{State, missing}
 use Rattle.pref_core.specs.Slots.{Contents, StandsFor, IsWithin, is_visible, visible, begins}
 use Rattle.pref_core.specs.Operations.{close, is_free}
-use Rattle.pref_core.specs.Places.{is_free_zone, free_at, zone_of}
+use Rattle.pref_core.specs.Places.{is_free_zone, is_spare, free_at, zone_of}
 use Rattle.pref_core.specs.Bounds.{IsBounded}
 use Rattle.pref_core.specs.Indexes.{is_row, row_at, IsPlaceOf}
 use Rattle.pref_core.specs.Kept.{AreOldPlaces, frees_at, is_open, IsFreed}
@@ -22,7 +22,7 @@ use Rattle.pref_core.proofs.Closing.{row_alive}
 use Rattle.pref_core.proofs.Keys.{within-close}
 use Rattle.pref_core.proofs.Linked.{known_ids}
 use Rattle.pref_core.proofs.Linking.{row_shown}
-use Rattle.pref_core.proofs.Zones.{count_by-cons, holds_there, read_other, live, live_by, close_idle, has_row_at, row_version, free_zone, used_zones, one_no}
+use Rattle.pref_core.proofs.Zones.{count_by-cons, holds_there, read_other, live, live_by, close_idle, has_row_at, row_version, free_zone, used_zones, spare_zone, one_no}
 
 -- What was found of the first of these rows.
 pub record FreesUpTo (contents : Contents) (ids done freed : List ℕ) : Type 0 where
@@ -181,7 +181,7 @@ module _ (contents : Contents) (state : State) (bounded : IsBounded contents) (s
   made = suc contents.stamp
 
   abbrev zones : List Zone
-  zones = map (zone_of ns) contents.slots
+  zones = map (zone_of contents.callers) contents.slots
 
   one_row : (id p q : ℕ) → row_at contents.stamp id contents.slots p ≡ true → row_at contents.stamp id contents.slots q ≡ true → p ≡ q
   one_row id p q a b = (known_ids contents state bounded stands).once p q id (row_shown contents.stamp id contents.slots p a) (row_shown contents.stamp id contents.slots q b)
@@ -246,15 +246,15 @@ module _ (contents : Contents) (state : State) (bounded : IsBounded contents) (s
       go false more = more
 
   -- a slot that is free stays free, and one that isn't and becomes it held a row that ended
-  slot_freed : (ids : List ℕ) (slot : Option Version) → is_free_zone (zone_of ns slot) ≡ true → is_free_zone (zone_of ns (close ids made slot)) ≡ true
+  slot_freed : (ids : List ℕ) (slot : Option Version) → is_free_zone (zone_of contents.callers slot) ≡ true → is_free_zone (zone_of contents.callers (close ids made slot)) ≡ true
   slot_freed ids None f = refl
-  slot_freed ids (Some version) f = ap (λ s. is_free_zone (zone_of ns s)) (close_idle ids made (Some version) (ended version.death f)) ∙ f
+  slot_freed ids (Some version) f = ap (λ s. is_free_zone (zone_of contents.callers s)) (close_idle ids made (Some version) (ended version.death f)) ∙ f
     where
-      ended : (death : Option ℕ) → is_free_zone (zone_of ns (Some (record version { death = death }))) ≡ true → live_by ids version.id death ≡ false
+      ended : (death : Option ℕ) → is_free_zone (zone_of contents.callers (Some (record version { death = death }))) ≡ true → live_by ids version.id death ≡ false
       ended None f = absurd (cc)
       ended (Some death) f = refl
 
-  row_freed : (ids : List ℕ) (slot : Option Version) → IsWithin contents.next_id contents.stamp slot → is_free_zone (zone_of ns slot) ≡ false → is_free_zone (zone_of ns (close ids made slot)) ≡ true → (id : ℕ) × (among ids id ≡ true) × (is_row contents.stamp id slot ≡ true)
+  row_freed : (ids : List ℕ) (slot : Option Version) → IsWithin contents.next_id contents.stamp slot → is_free_zone (zone_of contents.callers slot) ≡ false → is_free_zone (zone_of contents.callers (close ids made slot)) ≡ true → (id : ℕ) × (among ids id ≡ true) × (is_row contents.stamp id slot ≡ true)
   row_freed ids None w n f = absurd (cc)
   row_freed ids (Some version) w n f = go (live ids (Some version)) refl
     where
@@ -264,31 +264,35 @@ module _ (contents : Contents) (state : State) (bounded : IsBounded contents) (s
 
       go : (b : Bool) → live ids (Some version) ≡ b → (id : ℕ) × (among ids id ≡ true) × (is_row contents.stamp id (Some version) ≡ true)
       go true e = let facts = alive version.death e in (version.id, facts.0, rw (eq-eqb version.id version.id refl) facts.1)
-      go false e = absurd (true≢false (sym f ∙ ap (λ s. is_free_zone (zone_of ns s)) (close_idle ids made (Some version) e) ∙ n))
+      go false e = absurd (true≢false (sym f ∙ ap (λ s. is_free_zone (zone_of contents.callers s)) (close_idle ids made (Some version) e) ∙ n))
 
-  frees_zone : (ids : List ℕ) (place : ℕ) → free_at (map (zone_of ns) (map (close ids made) contents.slots)) place ≡ frees_at ns ids made contents.slots place
+  frees_zone : (ids : List ℕ) (place : ℕ) → free_at (map (zone_of contents.callers) (map (close ids made) contents.slots)) place ≡ frees_at ns ids made contents.slots place
   frees_zone ids place =
-      ap (λ (o : Option Zone). elim o as (λ x. Bool) [ None ↦ false | Some zone ↦ is_free_zone zone ]) (slice_get-map (zone_of ns) (map (close ids made) contents.slots) place ∙ ap (option_map (zone_of ns)) (slice_get-map (close ids made) contents.slots place))
+      ap (λ (o : Option Zone). elim o as (λ x. Bool) [ None ↦ false | Some zone ↦ is_free_zone zone ]) (slice_get-map (zone_of contents.callers) (map (close ids made) contents.slots) place ∙ ap (option_map (zone_of contents.callers)) (slice_get-map (close ids made) contents.slots place))
       ∙ go (slice_get contents.slots place)
     where
-      go : (o : Option (Option Version)) → elim (option_map (zone_of ns) (option_map (close ids made) o)) as (λ x. Bool) [ None ↦ false | Some zone ↦ is_free_zone zone ]
-          ≡ elim o as (λ x. Bool) [ None ↦ false | Some slot ↦ is_free_zone (zone_of ns (close ids made slot)) ]
+      go : (o : Option (Option Version)) → elim (option_map (zone_of contents.callers) (option_map (close ids made) o)) as (λ x. Bool) [ None ↦ false | Some zone ↦ is_free_zone zone ]
+          ≡ elim o as (λ x. Bool) [ None ↦ false | Some slot ↦ is_spare ns (close ids made slot) ]
       go None = refl
-      go (Some slot) = refl
+      go (Some slot) = spare_zone contents.callers (close ids made slot)
 
-  zone_there : (place : ℕ) (o : Option (Option Version)) → slice_get contents.slots place ≡ o → free_at zones place ≡ elim o as (λ x. Bool) [ None ↦ false | Some slot ↦ is_free_zone (zone_of ns slot) ]
-  zone_there place o e = ap (λ (o : Option Zone). elim o as (λ x. Bool) [ None ↦ false | Some zone ↦ is_free_zone zone ]) (slice_get-map (zone_of ns) contents.slots place ∙ ap (option_map (zone_of ns)) e) ∙ go o
+  zone_there : (place : ℕ) (o : Option (Option Version)) → slice_get contents.slots place ≡ o → free_at zones place ≡ elim o as (λ x. Bool) [ None ↦ false | Some slot ↦ is_free_zone (zone_of contents.callers slot) ]
+  zone_there place o e = ap (λ (o : Option Zone). elim o as (λ x. Bool) [ None ↦ false | Some zone ↦ is_free_zone zone ]) (slice_get-map (zone_of contents.callers) contents.slots place ∙ ap (option_map (zone_of contents.callers)) e) ∙ go o
     where
-      go : (o : Option (Option Version)) → elim (option_map (zone_of ns) o) as (λ x. Bool) [ None ↦ false | Some zone ↦ is_free_zone zone ] ≡ elim o as (λ x. Bool) [ None ↦ false | Some slot ↦ is_free_zone (zone_of ns slot) ]
+      go : (o : Option (Option Version)) → elim (option_map (zone_of contents.callers) o) as (λ x. Bool) [ None ↦ false | Some zone ↦ is_free_zone zone ] ≡ elim o as (λ x. Bool) [ None ↦ false | Some slot ↦ is_free_zone (zone_of contents.callers slot) ]
       go None = refl
       go (Some slot) = refl
 
-  frees_there : (ids : List ℕ) (place : ℕ) (o : Option (Option Version)) → slice_get contents.slots place ≡ o → frees_at ns ids made contents.slots place ≡ elim o as (λ x. Bool) [ None ↦ false | Some slot ↦ is_free_zone (zone_of ns (close ids made slot)) ]
-  frees_there ids place o e = ap (λ o. elim o as (λ x. Bool) [ None ↦ false | Some slot ↦ is_free_zone (zone_of ns (close ids made slot)) ]) e
+  frees_there : (ids : List ℕ) (place : ℕ) (o : Option (Option Version)) → slice_get contents.slots place ≡ o → frees_at ns ids made contents.slots place ≡ elim o as (λ x. Bool) [ None ↦ false | Some slot ↦ is_free_zone (zone_of contents.callers (close ids made slot)) ]
+  frees_there ids place o e = ap (λ o. elim o as (λ x. Bool) [ None ↦ false | Some slot ↦ is_spare ns (close ids made slot) ]) e ∙ go o
+    where
+      go : (o : Option (Option Version)) → elim o as (λ x. Bool) [ None ↦ false | Some slot ↦ is_spare ns (close ids made slot) ] ≡ elim o as (λ x. Bool) [ None ↦ false | Some slot ↦ is_free_zone (zone_of contents.callers (close ids made slot)) ]
+      go None = refl
+      go (Some slot) = sym (spare_zone contents.callers (close ids made slot))
 
   -- a place is free once rows ended where they leave it free, ..
   pub frees_closed : (ids : List ℕ) (place : ℕ) → frees_at ns ids made contents.slots place ≡ true → is_free (made ∷ ns) (map (close ids made) contents.slots) place ≡ true
-  frees_closed ids place f = free_zone contents.next_id made ns (map (close ids made) contents.slots) place (within-close ids contents.next_id contents.stamp contents.slots stands.within) ∙ frees_zone ids place ∙ f
+  frees_closed ids place f = free_zone contents.next_id made contents.callers (map (close ids made) contents.slots) place (within-close ids contents.next_id contents.stamp contents.slots stands.within) ∙ frees_zone ids place ∙ f
 
   -- .. or where it was free
   pub free_closed : (ids : List ℕ) (place : ℕ) → free_at zones place ≡ true → is_free (made ∷ ns) (map (close ids made) contents.slots) place ≡ true
@@ -304,7 +308,7 @@ module _ (contents : Contents) (state : State) (bounded : IsBounded contents) (s
       let found = row_version contents.stamp id contents.slots place row in
       let shows : is_row contents.stamp id (Some found.0) ≡ true = ap (λ o. elim o as (λ x. Bool) [ None ↦ false | Some s ↦ is_row contents.stamp id s ]) (sym found.1) ∙ row in
       zone_there place (Some (Some found.0)) found.1
-      ∙ ap is_free_zone (row_alive contents.next_id contents.stamp id ns found.0 (holds_there (IsWithin contents.next_id contents.stamp) contents.slots place (Some found.0) found.1 stands.within) shows)
+      ∙ ap is_free_zone (row_alive contents.next_id contents.stamp id contents.callers found.0 (holds_there (IsWithin contents.next_id contents.stamp) contents.slots place (Some found.0) found.1 stands.within) shows)
 
   -- the slot of a place is free once rows ended where it was free, or one of them stood there and nobody needs it
   frees_open : (ids olds : List ℕ) (place : ℕ) → AreOldPlaces contents.stamp ids contents.slots olds → frees_at ns ids made contents.slots place ≡ (free_at zones place || (among olds place && frees_at ns ids made contents.slots place))
@@ -331,12 +335,12 @@ module _ (contents : Contents) (state : State) (bounded : IsBounded contents) (s
   pub freed_all : (ids freed : List ℕ) → AreApart ids → FreesUpTo contents ids ids freed → IsFreed contents ids freed
   freed_all ids freed apart h = record {
     there = all_there contents.stamp contents.slots ids h.olds h.stand;
-    opens = λ place. free_zone contents.next_id made ns (map (close ids made) contents.slots) place (within-close ids contents.next_id contents.stamp contents.slots stands.within) ∙ opens place;
+    opens = λ place. free_zone contents.next_id made contents.callers (map (close ids made) contents.slots) place (within-close ids contents.next_id contents.stamp contents.slots stands.within) ∙ opens place;
     counted =
-        let all = used_zones contents.next_id made ns (map (close ids made) contents.slots) (within-close ids contents.next_id contents.stamp contents.slots stands.within) in
+        let all = used_zones contents.next_id made contents.callers (map (close ids made) contents.slots) (within-close ids contents.next_id contents.stamp contents.slots stands.within) in
         let long = length-map contents.slots (close ids made) in
-        let same : length zones ≡ length (map (zone_of ns) (map (close ids made) contents.slots)) = length-map contents.slots (zone_of ns) ∙ sym (length-map (map (close ids made) contents.slots) (zone_of ns) ∙ long) in
-        let marks = marked_count zones (map (zone_of ns) (map (close ids made) contents.slots)) freed same
+        let same : length zones ≡ length (map (zone_of contents.callers) (map (close ids made) contents.slots)) = length-map contents.slots (zone_of contents.callers) ∙ sym (length-map (map (close ids made) contents.slots) (zone_of contents.callers) ∙ long) in
+        let marks = marked_count zones (map (zone_of contents.callers) (map (close ids made) contents.slots)) freed same
         (subst AreApart (sym h.freed_is) (filter_apart (frees_at ns ids made contents.slots) h.olds (olds_apart ids h.olds h.stand apart))) marked opens in
         omega arith;
   }
@@ -344,7 +348,7 @@ module _ (contents : Contents) (state : State) (bounded : IsBounded contents) (s
       found : (place : ℕ) → among freed place ≡ (among h.olds place && frees_at ns ids made contents.slots place)
       found place = ap (λ l. among l place) h.freed_is ∙ among_filter (frees_at ns ids made contents.slots) h.olds place
 
-      opens : (place : ℕ) → free_at (map (zone_of ns) (map (close ids made) contents.slots)) place ≡ is_open zones freed place
+      opens : (place : ℕ) → free_at (map (zone_of contents.callers) (map (close ids made) contents.slots)) place ≡ is_open zones freed place
       opens place = frees_zone ids place ∙ frees_open ids h.olds place h.stand ∙ ap (λ b. free_at zones place || b) (sym (found place))
 
       marked : (p : ℕ) → among freed p ≡ true → (p < length zones) × (free_at zones p ≡ false)
@@ -353,9 +357,9 @@ module _ (contents : Contents) (state : State) (bounded : IsBounded contents) (s
           let old = old_id ids h.olds p h.stand parts.0 in
           inside old.id (slice_get contents.slots p) refl old.row
         where
-          held : (id : ℕ) (slot : Option Version) → IsWithin contents.next_id contents.stamp slot → is_row contents.stamp id slot ≡ true → is_free_zone (zone_of ns slot) ≡ false
+          held : (id : ℕ) (slot : Option Version) → IsWithin contents.next_id contents.stamp slot → is_row contents.stamp id slot ≡ true → is_free_zone (zone_of contents.callers slot) ≡ false
           held id None w r = absurd (cc)
-          held id (Some version) w r = ap is_free_zone (row_alive contents.next_id contents.stamp id ns version w r)
+          held id (Some version) w r = ap is_free_zone (row_alive contents.next_id contents.stamp id contents.callers version w r)
 
           inside : (id : ℕ) (o : Option (Option Version)) → slice_get contents.slots p ≡ o → row_at contents.stamp id contents.slots p ≡ true → (p < length zones) × (free_at zones p ≡ false)
           inside id None e r = absurd (true≢false (sym r ∙ ap (λ o. elim o as (λ x. Bool) [ None ↦ false | Some s ↦ is_row contents.stamp id s ]) e))
@@ -363,5 +367,5 @@ module _ (contents : Contents) (state : State) (bounded : IsBounded contents) (s
               let within = holds_there (IsWithin contents.next_id contents.stamp) contents.slots p slot e stands.within in
               let shows : is_row contents.stamp id slot ≡ true = ap (λ o. elim o as (λ x. Bool) [ None ↦ false | Some s ↦ is_row contents.stamp id s ]) (sym e) ∙ r in
               let room = slice_get_within contents.slots p slot e in
-              let long = length-map contents.slots (zone_of ns) in
-              (omega arith, ap (λ (o : Option Zone). elim o as (λ x. Bool) [ None ↦ false | Some zone ↦ is_free_zone zone ]) (slice_get-map (zone_of ns) contents.slots p ∙ ap (option_map (zone_of ns)) e) ∙ held id slot within shows)
+              let long = length-map contents.slots (zone_of contents.callers) in
+              (omega arith, ap (λ (o : Option Zone). elim o as (λ x. Bool) [ None ↦ false | Some zone ↦ is_free_zone zone ]) (slice_get-map (zone_of contents.callers) contents.slots p ∙ ap (option_map (zone_of contents.callers)) e) ∙ held id slot within shows)

@@ -81,6 +81,7 @@ pub tracked_next : (contents : Contents) (zones : List Zone) (links : List ℕ) 
     → IsTracked (record { slots = contents.slots; stamp = suc contents.stamp; next_id = contents.next_id + more; callers = contents.callers }) zones links
 tracked_next contents zones links more h = record {
   few = h.few;
+  seats = h.seats;
   within = within-more contents.next_id (contents.next_id + more) (suc contents.stamp) contents.slots (omega arith)
       (subst (AllByRecursion (IsWithin contents.next_id (suc contents.stamp))) (close_none (suc contents.stamp) contents.slots) (within-close [] contents.next_id contents.stamp contents.slots h.within));
   listed = h.listed;

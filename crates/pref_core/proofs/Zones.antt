@@ -1,14 +1,16 @@
 -- The zones of slots, and how many are free.
-use Rattle.std.proofs.Common.{◌≡◌, ℕ, zero, suc, ◌+◌, ◌<◌, Bool, true, false, not, ◌&&◌, ◌||◌, cond, eqb, List, [], ◌∷◌, map, length, set, Option, Some, None, slice_get, refl, ap, ◌∙◌, subst, arith}
+use Rattle.std.proofs.Common.{◌≡◌, ℕ, zero, suc, ◌+◌, ◌<◌, Bool, true, false, not, ◌&&◌, ◌||◌, cond, eqb, List, [], ◌∷◌, map, length, set, Option, Some, None, slice_get, is_some, refl, sym, ap, ◌∙◌, subst, arith}
 use Rattle.std.specs.List.{count_by, cons_option, AllByRecursion}
+use Rattle.std.specs.Option.{option_to_list}
 use Rattle.std.proofs.lemmas.List.Sums.{sum_by-cons}
 use Rattle.std.proofs.lemmas.Bool.{le-leb, and_parts, or_right}
 use Rattle.pref_core.specs.declared.store.version.Version.{Version}
-use Rattle.pref_core.specs.declared.store.places.Zone.TheVariants.{Free, Ended}
+use Rattle.pref_core.specs.declared.store.caller.Caller.{Caller}
+use Rattle.pref_core.specs.declared.store.places.Zone.TheVariants.{Ended}
 use Rattle.pref_core.specs.Table.{Line, among, has}
-use Rattle.pref_core.specs.Slots.{is_visible, seen, visible, line, is_needed, IsWithin, EndsBy}
+use Rattle.pref_core.specs.Slots.{is_visible, seen, visible, line, is_needed, begins, IsWithin, EndsBy}
 use Rattle.pref_core.specs.Operations.{close, close_at, is_free}
-use Rattle.pref_core.specs.Places.{is_free_zone, free_at, zone_of}
+use Rattle.pref_core.specs.Places.{is_free_zone, free_at, kept_from, zone_of, is_spare}
 use Rattle.pref_core.specs.Indexes.{row_at}
 use Rattle.pref_core.proofs.Counting.{is_needed-empty}
 
@@ -32,26 +34,58 @@ read_other (z ∷ xs) zero (suc j) y n = refl
 read_other (z ∷ xs) (suc k) zero y n = refl
 read_other (z ∷ xs) (suc k) (suc j) y n = read_other xs k j y (λ e. n (ap suc e))
 
--- A slot that isn't ahead of the store is needed where it isn't free.
-pub needed_zone : (next now : ℕ) (ns : List ℕ) (slot : Option Version) → IsWithin next now slot → is_needed (now ∷ ns) slot ≡ not (is_free_zone (zone_of ns slot))
-needed_zone next now ns None h = is_needed-empty ns
-needed_zone next now ns (Some version) h = at_death version.death h.2
+-- A slot is needed where the first caller's begin sees it, or another one's.
+pub needed_cons : (caller : Caller) (callers : List Caller) (slot : Option Version) → is_needed (begins (caller ∷ callers)) slot ≡ (is_needed (option_to_list caller.begun) slot || is_needed (begins callers) slot)
+needed_cons caller callers slot = go caller.begun
   where
-    both : (b : Bool) → b ≡ not (is_free_zone (cond b Ended Free))
-    both true = refl
-    both false = refl
+    either : (b c : Bool) → (b || c) ≡ ((b || false) || c)
+    either true c = refl
+    either false c = refl
 
-    at_death : (death : Option ℕ) → EndsBy now death → is_needed (now ∷ ns) (Some (record version { death = death })) ≡ not (is_free_zone (zone_of ns (Some (record version { death = death }))))
-    at_death None ends = rw (le-leb version.birth now h.1) refl
-    at_death (Some death) ends = rw (le-leb version.birth now h.1, le-leb death now ends) (both (is_needed ns (Some (record version { death = Some death }))))
+    go : (b : Option ℕ) → is_needed (cons_option b (begins callers)) slot ≡ (is_needed (option_to_list b) slot || is_needed (begins callers) slot)
+    go None = refl
+    go (Some stamp) = either (is_some (seen stamp slot)) (is_needed (begins callers) slot)
+
+kept_spare : (keeper : ℕ) (callers : List Caller) (slot : Option Version) → is_free_zone (kept_from keeper callers slot) ≡ not (is_needed (begins callers) slot)
+kept_spare keeper [] slot = refl
+kept_spare keeper (caller ∷ callers) slot = go (is_needed (option_to_list caller.begun) slot) (kept_spare (suc keeper) callers slot) ∙ sym (ap not (needed_cons caller callers slot))
+  where
+    go : (b : Bool) → is_free_zone (kept_from (suc keeper) callers slot) ≡ not (is_needed (begins callers) slot) → is_free_zone (cond b (Ended keeper) (kept_from (suc keeper) callers slot)) ≡ not (b || is_needed (begins callers) slot)
+    go true e = refl
+    go false e = e
+
+-- A slot is free by the callers where it is by their begins.
+pub spare_zone : (callers : List Caller) (slot : Option Version) → is_free_zone (zone_of callers slot) ≡ is_spare (begins callers) slot
+spare_zone callers None = refl
+spare_zone callers (Some version) = at_death version.death
+  where
+    at_death : (death : Option ℕ) → is_free_zone (zone_of callers (Some (record version { death = death }))) ≡ is_spare (begins callers) (Some (record version { death = death }))
+    at_death None = refl
+    at_death (Some death) = kept_spare 0 callers (Some (record version { death = Some death }))
+
+-- A slot that isn't ahead of the store is needed where it isn't free.
+pub needed_zone : (next now : ℕ) (callers : List Caller) (slot : Option Version) → IsWithin next now slot → is_needed (now ∷ begins callers) slot ≡ not (is_free_zone (zone_of callers slot))
+needed_zone next now callers slot h = needed slot h ∙ sym (ap not (spare_zone callers slot))
+  where
+    twice : (b : Bool) → b ≡ not (not b)
+    twice true = refl
+    twice false = refl
+
+    needed : (slot : Option Version) → IsWithin next now slot → is_needed (now ∷ begins callers) slot ≡ not (is_spare (begins callers) slot)
+    needed None h = is_needed-empty (begins callers)
+    needed (Some version) h = at_death version.death h.2
+      where
+        at_death : (death : Option ℕ) → EndsBy now death → is_needed (now ∷ begins callers) (Some (record version { death = death })) ≡ not (is_spare (begins callers) (Some (record version { death = death })))
+        at_death None ends = rw (le-leb version.birth now h.1) refl
+        at_death (Some death) ends = rw (le-leb version.birth now h.1, le-leb death now ends) (twice (is_needed (begins callers) (Some (record version { death = Some death }))))
 
 -- The slots that are needed, and those that are free, are all.
-pub used_zones : (next now : ℕ) (ns : List ℕ) (slots : List (Option Version)) → AllByRecursion (IsWithin next now) slots → count_by (is_needed (now ∷ ns)) slots + count_by is_free_zone (map (zone_of ns) slots) ≡ length slots
-used_zones next now ns [] h = refl
-used_zones next now ns (slot ∷ slots) h =
-    let a = count_by-cons (is_needed (now ∷ ns)) slot slots in
-    let b = count_by-cons is_free_zone (zone_of ns slot) (map (zone_of ns) slots) in
-    let rest = used_zones next now ns slots h.1 in
+pub used_zones : (next now : ℕ) (callers : List Caller) (slots : List (Option Version)) → AllByRecursion (IsWithin next now) slots → count_by (is_needed (now ∷ begins callers)) slots + count_by is_free_zone (map (zone_of callers) slots) ≡ length slots
+used_zones next now callers [] h = refl
+used_zones next now callers (slot ∷ slots) h =
+    let a = count_by-cons (is_needed (now ∷ begins callers)) slot slots in
+    let b = count_by-cons is_free_zone (zone_of callers slot) (map (zone_of callers) slots) in
+    let rest = used_zones next now callers slots h.1 in
     let here = one in
     omega arith
   where
@@ -59,18 +93,18 @@ used_zones next now ns (slot ∷ slots) h =
     either true = refl
     either false = refl
 
-    one : cond (is_needed (now ∷ ns) slot) 1 0 + cond (is_free_zone (zone_of ns slot)) 1 0 ≡ 1
-    one = ap (λ b. cond b 1 0 + cond (is_free_zone (zone_of ns slot)) 1 0) (needed_zone next now ns slot h.0) ∙ either (is_free_zone (zone_of ns slot))
+    one : cond (is_needed (now ∷ begins callers) slot) 1 0 + cond (is_free_zone (zone_of callers slot)) 1 0 ≡ 1
+    one = ap (λ b. cond b 1 0 + cond (is_free_zone (zone_of callers slot)) 1 0) (needed_zone next now callers slot h.0) ∙ either (is_free_zone (zone_of callers slot))
 
 -- A place is free by its slot where it is by its zone.
-pub free_zone : (next now : ℕ) (ns : List ℕ) (slots : List (Option Version)) (place : ℕ) → AllByRecursion (IsWithin next now) slots → is_free (now ∷ ns) slots place ≡ free_at (map (zone_of ns) slots) place
-free_zone next now ns [] place h = refl
-free_zone next now ns (slot ∷ slots) zero h = ap not (needed_zone next now ns slot h.0) ∙ twice (is_free_zone (zone_of ns slot))
+pub free_zone : (next now : ℕ) (callers : List Caller) (slots : List (Option Version)) (place : ℕ) → AllByRecursion (IsWithin next now) slots → is_free (now ∷ begins callers) slots place ≡ free_at (map (zone_of callers) slots) place
+free_zone next now callers [] place h = refl
+free_zone next now callers (slot ∷ slots) zero h = ap not (needed_zone next now callers slot h.0) ∙ twice (is_free_zone (zone_of callers slot))
   where
     twice : (b : Bool) → not (not b) ≡ b
     twice true = refl
     twice false = refl
-free_zone next now ns (slot ∷ slots) (suc place) h = free_zone next now ns slots place h.1
+free_zone next now callers (slot ∷ slots) (suc place) h = free_zone next now callers slots place h.1
 
 -- Whether the slot holds a row of one of these ids that hasn't ended.
 abbrev pub live_by : List ℕ → ℕ → Option ℕ → Bool

@@ -14,7 +14,7 @@ use Rattle.pref_core.specs.State.{State, missing, granted, is_formed}
 use Rattle.pref_core.specs.Slots.{Contents, StandsFor, IsWithin, begins, born, visible, is_needed}
 use Rattle.pref_core.specs.Operations.{close, is_free, outcome_at, placed}
 use Rattle.pref_core.specs.Bounds.{IsBounded}
-use Rattle.pref_core.specs.Places.{is_free_zone, free_at, zone_of}
+use Rattle.pref_core.specs.Places.{is_free_zone, is_spare, free_at, zone_of}
 use Rattle.pref_core.specs.Links.{ids_of, id_at, AreIds, AreLinks}
 use Rattle.pref_core.specs.Indexes.{row_at}
 
@@ -26,11 +26,12 @@ pub record IsKept (contents : Contents) : Type 0 where
 
 -- the zones that its slots belong to
 abbrev pub zones_of : Contents → List Zone
-zones_of contents = map (zone_of (begins contents.callers)) contents.slots
+zones_of contents = map (zone_of contents.callers) contents.slots
 
 -- At each step of a commit no version is ahead, and the lists beside the slots go along with them.
 pub record IsTracked (contents : Contents) (zones : List Zone) (links : List ℕ) : Type 0 where
   pub few : length contents.slots ≤ 65536
+  pub seats : length contents.callers ≤ 8
   pub within : AllByRecursion (IsWithin contents.next_id contents.stamp) contents.slots
   pub listed : zones ≡ zones_of contents
   pub linked : AreLinks (ids_of contents.stamp contents.slots) links
@@ -54,7 +55,7 @@ AreOldPlaces stamp (id ∷ ids) slots [] = ⊥
 
 -- the slot of this place, as it is after a commit that ends these ids, is free
 abbrev pub frees_at : List ℕ → List ℕ → ℕ → List (Option Version) → ℕ → Bool
-frees_at begins ids stamp slots place = elim (slice_get slots place) [ None ↦ false | Some slot ↦ is_free_zone (zone_of begins (close ids stamp slot)) ]
+frees_at begins ids stamp slots place = elim (slice_get slots place) [ None ↦ false | Some slot ↦ is_spare begins (close ids stamp slot) ]
 
 -- a place that can be used once rows ended: it is free, or they leave it free
 abbrev pub is_open : List Zone → List ℕ → ℕ → Bool

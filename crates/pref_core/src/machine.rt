@@ -195,7 +195,7 @@ impl Machine {
     /// Ends the client's query with its answer, by the table at its begin.
     ///
     /// Refused `Spent`, `NoQuery` or `NotDone`, or `OutOfMemory`. The query stays open then. Cost: the rows that the query holds, and the ended versions
-    /// that an open query needs.
+    /// that are kept for it.
     ///
     /// ```text
     /// for best in table.finish(alloc, 1)?.as_slice() {
@@ -214,7 +214,7 @@ impl Machine {
 
     /// Ends the client's query without an answer.
     ///
-    /// Refused `Spent` or `NoQuery`. Nothing has changed then. Cost: the ended versions that an open query needs.
+    /// Refused `Spent` or `NoQuery`. Nothing has changed then. Cost: the ended versions that are kept for the query.
     ///
     /// ```text
     /// table.abandon(1)?;
@@ -265,7 +265,7 @@ impl Machine {
     ///
     /// `OutOfMemory` comes for a scan, a finish and a change that adds a row alone, where the sequential table does not refuse it, and
     /// nothing has changed then; every other refusal is the sequential table's, and so is what it leaves. Cost: a change, a get, a room and a begin are constant in the
-    /// slots, a scan reads its block, a finish and an abandon go over the ended versions that an open query needs.
+    /// slots, a scan reads its block, a finish and an abandon go over the ended versions that are kept for their query.
     ///
     /// ```text
     /// match table.step(alloc, event) {

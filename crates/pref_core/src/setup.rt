@@ -6,7 +6,7 @@ ghost use Rattle.pref_core.specs.Limits.{Limits, AreAllowed, blocks};
 use std::marker::Model;
 
 /// The most clients of a table.
-const MOST_CLIENTS: u8 = 8;
+pub(crate) const MOST_CLIENTS: u8 = 8;
 
 /// The most slots of a table, and the most slots of a block and entries of a window.
 const MOST_SLOTS: u32 = 65_536;

@@ -194,7 +194,7 @@ impl Store {
 
     /// Does a planned call. One that is not legal here changes nothing: so an operation is done once, and in its
     /// turn. Takes no memory. Sees that it is legal by a look at its slots, or plans again where that does not tell, and then
-    /// writes the slots that end or begin; a finish or an abandon goes over the ended versions that an open query needs.
+    /// writes the slots that end or begin; a finish or an abandon goes over the ended versions that are kept for its query.
     pub fn apply(&mut self, op: &Op)
         ensures exact { self.new ≡ applied self.old op.now }
         ensures state { (state : State) → StandsFor self.old state → AppliesIn state self.old op.now self.new }
@@ -208,7 +208,7 @@ impl Store {
 
     /// Does an op that was planned here, by an index that is ready for it ([`Index::prepare`]); the index then is this
     /// store's again. Takes no memory. Constant in the slots, but that a finish or an abandon goes over the ended
-    /// versions that an open query needs.
+    /// versions that are kept for its query.
     pub fn apply_at(&mut self, index: &mut Index, op: &Planned<'_>)
         requires plan { IsPlan self.old op.now.client op.now.call.now (op_of op.now) }
         requires ready { IsReady self.old (op_of op.now) index.old }

@@ -21,7 +21,7 @@ use crate::store::caller::{Caller, count, idle};
 use crate::store::links::{Links, home_of};
 use crate::store::needs::{is_seen, zone_of};
 use crate::store::opening::opening;
-use crate::store::places::{Places, any_but};
+use crate::store::places::{Places, Zone, any_but};
 use crate::store::reads::stands_at;
 use crate::store::version::{Version, born, end};
 use pref_sky::Entry;
@@ -302,7 +302,7 @@ impl Contents {
         };
         end(&mut self.slots[place as usize], stamp);
         let zone = zone_of(&self.slots[place as usize], &self.callers);
-        self.places.close(place, zone);
+        self.places.put(place, Zone::Live, zone);
     }
 
     /// Begins all rows that the op's call begins, each in its slot; added ones get the ids from this one on.
@@ -336,17 +336,17 @@ impl Contents {
         let stamp = self.stamp;
         self.links.add(&self.slots, stamp, id, place);
         self.slots[place as usize] = born(Entry { id, row: *row }, stamp);
-        self.places.take(place);
+        self.places.put(place, Zone::Free, Zone::Live);
     }
 
-    /// The client has made one call more. Where it ends a query, the ended versions that no query needs any more are free.
+    /// The client has made one call more. Where it ends a query, each ended version that it kept goes to another open query that needs it, or its slot is free.
     fn count(&mut self, client: u8, call: &LentCall<'_>)
         requires { refusal_at self.old client call.now ≡ None }
         ensures { self.new ≡ record { slots = self.old.slots; stamp = self.old.stamp; next_id = self.old.next_id; callers = callers_after self.old.stamp self.old.callers client call.now } }
     {
         count(&mut self.callers, client, call, self.stamp);
         if call.ends_query() {
-            self.places.sweep(&self.slots, &self.callers);
+            self.places.sweep(client - 1, &self.slots, &self.callers);
         }
     }
 }

@@ -1,7 +1,7 @@
 //! Which versions are needed, and what slots are used for.
 
-ghost use Rattle.std.specs.Prelude.{Some, ◌≡◌};
-ghost use Rattle.pref_core.specs.Places.{zone_of};
+ghost use Rattle.std.specs.Prelude.{Some, length, ◌≡◌, ◌≤◌};
+ghost use Rattle.pref_core.specs.Places.{kept_from, zone_of};
 ghost use Rattle.pref_core.specs.Slots.{begins, is_needed};
 
 use crate::store::caller::{Caller, sees};
@@ -20,14 +20,30 @@ pub(crate) fn is_seen(version: &Version, death: Option<u64>, callers: &[Caller])
     false
 }
 
+/// What the slot of an ended version is used for: it is kept for the first caller whose open query needs it, if there is one.
+fn kept_by(version: &Version, callers: &[Caller]) -> Zone
+    requires { length callers.now ≤ 8 }
+    ensures { result ≡ kept_from 0 callers.now (Some version.now) }
+{
+    for (keeper, caller) in callers.iter().enumerate() {
+        if sees(caller, version.birth, version.death) {
+            return Zone::Ended {
+                keeper: keeper as u8,
+            };
+        }
+    }
+    Zone::Free
+}
+
 /// What a slot is used for.
 #[inline(always)]
 pub(crate) fn zone_of(slot: &Option<Version>, callers: &[Caller]) -> Zone
-    ensures { result ≡ zone_of (begins callers.now) slot.now }
+    requires { length callers.now ≤ 8 }
+    ensures { result ≡ zone_of callers.now slot.now }
 {
     match slot {
         Some(version) if version.death.is_none() => Zone::Live,
-        Some(version) if is_seen(version, version.death, callers) => Zone::Ended,
-        _ => Zone::Free,
+        Some(version) => kept_by(version, callers),
+        None => Zone::Free,
     }
 }

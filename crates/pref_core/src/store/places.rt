@@ -1,47 +1,53 @@
 //! The places of slots, the free ones first, so that each change takes or gives back a place in constant time.
 
 ghost use Rattle.std.specs.List.{count_by, range_with_len, AllZip};
-ghost use Rattle.std.specs.Prelude.{◌≡◌, ◌-◌, ◌<◌, ◌≤◌, ◌++◌, ℕ, true, false, length, map, replicate, Some, slice_get, slice_set, IfOk, IfSome, IfNone};
-ghost use Rattle.pref_core.specs.Places.{zone_at, zone_of, is_free_zone, free_at, IsInverse, IsArranged, MayBecome, turned, moved_order, moved_positions};
-ghost use Rattle.pref_core.specs.Slots.{begins};
+ghost use Rattle.std.specs.Prelude.{◌≡◌, ◌-◌, ◌<◌, ◌≤◌, ◌++◌, ℕ, suc, true, false, length, map, replicate, Some, slice_get, slice_set, IfOk, IfSome, IfNone};
+ghost use Rattle.pref_core.specs.Places.{zone_of, number_of, numbered, is_free_zone, free_at, IsInverse, MayBecome, turned, moved_order, moved_positions};
 ghost use Rattle.pref_core.specs.Table.{among};
 
 use crate::call::SlotList;
+use crate::setup::MOST_CLIENTS;
 use crate::store::caller::Caller;
 use crate::store::needs::zone_of;
 use crate::store::version::Version;
 use std::alloc::{AllocError, Global};
 use std::marker::Model;
 
-/// What a slot is used for: nothing, an ended version that an open query needs, or a row of the table.
+/// How many zones there are: the free places, those with a row, and for each client those that its query keeps.
+const ZONES: usize = MOST_CLIENTS as usize + 2;
+
+/// What a slot is used for: nothing, a row of the table, or an ended version that an open query needs.
 #[derive(Clone, Copy)]
 pub(crate) enum Zone {
     Free,
-    Ended,
     Live,
+    /// The keeper is the first caller, counted from 0, whose open query needs the version.
+    Ended { keeper: u8 },
 }
 
 impl Zone {
-    pub(crate) fn is_free(self) -> bool
-        ensures { result ≡ is_free_zone self }
+    /// Its number among all zones, in the order of their places.
+    #[inline(always)]
+    fn number(self) -> usize
+        ensures { result ≡ number_of self }
     {
         match self {
-            Zone::Free => true,
-            Zone::Ended | Zone::Live => false,
+            Zone::Free => 0,
+            Zone::Live => 1,
+            Zone::Ended { keeper } => keeper as usize + 2,
         }
     }
 }
 
 /// All places in an order of their zones, and for each place its position there.
 ///
-/// The free places come before position `free`, the ended ones from there up to `held`. Two lists that
-/// are each other's inverse are the sparse sets of (Briggs, Torczon 1993).
+/// A zone is up to its bound, from the bound of the zone before it on. Two lists that are each other's inverse
+/// are the sparse sets of (Briggs, Torczon 1993).
 #[derive(Drop)]
 pub(crate) struct Places {
     order: Vec<u32>,
     positions: Vec<u32>,
-    free: u32,
-    held: u32,
+    bounds: [u32; ZONES],
 }
 
 impl Model for Places {
@@ -51,9 +57,9 @@ impl Model for Places {
 
     ghost Value = { List Zone };
 
-    ghost view = { λ s. map (zone_at s.free s.held) s.positions.items };
+    ghost view = { λ s. map (zone_at s.bounds) s.positions.items };
 
-    ghost invariant = { λ s. IsArranged s.order.items s.positions.items s.free s.held };
+    ghost invariant = { λ s. IsArranged s.order.items s.positions.items s.bounds };
 }
 
 impl Places {
@@ -66,11 +72,12 @@ impl Places {
         let free = capacity - rows;
         let order = turned(alloc, capacity, rows)?;
         let positions = turned(alloc, capacity, free)?;
+        let mut bounds = [capacity; ZONES];
+        bounds[0] = free;
         Ok(Places {
             order,
             positions,
-            free,
-            held: free,
+            bounds,
         })
     }
 
@@ -83,25 +90,24 @@ impl Places {
         Ok(Places {
             order,
             positions,
-            free: self.free,
-            held: self.held,
+            bounds: self.bounds,
         })
     }
 
-    /// After an open query went: each ended place that no query needs is free.
-    pub(crate) fn sweep(&mut self, slots: &[Option<Version>], callers: &[Caller])
-        requires { AllZip MayBecome self.old (map (zone_of (begins callers.now)) slots.now) }
-        ensures { self.new ≡ map (zone_of (begins callers.now)) slots.now }
+    /// After the open query of a caller ended: each place that it kept goes to the next caller that needs it, or is free. Goes over these
+    /// places alone.
+    pub(crate) fn sweep(&mut self, keeper: u8, slots: &[Option<Version>], callers: &[Caller])
+        requires seats { (keeper < 8) × (length callers.now ≤ 8) }
+        requires zones { AllZip (MayBecome keeper) self.old (map (zone_of callers.now) slots.now) }
+        ensures { self.new ≡ map (zone_of callers.now) slots.now }
     {
-        let held = self.held;
-        sweep(
-            &mut self.order,
-            &mut self.positions,
-            &mut self.free,
-            held,
-            slots,
-            callers,
-        );
+        for _turn in 0..slots.len() {
+            let Some(place) = self.any_kept(keeper) else {
+                return;
+            };
+            let zone = zone_of(&slots[place as usize], callers);
+            self.put(place, Zone::Ended { keeper }, zone);
+        }
     }
 
     /// How many places are free.
@@ -109,7 +115,7 @@ impl Places {
         ensures value { result ≡ count_by is_free_zone self.now }
         ensures few { result ≤ length self.now }
     {
-        self.free
+        self.bounds[0]
     }
 
     /// Whether the place is free.
@@ -117,7 +123,7 @@ impl Places {
         ensures { result ≡ free_at self.now place }
     {
         match self.positions.get(place as usize) {
-            Some(position) => *position < self.free,
+            Some(position) => *position < self.bounds[0],
             None => false,
         }
     }
@@ -127,71 +133,83 @@ impl Places {
         ensures found { IfSome result (λ place. (free_at self.now place ≡ true) × (among chosen.now place ≡ false)) }
         ensures none { IfNone result ((place : ℕ) → free_at self.now place ≡ true → among chosen.now place ≡ true) }
     {
-        any_but(&self.order[..self.free as usize], chosen)
+        any_but(&self.order[..self.bounds[0] as usize], chosen)
     }
 
-    /// The row of a place ends, and an open query needs it.
-    fn end(&mut self, place: u32)
-        requires { slice_get self.old place ≡ Some Zone.Live }
-        ensures { self.new ≡ slice_set self.old place Zone.Ended }
+    /// A place that the query of a caller keeps.
+    fn any_kept(&self, keeper: u8) -> Option<u32>
+        requires { keeper < 8 }
+        ensures found { IfSome result (λ place. slice_get self.now place ≡ Some (Zone.Ended keeper)) }
+        ensures none { IfNone result ((place : ℕ) → slice_get self.now place ≡ Some (Zone.Ended keeper) → ⊥) }
     {
-        let to = self.held;
-        move_to(&mut self.order, &mut self.positions, place, to);
-        self.held += 1;
-    }
-
-    /// No query needs the ended version of a place any more.
-    fn release(&mut self, place: u32)
-        requires { slice_get self.old place ≡ Some Zone.Ended }
-        ensures { self.new ≡ slice_set self.old place Zone.Free }
-    {
-        let to = self.free;
-        move_to(&mut self.order, &mut self.positions, place, to);
-        self.free += 1;
-    }
-
-    /// The row of a place ends, and this is what the place is used for then.
-    pub(crate) fn close(&mut self, place: u32, zone: Zone)
-        requires { slice_get self.old place ≡ Some Zone.Live }
-        ensures { self.new ≡ slice_set self.old place zone }
-    {
-        match zone {
-            Zone::Live => {}
-            Zone::Ended => self.end(place),
-            Zone::Free => {
-                self.end(place);
-                self.release(place);
-            }
+        let start = self.bounds[keeper as usize + 1];
+        if start < self.bounds[keeper as usize + 2] {
+            Some(self.order[start as usize])
+        } else {
+            None
         }
     }
 
-    /// A free place joins the ended ones.
-    fn hold(&mut self, place: u32)
-        requires { slice_get self.old place ≡ Some Zone.Free }
-        ensures { self.new ≡ slice_set self.old place Zone.Ended }
+    /// A place of one zone is used for another one.
+    #[inline(always)]
+    pub(crate) fn put(&mut self, place: u32, from: Zone, to: Zone)
+        requires there { slice_get self.old place ≡ Some from }
+        requires few { (number_of from < 10) × (number_of to < 10) }
+        ensures { self.new ≡ slice_set self.old place to }
     {
-        let to = self.free - 1;
-        move_to(&mut self.order, &mut self.positions, place, to);
-        self.free = to;
+        let from = from.number();
+        let to = to.number();
+        if to < from {
+            self.lower_to(place, from, to);
+        } else {
+            self.raise_to(place, from, to);
+        }
     }
 
-    /// A place of the ended ones gets a row.
-    fn revive(&mut self, place: u32)
-        requires { slice_get self.old place ≡ Some Zone.Ended }
-        ensures { self.new ≡ slice_set self.old place Zone.Live }
+    /// A place goes down to a zone.
+    #[inline(always)]
+    fn lower_to(&mut self, place: u32, from: usize, to: usize)
+        requires there { slice_get self.old place ≡ Some (numbered from) }
+        requires few { (to ≤ from) × (from < 10) }
+        ensures { self.new ≡ slice_set self.old place (numbered to) }
     {
-        let to = self.held - 1;
-        move_to(&mut self.order, &mut self.positions, place, to);
-        self.held = to;
+        for step in 0..from - to {
+            self.lower(place, from - 1 - step);
+        }
     }
 
-    /// A free place gets a row.
-    pub(crate) fn take(&mut self, place: u32)
-        requires { slice_get self.old place ≡ Some Zone.Free }
-        ensures { self.new ≡ slice_set self.old place Zone.Live }
+    /// A place goes up to a zone.
+    #[inline(always)]
+    fn raise_to(&mut self, place: u32, from: usize, to: usize)
+        requires there { slice_get self.old place ≡ Some (numbered from) }
+        requires few { (from ≤ to) × (to < 10) }
+        ensures { self.new ≡ slice_set self.old place (numbered to) }
     {
-        self.hold(place);
-        self.revive(place);
+        for zone in from..to {
+            self.raise(place, zone);
+        }
+    }
+
+    /// A place goes down to the zone before its own.
+    fn lower(&mut self, place: u32, to: usize)
+        requires there { slice_get self.old place ≡ Some (numbered (suc to)) }
+        requires few { to < 9 }
+        ensures { self.new ≡ slice_set self.old place (numbered to) }
+    {
+        let first = self.bounds[to];
+        move_to(&mut self.order, &mut self.positions, place, first);
+        self.bounds[to] = first + 1;
+    }
+
+    /// A place goes up to the zone behind its own.
+    fn raise(&mut self, place: u32, from: usize)
+        requires there { slice_get self.old place ≡ Some (numbered from) }
+        requires few { from < 9 }
+        ensures { self.new ≡ slice_set self.old place (numbered (suc from)) }
+    {
+        let last = self.bounds[from] - 1;
+        move_to(&mut self.order, &mut self.positions, place, last);
+        self.bounds[from] = last;
     }
 }
 
@@ -240,27 +258,4 @@ fn turned(alloc: Global, capacity: u32, first: u32) -> Result<Vec<u32>, AllocErr
         numbers.push(number)?;
     }
     Ok(numbers)
-}
-
-/// Goes over the ended places, and moves those that no query needs to the free ones.
-fn sweep(
-    order: &mut [u32],
-    positions: &mut [u32],
-    free: &mut u32,
-    held: u32,
-    slots: &[Option<Version>],
-    callers: &[Caller],
-)
-    requires arranged { IsArranged order.old positions.old free.old held }
-    requires zones { AllZip MayBecome (map (zone_at free.old held) positions.old) (map (zone_of (begins callers.now)) slots.now) }
-    ensures arranged { IsArranged order.new positions.new free.new held }
-    ensures zones { map (zone_at free.new held) positions.new ≡ map (zone_of (begins callers.now)) slots.now }
-{
-    for at in *free..held {
-        let place = order[at as usize];
-        if zone_of(&slots[place as usize], callers).is_free() {
-            move_to(order, positions, place, *free);
-            *free += 1;
-        }
-    }
 }

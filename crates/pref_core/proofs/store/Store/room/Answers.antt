@@ -1,7 +1,7 @@
 use Rattle.std.proofs.Common.{◌≡◌, ◌∙◌, length, ap, arith}
 use Rattle.std.specs.List.{count_by}
 use Rattle.pref_core.specs.State.{needed}
-use Rattle.pref_core.specs.Slots.{Contents, begins}
+use Rattle.pref_core.specs.Slots.{Contents}
 use Rattle.pref_core.specs.Operations.{used}
 use Rattle.pref_core.specs.Places.{is_free_zone}
 use Rattle.pref_core.specs.Kept.{zones_of}
@@ -14,5 +14,5 @@ returns c state h =
     let now = c.args.self.now in
     let free : c.free.result ≡ count_by is_free_zone (zones_of now) = c.free.ensures.value ∙ ap (λ (s : Contents). count_by is_free_zone (zones_of s)) c.self.view_is in
     let size : length (needed state) ≡ used now = length-needed now state h in
-    let all = used_zones now.next_id now.stamp (begins now.callers) now.slots h.within in
+    let all = used_zones now.next_id now.stamp now.callers now.slots h.within in
     omega arith

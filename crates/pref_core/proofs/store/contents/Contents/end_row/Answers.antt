@@ -1,4 +1,4 @@
-use Rattle.std.proofs.Common.{◌≡◌, ℕ, ◌<◌, true, List, [], ◌∷◌, length, map, set, get_or, Option, Some, None, unwrap_or, sym, ap, ap₂, ◌∙◌, subst, arith}
+use Rattle.std.proofs.Common.{◌≡◌, ℕ, ◌<◌, ◌≤◌, true, List, [], ◌∷◌, length, map, set, get_or, Option, Some, None, unwrap_or, sym, ap, ap₂, ◌∙◌, subst, arith}
 use Rattle.std.specs.Prelude.{option_map, slice_get}
 use Rattle.std.proofs.lemmas.Grind.{common_steps}
 use Rattle.std.proofs.lemmas.List.{get_or-set_same}
@@ -8,9 +8,10 @@ use Rattle.pref_core.specs.Indexes.{row_at, IsPlaceOf}
 use Rattle.pref_core.specs.Kept.{IsTracked, with_slots}
 use Rattle.pref_core.specs.Links.{ids_of, AreLinks}
 use Rattle.pref_core.specs.Operations.{close}
-use Rattle.pref_core.specs.Places.{zone_of}
-use Rattle.pref_core.specs.Slots.{Contents, begins}
+use Rattle.pref_core.specs.Places.{number_of, zone_of}
+use Rattle.pref_core.specs.Slots.{Contents}
 use Rattle.pref_core.proofs.Chains.{within_at}
+use Rattle.pref_core.proofs.Ends.{zone_few}
 use Rattle.pref_core.proofs.Filling.{end_none, end_alive, end_slots, end_tracked}
 use Rattle.pref_core.proofs.Linking.{row_shown}
 use Rattle.pref_core.proofs.Zones.{row_version}
@@ -48,11 +49,14 @@ index_mut-requires c = let room = inside (goal.at.index_mut-requires c).In-Some 
 pub index-requires : goal.index-requires
 index-requires c = let room = inside (goal.at.index-requires c).In-Some in grind (arith, common_steps, room)
 
-pub close-requires : goal.close-requires
-close-requires c =
+pub put-requires : goal.put-requires
+put-requires c =
     let now = c.self.inside in
-    let some = (goal.at.close-requires c).In-Some in
-    end_alive _ now.places now.links c.args.id c.in-Some.place (found some).0 c.self.invariant (shown some) (found some).1
+    let some = (goal.at.put-requires c).In-Some in
+    record {
+      there = end_alive _ now.places now.links c.args.id c.in-Some.place (found some).0 c.self.invariant (shown some) (found some).1;
+      few = (omega arith, subst (λ zone. number_of zone < 10) (sym c.zone_of-zone.ensures) (zone_few _ _ (subst (λ callers. length callers ≤ 8) (sym c.deref-2.ensures.value) c.self.invariant.seats)));
+    }
 
 pub invariant_of-self-2 : goal.invariant_of-self-2
 invariant_of-self-2 c =
@@ -61,9 +65,9 @@ invariant_of-self-2 c =
     let some = (goal.at.invariant_of-self-2 c).In-Some in
     let last = ended now.slots.items c.in-Some.place now.stamp (found some).0 c.index_mut.result.now c.end.new.slot (inside some) (found some).1 c.index_mut.ensures.value c.end.ensures in
     let linked = subst (λ l. AreLinks (set (ids_of now.stamp l) c.in-Some.place None) c.take.new.self) c.deref.ensures.value c.in-Some.ensures.some in
-    let zone = c.zone_of-zone.ensures ∙ ap₂ (λ callers slot. zone_of (begins callers) slot) c.deref-2.ensures.value (c.index.ensures ∙ get_or-set_same now.slots.items c.in-Some.place c.end.new.slot _ (inside some) ∙ last) in
-    subst (λ r. IsTracked (with_slots (set now.slots.items c.in-Some.place r) contents) c.close.new.self c.take.new.self) (sym last)
-    (end_tracked contents now.places now.links c.args.id c.in-Some.place (found some).0 c.self.invariant (shown some) (found some).1 c.zone_of-zone.result c.close.new.self c.take.new.self zone c.close.ensures linked)
+    let zone = c.zone_of-zone.ensures ∙ ap₂ (λ callers slot. zone_of callers slot) c.deref-2.ensures.value (c.index.ensures ∙ get_or-set_same now.slots.items c.in-Some.place c.end.new.slot _ (inside some) ∙ last) in
+    subst (λ r. IsTracked (with_slots (set now.slots.items c.in-Some.place r) contents) c.put.new.self c.take.new.self) (sym last)
+    (end_tracked contents now.places now.links c.args.id c.in-Some.place (found some).0 c.self.invariant (shown some) (found some).1 c.zone_of-zone.result c.put.new.self c.take.new.self zone c.put.ensures linked)
 
 pub returns : goal.returns
 returns c =

@@ -2,7 +2,7 @@ use Rattle.std.proofs.Common.{◌+◌, ◌-◌, ◌++◌, length, replicate, Opt
 use Rattle.pref_core.specs.declared.store.version.Version.{Version}
 use Rattle.pref_core.specs.Kept.{IsKept}
 use Rattle.pref_core.specs.Links.{AreLinks}
-use Rattle.pref_core.specs.Slots.{begins, opening_slots}
+use Rattle.pref_core.specs.Slots.{opening_slots}
 use Rattle.pref_core.proofs.Ends.{zones_opened}
 use Rattle.pref_core.proofs.Linked.{known_ids}
 use Rattle.pref_core.proofs.OpeningLinks.{opening_is}
@@ -18,8 +18,9 @@ invariant_of-result c =
     = opened_kept c.clients.result capacity rows _ (omega arith) c.capacity-capacity.ensures.range.1 c.clients.ensures.range.1 c.in_ok-slots.ensures refl refl c.in_ok-callers.ensures in
     record {
       few = kept.bounded.slots;
+      seats = kept.bounded.callers;
       within = kept.stands.within;
-      listed = zones_opened (begins c.in_ok-callers.callers.items) capacity rows slots c.in_ok-places.places c.in_ok-slots.ensures c.in_ok-places.ensures;
+      listed = zones_opened c.in_ok-callers.callers.items capacity rows slots c.in_ok-places.places c.in_ok-slots.ensures c.in_ok-places.ensures;
       linked = subst (λ ids. AreLinks ids c.in_ok-links.links) (opening_is capacity rows slots (omega arith) c.in_ok-slots.ensures) c.in_ok-links.ensures;
       ids = known_ids _ kept.state kept.bounded kept.stands;
     }

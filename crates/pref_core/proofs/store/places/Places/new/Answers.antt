@@ -1,11 +1,11 @@
-use Rattle.std.proofs.Common.{◌-◌, ◌∙◌, map, ap}
+use Rattle.std.proofs.Common.{◌-◌, ◌∙◌, map, ap, refl}
 use Rattle.pref_core.specs.Places.{zone_at}
 use Rattle.pref_core.proofs.Arranging.{arranged_same}
-use Rattle.pref_core.proofs.Turning.{turned_arranged, turned_zones}
+use Rattle.pref_core.proofs.Turning.{opened, turned_arranged, turned_zones}
 use Rattle.pref_core.proofs.store.places.Places.new.Goals as goal
 
 pub invariant_of-result : goal.invariant_of-result
-invariant_of-result c = arranged_same _ _ _ _ (c.args.capacity - c.args.rows) (c.args.capacity - c.args.rows) c.in_ok-order.ensures c.in_ok-positions.ensures (turned_arranged c.args.capacity c.args.rows c.requires.few c.requires.rows)
+invariant_of-result c = arranged_same _ _ _ _ _ (opened c.args.capacity (c.args.capacity - c.args.rows)) c.in_ok-order.ensures c.in_ok-positions.ensures refl (turned_arranged c.args.capacity c.args.rows c.requires.few c.requires.rows)
 
 pub returns : goal.returns
-returns c = ap (map (zone_at (c.args.capacity - c.args.rows) (c.args.capacity - c.args.rows))) c.in_ok-positions.ensures ∙ turned_zones c.args.capacity c.args.rows c.requires.rows
+returns c = ap (map (zone_at (opened c.args.capacity (c.args.capacity - c.args.rows)))) c.in_ok-positions.ensures ∙ turned_zones c.args.capacity c.args.rows c.requires.rows

@@ -1,0 +1,6 @@
+use Rattle.std.proofs.Common.{◌≡◌, ◌-◌, set}
+use Rattle.pref_core.specs.Places.{numbered}
+use Rattle.pref_core.proofs.store.places.Places.lower_to.Given as goal
+
+abbrev pub invariant-loop-step : goal.invariant-loop-step
+invariant-loop-step l = l.self ≡ set l.initial.self l.place (numbered (l.from - l.step))

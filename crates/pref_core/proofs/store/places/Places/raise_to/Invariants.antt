@@ -1,0 +1,6 @@
+use Rattle.std.proofs.Common.{◌≡◌, set}
+use Rattle.pref_core.specs.Places.{numbered}
+use Rattle.pref_core.proofs.store.places.Places.raise_to.Given as goal
+
+abbrev pub invariant-loop-zone : goal.invariant-loop-zone
+invariant-loop-zone l = l.self ≡ set l.initial.self l.place (numbered l.zone)

@@ -1,0 +1,7 @@
+use Rattle.std.proofs.Common.{map}
+use Rattle.pref_core.specs.Places.{zone_of}
+use Rattle.pref_core.proofs.Sweeping.{IsSweeping}
+use Rattle.pref_core.proofs.store.places.Places.sweep.Given as goal
+
+abbrev pub invariant-loop-turn : goal.invariant-loop-turn
+invariant-loop-turn l = IsSweeping l.keeper l._turn l.self (map (zone_of l.callers) l.slots)
