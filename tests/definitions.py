@@ -7,13 +7,14 @@
 Listed has to be each definition that a public contract cites; and of those that it cites in turn, each one inside a `mutual`, and each type
 and constant of the code that they are about. Public contracts are those of what a library exports, and of what is inside pref_script and in SPOKEN_OF.
 
-A section of DEFINITIONS.md names its folder in its heading. Its line `From .., so N lines: 1 of CRATE, 2 of CRATE` names definitions of
+A section of DEFINITIONS.md names its folder in its heading. Its sentence `From .., so N lines: 1 of CRATE, 2 of CRATE` names definitions of
 that folder, and N is the number of lines of these and of all that they cite in turn, by crate, without comments, imports and what stands
-in a line `Not counted: ..` of the section. Needs Python 3.8.
+in a sentence `Not counted: ..` of the section. Needs Python 3.8.
 """
 import re
 import sys
 from pathlib import Path
+from textwrap import fill
 
 TOP = Path(__file__).resolve().parent.parent
 DOCUMENT = TOP / "docs/DEFINITIONS.md"
@@ -165,27 +166,40 @@ def not_listed(document, without, lines, brought, private, mutual):
         yield f"{name}, a type or a constant of the code, is not listed"
 
 
+def in_one_line(text):
+    """A text whose lines may be cut at any word, in one line."""
+    return " ".join(text.split())
+
+
 def counts(section, crate, without, lines, brought):
-    """Each count of a section, as it is written and as it should be."""
-    for start, roots, count in re.findall(r"^(From (.*?), so )(\d+ lines(?:: [^.]*)?)\.", section, re.MULTILINE | re.DOTALL):
+    """Each count of a section, as it is written, in one line, and as it should be."""
+    for start, roots, count in re.findall(r"^(From (.*?),\s+so\s+)(\d+\s+lines(?::\s[^.]*)?)\.", section, re.MULTILINE | re.DOTALL):
         by_crate = {}
         for key in behind(keys_named(roots, crate, lines), without, lines, brought):
             by_crate[key[0]] = by_crate.get(key[0], 0) + len(lines[key])
         right = f"{sum(by_crate.values())} lines"
         if len(by_crate) > 1:
             right += ": " + ", ".join(f"{by_crate[name]} of {name}" for name in reversed(CRATES) if name in by_crate)
-        yield start + count, start + right
+        start = in_one_line(start)
+        yield f"{start} {in_one_line(count)}", f"{start} {right}"
+
+
+def with_count(document, written, right):
+    """The document with a right count in place of one that is written in lines of any length."""
+    if written == right:
+        return document
+    return re.sub(r"\s+".join(map(re.escape, written.split())), lambda _: fill(right, 119, break_on_hyphens=False), document)
 
 
 def main():
     lines, brought, private, mutual = read_definitions()
     document, wrong, uncounted = DOCUMENT.read_text(), [], []
     for crate, section in re.findall(r"^## [^\n]*\(crates/(\w+)/specs\)\n(.*?)(?=^## |\Z)", document, re.MULTILINE | re.DOTALL):
-        without = [key for rest in re.findall(r"Not counted: (.*?)\.", section) for key in keys_named(rest, crate, lines)]
+        without = [key for rest in re.findall(r"Not\s+counted:\s(.*?)\.", section, re.DOTALL) for key in keys_named(rest, crate, lines)]
         uncounted += without
         for written, right in counts(section, crate, without, lines, brought):
             if sys.argv[1:] == ["--write"]:
-                document = document.replace(written, right)
+                document = with_count(document, written, right)
             elif written != right:
                 wrong.append(f"{crate}: not \"{written}\", but \"{right}\"")
     if sys.argv[1:] == ["--write"]:
