@@ -19,7 +19,7 @@ use std::alloc::Global;
 /// Why a command line is no event.
 #[derive(Drop)]
 pub enum Refusal {
-    /// It hasn't the form of a command.
+    /// It has not the form of a command.
     NotCommand,
     /// Its values are refused.
     Values(TableFault),
@@ -55,7 +55,7 @@ fn read_question(alloc: Global, schema: &Schema, question: &[u8]) -> Result<Ask,
     }
 }
 
-/// The change that a form says, its values read.
+/// The change that a form asks for, with its values read. Refused for its values; takes no memory.
 #[tactic(auto, unfolding(crate::specs::Commands::change_of))]
 pub fn read_change(schema: &Schema, form: ChangeForm<'_>) -> Result<Change, Stop>
     ensures { Reads result (change_of schema.now (change_said form.entry)) }
@@ -120,7 +120,7 @@ fn question_event(
     })
 }
 
-/// The event of what a client's line says, its values, its pieces or its question read.
+/// The event of a client's line that has this form: its values, its pieces or its question are read.
 #[tactic(auto, unfolding(crate::specs::Commands::act_of))]
 fn form_event(alloc: Global, schema: &Schema, client: u8, form: Form<'_>) -> Result<Event, Stop>
     ensures { Reads result (event_said schema.now (Some (client, said form.entry))) }
@@ -138,7 +138,10 @@ fn form_event(alloc: Global, schema: &Schema, client: u8, form: Form<'_>) -> Res
     Ok(Event { client, act })
 }
 
-/// The event of a command line. Its form is tested first, then its values, its pieces or its question.
+/// The event of a command line, which is given without its end.
+///
+/// Refused for its form first, then for its values, its pieces or its question; whether there is such a client is not
+/// tested. Takes memory for a question and for a commit.
 pub fn read_event(alloc: Global, schema: &Schema, line: &[u8]) -> Result<Event, Stop>
     ensures { Reads result (event_of schema.now line.now) }
 {

@@ -9,7 +9,7 @@ use pref_table::TableFault;
 use std::alloc::{AllocError, AllocFailed};
 use thiserror::Error;
 
-/// Why a run of a script ended early.
+/// Why a run of a script ended early. [`RunFault::status`] is the program's exit status.
 #[derive(Clone, Copy, Debug, PartialEq, Eq, Error)]
 pub enum RunFault {
     /// The reader failed.
@@ -24,7 +24,7 @@ pub enum RunFault {
     /// There was no memory.
     #[error("memory")]
     Memory,
-    /// The script's first line isn't `table`.
+    /// The script's first line is not `table`.
     #[error("no table")]
     NoTable,
     /// No line of the script is `end`.

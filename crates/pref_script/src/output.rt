@@ -37,7 +37,8 @@ pub fn write_output<W: Write>(writer: &mut Watched<W>, bytes: &[u8]) -> Result<(
     Ok(())
 }
 
-/// The line of a fault of status 2, with its line feed, and nothing for other faults.
+/// The line that the program prints for a fault of status 2, with its line feed; empty for other faults. `Err` is out of
+/// memory.
 pub fn fault_line(alloc: Global, fault: &RunFault) -> Result<String, AllocError>
     ensures { IfOk result (λ line. string_bytes line ≡ fault_text fault.now) }
 {

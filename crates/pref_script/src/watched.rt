@@ -17,7 +17,7 @@ pub struct Watched<T> {
 }
 
 impl<T> Watched<T> {
-    /// Watches a reader or a writer, which hasn't failed yet.
+    /// Watches a reader or a writer, which counts as not failed.
     pub fn new(inner: T) -> Watched<T>
         ensures inner { inside result ≡ inner }
         ensures fresh { has_failed result ≡ false }
@@ -28,7 +28,7 @@ impl<T> Watched<T> {
         }
     }
 
-    /// Gives back what was watched.
+    /// The reader or writer that was watched.
     pub fn into_inner(self) -> T
         ensures { result ≡ inside self }
     {
@@ -45,8 +45,8 @@ impl<T> Watched<T> {
 }
 
 impl<R: Read> Watched<R> {
-    /// Reads some bytes into `buf` and answers how many; 0 is the end, where `buf` isn't empty.
-    /// An error of the reader is handed on, and then it took no byte.
+    /// Reads some bytes into `buf` and returns how many: 0 at the end, or where `buf` is empty. An error of the reader is
+    /// returned as it is; then it took no byte.
     pub fn read(&mut self, buf: &mut [u8]) -> io::Result<usize>
         ensures bound { ReadsAtMost result buf.new }
         ensures bytes { ReadConsumes (R.remaining (inside self.old)) (R.remaining (inside self.new)) result buf.new }
@@ -62,8 +62,8 @@ impl<R: Read> Watched<R> {
 }
 
 impl<W: Write> Watched<W> {
-    /// Writes a beginning of `buf` and answers how many bytes it has; 0 counts as a failure.
-    /// An error of the writer is handed on, and then no byte was written.
+    /// Writes a prefix of `buf` and returns how many bytes it has; 0 counts as a failure. An error of the writer is returned
+    /// as it is; then no byte was written.
     pub fn write(&mut self, buf: &[u8]) -> io::Result<usize>
         ensures bound { WritesAtMost result buf.now }
         ensures bytes { WriteAppends (W.contents (inside self.old)) (W.contents (inside self.new)) result buf.now }
@@ -78,7 +78,7 @@ impl<W: Write> Watched<W> {
         result
     }
 
-    /// Hands on what the writer has taken and still holds back. An error of the writer is handed on.
+    /// Flushes the writer. An error of the writer is returned as it is.
     pub fn flush(&mut self) -> io::Result<()>
         ensures bytes { Keeps (W.contents (inside self.old)) (W.contents (inside self.new)) }
         ensures fails { OnErr result (has_failed self.new ≡ true) }

@@ -14,14 +14,15 @@ fn is_blank_byte(byte: u8) -> bool
     byte == b' ' || byte == b'\t'
 }
 
-/// The text behind the blanks that it begins with.
+/// A text without the blanks that it begins with.
 pub fn skip_blanks(text: &[u8]) -> &[u8]
     ensures { result.now ≡ after_blanks text.now }
 {
     &text[blanks_length(text)..]
 }
 
-/// What follows the blanks after a word, where a text begins with that word and then ends or has a blank.
+/// The rest of a text behind its first word and the blanks after that, if this is its first word; else `None`. The word has
+/// to be without blanks.
 pub fn strip_word<'a>(text: &'a [u8], word: &[u8]) -> Option<&'a [u8]>
     requires { list_any is_blank word.now ≡ false }
     ensures { MatchOption result (bytes_eq (word_of text.now) word.now ≡ false)
@@ -53,8 +54,8 @@ fn word_digits(text: &[u8]) -> Option<(u64, usize)>
     Some((number, text.len()))
 }
 
-/// The number of the word that a text begins with, where the word is digits and the number is small enough, and what follows
-/// the blanks after the word. Reads the word in one pass.
+/// The first word of a text as a number, and the rest of the text behind the blanks after it. `None` where the word is not
+/// all digits, is empty, or is a number above `most`. Leading zeros do no harm. Reads the word in one pass.
 pub fn cut_number(most: u64, text: &[u8]) -> Option<(u64, &[u8])>
     ensures cut { MatchOption result (word_number most (word_of text.now) ≡ None)
         (λ cut. (word_number most (word_of text.now) ≡ Some cut.0) × (cut.1.now ≡ after_word text.now)) }
@@ -67,7 +68,7 @@ pub fn cut_number(most: u64, text: &[u8]) -> Option<(u64, &[u8])>
     Some((number, skip_blanks(&text[size..])))
 }
 
-/// An id that nothing follows.
+/// The id that is all of a text: digits of a number below 2^64, perhaps with blanks after them. `None` for any other text.
 pub fn id_alone(text: &[u8]) -> Option<u64>
     ensures { result ≡ lone_id text.now }
 {

@@ -8,7 +8,8 @@ use crate::number::{NumberFault, number};
 use crate::schema::{MAX_COLUMNS, Schema};
 use std::marker::Model;
 
-/// A row: 16 numbers from -2^63 to 2^63 - 1, those past the schema's width 0. Contracts see the list of them.
+/// A row of a table: a whole number from -2^63 to 2^63 - 1 for each column, and 0 in each column from the schema's width
+/// up to the 16th. It takes 128 bytes. Contracts see the list of its 16 numbers.
 #[derive(Clone, Copy, Debug, PartialEq, Eq)]
 pub struct Row {
     cells: [i64; 16],
@@ -53,7 +54,7 @@ impl Row {
         Row { cells }
     }
 
-    /// The number in a column, which counts from 0.
+    /// The number in a column, which counts from 0 and has to be below 16. In a column that the schema has not it is 0.
     ///
     /// ```text
     /// let (price, dist) = (best.row.cell(0), best.row.cell(1));

@@ -37,7 +37,7 @@ impl Model for Schema {
     ghost invariant = { λ schema. let names = map (λ name. name.items) schema.names.items in schema_of names ≡ Ok names };
 }
 
-/// Whether a name goes on with this byte: a letter, a digit, `_` or `.`.
+/// Whether a name may have this byte behind its first one: an ASCII letter, a digit, `_` or `.`.
 pub fn is_name_byte(byte: u8) -> bool
     ensures { result ≡ name_specs.is_name_byte byte }
 {
@@ -149,7 +149,7 @@ impl Schema {
         self.names.len()
     }
 
-    /// The name of a column, which counts from 0.
+    /// The name of a column, which counts from 0 and has to be below the width.
     pub fn name(&self, col: usize) -> &[u8]
         requires { col < length self.now }
         ensures { slice_get self.now col ≡ Some result.now }
@@ -157,7 +157,8 @@ impl Schema {
         self.names[col].as_slice()
     }
 
-    /// The column of this name, which counts from 0. Compares it with each name until one is equal; takes no memory.
+    /// The column of this name, which counts from 0; `None` where no column has it. Case counts. Compares it with each
+    /// name until one is equal; takes no memory.
     pub fn index_of(&self, name: &[u8]) -> Option<usize>
         ensures place { result ≡ column_of self.now name.now }
         ensures known { IfSome result (λ col. col < length self.now) }

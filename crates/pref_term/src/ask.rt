@@ -14,18 +14,20 @@ use pref_table::Row;
 use std::alloc::{AllocError, Global};
 use std::marker::Model;
 
-/// How many of the best are wanted. A count is 1 to 1000.
+/// How many of the best rows a question wants. A count is 1 to 1000.
 #[derive(Clone, Copy, Debug, PartialEq, Eq)]
 pub enum Mode {
-    /// The first level.
+    /// The first level: the rows that no row dominates (`best`, and the skyline clause).
     Best,
-    /// The levels up to this one, in each group.
+    /// The levels from 1 up to this one, in each group (`top_level`).
     TopLevel(u32),
-    /// In each group the first levels that hold this many rows together.
+    /// In each group the first levels that together hold this many rows or more, or all of its rows (`at_least`).
     AtLeast(u32),
 }
 
-/// A question. Contracts see its preference, its group, its mode and whether of equal rows one is kept, and asks are equal where they see the same.
+/// A question, as [`read_ask`](crate::read_ask) reads it: the term that says which rows are better, the columns that group
+/// the rows, how many of the best are wanted, and whether of equal rows one is kept. Contracts see these four, and asks
+/// are equal (`==`) exactly where contracts see the same.
 pub struct Ask {
     term: Term,
     // The keys that lead the term.
@@ -109,7 +111,7 @@ impl Ask {
         })
     }
 
-    /// The term that ranks the rows.
+    /// The term that says which of two rows is better. Its columns are below 16.
     pub fn term(&self) -> &Term
         ensures term { preference_of result.now ≡ self.now.preference }
         ensures columns { FitsWidth 16 self.now }
@@ -119,7 +121,8 @@ impl Ask {
         &self.term
     }
 
-    /// The columns that group the rows; none where all are one group.
+    /// The columns that group the rows, which count from 0 and are below 16: rows that differ in one of them are never
+    /// compared. None where all rows are one group.
     pub fn group(&self) -> &[usize]
         ensures columns { result.now ≡ self.now.group }
         ensures within { All (λ col. col < 16) result.now }
@@ -127,7 +130,7 @@ impl Ask {
         self.group.as_slice()
     }
 
-    /// How many of the best are wanted.
+    /// How many of the best rows are wanted.
     pub fn mode(&self) -> Mode
         ensures mode { result ≡ self.now.mode }
         ensures count { IsCount (cut_of result) }
@@ -135,14 +138,15 @@ impl Ask {
         self.mode
     }
 
-    /// Whether of equal rows one is kept.
+    /// Whether of rows that are equal in all columns of a skyline clause one is kept, as its word `distinct` says.
     pub fn distinct(&self) -> bool
         ensures { result ≡ self.now.distinct }
     {
         self.distinct
     }
 
-    /// How many levels of a partial result are enough to answer, 1 to 1000.
+    /// How many levels of a partial result are enough to answer, 1 to 1000: one for [`Mode::Best`], else the count, since
+    /// each level of a group that has rows left has one at least.
     pub fn cut(&self) -> u32
         ensures cut { result ≡ cut_of self.now.mode }
         ensures count { IsCount result }

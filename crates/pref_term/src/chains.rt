@@ -11,8 +11,11 @@ use crate::term::Term;
 use pref_table::Row;
 use std::alloc::{AllocError, Global};
 
-/// Two chains, and a third one for their ties: lists of keys of which the first that differs decides. So `p & (q * r)` is the product of
-/// the chains `p & q` and `p & r`, and in `(q * r) & s` the chain `s` decides between rows that are the same in `q` and in `r`.
+/// Two chains, and a third one for their ties. A chain is a list of keys, numbers without sign that each row has and of
+/// which less is better; the first key in which two rows differ decides between them.
+///
+/// `p & (q * r)` is the product of the chains `p & q` and `p & r`. In `(q * r) & s` the chain `s` is the tie: it decides
+/// between rows that are the same in `q` and in `r`. A plain chain is both chains of its order.
 #[derive(Drop)]
 pub struct Chains {
     first: Vec<Key>,
@@ -55,7 +58,7 @@ impl Chains {
         }))
     }
 
-    /// The same chains again. Takes memory for their lists, and for the sets. `Err` is out of memory.
+    /// A copy. Takes memory for the lists of keys, and for their sets. `Err` is out of memory.
     pub fn copy(&self, alloc: Global) -> Result<Chains, AllocError>
         ensures first { IfOk result (λ copied. first_chain copied ≡ first_chain self.now) }
         ensures second { IfOk result (λ copied. second_chain copied ≡ second_chain self.now) }
@@ -71,8 +74,8 @@ impl Chains {
         Ok(Chains { first, second, tie })
     }
 
-    /// Whether they are the same chains: the same keys in the same order. One chain that serves as both is not the same as two. Takes
-    /// no memory.
+    /// Whether both have equal keys in the same order, in each chain and in the tie. One chain that serves as both is not
+    /// the same as two chains. Takes no memory.
     pub fn is_same(&self, other: &Chains) -> bool
         ensures first { result ≡ true → first_chain self.now ≡ first_chain other.now }
         ensures second { result ≡ true → second_chain self.now ≡ second_chain other.now }
@@ -90,7 +93,7 @@ impl Chains {
         }
     }
 
-    /// Whether both are one chain, without a tie.
+    /// Whether the order is one chain without a tie: the first chain and the second are one.
     pub fn is_one(&self) -> bool
         ensures both { result ≡ true → first_chain self.now ≡ second_chain self.now }
         ensures tie { result ≡ true → tie_chain self.now ≡ [] }
@@ -129,7 +132,7 @@ impl Chains {
     }
 }
 
-/// The same keys again.
+/// A copy of the keys.
 fn copy_chain(alloc: Global, keys: &[Key]) -> Result<Vec<Key>, AllocError>
     ensures { IfOk result (λ copied. copied.items ≡ keys.now) }
 {

@@ -68,7 +68,7 @@ pub(crate) fn is_product(term: &Term) -> bool
     }
 }
 
-/// Whether two rows have equal cells in each of these columns. Takes no memory.
+/// Whether two rows have equal cells in each of these columns, which count from 0 and have to be below 16. Takes no memory.
 #[inline(always)]
 pub fn in_same_group(columns: &[usize], a: &Row, b: &Row) -> bool
     requires { All (λ col. col < 16) columns.now }

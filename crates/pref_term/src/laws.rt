@@ -15,20 +15,20 @@ ghost use Rattle.pref_term.specs.declared.fault.TermFault.{TermFault};
 ghost use Rattle.pref_term.specs.declared.ask.Mode.TheVariants.{Best as best};
 ghost use Rattle.pref_term.specs.declared.fault.TermFault.TheVariants.{Unexpected as unexpected, UnknownColumn as unknown_column, NoMinOrMax as no_min_or_max};
 
-/// What is computed of a text is the ask that it spells, or what is wrong with it.
+/// Each text spells the ask, or has the fault, that is computed of it.
 pub fn asked_is_the_answer()
     ensures { (names : Names) (text : List ℕ) → MatchResult (asked names text) (Spells names text) (Faults names text) }
 {}
 
-/// A text spells one ask or has one fault.
+/// No text spells two asks, has two faults, or spells an ask and has a fault.
 pub fn one_reading()
     ensures ask { (names : Names) (text : List ℕ) (p q : Question) → Spells names text p → Spells names text q → p ≡ q }
     ensures either { (names : Names) (text : List ℕ) (p : Question) (f : TermFault) → Spells names text p → Faults names text f → ⊥ }
     ensures fault { (names : Names) (text : List ℕ) (f g : TermFault) → Faults names text f → Faults names text g → f ≡ g }
 {}
 
-/// What is shown of an ask over the columns of a schema spells that ask, where it keeps the limits of a question's length
-/// and nesting: so reading what was shown gives the ask again.
+/// The shown text of an ask over the columns of a schema spells that ask, where it is within the limits of a question's
+/// length and nesting: so reading it gives the ask again.
 pub fn shown_is_read_again()
     ensures spelled { (names : Names) (q : Question) → schema_of names ≡ Ok names → IsAsk q → FitsWidth (length names) q →
         nests q.preference ≤ 64 → length (shown names q) ≤ 4096 → Spells names (shown names q) q }
@@ -36,14 +36,14 @@ pub fn shown_is_read_again()
         nests q.preference ≤ 64 → length (shown names q) ≤ 4096 → asked names (shown names q) ≡ Ok q }
 {}
 
-/// What `==` answers of terms and of asks is true exactly where contracts see the same of the two.
+/// `==` is true of terms, and of asks, exactly where contracts see the same of the two.
 pub fn equal_where_the_same_is_seen()
     ensures terms { (p q : Preference) → Decides (preference_eq p q) (p ≡ q) }
     ensures asks { (p q : Question) → Decides (question_eq p q) (p ≡ q) }
 {}
 
-/// A text whose tokens are those of a tree of the grammar, none left out, asks what the tree does, with all equal rows kept:
-/// the word `distinct` takes no such text away.
+/// A text whose tokens are exactly those of a tree of the grammar without `distinct` spells the ask of that tree, in which
+/// all equal rows are kept: that word takes no text away from the grammar.
 pub fn a_text_of_the_grammar_keeps_its_meaning()
     ensures { (names : Names) (text : List ℕ) (tree : AskText) (q : Question) → IsText tree → length text ≤ 4096
         → tokens_in (tokens_of text) ≡ tokens_on (ask_leaves tree) → AllByRecursion (IsGood names) (ask_leaves tree)

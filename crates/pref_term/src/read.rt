@@ -22,8 +22,8 @@ const LONGEST: usize = 4096;
 /// Refused `TooLong` for more than 4,096 bytes; else the first token from the left that has a fault decides: one that
 /// no text of the grammar has there is `Unexpected`, before its own faults `UnknownColumn`, `NumberRange`, `TooDeep` and
 /// `BadCount`; a skyline clause of DIFF columns alone is `NoMinOrMax`, reported at the end. A place is a byte's, from 0.
-/// `OutOfMemory` comes as soon as memory runs out. Reads each byte a fixed number of times, and keeps the term and,
-/// where it is a product of `low`, `high`, `around` and their converses alone, the list of its factors.
+/// `OutOfMemory` comes as soon as memory runs out. Reads each byte a fixed number of times. Takes memory for the term, for
+/// the keys that lead it and, where it is a chain or a product of two, for these chains.
 ///
 /// ```text
 /// let ask = read_ask(alloc, &schema, b"best low(price) * low(dist)")?;

@@ -3,16 +3,16 @@ ghost use Rattle.std.specs.Prelude.{◌≡◌};
 ghost use Rattle.pref_term.specs.Order.{is_better, is_same, is_worse};
 ghost use Rattle.pref_term.specs.Walk.{by_sides, in_product, is_neither};
 
-/// How a first row compares with a second one: the two questions "is it better" and "is it worse" in one answer.
+/// How a first row compares with a second one: "is it better" and "is it worse" in one answer.
 #[derive(Clone, Copy, Debug, PartialEq, Eq)]
 pub enum Relation {
     /// The first is better.
     Better,
     /// The second is better.
     Worse,
-    /// The two score alike everywhere.
+    /// The two score alike in every base term.
     Same,
-    /// None of these.
+    /// Neither is better, and they do not score alike: they are incomparable.
     Neither,
 }
 

@@ -11,7 +11,7 @@ use crate::term::{Numbers, Term};
 use pref_table::Schema;
 use std::alloc::{AllocError, Global};
 
-/// The canonical text of an ask, over the columns of the schema.
+/// The canonical text of an ask, in the names of the schema, whose width all columns of the ask have to be below.
 ///
 /// A skyline clause is shown as the term and the group that it means, `skyline of x min, g diff` as
 /// `best low(x) by g`, and one with `distinct` as a clause. Parentheses are where the grammar needs them and nowhere else. `read_ask` reads the ask

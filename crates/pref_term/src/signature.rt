@@ -16,8 +16,8 @@ pub use cuts::Cuts;
 /// 2^64 divided by the golden ratio, to the nearest odd number.
 const GOLDEN: u64 = 0x9E37_79B9_7F4A_7C15;
 
-/// A hash with one value more mixed into it; 0 is that of no values. Its upper bits distinguish what was mixed in: those of values that
-/// follow one another are far apart.
+/// A hash with one value more mixed into it. The hash of no values is 0. The upper bits distinguish what was mixed in best:
+/// those of consecutive values are far apart.
 #[inline(always)]
 pub fn mixed(hash: u64, value: i64) -> u64
     ensures { result ≡ mixed hash value }
@@ -26,8 +26,8 @@ pub fn mixed(hash: u64, value: i64) -> u64
         .wrapping_mul(GOLDEN)
 }
 
-/// Whether no bit of the first signature is missing in the second. Where one is, the first row does not dominate the second,
-/// by an order that the cuts of both suit.
+/// Whether the second signature has each bit that the first one has. If not, the first row neither dominates the second
+/// nor is its twin, by any order that the cuts of both suit ([`Dominance::suits`](crate::Dominance::suits)).
 #[inline(always)]
 pub fn is_within(a: u64, b: u64) -> bool
     ensures { result ≡ is_within a b }

@@ -28,14 +28,14 @@ impl Numbers {
         Numbers { numbers }
     }
 
-    /// The numbers.
+    /// The numbers, in the order in which they were given.
     pub fn as_slice(&self) -> &[i64]
         ensures { result.now ≡ self.now }
     {
         self.numbers.as_slice()
     }
 
-    /// The same numbers again. Takes memory for their list.
+    /// A copy, which takes memory for its list.
     fn copy(&self) -> Result<Numbers, AllocError>
         ensures { IfOk result (λ copied. copied ≡ self.now) }
     {
@@ -77,7 +77,7 @@ impl NumberSets {
         NumberSets { sets }
     }
 
-    /// The sets.
+    /// The sets, in the order in which they were given.
     pub fn as_slice(&self) -> &[Numbers]
         ensures { result.now ≡ self.now }
     {
@@ -93,7 +93,7 @@ impl NumberSets {
         Ok(NumberSets { sets })
     }
 
-    /// The same sets again. Takes memory for the lists.
+    /// A copy, which takes memory for its lists.
     pub(crate) fn copy(&self, alloc: Global) -> Result<NumberSets, AllocError>
         ensures { IfOk result (λ copied. copied ≡ self.now) }
     {
@@ -119,7 +119,11 @@ impl Eq for NumberSets {
     ghost laws = { Prim.search (comparing, rules) };
 }
 
-/// A preference. A column counts from 0, and is below 16. Terms are equal where contracts see the same preference.
+/// A preference, as in the manual of rPref: which of two rows is better, and which rows are the same. A column counts from
+/// 0; comparing rows wants it below 16. Terms are equal (`==`) exactly where contracts see the same preference.
+///
+/// `low(price) * low(dist)` over the columns 0 and 1 is `Pareto` of `Low { col: 0 }` and `Low { col: 1 }`. What compares
+/// rows goes down the term, so it needs stack in proportion to the nestings.
 #[derive(Drop)]
 pub enum Term {
     /// Smaller values are better.
@@ -139,7 +143,7 @@ pub enum Term {
     Pareto(Box<Term>, Box<Term>),
     /// Prioritisation: better in the first part, or the same in it and better in the second.
     Prior(Box<Term>, Box<Term>),
-    /// The converse.
+    /// The converse of a term: the two rows change places.
     Reverse(Box<Term>),
 }
 

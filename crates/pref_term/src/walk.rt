@@ -25,7 +25,8 @@ pub fn compare(term: &Term, a: &Row, b: &Row) -> Relation
     walk(term, a, b)
 }
 
-/// Whether the first row is better. Takes no memory; costs one walk over the term.
+/// Whether the first row is better by a term, whose columns have to be below 16. Takes no memory; costs one walk over the
+/// term.
 pub fn better(term: &Term, a: &Row, b: &Row) -> bool
     requires { ReadsBelow 16 (preference_of term.now) }
     ensures { result ≡ better.better (preference_of term.now) a.now b.now }
@@ -33,7 +34,8 @@ pub fn better(term: &Term, a: &Row, b: &Row) -> bool
     compare(term, a, b).is_better()
 }
 
-/// Whether the rows score alike in every base term. Takes no memory; costs one walk over the term.
+/// Whether the rows score alike in every base term of a term, whose columns have to be below 16. Takes no memory; costs one
+/// walk over the term.
 pub fn same(term: &Term, a: &Row, b: &Row) -> bool
     requires { ReadsBelow 16 (preference_of term.now) }
     ensures { result ≡ better.same (preference_of term.now) a.now b.now }

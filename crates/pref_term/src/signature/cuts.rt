@@ -8,9 +8,13 @@ use crate::signature::scale::Scale;
 use pref_table::Row;
 use std::marker::Model;
 
-/// Cuts through what rows measure, by which rows are signed. Contracts see the list of their scales.
+/// The tests by which rows are signed. Each cut is a test of one column: whether the row's score by a base term reaches a
+/// mark, or what a bit of the hash of its cell is. The outcomes are the bits of the row's signature.
 ///
-/// Signatures are compared with others by the same cuts alone.
+/// Signatures by the same cuts can be compared by [`is_within`](crate::is_within), which spares most comparisons of rows
+/// where [`Dominance::suits`](crate::Dominance::suits) says that the cuts suit the order. Cuts are made by
+/// [`Dominance::cuts`](crate::Dominance::cuts). Contracts see the list of their scales; which cuts these are can be seen in
+/// no answer.
 #[derive(Drop)]
 pub struct Cuts {
     scales: Option<Vec<Scale>>,
@@ -30,7 +34,7 @@ impl Model for Cuts {
 }
 
 impl Cuts {
-    /// No cuts: each signature is 0. Takes no memory.
+    /// No cuts: each signature is 0, which distinguishes no rows. They suit every order. Takes no memory.
     pub fn none() -> Cuts
         ensures { result ≡ [] }
     {
@@ -65,7 +69,8 @@ impl Cuts {
         }
     }
 
-    /// The signature of a row. Takes no memory; costs one comparison of numbers for each cut.
+    /// The signature of a row. Of more than 64 bits it has the last 64. Takes no memory; costs one comparison of numbers for
+    /// each cut.
     pub fn signature(&self, row: &Row) -> u64
         ensures { result ≡ signature self.now row.now }
     {
