@@ -101,7 +101,8 @@ fn cut_any_client(line: &[u8]) -> Option<(u8, &[u8])>
     Some((client as u8, rest))
 }
 
-/// The same, where most lines begin by `as`, one blank, one digit and one blank.
+/// The client of a command line, and what follows its number. Most lines begin by `as`, one blank, one digit and one blank: that is
+/// tested first.
 fn cut_client(line: &[u8]) -> Option<(u8, &[u8])>
     ensures { MatchOption result (said_in line.now ≡ None) (λ cut. said_in line.now ≡ said_by_client cut.0 cut.1.now) }
 {

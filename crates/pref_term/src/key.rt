@@ -89,7 +89,7 @@ impl Score {
         }
     }
 
-    /// The same again. Takes memory for its sets.
+    /// A copy. Takes memory for its sets.
     fn copy(&self, alloc: Global) -> Result<Score, AllocError>
         ensures { IfOk result (λ copied. copied ≡ self.now) }
     {
@@ -184,7 +184,7 @@ impl Key {
         Relation::by_sides(better, worse)
     }
 
-    /// The same key again. Takes memory for its sets.
+    /// A copy of the key. Takes memory for its sets.
     pub(crate) fn copy(&self, alloc: Global) -> Result<Key, AllocError>
         ensures { IfOk result (λ copied. copied ≡ self.now) }
     {
