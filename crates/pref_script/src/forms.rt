@@ -7,7 +7,7 @@ ghost use Rattle.pref_script.specs.Words.{after_word, alone as alone_of, word_of
 use crate::pieces::{ChangeForm, ChangeVerb, change_form, cut_change};
 use crate::words::{cut_number, id_alone, skip_blanks, strip_word};
 
-/// What a command asks for.
+/// The kinds of commands, by their word.
 #[derive(Clone, Copy)]
 enum Verb {
     Change(ChangeVerb),
@@ -20,7 +20,7 @@ enum Verb {
     Room,
 }
 
-/// What a command line says, its values, its pieces and its question not read yet.
+/// A command line in its parts: its ids are read, its values, its pieces and its question are not.
 #[derive(Clone, Copy)]
 pub enum Form<'a> {
     Change(ChangeForm<'a>),
@@ -33,7 +33,7 @@ pub enum Form<'a> {
     Room,
 }
 
-/// What the word asks for that a text begins with, and what follows the blanks after the word.
+/// The kind of command that a text's first word names, and the rest behind the blanks after that word.
 #[tactic(auto, unfolding(crate::specs::Forms::verb_of))]
 fn cut_verb(text: &[u8]) -> Option<(Verb, &[u8])>
     ensures { MatchOption result (verb_of (word_of text.now) ≡ None)

@@ -30,7 +30,7 @@ impl ReadAhead {
         }
     }
 
-    /// What was read and not taken.
+    /// The bytes that were read and not taken.
     pub fn as_slice(&self) -> &[u8]
         ensures { result.now ≡ unread self.now }
     {

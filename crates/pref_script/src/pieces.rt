@@ -7,7 +7,7 @@ ghost use Rattle.pref_script.specs.Pieces.{are_changes as are_changes_in, change
 use crate::words::{cut_number, id_alone, skip_blanks, strip_word};
 use memchr::memchr;
 
-/// The change that a word asks for.
+/// The kinds of changes, by their word.
 #[derive(Clone, Copy)]
 pub enum ChangeVerb {
     Insert,
@@ -15,7 +15,7 @@ pub enum ChangeVerb {
     Delete,
 }
 
-/// What a change says, its values not read yet.
+/// A change in its parts: its id is read, its values are not.
 #[derive(Clone, Copy)]
 pub enum ChangeForm<'a> {
     Insert(&'a [u8]),
@@ -23,7 +23,7 @@ pub enum ChangeForm<'a> {
     Delete(u64),
 }
 
-/// The change that the word asks for that a text begins with, and what follows the blanks after the word.
+/// The kind of change that a text's first word names, and the rest behind the blanks after that word.
 #[tactic(auto, unfolding(crate::specs::Pieces::change_verb_of))]
 pub fn cut_change(text: &[u8]) -> Option<(ChangeVerb, &[u8])>
     ensures { MatchOption result (change_verb_of (word_of text.now) ≡ None)
@@ -56,7 +56,7 @@ pub fn change_form(verb: ChangeVerb, rest: &[u8]) -> Option<ChangeForm<'_>>
     }
 }
 
-/// What a piece says, where it has the form of a change.
+/// The change of a piece in its parts, where the piece has the form of one.
 #[tactic(auto, unfolding(crate::specs::Pieces::piece_said))]
 pub fn piece_form(piece: &[u8]) -> Option<ChangeForm<'_>>
     ensures { option_map change_said result ≡ piece_said piece.now }

@@ -28,7 +28,7 @@ fn drop_last(byte: u8, text: &[u8]) -> &[u8]
     text
 }
 
-/// What a line says, without its end.
+/// A line without its end: a line feed, and a carriage return before that.
 pub fn line_text(raw: &[u8]) -> &[u8]
     ensures { result.now ≡ without_line_end raw.now }
 {

@@ -42,7 +42,7 @@ pub enum CasedWord {
     Diff,
 }
 
-/// What a skyline clause says of a column.
+/// The word after a column of a skyline clause.
 #[derive(Clone, Copy)]
 pub enum Direction {
     /// Smaller is better.
