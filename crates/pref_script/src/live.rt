@@ -149,6 +149,12 @@ fn tell_all<R: Read, W: Write>(
 /// Refused `NoTable`, `NoEnd`, `Table` or `Opening` as soon as the table block shows it, whatever follows; its one line was written then.
 /// Refused `TooLarge` where the table block or a line is longer, or there are 2^63 lines. After `Read`, `TooLarge` and `Memory` the replies to the
 /// lines before were written, and after `Write` all replies to the lines before the last one, and a beginning of those to it.
+///
+/// ```text
+/// let mut reader = Watched::new(rt.stdin());
+/// let mut writer = Watched::new(rt.stdout());
+/// run_live(rt.alloc(), &mut reader, &mut writer, setup)?;
+/// ```
 pub fn run_live<R: Read, W: Write>(
     alloc: Global,
     reader: &mut Watched<R>,

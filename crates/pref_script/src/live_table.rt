@@ -9,6 +9,11 @@ use pref_table::{Schema, read_table};
 use std::alloc::Global;
 
 /// A table with its clients and their open queries, and the number of the line that comes next.
+///
+/// ```text
+/// let mut live = LiveTable::open(alloc, setup, b"price\n50\n", 5)?;
+/// live.tell(alloc, b"as 1 insert 45", &mut text)?;
+/// ```
 #[derive(Drop)]
 pub struct LiveTable {
     schema: Schema,

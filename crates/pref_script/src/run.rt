@@ -53,6 +53,12 @@ fn reply_text(alloc: Global, setup: Setup, bytes: &[u8]) -> Result<String, RunFa
 /// After `Read`, `TooLarge` and `Memory` nothing was written, and after `Write` a beginning of the output. Each other
 /// fault is the script's own, and its one line is the output. The faults are tested in the order `Read`, `TooLarge`,
 /// `NoTable`, `NoEnd`, `Table`, `Opening`; `Memory` comes as soon as memory runs out.
+///
+/// ```text
+/// let mut reader = Watched::new(rt.stdin());
+/// let mut writer = Watched::new(rt.stdout());
+/// run_script(rt.alloc(), &mut reader, &mut writer, setup)?;
+/// ```
 pub fn run_script<R: Read, W: Write>(
     alloc: Global,
     reader: &mut Watched<R>,

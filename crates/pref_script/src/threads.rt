@@ -114,6 +114,12 @@ pub fn run_threads<R: Threads + Wait + Sync, G: Gate + Sync>(
 /// After `Read`, `TooLarge`, `Memory` and `Threads` nothing was written, and after `Write` a beginning of the output. Each other
 /// fault is the script's own, and its one line is the output. The faults come in the order of [`run_script`](crate::run::run_script),
 /// and `Threads` where a client was stopped after that.
+///
+/// ```text
+/// let mut reader = Watched::new(rt.stdin());
+/// let mut writer = Watched::new(rt.stdout());
+/// run_script_on_threads(rt, rt.alloc(), &mut reader, &mut writer, setup)?;
+/// ```
 pub fn run_script_on_threads<T: Threads + Wait + Sync, R: Read, W: Write>(
     rt: &T,
     alloc: Global,

@@ -14,6 +14,9 @@ use std::alloc::{AllocError, Global};
 ///
 /// No row dominates itself; what dominates a row dominates all that this row dominates. The code's word for that is
 /// `over`. Of twins one is kept: the same rows dominate both, and both dominate the same rows. No call but `cuts` takes memory.
+///
+/// [`Ask`](crate::Ask) is such an order. One of your own needs `over`, `twin`, the ghost `order` and its `laws`; the other calls are for
+/// speed, have bodies that are right for every order, and can be seen in no answer.
 pub trait Dominance {
     /// Which row dominates which, and which rows are twins.
     ghost order: { Self → RowOrder };

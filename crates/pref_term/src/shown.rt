@@ -17,6 +17,11 @@ use std::alloc::{AllocError, Global};
 /// `best low(x) by g`, and one with `distinct` as a clause. Parentheses are where the grammar needs them and nowhere else. `read_ask` reads the ask
 /// again where the text has at most 4,096 bytes and 64 open nestings. One walk over the term; the only error is
 /// out of memory.
+///
+/// ```text
+/// let ask = read_ask(alloc, &schema, b"skyline of price min, city diff")?;
+/// let text = show(alloc, &schema, &ask)?;     // best low(price) by city
+/// ```
 pub fn show(alloc: Global, schema: &Schema, ask: &Ask) -> Result<Vec<u8>, AllocError>
     // The ask is over columns of the schema.
     requires { FitsWidth (length schema.now) ask.now }

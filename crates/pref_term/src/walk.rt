@@ -15,6 +15,14 @@ use pref_table::Row;
 ///
 /// One walk: each base term's scores are compared at most once. A product stops at a part that decides
 /// for neither row, and a priority at its first part that sees a difference. Takes no memory.
+///
+/// ```text
+/// match compare(ask.term(), &hotel, &other) {
+///     Relation::Better => println!(rt; "this one")?,
+///     Relation::Worse => println!(rt; "the other")?,
+///     Relation::Same | Relation::Neither => println!(rt; "look at both")?,
+/// }
+/// ```
 #[inline(never)]
 pub fn compare(term: &Term, a: &Row, b: &Row) -> Relation
     requires { ReadsBelow 16 (preference_of term.now) }
