@@ -1,21 +1,15 @@
 -- A field of digits, perhaps behind a sign, read in the pass that finds its end.
-use Rattle.std.proofs.Common.{◌≡◌, ◌∙◌, ℕ, ◌+◌, ◌-◌, ◌<◌, ◌≤◌, ◌*◌, ◌^◌, Bool, true, false, List, [], ◌∷◌, length, take, drop, get_or, sym, ap, refl, arith, add-one, zero, suc, Ok, ℤ, pos}
-use Rattle.std.specs.Prelude.{nat_lt, ◌==◌}
-use Rattle.std.specs.List.{prefix_len, suffix_len}
+use Rattle.pref_table.proofs.Common.{◌≡◌, ◌∙◌, ℕ, ◌+◌, ◌-◌, ◌<◌, ◌≤◌, ◌*◌, ◌^◌, Bool, true, false, List, [], ◌∷◌, length, take, drop, get_or, sym, ap, refl, arith, add-one, zero, suc, Ok, ℤ, pos}
+use Rattle.pref_table.proofs.Common.{nat_lt, ◌==◌, prefix_len, suffix_len, all_ascii_digits, digits_value, starts_with_minus, without_leading_sign, eqb-false, eqb-true, le-leb, lt-ltb, ltb-true}
+use Rattle.pref_table.proofs.Common.{ltb-false, ne_eqb, get_or-drop, get_or-take, length-drop, length-take-le, take_all, fits_cell, is_blank, number_of, signed_by, without_blanks, ArePlain, IsPlain}
+use Rattle.pref_table.proofs.Common.{is_comma}
 use Rattle.std.specs.Char.{is_ascii_digit}
-use Rattle.std.specs.Str.{all_ascii_digits}
-use Rattle.std.specs.Str.Parse.{digits_value, starts_with_minus, without_leading_sign}
 use Rattle.std.proofs.Math.Nat.{pow-le-pow_right, pow-suc}
-use Rattle.std.proofs.lemmas.Bool.{eqb-false, eqb-true, le-leb, lt-ltb, ltb-true, ltb-false, ne_eqb}
 use Rattle.std.proofs.lemmas.Int.Digits.{digits_value_more}
-use Rattle.std.proofs.lemmas.List.{get_or-drop, get_or-take, length-drop, length-take-le, take_all}
 use Rattle.std.proofs.lemmas.List.Sums.{prefix_len-drop_no, suffix_len-take_no}
 use Rattle.std.proofs.lemmas.Str.Parse.{without_leading_plus_none}
 use Rattle.pref_table.specs.Capped.{IsCapped}
 use Rattle.pref_table.specs.Fields.{AreLeadingDigits, IsPlainField}
-use Rattle.pref_table.specs.Number.{fits_cell, is_blank, number_of, signed_by, without_blanks}
-use Rattle.pref_table.specs.Plain.{ArePlain, IsPlain}
-use Rattle.pref_table.specs.Rows.{is_comma}
 use Rattle.pref_table.proofs.NumberFacts.{digit_value-of, number-fits}
 use Rattle.pref_table.proofs.RowsFacts.{cut_at, cut_none}
 

@@ -1,25 +1,14 @@
 -- Lines that csv reads as they are cut at their commas.
-use Rattle.std.proofs.Common.{◌≡◌, ◌∙◌, ℕ, zero, suc, ◌+◌, ◌-◌, ◌<◌, ◌≤◌, Bool, true, false, List, [], ◌∷◌, ◌++◌, length, take, drop, get_or, unwrap_or, ◌≢◌, Option, Some, None, Result, Ok, Err, ℤ, sym, ap, refl, arith, inl, inr, append_assoc}
-use Rattle.std.specs.Prelude.{◌==◌}
-use Rattle.std.specs.List.{onto_first, slice_split}
-use Rattle.std.proofs.lemmas.Bool.{eq-eqb, eqb-true, ne_eqb}
-use Rattle.std.proofs.lemmas.List.{append-nil, drop_more, get_or-take, get_or_append_left, length-append, length-take, take-append-drop, take_all}
-use Rattle.std.proofs.Math.ListN.{drop_of_length-le}
-use Rattle.std.proofs.lemmas.List.Splits.{length-slice_split}
-use Rattle.csv.specs.Machine.{Read, ends_at_end, in_field, next_record, start_field, step}
-use Rattle.csv.specs.Reading.{default_config, is_bom, records, records_from, strip_bom}
-use Rattle.csv.specs.declared.parser.State.{State}
-use Rattle.csv.specs.declared.parser.State.TheVariants as st
-use Rattle.csv.specs.declared.parser.Action.TheVariants as act
+use Rattle.pref_table.proofs.Common.{◌≡◌, ◌∙◌, ℕ, zero, suc, ◌+◌, ◌-◌, ◌<◌, ◌≤◌, Bool, true, false, List, [], ◌∷◌, ◌++◌, length, take, drop, get_or, unwrap_or, ◌≢◌, Option, Some, None, Result, Ok}
+use Rattle.pref_table.proofs.Common.{Err, ℤ, sym, ap, refl, arith, inl, inr, append_assoc, ◌==◌, onto_first, slice_split, eq-eqb, eqb-true, ne_eqb, append-nil, drop_more, get_or-take}
+use Rattle.pref_table.proofs.Common.{get_or_append_left, length-append, length-take, take-append-drop, take_all, drop_of_length-le, length-slice_split, Read, ends_at_end, in_field, next_record}
+use Rattle.pref_table.proofs.Common.{start_field, step, default_config, is_bom, records, records_from, strip_bom, State, IsCutAtLine, IsLineBefore, IsLineEnd, IsPlainLine, header_names, rows_with}
+use Rattle.pref_table.proofs.Common.{◌>>=◌, ArePlain, IsPlain, is_comma, table_of_records, TableFault}
 use Rattle.memchr.specs.Find.{IsFirstByte, is_byte}
-use Rattle.pref_table.specs.Lines.{IsCutAtLine, IsLineBefore, IsLineEnd, IsPlainLine, header_names, rows_with}
-use Rattle.pref_table.specs.Numbered.{◌>>=◌}
-use Rattle.pref_table.specs.Plain.{ArePlain, IsPlain}
-use Rattle.pref_table.specs.Rows.{is_comma}
-use Rattle.pref_table.specs.Tables.{table_of_records}
-use Rattle.pref_table.specs.declared.fault.TableFault.{TableFault}
 use Rattle.pref_table.proofs.RecordsFacts.{next-facts, next-shorter, records-none, records-some}
 use Rattle.pref_table.proofs.TablesFacts.{table-names, table-rows}
+use Rattle.csv.specs.declared.parser.State.TheVariants as st
+use Rattle.csv.specs.declared.parser.Action.TheVariants as act
 
 -- a state before a field or inside one, which takes a plain byte as it is and ends the record at a line feed or at the end of the text
 record IsInRecord (s : State) : Type 0 where

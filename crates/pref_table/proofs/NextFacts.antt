@@ -1,23 +1,18 @@
 -- The first record of a text, whose bytes are gone through one by one.
-use Rattle.std.proofs.Common.{◌≡◌, ◌∙◌, ℕ, suc, ◌+◌, ◌<◌, ◌≤◌, Bool, true, false, List, [], ◌∷◌, ◌++◌, length, drop, get_or, Some, sym, ap, refl, arith, ◌⊎◌, inl, inr}
+use Rattle.pref_table.proofs.Common.{◌≡◌, ◌∙◌, ℕ, suc, ◌+◌, ◌<◌, ◌≤◌, Bool, true, false, List, [], ◌∷◌, ◌++◌, length, drop, get_or, Some, sym, ap, refl, arith, ◌⊎◌, inl, inr, ◌==◌, drop_more}
+use Rattle.pref_table.proofs.Common.{length-append, drop_of_length-le, Read, ends_at_end, ends_with, fields_after, field_after, in_field, is_end, next_record, step, default_config, records}
+use Rattle.pref_table.proofs.Common.{records_from, State, BytesReader, HasLeft, IsNarrow, IsNext, IsWide, ReadsFirst, ReadsNext, state_at}
 use Rattle.std.specs.Bool.{MatchBool}
 use Rattle.std.specs.Borrow.{Bor}
-use Rattle.std.specs.Prelude.{◌==◌}
-use Rattle.std.proofs.lemmas.List.{drop_more, length-append}
-use Rattle.std.proofs.Math.ListN.{drop_of_length-le}
-use Rattle.csv.specs.Machine.{Read, ends_at_end, ends_with, fields_after, field_after, in_field, is_end, next_record, step}
-use Rattle.csv.specs.Reading.{default_config, records, records_from}
 use Rattle.csv.specs.declared.parser.Action.{Action}
-use Rattle.csv.specs.declared.parser.Action.TheVariants as act
-use Rattle.csv.specs.declared.parser.State.{State}
-use Rattle.csv.specs.declared.parser.State.TheVariants as st
-use Rattle.pref_table.specs.Records.{BytesReader, HasLeft, IsNarrow, IsNext, IsWide, ReadsFirst, ReadsNext, state_at}
 use Rattle.pref_table.specs.declared.records.Next.{Next}
 use Rattle.pref_table.specs.declared.records.Next.TheVariants.{Nothing, Wide, Narrow}
 use Rattle.pref_table.specs.declared.records.Place.{Place}
 use Rattle.pref_table.specs.declared.records.Place.TheVariants.{BetweenRecords, BeforeField, InField, InQuotes, AfterQuote}
 use Rattle.pref_table.proofs.LinesFacts.{records-after_return, records-first, records-of}
 use Rattle.pref_table.proofs.RecordsFacts.{records-none, records-some}
+use Rattle.csv.specs.declared.parser.Action.TheVariants as act
+use Rattle.csv.specs.declared.parser.State.TheVariants as st
 
 -- before the byte at this place csv's machine is in this state, and so many fields have ended
 pub record Stands (text : List ℕ) (at : ℕ) (s : State) (count : ℕ) : Type 0 where

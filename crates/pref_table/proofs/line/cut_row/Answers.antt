@@ -1,10 +1,4 @@
-use Rattle.std.proofs.Common.{ap, Ok, ◌≡◌, ◌∙◌, ◌+◌, ◌<◌, length, refl, sym, arith, w64}
-use Rattle.std.specs.List.{slice_split}
-use Rattle.std.proofs.lemmas.Int.{to_z-of_z}
-use Rattle.std.proofs.lemmas.List.{length-set}
-use Rattle.std.proofs.lemmas.List.Splits.{length-slice_split}
-use Rattle.std.proofs.lemmas.Result.{err_from_is_err_and}
-use Rattle.pref_table.specs.Rows.{is_comma}
+use Rattle.pref_table.proofs.Common.{ap, Ok, ◌≡◌, ◌∙◌, ◌+◌, ◌<◌, length, refl, sym, arith, w64, slice_split, to_z-of_z, length-set, length-slice_split, err_from_is_err_and, is_comma}
 use Rattle.pref_table.proofs.NumberedFacts.{all_from-none}
 use Rattle.pref_table.proofs.RowsFacts.{cell-read, cells_fail, cells_more, line_cut, row_of-all, row_of-fault, row_of-width, zeros_more}
 use Rattle.pref_table.proofs.line.cut_row.Goals as goal

@@ -1,7 +1,4 @@
-use Rattle.std.proofs.Common.{◌≡◌, ◌<◌, ◌-◌, length, take, drop, replicate, pos, Ok}
-use Rattle.std.specs.List.{slice_split}
-use Rattle.pref_table.specs.Numbered.{all_from}
-use Rattle.pref_table.specs.Rows.{cell_in, is_comma}
+use Rattle.pref_table.proofs.Common.{◌≡◌, ◌<◌, ◌-◌, length, take, drop, replicate, pos, Ok, slice_split, all_from, cell_in, is_comma}
 use Rattle.pref_table.proofs.line.cut_row.Given as goal
 
 abbrev pub invariant-loop-col : goal.invariant-loop-col

@@ -1,5 +1,4 @@
-use Rattle.std.specs.List.{slice_split}
-use Rattle.pref_table.specs.Rows.{is_comma}
+use Rattle.pref_table.proofs.Common.{slice_split, is_comma}
 use Rattle.pref_table.proofs.LinesFacts.{records-next_line}
 use Rattle.pref_table.proofs.RowsFacts.{row_of-any}
 use Rattle.pref_table.proofs.lines.next_row.Goals as goal

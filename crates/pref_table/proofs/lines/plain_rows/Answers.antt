@@ -1,7 +1,4 @@
-use Rattle.std.proofs.Common.{◌∙◌, ◌+◌, ◌∷◌, [], length, ap, sym, arith}
-use Rattle.std.proofs.lemmas.List.{length-append}
-use Rattle.csv.specs.Reading.{default_config, records}
-use Rattle.pref_table.specs.Lines.{rows_with}
+use Rattle.pref_table.proofs.Common.{◌∙◌, ◌+◌, ◌∷◌, [], length, ap, sym, arith, length-append, default_config, records, rows_with}
 use Rattle.pref_table.proofs.TablesFacts.{numbered_row-few, rows_with-more}
 use Rattle.pref_table.proofs.lines.plain_rows.Goals as goal
 

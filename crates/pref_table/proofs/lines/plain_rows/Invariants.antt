@@ -1,6 +1,4 @@
-use Rattle.std.proofs.Common.{◌≡◌, length, []}
-use Rattle.csv.specs.Reading.{default_config, records}
-use Rattle.pref_table.specs.Lines.{IsLineEnd, rows_with}
+use Rattle.pref_table.proofs.Common.{◌≡◌, length, [], default_config, records, IsLineEnd, rows_with}
 use Rattle.pref_table.proofs.lines.plain_rows.Given as goal
 
 abbrev pub invariant-loop : goal.invariant-loop

@@ -1,5 +1,4 @@
-use Rattle.std.proofs.Common.{◌≡◌, ◌<◌, ◌≤◌, ◌-◌, get_or, length, refl, arith}
-use Rattle.std.proofs.lemmas.List.{get_or-take, length-take}
+use Rattle.pref_table.proofs.Common.{◌≡◌, ◌<◌, ◌≤◌, ◌-◌, get_or, length, refl, arith, get_or-take, length-take}
 use Rattle.pref_table.proofs.FieldsFacts.{digit_more, digits_more, room_below, value_more}
 use Rattle.pref_table.proofs.number.leading_digits.Goals as goal
 

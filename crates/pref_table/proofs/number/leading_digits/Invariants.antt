@@ -1,5 +1,4 @@
-use Rattle.std.proofs.Common.{◌≡◌, ◌<◌, ◌≤◌, ◌^◌, ℕ, get_or, take}
-use Rattle.std.specs.Str.Parse.{digits_value}
+use Rattle.pref_table.proofs.Common.{◌≡◌, ◌<◌, ◌≤◌, ◌^◌, ℕ, get_or, take, digits_value}
 use Rattle.pref_table.proofs.number.leading_digits.Given as goal
 
 -- the bytes so far are digits, and the value is theirs

@@ -1,9 +1,7 @@
-use Rattle.std.proofs.Common.{◌≡◌, ◌<◌, ◌≤◌, ◌+◌, get_or, drop, sym, ap, ◌∙◌, arith}
-use Rattle.std.specs.Prelude.{◌&&◌}
-use Rattle.std.specs.Str.{all_ascii_digits}
+use Rattle.pref_table.proofs.Common.{◌≡◌, ◌<◌, ◌≤◌, ◌+◌, get_or, drop, sym, ap, ◌∙◌, arith, ◌&&◌, all_ascii_digits}
 use Rattle.pref_table.proofs.NumberFacts.{digits_next, value_kept, value_past}
-use Rattle.pref_table.proofs.number.magnitude.Goals as goal
 use Rattle.pref_table.proofs.number.magnitude.Goals.{then-value-lt-ROOM_FOR_A_DIGIT, else-value-lt-ROOM_FOR_A_DIGIT}
+use Rattle.pref_table.proofs.number.magnitude.Goals as goal
 
 pub loop-digit-preserved : goal.loop-digit-preserved
 loop-digit-preserved c =

@@ -1,6 +1,4 @@
-use Rattle.std.proofs.Common.{◌≡◌, ◌≤◌, ◌<◌, ◌^◌, drop}
-use Rattle.std.specs.Str.{all_ascii_digits}
-use Rattle.std.specs.Str.Parse.{digits_value, digits_value_after}
+use Rattle.pref_table.proofs.Common.{◌≡◌, ◌≤◌, ◌<◌, ◌^◌, drop, all_ascii_digits, digits_value, digits_value_after}
 use Rattle.pref_table.proofs.number.magnitude.Given as goal
 
 -- what is left is digits where all is; and the value goes on from the one so far, or is past 2^63 for good

@@ -1,6 +1,4 @@
-use Rattle.std.proofs.Common.{◌∙◌, false, ap, arith, w64}
-use Rattle.std.proofs.lemmas.Int.{to_z-of_z}
-use Rattle.pref_table.specs.Number.{fits_cell}
+use Rattle.pref_table.proofs.Common.{◌∙◌, false, ap, arith, w64, to_z-of_z, fits_cell}
 use Rattle.pref_table.proofs.FieldsFacts.{unsigned_field, small-fits}
 use Rattle.pref_table.proofs.NumberFacts.{cell-fits}
 use Rattle.pref_table.proofs.number.plain_field.Goals as goal

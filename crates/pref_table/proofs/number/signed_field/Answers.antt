@@ -1,8 +1,5 @@
-use Rattle.std.proofs.Common.{◌≡◌, ◌∙◌, ◌<◌, ◌+◌, ◌-◌, get_or, length, ap, subst, arith, w64}
-use Rattle.std.specs.Str.Parse.{starts_with_minus, without_leading_sign}
-use Rattle.std.proofs.lemmas.Int.{to_z-of_z}
+use Rattle.pref_table.proofs.Common.{◌≡◌, ◌∙◌, ◌<◌, ◌+◌, ◌-◌, get_or, length, ap, subst, arith, w64, starts_with_minus, without_leading_sign, to_z-of_z, fits_cell, signed_by}
 use Rattle.pref_table.specs.Fields.{AreLeadingDigits}
-use Rattle.pref_table.specs.Number.{fits_cell, signed_by}
 use Rattle.pref_table.proofs.FieldsFacts.{plain_is, small-fits}
 use Rattle.pref_table.proofs.NumberFacts.{cell-fits}
 use Rattle.pref_table.proofs.number.signed_field.Goals as goal

@@ -1,7 +1,4 @@
-use Rattle.std.proofs.Common.{◌≡◌, ◌+◌, ◌-◌, [], arith, drop, length, take}
-use Rattle.std.proofs.lemmas.List.{length-drop, take_all}
-use Rattle.std.proofs.Math.ListN.{drop_of_length-le}
-use Rattle.pref_table.specs.Records.{state_at}
+use Rattle.pref_table.proofs.Common.{◌≡◌, ◌+◌, ◌-◌, [], arith, drop, length, take, length-drop, take_all, drop_of_length-le, state_at}
 use Rattle.pref_table.proofs.NextFacts.{narrow-ended, narrow-last, nothing-left, outside-none, stands-comma, stands-first, stands-goes, wide}
 use Rattle.pref_table.proofs.records.next_in.Goals.{in-Goes, in-EndsField+else-fields-eq-MAX_COLUMNS}
 use Rattle.pref_table.proofs.records.next_in.Goals as goal

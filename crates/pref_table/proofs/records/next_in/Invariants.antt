@@ -1,5 +1,4 @@
-use Rattle.std.proofs.Common.{◌<◌}
-use Rattle.pref_table.specs.Records.{state_at}
+use Rattle.pref_table.proofs.Common.{◌<◌, state_at}
 use Rattle.pref_table.proofs.NextFacts.{Stands}
 use Rattle.pref_table.proofs.records.next_in.Given as goal
 

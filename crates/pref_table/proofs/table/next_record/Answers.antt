@@ -1,4 +1,4 @@
-use Rattle.csv.specs.Records.{fields_of}
+use Rattle.pref_table.proofs.Common.{fields_of}
 use Rattle.pref_table.proofs.NextFacts.{reads-narrow, reads-other}
 use Rattle.pref_table.proofs.table.next_record.Goals.{in-Narrow+in-Ok, in_default}
 use Rattle.pref_table.proofs.table.next_record.Goals as goal

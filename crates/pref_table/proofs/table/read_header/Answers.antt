@@ -1,6 +1,4 @@
-use Rattle.std.proofs.Common.{arith, map}
-use Rattle.std.proofs.lemmas.List.{length-map}
-use Rattle.pref_table.specs.Number.{without_blanks}
+use Rattle.pref_table.proofs.Common.{arith, map, length-map, without_blanks}
 use Rattle.pref_table.proofs.NamesFacts.{schema_of-many}
 use Rattle.pref_table.proofs.table.read_header.Goals as goal
 

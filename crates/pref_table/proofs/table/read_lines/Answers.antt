@@ -1,6 +1,4 @@
-use Rattle.std.proofs.Common.{◌∙◌, length, arith, Ok, Err}
-use Rattle.std.proofs.lemmas.Result.{err_from_is_err_and}
-use Rattle.csv.specs.Reading.{default_config, records}
+use Rattle.pref_table.proofs.Common.{◌∙◌, length, arith, Ok, Err, err_from_is_err_and, default_config, records}
 use Rattle.pref_table.proofs.LinesFacts.{records-none_left, strip-line_end, table-lines, table-no_names}
 use Rattle.pref_table.proofs.TablesFacts.{fails-on, rows_with-none}
 use Rattle.pref_table.proofs.table.read_lines.Goals as goal

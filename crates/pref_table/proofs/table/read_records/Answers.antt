@@ -1,6 +1,4 @@
-use Rattle.std.proofs.Common.{Ok, Err}
-use Rattle.std.proofs.lemmas.Result.{err_from_is_err_and}
-use Rattle.csv.specs.Reading.{default_config, records}
+use Rattle.pref_table.proofs.Common.{Ok, Err, err_from_is_err_and, default_config, records}
 use Rattle.pref_table.proofs.TablesFacts.{fails-on, table-names, table-rows}
 use Rattle.pref_table.proofs.table.read_records.Goals as goal
 

@@ -1,8 +1,4 @@
-use Rattle.std.proofs.Common.{◌≡◌, ◌<◌, ◌≤◌, ℕ, Option, Some, None, arith, List, [], ◌∷◌, map, length, Bool, refl, ap, ◌∙◌}
-use Rattle.std.specs.List.{position, prefix_len}
-use Rattle.std.specs.Prelude.{not, IfSome}
-use Rattle.std.specs.Str.{bytes_eq}
-use Rattle.std.proofs.lemmas.List.{length-map}
+use Rattle.pref_table.proofs.Common.{◌≡◌, ◌<◌, ◌≤◌, ℕ, Option, Some, None, arith, List, [], ◌∷◌, map, length, Bool, refl, ap, ◌∙◌, position, prefix_len, not, IfSome, bytes_eq, length-map}
 use Rattle.pref_table.proofs.NamesFacts.{schema-size}
 use Rattle.pref_table.specs.Columns.{column_of}
 use Rattle.pref_table.proofs.schema.Schema.index_of.Goals as goal
