@@ -1,23 +1,17 @@
 -- What the parts of the reader promise that read what stands around a term, and skyline clauses.
-use Rattle.std.proofs.Common.{◌≡◌, ℕ, List, [], ◌∷◌, ◌++◌, length, map, Bool, true, false, Option, Some, None, Ok, refl, sym, ap, subst, ◌∙◌, append-nil}
-use Rattle.std.specs.Prelude.{◌≢◌, All, IfSome, cond, unwrap_or}
+use Rattle.pref_term.proofs.Common.{◌≡◌, ℕ, List, [], ◌∷◌, ◌++◌, length, map, Bool, true, false, Option, Some, None, Ok, refl, sym, ap, subst, ◌∙◌, append-nil, ◌≢◌, All, IfSome, cond, unwrap_or}
+use Rattle.pref_term.proofs.Common.{All-append, All-nil, comma, Token, word, digits, sign, finish, Placed, Keyword, best_word, top_level_word, at_least_word, by_word, keyword_of, skyline_word}
+use Rattle.pref_term.proofs.Common.{of_word, cased_of, Direction, minimal, maximal, different, direction_word, DimText, HeadText, best_head, top_level_head, at_least_head, PriorText, one_product}
+use Rattle.pref_term.proofs.Common.{then_product, AskText, rated, name, mark, column_name, count_digits, cased, last, Names, own_fault, column_at, mode_of, order_by, group_by, orders_of, groups_of}
+use Rattle.pref_term.proofs.Common.{product_of, bad_count, State, start, operand, whole, in_whole, ranked, top_level_named, at_least_named, group_due, skyline_named, dim_due, dim_named, group_listed}
+use Rattle.pref_term.proofs.Common.{dims_listed, run, done, listed_column, listed_dim, directed, begun, of_named, grouped_by, next, meant, Goes, Fails, Passes, IsNoWord, IsKnown, IsTermOf, IsColumn}
+use Rattle.pref_term.proofs.Common.{NotNext, IsOther, WantsColumn, TakesColumn, FailsColumn, ReadsPrior, FailsPrior, Asks, AsksNothing, IsNoDigits, WantsCount, TakesCount, FailsCount}
+use Rattle.pref_term.proofs.Common.{ReadsSomeColumns, ReadsColumns, FailsColumns, ReadsGrouping, FailsGrouping, TakesDirection, FailsDirection, ReadsDim, FailsDim, with_order, ReadsDims, ReadsClause}
+use Rattle.pref_term.proofs.Common.{FailsClause, PassesOf, FailsOf, AsksClause, AsksClauseNothing, Preference, scored, low, high, pareto, prior, reverse, ReadsBelow, IsWritable, Question, FitsWidth}
+use Rattle.pref_term.proofs.Common.{IsAsk, IsSkyline, IsCount, is_count, cut_of, Mode, Best, TopLevel, AtLeast, TermFault}
 use Rattle.std.specs.Str.Parse.{digits_value}
-use Rattle.std.proofs.lemmas.List.Elements.{All-append, All-nil}
 use Rattle.std.proofs.lemmas.List.Sums.{fold-append}
 use Rattle.std.proofs.lemmas.Grind.{flat_map-append}
-use Rattle.pref_term.specs.Token.{comma, Token, word, digits, sign, finish, Placed}
-use Rattle.pref_term.specs.Grammar.{Keyword, best_word, top_level_word, at_least_word, by_word, keyword_of, skyline_word, of_word, cased_of, Direction, minimal, maximal, different, direction_word, DimText, HeadText, best_head, top_level_head, at_least_head, PriorText, one_product, then_product, AskText, rated, name, mark, column_name, count_digits, cased, last}
-use Rattle.pref_term.specs.Spells.{Names, own_fault, column_at, mode_of, order_by, group_by, orders_of, groups_of, product_of, bad_count}
-use Rattle.pref_term.specs.Reading.{State, start, operand, whole, in_whole, ranked, top_level_named, at_least_named, group_due, skyline_named, dim_due, dim_named, group_listed, dims_listed, run, done, listed_column, listed_dim, directed, begun, of_named, grouped_by, next}
-use Rattle.pref_term.specs.Asked.{meant}
-use Rattle.pref_term.specs.Led.{Goes, Fails, Passes, IsNoWord, IsKnown, IsTermOf, IsColumn, NotNext, IsOther, WantsColumn, TakesColumn, FailsColumn, ReadsPrior, FailsPrior, Asks, AsksNothing, IsNoDigits, WantsCount, TakesCount, FailsCount, ReadsSomeColumns, ReadsColumns, FailsColumns, ReadsGrouping, FailsGrouping, TakesDirection, FailsDirection, ReadsDim, FailsDim, with_order, ReadsDims, ReadsClause, FailsClause, PassesOf, FailsOf, AsksClause, AsksClauseNothing}
-use Rattle.pref_term.specs.Preference.{Preference, scored, low, high, pareto, prior, reverse}
-use Rattle.pref_term.specs.Columns.{ReadsBelow}
-use Rattle.pref_term.specs.Writable.{IsWritable}
-use Rattle.pref_term.specs.Question.{Question, FitsWidth, IsAsk, IsSkyline, IsCount, is_count, cut_of}
-use Rattle.pref_term.specs.declared.ask.Mode.{Mode}
-use Rattle.pref_term.specs.declared.ask.Mode.TheVariants.{Best, TopLevel, AtLeast}
-use Rattle.pref_term.specs.declared.fault.TermFault.{TermFault}
 use Rattle.pref_term.proofs.LedLemmas.{goes_then, goes_fails, passes_goes, column_good, unless_map, all_one, mapped_more, neither_fails, sign_behind}
 
 -- the end, behind all

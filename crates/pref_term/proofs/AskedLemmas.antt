@@ -1,23 +1,8 @@
 -- The ask that is computed is the one that the text spells, and the fault the one that it has.
-use Rattle.std.proofs.Common.{◌≡◌, ◌≤◌, ◌<◌, ◌+◌, ℕ, zero, suc, List, [], ◌∷◌, Bool, true, false, cond, length, nat_lt, Option, Some, None, Result, Ok, Err, refl, sym, ap, subst, ◌∙◌, ◌⊎◌, inl, inr, arith}
-use Rattle.std.specs.Prelude.{MatchResult, IfOk, IfErr}
-use Rattle.std.proofs.lemmas.Bool.Decides.{nat_tests}
-use Rattle.pref_table.specs.Number.{is_blank}
-use Rattle.pref_term.specs.Token.{Placed, more_bytes, token_from, tokens_from, tokens_of}
-use Rattle.pref_term.specs.Distinct.{is_in_any_case, plain, says_distinct, without_third}
-use Rattle.pref_term.specs.Grammar.{AskText, rated, skyline}
-use Rattle.pref_term.specs.Preference.{Preference}
-use Rattle.pref_term.specs.declared.ask.Mode.TheVariants.{Best}
-use Rattle.std.specs.Option.{option_map}
-use Rattle.std.specs.Prelude.{◌&&◌, codes}
-use Rattle.std.proofs.lemmas.Bool.{false≢true}
-use Rattle.pref_term.specs.Spells.{Names, Spells, Faults, LacksOrder, FirstFault, UnlessMemory, question, product_of, orders_of, groups_of}
-use Rattle.pref_term.specs.Question.{Question, FitsWidth}
-use Rattle.pref_term.specs.Reading.{start, run}
-use Rattle.pref_term.specs.Asked.{ordered, meant, asked}
-use Rattle.pref_term.specs.declared.fault.TermFault.{TermFault}
-use Rattle.pref_term.specs.declared.fault.TermFault.TheVariants.{TooLong, NoMinOrMax}
-use Rattle.pref_term.specs.Led.{AsksWhole, AsksWholeNothing}
+use Rattle.pref_term.proofs.Common.{◌≡◌, ◌≤◌, ◌<◌, ◌+◌, ℕ, zero, suc, List, [], ◌∷◌, Bool, true, false, cond, length, nat_lt, Option, Some, None, Result, Ok, Err, refl, sym, ap, subst, ◌∙◌, ◌⊎◌, inl}
+use Rattle.pref_term.proofs.Common.{inr, arith, MatchResult, IfOk, IfErr, nat_tests, is_blank, Placed, more_bytes, token_from, tokens_from, tokens_of, is_in_any_case, plain, says_distinct}
+use Rattle.pref_term.proofs.Common.{without_third, AskText, rated, skyline, Preference, Best, option_map, ◌&&◌, codes, false≢true, Names, Spells, Faults, LacksOrder, FirstFault, UnlessMemory}
+use Rattle.pref_term.proofs.Common.{question, product_of, orders_of, groups_of, Question, FitsWidth, start, run, ordered, meant, asked, TermFault, TooLong, NoMinOrMax, AsksWhole, AsksWholeNothing}
 use Rattle.pref_term.proofs.LedLemmas.{unless_map}
 use Rattle.pref_term.proofs.Exact.{Finishes, Due, Spelt, Answers, run_answers, reached_start, spelt_run, fault_run}
 

@@ -1,25 +1,11 @@
 -- A preference that is a product of two chains, perhaps with a tie, is that of its keys in these.
-use Rattle.std.proofs.Common.{◌≡◌, ◌<◌, ℤ, Bool, true, false, not, if◌then◌else◌, List, [], ◌∷◌, ◌++◌, refl, sym, ap, ◌∙◌}
-use Rattle.std.specs.Prelude.{◌&&◌}
-use Rattle.std.proofs.lemmas.Bool.{false≢true}
-use Rattle.std.proofs.lemmas.List.{append-nil}
-use Rattle.std.proofs.lemmas.List.Elements.{All-append, All-nil, All-same}
-use Rattle.pref_term.specs.Better.{in_same_group}
-use Rattle.pref_term.specs.Chains.{AreChainsOf, AreInRow, IsProductOf, by_chain, by_chains, chain_keys, is_chain, is_paired, keys_behind}
-use Rattle.pref_term.specs.Columns.{ReadsBelow}
-use Rattle.pref_term.specs.AskOrder.{order_of, order_of_twins_are_alike}
-use Rattle.pref_term.specs.Keys.{by_key, key_for}
-use Rattle.pref_term.specs.Order.{is_better, is_same}
-use Rattle.pref_term.specs.OrderLaws.{and_parts}
-use Rattle.pref_term.specs.Preference.{Preference, scored, pareto, prior, reverse}
-use Rattle.pref_term.specs.Question.{Question, IsAsk, alike}
-use Rattle.pref_term.specs.Walk.{in_priority, in_product, walked}
+use Rattle.pref_term.proofs.Common.{◌≡◌, ◌<◌, ℤ, Bool, true, false, not, if◌then◌else◌, List, [], ◌∷◌, ◌++◌, refl, sym, ap, ◌∙◌, ◌&&◌, false≢true, append-nil, All-append, All-nil, All-same}
+use Rattle.pref_term.proofs.Common.{in_same_group, AreChainsOf, AreInRow, IsProductOf, by_chain, by_chains, chain_keys, is_chain, is_paired, keys_behind, ReadsBelow, order_of}
+use Rattle.pref_term.proofs.Common.{order_of_twins_are_alike, by_key, key_for, is_better, is_same, and_parts, Preference, scored, pareto, prior, reverse, Question, IsAsk, alike, in_priority}
+use Rattle.pref_term.proofs.Common.{in_product, walked, Key, Relation, Better, Worse, Same, Neither}
 use Rattle.pref_term.specs.declared.chains.Chains.{Chains}
 use Rattle.pref_term.specs.declared.chains.Role.{Role}
 use Rattle.pref_term.specs.declared.chains.Role.TheVariants.{First, Second, Tie}
-use Rattle.pref_term.specs.declared.key.Key.{Key}
-use Rattle.pref_term.specs.declared.relation.Relation.{Relation}
-use Rattle.pref_term.specs.declared.relation.Relation.TheVariants.{Better, Worse, Same, Neither}
 use Rattle.pref_term.proofs.KeyLaws.{directed, directed_priority, directed_product, directed_reverse, key_law, leading_in_row}
 use Rattle.pref_term.proofs.WalkLaws.{walked-better, walked-same}
 

@@ -1,20 +1,9 @@
 -- What is shown of a clause that keeps one of equal rows spells it; and so does what is shown of any ask.
-use Rattle.std.proofs.Common.{◌≡◌, ◌<◌, ◌≤◌, ℕ, List, [], ◌∷◌, ◌++◌, map, Bool, true, false, cond, Some, Ok, length, refl, sym, ap, ◌∙◌, append_assoc}
-use Rattle.std.specs.Prelude.{codes, fold}
-use Rattle.std.specs.List.{AllByRecursion}
-use Rattle.std.specs.Option.{option_map}
-use Rattle.std.proofs.lemmas.List.Elements.{recursion_from_All}
-use Rattle.pref_table.specs.Names.{is_name_byte, schema_of}
-use Rattle.pref_term.specs.Token.{comma, Token, word, sign, Placed, tokens_of}
-use Rattle.pref_term.specs.Grammar.{minimal, maximal, different, direction_word, DimText, AskText, skyline, Leaf, mark, column_name, cased, last, IsWritten, dim_leaves, more_dims, ask_leaves}
-use Rattle.pref_term.specs.Distinct.{says_distinct, plain}
-use Rattle.pref_term.specs.Columns.{column}
-use Rattle.pref_term.specs.Preference.{low, high, Preference, scored, pareto, prior, reverse}
-use Rattle.pref_term.specs.Question.{Question, FitsWidth, IsAsk, IsClause, IsDimension, IsSkyline}
-use Rattle.pref_term.specs.Asked.{asked}
-use Rattle.pref_term.specs.Spells.{Names, Spells, IsGood, tokens_in, tokens_on, orders_of, groups_of, product_of, question}
-use Rattle.pref_term.specs.Shown.{name_at, nests, shown_mode, shown_term, shown_group, shown_dims, shown_diffs, shown}
-use Rattle.pref_term.specs.declared.ask.Mode.TheVariants.{Best}
+use Rattle.pref_term.proofs.Common.{◌≡◌, ◌<◌, ◌≤◌, ℕ, List, [], ◌∷◌, ◌++◌, map, Bool, true, false, cond, Some, Ok, length, refl, sym, ap, ◌∙◌, append_assoc, codes, fold, AllByRecursion, option_map}
+use Rattle.pref_term.proofs.Common.{recursion_from_All, is_name_byte, schema_of, comma, Token, word, sign, Placed, tokens_of, minimal, maximal, different, direction_word, DimText, AskText, skyline}
+use Rattle.pref_term.proofs.Common.{Leaf, mark, column_name, cased, last, IsWritten, dim_leaves, more_dims, ask_leaves, says_distinct, plain, column, low, high, Preference, scored, pareto, prior}
+use Rattle.pref_term.proofs.Common.{reverse, Question, FitsWidth, IsAsk, IsClause, IsDimension, IsSkyline, asked, Names, Spells, IsGood, tokens_in, tokens_on, orders_of, groups_of, product_of}
+use Rattle.pref_term.proofs.Common.{question, name_at, nests, shown_mode, shown_term, shown_group, shown_dims, shown_diffs, shown, Best}
 use Rattle.pref_term.proofs.ShownNames.{IsWordText, IsNamed, is_named}
 use Rattle.pref_term.proofs.AskedLemmas.{spelled_asked}
 use Rattle.pref_term.proofs.ShownLemmas.{CanShow, column_same}

@@ -1,13 +1,18 @@
 -- Each text of the grammar is read to its end, and each state of reading can be completed.
-use Rattle.std.proofs.Common.{◌≡◌, ℕ, ◌+◌, List, [], ◌∷◌, ◌++◌, Bool, true, false, Option, Some, None, refl, sym, ap, subst, ◌∙◌, append_assoc, append-nil}
-use Rattle.std.specs.Prelude.{IfSome}
-use Rattle.std.specs.List.{AllByRecursion}
-use Rattle.std.specs.Str.{bytes_eq, str_to_ascii_lowercase}
-use Rattle.std.proofs.lemmas.Slice.Eq.{bytes_eq-Decides}
+use Rattle.pref_term.proofs.Common.{◌≡◌, ℕ, ◌+◌, List, [], ◌∷◌, ◌++◌, Bool, true, false, Option, Some, None, refl, sym, ap, subst, ◌∙◌, append_assoc, append-nil, IfSome, AllByRecursion, bytes_eq}
+use Rattle.pref_term.proofs.Common.{str_to_ascii_lowercase, bytes_eq-Decides, left, right, left_brace, comma, star, ampersand, word, sign, finish, Keyword, best_word, low_word, high_word, around_word}
+use Rattle.pref_term.proofs.Common.{pos_word, reverse_word, top_level_word, at_least_word, by_word, CasedWord, skyline_word, of_word, min_word, max_word, diff_word, letters_of, keyword_of}
+use Rattle.pref_term.proofs.Common.{cased_letters, cased_in, cased_of, HeadText, best_head, top_level_head, at_least_head, head_leaves, Direction, minimal, maximal, different, direction_word, DimText}
+use Rattle.pref_term.proofs.Common.{dim_leaves, more_dims, group_leaves, more_columns, AskText, rated, skyline, IsWritten, IsText, NumberText, BaseText, low_text, high_text, around_text, pos_text}
+use Rattle.pref_term.proofs.Common.{PriorText, one_product, then_product, ProductText, one_factor, then_factor, UnaryText, negated, grouped, reversed, based, Leaf, name, mark, opens, column_name}
+use Rattle.pref_term.proofs.Common.{number_digits, count_digits, cased, last, signed_leaves, number_leaves, others_leaves, base_leaves, prior_leaves, product_leaves, unary_leaves, ask_leaves}
+use Rattle.pref_term.proofs.Common.{token_of, between_word, between_text, end_leaves, layered_word, layered_text, SetText, list_leaves, set_leaves, more_sets, BaseKind, low_kind, high_kind}
+use Rattle.pref_term.proofs.Common.{around_kind, pos_kind, NumberHole, centre_of, first_of, next_of, BasePart, named, opened, columned, number_due, number_signed, centred, listed, filled, PriorHole}
+use Rattle.pref_term.proofs.Common.{whole, in_group, in_reverse, ProductHole, first_product, next_product, UnaryHole, first_factor, next_factor, in_minus, prior_depth, product_depth, unary_depth}
+use Rattle.pref_term.proofs.Common.{State, start, operand, reverse_named, reading, after, top_level_named, at_least_named, group_due, group_listed, skyline_named, dim_due, dim_named, dims_listed}
+use Rattle.pref_term.proofs.Common.{done, completed, outer, closed, ranked, in_whole, begun, of_named, listed_dim, directed, next, between_kind, start_of, end_of, least_of, ranged, range_ended}
+use Rattle.pref_term.proofs.Common.{layered_kind, NumberList, in_pos, in_set, closing, list_closed, stepped, set_due, sets_listed, with_set}
 use Rattle.pref_term.proofs.Sound.{keyword_letters}
-use Rattle.pref_term.specs.Token.{left, right, left_brace, comma, star, ampersand, word, sign, finish}
-use Rattle.pref_term.specs.Grammar.{Keyword, best_word, low_word, high_word, around_word, pos_word, reverse_word, top_level_word, at_least_word, by_word, CasedWord, skyline_word, of_word, min_word, max_word, diff_word, letters_of, keyword_of, cased_letters, cased_in, cased_of, HeadText, best_head, top_level_head, at_least_head, head_leaves, Direction, minimal, maximal, different, direction_word, DimText, dim_leaves, more_dims, group_leaves, more_columns, AskText, rated, skyline, IsWritten, IsText, NumberText, BaseText, low_text, high_text, around_text, pos_text, PriorText, one_product, then_product, ProductText, one_factor, then_factor, UnaryText, negated, grouped, reversed, based, Leaf, name, mark, opens, column_name, number_digits, count_digits, cased, last, signed_leaves, number_leaves, others_leaves, base_leaves, prior_leaves, product_leaves, unary_leaves, ask_leaves, token_of, between_word, between_text, end_leaves, layered_word, layered_text, SetText, list_leaves, set_leaves, more_sets}
-use Rattle.pref_term.specs.Reading.{BaseKind, low_kind, high_kind, around_kind, pos_kind, NumberHole, centre_of, first_of, next_of, BasePart, named, opened, columned, number_due, number_signed, centred, listed, filled, PriorHole, whole, in_group, in_reverse, ProductHole, first_product, next_product, UnaryHole, first_factor, next_factor, in_minus, prior_depth, product_depth, unary_depth, State, start, operand, reverse_named, reading, after, top_level_named, at_least_named, group_due, group_listed, skyline_named, dim_due, dim_named, dims_listed, done, completed, outer, closed, ranked, in_whole, begun, of_named, listed_dim, directed, next, between_kind, start_of, end_of, least_of, ranged, range_ended, layered_kind, NumberList, in_pos, in_set, closing, list_closed, stepped, set_due, sets_listed, with_set}
 
 -- reading these leaves leads from one state to the other
 abbrev pub Reads : State → List Leaf → State → Type 0

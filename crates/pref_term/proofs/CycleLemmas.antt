@@ -1,20 +1,11 @@
 -- What the parts of the reader that call each other promise.
-use Rattle.std.proofs.Common.{◌≡◌, ◌<◌, ◌+◌, ℕ, List, [], ◌∷◌, Bor, Result, true, cond, Some, None, nat_lt, refl, sym, ap, subst, ◌∙◌, arith}
-use Rattle.std.specs.Prelude.{◌≢◌, IfOk, IfErr}
-use Rattle.std.proofs.lemmas.Result.{IfOk-weaker}
-use Rattle.std.proofs.lemmas.Bool.Decides.{nat_tests}
-use Rattle.pref_term.specs.Token.{Sign, left, right, star, ampersand, minus, Token, word, sign, Placed}
-use Rattle.pref_term.specs.Grammar.{reverse_word, keyword_of, based, grouped, reversed, negated, one_factor, then_factor, PriorText, one_product, then_product, name, mark, opens}
-use Rattle.pref_term.specs.Spells.{Names, own_fault, too_deep, unary_meaning, product_meaning}
-use Rattle.pref_term.specs.Reading.{BaseKind, low_kind, high_kind, around_kind, pos_kind, kind_word, named, UnaryHole, in_minus, first_factor, next_factor, first_product, next_product, in_group, in_reverse, unary_depth, State, operand, reverse_named, reading, after, ranked, next, operand_word, between_kind, layered_kind}
-use Rattle.pref_term.specs.Led.{Goes, Fails, IsOther, Passes, ReadsBase, ReadsUnary, ReadsFactors, ReadsProducts, ReadsProduct, ReadsPrior, ReadsGroup, ReadsReverse, FailsBase, FailsUnary, FailsGroup, FailsProduct, FailsPrior}
-use Rattle.pref_term.specs.Ahead.{ahead, taken}
-use Rattle.pref_term.specs.Preference.{Preference, pareto, prior, reverse, preference_of}
-use Rattle.pref_term.specs.declared.cursor.Cursor.{Cursor}
-use Rattle.pref_term.specs.declared.cursor.Taken.{Taken}
-use Rattle.pref_term.specs.declared.front.Token.TheVariants.{Word}
-use Rattle.pref_term.specs.declared.term.Term.{Term}
-use Rattle.pref_term.specs.declared.fault.TermFault.{TermFault}
+use Rattle.pref_term.proofs.Common.{◌≡◌, ◌<◌, ◌+◌, ℕ, List, [], ◌∷◌, Bor, Result, true, cond, Some, None, nat_lt, refl, sym, ap, subst, ◌∙◌, arith, ◌≢◌, IfOk, IfErr, IfOk-weaker, nat_tests, Sign}
+use Rattle.pref_term.proofs.Common.{left, right, star, ampersand, minus, Token, word, sign, Placed, reverse_word, keyword_of, based, grouped, reversed, negated, one_factor, then_factor, PriorText}
+use Rattle.pref_term.proofs.Common.{one_product, then_product, name, mark, opens, Names, own_fault, too_deep, unary_meaning, product_meaning, BaseKind, low_kind, high_kind, around_kind, pos_kind}
+use Rattle.pref_term.proofs.Common.{kind_word, named, UnaryHole, in_minus, first_factor, next_factor, first_product, next_product, in_group, in_reverse, unary_depth, State, operand, reverse_named}
+use Rattle.pref_term.proofs.Common.{reading, after, ranked, next, operand_word, between_kind, layered_kind, Goes, Fails, IsOther, Passes, ReadsBase, ReadsUnary, ReadsFactors, ReadsProducts}
+use Rattle.pref_term.proofs.Common.{ReadsProduct, ReadsPrior, ReadsGroup, ReadsReverse, FailsBase, FailsUnary, FailsGroup, FailsProduct, FailsPrior, ahead, taken, Preference, pareto, prior, reverse}
+use Rattle.pref_term.proofs.Common.{preference_of, Cursor, Taken, Word, Term, TermFault}
 use Rattle.pref_term.proofs.Complete.{ranked_goes_on, ranked_group, ranked_reverse}
 use Rattle.pref_term.proofs.LedLemmas.{goes_then, goes_fails, passes_goes, stuck_fails, taken_is, if_err_map}
 

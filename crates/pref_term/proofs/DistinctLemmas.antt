@@ -1,30 +1,14 @@
 -- What the word `distinct` of a clause leaves of a text, and what a clause behind it asks.
-use Rattle.std.proofs.Common.{◌≡◌, ℕ, List, [], ◌∷◌, ◌++◌, Bool, true, false, cond, Some, None, Ok, refl, sym, ap, subst, ◌∙◌, ◌≤◌, length}
-use Rattle.std.specs.Prelude.{◌&&◌, ◌≢◌, fold, codes}
-use Rattle.std.specs.List.{AllByRecursion}
-use Rattle.std.specs.Option.{option_map}
-use Rattle.std.specs.Str.{bytes_eq, str_to_ascii_lowercase}
-use Rattle.std.proofs.lemmas.Slice.Eq.{bytes_eq-Decides}
-use Rattle.pref_term.specs.Token.{Token, word, finish, Placed, tokens_of}
-use Rattle.pref_term.specs.Seen.{seen}
-use Rattle.pref_term.specs.Ahead.{behind_token}
-use Rattle.pref_term.specs.declared.front.Token as code
-use Rattle.pref_term.specs.declared.front.Token.TheVariants.{End}
-use Rattle.pref_term.specs.Grammar.{CasedWord, skyline_word, of_word, cased_letters, cased_of, cased, IsWritten, Direction, minimal, maximal, different, DimText, HeadText, PriorText, AskText, rated, skyline, best_head, top_level_head, at_least_head, ask_leaves, IsText}
-use Rattle.pref_term.specs.Distinct.{is_in_any_case, is_distinct_ahead, says_distinct, without_third, plain, is_word}
-use Rattle.pref_term.specs.Spells.{Names, column_at, order_by, orders_of, groups_of, product_of, tokens_in, tokens_on, IsGood, Spells, question}
-use Rattle.pref_term.specs.Asked.{meant, ordered}
-use Rattle.pref_term.specs.Reading.{start, skyline_named, dim_due, begun, of_named, run}
-use Rattle.pref_term.specs.Led.{word_ahead, AsksWholeNothing, AsksClause, AsksClauseNothing, IsBehindDistinct, ReadsClause, FailsClause}
-use Rattle.pref_term.specs.Preference.{Preference, scored, pareto, prior, reverse}
-use Rattle.pref_term.specs.Question.{Question, IsClause, IsDimension}
-use Rattle.pref_term.specs.declared.ask.Mode.TheVariants.{Best}
-use Rattle.pref_term.specs.declared.fault.TermFault.{TermFault}
-use Rattle.pref_term.specs.declared.fault.TermFault.TheVariants.{NoMinOrMax}
+use Rattle.pref_term.proofs.Common.{◌≡◌, ℕ, List, [], ◌∷◌, ◌++◌, Bool, true, false, cond, Some, None, Ok, refl, sym, ap, subst, ◌∙◌, ◌≤◌, length, ◌&&◌, ◌≢◌, fold, codes, AllByRecursion, option_map}
+use Rattle.pref_term.proofs.Common.{bytes_eq, str_to_ascii_lowercase, bytes_eq-Decides, Token, word, finish, Placed, tokens_of, seen, behind_token, End, CasedWord, skyline_word, of_word}
+use Rattle.pref_term.proofs.Common.{cased_letters, cased_of, cased, IsWritten, Direction, minimal, maximal, different, DimText, HeadText, PriorText, AskText, rated, skyline, best_head, top_level_head}
+use Rattle.pref_term.proofs.Common.{at_least_head, ask_leaves, IsText, is_in_any_case, is_distinct_ahead, says_distinct, without_third, plain, is_word, Names, column_at, order_by, orders_of}
+use Rattle.pref_term.proofs.Common.{groups_of, product_of, tokens_in, tokens_on, IsGood, Spells, question, meant, ordered, start, skyline_named, dim_due, begun, of_named, run, word_ahead}
+use Rattle.pref_term.proofs.Common.{AsksWholeNothing, AsksClause, AsksClauseNothing, IsBehindDistinct, ReadsClause, FailsClause, Preference, scored, pareto, prior, reverse, Question, IsClause}
+use Rattle.pref_term.proofs.Common.{IsDimension, Best, TermFault, NoMinOrMax, and_made, and_right}
 use Rattle.pref_term.proofs.Complete.{cased_found, no_keyword}
 use Rattle.pref_term.proofs.LedLemmas.{run_step, unless_map}
-use Rattle.pref_term.specs.OrderLaws.{and_made}
-use Rattle.std.proofs.lemmas.Bool.{and_right}
+use Rattle.pref_term.specs.declared.front.Token as code
 
 spelled : (k : CasedWord) (letters : List ℕ) → bytes_eq (cased_letters k) (str_to_ascii_lowercase letters) ≡ true → IsWritten (cased k letters)
 spelled k letters h = (bytes_eq-Decides (cased_letters k) (str_to_ascii_lowercase letters)).0 h

@@ -1,14 +1,9 @@
 -- Reading answers as the grammar says: the ask that is spelled, or the first fault.
-use Rattle.std.proofs.Common.{◌≡◌, ℕ, List, [], ◌∷◌, ◌++◌, Option, Some, None, Result, Ok, Err, refl, sym, ap, subst, ◌∙◌, append_assoc, append-nil, ◌⊎◌, inl, inr}
-use Rattle.std.specs.Prelude.{IfSome, MatchResult}
-use Rattle.std.specs.List.{AllByRecursion}
-use Rattle.std.proofs.lemmas.List.{map-append}
-use Rattle.pref_term.specs.Token.{Token, finish, Placed}
-use Rattle.pref_term.specs.Grammar.{PriorText, AskText, rated, skyline, IsText, IsWritten, Leaf, token_of, ask_leaves}
-use Rattle.pref_term.specs.Spells.{Names, tokens_in, tokens_on, IsGood, own_fault, OwnFault, Starts, told, told_at, last_place, IsUnexpected, HasOwnFault, FirstFault}
-use Rattle.pref_term.specs.Reading.{State, start, reading, after, group_listed, dims_listed, done, read_of, next, run, led, judged, ended, PriorHole, whole, finished, BasePart, named, opened, columned, number_due, number_signed, centred, listed, base_next, outer, closed, ranged, range_ended, set_due, sets_listed}
-use Rattle.pref_term.specs.declared.fault.TermFault.{TermFault}
-use Rattle.pref_term.specs.declared.fault.TermFault.TheVariants.{Unexpected}
+use Rattle.pref_term.proofs.Common.{◌≡◌, ℕ, List, [], ◌∷◌, ◌++◌, Option, Some, None, Result, Ok, Err, refl, sym, ap, subst, ◌∙◌, append_assoc, append-nil, ◌⊎◌, inl, inr, IfSome, MatchResult}
+use Rattle.pref_term.proofs.Common.{AllByRecursion, map-append, Token, finish, Placed, PriorText, AskText, rated, skyline, IsText, IsWritten, Leaf, token_of, ask_leaves, Names, tokens_in, tokens_on}
+use Rattle.pref_term.proofs.Common.{IsGood, own_fault, OwnFault, Starts, told, told_at, last_place, IsUnexpected, HasOwnFault, FirstFault, State, start, reading, after, group_listed, dims_listed}
+use Rattle.pref_term.proofs.Common.{done, read_of, next, run, led, judged, ended, PriorHole, whole, finished, BasePart, named, opened, columned, number_due, number_signed, centred, listed, base_next}
+use Rattle.pref_term.proofs.Common.{outer, closed, ranged, range_ended, set_due, sets_listed, TermFault, Unexpected}
 use Rattle.pref_term.proofs.Sound.{next_grows, Grows}
 use Rattle.pref_term.proofs.Complete.{Reads, reads_on, reads_ask, can_end}
 

@@ -1,15 +1,13 @@
 -- The derived `==` of keys is true exactly where they are the same.
-use Rattle.std.proofs.Common.{◌≡◌, true, refl, ap, subst}
+use Rattle.pref_term.proofs.Common.{◌≡◌, true, refl, ap, subst, and_parts, Key}
 use Rattle.std.specs.Bool.{Decides}
 use Rattle.std.specs.Cmp.{signed_Decides, unsigned_Decides}
 use Rattle.std.specs.Cmp.Derive.{both_true}
 use Rattle.pref_term.specs.EqualLaws.{bool_Decides, set_lists}
-use Rattle.pref_term.specs.OrderLaws.{and_parts}
-use Rattle.pref_term.specs.contracts.key.KeyPartialEq.TheImpl as key
-use Rattle.pref_term.specs.contracts.key.ScorePartialEq.TheImpl as score
-use Rattle.pref_term.specs.declared.key.Key.{Key}
 use Rattle.pref_term.specs.declared.key.Score.{Score}
 use Rattle.pref_term.specs.declared.key.Score.TheVariants.{Value, Distance, Sets}
+use Rattle.pref_term.specs.contracts.key.KeyPartialEq.TheImpl as key
+use Rattle.pref_term.specs.contracts.key.ScorePartialEq.TheImpl as score
 
 scores_same : (a b : Score) → (score.ghosts).eq a b ≡ true → a ≡ b
 scores_same Value Value h = refl

@@ -1,20 +1,8 @@
 -- The key law: keys compare rows as scores do; and the product of the keys that lead a preference without a priority is its order.
-use Rattle.std.proofs.Common.{◌≡◌, ◌<◌, ℤ, pos, Bool, true, false, not, int_lt, if◌then◌else◌, List, [], ◌∷◌, ◌++◌, refl, sym, ap, subst, ◌∙◌, arith}
-use Rattle.std.specs.Prelude.{◌^◌, ◌-◌, ◌-ℤ◌, ◌+ℤ◌, neg_ℤ, unsigned_abs, All}
-use Rattle.std.specs.List.{list_any}
-use Rattle.std.specs.Ordering.{int_eq}
-use Rattle.std.proofs.lemmas.Bool.{false≢true}
-use Rattle.std.proofs.lemmas.Int.{ints}
-use Rattle.std.proofs.lemmas.List.Elements.{All-append, All-cons, All-nil}
-use Rattle.pref_term.specs.Better.{cell, missed, outside, score, sets_before}
-use Rattle.pref_term.specs.Columns.{ReadsBelow, column}
-use Rattle.pref_term.specs.Keys.{by_key, by_keys, is_number, is_product, key_for, leading, opposed}
-use Rattle.pref_term.specs.OrderLaws.{and_parts}
-use Rattle.pref_term.specs.Preference.{Base, low, high, around, between, one_of, layered, Preference, scored, pareto, prior, reverse}
-use Rattle.pref_term.specs.Walk.{by_scores, in_priority, in_product, walked}
-use Rattle.pref_term.specs.declared.key.Key.{Key}
-use Rattle.pref_term.specs.declared.relation.Relation.{Relation}
-use Rattle.pref_term.specs.declared.relation.Relation.TheVariants.{Better, Worse, Same, Neither}
+use Rattle.pref_term.proofs.Common.{◌≡◌, ◌<◌, ℤ, pos, Bool, true, false, not, int_lt, if◌then◌else◌, List, [], ◌∷◌, ◌++◌, refl, sym, ap, subst, ◌∙◌, arith, ◌^◌, ◌-◌, ◌-ℤ◌, ◌+ℤ◌, neg_ℤ, unsigned_abs}
+use Rattle.pref_term.proofs.Common.{All, list_any, int_eq, false≢true, ints, All-append, All-cons, All-nil, cell, missed, outside, score, sets_before, ReadsBelow, column, by_key, by_keys, is_number}
+use Rattle.pref_term.proofs.Common.{is_product, key_for, leading, opposed, and_parts, Base, low, high, around, between, one_of, layered, Preference, scored, pareto, prior, reverse, by_scores}
+use Rattle.pref_term.proofs.Common.{in_priority, in_product, walked, Key, Relation, Better, Worse, Same, Neither}
 
 -- how a preference, or its converse, compares two rows
 abbrev pub directed : Bool → Preference → List ℤ → List ℤ → Relation

@@ -1,28 +1,18 @@
 -- What the parts of the reader promise, from the tokens that they take.
-use Rattle.std.proofs.Common.{◌≡◌, ℕ, ℤ, Bor, List, [], ◌∷◌, ◌++◌, map, Bool, true, false, cond, Some, None, Result, Ok, Err, refl, sym, ap, subst, ◌∙◌}
+use Rattle.pref_term.proofs.Common.{◌≡◌, ℕ, ℤ, Bor, List, [], ◌∷◌, ◌++◌, map, Bool, true, false, cond, Some, None, Result, Ok, Err, refl, sym, ap, subst, ◌∙◌, fits_cell, Sign, left, right}
+use Rattle.pref_term.proofs.Common.{right_brace, comma, minus, Token, word, digits, sign, Placed, based, NumberText, low_text, high_text, around_text, pos_text, Leaf, mark, column_name, number_digits}
+use Rattle.pref_term.proofs.Common.{between_text, Names, UnlessMemory, own_fault, signed_value, number_value, column_at, number_range, below, empty_range, told, told_at, OwnFault, BaseKind, low_kind}
+use Rattle.pref_term.proofs.Common.{high_kind, around_kind, pos_kind, layered_kind, centre_of, first_of, named, opened, columned, number_due, number_signed, centred, listed, filled, NumberHole}
+use Rattle.pref_term.proofs.Common.{UnaryHole, State, reading, completed, run, led, judged, next, between_kind, start_of, end_of, least_of, ranged, range_ended, NumberList, in_pos, in_set, closing}
+use Rattle.pref_term.proofs.Common.{list_closed, stepped, seen, ahead, taken, behind_token, Cursor, Taken, Digits, Goes, Fails, IsOther, NotNext, Passes, WantsColumn, TakesColumn, ReadsOpened}
+use Rattle.pref_term.proofs.Common.{IsNoWord, FailsColumn, FailsOpened, ReadsNumber, ReadsSome, ReadsNumbers, ReadsBase, FailsNumber, FailsNumbers, FailsBase, list_hole, ReadsEnd, FailsEnd}
+use Rattle.pref_term.proofs.Common.{first_place, TermFault, Unexpected, OutOfMemory, EmptyRange, NumberRange, All, FitsSigned, ◌≢◌, IsErrAnd, IfErr, unwrap_or, int_lt, Option, scored, low, high}
+use Rattle.pref_term.proofs.Common.{around, one_of, between, all_ascii_digits, map-append, All-append, All-cons, All-nil}
 use Rattle.pref_table.specs.Columns.{column_of}
-use Rattle.pref_table.specs.Number.{fits_cell}
-use Rattle.pref_term.specs.Token.{Sign, left, right, right_brace, comma, minus, Token, word, digits, sign, Placed}
-use Rattle.pref_term.specs.Grammar.{based, NumberText, low_text, high_text, around_text, pos_text, Leaf, mark, column_name, number_digits, between_text}
-use Rattle.pref_term.specs.Spells.{Names, UnlessMemory, own_fault, signed_value, number_value, column_at, number_range, below, empty_range, told, told_at, OwnFault}
-use Rattle.pref_term.specs.Reading.{BaseKind, low_kind, high_kind, around_kind, pos_kind, layered_kind, centre_of, first_of, named, opened, columned, number_due, number_signed, centred, listed, filled, NumberHole, UnaryHole, State, reading, completed, run, led, judged, next, between_kind, start_of, end_of, least_of, ranged, range_ended, NumberList, in_pos, in_set, closing, list_closed, stepped}
-use Rattle.pref_term.specs.Seen.{seen}
-use Rattle.pref_term.specs.Ahead.{ahead, taken, behind_token}
-use Rattle.pref_term.specs.declared.cursor.Cursor.{Cursor}
-use Rattle.pref_term.specs.declared.cursor.Taken.{Taken}
-use Rattle.pref_term.specs.declared.front.Token as code
-use Rattle.pref_term.specs.declared.front.Token.TheVariants.{Digits}
-use Rattle.pref_term.specs.Led.{Goes, Fails, IsOther, NotNext, Passes, WantsColumn, TakesColumn, ReadsOpened, IsNoWord, FailsColumn, FailsOpened, ReadsNumber, ReadsSome, ReadsNumbers, ReadsBase, FailsNumber, FailsNumbers, FailsBase, list_hole, ReadsEnd, FailsEnd, first_place}
-use Rattle.pref_term.specs.declared.fault.TermFault.{TermFault}
-use Rattle.pref_term.specs.declared.fault.TermFault.TheVariants.{Unexpected, OutOfMemory, EmptyRange, NumberRange}
-use Rattle.std.specs.Prelude.{All, FitsSigned, ◌≢◌, IsErrAnd, IfErr, unwrap_or, int_lt, Option}
-use Rattle.pref_term.specs.Preference.{scored, low, high, around, one_of, between}
 use Rattle.pref_term.proofs.Complete.{list_ends}
 use Rattle.pref_term.proofs.TokenLemmas.{digits_taken}
-use Rattle.std.specs.Str.{all_ascii_digits}
-use Rattle.std.proofs.lemmas.List.{map-append}
-use Rattle.std.proofs.lemmas.List.Elements.{All-append, All-cons, All-nil}
 use Rattle.std.specs.Int.{w64}
+use Rattle.pref_term.specs.declared.front.Token as code
 
 -- a token, as a record of its two parts
 abbrev pub at_place : Token → ℕ → Placed

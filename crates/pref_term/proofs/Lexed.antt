@@ -1,16 +1,12 @@
 -- The text of leaves has their tokens again.
-use Rattle.std.proofs.Common.{◌≡◌, ◌≤◌, ◌+◌, ℕ, zero, suc, List, [], ◌∷◌, ◌++◌, Bool, true, false, cond, length, take, drop, refl, sym, ap, subst, ◌∙◌, append_assoc, append-nil, arith, Option, Some, None}
-use Rattle.std.specs.Prelude.{codes}
-use Rattle.std.specs.Char.{is_ascii_alphabetic, is_ascii_digit}
-use Rattle.std.specs.List.{prefix_len, AllByRecursion}
-use Rattle.std.proofs.Math.Seq.{take-append_seam, drop-append_seam}
-use Rattle.std.proofs.lemmas.List.{length-append, map-append}
-use Rattle.std.proofs.lemmas.Bool.Decides.{nat_tests}
-use Rattle.pref_table.specs.Names.{is_name_byte}
-use Rattle.pref_table.specs.Number.{is_blank}
-use Rattle.pref_term.specs.Token.{Sign, left, right, comma, star, ampersand, minus, left_brace, right_brace, Token, word, digits, sign, sign_or_other, more_bytes, token_from, tokens_from}
-use Rattle.pref_term.specs.Grammar.{Keyword, best_word, low_word, high_word, around_word, pos_word, reverse_word, top_level_word, at_least_word, by_word, letters_of, NumberText, BaseText, low_text, high_text, around_text, pos_text, PriorText, one_product, then_product, ProductText, one_factor, then_factor, UnaryText, negated, grouped, reversed, based, HeadText, best_head, top_level_head, at_least_head, rated, Leaf, name, mark, opens, column_name, number_digits, count_digits, cased, last, IsWritten, IsText, signed_leaves, number_leaves, others_leaves, base_leaves, prior_leaves, product_leaves, unary_leaves, head_leaves, more_columns, group_leaves, ask_leaves, token_of, between_word, between_text, end_leaves, layered_word, layered_text, SetText, list_leaves, set_leaves, more_sets}
-use Rattle.pref_term.specs.Spells.{tokens_in, tokens_on}
+use Rattle.pref_term.proofs.Common.{◌≡◌, ◌≤◌, ◌+◌, ℕ, zero, suc, List, [], ◌∷◌, ◌++◌, Bool, true, false, cond, length, take, drop, refl, sym, ap, subst, ◌∙◌, append_assoc, append-nil, arith, Option}
+use Rattle.pref_term.proofs.Common.{Some, None, codes, is_ascii_alphabetic, is_ascii_digit, prefix_len, AllByRecursion, take-append_seam, drop-append_seam, length-append, map-append, nat_tests}
+use Rattle.pref_term.proofs.Common.{is_name_byte, is_blank, Sign, left, right, comma, star, ampersand, minus, left_brace, right_brace, Token, word, digits, sign, sign_or_other, more_bytes, token_from}
+use Rattle.pref_term.proofs.Common.{tokens_from, Keyword, best_word, low_word, high_word, around_word, pos_word, reverse_word, top_level_word, at_least_word, by_word, letters_of, NumberText, BaseText}
+use Rattle.pref_term.proofs.Common.{low_text, high_text, around_text, pos_text, PriorText, one_product, then_product, ProductText, one_factor, then_factor, UnaryText, negated, grouped, reversed}
+use Rattle.pref_term.proofs.Common.{based, HeadText, best_head, top_level_head, at_least_head, rated, Leaf, name, mark, opens, column_name, number_digits, count_digits, cased, last, IsWritten, IsText}
+use Rattle.pref_term.proofs.Common.{signed_leaves, number_leaves, others_leaves, base_leaves, prior_leaves, product_leaves, unary_leaves, head_leaves, more_columns, group_leaves, ask_leaves, token_of}
+use Rattle.pref_term.proofs.Common.{between_word, between_text, end_leaves, layered_word, layered_text, SetText, list_leaves, set_leaves, more_sets, tokens_in, tokens_on}
 use Rattle.pref_term.proofs.ShownNames.{IsWordText}
 use Rattle.pref_term.proofs.TokenLemmas.{told_passed}
 use Rattle.pref_term.proofs.ShownLemmas.{leaf_text, leaves_text, sign_text, word_text, leaves_text-append}

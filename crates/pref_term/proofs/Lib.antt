@@ -1,3 +1,4 @@
+pub mod Common
 pub mod Sizes
 pub mod WalkLaws
 pub mod KeyLaws

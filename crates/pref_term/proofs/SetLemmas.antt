@@ -1,15 +1,7 @@
 -- What the parts of the reader of `layered` promise, from the tokens that they take.
-use Rattle.std.proofs.Common.{◌≡◌, ℕ, ℤ, List, [], ◌∷◌, ◌++◌, map, Some, None, refl, ap, subst, ◌∙◌}
-use Rattle.std.specs.Prelude.{All, ◌≢◌}
-use Rattle.std.proofs.lemmas.List.Elements.{All-append, All-nil}
-use Rattle.pref_term.specs.Token.{left_brace, right, right_brace, comma, Token, sign, Placed}
-use Rattle.pref_term.specs.Grammar.{layered_text, SetText, mark}
-use Rattle.pref_term.specs.Spells.{Names, set_value}
-use Rattle.pref_term.specs.Reading.{layered_kind, in_set, first_of, number_due, set_due, sets_listed, with_set, UnaryHole, reading, next}
-use Rattle.pref_term.specs.Led.{Goes, IsOther, NotNext, Passes, ReadsOpened, ReadsNumbers, FailsNumbers, ReadsSomeSets, ReadsSets, FailsSets, ReadsBase, FailsBase}
-use Rattle.pref_term.specs.Preference.{scored, layered}
-use Rattle.pref_term.specs.Writable.{IsWritableSet}
-use Rattle.pref_term.specs.declared.fault.TermFault.{TermFault}
+use Rattle.pref_term.proofs.Common.{◌≡◌, ℕ, ℤ, List, [], ◌∷◌, ◌++◌, map, Some, None, refl, ap, subst, ◌∙◌, All, ◌≢◌, All-append, All-nil, left_brace, right, right_brace, comma, Token, sign, Placed}
+use Rattle.pref_term.proofs.Common.{layered_text, SetText, mark, Names, set_value, layered_kind, in_set, first_of, number_due, set_due, sets_listed, with_set, UnaryHole, reading, next, Goes, IsOther}
+use Rattle.pref_term.proofs.Common.{NotNext, Passes, ReadsOpened, ReadsNumbers, FailsNumbers, ReadsSomeSets, ReadsSets, FailsSets, ReadsBase, FailsBase, scored, layered, IsWritableSet, TermFault}
 use Rattle.pref_term.proofs.LedLemmas.{all_one, column_is, cons_not_none, goes_then, goes_fails, mapped_more, neither_fails, other_fails, sign_behind}
 
 -- ---- a set and the sign behind it

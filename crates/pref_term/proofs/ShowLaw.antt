@@ -1,28 +1,17 @@
 -- What is shown of an ask that keeps all equal rows spells it.
-use Rattle.std.proofs.Common.{◌≡◌, ◌<◌, ◌≤◌, ◌^◌, ◌+◌, ℕ, ℤ, pos, negsuc, suc, List, [], ◌∷◌, ◌++◌, map, true, cond, Some, None, Ok, length, refl, sym, ap, ◌∙◌, append_assoc, arith, int_lt, false}
-use Rattle.std.specs.Prelude.{FitsSigned, decimal, is_none, codes}
-use Rattle.std.specs.List.{AllByRecursion}
+use Rattle.pref_term.proofs.Common.{◌≡◌, ◌<◌, ◌≤◌, ◌^◌, ◌+◌, ℕ, ℤ, pos, negsuc, suc, List, [], ◌∷◌, ◌++◌, map, true, cond, Some, None, Ok, length, refl, sym, ap, ◌∙◌, append_assoc, arith, int_lt}
+use Rattle.pref_term.proofs.Common.{false, FitsSigned, decimal, is_none, codes, AllByRecursion, is_ascii_digit, all_ascii_digits, digits_value-decimal, digits_decimal, decimal_nonempty}
+use Rattle.pref_term.proofs.Common.{recursion_from_All, nat_tests, left, right, star, ampersand, minus, comma, tokens_of, Sign, right_brace, PriorText, one_product, then_product, then_factor, grouped}
+use Rattle.pref_term.proofs.Common.{AskText, rated, mark, column_name, count_digits, last, head_leaves, more_columns, group_leaves, number_leaves, others_leaves, base_leaves, prior_leaves}
+use Rattle.pref_term.proofs.Common.{product_leaves, unary_leaves, end_leaves, list_leaves, set_leaves, more_sets, schema_of, fits_cell, and_parts, column, ReadsBelow, IsWritableSet, IsWritableBase}
+use Rattle.pref_term.proofs.Common.{IsWritable, Question, FitsWidth, IsCount, is_count, cut_of, IsAsk, Names, Spells, IsGood, own_fault, number_value, mode_of, column_at, unknown_column, number_range}
+use Rattle.pref_term.proofs.Common.{bad_count, below, empty_range, Base, low, high, around, one_of, Preference, scored, pareto, prior, reverse, between, layered, is_prior, is_composed, held_nests}
+use Rattle.pref_term.proofs.Common.{nests, name_at, shown_term, shown_mode, shown_group, shown, shown_dims, shown_diffs, Mode, Best, TopLevel, AtLeast}
 use Rattle.std.specs.Int.{w64}
-use Rattle.std.specs.Char.{is_ascii_digit}
-use Rattle.std.specs.Str.{all_ascii_digits}
-use Rattle.std.proofs.lemmas.Fmt.{digits_value-decimal, digits_decimal, decimal_nonempty}
-use Rattle.std.proofs.lemmas.List.Elements.{recursion_from_All}
-use Rattle.std.proofs.lemmas.Bool.Decides.{nat_tests}
-use Rattle.pref_term.specs.Token.{left, right, star, ampersand, minus, comma, tokens_of, Sign, right_brace}
-use Rattle.pref_term.specs.Grammar.{PriorText, one_product, then_product, then_factor, grouped, AskText, rated, mark, column_name, count_digits, last, head_leaves, more_columns, group_leaves, number_leaves, others_leaves, base_leaves, prior_leaves, product_leaves, unary_leaves, end_leaves, list_leaves, set_leaves, more_sets}
-use Rattle.pref_table.specs.Names.{schema_of}
-use Rattle.pref_table.specs.Number.{fits_cell}
-use Rattle.pref_term.specs.OrderLaws.{and_parts}
-use Rattle.pref_term.specs.Columns.{column, ReadsBelow}
-use Rattle.pref_term.specs.Writable.{IsWritableSet, IsWritableBase, IsWritable}
-use Rattle.pref_term.specs.Question.{Question, FitsWidth, IsCount, is_count, cut_of, IsAsk}
-use Rattle.pref_term.specs.Spells.{Names, Spells, IsGood, own_fault, number_value, mode_of, column_at, unknown_column, number_range, bad_count, below, empty_range}
-use Rattle.pref_term.specs.Preference.{Base, low, high, around, one_of, Preference, scored, pareto, prior, reverse, between, layered}
-use Rattle.pref_term.specs.Shown.{is_prior, is_composed, held_nests, nests, name_at, shown_term, shown_mode, shown_group, shown, shown_dims, shown_diffs}
-use Rattle.pref_term.specs.declared.ask.Mode.{Mode}
-use Rattle.pref_term.specs.declared.ask.Mode.TheVariants.{Best, TopLevel, AtLeast}
 use Rattle.pref_term.proofs.ShownNames.{IsWordText, IsNamed, is_named}
-use Rattle.pref_term.proofs.ShownLemmas.{AreInRange, CanShowBase, CanShow, leaves_text, leaves_text-append, head_text, head_shown, group_shown, columns_same, number_text, base_text, Shape, factor, product, ranked, as_prior, as_product, as_factor, shape_of, shape_leaves, prior_same, number_same, meaning_same, prior_text, text_shown, own_numerals, CanShowSet, set_text}
+use Rattle.pref_term.proofs.ShownLemmas.{AreInRange, CanShowBase, CanShow, leaves_text, leaves_text-append, head_text, head_shown, group_shown, columns_same, number_text, base_text, Shape, factor}
+use Rattle.pref_term.proofs.ShownLemmas.{product, ranked, as_prior, as_product, as_factor, shape_of, shape_leaves, prior_same, number_same, meaning_same, prior_text, text_shown, own_numerals}
+use Rattle.pref_term.proofs.ShownLemmas.{CanShowSet, set_text}
 use Rattle.pref_term.proofs.Exact.{good_both}
 use Rattle.pref_term.proofs.CycleLemmas.{depth_good}
 use Rattle.pref_term.proofs.DistinctLemmas.{head_said, plain_tokens}

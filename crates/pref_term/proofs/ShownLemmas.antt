@@ -1,20 +1,17 @@
 -- What is shown is a text of the grammar with the meaning of what was shown.
-use Rattle.std.proofs.Common.{◌≡◌, ◌<◌, ◌^◌, ◌+◌, ℕ, ℤ, pos, negsuc, suc, List, [], ◌∷◌, ◌++◌, map, true, false, refl, sym, ap, ◌∙◌, append_assoc, append-nil, arith, int_lt}
-use Rattle.std.specs.Prelude.{codes, unwrap_or, FitsSigned, neg_ℤ, decimal}
+use Rattle.pref_term.proofs.Common.{◌≡◌, ◌<◌, ◌^◌, ◌+◌, ℕ, ℤ, pos, negsuc, suc, List, [], ◌∷◌, ◌++◌, map, true, false, refl, sym, ap, ◌∙◌, append_assoc, append-nil, arith, int_lt, codes, unwrap_or}
+use Rattle.pref_term.proofs.Common.{FitsSigned, neg_ℤ, decimal, AllByRecursion, all_ascii_digits, digits_value-decimal, Sign, left, right, comma, star, ampersand, minus, left_brace, right_brace}
+use Rattle.pref_term.proofs.Common.{Keyword, best_word, low_word, high_word, around_word, pos_word, reverse_word, top_level_word, at_least_word, by_word, NumberText, BaseText, low_text, high_text}
+use Rattle.pref_term.proofs.Common.{around_text, pos_text, PriorText, one_product, then_product, ProductText, one_factor, then_factor, UnaryText, negated, grouped, based, HeadText, best_head}
+use Rattle.pref_term.proofs.Common.{top_level_head, at_least_head, Leaf, name, mark, opens, column_name, number_digits, count_digits, cased, last, number_leaves, others_leaves, base_leaves}
+use Rattle.pref_term.proofs.Common.{prior_leaves, product_leaves, unary_leaves, head_leaves, more_columns, group_leaves, between_word, between_text, end_leaves, layered_word, layered_text, SetText}
+use Rattle.pref_term.proofs.Common.{list_leaves, set_leaves, more_sets, Names, number_value, set_value, column_at, base_meaning, prior_meaning, product_meaning, unary_meaning, Base, low, high, around}
+use Rattle.pref_term.proofs.Common.{one_of, Preference, scored, pareto, prior, reverse, between, layered, name_at, shown_values, shown_set, shown_sets, shown_base, is_prior, is_composed, held}
+use Rattle.pref_term.proofs.Common.{shown_term, shown_mode, more_names, shown_group, Mode, Best, TopLevel, AtLeast}
 use Rattle.std.specs.Fmt.{signed_decimal}
 use Rattle.std.specs.Int.{w64}
-use Rattle.std.specs.List.{AllByRecursion}
-use Rattle.std.specs.Str.{all_ascii_digits}
 use Rattle.std.specs.Str.Parse.{digits_value}
 use Rattle.std.proofs.lemmas.Str.Parse.{IsNumeralModel, numerals_by_value, tells_all_ascii_digits}
-use Rattle.std.proofs.lemmas.Fmt.{digits_value-decimal}
-use Rattle.pref_term.specs.Token.{Sign, left, right, comma, star, ampersand, minus, left_brace, right_brace}
-use Rattle.pref_term.specs.Grammar.{Keyword, best_word, low_word, high_word, around_word, pos_word, reverse_word, top_level_word, at_least_word, by_word, NumberText, BaseText, low_text, high_text, around_text, pos_text, PriorText, one_product, then_product, ProductText, one_factor, then_factor, UnaryText, negated, grouped, based, HeadText, best_head, top_level_head, at_least_head, Leaf, name, mark, opens, column_name, number_digits, count_digits, cased, last, number_leaves, others_leaves, base_leaves, prior_leaves, product_leaves, unary_leaves, head_leaves, more_columns, group_leaves, between_word, between_text, end_leaves, layered_word, layered_text, SetText, list_leaves, set_leaves, more_sets}
-use Rattle.pref_term.specs.Spells.{Names, number_value, set_value, column_at, base_meaning, prior_meaning, product_meaning, unary_meaning}
-use Rattle.pref_term.specs.Preference.{Base, low, high, around, one_of, Preference, scored, pareto, prior, reverse, between, layered}
-use Rattle.pref_term.specs.Shown.{name_at, shown_values, shown_set, shown_sets, shown_base, is_prior, is_composed, held, shown_term, shown_mode, more_names, shown_group}
-use Rattle.pref_term.specs.declared.ask.Mode.{Mode}
-use Rattle.pref_term.specs.declared.ask.Mode.TheVariants.{Best, TopLevel, AtLeast}
 use Rattle.pref_term.proofs.ShownNames.{IsNamed}
 
 -- ---- what can be shown

@@ -1,20 +1,12 @@
 -- Each name of a schema is a word, and its first column is its own.
-use Rattle.std.proofs.Common.{◌≡◌, ◌<◌, ◌+◌, ◌-◌, ℕ, zero, suc, List, [], ◌∷◌, length, take, get_or, Bool, true, false, cond, not, ◌&&◌, ◌||◌, nat_lt, nat_le, Some, None, Result, Ok, Err, refl, sym, ap, subst, ◌∙◌, arith}
-use Rattle.std.specs.Prelude.{position}
-use Rattle.std.specs.Char.{is_ascii_alphabetic}
-use Rattle.std.specs.List.{AllByRecursion, list_any, list_all, position_or_len}
-use Rattle.std.specs.Str.{bytes_eq}
-use Rattle.std.proofs.lemmas.Slice.Eq.{bytes_eq-Decides}
-use Rattle.std.proofs.lemmas.Bool.Decides.{nat_tests}
+use Rattle.pref_term.proofs.Common.{◌≡◌, ◌<◌, ◌+◌, ◌-◌, ℕ, zero, suc, List, [], ◌∷◌, length, take, get_or, Bool, true, false, cond, not, ◌&&◌, ◌||◌, nat_lt, nat_le, Some, None, Result, Ok, Err, refl}
+use Rattle.pref_term.proofs.Common.{sym, ap, subst, ◌∙◌, arith, position, is_ascii_alphabetic, AllByRecursion, list_any, list_all, position_or_len, bytes_eq, bytes_eq-Decides, nat_tests, is_name}
+use Rattle.pref_term.proofs.Common.{is_name_byte, name_after, name_in, schema_of, and_parts, Names, name_at}
 use Rattle.pref_table.specs.Columns.{column_of}
-use Rattle.pref_table.specs.Names.{is_name, is_name_byte, name_after, name_in, schema_of}
 use Rattle.pref_table.specs.Numbered.{all_from}
 use Rattle.pref_table.specs.declared.fault.TableFault.TheVariants.{SameName, BadName}
 use Rattle.pref_table.proofs.NumberedFacts.{all_from-parts}
 use Rattle.pref_table.proofs.NamesFacts.{schema-size, schema_of-some}
-use Rattle.pref_term.specs.OrderLaws.{and_parts}
-use Rattle.pref_term.specs.Spells.{Names}
-use Rattle.pref_term.specs.Shown.{name_at}
 
 -- a letter, and then bytes of words
 abbrev pub IsWordText : List ℕ → Type 0

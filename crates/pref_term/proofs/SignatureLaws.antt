@@ -1,26 +1,9 @@
 -- Of two rows of which the first is over the second, or its twin, the first reaches no mark that the second does not reach.
-use Rattle.std.proofs.Common.{◌≡◌, ℕ, ℤ, pos, List, [], ◌∷◌, Bool, true, false, map, not, inl, inr, refl, sym, ap, ◌∙◌, subst, arith, if◌then◌else◌}
-use Rattle.std.specs.Prelude.{All, bit_and, int_lt, ◌==◌}
-use Rattle.std.specs.List.{flat_map}
-use Rattle.std.specs.Ordering.{int_eq}
-use Rattle.std.proofs.lemmas.Bool.{false≢true}
-use Rattle.std.proofs.lemmas.Bool.Decides.{Decides-int_eq}
-use Rattle.std.proofs.lemmas.Int.{ints}
-use Rattle.std.proofs.lemmas.List.Elements.{All-append, All-cons, All-contains, All-nil}
-use Rattle.pref_term.specs.AskOrder.{order_of}
-use Rattle.pref_term.specs.Better.{better, in_same_group, cell, same}
-use Rattle.pref_term.specs.Keys.{from_zero, key_for, keyed, leading, opposed}
+use Rattle.pref_term.proofs.Common.{◌≡◌, ℕ, ℤ, pos, List, [], ◌∷◌, Bool, true, false, map, not, inl, inr, refl, sym, ap, ◌∙◌, subst, arith, if◌then◌else◌, All, bit_and, int_lt, ◌==◌, flat_map, int_eq}
+use Rattle.pref_term.proofs.Common.{false≢true, Decides-int_eq, ints, All-append, All-cons, All-contains, All-nil, order_of, better, in_same_group, cell, same, from_zero, key_for, keyed, leading}
+use Rattle.pref_term.proofs.Common.{opposed, is_better, is_same, and_parts, Preference, scored, pareto, prior, reverse, Question, Suit, bits_by, is_within, mixed, scale_column, signature, twins_alike}
+use Rattle.pref_term.proofs.Common.{by_scores, in_priority, in_product, walked, Key, Relation, Better, Worse, Same, Neither}
 use Rattle.pref_term.specs.Leading.{Suits}
-use Rattle.pref_term.specs.Order.{is_better, is_same}
-use Rattle.pref_term.specs.OrderLaws.{and_parts}
-use Rattle.pref_term.specs.Preference.{Preference, scored, pareto, prior, reverse}
-use Rattle.pref_term.specs.Question.{Question}
-use Rattle.pref_term.specs.Signatures.{Suit, bits_by, is_within, mixed, scale_column, signature}
-use Rattle.pref_term.specs.TwinLaws.{twins_alike}
-use Rattle.pref_term.specs.Walk.{by_scores, in_priority, in_product, walked}
-use Rattle.pref_term.specs.declared.key.Key.{Key}
-use Rattle.pref_term.specs.declared.relation.Relation.{Relation}
-use Rattle.pref_term.specs.declared.relation.Relation.TheVariants.{Better, Worse, Same, Neither}
 use Rattle.pref_term.specs.declared.signature.scale.Scale.{Scale}
 use Rattle.pref_term.specs.declared.signature.scale.Scale.TheVariants.{Marks, Hashes}
 use Rattle.pref_term.proofs.KeyLaws.{directed, directed_priority, directed_product, directed_reverse, key_law}

@@ -1,13 +1,9 @@
 -- Words of bits: where each bit of a word is one of another, the first is within the second.
-use Rattle.std.proofs.Common.{◌≡◌, ◌<◌, ◌≤◌, ◌+◌, ◌*◌, ◌^◌, ◌%◌, ◌/◌, ℕ, zero, suc, List, [], ◌∷◌, ◌++◌, map, Bool, true, false, refl, sym, ap, ◌∙◌, arith, eq-eqb, w64}
-use Rattle.std.specs.Prelude.{All, bit_and, min}
-use Rattle.std.specs.List.{flat_map}
-use Rattle.std.proofs.lemmas.List.Elements.{All-head, All-tail}
-use Rattle.std.specs.Int.{bit_at, bit_not, from_bool}
+use Rattle.pref_term.proofs.Common.{◌≡◌, ◌<◌, ◌≤◌, ◌+◌, ◌*◌, ◌^◌, ◌%◌, ◌/◌, ℕ, zero, suc, List, [], ◌∷◌, ◌++◌, map, Bool, true, false, refl, sym, ap, ◌∙◌, arith, eq-eqb, w64, All, bit_and, min}
+use Rattle.pref_term.proofs.Common.{flat_map, All-head, All-tail, bit_at, bit_not, from_bool, is_within, signed_onto, with_bit}
 use Rattle.std.proofs.lemmas.Nat.{and_le_l}
 use lib.Bits.{or_lt}
 use Rattle.std.proofs.lemmas.Nat.Bits.{bit_at_and, bit_at_or, bit_at_not, bit_at_lowest, bit_at-suc, bit_at-zero, bit_at-lt, bit_at_cat_low, same_from_bits_below}
-use Rattle.pref_term.specs.Signatures.{is_within, signed_onto, with_bit}
 
 -- each of the 64 bits of the first word is one of the second
 Covered : ℕ → ℕ → Type 0

@@ -1,6 +1,5 @@
 -- How many terms a preference is put together of: what a walk over it goes down.
-use Rattle.std.proofs.Common.{ℕ, ◌+◌}
-use Rattle.pref_term.specs.Preference.{Preference, scored, pareto, prior, reverse}
+use Rattle.pref_term.proofs.Common.{ℕ, ◌+◌, Preference, scored, pareto, prior, reverse}
 
 abbrev pub size : Preference → ℕ
 size (scored b) = 1

@@ -1,13 +1,7 @@
 -- What one walk tells of both directions of a pair.
-use Rattle.std.proofs.Common.{◌≡◌, ℤ, List, Bool, true, false, refl, sym, ap, ◌∙◌}
-use Rattle.std.specs.Prelude.{int_lt, if◌then◌else◌}
-use Rattle.pref_term.specs.Better.{better, same, score}
-use Rattle.pref_term.specs.Order.{is_better, is_same, is_worse}
-use Rattle.pref_term.specs.Preference.{Preference, scored, pareto, prior, reverse}
+use Rattle.pref_term.proofs.Common.{◌≡◌, ℤ, List, Bool, true, false, refl, sym, ap, ◌∙◌, int_lt, if◌then◌else◌, better, same, score, is_better, is_same, is_worse, Preference, scored, pareto, prior}
+use Rattle.pref_term.proofs.Common.{reverse, by_scores, in_product, in_priority, walked, Relation, Better, Worse, Same, Neither}
 use Rattle.pref_term.specs.RelationLaws.{lower_once, priority-better, priority-same, product-better, product-same, scores-better, scores-same}
-use Rattle.pref_term.specs.Walk.{by_scores, in_product, in_priority, walked}
-use Rattle.pref_term.specs.declared.relation.Relation.{Relation}
-use Rattle.pref_term.specs.declared.relation.Relation.TheVariants.{Better, Worse, Same, Neither}
 
 -- the relation of the second row to the first
 flipped : Relation → Relation

@@ -1,8 +1,6 @@
 -- Worked examples, by computation: rows that a term ranks, as a reader would rank them by hand.
-use Rattle.std.proofs.Common.{◌≡◌, true, false, pos, [], ◌∷◌, refl}
-use Rattle.std.specs.Prelude.{negsuc, ◌^◌, ◌-◌}
-use Rattle.pref_term.specs.Better.{better, same, score}
-use Rattle.pref_term.specs.Preference.{Base, Preference, low, high, around, between, one_of, layered, scored, pareto, prior, reverse}
+use Rattle.pref_term.proofs.Common.{◌≡◌, true, false, pos, [], ◌∷◌, refl, negsuc, ◌^◌, ◌-◌, better, same, score, Base, Preference, low, high, around, between, one_of, layered, scored, pareto, prior}
+use Rattle.pref_term.proofs.Common.{reverse}
 
 abbrev x_low : Preference
 x_low = scored (low 0)

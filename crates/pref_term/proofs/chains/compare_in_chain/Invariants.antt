@@ -1,5 +1,4 @@
-use Rattle.std.proofs.Common.{◌≡◌, drop}
-use Rattle.pref_term.specs.Chains.{by_chain}
+use Rattle.pref_term.proofs.Common.{◌≡◌, drop, by_chain}
 use Rattle.pref_term.proofs.chains.compare_in_chain.Given as goal
 
 -- the keys so far see no difference

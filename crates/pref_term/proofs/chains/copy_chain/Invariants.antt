@@ -1,4 +1,4 @@
-use Rattle.std.proofs.Common.{◌≡◌, take}
+use Rattle.pref_term.proofs.Common.{◌≡◌, take}
 use Rattle.pref_term.proofs.chains.copy_chain.Given as goal
 
 -- the keys so far are copied

@@ -1,5 +1,4 @@
-use Rattle.std.proofs.lemmas.Bool.Decides.{not_from_Decides}
-use Rattle.std.proofs.lemmas.Slice.Eq.{slice_eq-Decides}
+use Rattle.pref_term.proofs.Common.{not_from_Decides, slice_eq-Decides}
 use Rattle.pref_term.proofs.KeyEqual.{key_Decides}
 use Rattle.pref_term.proofs.chains.is_same_list.Goals as goal
 

@@ -1,6 +1,4 @@
-use Rattle.std.proofs.Common.{sym, ap, ◌∙◌}
-use Rattle.std.specs.Char.{is_ascii_digit}
-use Rattle.std.specs.List.{prefix_len}
+use Rattle.pref_term.proofs.Common.{sym, ap, ◌∙◌, is_ascii_digit, prefix_len}
 use Rattle.pref_term.proofs.TokenLemmas.{digits_front, slice_rest}
 use Rattle.pref_term.proofs.front.front.Goals as goal
 

@@ -1,12 +1,7 @@
-use Rattle.std.proofs.Common.{◌≡◌, ◌≤◌, ℕ, ℤ, List, [], ◌∷◌, length, Bool, true, false, cond, not, nat_lt, Some, None, Option, refl, ap, ◌∙◌, arith, w64, rules, tests, to_z, of_z}
-use Rattle.std.specs.Prelude.{◌+◌, unwrap_or}
-use Rattle.std.specs.List.{list_any, position_or_len}
-use Rattle.std.specs.Ordering.{int_eq}
-use Rattle.std.proofs.lemmas.Bool.{ltb-false}
-use Rattle.std.proofs.lemmas.Int.{to_z-of_z}
+use Rattle.pref_term.proofs.Common.{◌≡◌, ◌≤◌, ℕ, ℤ, List, [], ◌∷◌, length, Bool, true, false, cond, not, nat_lt, Some, None, Option, refl, ap, ◌∙◌, arith, w64, rules, tests, to_z, of_z, ◌+◌}
+use Rattle.pref_term.proofs.Common.{unwrap_or, list_any, position_or_len, int_eq, ltb-false, to_z-of_z, sets_before}
 use Rattle.std.proofs.lemmas.Iterator.{YieldsList-from_slice}
 use Rattle.std.proofs.lemmas.Iterator.Search.{position_from_yields_List}
-use Rattle.pref_term.specs.Better.{sets_before}
 use Rattle.pref_term.proofs.key.sets_before.Goals as goal
 
 first_within : {X : Type 0} (test : X → Bool) (xs : List X) → position_or_len test xs ≤ length xs

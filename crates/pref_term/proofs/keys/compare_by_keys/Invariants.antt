@@ -1,6 +1,4 @@
-use Rattle.std.proofs.Common.{◌≡◌, drop}
-use Rattle.pref_term.specs.Keys.{by_keys}
-use Rattle.pref_term.specs.Walk.{by_sides, in_product}
+use Rattle.pref_term.proofs.Common.{◌≡◌, drop, by_keys, by_sides, in_product}
 use Rattle.pref_term.proofs.keys.compare_by_keys.Given as goal
 
 -- what the keys so far say, beside the keys that are left

@@ -1,7 +1,7 @@
-use Rattle.std.proofs.Common.{sym, ◌∙◌}
+use Rattle.pref_term.proofs.Common.{sym, ◌∙◌}
 use Rattle.std.proofs.lemmas.Map.Views.{Contains-from_any}
-use Rattle.pref_term.specs.contracts.key.KeyPartialEq.TheImpl as key
 use Rattle.pref_term.proofs.KeyEqual.{key_Decides}
+use Rattle.pref_term.specs.contracts.key.KeyPartialEq.TheImpl as key
 use Rattle.pref_term.proofs.keys.contains.Goals as goal
 
 pub returns : goal.returns

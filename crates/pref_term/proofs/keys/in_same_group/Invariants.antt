@@ -1,5 +1,4 @@
-use Rattle.std.proofs.Common.{◌≡◌, drop}
-use Rattle.pref_term.specs.Better.{in_same_group}
+use Rattle.pref_term.proofs.Common.{◌≡◌, drop, in_same_group}
 use Rattle.pref_term.proofs.keys.in_same_group.Given as goal
 
 -- the columns that are left decide

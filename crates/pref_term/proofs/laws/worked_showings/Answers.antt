@@ -1,7 +1,4 @@
-use Rattle.std.proofs.Common.{[], ◌++◌, refl, ap, ◌∙◌, decimal, codes, arith}
-use Rattle.std.proofs.lemmas.Fmt.{decimal_digit}
-use Rattle.pref_term.specs.Asked.{asked}
-use Rattle.pref_term.specs.Shown.{IsShownAs, worked_names}
+use Rattle.pref_term.proofs.Common.{[], ◌++◌, refl, ap, ◌∙◌, decimal, codes, arith, decimal_digit, asked, IsShownAs, worked_names}
 use Rattle.pref_term.proofs.laws.worked_showings.Goals as goal
 
 reversed_shown : IsShownAs worked_names (codes "best reverse(low(x) & pos(y,-1,2))") (codes "best -(low(x) & pos(y, -1, 2))")

@@ -1,5 +1,4 @@
-use Rattle.std.proofs.Common.{refl}
-use Rattle.pref_term.specs.Asked.{asked}
+use Rattle.pref_term.proofs.Common.{refl, asked}
 use Rattle.pref_term.proofs.laws.worked_texts.Goals as goal
 
 pub returns : goal.returns

@@ -1,7 +1,4 @@
-use Rattle.std.proofs.Common.{◌≤◌, List, length, arith, subst}
-use Rattle.std.specs.Prelude.{IfOk, IfErr}
-use Rattle.pref_term.specs.Token.{Placed}
-use Rattle.pref_term.specs.Led.{AsksWhole, AsksWholeNothing}
+use Rattle.pref_term.proofs.Common.{◌≤◌, List, length, arith, subst, IfOk, IfErr, Placed, AsksWhole, AsksWholeNothing}
 use Rattle.pref_term.proofs.AskedLemmas.{asked_long, read_exact, read_ok, read_err}
 use Rattle.pref_term.proofs.read.read_ask.Goals as goal
 

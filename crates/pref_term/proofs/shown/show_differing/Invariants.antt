@@ -1,5 +1,4 @@
-use Rattle.std.proofs.Common.{◌≡◌, ◌++◌, drop}
-use Rattle.pref_term.specs.Shown.{shown_diffs}
+use Rattle.pref_term.proofs.Common.{◌≡◌, ◌++◌, drop, shown_diffs}
 use Rattle.pref_term.proofs.shown.show_differing.Given as goal
 
 -- the text so far, and the names that are left

@@ -1,5 +1,4 @@
-use Rattle.std.proofs.Common.{◌≡◌, ◌++◌, drop}
-use Rattle.pref_term.specs.Shown.{more_names}
+use Rattle.pref_term.proofs.Common.{◌≡◌, ◌++◌, drop, more_names}
 use Rattle.pref_term.proofs.shown.show_more_names.Given as goal
 
 -- the text so far, and the names that are left

@@ -1,5 +1,4 @@
-use Rattle.std.proofs.Common.{◌≡◌, ◌++◌, drop}
-use Rattle.pref_term.specs.Shown.{shown_sets}
+use Rattle.pref_term.proofs.Common.{◌≡◌, ◌++◌, drop, shown_sets}
 use Rattle.pref_term.proofs.shown.show_sets.Given as goal
 
 -- the text so far, and the sets that are left

@@ -1,7 +1,6 @@
-use Rattle.std.proofs.Common.{sym, ◌∙◌, bytes_eq}
-use Rattle.std.specs.Option.{option_or}
+use Rattle.pref_term.proofs.Common.{sym, ◌∙◌, option_or, base_words, letters_of, outer_words}
+use Rattle.std.proofs.Common.{bytes_eq}
 use Rattle.std.proofs.lemmas.List.Folds.{find-append}
-use Rattle.pref_term.specs.Grammar.{base_words, letters_of, outer_words}
 use Rattle.pref_term.proofs.token.word_of_grammar.Goals as goal
 
 pub returns : goal.returns

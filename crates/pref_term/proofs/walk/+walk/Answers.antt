@@ -1,9 +1,4 @@
-use Rattle.std.proofs.Common.{◌≡◌, w64, rules, to_z, of_z, pos, sym, subst, ◌∙◌}
-use Rattle.std.proofs.lemmas.Int.{to_z-of_z}
-use Rattle.pref_term.specs.Better.{cell, outside, sets_before}
-use Rattle.pref_term.specs.Preference.{preference_of}
-use Rattle.pref_term.specs.Walk.{by_scores, walked}
-use Rattle.pref_term.specs.declared.term.Term.{Term}
+use Rattle.pref_term.proofs.Common.{◌≡◌, w64, rules, to_z, of_z, pos, sym, subst, ◌∙◌, to_z-of_z, cell, outside, sets_before, preference_of, by_scores, walked, Term}
 use Rattle.pref_term.proofs.KeyLaws.{centred}
 use Rattle.pref_term.proofs.walk.+walk.Goals as goal
 

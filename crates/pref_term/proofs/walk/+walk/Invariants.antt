@@ -1,5 +1,4 @@
-use Rattle.std.proofs.Common.{◌+◌, ◌*◌}
-use Rattle.pref_term.specs.Preference.{preference_of}
+use Rattle.pref_term.proofs.Common.{◌+◌, ◌*◌, preference_of}
 use Rattle.pref_term.proofs.Sizes.{size}
 use Rattle.pref_term.proofs.walk.+walk.Given as goal
 

@@ -1,7 +1,4 @@
-use Rattle.std.proofs.Common.{◌≡◌, w64, rules, to_z, of_z, pos, ◌∙◌}
-use Rattle.std.proofs.lemmas.Int.{to_z-of_z}
-use Rattle.pref_term.specs.Better.{sets_before}
-use Rattle.pref_term.specs.Walk.{by_scores}
+use Rattle.pref_term.proofs.Common.{◌≡◌, w64, rules, to_z, of_z, pos, ◌∙◌, to_z-of_z, sets_before, by_scores}
 use Rattle.pref_term.proofs.walk.by_layer.Goals as goal
 
 pub returns : goal.returns

@@ -1,6 +1,4 @@
-use Rattle.std.proofs.Common.{ap, ◌∙◌}
-use Rattle.pref_term.specs.Preference.{preference_of}
-use Rattle.pref_term.specs.Order.{is_better, is_same, is_worse}
+use Rattle.pref_term.proofs.Common.{ap, ◌∙◌, preference_of, is_better, is_same, is_worse}
 use Rattle.pref_term.proofs.WalkLaws.{walked-better, walked-same, walked-worse}
 use Rattle.pref_term.proofs.walk.compare.Goals as goal
 

@@ -1,9 +1,4 @@
-use Rattle.std.proofs.Common.{◌≡◌, ◌<◌, true, false, ap, sym, ◌∙◌}
-use Rattle.std.proofs.lemmas.List.Elements.{All-same}
-use Rattle.pref_term.specs.Keys.{by_keys, is_number}
-use Rattle.pref_term.specs.Order.{is_better, is_same, is_worse}
-use Rattle.pref_term.specs.Preference.{preference_of}
-use Rattle.pref_term.specs.Walk.{walked}
+use Rattle.pref_term.proofs.Common.{◌≡◌, ◌<◌, true, false, ap, sym, ◌∙◌, All-same, by_keys, is_number, is_better, is_same, is_worse, preference_of, walked}
 use Rattle.pref_term.proofs.KeyLaws.{leading_in_row, leading_numbers, product_law}
 use Rattle.pref_term.proofs.WalkLaws.{walked-better, walked-same, walked-worse}
 use Rattle.pref_term.proofs.ask.Ask.compare_in_group.Goals as goal

@@ -1,8 +1,4 @@
-use Rattle.std.proofs.Common.{◌≡◌, ap, subst, sym}
-use Rattle.pref_term.specs.AskOrder.{order_of}
-use Rattle.pref_term.specs.Chains.{AreChainsOf, IsProductOf}
-use Rattle.pref_term.specs.Preference.{preference_of}
-use Rattle.pref_term.specs.Question.{IsAsk, Question}
+use Rattle.pref_term.proofs.Common.{◌≡◌, ap, subst, sym, order_of, AreChainsOf, IsProductOf, preference_of, IsAsk, Question}
 use Rattle.pref_term.proofs.ChainLaws.{product_of_chains}
 use Rattle.pref_term.proofs.ask.AskDominance.chains.Goals as goal
 

@@ -1,10 +1,4 @@
-use Rattle.std.proofs.Common.{◌≡◌, true, sym, subst, ◌∙◌, ap}
-use Rattle.pref_term.specs.AskOrder.{order_of_alike, order_of_twins_alike}
-use Rattle.pref_term.specs.Better.{in_same_group, same}
-use Rattle.pref_term.specs.Order.{is_same}
-use Rattle.pref_term.specs.Question.{Question, IsAsk, alike}
-use Rattle.pref_term.specs.OrderLaws.{and_made, and_parts}
-use Rattle.pref_term.specs.TwinLaws.{twins_alike}
+use Rattle.pref_term.proofs.Common.{◌≡◌, true, sym, subst, ◌∙◌, ap, order_of_alike, order_of_twins_alike, in_same_group, same, is_same, Question, IsAsk, alike, and_made, and_parts, twins_alike}
 use Rattle.pref_term.proofs.ask.AskDominance.compare.Goals as goal
 
 -- rows that are told as the same are of one group, and the same

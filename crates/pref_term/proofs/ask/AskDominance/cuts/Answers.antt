@@ -1,6 +1,4 @@
-use Rattle.std.proofs.Common.{◌<◌, false, ◌∙◌}
-use Rattle.std.proofs.lemmas.List.Elements.{All-same}
-use Rattle.pref_term.specs.Preference.{preference_of}
+use Rattle.pref_term.proofs.Common.{◌<◌, false, ◌∙◌, All-same, preference_of}
 use Rattle.pref_term.proofs.KeyLaws.{leading_in_row}
 use Rattle.pref_term.proofs.ask.AskDominance.cuts.Goals as goal
 

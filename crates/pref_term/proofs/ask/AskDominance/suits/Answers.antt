@@ -1,9 +1,5 @@
-use Rattle.std.proofs.Common.{◌≡◌, ap, ◌∙◌, subst, false}
-use Rattle.std.specs.Prelude.{All}
-use Rattle.pref_term.specs.Keys.{leading}
+use Rattle.pref_term.proofs.Common.{◌≡◌, ap, ◌∙◌, subst, false, All, leading, preference_of, Question}
 use Rattle.pref_term.specs.Leading.{Suits}
-use Rattle.pref_term.specs.Preference.{preference_of}
-use Rattle.pref_term.specs.Question.{Question}
 use Rattle.pref_term.proofs.SignatureLaws.{suiting_cuts}
 use Rattle.pref_term.proofs.ask.AskDominance.suits.Goals as goal
 

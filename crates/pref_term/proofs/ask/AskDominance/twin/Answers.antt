@@ -1,8 +1,4 @@
-use Rattle.std.proofs.Common.{◌≡◌, ◌&&◌, ◌++◌, true, ap, sym, subst, ◌∙◌}
-use Rattle.pref_term.specs.Better.{in_same_group}
-use Rattle.pref_term.specs.Columns.{columns_in}
-use Rattle.pref_term.specs.TwinLaws.{clause_twins}
-use Rattle.pref_term.specs.Question.{Question, IsAsk}
+use Rattle.pref_term.proofs.Common.{◌≡◌, ◌&&◌, ◌++◌, true, ap, sym, subst, ◌∙◌, in_same_group, columns_in, clause_twins, Question, IsAsk}
 use Rattle.pref_term.proofs.ask.AskDominance.twin.Goals as goal
 
 -- rows of a clause that are the same are equal in each of its columns

@@ -1,6 +1,4 @@
-use Rattle.std.proofs.Common.{◌≡◌, false, rules, sym, ◌∙◌}
-use Rattle.pref_term.specs.Chains.{chain_keys}
-use Rattle.pref_term.specs.Preference.{preference_of}
+use Rattle.pref_term.proofs.Common.{◌≡◌, false, rules, sym, ◌∙◌, chain_keys, preference_of}
 use Rattle.pref_term.specs.declared.chains.Role.TheVariants.{First}
 use Rattle.pref_term.proofs.ChainLaws.{one_chain}
 use Rattle.pref_term.proofs.chains.Chains.of.Goals as goal

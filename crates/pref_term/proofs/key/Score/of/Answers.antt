@@ -1,7 +1,4 @@
-use Rattle.std.proofs.Common.{◌≡◌, ap, sym, subst, ◌∙◌, pos, rules, w64, to_z, of_z}
-use Rattle.std.proofs.lemmas.Int.{to_z-of_z}
-use Rattle.pref_term.specs.Better.{sets_before}
-use Rattle.pref_term.specs.Keys.{from_zero}
+use Rattle.pref_term.proofs.Common.{◌≡◌, ap, sym, subst, ◌∙◌, pos, rules, w64, to_z, of_z, to_z-of_z, sets_before, from_zero}
 use Rattle.pref_term.specs.declared.key.Score.{Score}
 use Rattle.pref_term.proofs.key.Score.of.Goals as goal
 

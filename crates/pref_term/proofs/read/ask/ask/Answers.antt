@@ -1,6 +1,4 @@
-use Rattle.std.proofs.Common.{Some, sym, ap, ◌∙◌}
-use Rattle.std.proofs.lemmas.Result.{IfOk-weaker}
-use Rattle.pref_term.specs.Ahead.{ahead}
+use Rattle.pref_term.proofs.Common.{Some, sym, ap, ◌∙◌, IfOk-weaker, ahead}
 use Rattle.pref_term.proofs.LedLemmas.{err_exit, if_err_map}
 use Rattle.pref_term.proofs.AskLemmas.{levels, rows, best_fails, count_fails, count_behind_fails, skyline_read, skyline_fails, of_fails, clause_read, clause_faults}
 use Rattle.pref_term.proofs.read.ask.ask.Goals as goal

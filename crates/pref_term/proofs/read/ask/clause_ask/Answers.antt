@@ -1,12 +1,4 @@
-use Rattle.std.proofs.Common.{rules, ◌≡◌, Option, refl, sym, subst, length, arith, ◌∷◌}
-use Rattle.std.specs.Option.{option_map}
-use Rattle.std.proofs.lemmas.Result.{IfOk-weaker}
-use Rattle.pref_term.specs.Ahead.{ahead}
-use Rattle.pref_term.specs.Preference.{preference_of}
-use Rattle.pref_term.specs.Led.{AsksClause, ReadsClause}
-use Rattle.pref_term.specs.Question.{FitsWidth, Question}
-use Rattle.pref_term.specs.declared.ask.Mode.TheVariants.{Best}
-use Rattle.pref_term.specs.declared.term.Term.{Term}
+use Rattle.pref_term.proofs.Common.{rules, ◌≡◌, Option, refl, sym, subst, length, arith, ◌∷◌, option_map, IfOk-weaker, ahead, preference_of, AsksClause, ReadsClause, FitsWidth, Question, Best, Term}
 use Rattle.pref_term.proofs.LedLemmas.{err_exit}
 use Rattle.pref_term.proofs.AskLemmas.{is_ask, fits_width}
 use Rattle.pref_term.proofs.DistinctLemmas.{clause_asks, clause_asks_nothing, clause_fails, product_is_clause}

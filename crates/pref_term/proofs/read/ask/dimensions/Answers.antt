@@ -1,9 +1,4 @@
-use Rattle.std.proofs.Common.{List, ℕ, None, sym, subst, ◌∙◌}
-use Rattle.std.specs.Option.{option_map}
-use Rattle.pref_term.specs.Token.{finish}
-use Rattle.pref_term.specs.Ahead.{ahead}
-use Rattle.pref_term.specs.Preference.{preference_of}
-use Rattle.pref_term.specs.Led.{NotNext, ReadsDims}
+use Rattle.pref_term.proofs.Common.{List, ℕ, None, sym, subst, ◌∙◌, option_map, finish, ahead, preference_of, NotNext, ReadsDims}
 use Rattle.pref_term.proofs.LedLemmas.{err_exit}
 use Rattle.pref_term.proofs.AskLemmas.{dims_none, dims_more, dims_all, dims_stuck, dims_fail, reads_dims, reads_clause}
 use Rattle.pref_term.proofs.read.ask.dimensions.Goals as goal

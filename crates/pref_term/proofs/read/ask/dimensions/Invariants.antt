@@ -1,8 +1,4 @@
-use Rattle.std.proofs.Common.{length}
-use Rattle.std.specs.Option.{option_map}
-use Rattle.pref_term.specs.Ahead.{ahead}
-use Rattle.pref_term.specs.Led.{ReadsDims}
-use Rattle.pref_term.specs.Preference.{preference_of}
+use Rattle.pref_term.proofs.Common.{length, option_map, ahead, ReadsDims, preference_of}
 use Rattle.pref_term.proofs.read.ask.dimensions.Given as goal
 
 -- the dimensions so far were read, and one more is due

@@ -1,11 +1,5 @@
-use Rattle.std.proofs.lemmas.Slice.Eq.{bytes_eq-Decides}
-use Rattle.std.proofs.Common.{◌≡◌, true, codes, List, refl, sym, subst, ap, ◌∙◌, ◌∷◌}
-use Rattle.std.specs.Str.{bytes_eq, str_to_ascii_lowercase}
-use Rattle.pref_term.specs.Token.{Placed}
-use Rattle.pref_term.specs.Ahead.{ahead, behind_token}
-use Rattle.pref_term.specs.Seen.{seen}
-use Rattle.pref_term.specs.Distinct.{is_distinct_ahead}
-use Rattle.pref_term.specs.Led.{IsBehindDistinct, word_ahead}
+use Rattle.pref_term.proofs.Common.{bytes_eq-Decides, ◌≡◌, true, codes, List, refl, sym, subst, ap, ◌∙◌, ◌∷◌, bytes_eq, str_to_ascii_lowercase, Placed, ahead, behind_token, seen, is_distinct_ahead}
+use Rattle.pref_term.proofs.Common.{IsBehindDistinct, word_ahead}
 use Rattle.pref_term.proofs.LedLemmas.{taken_is}
 use Rattle.pref_term.proofs.DistinctLemmas.{behind_distinct, behind_said}
 use Rattle.pref_term.proofs.read.ask.distinct_clause.Goals as goal

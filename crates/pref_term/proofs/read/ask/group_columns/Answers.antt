@@ -1,7 +1,4 @@
-use Rattle.std.proofs.Common.{List, ℕ, sym, subst, ◌∙◌}
-use Rattle.pref_term.specs.Token.{finish}
-use Rattle.pref_term.specs.Ahead.{ahead}
-use Rattle.pref_term.specs.Led.{NotNext, ReadsColumns, ReadsSomeColumns}
+use Rattle.pref_term.proofs.Common.{List, ℕ, sym, subst, ◌∙◌, finish, ahead, NotNext, ReadsColumns, ReadsSomeColumns}
 use Rattle.pref_term.proofs.LedLemmas.{err_exit}
 use Rattle.pref_term.proofs.AskLemmas.{columns_none, columns_more, columns_all, columns_stuck, columns_fail}
 use Rattle.pref_term.proofs.read.ask.group_columns.Goals as goal

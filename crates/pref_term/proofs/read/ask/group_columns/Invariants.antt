@@ -1,6 +1,4 @@
-use Rattle.std.proofs.Common.{length}
-use Rattle.pref_term.specs.Ahead.{ahead}
-use Rattle.pref_term.specs.Led.{ReadsSomeColumns}
+use Rattle.pref_term.proofs.Common.{length, ahead, ReadsSomeColumns}
 use Rattle.pref_term.proofs.read.ask.group_columns.Given as goal
 
 -- the columns so far were read, and one more is due

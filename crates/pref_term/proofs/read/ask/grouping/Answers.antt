@@ -1,6 +1,4 @@
-use Rattle.std.proofs.Common.{Some, sym, ap, ◌∙◌}
-use Rattle.std.proofs.lemmas.Result.{IfOk-weaker}
-use Rattle.pref_term.specs.Ahead.{ahead}
+use Rattle.pref_term.proofs.Common.{Some, sym, ap, ◌∙◌, IfOk-weaker, ahead}
 use Rattle.pref_term.proofs.LedLemmas.{if_err_map}
 use Rattle.pref_term.proofs.AskLemmas.{grouping_read, grouping_fails}
 use Rattle.pref_term.proofs.read.ask.grouping.Goals as goal

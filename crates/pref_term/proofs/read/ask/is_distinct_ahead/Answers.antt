@@ -1,8 +1,4 @@
-use Rattle.std.proofs.lemmas.Slice.Eq.{bytes_eq-Decides}
-use Rattle.std.proofs.Common.{◌≡◌, true, codes, refl, sym, ◌∙◌, ap, ◌∷◌}
-use Rattle.std.specs.Str.{bytes_eq, str_to_ascii_lowercase}
-use Rattle.pref_term.specs.Ahead.{ahead}
-use Rattle.pref_term.specs.Seen.{seen}
+use Rattle.pref_term.proofs.Common.{bytes_eq-Decides, ◌≡◌, true, codes, refl, sym, ◌∙◌, ap, ◌∷◌, bytes_eq, str_to_ascii_lowercase, ahead, seen}
 use Rattle.pref_term.proofs.LedLemmas.{taken_is}
 use Rattle.pref_term.proofs.DistinctLemmas.{ahead_distinct, behind_more}
 use Rattle.pref_term.proofs.read.ask.is_distinct_ahead.Goals as goal

@@ -1,4 +1,4 @@
-use Rattle.pref_term.specs.Ahead.{ahead}
+use Rattle.pref_term.proofs.Common.{ahead}
 use Rattle.pref_term.proofs.LedLemmas.{if_err_map}
 use Rattle.pref_term.proofs.DistinctLemmas.{whole_clause_nothing}
 use Rattle.pref_term.proofs.read.ask.question.Goals as goal

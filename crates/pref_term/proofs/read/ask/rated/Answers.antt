@@ -1,11 +1,4 @@
-use Rattle.std.proofs.lemmas.Bool.{false≢true}
-use Rattle.std.proofs.Common.{◌≡◌, false, rules, sym, subst, length}
-use Rattle.std.proofs.lemmas.Result.{IfOk-weaker}
-use Rattle.pref_term.specs.Ahead.{ahead}
-use Rattle.pref_term.specs.Reading.{operand, in_whole}
-use Rattle.pref_term.specs.Preference.{preference_of}
-use Rattle.pref_term.specs.Question.{FitsWidth, Question}
-use Rattle.pref_term.specs.Led.{Asks}
+use Rattle.pref_term.proofs.Common.{false≢true, ◌≡◌, false, rules, sym, subst, length, IfOk-weaker, ahead, operand, in_whole, preference_of, FitsWidth, Question, Asks}
 use Rattle.pref_term.proofs.LedLemmas.{err_exit}
 use Rattle.pref_term.proofs.AskLemmas.{rated_read, rated_prior_fails, rated_group_fails, is_ask, fits_width}
 use Rattle.pref_term.proofs.read.ask.rated.Goals as goal

@@ -1,4 +1,4 @@
-use Rattle.pref_term.specs.Ahead.{ahead}
+use Rattle.pref_term.proofs.Common.{ahead}
 use Rattle.pref_term.proofs.LedLemmas.{err_exit}
 use Rattle.pref_term.proofs.AskLemmas.{dim_read, dim_column_fails, dim_direction_fails}
 use Rattle.pref_term.proofs.read.ask.take_dimension.Goals as goal

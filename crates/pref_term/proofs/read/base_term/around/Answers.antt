@@ -1,10 +1,5 @@
-use Rattle.pref_term.specs.Ahead.{ahead}
-use Rattle.pref_term.specs.Reading.{around_kind}
+use Rattle.pref_term.proofs.Common.{ahead, around_kind, w64, rules, ℤ, sym, subst, to_z-of_z, ReadsBase, scored, around}
 use Rattle.pref_term.proofs.LedLemmas.{around_read, column_end_fails, around_number_fails, around_end_fails, err_exit}
-use Rattle.std.proofs.Common.{w64, rules, ℤ, sym, subst}
-use Rattle.std.proofs.lemmas.Int.{to_z-of_z}
-use Rattle.pref_term.specs.Led.{ReadsBase}
-use Rattle.pref_term.specs.Preference.{scored, around}
 use Rattle.pref_term.proofs.read.base_term.around.Goals as goal
 
 pub returns-in_err-inside-clause-err : goal.returns-in_err-inside-clause-err

@@ -1,11 +1,5 @@
-use Rattle.pref_term.specs.Ahead.{ahead}
-use Rattle.pref_term.specs.Led.{ReadsBase, FailsEnd, first_place}
-use Rattle.pref_term.specs.Reading.{between_kind, end_of}
-use Rattle.pref_term.specs.declared.fault.TermFault.TheVariants.{EmptyRange}
+use Rattle.pref_term.proofs.Common.{ahead, ReadsBase, FailsEnd, first_place, between_kind, end_of, EmptyRange, ◌≡◌, w64, rules, to_z, of_z, int_lt, ℤ, ap, sym, subst, ◌∙◌, to_z-of_z, scored, between}
 use Rattle.pref_term.proofs.LedLemmas.{between_read, column_end_fails, between_left_fails, between_comma_fails, between_right_fails, between_end_fails, end_read, end_refused, err_exit}
-use Rattle.std.proofs.Common.{◌≡◌, w64, rules, to_z, of_z, int_lt, ℤ, ap, sym, subst, ◌∙◌}
-use Rattle.std.proofs.lemmas.Int.{to_z-of_z}
-use Rattle.pref_term.specs.Preference.{scored, between}
 use Rattle.pref_term.proofs.read.base_term.between.Goals as goal
 
 pub returns-in_err-inside-clause-err : goal.returns-in_err-inside-clause-err

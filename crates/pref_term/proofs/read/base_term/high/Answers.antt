@@ -1,5 +1,4 @@
-use Rattle.pref_term.specs.Ahead.{ahead}
-use Rattle.pref_term.specs.Reading.{high_kind}
+use Rattle.pref_term.proofs.Common.{ahead, high_kind}
 use Rattle.pref_term.proofs.LedLemmas.{high_read, column_end_fails, err_exit}
 use Rattle.pref_term.proofs.read.base_term.high.Goals as goal
 

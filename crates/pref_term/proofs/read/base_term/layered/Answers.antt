@@ -1,10 +1,6 @@
-use Rattle.pref_term.specs.Ahead.{ahead}
-use Rattle.pref_term.specs.Led.{ReadsBase}
-use Rattle.pref_term.specs.Reading.{layered_kind}
+use Rattle.pref_term.proofs.Common.{ahead, ReadsBase, layered_kind, ℤ, List, sym, subst, scored, layered}
 use Rattle.pref_term.proofs.LedLemmas.{column_end_fails, err_exit}
 use Rattle.pref_term.proofs.SetLemmas.{layered_read, layered_sets_fails}
-use Rattle.std.proofs.Common.{ℤ, List, sym, subst}
-use Rattle.pref_term.specs.Preference.{scored, layered}
 use Rattle.pref_term.proofs.read.base_term.layered.Goals as goal
 
 pub returns-in_err-inside-clause-err : goal.returns-in_err-inside-clause-err

@@ -1,5 +1,4 @@
-use Rattle.pref_term.specs.Ahead.{ahead}
-use Rattle.pref_term.specs.Reading.{low_kind}
+use Rattle.pref_term.proofs.Common.{ahead, low_kind}
 use Rattle.pref_term.proofs.LedLemmas.{low_read, column_end_fails, err_exit}
 use Rattle.pref_term.proofs.read.base_term.low.Goals as goal
 

@@ -1,15 +1,8 @@
-use Rattle.std.proofs.Common.{w64, rules, true, ◌≡◌, to_z, of_z, sym, subst, ap, ◌∙◌}
-use Rattle.std.specs.Prelude.{FitsSigned, ◌&&◌}
-use Rattle.std.specs.Str.{all_ascii_digits}
-use Rattle.std.proofs.lemmas.Int.{to_z-of_z}
-use Rattle.pref_table.specs.Number.{fits_cell}
-use Rattle.pref_term.specs.Ahead.{ahead, taken}
-use Rattle.pref_term.specs.Led.{FailsNumber, first_place}
-use Rattle.pref_term.specs.Spells.{signed_value}
-use Rattle.pref_term.specs.declared.fault.TermFault.TheVariants.{NumberRange}
+use Rattle.pref_term.proofs.Common.{w64, rules, true, ◌≡◌, to_z, of_z, sym, subst, ap, ◌∙◌, FitsSigned, ◌&&◌, all_ascii_digits, to_z-of_z, fits_cell, ahead, taken, FailsNumber, first_place}
+use Rattle.pref_term.proofs.Common.{signed_value, NumberRange}
 use Rattle.pref_term.proofs.LedLemmas.{NumberAhead, number_read, number_out_of_range, plain_ahead, signed_ahead}
-use Rattle.pref_term.proofs.read.base_term.number.Goals as goal
 use Rattle.pref_term.proofs.read.base_term.number.Goals.{then-negative, else-negative}
+use Rattle.pref_term.proofs.read.base_term.number.Goals as goal
 
 pub returns-in-Some-clause-ok : goal.returns-in-Some-clause-ok
 returns-in-Some-clause-ok c =

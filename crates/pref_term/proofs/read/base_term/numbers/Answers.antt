@@ -1,8 +1,4 @@
-use Rattle.std.proofs.Common.{w64, rules, arith, length, ℤ, List, [], ◌∷◌, ◌++◌, subst, ap, ◌∙◌, sym}
-use Rattle.std.proofs.lemmas.Int.{to_z-of_z}
-use Rattle.pref_term.specs.Token.{Placed, sign}
-use Rattle.pref_term.specs.Ahead.{ahead}
-use Rattle.pref_term.specs.Led.{NotNext, ReadsNumbers, ReadsSome}
+use Rattle.pref_term.proofs.Common.{w64, rules, arith, length, ℤ, List, [], ◌∷◌, ◌++◌, subst, ap, ◌∙◌, sym, to_z-of_z, Placed, sign, ahead, NotNext, ReadsNumbers, ReadsSome}
 use Rattle.pref_term.proofs.LedLemmas.{some_none, some_more, some_fails, some_stuck, some_all, err_exit}
 use Rattle.pref_term.proofs.read.base_term.numbers.Goals as goal
 

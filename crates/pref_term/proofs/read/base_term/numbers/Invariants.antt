@@ -1,6 +1,4 @@
-use Rattle.std.proofs.Common.{◌≤◌, length}
-use Rattle.pref_term.specs.Ahead.{ahead}
-use Rattle.pref_term.specs.Led.{ReadsSome}
+use Rattle.pref_term.proofs.Common.{◌≤◌, length, ahead, ReadsSome}
 use Rattle.pref_term.proofs.read.base_term.numbers.Given as goal
 
 -- the numbers so far were read, and one more is due

@@ -1,5 +1,4 @@
-use Rattle.std.proofs.lemmas.Result.{IfOk-weaker}
-use Rattle.pref_term.specs.Ahead.{ahead}
+use Rattle.pref_term.proofs.Common.{IfOk-weaker, ahead}
 use Rattle.pref_term.proofs.LedLemmas.{opened_read, opened_fails, opened_other, err_exit, if_err_map}
 use Rattle.pref_term.proofs.read.base_term.opened_column.Goals as goal
 

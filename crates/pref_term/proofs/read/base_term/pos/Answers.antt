@@ -1,9 +1,5 @@
-use Rattle.pref_term.specs.Ahead.{ahead}
-use Rattle.pref_term.specs.Reading.{pos_kind}
+use Rattle.pref_term.proofs.Common.{ahead, pos_kind, ℤ, List, sym, subst, ReadsBase, scored, one_of}
 use Rattle.pref_term.proofs.LedLemmas.{pos_read, column_end_fails, pos_numbers_fails, err_exit}
-use Rattle.std.proofs.Common.{ℤ, List, sym, subst}
-use Rattle.pref_term.specs.Led.{ReadsBase}
-use Rattle.pref_term.specs.Preference.{scored, one_of}
 use Rattle.pref_term.proofs.read.base_term.pos.Goals as goal
 
 pub returns-in_err-inside-clause-err : goal.returns-in_err-inside-clause-err

@@ -1,7 +1,4 @@
-use Rattle.std.proofs.Common.{arith, length, ℤ, List, [], ◌∷◌, ◌++◌, subst, ap, ◌∙◌, sym}
-use Rattle.pref_term.specs.Token.{Placed, right, sign}
-use Rattle.pref_term.specs.Ahead.{ahead}
-use Rattle.pref_term.specs.Led.{NotNext, ReadsSets, ReadsSomeSets}
+use Rattle.pref_term.proofs.Common.{arith, length, ℤ, List, [], ◌∷◌, ◌++◌, subst, ap, ◌∙◌, sym, Placed, right, sign, ahead, NotNext, ReadsSets, ReadsSomeSets}
 use Rattle.pref_term.proofs.LedLemmas.{err_exit}
 use Rattle.pref_term.proofs.SetLemmas.{some_sets_none, some_sets_fails, some_numbers_fails, some_sets_more, some_sets_all, some_sets_stuck}
 use Rattle.pref_term.proofs.read.base_term.sets.Goals as goal

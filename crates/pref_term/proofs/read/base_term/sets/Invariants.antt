@@ -1,6 +1,4 @@
-use Rattle.std.proofs.Common.{◌≤◌, length}
-use Rattle.pref_term.specs.Ahead.{ahead}
-use Rattle.pref_term.specs.Led.{ReadsSomeSets}
+use Rattle.pref_term.proofs.Common.{◌≤◌, length, ahead, ReadsSomeSets}
 use Rattle.pref_term.proofs.read.base_term.sets.Given as goal
 
 -- the sets so far were read, and one more is due

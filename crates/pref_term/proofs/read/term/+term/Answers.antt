@@ -1,12 +1,8 @@
-use Rattle.std.proofs.Common.{ℕ, List, Some, arith, sym, ap, subst, ◌∙◌, length}
-use Rattle.std.proofs.lemmas.Result.{IfOk-weaker}
-use Rattle.pref_term.specs.Token.{Placed}
-use Rattle.pref_term.specs.Reading.{low_kind, high_kind, around_kind, between_kind, pos_kind, layered_kind}
-use Rattle.pref_term.specs.Ahead.{ahead}
-use Rattle.pref_term.specs.Led.{FailsUnary, ReadsReverse, ReadsUnary, ReadsGroup, ReadsFactors, ReadsProducts}
-use Rattle.pref_term.specs.Preference.{Preference, preference_of}
+use Rattle.pref_term.proofs.Common.{ℕ, List, Some, arith, sym, ap, subst, ◌∙◌, length, IfOk-weaker, Placed, low_kind, high_kind, around_kind, between_kind, pos_kind, layered_kind, ahead, FailsUnary}
+use Rattle.pref_term.proofs.Common.{ReadsReverse, ReadsUnary, ReadsGroup, ReadsFactors, ReadsProducts, Preference, preference_of}
 use Rattle.pref_term.proofs.LedLemmas.{err_exit, taken_is}
-use Rattle.pref_term.proofs.CycleLemmas.{group_read, group_end_fails, one_factor_read, more_factors, more_factors_fail, one_product_read, more_products, more_products_fail, minus_read, minus_fails, left_read, reverse_read, taken_base_read, taken_base_fails, word_reverse_read}
+use Rattle.pref_term.proofs.CycleLemmas.{group_read, group_end_fails, one_factor_read, more_factors, more_factors_fail, one_product_read, more_products, more_products_fail, minus_read, minus_fails}
+use Rattle.pref_term.proofs.CycleLemmas.{left_read, reverse_read, taken_base_read, taken_base_fails, word_reverse_read}
 use Rattle.pref_term.proofs.read.term.+term.Goals as goal
 
 pub group-returns-in_err-rest-clause-err : goal.group-returns-in_err-rest-clause-err

@@ -1,8 +1,4 @@
-use Rattle.std.proofs.Common.{◌≤◌, ◌+◌, ◌-◌, ◌*◌, length}
-use Rattle.pref_term.specs.Token.{sign, star}
-use Rattle.pref_term.specs.Ahead.{ahead}
-use Rattle.pref_term.specs.Led.{ReadsFactors, ReadsProducts, NotNext}
-use Rattle.pref_term.specs.Preference.{preference_of}
+use Rattle.pref_term.proofs.Common.{◌≤◌, ◌+◌, ◌-◌, ◌*◌, length, sign, star, ahead, ReadsFactors, ReadsProducts, NotNext, preference_of}
 use Rattle.pref_term.proofs.read.term.+term.Given as goal
 
 -- a call goes down to a part of the grammar, or into a nesting

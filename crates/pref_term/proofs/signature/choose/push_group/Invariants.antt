@@ -1,5 +1,4 @@
-use Rattle.std.proofs.Common.{◌<◌, All}
-use Rattle.pref_term.specs.Signatures.{scale_column}
+use Rattle.pref_term.proofs.Common.{◌<◌, All, scale_column}
 use Rattle.pref_term.proofs.signature.choose.push_group.Given as goal
 
 -- the columns so far are within a row

@@ -1,7 +1,4 @@
-use Rattle.std.proofs.Common.{◌≡◌, ◌==◌, [], ◌∷◌, drop}
-use Rattle.std.specs.List.{flat_map}
-use Rattle.std.specs.Prelude.{bit_and}
-use Rattle.pref_term.specs.Signatures.{signed_onto}
+use Rattle.pref_term.proofs.Common.{◌≡◌, ◌==◌, [], ◌∷◌, drop, flat_map, bit_and, signed_onto}
 use Rattle.pref_term.proofs.signature.scale.hashed_onto.Given as goal
 
 -- the masks that are left make the rest

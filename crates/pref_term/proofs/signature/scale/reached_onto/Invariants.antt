@@ -1,6 +1,4 @@
-use Rattle.std.proofs.Common.{◌≡◌, drop, map, not, pos}
-use Rattle.std.specs.Prelude.{int_lt}
-use Rattle.pref_term.specs.Signatures.{signed_onto}
+use Rattle.pref_term.proofs.Common.{◌≡◌, drop, map, not, pos, int_lt, signed_onto}
 use Rattle.pref_term.proofs.signature.scale.reached_onto.Given as goal
 
 -- the marks that are left make the rest

@@ -1,4 +1,4 @@
-use Rattle.std.proofs.Common.{◌≡◌, take}
+use Rattle.pref_term.proofs.Common.{◌≡◌, take}
 use Rattle.pref_term.proofs.term.NumberSets.copy.Given as goal
 
 -- the sets so far

@@ -1,7 +1,4 @@
-use Rattle.std.proofs.Common.{Bool, List, suc, ◌≡◌, ◌+◌, ◌∷◌, add-one, drop, sym, ◌∙◌, ap}
-use Rattle.std.proofs.Math.Seq.{drop-cons}
-use Rattle.std.specs.List.{flat_map}
-use Rattle.pref_term.specs.Signatures.{bits_by, signed_onto}
+use Rattle.pref_term.proofs.Common.{Bool, List, suc, ◌≡◌, ◌+◌, ◌∷◌, add-one, drop, sym, ◌∙◌, ap, drop-cons, flat_map, bits_by, signed_onto}
 use Rattle.pref_term.specs.declared.signature.scale.Scale.{Scale}
 use Rattle.pref_term.proofs.SignatureWords.{signed_onto_append}
 use Rattle.pref_term.proofs.signature.cuts.Cuts.signature.Goals as goal

@@ -1,6 +1,4 @@
-use Rattle.std.proofs.Common.{◌≡◌, drop}
-use Rattle.std.specs.List.{flat_map}
-use Rattle.pref_term.specs.Signatures.{bits_by, signature, signed_onto}
+use Rattle.pref_term.proofs.Common.{◌≡◌, drop, flat_map, bits_by, signature, signed_onto}
 use Rattle.pref_term.proofs.signature.cuts.Cuts.signature.Given as goal
 
 -- the scales that are left make the rest
