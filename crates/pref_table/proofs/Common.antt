@@ -2,7 +2,7 @@
 pub use Rattle.std.proofs.Common.{◌*◌, ◌+◌, ◌++◌, ◌-◌, ◌<◌, Bool, Bor, Err, Global, List, None, Ok, Option, Result, Some, Vec, [], ◌^◌, add-one, add-zero, ap, append_assoc, arith, drop, false, get_or}
 pub use Rattle.std.proofs.Common.{inl, inr, length, map, negsuc, pos, refl, replicate, set, subst, suc, sym, take, true, unwrap_or, w64, zero, ℕ, ℤ, ◌∙◌, ◌∷◌, ◌≡◌, ◌≢◌, ◌≤◌, ◌⊎◌}
 pub use Rattle.std.proofs.Math.ListN.{drop_of_length-le}
-pub use Rattle.std.proofs.lemmas.Bool.{cond_both, eq-eqb, eqb-false, eqb-true, false≢true, le-leb, le-ltb, lt-ltb, ltb-false, ltb-true, ne_eqb}
+pub use Rattle.std.proofs.lemmas.Bool.{and_right, cond_both, eq-eqb, eqb-false, eqb-true, false≢true, le-leb, le-ltb, lt-ltb, ltb-false, ltb-true, ne_eqb}
 pub use Rattle.std.proofs.lemmas.Int.{to_z-of_z}
 pub use Rattle.std.proofs.lemmas.List.{append-nil, drop-drop, drop-replicate, drop-set-lt, drop_more, get_or-drop, get_or-map, get_or-take, get_or_append_left, get_or_default, length-append}
 pub use Rattle.std.proofs.lemmas.List.{length-drop, length-map, length-set, length-take, length-take-le, map-append, take-append-drop, take-map, take_all, take_more, take_more_set}

@@ -8,7 +8,7 @@ use Rattle.csv.specs.declared.parser.Action.{Action}
 use Rattle.pref_table.specs.declared.records.Next.{Next}
 use Rattle.pref_table.specs.declared.records.Next.TheVariants.{Nothing, Wide, Narrow}
 use Rattle.pref_table.specs.declared.records.Place.{Place}
-use Rattle.pref_table.specs.declared.records.Place.TheVariants.{BetweenRecords, BeforeField, InField, InQuotes, AfterQuote}
+use Rattle.pref_table.specs.declared.records.Place.TheVariants.{BetweenRecords, InField, AfterQuote}
 use Rattle.pref_table.proofs.LinesFacts.{records-after_return, records-first, records-of}
 use Rattle.pref_table.proofs.RecordsFacts.{records-none, records-some}
 use Rattle.csv.specs.declared.parser.Action.TheVariants as act
@@ -120,9 +120,7 @@ ends-at_end s inside = refl
 -- an action ends the record with a field more, or ends no more fields than there are
 more-ended : (action : Action) (fields : List (List ℕ)) (field : List ℕ) → is_end action ≡ true → length fields < length (fields_after action fields field)
 more-ended act.EndRecord fields field ends = omega (arith, length-append fields (field ∷ []))
-more-ended act.Skip fields field ends = cc ends
-more-ended act.Copy fields field ends = cc ends
-more-ended act.EndField fields field ends = cc ends
+more-ended _ fields field ends = cc ends
 
 no-fewer : (action : Action) (fields : List (List ℕ)) (field : List ℕ) → length fields ≤ length (fields_after action fields field)
 no-fewer act.EndRecord fields field = omega (arith, length-append fields (field ∷ []))
@@ -159,10 +157,7 @@ wide text at h =
 -- a place that is not between records is inside one
 pub outside-none : (place : Place) → (place ≡ BetweenRecords → ⊥) → ends_at_end (state_at place) ≡ true
 outside-none BetweenRecords apart = absurd (apart refl)
-outside-none BeforeField apart = refl
-outside-none InField apart = refl
-outside-none InQuotes apart = refl
-outside-none AfterQuote apart = refl
+outside-none _ apart = refl
 
 -- a reader that has the records of a text left reads the first of them, where it is narrow
 pub reads-narrow : (old new : BytesReader) (found : Bool) (fields : List (List ℕ)) (text after : List ℕ) → HasLeft old (records default_config text) → ReadsFirst old new found fields → (first : List (List ℕ)) × IsNarrow text first after

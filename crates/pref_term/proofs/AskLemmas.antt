@@ -351,35 +351,25 @@ count_fails names k letters ts us f c e h =
 
 -- ---- what is so of each ask
 
-term_columns : (names : Names) (p : Preference) → IsTermOf names p → ReadsBelow 16 p
-term_columns names (scored b) h = h.0.0
-term_columns names (pareto p q) h = (term_columns names p h.0, term_columns names q h.1)
-term_columns names (prior p q) h = (term_columns names p h.0, term_columns names q h.1)
-term_columns names (reverse p) h = term_columns names p h
-
-term_known : (names : Names) (p : Preference) → IsTermOf names p → ReadsBelow (length names) p
-term_known names (scored b) h = h.0.1
-term_known names (pareto p q) h = (term_known names p h.0, term_known names q h.1)
-term_known names (prior p q) h = (term_known names p h.0, term_known names q h.1)
-term_known names (reverse p) h = term_known names p h
-
-term_writable : (names : Names) (p : Preference) → IsTermOf names p → IsWritable p
-term_writable names (scored b) h = h.1
-term_writable names (pareto p q) h = (term_writable names p h.0, term_writable names q h.1)
-term_writable names (prior p q) h = (term_writable names p h.0, term_writable names q h.1)
-term_writable names (reverse p) h = term_writable names p h
+-- the columns of a term are among those of a row and of the table, and its numbers can be written
+term_is : (names : Names) (p : Preference) → IsTermOf names p → ReadsBelow 16 p × ReadsBelow (length names) p × IsWritable p
+term_is names (scored b) h = (h.0.0, h.0.1, h.1)
+term_is names (pareto p q) h = let l = term_is names p h.0 in let r = term_is names q h.1 in ((l.0, r.0), (l.1, r.1), (l.2, r.2))
+term_is names (prior p q) h = let l = term_is names p h.0 in let r = term_is names q h.1 in ((l.0, r.0), (l.1, r.1), (l.2, r.2))
+term_is names (reverse p) h = term_is names p h
 
 pub is_ask : (names : Names) (p : Preference) (group : List ℕ) (mode : Mode) → IsTermOf names p → All (IsKnown names) group → IsCount (cut_of mode) → (distinct : Bool) → (distinct ≡ true → IsSkyline (record { preference = p; group = group; mode = mode; distinct = distinct })) → IsAsk (record { preference = p; group = group; mode = mode; distinct = distinct })
 is_ask names p group mode h g k distinct clause =
+    let term = term_is names p h in
     record {
-      columns = record { preference = term_columns names p h; group = λ i d b. let a = g i d b in a.0 };
-      writable = term_writable names p h;
+      columns = record { preference = term.0; group = λ i d b. let a = g i d b in a.0 };
+      writable = term.2;
       count = k;
       clause = clause;
     }
 
 pub fits_width : (names : Names) (p : Preference) (group : List ℕ) (mode : Mode) → IsTermOf names p → All (IsKnown names) group → (distinct : Bool) → FitsWidth (length names) (record { preference = p; group = group; mode = mode; distinct = distinct })
-fits_width names p group mode h g distinct = record { preference = term_known names p h; group = λ i d b. let a = g i d b in a.1 }
+fits_width names p group mode h g distinct = let term = term_is names p h in record { preference = term.1; group = λ i d b. let a = g i d b in a.1 }
 
 -- the same product and group, in other words
 pub reads_dims : (names : Names) (ts us : List Placed) (p q : Option Preference) (g h : List ℕ) → p ≡ q → g ≡ h → ReadsDims names ts q h us → ReadsDims names ts p g us

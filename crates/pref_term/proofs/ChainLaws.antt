@@ -2,7 +2,7 @@
 use Rattle.pref_term.proofs.Common.{◌≡◌, ◌<◌, ℤ, Bool, true, false, not, if◌then◌else◌, List, [], ◌∷◌, ◌++◌, refl, sym, ap, ◌∙◌, ◌&&◌, false≢true, append-nil, All-append, All-nil, All-same}
 use Rattle.pref_term.proofs.Common.{in_same_group, AreChainsOf, AreInRow, IsProductOf, by_chain, by_chains, chain_keys, is_chain, is_paired, keys_behind, ReadsBelow, order_of}
 use Rattle.pref_term.proofs.Common.{order_of_twins_are_alike, by_key, key_for, is_better, is_same, and_parts, Preference, scored, pareto, prior, reverse, Question, IsAsk, alike, in_priority}
-use Rattle.pref_term.proofs.Common.{in_product, walked, Key, Relation, Better, Worse, Same, Neither}
+use Rattle.pref_term.proofs.Common.{in_product, walked, Key, Relation, Better, Same}
 use Rattle.pref_term.specs.declared.chains.Chains.{Chains}
 use Rattle.pref_term.specs.declared.chains.Role.{Role}
 use Rattle.pref_term.specs.declared.chains.Role.TheVariants.{First, Second, Tie}
@@ -11,28 +11,20 @@ use Rattle.pref_term.proofs.WalkLaws.{walked-better, walked-same}
 
 priority_same : (r : Relation) → in_priority r Same ≡ r
 priority_same Better = refl
-priority_same Worse = refl
-priority_same Same = refl
-priority_same Neither = refl
+priority_same _ = refl
 
 priority-assoc : (r s t : Relation) → in_priority (in_priority r s) t ≡ in_priority r (in_priority s t)
 priority-assoc Better s t = refl
-priority-assoc Worse s t = refl
-priority-assoc Same s t = refl
-priority-assoc Neither s t = refl
+priority-assoc _ s t = refl
 
 -- p & ((q * r) & s) is the product of p & q and p & r, with the tie s
 chain_before : (r s t u : Relation) → in_priority (in_product (in_priority r s) (in_priority r t)) u ≡ in_priority r (in_priority (in_product s t) u)
 chain_before Better s t u = refl
-chain_before Worse s t u = refl
-chain_before Same s t u = refl
-chain_before Neither s t u = refl
+chain_before _ s t u = refl
 
 product_itself : (r : Relation) → in_product r r ≡ r
 product_itself Better = refl
-product_itself Worse = refl
-product_itself Same = refl
-product_itself Neither = refl
+product_itself _ = refl
 
 chain-append : (xs ys : List Key) (a b : List ℤ) → by_chain (xs ++ ys) a b ≡ in_priority (by_chain xs a b) (by_chain ys a b)
 chain-append [] ys a b = refl

@@ -1,9 +1,9 @@
 -- The names that the proofs of this crate share, passed on from one place. Declares nothing.
 pub use Rattle.std.proofs.Common.{◌%◌, ◌*◌, ◌+◌, ◌++◌, ◌-◌, ◌/◌, ◌<◌, Bool, Bor, Err, List, None, Ok, Option, Result, Some, [], ◌^◌, add-one, ap, append-nil, append_assoc, arith, cond, drop, eq-eqb}
-pub use Rattle.std.proofs.Common.{false, get_or, if◌then◌else◌, inl, inr, length, map, nat_le, nat_lt, negsuc, not, of_z, pos, refl, rules, subst, suc, sym, take, tests, to_z, true, w64, zero, ◌||◌}
-pub use Rattle.std.proofs.Common.{ℕ, ℤ, ◌∙◌, ◌∷◌, ◌≡◌, ◌≤◌, ◌⊎◌}
+pub use Rattle.std.proofs.Common.{false, get_or, if◌then◌else◌, inl, inr, length, map, nat_le, nat_lt, negsuc, not, of_z, pos, refl, rules, subst, suc, sym, take, tests, to_z, true, w64, zero, ℕ, ℤ}
+pub use Rattle.std.proofs.Common.{◌∙◌, ◌∷◌, ◌≡◌, ◌≤◌, ◌⊎◌}
 pub use Rattle.std.proofs.Math.Seq.{drop-append_seam, drop-cons, take-append_seam, take-length}
-pub use Rattle.std.proofs.lemmas.Bool.{and_right, false≢true, ltb-false}
+pub use Rattle.std.proofs.lemmas.Bool.{and_from, and_parts, and_right, false≢true, ltb-false, not-true, or_parts}
 pub use Rattle.std.proofs.lemmas.Bool.Decides.{Decides-int_eq, nat_tests, not_from_Decides}
 pub use Rattle.std.proofs.lemmas.Fmt.{decimal_digit, decimal_nonempty, digits_decimal, digits_value-decimal}
 pub use Rattle.std.proofs.lemmas.Int.{ints, to_z-of_z}
@@ -43,7 +43,6 @@ pub use Rattle.pref_term.specs.Led.{ReadsEnd, ReadsFactors, ReadsGroup, ReadsGro
 pub use Rattle.pref_term.specs.Led.{ReadsSome, ReadsSomeColumns, ReadsSomeSets, ReadsUnary, TakesColumn, TakesCount, TakesDirection, WantsColumn, WantsCount, first_place, list_hole, with_order}
 pub use Rattle.pref_term.specs.Led.{word_ahead}
 pub use Rattle.pref_term.specs.Order.{is_better, is_same, is_worse}
-pub use Rattle.pref_term.specs.OrderLaws.{and_made, and_parts}
 pub use Rattle.pref_term.specs.Preference.{Base, Preference, around, between, high, layered, low, one_of, pareto, preference_of, prior, reverse, scored}
 pub use Rattle.pref_term.specs.Question.{FitsWidth, IsAsk, IsClause, IsCount, IsDimension, IsSkyline, Question, alike, cut_of, is_count}
 pub use Rattle.pref_term.specs.Reading.{BaseKind, BasePart, BaseStep, NumberHole, NumberList, PriorHole, ProductHole, State, UnaryHole, after, around_kind, at_least_named, base_next, before_dim}

@@ -1,17 +1,16 @@
 -- Each text of the grammar is read to its end, and each state of reading can be completed.
 use Rattle.pref_term.proofs.Common.{◌≡◌, ℕ, ◌+◌, List, [], ◌∷◌, ◌++◌, Bool, true, false, Option, Some, None, refl, sym, ap, subst, ◌∙◌, append_assoc, append-nil, IfSome, AllByRecursion, bytes_eq}
-use Rattle.pref_term.proofs.Common.{str_to_ascii_lowercase, bytes_eq-Decides, left, right, left_brace, comma, star, ampersand, word, sign, finish, Keyword, best_word, low_word, high_word, around_word}
-use Rattle.pref_term.proofs.Common.{pos_word, reverse_word, top_level_word, at_least_word, by_word, CasedWord, skyline_word, of_word, min_word, max_word, diff_word, letters_of, keyword_of}
-use Rattle.pref_term.proofs.Common.{cased_letters, cased_in, cased_of, HeadText, best_head, top_level_head, at_least_head, head_leaves, Direction, minimal, maximal, different, direction_word, DimText}
-use Rattle.pref_term.proofs.Common.{dim_leaves, more_dims, group_leaves, more_columns, AskText, rated, skyline, IsWritten, IsText, NumberText, BaseText, low_text, high_text, around_text, pos_text}
-use Rattle.pref_term.proofs.Common.{PriorText, one_product, then_product, ProductText, one_factor, then_factor, UnaryText, negated, grouped, reversed, based, Leaf, name, mark, opens, column_name}
-use Rattle.pref_term.proofs.Common.{number_digits, count_digits, cased, last, signed_leaves, number_leaves, others_leaves, base_leaves, prior_leaves, product_leaves, unary_leaves, ask_leaves}
-use Rattle.pref_term.proofs.Common.{token_of, between_word, between_text, end_leaves, layered_word, layered_text, SetText, list_leaves, set_leaves, more_sets, BaseKind, low_kind, high_kind}
-use Rattle.pref_term.proofs.Common.{around_kind, pos_kind, NumberHole, centre_of, first_of, next_of, BasePart, named, opened, columned, number_due, number_signed, centred, listed, filled, PriorHole}
-use Rattle.pref_term.proofs.Common.{whole, in_group, in_reverse, ProductHole, first_product, next_product, UnaryHole, first_factor, next_factor, in_minus, prior_depth, product_depth, unary_depth}
-use Rattle.pref_term.proofs.Common.{State, start, operand, reverse_named, reading, after, top_level_named, at_least_named, group_due, group_listed, skyline_named, dim_due, dim_named, dims_listed}
-use Rattle.pref_term.proofs.Common.{done, completed, outer, closed, ranked, in_whole, begun, of_named, listed_dim, directed, next, between_kind, start_of, end_of, least_of, ranged, range_ended}
-use Rattle.pref_term.proofs.Common.{layered_kind, NumberList, in_pos, in_set, closing, list_closed, stepped, set_due, sets_listed, with_set}
+use Rattle.pref_term.proofs.Common.{str_to_ascii_lowercase, bytes_eq-Decides, left, right, left_brace, comma, star, ampersand, word, sign, finish, Keyword, best_word, by_word, CasedWord, skyline_word}
+use Rattle.pref_term.proofs.Common.{of_word, min_word, max_word, diff_word, letters_of, keyword_of, cased_letters, cased_in, cased_of, HeadText, best_head, top_level_head, at_least_head, head_leaves}
+use Rattle.pref_term.proofs.Common.{Direction, minimal, maximal, different, direction_word, DimText, dim_leaves, more_dims, group_leaves, more_columns, AskText, rated, skyline, IsWritten, IsText}
+use Rattle.pref_term.proofs.Common.{NumberText, BaseText, low_text, high_text, around_text, pos_text, PriorText, one_product, then_product, ProductText, one_factor, then_factor, UnaryText, negated}
+use Rattle.pref_term.proofs.Common.{grouped, reversed, based, Leaf, name, mark, opens, column_name, number_digits, count_digits, cased, last, signed_leaves, number_leaves, others_leaves, base_leaves}
+use Rattle.pref_term.proofs.Common.{prior_leaves, product_leaves, unary_leaves, ask_leaves, token_of, between_text, end_leaves, layered_text, SetText, list_leaves, set_leaves, more_sets, BaseKind}
+use Rattle.pref_term.proofs.Common.{low_kind, high_kind, around_kind, pos_kind, NumberHole, centre_of, first_of, next_of, BasePart, named, opened, columned, number_due, number_signed, centred, listed}
+use Rattle.pref_term.proofs.Common.{filled, PriorHole, whole, in_group, in_reverse, ProductHole, first_product, next_product, UnaryHole, first_factor, next_factor, in_minus, prior_depth}
+use Rattle.pref_term.proofs.Common.{product_depth, unary_depth, State, start, operand, reverse_named, reading, after, top_level_named, at_least_named, group_due, group_listed, skyline_named, dim_due}
+use Rattle.pref_term.proofs.Common.{dim_named, dims_listed, done, completed, outer, closed, ranked, in_whole, begun, of_named, listed_dim, directed, next, between_kind, start_of, end_of, least_of}
+use Rattle.pref_term.proofs.Common.{ranged, range_ended, layered_kind, NumberList, in_pos, in_set, closing, list_closed, stepped, set_due, sets_listed, with_set}
 use Rattle.pref_term.proofs.Sound.{keyword_letters}
 
 -- reading these leaves leads from one state to the other
@@ -32,14 +31,10 @@ reads_number h hole n = go n.negative n.digits
 
 reads_others : (h : UnaryHole) (l : NumberList) (first : NumberText) (front ns : List NumberText) → Reads (reading h (listed l first front)) (others_leaves ns) (reading h (listed l first (front ++ ns)))
 reads_others h l first front [] = ap (λ ns. reading h (listed l first ns)) (sym (append-nil front))
-reads_others h l first front (n ∷ ns) = (
-  reading h (number_due (next_of l first front)),
-  refl,
-  reads_on (reading h (number_due (next_of l first front))) (number_leaves n) (others_leaves ns) (reading h (listed l first (front ++ n ∷ []))) (reading h (listed l first (front ++ n ∷ ns)))
-      (reads_number h (next_of l first front) n)
-      (subst (λ (ms : List NumberText). Reads (reading h (listed l first (front ++ n ∷ []))) (others_leaves ns) (reading h (listed l first ms))) (append_assoc front (n ∷ []) ns)
-      (reads_others h l first (front ++ n ∷ []) ns)),
-)
+reads_others h l first front (n ∷ ns) =
+    let here = reading h (listed l first (front ++ n ∷ [])) in
+    let more = subst (λ (ms : List NumberText). Reads here (others_leaves ns) (reading h (listed l first ms))) (append_assoc front (n ∷ []) ns) (reads_others h l first (front ++ n ∷ []) ns) in
+    (_, refl, reads_on (reading h (number_due (next_of l first front))) (number_leaves n) (others_leaves ns) here _ (reads_number h (next_of l first front) n) more)
 
 -- the sign that closes a list of numbers ends it
 pub list_ends : (h : UnaryHole) (l : NumberList) (first : NumberText) (others : List NumberText) → next (reading h (listed l first others)) (sign (closing l)) ≡ Some (mark (closing l), stepped h (list_closed l first others))
@@ -58,92 +53,30 @@ reads_set h column sets s = (_, refl, reads_list h (in_set column sets) s.first 
 
 reads_sets : (h : UnaryHole) (column : List ℕ) (first : SetText) (front ss : List SetText) → Reads (reading h (sets_listed column first front)) (more_sets ss) (reading h (sets_listed column first (front ++ ss)))
 reads_sets h column first front [] = ap (λ ss. reading h (sets_listed column first ss)) (sym (append-nil front))
-reads_sets h column first front (s ∷ ss) = (
-  reading h (set_due column (first ∷ front)),
-  refl,
-  reads_on (reading h (set_due column (first ∷ front))) (set_leaves s) (more_sets ss) (reading h (sets_listed column first (front ++ s ∷ []))) (reading h (sets_listed column first (front ++ s ∷ ss)))
-      (reads_set h column (first ∷ front) s)
-      (subst (λ (ts : List SetText). Reads (reading h (sets_listed column first (front ++ s ∷ []))) (more_sets ss) (reading h (sets_listed column first ts))) (append_assoc front (s ∷ []) ss)
-      (reads_sets h column first (front ++ s ∷ []) ss)),
-)
+reads_sets h column first front (s ∷ ss) =
+    let here = reading h (sets_listed column first (front ++ s ∷ [])) in
+    let more = subst (λ (ts : List SetText). Reads here (more_sets ss) (reading h (sets_listed column first ts))) (append_assoc front (s ∷ []) ss) (reads_sets h column first (front ++ s ∷ []) ss) in
+    (_, refl, reads_on (reading h (set_due column (first ∷ front))) (set_leaves s) (more_sets ss) here _ (reads_set h column (first ∷ front) s) more)
 
 reads_base : (b : BaseText) (h : UnaryHole) → Reads (operand h) (base_leaves b) (completed h (based b))
 reads_base (low_text column) h = (_, refl, (_, refl, (_, refl, (_, refl, refl))))
 reads_base (high_text column) h = (_, refl, (_, refl, (_, refl, (_, refl, refl))))
-reads_base (around_text column centre) h = (
-  _,
-  refl,
-  (
-    _,
-    refl,
-    (
-      _,
-      refl,
-      (
-        _,
-        refl,
-        reads_on (reading h (number_due (centre_of column))) (number_leaves centre) (mark right ∷ []) (reading h (centred column centre)) (completed h (based (around_text column centre)))
-            (reads_number h (centre_of column) centre) (_, refl, refl),
-      ),
-    ),
-  ),
-)
-reads_base (between_text column l r) h = (
-  _,
-  refl,
-  (
-    _,
-    refl,
-    (
-      _,
-      refl,
-      (
-        _,
-        refl,
-        reads_on (reading h (number_due (start_of column))) (number_leaves l) (mark comma ∷ end_leaves l r ++ mark right ∷ []) (reading h (ranged column l)) (completed h (based (between_text column l r)))
-            (reads_number h (start_of column) l) (
-              reading h (number_due (end_of column l)),
-              refl,
-              reads_on (reading h (number_due (end_of column l))) (end_leaves l r) (mark right ∷ []) (reading h (range_ended column l r)) (completed h (based (between_text column l r)))
-                  (reads_number h (end_of column l) r) (_, refl, refl),
-            ),
-      ),
-    ),
-  ),
-)
-reads_base (pos_text column first others) h = (
-  _,
-  refl,
-  (
-    _,
-    refl,
-    (
-      _,
-      refl,
-      (_, refl, reads_list h (in_pos column) first others),
-    ),
-  ),
-)
-reads_base (layered_text column first others) h = (
-  _,
-  refl,
-  (
-    _,
-    refl,
-    (
-      _,
-      refl,
-      (
-        _,
-        refl,
-        reads_on (reading h (set_due column [])) (set_leaves first) (more_sets others ++ mark right ∷ []) (reading h (sets_listed column first [])) (completed h (based (layered_text column first others)))
-            (reads_set h column [] first)
-            (reads_on (reading h (sets_listed column first [])) (more_sets others) (mark right ∷ []) (reading h (sets_listed column first others)) (completed h (based (layered_text column first others)))
-            (reads_sets h column first [] others) (_, refl, refl)),
-      ),
-    ),
-  ),
-)
+reads_base (around_text column centre) h =
+    let end = completed h (based (around_text column centre)) in
+    let number = reads_on (reading h (number_due (centre_of column))) (number_leaves centre) (mark right ∷ []) (reading h (centred column centre)) end (reads_number h (centre_of column) centre) (_, refl, refl) in
+    (_, refl, (_, refl, (_, refl, (_, refl, number))))
+reads_base (between_text column l r) h =
+    let end = completed h (based (between_text column l r)) in
+    let right_end = reads_on (reading h (number_due (end_of column l))) (end_leaves l r) (mark right ∷ []) (reading h (range_ended column l r)) end (reads_number h (end_of column l) r) (_, refl, refl) in
+    let behind = mark comma ∷ end_leaves l r ++ mark right ∷ [] in
+    let numbers = reads_on (reading h (number_due (start_of column))) (number_leaves l) behind (reading h (ranged column l)) end (reads_number h (start_of column) l) (_, refl, right_end) in
+    (_, refl, (_, refl, (_, refl, (_, refl, numbers))))
+reads_base (pos_text column first others) h = (_, refl, (_, refl, (_, refl, (_, refl, reads_list h (in_pos column) first others))))
+reads_base (layered_text column first others) h =
+    let end = completed h (based (layered_text column first others)) in
+    let more = reads_on (reading h (sets_listed column first [])) (more_sets others) (mark right ∷ []) (reading h (sets_listed column first others)) end (reads_sets h column first [] others) (_, refl, refl) in
+    let sets = reads_on (reading h (set_due column [])) (set_leaves first) (more_sets others ++ mark right ∷ []) (reading h (sets_listed column first [])) end (reads_set h column [] first) more in
+    (_, refl, (_, refl, (_, refl, (_, refl, sets))))
 
 pub ranked_goes_on : (h : PriorHole) (r : PriorText) → next (ranked h r) (sign ampersand) ≡ Some (mark ampersand, operand (first_factor (next_product h r)))
 ranked_goes_on h (one_product p) = refl
@@ -182,22 +115,12 @@ mutual
 
   pub reads_unary : (u : UnaryText) (h : UnaryHole) → Reads (operand h) (unary_leaves u (unary_depth h)) (completed h u)
   reads_unary (negated u) h = (_, refl, reads_unary u (in_minus h))
-  reads_unary (grouped r) h = (
-    _,
-    refl,
-    reads_on (operand (first_factor (first_product (in_group h)))) (prior_leaves r (unary_depth h + 1)) (mark right ∷ []) (ranked (in_group h) r) (completed h (grouped r))
-        (reads_prior r (in_group h)) (_, ranked_group h r, refl),
-  )
-  reads_unary (reversed r) h = (
-    _,
-    refl,
-    (
-      _,
-      refl,
-      reads_on (operand (first_factor (first_product (in_reverse h)))) (prior_leaves r (unary_depth h + 1)) (mark right ∷ []) (ranked (in_reverse h) r) (completed h (reversed r))
-          (reads_prior r (in_reverse h)) (_, ranked_reverse h r, refl),
-    ),
-  )
+  reads_unary (grouped r) h =
+      let term = reads_prior r (in_group h) in
+      (_, refl, reads_on (operand (first_factor (first_product (in_group h)))) (prior_leaves r (unary_depth h + 1)) (mark right ∷ []) (ranked (in_group h) r) (completed h (grouped r)) term (_, ranked_group h r, refl))
+  reads_unary (reversed r) h =
+      let term = reads_prior r (in_reverse h) in
+      (_, refl, (_, refl, reads_on (operand (first_factor (first_product (in_reverse h)))) (prior_leaves r (unary_depth h + 1)) (mark right ∷ []) (ranked (in_reverse h) r) (completed h (reversed r)) term (_, ranked_reverse h r, refl)))
   reads_unary (based b) h = reads_base b h
 
 reads_head : (head : HeadText) → Reads start (head_leaves head) (operand (in_whole head))
@@ -207,16 +130,9 @@ reads_head (at_least_head count) = (_, refl, (_, refl, refl))
 
 reads_columns : (head : HeadText) (r : PriorText) (first : List ℕ) (front columns : List (List ℕ)) → Reads (group_listed head r first front) (more_columns columns ++ last ∷ []) (done (rated head r (first ∷ (front ++ columns))))
 reads_columns head r first front [] = (_, refl, ap (λ cs. done (rated head r (first ∷ cs))) (sym (append-nil front)))
-reads_columns head r first front (c ∷ cs) = (
-  _,
-  refl,
-  (
-    _,
-    refl,
-    subst (λ (xs : List (List ℕ)). Reads (group_listed head r first (front ++ c ∷ [])) (more_columns cs ++ last ∷ []) (done (rated head r (first ∷ xs)))) (append_assoc front (c ∷ []) cs)
-        (reads_columns head r first (front ++ c ∷ []) cs),
-  ),
-)
+reads_columns head r first front (c ∷ cs) =
+    let more = reads_columns head r first (front ++ c ∷ []) cs in
+    (_, refl, (_, refl, subst (λ (xs : List (List ℕ)). Reads (group_listed head r first (front ++ c ∷ [])) (more_columns cs ++ last ∷ []) (done (rated head r (first ∷ xs)))) (append_assoc front (c ∷ []) cs) more))
 
 reads_group : (head : HeadText) (r : PriorText) (group : List (List ℕ)) → Reads (ranked (whole head) r) (group_leaves group ++ last ∷ []) (done (rated head r group))
 reads_group head r [] = (_, ranked_whole head r, refl)
@@ -229,26 +145,14 @@ differ x y f e = let g : bytes_eq x y ≡ true = (bytes_eq-Decides x y).1 e in c
 
 cased_itself : (k : CasedWord) → cased_in (cased_letters k) ≡ Some k
 cased_itself skyline_word = refl
-cased_itself of_word = refl
-cased_itself min_word = refl
-cased_itself max_word = refl
-cased_itself diff_word = refl
+cased_itself _ = refl
 
 pub cased_found : (k : CasedWord) (letters : List ℕ) → IsWritten (cased k letters) → cased_of letters ≡ Some k
 cased_found k letters w = ap cased_in (sym w) ∙ cased_itself k
 
 keyword_no_skyline : (k : Keyword) → cased_letters skyline_word ≡ str_to_ascii_lowercase (letters_of k) → ⊥
 keyword_no_skyline best_word e = differ _ _ refl e
-keyword_no_skyline low_word e = differ _ _ refl e
-keyword_no_skyline high_word e = differ _ _ refl e
-keyword_no_skyline around_word e = differ _ _ refl e
-keyword_no_skyline between_word e = differ _ _ refl e
-keyword_no_skyline pos_word e = differ _ _ refl e
-keyword_no_skyline layered_word e = differ _ _ refl e
-keyword_no_skyline reverse_word e = differ _ _ refl e
-keyword_no_skyline top_level_word e = differ _ _ refl e
-keyword_no_skyline at_least_word e = differ _ _ refl e
-keyword_no_skyline by_word e = differ _ _ refl e
+keyword_no_skyline _ e = differ _ _ refl e
 
 -- `skyline` is no keyword
 pub no_keyword : (letters : List ℕ) → IsWritten (cased skyline_word letters) → keyword_of letters ≡ None
@@ -268,14 +172,10 @@ reads_dim s o dims d w = (_, refl, (_, go d.direction w, refl))
 
 reads_dims : (s o : List ℕ) (first : DimText) (front ds : List DimText) → AllByRecursion IsWritten (more_dims ds ++ last ∷ []) → Reads (dims_listed s o first front) (more_dims ds ++ last ∷ []) (done (skyline s o first (front ++ ds)))
 reads_dims s o first front [] w = (_, refl, ap (λ ds. done (skyline s o first ds)) (sym (append-nil front)))
-reads_dims s o first front (d ∷ ds) w = (
-  _,
-  refl,
-  reads_on (dim_due s o (first ∷ front)) (dim_leaves d) (more_dims ds ++ last ∷ []) (dims_listed s o first (front ++ d ∷ [])) (done (skyline s o first (front ++ d ∷ ds)))
-      (reads_dim s o (first ∷ front) d w.1.1.0)
-      (subst (λ (xs : List DimText). Reads (dims_listed s o first (front ++ d ∷ [])) (more_dims ds ++ last ∷ []) (done (skyline s o first xs))) (append_assoc front (d ∷ []) ds)
-      (reads_dims s o first (front ++ d ∷ []) ds w.1.1.1)),
-)
+reads_dims s o first front (d ∷ ds) w =
+    let here = dims_listed s o first (front ++ d ∷ []) in
+    let more = subst (λ (xs : List DimText). Reads here (more_dims ds ++ last ∷ []) (done (skyline s o first xs))) (append_assoc front (d ∷ []) ds) (reads_dims s o first (front ++ d ∷ []) ds w.1.1.1) in
+    (_, refl, reads_on (dim_due s o (first ∷ front)) (dim_leaves d) (more_dims ds ++ last ∷ []) here _ (reads_dim s o (first ∷ front) d w.1.1.0) more)
 
 -- each text of the grammar is read to its end
 pub reads_ask : (a : AskText) → IsText a → Reads start (ask_leaves a) (done a)
@@ -284,17 +184,10 @@ reads_ask (rated head r group) w =
     (reads_head head)
     (reads_on (operand (in_whole head)) (prior_leaves r 0) (group_leaves group ++ last ∷ []) (ranked (whole head) r) (done (rated head r group))
     (reads_prior r (whole head)) (reads_group head r group))
-reads_ask (skyline s o first others) w = (
-  skyline_named s,
-  ap (λ k. begun s k (cased_of s)) (no_keyword s w.0) ∙ ap (begun s None) (cased_found skyline_word s w.0),
-  (
-    dim_due s o [],
-    ap (of_named s o) (cased_found of_word o w.1.0),
-    reads_on (dim_due s o []) (dim_leaves first) (more_dims others ++ last ∷ []) (dims_listed s o first []) (done (skyline s o first others))
-        (reads_dim s o [] first w.1.1.1.0)
-        (reads_dims s o first [] others w.1.1.1.1),
-  ),
-)
+reads_ask (skyline s o first others) w =
+    let begins = ap (λ k. begun s k (cased_of s)) (no_keyword s w.0) ∙ ap (begun s None) (cased_found skyline_word s w.0) in
+    let dims = reads_on (dim_due s o []) (dim_leaves first) (more_dims others ++ last ∷ []) (dims_listed s o first []) (done (skyline s o first others)) (reads_dim s o [] first w.1.1.1.0) (reads_dims s o first [] others w.1.1.1.1) in
+    (skyline_named s, begins, (dim_due s o [], ap (of_named s o) (cased_found of_word o w.1.0), dims))
 
 -- ---- each state can be completed
 

@@ -1,11 +1,10 @@
 -- What the parts of the reader that call each other promise.
 use Rattle.pref_term.proofs.Common.{◌≡◌, ◌<◌, ◌+◌, ℕ, List, [], ◌∷◌, Bor, Result, true, cond, Some, None, nat_lt, refl, sym, ap, subst, ◌∙◌, arith, ◌≢◌, IfOk, IfErr, IfOk-weaker, nat_tests, Sign}
 use Rattle.pref_term.proofs.Common.{left, right, star, ampersand, minus, Token, word, sign, Placed, reverse_word, keyword_of, based, grouped, reversed, negated, one_factor, then_factor, PriorText}
-use Rattle.pref_term.proofs.Common.{one_product, then_product, name, mark, opens, Names, own_fault, too_deep, unary_meaning, product_meaning, BaseKind, low_kind, high_kind, around_kind, pos_kind}
-use Rattle.pref_term.proofs.Common.{kind_word, named, UnaryHole, in_minus, first_factor, next_factor, first_product, next_product, in_group, in_reverse, unary_depth, State, operand, reverse_named}
-use Rattle.pref_term.proofs.Common.{reading, after, ranked, next, operand_word, between_kind, layered_kind, Goes, Fails, IsOther, Passes, ReadsBase, ReadsUnary, ReadsFactors, ReadsProducts}
-use Rattle.pref_term.proofs.Common.{ReadsProduct, ReadsPrior, ReadsGroup, ReadsReverse, FailsBase, FailsUnary, FailsGroup, FailsProduct, FailsPrior, ahead, taken, Preference, pareto, prior, reverse}
-use Rattle.pref_term.proofs.Common.{preference_of, Cursor, Taken, Word, Term, TermFault}
+use Rattle.pref_term.proofs.Common.{one_product, then_product, name, mark, opens, Names, own_fault, too_deep, unary_meaning, product_meaning, BaseKind, low_kind, kind_word, named, UnaryHole, in_minus}
+use Rattle.pref_term.proofs.Common.{first_factor, next_factor, first_product, next_product, in_group, in_reverse, unary_depth, State, operand, reverse_named, reading, after, ranked, next}
+use Rattle.pref_term.proofs.Common.{operand_word, Goes, Fails, IsOther, Passes, ReadsBase, ReadsUnary, ReadsFactors, ReadsProducts, ReadsProduct, ReadsPrior, ReadsGroup, ReadsReverse, FailsBase}
+use Rattle.pref_term.proofs.Common.{FailsUnary, FailsGroup, FailsProduct, FailsPrior, ahead, taken, Preference, pareto, prior, reverse, preference_of, Cursor, Taken, Word, Term, TermFault}
 use Rattle.pref_term.proofs.Complete.{ranked_goes_on, ranked_group, ranked_reverse}
 use Rattle.pref_term.proofs.LedLemmas.{goes_then, goes_fails, passes_goes, stuck_fails, taken_is, if_err_map}
 
@@ -87,11 +86,7 @@ group_end_fails names inside ts (u ∷ us) p f r o =
 
 by_kind : (h : UnaryHole) (k : BaseKind) → operand_word h (Some (kind_word k)) ≡ Some (name (kind_word k), reading h (named k))
 by_kind h low_kind = refl
-by_kind h high_kind = refl
-by_kind h around_kind = refl
-by_kind h between_kind = refl
-by_kind h pos_kind = refl
-by_kind h layered_kind = refl
+by_kind h _ = refl
 
 word_goes : (names : Names) (letters : List ℕ) (k : BaseKind) (ts us : List Placed) (h : UnaryHole) → Passes (word letters) ts us → keyword_of letters ≡ Some (kind_word k) → Goes names (operand h) ts (reading h (named k)) us
 word_goes names letters k ts us h c e = passes_goes names (word letters) ts us (operand h) (reading h (named k)) (name (kind_word k)) c (ap (operand_word h) e ∙ by_kind h k) refl

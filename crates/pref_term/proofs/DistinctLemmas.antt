@@ -4,8 +4,8 @@ use Rattle.pref_term.proofs.Common.{bytes_eq, str_to_ascii_lowercase, bytes_eq-D
 use Rattle.pref_term.proofs.Common.{cased_letters, cased_of, cased, IsWritten, Direction, minimal, maximal, different, DimText, HeadText, PriorText, AskText, rated, skyline, best_head, top_level_head}
 use Rattle.pref_term.proofs.Common.{at_least_head, ask_leaves, IsText, is_in_any_case, is_distinct_ahead, says_distinct, without_third, plain, is_word, Names, column_at, order_by, orders_of}
 use Rattle.pref_term.proofs.Common.{groups_of, product_of, tokens_in, tokens_on, IsGood, Spells, question, meant, ordered, start, skyline_named, dim_due, begun, of_named, run, word_ahead}
-use Rattle.pref_term.proofs.Common.{AsksWholeNothing, AsksClause, AsksClauseNothing, IsBehindDistinct, ReadsClause, FailsClause, Preference, scored, pareto, prior, reverse, Question, IsClause}
-use Rattle.pref_term.proofs.Common.{IsDimension, Best, TermFault, NoMinOrMax, and_made, and_right}
+use Rattle.pref_term.proofs.Common.{AsksWholeNothing, AsksClause, AsksClauseNothing, IsBehindDistinct, ReadsClause, FailsClause, Preference, scored, pareto, Question, IsClause, IsDimension, Best}
+use Rattle.pref_term.proofs.Common.{TermFault, NoMinOrMax, and_from, and_right}
 use Rattle.pref_term.proofs.Complete.{cased_found, no_keyword}
 use Rattle.pref_term.proofs.LedLemmas.{run_step, unless_map}
 use Rattle.pref_term.specs.declared.front.Token as code
@@ -23,7 +23,7 @@ pub behind_distinct : (s o : List ℕ) (ps po : ℕ) (d : Placed) (us : List Pla
     → IsBehindDistinct (word_ahead s ps (word_ahead o po (d ∷ us))) us
 behind_distinct s o ps po d us hs ho hd =
     let ts = word_ahead s ps (word_ahead o po (d ∷ us)) in
-    let said : says_distinct ts ≡ true = and_made _ _ hs (and_made _ _ ho hd) in
+    let said : says_distinct ts ≡ true = and_from _ _ hs (and_from _ _ ho hd) in
     record {
       said = said;
       skyline_is = s;
@@ -45,7 +45,7 @@ behind_said _ at ts h = refl
 -- three tokens ahead
 pub ahead_distinct : (ts us vs ws : List Placed) (d w : List ℕ) (t : Token) (pd pt pw : ℕ) → ts ≡ word_ahead d pd us → us ≡ record { token = t; place = pt } ∷ vs → vs ≡ word_ahead w pw ws → bytes_eq (codes "distinct") (str_to_ascii_lowercase d) ≡ true → true ≡ is_distinct_ahead ts
 ahead_distinct ts us vs ws d w t pd pt pw e f g h =
-    sym (ap is_distinct_ahead (e ∙ ap (word_ahead d pd) (f ∙ ap (λ xs. record { token = t; place = pt } ∷ xs) g)) ∙ and_made (bytes_eq (codes "distinct") (str_to_ascii_lowercase d)) true h refl)
+    sym (ap is_distinct_ahead (e ∙ ap (word_ahead d pd) (f ∙ ap (λ xs. record { token = t; place = pt } ∷ xs) g)) ∙ and_from (bytes_eq (codes "distinct") (str_to_ascii_lowercase d)) true h refl)
 
 -- ---- whole questions
 
@@ -73,9 +73,7 @@ clause_fails names distinct ts f h s o = unless_map f (λ k p. ap (meant names d
 clause_on : (p : Preference) (ps : List Preference) → IsClause p → AllByRecursion IsDimension ps → IsClause (fold pareto p ps)
 clause_on p [] h k = h
 clause_on p (scored t ∷ ps) h k = clause_on (pareto p (scored t)) ps (h, k.0) k.1
-clause_on p (pareto r s ∷ ps) h k = absurd k.0
-clause_on p (prior r s ∷ ps) h k = absurd k.0
-clause_on p (reverse r ∷ ps) h k = absurd k.0
+clause_on p (_ ∷ ps) h k = absurd k.0
 
 orders_fine : (names : Names) (ds : List DimText) → AllByRecursion IsDimension (orders_of names ds)
 orders_fine names [] = tt
@@ -92,9 +90,7 @@ product_is_clause names ds p e = go (orders_of names ds) (orders_fine names ds) 
     go : (ps : List Preference) → AllByRecursion IsDimension ps → product_of ps ≡ Some p → IsClause p
     go [] k e = cc
     go (scored t ∷ ps) k e = let f : fold pareto (scored t) ps ≡ p = cc in subst IsClause f (clause_on (scored t) ps k.0 k.1)
-    go (pareto r s ∷ ps) k e = absurd k.0
-    go (prior r s ∷ ps) k e = absurd k.0
-    go (reverse r ∷ ps) k e = absurd k.0
+    go (_ ∷ ps) k e = absurd k.0
 
 -- ---- texts without the word
 
@@ -117,16 +113,12 @@ plain_tokens ts tokens e f = ap (λ b. tokens_in (cond b (without_third ts) ts))
 
 -- nor does a text whose fifth token is no word
 fifth_said : (ts : List Placed) (a b c d e : Token) (rest : List Token) → tokens_in ts ≡ a ∷ b ∷ c ∷ d ∷ e ∷ rest → is_word e ≡ false → says_distinct ts ≡ false
-fifth_said [] a b c d e rest h ends = refl
-fifth_said (s ∷ []) a b c d e rest h ends = refl
-fifth_said (s ∷ o ∷ []) a b c d e rest h ends = cc
-fifth_said (s ∷ o ∷ t ∷ []) a b c d e rest h ends = cc
-fifth_said (s ∷ o ∷ t ∷ u ∷ []) a b c d e rest h ends = cc
 fifth_said (s ∷ o ∷ t ∷ u ∷ v ∷ ts) a b c d e rest h ends =
     let same : v.token ≡ e = cc in
     and_right (is_in_any_case (codes "skyline") s.token) _
     (and_right (is_in_any_case (codes "of") o.token) _
     (and_right (is_in_any_case (codes "distinct") t.token) (is_word v.token) (ap is_word same ∙ ends)))
+fifth_said _ a b c d e rest h ends = cc
 
 -- so a text of the grammar does not
 tree_said : (tree : AskText) (ts : List Placed) → tokens_in ts ≡ tokens_on (ask_leaves tree) → says_distinct ts ≡ false

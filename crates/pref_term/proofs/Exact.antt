@@ -2,8 +2,7 @@
 use Rattle.pref_term.proofs.Common.{◌≡◌, ℕ, List, [], ◌∷◌, ◌++◌, Option, Some, None, Result, Ok, Err, refl, sym, ap, subst, ◌∙◌, append_assoc, append-nil, ◌⊎◌, inl, inr, IfSome, MatchResult}
 use Rattle.pref_term.proofs.Common.{AllByRecursion, map-append, Token, finish, Placed, PriorText, AskText, rated, skyline, IsText, IsWritten, Leaf, token_of, ask_leaves, Names, tokens_in, tokens_on}
 use Rattle.pref_term.proofs.Common.{IsGood, own_fault, OwnFault, Starts, told, told_at, last_place, IsUnexpected, HasOwnFault, FirstFault, State, start, reading, after, group_listed, dims_listed}
-use Rattle.pref_term.proofs.Common.{done, read_of, next, run, led, judged, ended, PriorHole, whole, finished, BasePart, named, opened, columned, number_due, number_signed, centred, listed, base_next}
-use Rattle.pref_term.proofs.Common.{outer, closed, ranged, range_ended, set_due, sets_listed, TermFault, Unexpected}
+use Rattle.pref_term.proofs.Common.{done, read_of, next, run, led, judged, ended, PriorHole, whole, finished, BasePart, named, base_next, outer, closed, TermFault, Unexpected}
 use Rattle.pref_term.proofs.Sound.{next_grows, Grows}
 use Rattle.pref_term.proofs.Complete.{Reads, reads_on, reads_ask, can_end}
 
@@ -151,16 +150,7 @@ finished_done _ r = tt
 
 base_unfinished : (b : BasePart) → base_next b finish ≡ None
 base_unfinished (named k) = refl
-base_unfinished (opened k) = refl
-base_unfinished (columned k column) = refl
-base_unfinished (number_due n) = refl
-base_unfinished (number_signed n) = refl
-base_unfinished (centred column centre) = refl
-base_unfinished (listed l first others) = refl
-base_unfinished (set_due column sets) = refl
-base_unfinished (sets_listed column first others) = refl
-base_unfinished (ranged column l) = refl
-base_unfinished (range_ended column l r) = refl
+base_unfinished _ = refl
 
 finish_done : (s : State) → IfSome (next s finish) (λ x. IsDone x.1)
 finish_done (after h p) = finished_done (outer h) (closed h p)

@@ -2,7 +2,7 @@
 use Rattle.pref_term.proofs.Common.{◌≡◌, ◌<◌, ℤ, pos, Bool, true, false, not, int_lt, if◌then◌else◌, List, [], ◌∷◌, ◌++◌, refl, sym, ap, subst, ◌∙◌, arith, ◌^◌, ◌-◌, ◌-ℤ◌, ◌+ℤ◌, neg_ℤ, unsigned_abs}
 use Rattle.pref_term.proofs.Common.{All, list_any, int_eq, false≢true, ints, All-append, All-cons, All-nil, cell, missed, outside, score, sets_before, ReadsBelow, column, by_key, by_keys, is_number}
 use Rattle.pref_term.proofs.Common.{is_product, key_for, leading, opposed, and_parts, Base, low, high, around, between, one_of, layered, Preference, scored, pareto, prior, reverse, by_scores}
-use Rattle.pref_term.proofs.Common.{in_priority, in_product, walked, Key, Relation, Better, Worse, Same, Neither}
+use Rattle.pref_term.proofs.Common.{in_priority, in_product, walked, Key, Relation, Better, Worse, Same}
 
 -- how a preference, or its converse, compares two rows
 abbrev pub directed : Bool → Preference → List ℤ → List ℤ → Relation
@@ -92,11 +92,7 @@ directed_reverse false p a b = refl
 
 key_column : (t : Base) (s : Bool) → (key_for t s).col ≡ column t
 key_column (low col) s = refl
-key_column (high col) s = refl
-key_column (around col centre) s = refl
-key_column (between col left right) s = refl
-key_column (one_of col set) s = refl
-key_column (layered col sets) s = refl
+key_column _ s = refl
 
 -- they read its columns
 pub leading_in_row : (p : Preference) (s : Bool) → ReadsBelow 16 p → All (λ key. key.col < 16) (leading p s)
@@ -107,11 +103,7 @@ leading_in_row (reverse p) s h = leading_in_row p (not s) h
 
 key_score : (t : Base) (s : Bool) → (key_for t s).score ≡ (key_for t false).score
 key_score (low col) s = refl
-key_score (high col) s = refl
-key_score (around col centre) s = refl
-key_score (between col left right) s = refl
-key_score (one_of col set) s = refl
-key_score (layered col sets) s = refl
+key_score _ s = refl
 
 -- those of a product have no sets
 pub leading_numbers : (p : Preference) (s : Bool) → is_product p ≡ true → All (λ key. is_number key.score ≡ true) (leading p s)
@@ -124,34 +116,15 @@ leading_numbers (prior p q) s h = absurd (false≢true h)
 leading_numbers (reverse p) s h = leading_numbers p (not s) h
 
 product-assoc : (r s t : Relation) → in_product (in_product r s) t ≡ in_product r (in_product s t)
-product-assoc Same s t = refl
-product-assoc Neither s t = refl
 product-assoc Better Better Better = refl
-product-assoc Better Better Worse = refl
-product-assoc Better Better Same = refl
-product-assoc Better Better Neither = refl
 product-assoc Better Worse Better = refl
-product-assoc Better Worse Worse = refl
-product-assoc Better Worse Same = refl
-product-assoc Better Worse Neither = refl
-product-assoc Better Same t = refl
-product-assoc Better Neither t = refl
 product-assoc Worse Better Better = refl
-product-assoc Worse Better Worse = refl
-product-assoc Worse Better Same = refl
-product-assoc Worse Better Neither = refl
 product-assoc Worse Worse Better = refl
-product-assoc Worse Worse Worse = refl
-product-assoc Worse Worse Same = refl
-product-assoc Worse Worse Neither = refl
-product-assoc Worse Same t = refl
-product-assoc Worse Neither t = refl
+product-assoc _ _ _ = refl
 
 product_same : (r : Relation) → in_product r Same ≡ r
 product_same Better = refl
-product_same Worse = refl
-product_same Same = refl
-product_same Neither = refl
+product_same _ = refl
 
 keys-append : (xs ys : List Key) (a b : List ℤ) → by_keys (xs ++ ys) a b ≡ in_product (by_keys xs a b) (by_keys ys a b)
 keys-append [] ys a b = refl

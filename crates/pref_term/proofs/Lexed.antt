@@ -234,57 +234,19 @@ apart_base : (b : BaseText) (rest : List ℕ) → FineBase b → Apart (base_lea
 apart_base (low_text column) rest h = (tt, refl, (tt, tt, (h, refl, (tt, tt, tt))))
 apart_base (high_text column) rest h = (tt, refl, (tt, tt, (h, refl, (tt, tt, tt))))
 apart_base (around_text column centre) rest h =
-    (tt, refl, (tt, tt, (h.0, refl, (tt, tt, apart_both (number_leaves centre) (mark right ∷ []) rest (apart_number None centre.negative centre.digits (codes ")" ++ rest) h.1 refl) (tt, tt, tt)))))
-apart_base (between_text column l r) rest h = (
-  tt,
-  refl,
-  (
-    tt,
-    tt,
-    (
-      h.0,
-      refl,
-      (
-        tt,
-        tt,
-        apart_both (number_leaves l) (mark comma ∷ end_leaves l r ++ mark right ∷ []) rest
-            (apart_number None l.negative l.digits (leaves_text (mark comma ∷ end_leaves l r ++ mark right ∷ []) ++ rest) h.1 refl)
-            (tt, tt, apart_both (end_leaves l r) (mark right ∷ []) rest (apart_number (Some l) r.negative r.digits (codes ")" ++ rest) h.2 refl) (tt, tt, tt)),
-      ),
-    ),
-  ),
-)
-apart_base (pos_text column first others) rest h = (
-  tt,
-  refl,
-  (
-    tt,
-    tt,
-    (
-      h.0,
-      refl,
-      (tt, tt, apart_list first others right rest h.1 refl),
-    ),
-  ),
-)
-apart_base (layered_text column first others) rest h = (
-  tt,
-  refl,
-  (
-    tt,
-    tt,
-    (
-      h.0,
-      refl,
-      (
-        tt,
-        tt,
-        apart_both (set_leaves first) (more_sets others ++ mark right ∷ []) rest (apart_set first (leaves_text (more_sets others ++ mark right ∷ []) ++ rest) h.1.0)
-            (apart_both (more_sets others) (mark right ∷ []) rest (apart_sets others (codes ")" ++ rest) h.1.1) (tt, tt, tt)),
-      ),
-    ),
-  ),
-)
+    let number = apart_both (number_leaves centre) (mark right ∷ []) rest (apart_number None centre.negative centre.digits (codes ")" ++ rest) h.1 refl) (tt, tt, tt) in
+    (tt, refl, (tt, tt, (h.0, refl, (tt, tt, number))))
+apart_base (between_text column l r) rest h =
+    let right_end = apart_both (end_leaves l r) (mark right ∷ []) rest (apart_number (Some l) r.negative r.digits (codes ")" ++ rest) h.2 refl) (tt, tt, tt) in
+    let behind = mark comma ∷ end_leaves l r ++ mark right ∷ [] in
+    let numbers = apart_both (number_leaves l) behind rest (apart_number None l.negative l.digits (leaves_text behind ++ rest) h.1 refl) (tt, tt, right_end) in
+    (tt, refl, (tt, tt, (h.0, refl, (tt, tt, numbers))))
+apart_base (pos_text column first others) rest h = (tt, refl, (tt, tt, (h.0, refl, (tt, tt, apart_list first others right rest h.1 refl))))
+apart_base (layered_text column first others) rest h =
+    let more = apart_both (more_sets others) (mark right ∷ []) rest (apart_sets others (codes ")" ++ rest) h.1.1) (tt, tt, tt) in
+    let behind = more_sets others ++ mark right ∷ [] in
+    let sets = apart_both (set_leaves first) behind rest (apart_set first (leaves_text behind ++ rest) h.1.0) more in
+    (tt, refl, (tt, tt, (h.0, refl, (tt, tt, sets))))
 
 mutual
   pub apart_prior : (r : PriorText) (depth : ℕ) (rest : List ℕ) → FinePrior r → Apart (prior_leaves r depth) rest

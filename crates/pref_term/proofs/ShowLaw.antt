@@ -127,47 +127,18 @@ base_good : (names : Names) (b : Base) → CanShowBase names b → AllByRecursio
 base_good names (low col) h = (refl, (refl, (column_fine names col h, (refl, tt))))
 base_good names (high col) h = (refl, (refl, (column_fine names col h, (refl, tt))))
 base_good names (around col centre) h =
-    (refl, (refl, (column_fine names col h.0, (refl, good_both names (number_leaves (number_text centre)) (mark right ∷ []) (number_good names centre h.1) (refl, tt)))))
-base_good names (between col l r) h = (
-  refl,
-  (
-    refl,
-    (
-      column_fine names col h.0,
-      (
-        refl,
-        good_both names (number_leaves (number_text l)) (mark comma ∷ end_leaves (number_text l) (number_text r) ++ mark right ∷ []) (number_good names l h.1)
-            (refl, good_both names (end_leaves (number_text l) (number_text r)) (mark right ∷ []) (end_good names l r h.1 h.2 h.3) (refl, tt)),
-      ),
-    ),
-  ),
-)
+    let number = good_both names (number_leaves (number_text centre)) (mark right ∷ []) (number_good names centre h.1) (refl, tt) in
+    (refl, (refl, (column_fine names col h.0, (refl, number))))
+base_good names (between col l r) h =
+    let right_end = good_both names (end_leaves (number_text l) (number_text r)) (mark right ∷ []) (end_good names l r h.1 h.2 h.3) (refl, tt) in
+    let behind = mark comma ∷ end_leaves (number_text l) (number_text r) ++ mark right ∷ [] in
+    (refl, (refl, (column_fine names col h.0, (refl, good_both names (number_leaves (number_text l)) behind (number_good names l h.1) (refl, right_end)))))
 base_good names (one_of col []) h = absurd h
-base_good names (one_of col (v ∷ vs)) h = (
-  refl,
-  (
-    refl,
-    (
-      column_fine names col h.0,
-      (refl, list_good names v vs right h.1),
-    ),
-  ),
-)
+base_good names (one_of col (v ∷ vs)) h = (refl, (refl, (column_fine names col h.0, (refl, list_good names v vs right h.1))))
 base_good names (layered col []) h = absurd h
-base_good names (layered col (s ∷ ss)) h = (
-  refl,
-  (
-    refl,
-    (
-      column_fine names col h.0,
-      (
-        refl,
-        good_both names (set_leaves (set_text s)) (more_sets (map set_text ss) ++ mark right ∷ []) (set_good names s h.1.0)
-            (good_both names (more_sets (map set_text ss)) (mark right ∷ []) (sets_good names ss h.1.1) (refl, tt)),
-      ),
-    ),
-  ),
-)
+base_good names (layered col (s ∷ ss)) h =
+    let more = good_both names (more_sets (map set_text ss)) (mark right ∷ []) (sets_good names ss h.1.1) (refl, tt) in
+    (refl, (refl, (column_fine names col h.0, (refl, good_both names (set_leaves (set_text s)) (more_sets (map set_text ss) ++ mark right ∷ []) (set_good names s h.1.0) more))))
 
 -- what is shown within so many open nestings has no fault
 abbrev GoodWithin : Names → Preference → Type 0

@@ -1,7 +1,7 @@
 -- Each name of a schema is a word, and its first column is its own.
-use Rattle.pref_term.proofs.Common.{◌≡◌, ◌<◌, ◌+◌, ◌-◌, ℕ, zero, suc, List, [], ◌∷◌, length, take, get_or, Bool, true, false, cond, not, ◌&&◌, ◌||◌, nat_lt, nat_le, Some, None, Result, Ok, Err, refl}
-use Rattle.pref_term.proofs.Common.{sym, ap, subst, ◌∙◌, arith, position, is_ascii_alphabetic, AllByRecursion, list_any, list_all, position_or_len, bytes_eq, bytes_eq-Decides, nat_tests, is_name}
-use Rattle.pref_term.proofs.Common.{is_name_byte, name_after, name_in, schema_of, and_parts, Names, name_at}
+use Rattle.pref_term.proofs.Common.{or_parts, ◌≡◌, ◌<◌, ◌+◌, ◌-◌, ℕ, zero, suc, List, [], ◌∷◌, length, take, get_or, Bool, true, false, cond, not, ◌&&◌, nat_lt, nat_le, Some, None, Result, Ok, Err}
+use Rattle.pref_term.proofs.Common.{refl, sym, ap, subst, ◌∙◌, arith, position, is_ascii_alphabetic, AllByRecursion, list_any, list_all, position_or_len, bytes_eq, bytes_eq-Decides, nat_tests}
+use Rattle.pref_term.proofs.Common.{is_name, is_name_byte, name_after, name_in, schema_of, and_parts, Names, name_at}
 use Rattle.pref_table.specs.Columns.{column_of}
 use Rattle.pref_table.specs.Numbered.{all_from}
 use Rattle.pref_table.specs.declared.fault.TableFault.TheVariants.{SameName, BadName}
@@ -55,10 +55,6 @@ all_from-at f n (x ∷ xs) ys (suc i) d h k =
     let inside : i < length xs = omega arith in
     ap (λ m. f m (get_or xs i d)) here ∙ (all_from-at f (n + 1) xs ws i d at_xs inside ∙ ap (λ zs. Ok (get_or zs (suc i) d)) (sym whole))
 
-none_parts : (x y : Bool) → (x || y) ≡ false → (x ≡ false) × (y ≡ false)
-none_parts true y h = cc
-none_parts false y h = (refl, h)
-
 -- the first place at which a test passes
 first_place : {A : Type 0} (p : A → Bool) (xs : List A) (i : ℕ) (d : A) → i < length xs → p (get_or xs i d) ≡ true → list_any p (take i xs) ≡ false → position_or_len p xs ≡ i
 first_place p [] i d k here before = absurd (omega arith)
@@ -66,7 +62,7 @@ first_place p (x ∷ xs) zero d k here before = ap (λ b. cond (not b) (1 + posi
 first_place p (x ∷ xs) (suc i) d k here before =
     let inside : i < length xs = omega arith in
     let one : 1 + i ≡ suc i = omega arith in
-    let parts = none_parts (p x) (list_any p (take i xs)) before in
+    let parts = or_parts (p x) (list_any p (take i xs)) before in
     ap (λ c. cond (not c) (1 + position_or_len p xs) 0) parts.0 ∙ (ap (λ n. 1 + n) (first_place p xs i d inside here parts.1) ∙ one)
 
 first_position : {A : Type 0} (p : A → Bool) (xs : List A) (i : ℕ) → i < length xs → position_or_len p xs ≡ i → position p xs ≡ Some i

@@ -1,8 +1,9 @@
 -- Of two rows of which the first is over the second, or its twin, the first reaches no mark that the second does not reach.
-use Rattle.pref_term.proofs.Common.{◌≡◌, ℕ, ℤ, pos, List, [], ◌∷◌, Bool, true, false, map, not, inl, inr, refl, sym, ap, ◌∙◌, subst, arith, if◌then◌else◌, All, bit_and, int_lt, ◌==◌, flat_map, int_eq}
-use Rattle.pref_term.proofs.Common.{false≢true, Decides-int_eq, ints, All-append, All-cons, All-contains, All-nil, order_of, better, in_same_group, cell, same, from_zero, key_for, keyed, leading}
-use Rattle.pref_term.proofs.Common.{opposed, is_better, is_same, and_parts, Preference, scored, pareto, prior, reverse, Question, Suit, bits_by, is_within, mixed, scale_column, signature, twins_alike}
-use Rattle.pref_term.proofs.Common.{by_scores, in_priority, in_product, walked, Key, Relation, Better, Worse, Same, Neither}
+use Rattle.pref_term.proofs.Common.{not-true, ◌≡◌, ℕ, ℤ, pos, List, [], ◌∷◌, Bool, true, false, map, not, inl, inr, refl, sym, ap, ◌∙◌, subst, arith, if◌then◌else◌, All, bit_and, int_lt, ◌==◌}
+use Rattle.pref_term.proofs.Common.{flat_map, int_eq, false≢true, Decides-int_eq, ints, All-append, All-cons, All-contains, All-nil, order_of, better, in_same_group, cell, same, from_zero, key_for}
+use Rattle.pref_term.proofs.Common.{keyed, leading, opposed, is_better, is_same, and_parts, Preference, scored, pareto, prior, reverse, Question, Suit, bits_by, is_within, mixed, scale_column}
+use Rattle.pref_term.proofs.Common.{signature, twins_alike, by_scores, in_priority, in_product, walked, Key, Relation, Better, Worse, Same, Neither}
+use Rattle.pref_term.specs.RelationLaws.{lower_once}
 use Rattle.pref_term.specs.Leading.{Suits}
 use Rattle.pref_term.specs.declared.signature.scale.Scale.{Scale}
 use Rattle.pref_term.specs.declared.signature.scale.Scale.TheVariants.{Marks, Hashes}
@@ -52,15 +53,12 @@ priority_fits Worse s h = h
 priority_fits Same s h = refl
 priority_fits Neither s h = h
 
-no_lower : (x y : ℤ) → int_lt x y ≡ true → int_lt y x ≡ false
-no_lower x y h = grind (arith, ints)
-
 scores_fit : (x y : ℤ) → fits (by_scores x y) ≡ true → int_lt y x ≡ false
 unfolding fits
 scores_fit x y h = go (int_lt x y) (int_lt y x) refl refl h
   where
     go : (p q : Bool) → int_lt x y ≡ p → int_lt y x ≡ q → fits (if p then Better else if q then Worse else Same) ≡ true → int_lt y x ≡ false
-    go true q e f h = no_lower x y e
+    go true q e f h = lower_once x y e
     go false true e f h = absurd (false≢true h)
     go false false e f h = f
 
@@ -96,17 +94,13 @@ bits_as (Hashes c masks) a b e =
 up : (x y v : ℤ) → int_lt y x ≡ false → int_lt x v ≡ false → int_lt y v ≡ false
 up x y v h k = grind (arith, ints)
 
-not_false : (b : Bool) → not b ≡ true → b ≡ false
-not_false true h = absurd (false≢true h)
-not_false false h = refl
-
 -- where the second row has no smaller key, it reaches each mark that the first reaches
 reached : (k : Key) (marks : List ℕ) (a b : List ℤ) → Keeps a b k
     → Implied (map (λ mark. not (int_lt (keyed k a) (pos mark))) marks) (map (λ mark. not (int_lt (keyed k b) (pos mark))) marks)
 unfolding Keeps
 reached k marks a b keeps =
     implied_map (λ mark. not (int_lt (keyed k a) (pos mark))) (λ mark. not (int_lt (keyed k b) (pos mark)))
-    (λ mark h. ap not (up (keyed k a) (keyed k b) (pos mark) keeps (not_false (int_lt (keyed k a) (pos mark)) h))) marks
+    (λ mark h. ap not (up (keyed k a) (keyed k b) (pos mark) keeps (not-true (int_lt (keyed k a) (pos mark)) h))) marks
 
 suiting : (keys : List Key) (group : List ℕ) (scale : Scale) (a b : List ℤ) → All (Keeps a b) keys → in_same_group group a b ≡ true
     → Suits keys group scale → Implied (bits_by scale a) (bits_by scale b)

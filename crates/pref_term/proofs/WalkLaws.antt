@@ -13,22 +13,13 @@ flipped Neither = Neither
 flipped-product : (r s : Relation) → flipped (in_product r s) ≡ in_product (flipped r) (flipped s)
 unfolding flipped
 flipped-product Better Better = refl
-flipped-product Better Worse = refl
-flipped-product Better Same = refl
-flipped-product Better Neither = refl
 flipped-product Worse Better = refl
-flipped-product Worse Worse = refl
-flipped-product Worse Same = refl
-flipped-product Worse Neither = refl
-flipped-product Same s = refl
-flipped-product Neither s = refl
+flipped-product _ _ = refl
 
 flipped-priority : (r s : Relation) → flipped (in_priority r s) ≡ in_priority (flipped r) (flipped s)
 unfolding flipped
 flipped-priority Better s = refl
-flipped-priority Worse s = refl
-flipped-priority Same s = refl
-flipped-priority Neither s = refl
+flipped-priority _ s = refl
 
 flipped-scores : (x y : ℤ) → flipped (by_scores x y) ≡ by_scores y x
 unfolding flipped
@@ -50,16 +41,12 @@ walked-flipped (reverse p) a b = walked-flipped p b a
 same-flipped : (r : Relation) → is_same (flipped r) ≡ is_same r
 unfolding flipped
 same-flipped Better = refl
-same-flipped Worse = refl
-same-flipped Same = refl
-same-flipped Neither = refl
+same-flipped _ = refl
 
 better-flipped : (r : Relation) → is_better (flipped r) ≡ is_worse r
 unfolding flipped
 better-flipped Better = refl
-better-flipped Worse = refl
-better-flipped Same = refl
-better-flipped Neither = refl
+better-flipped _ = refl
 
 pub walked-same : (p : Preference) (a b : List ℤ) → is_same (walked p a b) ≡ same p a b
 walked-same (scored t) a b = scores-same (score t a) (score t b)

@@ -3,7 +3,8 @@ use Rattle.std.proofs.Common.{◌≡◌, Bool, true, false, List, ℤ, refl, sym
 use Rattle.std.specs.Prelude.{◌&&◌}
 use Rattle.pref_term.specs.Better.{better, in_same_group, same}
 use Rattle.pref_term.specs.Order.{IsRowOrder, IsStrictOrder, RowOrder, StandAlike}
-use Rattle.pref_term.specs.OrderLaws.{and_made, and_parts, over_not_self, over_on, alike_above, alike_below}
+use Rattle.std.proofs.lemmas.Bool.{and_from, and_parts}
+use Rattle.pref_term.specs.OrderLaws.{over_not_self, over_on, alike_above, alike_below}
 use Rattle.pref_term.specs.Question.{Question, IsAsk, alike, over, twins}
 use Rattle.pref_term.specs.TwinLaws.{clause_twins, twins_alike, twins_back, twins_have_twins, twins_on}
 
@@ -35,7 +36,7 @@ order_of_twins_alike q known a b h = go q.distinct refl
     go : (d : Bool) → q.distinct ≡ d → StandAlike (order_of q).twin a b
     go true keeps =
         twins_have_twins (order_of q) (order_of_is_row_order q) a b
-        (and_made q.distinct _ keeps (sym (clause_twins q a b (known.clause keeps).preference) ∙ h))
+        (and_from q.distinct _ keeps (sym (clause_twins q a b (known.clause keeps).preference) ∙ h))
     go false all = record { above = λ c. rw all refl; below = λ c. rw all refl }
 
 -- twins are just the rows of one group that are the same, where of equal rows one is kept

@@ -9,7 +9,9 @@ use Rattle.pref_term.specs.Better.{cell, in_same_group}
 use Rattle.pref_term.specs.Chains.{IsInRow, IsProductOf, by_chain, by_chains, chain_order, first_chain, second_chain, tie_chain}
 use Rattle.pref_term.specs.Keys.{by_key, keyed}
 use Rattle.pref_term.specs.Order.{IsRowOrder, StandAlike, is_better, is_same}
-use Rattle.pref_term.specs.OrderLaws.{IsOrder, and_made, beats, group_back, group_on, pareto_order, prior_order, same_test, scores_order}
+use Rattle.std.proofs.lemmas.Bool.{and_from}
+use Rattle.std.specs.Cmp.Derive.{one_truth}
+use Rattle.pref_term.specs.OrderLaws.{IsOrder, beats, group_back, group_on, pareto_order, prior_order, scores_order}
 use Rattle.pref_term.specs.RelationLaws.{priority-better, priority-same, product-better, product-same, scores-better, scores-same}
 use Rattle.pref_term.specs.Walk.{in_product}
 use Rattle.pref_term.specs.declared.chains.Chains.{Chains}
@@ -63,7 +65,7 @@ chains_are_order chains =
 
 group_self : (columns : List ℕ) (a : List ℤ) → in_same_group columns a a ≡ true
 group_self [] a = refl
-group_self (col ∷ columns) a = and_made (int_eq (cell a col) (cell a col)) (in_same_group columns a a) ((Decides-int_eq (cell a col) (cell a col)).1 refl) (group_self columns a)
+group_self (col ∷ columns) a = and_from (int_eq (cell a col) (cell a col)) (in_same_group columns a a) ((Decides-int_eq (cell a col) (cell a col)).1 refl) (group_self columns a)
 
 groups_are_order : (columns : List ℕ) → IsOrder (λ a b. false) (in_same_group columns)
 groups_are_order columns = record {
@@ -88,8 +90,8 @@ module _ (columns : List ℕ) (chains : Chains) where
       let over = (chain_order columns chains true).over in
       let back = order.alike_back a b h in
       record {
-        above = λ c. same_test (over c a) (over c b) (λ k. order.before_alike c a b k h) (λ k. order.before_alike c b a k back);
-        below = λ c. same_test (over a c) (over b c) (λ k. order.alike_before b a c back k) (λ k. order.alike_before a b c h k);
+        above = λ c. one_truth (over c a) (over c b) (λ k. order.before_alike c a b k h) (λ k. order.before_alike c b a k back);
+        below = λ c. one_truth (over a c) (over b c) (λ k. order.alike_before b a c back k) (λ k. order.alike_before a b c h k);
       }
 
   -- what the chains say is a row order

@@ -1,17 +1,16 @@
 -- No public contract cites this.
 -- The tests of equality are true exactly where preferences, modes and questions are the same. (this project)
-use Rattle.std.proofs.Common.{◌≡◌, ◌==◌, ℕ, List, Bool, true, false, ap, refl, sym, subst, ℤ}
-use Rattle.std.proofs.lemmas.Bool.Decides.{same_from_decides}
+use Rattle.std.proofs.Common.{◌≡◌, ◌==◌, ℕ, List, true, ap, refl, subst, ℤ}
+use Rattle.std.proofs.lemmas.Bool.{and_parts}
 use Rattle.std.proofs.lemmas.Cmp.{on_equiv}
 use Rattle.std.proofs.lemmas.Slice.Eq.{slice_eq-Decides}
-use Rattle.std.specs.Bool.{Decides, beq}
-use Rattle.std.specs.Cmp.{IsEquivalence, signed_Decides, unsigned_Decides}
+use Rattle.std.specs.Bool.{Decides}
+use Rattle.std.specs.Cmp.{IsEquivalence, booleans_Decides, decided, signed_Decides, unsigned_Decides}
 use Rattle.std.specs.Cmp.Derive.{both_true}
 use Rattle.std.specs.Cmp.Lexicographic.{pointwise}
 use Rattle.std.specs.Cmp.Rules.{signed_items}
 use Rattle.std.specs.Ordering.{int_eq, on}
 use Rattle.pref_term.specs.Equal.{base_eq, preference_eq, mode_eq, question_eq}
-use Rattle.pref_term.specs.OrderLaws.{and_parts}
 use Rattle.pref_term.specs.Preference.{Base, low, high, around, one_of, Preference, scored, pareto, prior, reverse, preference_of, between, layered}
 use Rattle.pref_term.specs.Question.{Question}
 use Rattle.pref_term.specs.declared.ask.Mode.{Mode}
@@ -32,36 +31,7 @@ base_sound (between a c d) (between b e f) h =
     let l = and_parts _ _ k.0 in
     λ i. between ((unsigned_Decides a b).0 l.0 i) ((signed_Decides c e).0 l.1 i) ((signed_Decides d f).0 k.1 i)
 base_sound (layered a s) (layered b t) h = let k = and_parts _ _ h in λ i. layered ((unsigned_Decides a b).0 k.0 i) ((set_lists s t).0 k.1 i)
-base_sound (low a) (layered b t) h = cc
-base_sound (high a) (layered b t) h = cc
-base_sound (around a c) (layered b t) h = cc
-base_sound (between a c d) (layered b t) h = cc
-base_sound (one_of a s) (layered b t) h = cc
-base_sound (layered a s) (low b) h = cc
-base_sound (layered a s) (high b) h = cc
-base_sound (layered a s) (around b d) h = cc
-base_sound (layered a s) (between b e f) h = cc
-base_sound (layered a s) (one_of b t) h = cc
-base_sound (low a) (between b e f) h = cc
-base_sound (high a) (between b e f) h = cc
-base_sound (around a c) (between b e f) h = cc
-base_sound (one_of a s) (between b e f) h = cc
-base_sound (between a c d) (low b) h = cc
-base_sound (between a c d) (high b) h = cc
-base_sound (between a c d) (around b e) h = cc
-base_sound (between a c d) (one_of b t) h = cc
-base_sound (low a) (high b) h = cc
-base_sound (low a) (around b d) h = cc
-base_sound (low a) (one_of b t) h = cc
-base_sound (high a) (low b) h = cc
-base_sound (high a) (around b d) h = cc
-base_sound (high a) (one_of b t) h = cc
-base_sound (around a c) (low b) h = cc
-base_sound (around a c) (high b) h = cc
-base_sound (around a c) (one_of b t) h = cc
-base_sound (one_of a s) (low b) h = cc
-base_sound (one_of a s) (high b) h = cc
-base_sound (one_of a s) (around b d) h = cc
+base_sound _ _ h = cc
 
 -- and the test of one with itself is true
 base_same : (b : Base) → base_eq b b ≡ true
@@ -77,18 +47,7 @@ preference_sound (scored b) (scored c) h = ap scored (base_sound b c h)
 preference_sound (pareto p q) (pareto r s) h = let k = and_parts _ _ h in λ i. pareto (preference_sound p r k.0 i) (preference_sound q s k.1 i)
 preference_sound (prior p q) (prior r s) h = let k = and_parts _ _ h in λ i. prior (preference_sound p r k.0 i) (preference_sound q s k.1 i)
 preference_sound (reverse p) (reverse r) h = ap reverse (preference_sound p r h)
-preference_sound (scored b) (pareto p q) h = cc
-preference_sound (scored b) (prior p q) h = cc
-preference_sound (scored b) (reverse p) h = cc
-preference_sound (pareto p q) (scored b) h = cc
-preference_sound (pareto p q) (prior r s) h = cc
-preference_sound (pareto p q) (reverse r) h = cc
-preference_sound (prior p q) (scored b) h = cc
-preference_sound (prior p q) (pareto r s) h = cc
-preference_sound (prior p q) (reverse r) h = cc
-preference_sound (reverse p) (scored b) h = cc
-preference_sound (reverse p) (pareto q r) h = cc
-preference_sound (reverse p) (prior q r) h = cc
+preference_sound _ _ h = cc
 
 preference_same : (p : Preference) → preference_eq p p ≡ true
 preference_same (scored b) = base_same b
@@ -103,12 +62,7 @@ mode_sound : (a b : Mode) → mode_eq a b ≡ true → a ≡ b
 mode_sound Best Best h = refl
 mode_sound (TopLevel k) (TopLevel l) h = ap TopLevel ((unsigned_Decides k l).0 h)
 mode_sound (AtLeast k) (AtLeast l) h = ap AtLeast ((unsigned_Decides k l).0 h)
-mode_sound Best (TopLevel l) h = cc
-mode_sound Best (AtLeast l) h = cc
-mode_sound (TopLevel k) Best h = cc
-mode_sound (TopLevel k) (AtLeast l) h = cc
-mode_sound (AtLeast k) Best h = cc
-mode_sound (AtLeast k) (TopLevel l) h = cc
+mode_sound _ _ h = cc
 
 mode_same : (m : Mode) → mode_eq m m ≡ true
 mode_same Best = refl
@@ -118,34 +72,21 @@ mode_same (AtLeast k) = (unsigned_Decides k k).1 refl
 group_eq-Decides : (a b : List ℕ) → Decides (pointwise ◌==◌ a b) (a ≡ b)
 group_eq-Decides a b = slice_eq-Decides unsigned_Decides a b _ refl
 
-pub bool_Decides : (a b : Bool) → Decides (beq a b) (a ≡ b)
-bool_Decides true true = (λ h. refl, λ e. refl)
-bool_Decides true false = (λ h. cc, λ e. cc)
-bool_Decides false true = (λ h. cc, λ e. cc)
-bool_Decides false false = (λ h. refl, λ e. refl)
-
 question_same : (q : Question) → question_eq q q ≡ true
-question_same q = both_true (both_true (both_true (preference_same q.preference) ((group_eq-Decides q.group q.group).1 refl)) (mode_same q.mode)) ((bool_Decides q.distinct q.distinct).1 refl)
+question_same q = both_true (both_true (both_true (preference_same q.preference) ((group_eq-Decides q.group q.group).1 refl)) (mode_same q.mode)) ((booleans_Decides q.distinct q.distinct).1 refl)
 
 question_sound : (p q : Question) → question_eq p q ≡ true → p ≡ q
 question_sound p q h =
     let k = and_parts _ _ h in
     let l = and_parts _ _ k.0 in
     let m = and_parts _ _ l.0 in
-    λ i. record { preference = preference_sound p.preference q.preference m.0 i; group = (group_eq-Decides p.group q.group).0 m.1 i; mode = mode_sound p.mode q.mode l.1 i; distinct = (bool_Decides p.distinct q.distinct).0 k.1 i }
+    λ i. record { preference = preference_sound p.preference q.preference m.0 i; group = (group_eq-Decides p.group q.group).0 m.1 i; mode = mode_sound p.mode q.mode l.1 i; distinct = (booleans_Decides p.distinct q.distinct).0 k.1 i }
 
 pub question_eq-Decides : (p q : Question) → Decides (question_eq p q) (p ≡ q)
 question_eq-Decides p q = (question_sound p q, λ e. subst (λ r. question_eq p r ≡ true) e (question_same p))
 
-equiv_from_decides : {K : Type 0} {E : K → K → Bool} → ((x y : K) → Decides (E x y) (x ≡ y)) → IsEquivalence E
-equiv_from_decides {K} {E} d = record {
-  refl = λ x. (d x x).1 refl;
-  symm = λ x y. same_from_decides (E x y) (E y x) (d x y) (λ h. sym ((d y x).0 h), λ e. (d y x).1 (sym e));
-  congr = λ x y z h. ap (λ w. E w z) ((d x y).0 h);
-}
-
 pub terms_equal : IsEquivalence (on preference_of preference_eq)
-terms_equal = on_equiv preference_of (equiv_from_decides preference_eq-Decides)
+terms_equal = on_equiv preference_of (decided preference_eq preference_eq-Decides)
 
 pub questions_equal : IsEquivalence question_eq
-questions_equal = equiv_from_decides question_eq-Decides
+questions_equal = decided question_eq question_eq-Decides

@@ -15,7 +15,6 @@ pub mod RelationLaws
 pub mod Keys
 pub mod Chains
 pub mod ChainOrder
-pub mod SameChains
 pub mod Signatures
 pub mod Leading
 pub mod Token

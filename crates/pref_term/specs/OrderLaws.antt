@@ -4,30 +4,12 @@ use Rattle.std.proofs.Common.{◌≡◌, ℤ, ℕ, List, [], ◌∷◌, Bool, tr
 use Rattle.std.specs.Prelude.{◌&&◌, ◌||◌, int_lt}
 use Rattle.std.specs.Ordering.{int_eq}
 use Rattle.std.proofs.lemmas.Int.{ints}
+use Rattle.std.proofs.lemmas.Bool.{and_from, and_parts, and_right, or_cases, or_left, or_right}
 use Rattle.std.proofs.lemmas.Bool.Decides.{Decides-int_eq}
+use Rattle.std.specs.Cmp.Derive.{one_truth}
 use Rattle.pref_term.specs.Preference.{Preference, scored, pareto, prior, reverse}
 use Rattle.pref_term.specs.Better.{cell, score, same, better, in_same_group}
 use Rattle.pref_term.specs.Question.{Question, alike, over}
-
--- both tests pass
-pub and_parts : (x y : Bool) → (x && y) ≡ true → (x ≡ true) × (y ≡ true)
-and_parts true y h = (refl, h)
-and_parts false y h = cc
-
-pub and_made : (x y : Bool) → x ≡ true → y ≡ true → (x && y) ≡ true
-and_made x y p q = rw (p, q)
-
--- one test passes
-pub or_parts : (x y : Bool) → (x || y) ≡ true → (x ≡ true) ⊎ (y ≡ true)
-or_parts true y h = inl refl
-or_parts false y h = inr h
-
-pub or_left : (x y : Bool) → x ≡ true → (x || y) ≡ true
-or_left x y p = rw p
-
-pub or_right : (x y : Bool) → y ≡ true → (x || y) ≡ true
-or_right true y q = refl
-or_right false y q = q
 
 -- a strict order and an equivalence that goes with it
 pub record IsOrder {R : Type 0} (before alike : R → R → Bool) : Type 0 where
@@ -42,16 +24,16 @@ pub record IsOrder {R : Type 0} (before alike : R → R → Bool) : Type 0 where
 module _ {R : Type 0} {B S : R → R → Bool} (o : IsOrder B S) where
   -- before or alike, and then before
   weak_then : (a b c : R) → (B a b || S a b) ≡ true → B b c ≡ true → B a c ≡ true
-  weak_then a b c h k = elim (or_parts (B a b) (S a b) h) [ inl x ↦ o.on a b c x k | inr x ↦ o.alike_before a b c x k ]
+  weak_then a b c h k = elim (or_cases (B a b) (S a b) h) [ inl x ↦ o.on a b c x k | inr x ↦ o.alike_before a b c x k ]
 
   then_weak : (a b c : R) → B a b ≡ true → (B b c || S b c) ≡ true → B a c ≡ true
-  then_weak a b c h k = elim (or_parts (B b c) (S b c) k) [ inl x ↦ o.on a b c h x | inr x ↦ o.before_alike a b c h x ]
+  then_weak a b c h k = elim (or_cases (B b c) (S b c) k) [ inl x ↦ o.on a b c h x | inr x ↦ o.before_alike a b c h x ]
 
   weak_on : (a b c : R) → (B a b || S a b) ≡ true → (B b c || S b c) ≡ true → (B a c || S a c) ≡ true
   weak_on a b c h k =
-      elim (or_parts (B a b) (S a b) h) [
+      elim (or_cases (B a b) (S a b) h) [
         | inl x ↦ or_left (B a c) (S a c) (then_weak a b c x k)
-        | inr x ↦ elim (or_parts (B b c) (S b c) k) [
+        | inr x ↦ elim (or_cases (B b c) (S b c) k) [
           | inl y ↦ or_left (B a c) (S a c) (o.alike_before a b c x y)
           | inr y ↦ or_right (B a c) (S a c) (o.alike_on a b c x y)
         ]
@@ -80,10 +62,10 @@ module _ {R : Type 0} {B S C T : R → R → Bool} (o : IsOrder B S) (u : IsOrde
   both_order a b c h k =
       let x = and_parts (S a b) (T a b) h in
       let y = and_parts (S b c) (T b c) k in
-      and_made (S a c) (T a c) (o.alike_on a b c x.0 y.0) (u.alike_on a b c x.1 y.1)
+      and_from (S a c) (T a c) (o.alike_on a b c x.0 y.0) (u.alike_on a b c x.1 y.1)
 
   both_back : (a b : R) → (S a b && T a b) ≡ true → (S b a && T b a) ≡ true
-  both_back a b h = let x = and_parts (S a b) (T a b) h in and_made (S b a) (T b a) (o.alike_back a b x.0) (u.alike_back a b x.1)
+  both_back a b h = let x = and_parts (S a b) (T a b) h in and_from (S b a) (T b a) (o.alike_back a b x.0) (u.alike_back a b x.1)
 
   -- better in one part, and better or the same in the other
   unfoldable pub beats : R → R → Bool
@@ -96,15 +78,15 @@ module _ {R : Type 0} {B S C T : R → R → Bool} (o : IsOrder B S) (u : IsOrde
   beats_facts : (a b : R) → beats a b ≡ true → Beats a b
   unfolding beats Beats
   beats_facts a b h =
-      elim (or_parts (B a b && (C a b || T a b)) (C a b && (B a b || S a b)) h)
+      elim (or_cases (B a b && (C a b || T a b)) (C a b && (B a b || S a b)) h)
       [ inl x ↦ inl (and_parts (B a b) (C a b || T a b) x) | inr x ↦ inr (and_parts (C a b) (B a b || S a b) x) ]
 
   facts_beat : (a b : R) → Beats a b → beats a b ≡ true
   unfolding beats Beats
   facts_beat a b h =
       elim h [
-        | inl x ↦ or_left (B a b && (C a b || T a b)) (C a b && (B a b || S a b)) (and_made (B a b) (C a b || T a b) x.0 x.1)
-        | inr x ↦ or_right (B a b && (C a b || T a b)) (C a b && (B a b || S a b)) (and_made (C a b) (B a b || S a b) x.0 x.1)
+        | inl x ↦ or_left (B a b && (C a b || T a b)) (C a b && (B a b || S a b)) (and_from (B a b) (C a b || T a b) x.0 x.1)
+        | inr x ↦ or_right (B a b && (C a b || T a b)) (C a b && (B a b || S a b)) (and_from (C a b) (B a b || S a b) x.0 x.1)
       ]
 
   -- who dominates is before or alike in both
@@ -135,7 +117,7 @@ module _ {R : Type 0} {B S C T : R → R → Bool} (o : IsOrder B S) (u : IsOrde
   pub pareto_order : IsOrder beats (λ a b. S a b && T a b)
   unfolding beats
   pareto_order = record {
-    alike_self = λ a. and_made (S a a) (T a a) (o.alike_self a) (u.alike_self a);
+    alike_self = λ a. and_from (S a a) (T a a) (o.alike_self a) (u.alike_self a);
     alike_back = both_back;
     alike_on = both_order;
     not_self = λ a. rw (o.not_self a, u.not_self a);
@@ -146,37 +128,37 @@ module _ {R : Type 0} {B S C T : R → R → Bool} (o : IsOrder B S) (u : IsOrde
 
   pub prior_order : IsOrder (λ a b. B a b || (S a b && C a b)) (λ a b. S a b && T a b)
   prior_order = record {
-    alike_self = λ a. and_made (S a a) (T a a) (o.alike_self a) (u.alike_self a);
+    alike_self = λ a. and_from (S a a) (T a a) (o.alike_self a) (u.alike_self a);
     alike_back = both_back;
     alike_on = both_order;
     not_self = λ a. rw (o.not_self a, o.alike_self a, u.not_self a);
     on = λ a b c h k.
-        elim (or_parts (B a b) (S a b && C a b) h) [
-          | inl x ↦ elim (or_parts (B b c) (S b c && C b c) k) [
+        elim (or_cases (B a b) (S a b && C a b) h) [
+          | inl x ↦ elim (or_cases (B b c) (S b c && C b c) k) [
             | inl y ↦ or_left (B a c) (S a c && C a c) (o.on a b c x y)
             | inr y ↦ or_left (B a c) (S a c && C a c) (o.before_alike a b c x (and_parts (S b c) (C b c) y).0)
           ]
-          | inr x ↦ elim (or_parts (B b c) (S b c && C b c) k) [
+          | inr x ↦ elim (or_cases (B b c) (S b c && C b c) k) [
             | inl y ↦ or_left (B a c) (S a c && C a c) (o.alike_before a b c (and_parts (S a b) (C a b) x).0 y)
             | inr y ↦ or_right (B a c) (S a c && C a c)
-                (and_made (S a c) (C a c) (o.alike_on a b c (and_parts (S a b) (C a b) x).0 (and_parts (S b c) (C b c) y).0)
+                (and_from (S a c) (C a c) (o.alike_on a b c (and_parts (S a b) (C a b) x).0 (and_parts (S b c) (C b c) y).0)
                 (u.on a b c (and_parts (S a b) (C a b) x).1 (and_parts (S b c) (C b c) y).1))
           ]
         ];
     alike_before = λ a b c h k.
         let x = and_parts (S a b) (T a b) h in
-        elim (or_parts (B b c) (S b c && C b c) k) [
+        elim (or_cases (B b c) (S b c && C b c) k) [
           | inl y ↦ or_left (B a c) (S a c && C a c) (o.alike_before a b c x.0 y)
           | inr y ↦ or_right (B a c) (S a c && C a c)
-              (and_made (S a c) (C a c) (o.alike_on a b c x.0 (and_parts (S b c) (C b c) y).0)
+              (and_from (S a c) (C a c) (o.alike_on a b c x.0 (and_parts (S b c) (C b c) y).0)
               (u.alike_before a b c x.1 (and_parts (S b c) (C b c) y).1))
         ];
     before_alike = λ a b c h k.
         let y = and_parts (S b c) (T b c) k in
-        elim (or_parts (B a b) (S a b && C a b) h) [
+        elim (or_cases (B a b) (S a b && C a b) h) [
           | inl x ↦ or_left (B a c) (S a c && C a c) (o.before_alike a b c x y.0)
           | inr x ↦ or_right (B a c) (S a c && C a c)
-              (and_made (S a c) (C a c) (o.alike_on a b c (and_parts (S a b) (C a b) x).0 y.0)
+              (and_from (S a c) (C a c) (o.alike_on a b c (and_parts (S a b) (C a b) x).0 y.0)
               (u.before_alike a b c (and_parts (S a b) (C a b) x).1 y.1))
         ];
   }
@@ -206,58 +188,48 @@ group_on [] a b c h k = refl
 group_on (col ∷ cols) a b c h k =
     let x = and_parts (int_eq (cell a col) (cell b col)) (in_same_group cols a b) h in
     let y = and_parts (int_eq (cell b col) (cell c col)) (in_same_group cols b c) k in
-    and_made (int_eq (cell a col) (cell c col)) (in_same_group cols a c)
+    and_from (int_eq (cell a col) (cell c col)) (in_same_group cols a c)
     ((Decides-int_eq (cell a col) (cell c col)).1 ((Decides-int_eq (cell a col) (cell b col)).0 x.0 ∙ (Decides-int_eq (cell b col) (cell c col)).0 y.0))
     (group_on cols a b c x.1 y.1)
 
-and_false : (x : Bool) → (x && false) ≡ false
-and_false true = refl
-and_false false = refl
-
 -- no row dominates itself
 pub over_not_self : (q : Question) (a : List ℤ) → over q a a ≡ false
-over_not_self q a = rw ((better_order q.preference).not_self a) (and_false (in_same_group q.group a a))
+over_not_self q a = and_right (in_same_group q.group a a) (better q.preference a a) ((better_order q.preference).not_self a)
 
 pub over_on : (q : Question) (a b c : List ℤ) → over q a b ≡ true → over q b c ≡ true → over q a c ≡ true
 over_on q a b c h k =
     let x = and_parts (in_same_group q.group a b) (better q.preference a b) h in
     let y = and_parts (in_same_group q.group b c) (better q.preference b c) k in
-    and_made (in_same_group q.group a c) (better q.preference a c) (group_on q.group a b c x.0 y.0) ((better_order q.preference).on a b c x.1 y.1)
+    and_from (in_same_group q.group a c) (better q.preference a c) (group_on q.group a b c x.0 y.0) ((better_order q.preference).on a b c x.1 y.1)
 
 pub group_back : (cols : List ℕ) (a b : List ℤ) → in_same_group cols a b ≡ true → in_same_group cols b a ≡ true
 group_back [] a b h = refl
 group_back (col ∷ cols) a b h =
     let x = and_parts (int_eq (cell a col) (cell b col)) (in_same_group cols a b) h in
-    and_made (int_eq (cell b col) (cell a col)) (in_same_group cols b a)
+    and_from (int_eq (cell b col) (cell a col)) (in_same_group cols b a)
     ((Decides-int_eq (cell b col) (cell a col)).1 (sym ((Decides-int_eq (cell a col) (cell b col)).0 x.0))) (group_back cols a b x.1)
 
 alike_back : (q : Question) (a b : List ℤ) → alike q a b ≡ true → alike q b a ≡ true
 alike_back q a b h =
     let x = and_parts (in_same_group q.group a b) (same q.preference a b) h in
-    and_made (in_same_group q.group b a) (same q.preference b a) (group_back q.group a b x.0) ((better_order q.preference).alike_back a b x.1)
-
--- two tests, each of which passes where the other does
-pub same_test : (x y : Bool) → (x ≡ true → y ≡ true) → (y ≡ true → x ≡ true) → x ≡ y
-same_test true y f g = sym (f refl)
-same_test false true f g = g refl
-same_test false false f g = refl
+    and_from (in_same_group q.group b a) (same q.preference b a) (group_back q.group a b x.0) ((better_order q.preference).alike_back a b x.1)
 
 over_alike : (q : Question) (a b c : List ℤ) → alike q a b ≡ true → over q c a ≡ true → over q c b ≡ true
 over_alike q a b c h k =
     let t = and_parts (in_same_group q.group a b) (same q.preference a b) h in
     let x = and_parts (in_same_group q.group c a) (better q.preference c a) k in
-    and_made (in_same_group q.group c b) (better q.preference c b) (group_on q.group c a b x.0 t.0) ((better_order q.preference).before_alike c a b x.1 t.1)
+    and_from (in_same_group q.group c b) (better q.preference c b) (group_on q.group c a b x.0 t.0) ((better_order q.preference).before_alike c a b x.1 t.1)
 
 alike_over : (q : Question) (a b c : List ℤ) → alike q a b ≡ true → over q b c ≡ true → over q a c ≡ true
 alike_over q a b c h k =
     let t = and_parts (in_same_group q.group a b) (same q.preference a b) h in
     let x = and_parts (in_same_group q.group b c) (better q.preference b c) k in
-    and_made (in_same_group q.group a c) (better q.preference a c) (group_on q.group a b c t.0 x.0) ((better_order q.preference).alike_before a b c t.1 x.1)
+    and_from (in_same_group q.group a c) (better q.preference a c) (group_on q.group a b c t.0 x.0) ((better_order q.preference).alike_before a b c t.1 x.1)
 
 -- what dominates one of two rows of a group that are the same dominates the other
 pub alike_above : (q : Question) (a b c : List ℤ) → alike q a b ≡ true → over q c a ≡ over q c b
-alike_above q a b c h = same_test (over q c a) (over q c b) (over_alike q a b c h) (over_alike q b a c (alike_back q a b h))
+alike_above q a b c h = one_truth (over q c a) (over q c b) (over_alike q a b c h) (over_alike q b a c (alike_back q a b h))
 
 -- and they dominate the same rows
 pub alike_below : (q : Question) (a b c : List ℤ) → alike q a b ≡ true → over q a c ≡ over q b c
-alike_below q a b c h = same_test (over q a c) (over q b c) (alike_over q b a c (alike_back q a b h)) (alike_over q a b c h)
+alike_below q a b c h = one_truth (over q a c) (over q b c) (alike_over q b a c (alike_back q a b h)) (alike_over q a b c h)

@@ -30,11 +30,7 @@ base_of (inr (inr (inr (inr (col, sets))))) = layered col sets
 
 pub base_again : (b : Base) → base_of (parts_of b) ≡ b
 base_again (low col) = refl
-base_again (high col) = refl
-base_again (around col centre) = refl
-base_again (one_of col set) = refl
-base_again (between col left right) = refl
-base_again (layered col sets) = refl
+base_again _ = refl
 
 abbrev coded_base : Coded Base
 coded_base = code_by BaseParts (coded⊎ (coded⊎ coded_ℕ coded_ℕ) (coded⊎ (coded× coded_ℕ coded_ℤ) (coded⊎ (coded× coded_ℕ (coded_list coded_ℤ)) (coded⊎ (coded× coded_ℕ (coded× coded_ℤ coded_ℤ)) (coded× coded_ℕ (coded_list (coded_list coded_ℤ))))))) parts_of base_of base_again
@@ -60,18 +56,7 @@ code_again (prior p q) (prior r s) h =
     let k = code_again q s f in
     cc
 code_again (reverse p) (reverse r) h = let e : code_of p ≡ code_of r = cc in ap reverse (code_again p r e)
-code_again (scored b) (pareto p q) h = cc
-code_again (scored b) (prior p q) h = cc
-code_again (scored b) (reverse p) h = cc
-code_again (pareto p q) (scored b) h = cc
-code_again (pareto p q) (prior r s) h = cc
-code_again (pareto p q) (reverse r) h = cc
-code_again (prior p q) (scored b) h = cc
-code_again (prior p q) (pareto r s) h = cc
-code_again (prior p q) (reverse r) h = cc
-code_again (reverse p) (scored b) h = cc
-code_again (reverse p) (pareto q r) h = cc
-code_again (reverse p) (prior q r) h = cc
+code_again _ _ h = cc
 
 abbrev coded_preference : Coded Preference
 coded_preference = record { code = code_of; inj = code_again }

@@ -39,42 +39,20 @@ scores-same x y = go (int_lt x y) (int_lt y x) refl refl
 
 pub product-better : (r s : Relation) → is_better (in_product r s) ≡ ((is_better r && (is_better s || is_same s)) || (is_better s && (is_better r || is_same r)))
 product-better Better Better = refl
-product-better Better Worse = refl
-product-better Better Same = refl
-product-better Better Neither = refl
 product-better Worse Better = refl
-product-better Worse Worse = refl
-product-better Worse Same = refl
-product-better Worse Neither = refl
 product-better Same Better = refl
-product-better Same Worse = refl
-product-better Same Same = refl
-product-better Same Neither = refl
 product-better Neither Better = refl
-product-better Neither Worse = refl
-product-better Neither Same = refl
-product-better Neither Neither = refl
+product-better _ _ = refl
 
 pub product-same : (r s : Relation) → is_same (in_product r s) ≡ (is_same r && is_same s)
 product-same Better Better = refl
-product-same Better Worse = refl
-product-same Better Same = refl
-product-same Better Neither = refl
 product-same Worse Better = refl
-product-same Worse Worse = refl
-product-same Worse Same = refl
-product-same Worse Neither = refl
-product-same Same s = refl
-product-same Neither s = refl
+product-same _ _ = refl
 
 pub priority-better : (r s : Relation) → is_better (in_priority r s) ≡ (is_better r || (is_same r && is_better s))
 priority-better Better s = refl
-priority-better Worse s = refl
-priority-better Same s = refl
-priority-better Neither s = refl
+priority-better _ s = refl
 
 pub priority-same : (r s : Relation) → is_same (in_priority r s) ≡ (is_same r && is_same s)
 priority-same Better s = refl
-priority-same Worse s = refl
-priority-same Same s = refl
-priority-same Neither s = refl
+priority-same _ s = refl

@@ -9,7 +9,9 @@ use Rattle.pref_term.specs.Preference.{Base, low, high, Preference, scored, pare
 use Rattle.pref_term.specs.Better.{cell, score, same, in_same_group}
 use Rattle.pref_term.specs.Columns.{column, columns_in}
 use Rattle.pref_term.specs.Order.{IsRowOrder, RowOrder, StandAlike}
-use Rattle.pref_term.specs.OrderLaws.{and_parts, and_made, group_back, group_on, same_test}
+use Rattle.std.proofs.lemmas.Bool.{and_parts, and_from}
+use Rattle.std.specs.Cmp.Derive.{one_truth}
+use Rattle.pref_term.specs.OrderLaws.{group_back, group_on}
 use Rattle.pref_term.specs.Question.{Question, alike, twins, IsClause, IsDimension}
 
 and_assoc : (x y z : Bool) → ((x && y) && z) ≡ (x && (y && z))
@@ -33,10 +35,10 @@ equal_same (scored t) a b h =
     (Decides-int_eq (score t a) (score t b)).1 (cell_score t a b ((Decides-int_eq (cell a (column t)) (cell b (column t))).0 x.0))
 equal_same (pareto p q) a b h =
     let x = and_parts (in_same_group (columns_in p) a b) (in_same_group (columns_in q) a b) (sym (group_append (columns_in p) (columns_in q) a b) ∙ h) in
-    and_made (same p a b) (same q a b) (equal_same p a b x.0) (equal_same q a b x.1)
+    and_from (same p a b) (same q a b) (equal_same p a b x.0) (equal_same q a b x.1)
 equal_same (prior p q) a b h =
     let x = and_parts (in_same_group (columns_in p) a b) (in_same_group (columns_in q) a b) (sym (group_append (columns_in p) (columns_in q) a b) ∙ h) in
-    and_made (same p a b) (same q a b) (equal_same p a b x.0) (equal_same q a b x.1)
+    and_from (same p a b) (same q a b) (equal_same p a b x.0) (equal_same q a b x.1)
 equal_same (reverse p) a b h = equal_same p a b h
 
 -- twins are of one group, and the same
@@ -44,20 +46,20 @@ pub twins_alike : (q : Question) (a b : List ℤ) → twins q a b ≡ true → a
 twins_alike q a b h =
     let x = and_parts q.distinct (in_same_group (q.group ++ columns_in q.preference) a b) h in
     let y = and_parts (in_same_group q.group a b) (in_same_group (columns_in q.preference) a b) (sym (group_append q.group (columns_in q.preference) a b) ∙ x.1) in
-    and_made (in_same_group q.group a b) (same q.preference a b) y.0 (equal_same q.preference a b y.1)
+    and_from (in_same_group q.group a b) (same q.preference a b) y.0 (equal_same q.preference a b y.1)
 
 pub twins_back : (q : Question) (a b : List ℤ) → twins q a b ≡ true → twins q b a ≡ true
 twins_back q a b h =
     let cols = q.group ++ columns_in q.preference in
     let x = and_parts q.distinct (in_same_group cols a b) h in
-    and_made q.distinct (in_same_group cols b a) x.0 (group_back cols a b x.1)
+    and_from q.distinct (in_same_group cols b a) x.0 (group_back cols a b x.1)
 
 pub twins_on : (q : Question) (a b c : List ℤ) → twins q a b ≡ true → twins q b c ≡ true → twins q a c ≡ true
 twins_on q a b c h k =
     let cols = q.group ++ columns_in q.preference in
     let x = and_parts q.distinct (in_same_group cols a b) h in
     let y = and_parts q.distinct (in_same_group cols b c) k in
-    and_made q.distinct (in_same_group cols a c) x.0 (group_on cols a b c x.1 y.1)
+    and_from q.distinct (in_same_group cols a c) x.0 (group_on cols a b c x.1 y.1)
 
 -- in a skyline clause rows that are the same are equal in each column
 neg_same : (x y : ℤ) → int_eq (neg_ℤ x) (neg_ℤ y) ≡ int_eq x y
@@ -89,6 +91,6 @@ pub twins_have_twins : (order : RowOrder) → IsRowOrder order → (a b : List �
 twins_have_twins order laws a b h =
     let back = laws.symmetric a b h in
     record {
-      above = λ c. same_test (order.twin c a) (order.twin c b) (λ k. laws.transitive c a b k h) (λ k. laws.transitive c b a k back);
-      below = λ c. same_test (order.twin a c) (order.twin b c) (λ k. laws.transitive b a c back k) (λ k. laws.transitive a b c h k);
+      above = λ c. one_truth (order.twin c a) (order.twin c b) (λ k. laws.transitive c a b k h) (λ k. laws.transitive c b a k back);
+      below = λ c. one_truth (order.twin a c) (order.twin b c) (λ k. laws.transitive b a c back k) (λ k. laws.transitive a b c h k);
     }

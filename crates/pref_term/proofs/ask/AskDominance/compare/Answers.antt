@@ -1,4 +1,4 @@
-use Rattle.pref_term.proofs.Common.{◌≡◌, true, sym, subst, ◌∙◌, ap, order_of_alike, order_of_twins_alike, in_same_group, same, is_same, Question, IsAsk, alike, and_made, and_parts, twins_alike}
+use Rattle.pref_term.proofs.Common.{◌≡◌, true, sym, subst, ◌∙◌, ap, order_of_alike, order_of_twins_alike, in_same_group, same, is_same, Question, IsAsk, alike, and_from, and_parts, twins_alike}
 use Rattle.pref_term.proofs.ask.AskDominance.compare.Goals as goal
 
 -- rows that are told as the same are of one group, and the same
@@ -6,7 +6,7 @@ told_alike : (c : goal.After-compare_in_group) → is_same c.compare_in_group.re
 told_alike c told =
     let q = c.args.self.now in
     let group : c.deref.result.now ≡ q.group = c.deref.ensures.value ∙ ap (λ (s : Question). s.group) c.self.view_is in
-    and_made (in_same_group q.group c.args.a.now c.args.b.now) (same q.preference c.args.a.now c.args.b.now)
+    and_from (in_same_group q.group c.args.a.now c.args.b.now) (same q.preference c.args.a.now c.args.b.now)
     (ap (λ cols. in_same_group cols c.args.a.now c.args.b.now) (sym group) ∙ sym c.in_same_group.ensures ∙ c.if-in_same_group.true)
     (sym c.compare_in_group.ensures.same ∙ told)
 
