@@ -137,7 +137,7 @@ are_reports {J} o says left clients acts tasks all reports listed told h = recor
         )
 
 -- The parts of all clients, where none stopped.
-pub joint : {J : Type 0} (o : Opening) (says : ℕ → ℕ → Bool → Type 0) (clients : List Standing) (lists : List (Vec Act)) (reports : List (Report J)) (out : List (Vec Reply))
+joint : {J : Type 0} (o : Opening) (says : ℕ → ℕ → Bool → Type 0) (clients : List Standing) (lists : List (Vec Act)) (reports : List (Report J)) (out : List (Vec Reply))
     → AreReports o says clients lists reports → All (λ r. r.stopped ≡ None) reports → out ≡ map (λ r. r.replies) reports → IsJointRun o clients lists out
 joint {J} o says clients lists reports out all none given = record {
   history = all.history;
@@ -161,6 +161,30 @@ joint {J} o says clients lists reports out all none given = record {
             inside = prefix_trans did.last.seen r.client.seen all.history did.since.further within.inside;
             alone = ap (calls_at o all.history) (sym did.since.same) ∙ alone ∙ ap Some did.since.counted;
           },
+        )
+
+-- The joint run of lists of acts as tasks, in the replies that each of them took.
+pub joint_of_lists : (o : Opening) (clients : List Standing) (acts : List (Vec Act)) (tasks done : List Listed) (replies out : List (Vec Reply)) → AreTaken (λ _ listed took. listed.replies.items ≡ took) tasks done replies
+    → IsJointRun o clients acts replies → out ≡ map (λ listed. listed.replies) done → IsJointRun o clients acts out
+joint_of_lists o clients acts tasks done replies out taken run is = record {
+  history = run.history;
+  legal = run.legal;
+  lists = ap length is ∙ length_map (λ listed. listed.replies) done ∙ taken.tasks_done ∙ sym taken.lists ∙ run.lists;
+  each = each;
+}
+  where
+    each : (i : ℕ) (s : Standing) (list : Vec Act) → slice_get clients i ≡ Some s → slice_get acts i ≡ Some list → (told : Vec Reply) × (slice_get out i ≡ Some told) × IsPart o run.history s list.items told.items
+    each i s list at listed_at =
+        let (told, told_at, part) = run.each i s list at listed_at in
+        let short : i < length tasks = omega (arith, slice_get_within replies i told told_at, taken.lists) in
+        let (first, first_at) = there tasks i short in
+        let (listed, done_at) = there done i (omega (arith, short, taken.tasks_done)) in
+        let (other, other_at, took) = taken.each i first listed first_at done_at in
+        let both : Some other ≡ Some told = sym other_at ∙ told_at in
+        let same : other ≡ told = cc both in (
+          listed.replies,
+          ap (λ (l : List (Vec Reply)). slice_get l i) is ∙ mapped (λ (x : Listed). x.replies) done i listed done_at,
+          subst (λ (l : List Reply). IsPart o run.history s list.items l) (sym (took ∙ ap (λ (v : Vec Reply). v.items) same)) part,
         )
 
 -- Why the first of these clients stopped that did, as each client may stop: with these acts left, and held only where its gate may hold it.

@@ -6,6 +6,7 @@ use Rattle.std.proofs.Crossing.{frees}
 use Rattle.std.proofs.alloc.Global.TheSendSync as heap
 use Rattle.std.proofs.boxed.Box.TheSendSync as boxes
 use Rattle.std.proofs.vec.Vec.TheSendSync as vectors
+use Rattle.std.proofs.vec.IntoIter.TheSendSync as iterators
 use Rattle.std.specs.contracts.alloc.Global as global
 use Rattle.pref_table.proofs.row.Row.TheSendSync as rows
 use Rattle.pref_term.proofs.term.Term.TheLaws.TheKnot as knot
@@ -21,10 +22,12 @@ use Rattle.pref_sky.proofs.partial.Partial.TheSendSync as partials
 use Rattle.std.proofs.option.Option.TheSendSync as options
 use Rattle.left_right.proofs.reader.Reader.TheSendSync as readers
 use Rattle.pref_core.proofs.event.BoxedCommit.TheSendSync as boxed_commits
+use Rattle.pref_core.proofs.event.Reply.TheSendSync as replies
 use Rattle.pref_core.proofs.setup.Setup.TheSendSync as setups
 use Rattle.pref_share.proofs.history.Prefix.TheSendSync as prefixes
 use Rattle.pref_share.proofs.published.Published.TheSendSync as published
 use Rattle.pref_core.specs.contracts.event.Act as act
+use Rattle.pref_share.specs.contracts.task.Listed as listed
 use Rattle.pref_share.specs.contracts.client.Asking as asking
 use Rattle.pref_share.specs.contracts.client.Asking.TheInside as asking_fields
 use Rattle.pref_share.specs.contracts.client.Client.TheInside as client_fields
@@ -39,6 +42,9 @@ ask_send = search (sendable, declared_send, as_row_send, term_send, options.the_
 
 pub act_send : IsSend act.the_row
 act_send = search (sendable, variants_send, as_row_send, ask_send, rows.the_send, boxed_commits.the_send) depth 14
+
+pub listed_send : IsSend listed.the_row
+listed_send = search (sendable, declared_send, as_row_send, vectors.the_send, iterators.the_send, act_send, replies.the_send, heap.the_send, frees) depth 14
 
 pub query_send : IsSend query.the_row
 query_send = search (sendable, declared_send, as_row_send, ask_send, partials.the_send) depth 14

@@ -8,7 +8,7 @@ ghost use Rattle.pref_share.specs.Openings.{IsLegalFrom};
 ghost use Rattle.pref_share.specs.Standing.{newcomers};
 ghost use Rattle.pref_share.specs.Runs.{IsJointRun};
 ghost use Rattle.pref_share.specs.Interleavings.{IsSequential};
-ghost use Rattle.pref_share.specs.Reports.{AreReports, IsFirstStopped, RanTasks, RefusesRun};
+ghost use Rattle.pref_share.specs.Reports.{AreReports, RanTasks, RefusesRun};
 ghost use Rattle.pref_share.specs.Settling.{AreWorked, DidTask, IsFirstOf, Settles, report_of};
 
 use crate::board::Board;
@@ -105,7 +105,7 @@ pub fn run_each<J: Naming + Send + Sync, R: Threads + Wait + Sync, G: Gate + Syn
 /// one legal history, and so of the sequential table for one interleaving of the acts.
 ///
 /// Where a client stopped, the refusal is that of the one with the lowest number that did. The clients and the replies are dropped
-/// then, and what had joined the history stays. Else refused `OutOfMemory`, where there is none for the jobs, the reports or the replies.
+/// then, and what had joined the history stays. Else refused `OutOfMemory`, where there is none for the jobs, the tasks or the replies.
 ///
 /// ```text
 /// let replies = run_all(rt, alloc, &board, clients, acts, &gate)?;
@@ -124,8 +124,9 @@ pub fn run_all<J: Naming + Send + Sync, R: Threads + Wait + Sync, G: Gate + Sync
     ensures sequential { IfOk result (λ replies. IsSequential J.opening acts.items replies.items) }
     ensures refused { IfErr result (RefusesRun J J.opening (G.says gate.now) clients.items acts.items) }
 {
-    let reports = run_each(rt, alloc, board, clients, acts, gate)?;
-    let replies = replies_of(alloc, reports)?;
+    let tasks = all_listed(alloc, acts)?;
+    let done = run_tasks(rt, alloc, board, clients, tasks, gate)?;
+    let replies = all_replies(alloc, done)?;
     Ok(replies)
 }
 
@@ -172,6 +173,17 @@ fn all_listed(alloc: Global, acts: Vec<Vec<Act>>) -> Result<Vec<Listed>, AllocEr
         tasks.push(Listed::new(alloc, list)?)?;
     }
     Ok(tasks)
+}
+
+/// The replies that these tasks took.
+fn all_replies(alloc: Global, tasks: Vec<Listed>) -> Result<Vec<Vec<Reply>>, AllocError>
+    ensures { IfOk result (λ all. all.items ≡ map (λ listed. listed.replies) tasks.items) }
+{
+    let mut all = Vec::new(alloc);
+    for listed in tasks {
+        all.push(listed.into_replies())?;
+    }
+    Ok(all)
 }
 
 /// Each client with its task.
@@ -384,38 +396,12 @@ fn tasks_of<J: Naming, T: Task + Drop>(
             task,
             stopped,
         } = worked;
-        if let Some(why) = stopped {
-            return Err(why);
+        if let Some(fault) = stopped {
+            return Err(fault);
         }
         if tasks.push(task).is_err() {
             return Err(ShareFault::Core(CoreFault::OutOfMemory));
         }
     }
     Ok(tasks)
-}
-
-/// The replies, where no client stopped; else why the first did that stopped.
-fn replies_of<J: Naming>(
-    alloc: Global,
-    reports: Vec<Report<J>>,
-) -> Result<Vec<Vec<Reply>>, ShareFault>
-    ensures all { IfOk result (λ all. all.items ≡ map (λ report. report.replies) reports.items) }
-    ensures done { IfOk result (λ _. All (λ report. report.stopped ≡ None) reports.items) }
-    ensures first { IfErr result (λ fault. IsFirstStopped reports.items fault ⊎ (fault ≡ ShareFault.Core OutOfMemory)) }
-{
-    let mut all = Vec::new(alloc);
-    for report in reports {
-        let Report {
-            client: _client,
-            replies,
-            stopped,
-        } = report;
-        if let Some(fault) = stopped {
-            return Err(fault);
-        }
-        if all.push(replies).is_err() {
-            return Err(ShareFault::Core(CoreFault::OutOfMemory));
-        }
-    }
-    Ok(all)
 }

@@ -1,17 +1,26 @@
-use Rattle.std.proofs.Common.{◌≡◌, ℕ, Bool, List, Err, IfErr, ⊎_elim, ap, arith, inl, inr, length, rules, subst, sym}
-use Rattle.pref_core.specs.declared.fault.CoreFault.TheVariants.{OutOfMemory}
-use Rattle.pref_share.specs.declared.fault.ShareFault.{ShareFault}
-use Rattle.pref_share.specs.declared.fault.ShareFault.TheVariants.{Core}
-use Rattle.pref_share.specs.Reports.{IsFirstStopped, RefusesRun}
+use denote.Param.Send.{sendable}
+use Rattle.std.proofs.Common.{◌≡◌, List, ap, arith, length, sym, subst}
+use Rattle.std.specs.Vec.Iter.{into_iter_items}
+use Rattle.pref_share.specs.declared.task.Listed.{Listed}
 use Rattle.pref_share.specs.Runs.{IsJointRun}
 use Rattle.pref_share.specs.Standing.{Standing}
 use Rattle.pref_share.proofs.Interleavings.{joint_runs_are_sequential, length-newcomers}
-use Rattle.pref_share.proofs.Reporting.{joint}
+use Rattle.pref_share.proofs.Reporting.{joint_of_lists}
+use Rattle.pref_share.proofs.Running.{few_each}
+use Rattle.pref_share.proofs.Sending.{listed_send}
 use Rattle.pref_share.proofs.run.run_all.Goals as goal
+
+pub run_tasks-requires-send-T : goal.run_tasks-requires-send-T
+run_tasks-requires-send-T g c κs within = search (sendable, listed_send)
+
+pub run_tasks-requires-clause-few : goal.run_tasks-requires-clause-few
+run_tasks-requires-clause-few g c κs within = few_each (λ (listed : Listed). into_iter_items listed.acts) c.in_ok-tasks.tasks.items c.args.acts.items c.in_ok-tasks.ensures.acts
 
 pub returns-clause-joint : goal.returns-clause-joint
 returns-clause-joint g c =
-    joint g.J.Naming.opening (g.G.Gate.says c.args.gate.now) c.args.clients.items c.args.acts.items c.in_ok-reports.reports.items c.in_ok-replies.replies.items c.in_ok-reports.ensures c.in_ok-replies.ensures.done c.in_ok-replies.ensures.all
+    let ran = c.in_ok-done.ensures.ran c.args.acts.items (sym c.in_ok-tasks.ensures.acts) in
+    let joint = subst (λ (clients : List Standing). IsJointRun g.J.Naming.opening clients c.args.acts.items ran.replies) (sym c.requires.clients) ran.joint in
+    joint_of_lists g.J.Naming.opening c.args.clients.items c.args.acts.items c.in_ok-tasks.tasks.items c.in_ok-done.done.items ran.replies c.in_ok-replies.replies.items ran.taken joint c.in_ok-replies.ensures
 
 pub returns-clause-sequential : goal.returns-clause-sequential
 returns-clause-sequential g c =
@@ -19,13 +28,3 @@ returns-clause-sequential g c =
     let many : length c.args.acts.items ≡ o.limits.clients = omega (arith, c.args.acts.ok.0, c.args.clients.ok.0, c.requires.lists, ap length c.requires.clients, length-newcomers o.limits.clients) in
     joint_runs_are_sequential o c.args.acts.items c.in_ok-replies.replies.items many
     (subst (λ (clients : List Standing). IsJointRun o clients c.args.acts.items c.in_ok-replies.replies.items) c.requires.clients (returns-clause-joint g c))
-
-pub returns-in_err-replies-clause-refused : goal.returns-in_err-replies-clause-refused
-returns-in_err-replies-clause-refused g c =
-    let o = g.J.Naming.opening in
-    let says : ℕ → ℕ → Bool → Type 0 = g.G.Gate.says c.args.gate.now in
-    let Refused : ShareFault → Type 0 = RefusesRun g.row.J.Denot o says c.args.clients.items c.args.acts.items in
-    let fault = c.in_err-replies.field-0.0 in
-    let refused : Refused fault = ⊎_elim (λ (first : IsFirstStopped c.in_ok-reports.reports.items fault). inr (c.in_ok-reports.reports.items, c.in_ok-reports.ensures, first)) (λ (memory : fault ≡ Core OutOfMemory). inl memory) c.in_err-replies.ensures.first in
-    let is : c.from_residual-in_err-replies.result ≡ Err fault = search rules in
-    subst (λ r. IfErr r Refused) (sym is) refused
