@@ -1,5 +1,5 @@
 -- Each part of a machine does its act.
-use Rattle.std.proofs.Common.{◌≡◌, ℕ, ◌-◌, true, false, List, length, Option, Some, None, is_some, Ok, Err, Result, IfErr, MatchResult, ⊎_elim, inr, nat_lt, ap, refl, sym, ◌∙◌, subst}
+use Rattle.std.proofs.Common.{◌≡◌, ℕ, ◌-◌, ◌&&◌, true, false, List, length, Option, Some, None, is_some, Ok, Err, Result, IfErr, MatchResult, ⊎_elim, inr, nat_lt, ap, refl, sym, ◌∙◌, subst}
 use Rattle.std.specs.Global.{Vec}
 use Rattle.std.specs.Option.{option_map}
 use Rattle.pref_sky.specs.declared.entry.Ranked.{Ranked}
@@ -19,7 +19,7 @@ use Rattle.pref_core.specs.declared.event.StepFault.{StepFault}
 use Rattle.pref_core.specs.Rows.{Row}
 use Rattle.pref_core.specs.Limits.{AreAllowed, blocks}
 use Rattle.pref_core.specs.Table.{Line, line_of}
-use Rattle.pref_core.specs.State.{State, is_change, added, seat, with_seat, needed}
+use Rattle.pref_core.specs.State.{State, is_change, succeeds, added, seat, with_seat, needed}
 use Rattle.pref_core.specs.Step.{System, Step, step, told_of_commit}
 use Rattle.pref_core.specs.Slots.{Contents, StandsFor}
 use Rattle.pref_core.specs.Indexes.{IsIndexOf, adds}
@@ -49,7 +49,7 @@ pub in_order_quiet : (old : Running) (new : Contents) (scans : List (Option Scan
     → IsPlan old.contents client call op → new ≡ applied old.contents op → IsInOrder old index → Does old client act result (running_of new old.limits scans) → IsInOrder (running_of new old.limits scans) index
 in_order_quiet old new scans index client call op act result still plan is h does =
     in_order_after old _ index index client act result h does
-    (subst (λ s. IsIndexOf s index) (sym is) (indexed_still old.contents op index plan.next plan.fits (ap is_change plan.what ∙ still) h.indexed))
+    (subst (λ s. IsIndexOf s index) (sym is) (indexed_still old.contents op index plan.next plan.fits (ap (λ call. is_change call && succeeds op.outcome) plan.what ∙ ap (λ b. b && succeeds op.outcome) still) h.indexed))
 
 pub in_order_changed : (before after : Running) (old index : List (ℕ × ℕ)) (client : ℕ) (call : Call) (done : Reply) (result : Result Reply CoreFault) → IsInOrder before old → Changes before client call done result after → IsIndexOf after.contents index → IsInOrder after index
 in_order_changed before after old index client call done result h changes is = in_order_told before after h.system _ ActScan result index h.stands (changes.tells h.system h.stands ActScan (λ e. refl)) is

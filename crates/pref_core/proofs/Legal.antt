@@ -8,7 +8,7 @@ use Rattle.pref_core.specs.declared.fault.CoreFault.{CoreFault}
 use Rattle.pref_core.specs.declared.call.Op.{Op}
 use Rattle.pref_core.specs.State.{State, after, seat, refusal_of, is_formed}
 use Rattle.pref_core.specs.Slots.{Contents, StandsFor, caller_calls}
-use Rattle.pref_core.specs.Operations.{IsNext, IsLegal, is_next, slots_after, stepped, applied, same_number, same_outcome, outcome_at, refusal_at, Plans, PlansIn, AppliesIn}
+use Rattle.pref_core.specs.Operations.{IsNext, IsLegal, IsPlan, is_next, slots_after, stepped, applied, same_number, same_outcome, outcome_at, refusal_at, Plans, PlansIn, AppliesIn}
 use Rattle.pref_core.proofs.Outcomes.{same_calls, same_refusal, same_outcome_at}
 use Rattle.pref_core.proofs.Applied.{IsAllowed-from, stepped_stands}
 use Rattle.pref_core.proofs.Plans.{same_outcome_refl}
@@ -66,3 +66,7 @@ applies_in contents state op h = (applied_stands contents state op h, applied_no
 pub plans_in : (contents : Contents) (state : State) (client : ℕ) (call : Call) (result : Result Op CoreFault) → StandsFor contents state → Plans contents client call result → PlansIn state contents client call result
 plans_in contents state client call (Ok op) h plan = (plan.by, plan.what, record { next = IsNext-from contents state op h plan.next; fits = plan.fits })
 plans_in contents state client call (Err fault) h plan = sym (same_refusal contents state client call h) ∙ plan
+
+-- A plan is one of the client and the call that it says.
+pub plan_itself : (contents : Contents) (client : ℕ) (call : Call) (op : Op) → IsPlan contents client call op → IsPlan contents op.client op.call op
+plan_itself contents client call op plan = record { by = refl; what = refl; next = plan.next; fits = plan.fits }

@@ -1,14 +1,12 @@
 -- An index from id to slot, beside a store. (this project)
-use Rattle.std.specs.Prelude.{◌≡◌, ◌^◌, ℕ, suc, List, [], ◌∷◌, map, drop, Bool, true, false, ◌&&◌, ◌==◌, cond, nat_eq, nat_lt, if◌then◌else◌, Option, Some, None, slice_get}
+use Rattle.std.specs.Prelude.{◌≡◌, ◌≤◌, ◌⊎◌, ℕ, suc, List, [], ◌∷◌, drop, Bool, true, false, ◌&&◌, ◌==◌, cond, nat_eq, Option, Some, None, slice_get}
 use Rattle.std.specs.Map.{lookup}
 use Rattle.pref_core.specs.declared.store.version.Version.{Version}
-use Rattle.pref_core.specs.declared.call.Op.{Op}
 use Rattle.pref_core.specs.declared.call.Outcome.{Outcome}
 use Rattle.pref_core.specs.declared.call.Outcome.TheVariants.{Added}
 use Rattle.pref_core.specs.declared.changes.Change.{Change}
 use Rattle.pref_core.specs.declared.changes.Change.TheVariants.{Add, Set, Remove}
 use Rattle.pref_core.specs.Table.{has}
-use Rattle.pref_core.specs.State.{changes_of, succeeds}
 use Rattle.pref_core.specs.Slots.{Contents, is_visible, visible}
 
 -- the slot that an index gives for an id
@@ -51,52 +49,20 @@ abbrev pub adds : Outcome → Bool
 adds (Added id) = true
 adds outcome = false
 
--- the slots of the rows that these changes add, of the slots of all rows that they begin
-abbrev pub added_slots : List Change → List ℕ → List ℕ
-added_slots (Add row ∷ rest) (slot ∷ slots) = slot ∷ added_slots rest slots
-added_slots (Set id row ∷ rest) slots = added_slots rest (drop 1 slots)
-added_slots (Remove id ∷ rest) slots = added_slots rest slots
-added_slots changes slots = []
-
--- this id with the first of these slots, and the next ids with the others
-abbrev pub placed_from : ℕ → List ℕ → List (ℕ × Option ℕ)
-placed_from id [] = []
-placed_from id (slot ∷ slots) = (id, Some slot) ∷ placed_from (suc id) slots
-
--- rows in these slots, as an outcome gives them their ids: these are below 2^63
-abbrev pub placed_by : Outcome → List ℕ → List (ℕ × Option ℕ)
-placed_by (Added first) slots = if nat_lt first (2 ^ 63) then placed_from first slots else []
-placed_by outcome slots = []
-
--- the rows that an op adds, each with its slot
-abbrev pub added_rows : Op → List (ℕ × Option ℕ)
-added_rows op = placed_by op.outcome (added_slots (changes_of op.call) op.slots)
+-- the rows that these changes add, each with its slot, of the slots of all rows that they begin; they have the ids from this one on
+abbrev pub added_rows : ℕ → List Change → List ℕ → List (ℕ × Option ℕ)
+added_rows id (Add row ∷ rest) (slot ∷ slots) = (id, Some slot) ∷ added_rows (suc id) rest slots
+added_rows id (Set other row ∷ rest) slots = added_rows id rest (drop 1 slots)
+added_rows id (Remove other ∷ rest) slots = added_rows id rest slots
+added_rows id changes slots = []
 
 -- the rows that these changes set or remove, each with its new slot, or with none
-abbrev pub moved : List Change → List ℕ → List (ℕ × Option ℕ)
-moved (Add row ∷ rest) slots = moved rest (drop 1 slots)
-moved (Set id row ∷ rest) (slot ∷ slots) = (id, Some slot) ∷ moved rest slots
-moved (Remove id ∷ rest) slots = (id, None) ∷ moved rest slots
-moved changes slots = []
+abbrev pub moved_rows : List Change → List ℕ → List (ℕ × Option ℕ)
+moved_rows (Add row ∷ rest) slots = moved_rows rest (drop 1 slots)
+moved_rows (Set id row ∷ rest) (slot ∷ slots) = (id, Some slot) ∷ moved_rows rest slots
+moved_rows (Remove id ∷ rest) slots = (id, None) ∷ moved_rows rest slots
+moved_rows changes slots = []
 
--- the same of an op, which moves none where it does not succeed
-abbrev pub moved_rows : Op → List (ℕ × Option ℕ)
-moved_rows op = if succeeds op.outcome then moved (changes_of op.call) op.slots else []
-
--- the index with the rows that an op adds, before it is done
-abbrev pub Prepares : Op → List (ℕ × ℕ) → List (ℕ × ℕ) → Type 0
-Prepares op old new = PointsAll old (added_rows op) new
-
--- the index without them
-abbrev pub Withdraws : Op → List (ℕ × ℕ) → List (ℕ × ℕ) → Type 0
-Withdraws op old new = PointsAll old (map (λ placed. (placed.0, None)) (added_rows op)) new
-
--- the index with the rows that an op moves
-abbrev pub Moves : Op → List (ℕ × ℕ) → List (ℕ × ℕ) → Type 0
-Moves op old new = PointsAll old (moved_rows op) new
-
--- An index is ready for an op where it is the store's, but that it gives the rows that the op adds.
-pub record IsReady (contents : Contents) (op : Op) (index : List (ℕ × ℕ)) : Type 0 where
-  pub before : List (ℕ × ℕ)
-  pub is_index : IsIndexOf contents before
-  pub prepares : Prepares op before index
+-- the index, but that it may lack ids from this one on
+abbrev pub LacksFrom : ℕ → List (ℕ × ℕ) → List (ℕ × ℕ) → Type 0
+LacksFrom first old new = (id : ℕ) → (slot_of new id ≡ slot_of old id) ⊎ ((first ≤ id) × (slot_of new id ≡ None))

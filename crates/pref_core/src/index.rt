@@ -1,14 +1,10 @@
 //! An index from row id to slot, which finds a row of a store without a look at other slots.
 
-ghost use Rattle.std.specs.Prelude.{◌≡◌, ◌^◌, ◌<◌, ℕ, [], map, length, true, false, is_some, None, Some, IfOk, OnOk, OnErr};
-ghost use Rattle.pref_core.specs.Indexes.{slot_of, Points, PointsAll, placed_from, added_slots, added_rows, Prepares, Withdraws, adds, IsIndexOf, IsReady};
-ghost use Rattle.pref_core.specs.Operations.{IsPlan};
-ghost use Rattle.pref_core.specs.Planned.{op_of};
-ghost use Rattle.pref_core.specs.Slots.{Contents, StandsFor};
-ghost use Rattle.pref_core.specs.State.{State, changes_of};
-ghost use Rattle.pref_core.specs.Table.{among};
+ghost use Rattle.std.specs.Prelude.{◌≡◌, ◌^◌, ◌<◌, ◌≤◌, ◌&&◌, ℕ, [], if◌then◌else◌, nat_le, nat_lt, true, is_some, None, Some, IfOk, OnOk, OnErr};
+ghost use Rattle.pref_core.specs.Indexes.{slot_of, Points, PointsAll, added_rows, LacksFrom, IsIndexOf};
+ghost use Rattle.pref_core.specs.State.{changes_of};
 
-use crate::call::{Outcome, Planned, SlotList};
+use crate::call::Planned;
 use crate::changes::LentChange;
 use crate::store::Store;
 use indexmap::IndexMap;
@@ -18,7 +14,7 @@ use std::marker::Model;
 /// The slot of each row that is in the table now, by id: a hash map beside a store. Contracts see it as its list of
 /// pairs of id and slot.
 ///
-/// [`Store::plan_at`] and [`Store::apply_at`] go by it, and keep it that of the store. (this project)
+/// [`Store::look_up`] goes by it, and [`Store::reindex`] keeps it that of the store. (this project)
 pub struct Index {
     slots: IndexMap<u64, usize>,
 }
@@ -89,111 +85,49 @@ impl Index {
         self.slots.swap_remove(&id);
     }
 
-    /// Puts the rows that a planned op adds, one after the other, before the op is done, so that [`Store::apply_at`] takes
-    /// no memory.
+    /// Puts the rows that an op adds, each with its slot; they have the ids from `first` on.
     ///
-    /// `Err` is out of memory, comes only for an op that adds a row, and leaves none of these rows in the index: where it
-    /// was that of a store which planned the op, it still is.
-    pub fn prepare(&mut self, alloc: Global, op: &Planned<'_>) -> Result<(), AllocError>
-        ensures prepared { OnOk result (Prepares (op_of op.now) self.old self.new) }
-        ensures err { OnErr result (Withdraws (op_of op.now) self.old self.new) }
-        ensures index { OnErr result ((contents : Contents) (state : State) → StandsFor contents state → IsPlan contents op.now.client op.now.call.now (op_of op.now) → IsIndexOf contents self.old → IsIndexOf contents self.new) }
-        ensures refused { OnErr result (adds op.now.outcome ≡ true) }
+    /// `Err` is out of memory, and leaves none of these rows in the index.
+    pub(crate) fn add_rows(
+        &mut self,
+        alloc: Global,
+        first: u64,
+        op: &Planned<'_>,
+    ) -> Result<(), AllocError>
+        requires { first < 2 ^ 63 }
+        ensures added { OnOk result (PointsAll self.old (added_rows first (changes_of op.now.call.now) op.now.slots) self.new) }
+        ensures none { OnErr result (LacksFrom first self.old self.new) }
     {
-        let added = AddedRows::of(op);
-        match self.put_all(alloc, &added) {
-            Ok(()) => Ok(()),
-            Err(refused) => {
-                self.take_all(&added);
-                Err(refused)
+        let slots = op.slots.as_slice();
+        let mut next_id = first;
+        let mut used = 0;
+        for at in 0..op.call.count() {
+            match op.call.change(at) {
+                LentChange::Add(_) => {
+                    let Some(slot) = slots.get(used) else {
+                        return Ok(());
+                    };
+                    if let Err(refused) = self.put(alloc, next_id, *slot as usize) {
+                        self.take_rows(first, next_id);
+                        return Err(refused);
+                    }
+                    next_id += 1;
+                    used += 1;
+                }
+                LentChange::Set(_, _) => used += 1,
+                LentChange::Remove(_) => {}
             }
-        }
-    }
-
-    /// Takes out again what was put for an op that won't be done: then the index is the store's as before.
-    pub fn withdraw(&mut self, op: &Planned<'_>)
-        ensures out { Withdraws (op_of op.now) self.old self.new }
-        ensures index { (contents : Contents) (state : State) → StandsFor contents state → IsPlan contents op.now.client op.now.call.now (op_of op.now) → IsReady contents (op_of op.now) self.old → IsIndexOf contents self.new }
-    {
-        self.take_all(&AddedRows::of(op));
-    }
-
-    /// Puts the slots of new rows. `Err` leaves other rows as they were.
-    fn put_all(&mut self, alloc: Global, added: &AddedRows) -> Result<(), AllocError>
-        requires { added.now.first < 2 ^ 63 }
-        ensures put { OnOk result (PointsAll self.old (placed_from added.now.first added.now.slots) self.new) }
-        ensures err { OnErr result ((id : ℕ) → among (map (λ placed. placed.0) (placed_from added.now.first added.now.slots)) id ≡ false → slot_of self.new id ≡ slot_of self.old id) }
-        ensures some { OnErr result (0 < length added.now.slots) }
-    {
-        let slots = added.slots.as_slice();
-        for at in 0..slots.len() {
-            self.put(alloc, added.first + at as u64, slots[at] as usize)?;
         }
         Ok(())
     }
 
-    /// Takes new rows out, where they are there.
-    fn take_all(&mut self, added: &AddedRows)
-        requires { added.now.first < 2 ^ 63 }
-        ensures { PointsAll self.old (map (λ placed. (placed.0, None)) (placed_from added.now.first added.now.slots)) self.new }
+    /// Takes out the rows with the ids from `first` up to before `end`.
+    fn take_rows(&mut self, first: u64, end: u64)
+        requires { first ≤ end }
+        ensures { (id : ℕ) → slot_of self.new id ≡ (if nat_le first id && nat_lt id end then None else slot_of self.old id) }
     {
-        for at in 0..added.slots.as_slice().len() {
-            self.take(added.first + at as u64);
+        for id in first..end {
+            self.take(id);
         }
     }
-}
-
-/// The rows that an op adds.
-#[derive(Drop)]
-struct AddedRows {
-    /// The id of the first; the others have the next ones.
-    first: u64,
-    /// Their slots.
-    slots: SlotList,
-}
-
-impl AddedRows {
-    /// Ids are below this number.
-    const END_OF_IDS: u64 = 1 << 63;
-
-    /// The rows that this op adds.
-    fn of(op: &Planned<'_>) -> AddedRows
-        ensures rows { placed_from result.first result.slots ≡ added_rows (op_of op.now) }
-        ensures small { result.first < 2 ^ 63 }
-        ensures adds { 0 < length result.slots → adds op.now.outcome ≡ true }
-    {
-        match op.outcome {
-            Outcome::Added(first) if first < Self::END_OF_IDS => AddedRows {
-                first,
-                slots: added_slots(op),
-            },
-            _ => AddedRows {
-                first: 0,
-                slots: SlotList::NONE,
-            },
-        }
-    }
-}
-
-/// The slots of the rows that the op's changes add, of the slots of all rows that they begin.
-fn added_slots(op: &Planned<'_>) -> SlotList
-    ensures { result ≡ added_slots (changes_of op.now.call.now) op.now.slots }
-{
-    let slots = op.slots.as_slice();
-    let mut added = SlotList::NONE;
-    let mut used = 0;
-    for at in 0..op.call.count() {
-        match op.call.change(at) {
-            LentChange::Add(_) => {
-                let Some(slot) = slots.get(used) else {
-                    return added;
-                };
-                added.push(*slot);
-                used += 1;
-            }
-            LentChange::Set(_, _) => used += 1,
-            LentChange::Remove(_) => {}
-        }
-    }
-    added
 }

@@ -7,11 +7,13 @@ ghost use Rattle.std.specs.Prelude.{true, false, ◌≡◌, ◌<◌, length, Ok,
 ghost use Rattle.pref_core.specs.State.{is_change};
 ghost use Rattle.pref_core.specs.Step.{opened, told_of_commit};
 ghost use Rattle.pref_core.specs.Operations.{IsPlan};
+ghost use Rattle.pref_core.specs.Planned.{op_of};
 ghost use Rattle.pref_core.specs.Systems.{Does, Replies, Running, StandsForSystem, Steps, as_reply, is_refusal, without_event};
 ghost use Rattle.pref_core.specs.Parts.{Changes, is_begin, replied, told_of};
+ghost use Rattle.pref_core.specs.declared.call.Call.{Call};
 ghost use Rattle.pref_core.specs.declared.event.Reply.{Reply};
 
-use crate::call::{Call, LentCall, Op, Outcome};
+use crate::call::{LentCall, Outcome, Planned};
 use crate::changes::{Commit, added_by};
 use crate::event::{Act, Committed, Event, RankedList, Reply, StepFault};
 use crate::fault::CoreFault;
@@ -172,7 +174,11 @@ impl Machine {
     pub fn begin(&mut self, client: u8, ask: Ask) -> Result<u32, CoreFault>
         ensures { Does self.old client (Act.Begin ask) (as_reply Reply.Begun result) self.new }
     {
-        let op = self.store.plan(client, Call::Begin)?;
+        let call = LentCall::begin();
+        let op = match self.store.look_up(&self.index, client, &call) {
+            Ok(op) => op,
+            Err(fault) => return Err(fault),
+        };
         Ok(self.begin_planned(client, &op, ask))
     }
 
@@ -205,9 +211,13 @@ impl Machine {
     pub fn finish(&mut self, alloc: Global, client: u8) -> Result<RankedList, CoreFault>
         ensures { Does self.old client Act.Finish (as_reply Reply.Answer result) self.new }
     {
-        let op = self.store.plan(client, Call::Finish)?;
+        let call = LentCall::finish();
+        let op = match self.store.look_up(&self.index, client, &call) {
+            Ok(op) => op,
+            Err(fault) => return Err(fault),
+        };
         let ranked = answer_at(&self.queries, client, alloc)?;
-        self.store.apply(&op);
+        self.store.perform(&op);
         set(&mut self.queries, client, None);
         Ok(RankedList::of(ranked))
     }
@@ -222,8 +232,12 @@ impl Machine {
     pub fn abandon(&mut self, client: u8) -> Result<(), CoreFault>
         ensures { Does self.old client Act.Abandon (as_reply (λ _. Reply.Abandoned) result) self.new }
     {
-        let op = self.store.plan(client, Call::Abandon)?;
-        self.store.apply(&op);
+        let call = LentCall::abandon();
+        let op = match self.store.look_up(&self.index, client, &call) {
+            Ok(op) => op,
+            Err(fault) => return Err(fault),
+        };
+        self.store.perform(&op);
         set(&mut self.queries, client, None);
         Ok(())
     }
@@ -339,12 +353,12 @@ impl Machine {
         requires { is_change call.now ≡ true }
         ensures { (done : Reply) → is_refusal done ≡ false → Changes self.old client call.now done (as_reply (λ _. done) result) self.new }
     {
-        let op = match self.store.plan_by(Some(&self.index), client, call) {
+        let op = match self.store.look_up(&self.index, client, call) {
             Ok(op) => op,
             Err(fault) => return Err(fault),
         };
-        self.index.prepare(alloc, &op)?;
-        self.store.apply_at(&mut self.index, &op);
+        self.store.reindex(alloc, &mut self.index, &op)?;
+        self.store.perform(&op);
         told(op.outcome)
     }
 
@@ -353,7 +367,8 @@ impl Machine {
         requires { is_begin event.act ≡ true }
         ensures { Steps self.old event result self.new }
     {
-        let op = match self.store.plan(event.client, Call::Begin) {
+        let call = LentCall::begin();
+        let op = match self.store.look_up(&self.index, event.client, &call) {
             Ok(op) => op,
             Err(fault) => return Err(StepFault { fault, event }),
         };
@@ -363,12 +378,12 @@ impl Machine {
     }
 
     /// A query begins, by its plan, and has this many blocks to scan.
-    fn begin_planned(&mut self, client: u8, op: &Op, ask: Ask) -> u32
-        requires { IsPlan self.old.contents client Call.Begin op.now }
+    fn begin_planned(&mut self, client: u8, op: &Planned<'_>, ask: Ask) -> u32
+        requires { IsPlan self.old.contents client Call.Begin (op_of op.now) }
         ensures { Does self.old client (Act.Begin ask) (Ok (Reply.Begun result)) self.new }
     {
         let query = Query::begin(ask, self.store.stamp(), &self.setup);
-        self.store.apply(op);
+        self.store.perform(op);
         set(&mut self.queries, client, Some(query));
         self.setup.blocks()
     }

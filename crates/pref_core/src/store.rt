@@ -8,6 +8,7 @@
 pub(crate) mod applying;
 pub(crate) mod caller;
 pub(crate) mod contents;
+pub(crate) mod indexing;
 pub(crate) mod links;
 pub(crate) mod needs;
 pub(crate) mod opening;
@@ -16,16 +17,16 @@ pub(crate) mod planning;
 pub(crate) mod reads;
 pub mod version;
 
-ghost use Rattle.std.specs.Prelude.{◌≡◌, ◌-◌, ◌<◌, length, Err, IfOk, IfErr, option_map, ◌↔◌, ◌⊎◌};
+ghost use Rattle.std.specs.Prelude.{◌≡◌, ◌-◌, ◌<◌, length, true, Err, IfOk, IfErr, OnOk, OnErr, option_map, ◌↔◌, ◌⊎◌};
 ghost use Rattle.std.specs.Option.{unwrap_or};
 ghost use Rattle.pref_core.specs.Table.{line_of, entries};
 ghost use Rattle.pref_core.specs.State.{State, opening, calls_of, needed};
 ghost use Rattle.pref_core.specs.Slots.{StandsFor, caller_calls, visible, block_of, opening_contents};
-ghost use Rattle.pref_core.specs.Indexes.{IsIndexOf, IsReady};
+ghost use Rattle.pref_core.specs.Indexes.{adds, IsIndexOf};
 ghost use Rattle.pref_core.specs.Operations.{applied, IsPlan, Plans, PlansIn, AppliesIn};
 ghost use Rattle.pref_core.specs.Planned.{op_of, op_or_fault};
 
-use crate::call::{Call, LentCall, Op, Planned};
+use crate::call::{Call, LentCall, Op, Outcome, Planned};
 use crate::fault::CoreFault;
 use crate::index::Index;
 use crate::setup::Setup;
@@ -178,8 +179,20 @@ impl Store {
         }
     }
 
-    /// The same by an index of this store: constant in the slots. The call is lent.
-    pub fn plan_at<'a>(
+    /// The same by an index of this store: constant in the slots.
+    pub fn plan_at(&self, index: &Index, client: u8, call: Call) -> Result<Op, CoreFault>
+        requires { IsIndexOf self.now index.now }
+        ensures exact { Plans self.now client call result }
+        ensures state { (state : State) → StandsFor self.now state → PlansIn state self.now client call result }
+    {
+        match self.plan_by(Some(index), client, &call.lent()) {
+            Ok(planned) => Ok(planned.op()),
+            Err(fault) => Err(fault),
+        }
+    }
+
+    /// The same of a lent call, whose plan borrows it: for [`Store::reindex`] and [`Store::perform`].
+    pub fn look_up<'a>(
         &self,
         index: &Index,
         client: u8,
@@ -206,27 +219,44 @@ impl Store {
         }
     }
 
-    /// Does an op that was planned here, by an index that is ready for it ([`Index::prepare`]); the index then is this
-    /// store's again. Takes no memory. Constant in the slots, but that a finish or an abandon goes over the ended
-    /// versions that are kept for its query.
-    pub fn apply_at(&mut self, index: &mut Index, op: &Planned<'_>)
-        requires plan { IsPlan self.old op.now.client op.now.call.now (op_of op.now) }
-        requires ready { IsReady self.old (op_of op.now) index.old }
-        ensures exact { self.new ≡ applied self.old (op_of op.now) }
-        ensures index { IsIndexOf self.new index.new }
-        ensures state { (state : State) → StandsFor self.old state → AppliesIn state self.old (op_of op.now) self.new }
+    /// Makes the index of this store that of the store after an op which was planned here, and leaves the store as it is: for whoever
+    /// does the op next, or in copies of the store alone. Constant in the slots.
+    ///
+    /// `Err` is out of memory, comes only for an op that adds a row, and leaves the index that of the store.
+    pub fn reindex(
+        &self,
+        alloc: Global,
+        index: &mut Index,
+        op: &Planned<'_>,
+    ) -> Result<(), AllocError>
+        requires plan { IsPlan self.now op.now.client op.now.call.now (op_of op.now) }
+        requires index { IsIndexOf self.now index.old }
+        ensures after { OnOk result (IsIndexOf (applied self.now (op_of op.now)) index.new) }
+        ensures same { OnErr result (IsIndexOf self.now index.new) }
+        ensures refused { OnErr result (adds op.now.outcome ≡ true) }
     {
-        self.reindex(index, op);
-        self.contents.step(op);
+        match op.outcome {
+            Outcome::Added(first) => {
+                index.add_rows(alloc, first, op)?;
+                self.contents.move_rows(index, op);
+                Ok(())
+            }
+            Outcome::Done => {
+                self.contents.move_rows(index, op);
+                Ok(())
+            }
+            Outcome::NoSuchRow(_) => Ok(()),
+            Outcome::Full(_) => Ok(()),
+        }
     }
 
-    /// Makes an index that is ready for an op which was planned here ([`Index::prepare`]) that of the store after the op. Takes no memory,
-    /// and leaves the store as it is: for whoever applies the op later, or in copies of the store alone.
-    pub fn reindex(&self, index: &mut Index, op: &Planned<'_>)
-        requires plan { IsPlan self.now op.now.client op.now.call.now (op_of op.now) }
-        requires ready { IsReady self.now (op_of op.now) index.old }
-        ensures { IsIndexOf (applied self.now (op_of op.now)) index.new }
+    /// Does an op that was planned here. Takes no memory. Constant in the slots, but that a finish or an abandon goes over the ended
+    /// versions that are kept for its query.
+    pub fn perform(&mut self, op: &Planned<'_>)
+        requires { IsPlan self.old op.now.client op.now.call.now (op_of op.now) }
+        ensures exact { self.new ≡ applied self.old (op_of op.now) }
+        ensures state { (state : State) → StandsFor self.old state → AppliesIn state self.old (op_of op.now) self.new }
     {
-        self.contents.follow(index, op);
+        self.contents.step(op);
     }
 }

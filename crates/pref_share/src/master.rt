@@ -233,12 +233,12 @@ impl<J: Naming> Master<J> {
         ensures refused { IfErr result (λ fault. (refusal (state_at J.opening self.old) client call.now ≡ Some fault) ⊎ (nat_lt 0 (added call.now) ≡ true)) }
         ensures same { IfErr result (λ fault. self.new ≡ self.old) }
     {
-        let op = match published_store(&*self.writer).plan_at(&self.index, client, call) {
+        let store = published_store(&*self.writer);
+        let op = match store.look_up(&self.index, client, call) {
             Ok(op) => op,
             Err(fault) => return Err(fault),
         };
-        self.index.prepare(alloc, &op)?;
-        published_store(&*self.writer).reindex(&mut self.index, &op);
+        store.reindex(alloc, &mut self.index, &op)?;
         self.history.add(&op);
         let seen = self.history.whole();
         let token = seen.token();

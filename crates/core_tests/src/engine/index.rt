@@ -4,7 +4,7 @@ ghost use Rattle.pref_core.specs.Indexes.{IsIndexOf};
 
 use super::fixtures::{columns, row, rows, setup_of};
 use crate::same::assert_same;
-use pref_core::{Call, Index, Outcome, Planned, Store};
+use pref_core::{Call, Index, Outcome, Store};
 use pref_table::Schema;
 use std::alloc::Global;
 use std::process::Abort;
@@ -22,12 +22,12 @@ fn done(
     ensures { OnOk result (IsIndexOf store.new index.new) }
 {
     let lent = call.lent();
-    let op = match store.plan_at(index, client, &lent) {
+    let op = match store.look_up(index, client, &lent) {
         Ok(op) => op,
         Err(fault) => return Err(Fail::from(fault)),
     };
-    index.prepare(alloc, &op)?;
-    store.apply_at(index, &op);
+    store.reindex(alloc, index, &op)?;
+    store.perform(&op);
     Ok(op.outcome)
 }
 
@@ -125,42 +125,32 @@ fn an_index_has_no_deleted_row(rt: HostRuntime) -> Result<(), Fail> {
     })
 }
 
-/// The row that an op adds is put, and taken out again.
-fn check_withdrawn(
-    rt: &impl Abort,
-    alloc: Global,
-    index: &mut Index,
-    op: &Planned<'_>,
-) -> Result<(), Fail> {
-    index.prepare(alloc, op)?;
-    assert_same(rt, "prepared", &index.slot(3), &Some(2));
-    index.withdraw(op);
-    assert_same(rt, "withdrawn", &index.slot(3), &None);
-    Ok(())
-}
-
-fn withdraws_a_row(
+fn plans_as_its_store(
     rt: &impl Abort,
     alloc: Global,
     schema: &Schema,
-    store: &Store,
+    store: &mut Store,
     index: &mut Index,
 ) -> Result<(), Fail>
-    requires { IsIndexOf store.now index.old }
+    requires { IsIndexOf store.old index.old }
 {
-    let insert = Call::Insert(row(schema, 6)?);
-    let lent = insert.lent();
-    match store.plan_at(index, 1, &lent) {
-        Ok(op) => check_withdrawn(rt, alloc, index, &op),
-        Err(fault) => Err(Fail::from(fault)),
-    }
+    let update = Call::Update(2, row(schema, 7)?);
+    done(alloc, store, index, 2, &Call::Begin)?;
+    done(alloc, store, index, 1, &update)?;
+    let delete = Call::Delete(2);
+    let by_index = store.plan_at(index, 1, delete);
+    assert_same(rt, "plan", &by_index, &store.plan(1, delete));
+    let missing = Call::Delete(9);
+    let by_index = store.plan_at(index, 1, missing);
+    assert_same(rt, "missing", &by_index, &store.plan(1, missing));
+    Ok(())
 }
 
 #[test]
-fn a_row_that_is_not_added_is_withdrawn(rt: HostRuntime) -> Result<(), Fail> {
+fn a_plan_by_an_index_is_that_of_its_store(rt: HostRuntime) -> Result<(), Fail> {
     let alloc = rt.alloc();
     with_index(alloc, &[4, 5], |schema, store, index| {
-        withdraws_a_row(&rt, alloc, schema, store, index)
+        plans_as_its_store(&rt, alloc, schema, store, index)
     })
 }
 
@@ -174,12 +164,11 @@ fn goes_before_the_store(
 {
     let delete = Call::Delete(2);
     let lent = delete.lent();
-    let op = match store.plan_at(index, 1, &lent) {
+    let op = match store.look_up(index, 1, &lent) {
         Ok(op) => op,
         Err(fault) => return Err(Fail::from(fault)),
     };
-    index.prepare(alloc, &op)?;
-    store.reindex(index, &op);
+    store.reindex(alloc, index, &op)?;
     assert_same(rt, "in the index", &index.slot(2), &None);
     assert_same(rt, "in the store", &store.get(2).is_some(), &true);
     Ok(())

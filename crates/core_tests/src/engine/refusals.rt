@@ -2,6 +2,8 @@
 //! and refuses it; where none is refused they show that the calls succeed.
 mod stopped;
 
+ghost use Rattle.std.specs.Prelude.{IfOk};
+ghost use Rattle.pref_core.specs.Indexes.{IsIndexOf};
 ghost use Rattle.pref_core.specs.Scans.{NextIsNew};
 
 use super::fixtures::{
@@ -10,8 +12,8 @@ use super::fixtures::{
 };
 use crate::same::{assert_same, assert_same_text};
 use pref_core::{
-    Act, Call, Change, Commit, Committed, CoreFault, Event, Index, Machine, Op, Planned, Query,
-    RankedList, Reply, StepFault, Store,
+    Act, Change, Commit, Committed, CoreFault, Event, Index, LentCall, Machine, Query, RankedList,
+    Reply, StepFault, Store,
 };
 use pref_sky::Ranked;
 use pref_table::{Row, Schema};
@@ -227,40 +229,43 @@ fn check_first_rows(rt: &impl Abort, index: &Index, rows: usize) {
     }
 }
 
-/// Puts the eight rows that an op adds to two, again where memory was refused: until then the index has the two alone.
-fn prepare_in_the_end(rt: &impl Abort, alloc: Global, index: &mut Index, op: &Planned<'_>) {
-    if index.prepare(alloc, op).is_err() {
-        check_first_rows(rt, index, 2);
-        index.prepare(alloc, op).expect(rt, "memory");
+/// An index goes along with a commit that adds eight rows to two, again where memory was refused: until then it has the two alone.
+fn reindex_in_the_end(
+    rt: &impl Abort,
+    alloc: Global,
+    store: &Store,
+    index: &mut Index,
+    commit: &Commit,
+)
+    requires { IsIndexOf store.now index.old }
+{
+    let call = LentCall::commit(commit);
+    if let Ok(op) = store.look_up(index, 1, &call) {
+        if store.reindex(alloc, index, &op).is_err() {
+            check_first_rows(rt, index, 2);
+            store.reindex(alloc, index, &op).expect(rt, "memory");
+        }
     }
 }
 
-/// A store of two rows.
-fn store_of_two(alloc: Global, capacity: u32) -> Result<Store, Fail> {
-    let setup = setup_of(1, capacity, 1, 1)?;
-    Ok(Store::new(alloc, &setup, &opening_rows(alloc, &[5, 7])?)?)
-}
-
-/// An index with two rows, and room for seven more.
-fn narrow_index(alloc: Global) -> Result<Index, Fail> {
-    Ok(Index::new(alloc, &store_of_two(alloc, 2)?)?)
-}
-
-/// An op that adds eight rows to two.
-fn op_that_adds_eight(alloc: Global) -> Result<Op, Fail> {
-    let commit = Commit::of(&[Change::Add(row_of(alloc, 5)?); 8])?;
-    let store = store_of_two(alloc, 10)?;
-    Ok(store.plan(1, Call::Commit(commit))?)
+/// A store of two rows with room for ten, and an index of it with room for nine: that of a store of the same rows with no room for others.
+fn narrowly_indexed(alloc: Global) -> Result<(Store, Index), Fail>
+    ensures { IfOk result (λ both. IsIndexOf both.0 both.1) }
+{
+    let rows = opening_rows(alloc, &[5, 7])?;
+    let full = Store::new(alloc, &setup_of(1, 2, 1, 1)?, &rows)?;
+    let store = Store::new(alloc, &setup_of(1, 10, 1, 1)?, &rows)?;
+    let index = Index::new(alloc, &full)?;
+    Ok((store, index))
 }
 
 /// An index with room for nine rows grows while it takes eight beside its two.
 #[test]
 fn an_index_has_all_rows_of_a_commit_or_none(rt: HostRuntime) -> Result<(), Fail> {
     let alloc = rt.alloc();
-    let op = op_that_adds_eight(alloc)?;
-    let lent = op.call.lent();
-    let mut index = narrow_index(alloc)?;
-    prepare_in_the_end(&rt, alloc, &mut index, &op.planned(&lent));
+    let commit = Commit::of(&[Change::Add(row_of(alloc, 5)?); 8])?;
+    let (store, mut index) = narrowly_indexed(alloc)?;
+    reindex_in_the_end(&rt, alloc, &store, &mut index, &commit);
     check_first_rows(&rt, &index, 10);
     Ok(())
 }

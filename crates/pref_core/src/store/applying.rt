@@ -1,7 +1,6 @@
 //! A planned call, done.
 
 ghost use Rattle.std.specs.Prelude.{map, true, [], ◌∷◌, suc, is_some, ◌≡◌, ◌&&◌};
-ghost use Rattle.pref_core.specs.Indexes.{IsReady, Moves};
 ghost use Rattle.pref_core.specs.Kept.{IsKept, IsFreed, FindsFreed, are_free};
 ghost use Rattle.pref_core.specs.Operations.{close, is_next, outcome_at, slots_after};
 ghost use Rattle.pref_core.specs.Planned.{op_of};
@@ -9,8 +8,6 @@ ghost use Rattle.pref_core.specs.Slots.{begins};
 ghost use Rattle.pref_core.specs.State.{ended, is_formed};
 
 use crate::call::{Outcome, Planned, QueryState, SlotList};
-use crate::changes::LentChange;
-use crate::index::Index;
 use crate::store::Store;
 use crate::store::caller::caller_of;
 use crate::store::contents::Contents;
@@ -32,32 +29,6 @@ impl Store {
 }
 
 impl Contents {
-    /// Goes along with a planned op before it is done: in an index each row that it sets gets its new slot, and each that it
-    /// removes goes out.
-    pub(crate) fn follow(&self, index: &mut Index, op: &Planned<'_>)
-        requires kept { IsKept self.now }
-        requires next { is_next self.now (op_of op.now) ≡ true }
-        requires ready { IsReady self.now (op_of op.now) index.old }
-        ensures { Moves (op_of op.now) index.old index.new }
-    {
-        if !op.outcome.succeeds() {
-            return;
-        }
-        let slots = op.slots.as_slice();
-        let mut used = 0;
-        for at in 0..op.call.count() {
-            match op.call.change(at) {
-                LentChange::Add(_) => used += 1,
-                LentChange::Set(id, _) => {
-                    let Some(slot) = slots.get(used) else { return };
-                    self.move_row(index, id, *slot);
-                    used += 1;
-                }
-                LentChange::Remove(id) => index.take(id),
-            }
-        }
-    }
-
     /// Whether the call, its number and its outcome are legal next, by what becomes of the call here.
     fn is_next(&self, outcome: Outcome, op: &Planned<'_>) -> bool
         requires outcome { outcome ≡ outcome_at self.now op.now.call.now }

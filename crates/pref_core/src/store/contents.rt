@@ -120,17 +120,6 @@ impl Contents {
         }
     }
 
-    /// A row of the table gets this slot in an index. Where it is there already the index is left alone.
-    pub(crate) fn move_row(&self, index: &mut Index, id: u64, slot: u32)
-        requires there { has (visible self.now.stamp self.now.slots) id ≡ true }
-        requires index { IsPlaceOf self.now.stamp id self.now.slots (slot_of index.old id) }
-        ensures { Points index.old id (Some slot) index.new }
-    {
-        if !stands_at(&self.slots, slot, self.stamp, id) {
-            index.set(id, slot as usize);
-        }
-    }
-
     /// The row at this place, where there is one.
     pub(crate) fn row_in(&self, place: Option<u32>) -> Option<Row>
         ensures { result ≡ row_in self.now.slots place }

@@ -1,10 +1,12 @@
-use Rattle.std.proofs.Common.{refl}
+use Rattle.std.proofs.Common.{refl, sym, subst}
+use Rattle.pref_core.specs.Indexes.{IsIndexOf}
 use Rattle.core_tests.proofs.engine.index.done.Goals as goal
 
-pub apply_at-requires : goal.apply_at-requires
-apply_at-requires c =
-    let plan = c.in-Ok.ensures.exact in
-    record {
-      plan = record { by = refl; what = refl; next = plan.next; fits = plan.fits };
-      ready = record { before = c.args.index.now; is_index = c.requires; prepares = c.in_ok-prepare.ensures.prepared };
-    }
+pub reindex-requires-clause-plan : goal.reindex-requires-clause-plan
+reindex-requires-clause-plan c = record { by = refl; what = refl; next = c.in-Ok.ensures.exact.next; fits = c.in-Ok.ensures.exact.fits }
+
+pub perform-requires : goal.perform-requires
+perform-requires c = record { by = refl; what = refl; next = c.in-Ok.ensures.exact.next; fits = c.in-Ok.ensures.exact.fits }
+
+pub returns : goal.returns
+returns c = subst (λ s. IsIndexOf s c.reindex.new.index) (sym c.perform.ensures.exact) c.in_ok-reindex.ensures.after

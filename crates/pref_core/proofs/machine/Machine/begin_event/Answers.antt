@@ -4,17 +4,20 @@ use Rattle.pref_core.specs.declared.event.Reply.TheVariants.{Begun}
 use Rattle.pref_core.specs.declared.call.Call.TheVariants.{Begin}
 use Rattle.pref_core.specs.Operations.{IsPlan}
 use Rattle.pref_core.specs.Systems.{Running, Steps}
-use Rattle.pref_core.proofs.Steps.{running_of}
+use Rattle.pref_core.specs.Planned.{op_of}
+use Rattle.pref_core.proofs.Steps.{PlansAlways, running_of}
 use Rattle.pref_core.proofs.Doing.{begin_steps_not, steps_does}
 use Rattle.pref_core.proofs.machine.Machine.begin_event.Goals as goal
 
 pub returns-in-Err : goal.returns-in-Err
 returns-in-Err c =
     subst (λ r. Steps r c.args.event (Err (record { fault = c.in-Err.fault; event = c.args.event })) r) c.self.view_is
-    (begin_steps_not (running_of c.self.inside.store c.self.inside.setup c.self.inside.queries.items) c.args.event c.in-Err.fault c.requires c.in-Err.ensures.state)
+    (begin_steps_not (running_of c.self.inside.store c.self.inside.setup c.self.inside.queries.items) c.args.event c.in-Err.fault c.requires (subst (λ call. PlansAlways c.self.inside.store c.args.event.client call (Err c.in-Err.fault)) c.begin-call.ensures c.in-Err.ensures.state))
 
 pub begin_planned-requires : goal.begin_planned-requires
-begin_planned-requires c = subst (λ (r : Running). IsPlan r.contents c.args.event.client Begin c.in-Ok.op) c.self.view_is c.in-Ok.ensures.exact
+begin_planned-requires c =
+    subst (λ (r : Running). IsPlan r.contents c.args.event.client Begin (op_of c.in-Ok.op)) c.self.view_is
+    (subst (λ call. IsPlan c.self.inside.store c.args.event.client call (op_of c.in-Ok.op)) c.begin-call.ensures c.in-Ok.ensures.exact)
 
 pub returns : goal.returns
 returns c =

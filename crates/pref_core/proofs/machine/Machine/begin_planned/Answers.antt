@@ -8,6 +8,8 @@ use Rattle.pref_core.specs.declared.event.Reply.TheVariants.{Begun}
 use Rattle.pref_core.specs.Limits.{blocks}
 use Rattle.pref_core.specs.Operations.{IsPlan}
 use Rattle.pref_core.specs.Systems.{Running, Does}
+use Rattle.pref_core.specs.Planned.{op_of}
+use Rattle.pref_core.proofs.Legal.{plan_itself}
 use Rattle.pref_core.proofs.Steps.{running_of}
 use Rattle.pref_core.proofs.Doing.{begin_does, in_order_quiet}
 use Rattle.pref_core.proofs.machine.Machine.begin_planned.Goals as goal
@@ -16,25 +18,30 @@ pub invariant_of-self : goal.invariant_of-self
 invariant_of-self c =
     let limits = c.self.inside.setup in
     let client = c.args.client in
-    let op = c.args.op.now in
+    let op = op_of c.args.op.now in
     let old = running_of c.self.inside.store limits c.self.inside.queries.items in
     let plan = subst (λ (r : Running). IsPlan r.contents client Begin op) (sym c.self.view_is) c.requires in
     let long : length c.set.new.queries ≡ c.self.inside.queries.len = omega arith in
     let scans = with_items_is c.self.inside.queries c.set.new.queries long ∙ c.set.ensures ∙ (λ i. with_seat client (Some (c.begin-query.ensures i)) (c.deref_mut.ensures.value i)) in
-    in_order_quiet old c.apply.new.self _ c.self.inside.index client Begin op (ActBegin c.args.ask) (Ok (Begun (blocks limits))) refl plan c.apply.ensures.exact c.self.invariant
-    (begin_does old client c.args.ask op c.apply.new.self c.stamp.result _ c.blocks-2.ensures.allowed c.stamp.ensures plan c.apply.ensures.exact scans)
+    in_order_quiet old c.perform.new.self _ c.self.inside.index client Begin op (ActBegin c.args.ask) (Ok (Begun (blocks limits))) refl plan c.perform.ensures.exact c.self.invariant
+    (begin_does old client c.args.ask op c.perform.new.self c.stamp.result _ c.blocks-2.ensures.allowed c.stamp.ensures plan c.perform.ensures.exact scans)
 
 pub returns : goal.returns
 returns c =
     let limits = c.self.inside.setup in
     let client = c.args.client in
-    let op = c.args.op.now in
+    let op = op_of c.args.op.now in
     let old = running_of c.self.inside.store limits c.self.inside.queries.items in
     let plan = subst (λ (r : Running). IsPlan r.contents client Begin op) (sym c.self.view_is) c.requires in
     let long : length c.set.new.queries ≡ c.self.inside.queries.len = omega arith in
     let scans = with_items_is c.self.inside.queries c.set.new.queries long ∙ c.set.ensures ∙ (λ i. with_seat client (Some (c.begin-query.ensures i)) (c.deref_mut.ensures.value i)) in
-    subst (λ r. Does r client (ActBegin c.args.ask) (Ok (Begun c.blocks-2.result)) (running_of c.apply.new.self limits (with_items c.self.inside.queries c.set.new.queries).items)) c.self.view_is
+    subst (λ r. Does r client (ActBegin c.args.ask) (Ok (Begun c.blocks-2.result)) (running_of c.perform.new.self limits (with_items c.self.inside.queries c.set.new.queries).items)) c.self.view_is
     (
-    subst (λ n. Does old client (ActBegin c.args.ask) (Ok (Begun n)) (running_of c.apply.new.self limits (with_items c.self.inside.queries c.set.new.queries).items)) (sym c.blocks-2.ensures.value)
-    (begin_does old client c.args.ask op c.apply.new.self c.stamp.result _ c.blocks-2.ensures.allowed c.stamp.ensures plan c.apply.ensures.exact scans)
+    subst (λ n. Does old client (ActBegin c.args.ask) (Ok (Begun n)) (running_of c.perform.new.self limits (with_items c.self.inside.queries c.set.new.queries).items)) (sym c.blocks-2.ensures.value)
+    (begin_does old client c.args.ask op c.perform.new.self c.stamp.result _ c.blocks-2.ensures.allowed c.stamp.ensures plan c.perform.ensures.exact scans)
     )
+
+pub perform-requires : goal.perform-requires
+perform-requires c =
+    plan_itself c.self.inside.store c.args.client Begin (op_of c.args.op.now)
+    (subst (λ (r : Running). IsPlan r.contents c.args.client Begin (op_of c.args.op.now)) (sym c.self.view_is) c.requires)

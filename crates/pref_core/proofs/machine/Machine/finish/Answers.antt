@@ -4,30 +4,30 @@ use Rattle.std.proofs.lemmas.List.{with_items_is}
 use Rattle.pref_core.specs.State.{with_seat, seat}
 use Rattle.pref_core.specs.Systems.{Does, as_reply}
 use Rattle.pref_core.specs.Parts.{AnswersAt}
-use Rattle.pref_core.proofs.Steps.{running_of}
+use Rattle.pref_core.specs.Operations.{IsPlan}
+use Rattle.pref_core.specs.Planned.{op_of}
+use Rattle.pref_core.proofs.Legal.{plan_itself}
+use Rattle.pref_core.proofs.Steps.{PlansAlways, running_of}
 use Rattle.pref_core.specs.declared.call.Call.TheVariants.{Finish}
 use Rattle.pref_core.specs.declared.event.Act.TheVariants.{Finish as ActFinish}
 use Rattle.pref_core.specs.declared.event.Reply.TheVariants.{Answer}
 use Rattle.pref_core.proofs.Doing.{finish_does, finish_not, finish_early, in_order_quiet}
 use Rattle.pref_core.proofs.machine.Machine.finish.Goals as goal
 
-pub returns-in_err-op : goal.returns-in_err-op
-returns-in_err-op c =
-    let is : c.from_residual.result ≡ Err c.in_err-op.field-0.0 = search rules in
-    subst (λ t. Does c.args.self.now c.args.client ActFinish (as_reply Answer t) c.args.self.now) (sym is)
-    (
-    subst (λ r. Does r c.args.client ActFinish (Err c.in_err-op.field-0.0) r) c.self.view_is
-    (finish_not (running_of c.self.inside.store c.self.inside.setup c.self.inside.queries.items) c.args.client c.in_err-op.field-0.0 c.in_err-op.ensures.state)
-    )
+pub returns-in-Err : goal.returns-in-Err
+returns-in-Err c =
+    subst (λ r. Does r c.args.client ActFinish (Err c.in-Err.fault) r) c.self.view_is
+    (finish_not (running_of c.self.inside.store c.self.inside.setup c.self.inside.queries.items) c.args.client c.in-Err.fault
+    (subst (λ call. PlansAlways c.self.inside.store c.args.client call (Err c.in-Err.fault)) c.finish-call.ensures c.in-Err.ensures.state))
 
 pub returns-in_err-ranked : goal.returns-in_err-ranked
 returns-in_err-ranked c =
     let says = subst (λ l. AnswersAt (seat c.args.client l) (Err c.in_err-ranked.field-0.0)) c.deref.ensures.value c.in_err-ranked.ensures in
-    let is : c.from_residual-in_err-ranked.result ≡ Err c.in_err-ranked.field-0.0 = search rules in
+    let is : c.from_residual.result ≡ Err c.in_err-ranked.field-0.0 = search rules in
     subst (λ t. Does c.args.self.now c.args.client ActFinish (as_reply Answer t) c.args.self.now) (sym is)
     (
     subst (λ r. Does r c.args.client ActFinish (Err c.in_err-ranked.field-0.0) r) c.self.view_is
-    (finish_early (running_of c.self.inside.store c.self.inside.setup c.self.inside.queries.items) c.args.client c.in_ok-op.op c.in_err-ranked.field-0.0 c.in_ok-op.ensures.state says)
+    (finish_early (running_of c.self.inside.store c.self.inside.setup c.self.inside.queries.items) c.args.client (op_of c.in-Ok.op) c.in_err-ranked.field-0.0 (subst (λ call. PlansAlways c.self.inside.store c.args.client call (Ok (op_of c.in-Ok.op))) c.finish-call.ensures c.in-Ok.ensures.state) says)
     )
 
 pub invariant_of-self : goal.invariant_of-self
@@ -36,9 +36,9 @@ invariant_of-self c =
     let says = subst (λ l. AnswersAt (seat c.args.client l) (Ok c.in_ok-ranked.ranked)) c.deref.ensures.value c.in_ok-ranked.ensures in
     let long : length c.set.new.queries ≡ c.self.inside.queries.len = omega arith in
     let scans = with_items_is c.self.inside.queries c.set.new.queries long ∙ c.set.ensures ∙ ap (with_seat c.args.client None) c.deref_mut.ensures.value in
-    let base = finish_does old c.args.client c.in_ok-op.op c.apply.new.self c.in_ok-ranked.ranked c.in_ok-op.ensures.state c.apply.ensures.exact says in
-    let placed = subst (λ l. Does old c.args.client ActFinish (Ok (Answer c.in_ok-ranked.ranked.items)) (running_of c.apply.new.self c.self.inside.setup l)) (sym scans) base in
-    in_order_quiet old c.apply.new.self _ c.self.inside.index c.args.client Finish c.in_ok-op.op ActFinish (Ok (Answer c.in_ok-ranked.ranked.items)) refl c.in_ok-op.ensures.exact c.apply.ensures.exact c.self.invariant placed
+    let base = finish_does old c.args.client (op_of c.in-Ok.op) c.perform.new.self c.in_ok-ranked.ranked (subst (λ call. PlansAlways c.self.inside.store c.args.client call (Ok (op_of c.in-Ok.op))) c.finish-call.ensures c.in-Ok.ensures.state) c.perform.ensures.exact says in
+    let placed = subst (λ l. Does old c.args.client ActFinish (Ok (Answer c.in_ok-ranked.ranked.items)) (running_of c.perform.new.self c.self.inside.setup l)) (sym scans) base in
+    in_order_quiet old c.perform.new.self _ c.self.inside.index c.args.client Finish (op_of c.in-Ok.op) ActFinish (Ok (Answer c.in_ok-ranked.ranked.items)) refl (subst (λ call. IsPlan c.self.inside.store c.args.client call (op_of c.in-Ok.op)) c.finish-call.ensures c.in-Ok.ensures.exact) c.perform.ensures.exact c.self.invariant placed
 
 pub returns : goal.returns
 returns c =
@@ -46,7 +46,10 @@ returns c =
     let says = subst (λ l. AnswersAt (seat c.args.client l) (Ok c.in_ok-ranked.ranked)) c.deref.ensures.value c.in_ok-ranked.ensures in
     let long : length c.set.new.queries ≡ c.self.inside.queries.len = omega arith in
     let scans = with_items_is c.self.inside.queries c.set.new.queries long ∙ c.set.ensures ∙ ap (with_seat c.args.client None) c.deref_mut.ensures.value in
-    let base = finish_does old c.args.client c.in_ok-op.op c.apply.new.self c.in_ok-ranked.ranked c.in_ok-op.ensures.state c.apply.ensures.exact says in
-    let placed = subst (λ l. Does old c.args.client ActFinish (Ok (Answer c.in_ok-ranked.ranked.items)) (running_of c.apply.new.self c.self.inside.setup l)) (sym scans) base in
-    let told = subst (λ l. Does old c.args.client ActFinish (Ok (Answer l)) (running_of c.apply.new.self c.self.inside.setup (with_items c.self.inside.queries c.set.new.queries).items)) (sym c.of.ensures) placed in
-    subst (λ r. Does r c.args.client ActFinish (Ok (Answer c.of.result)) (running_of c.apply.new.self c.self.inside.setup (with_items c.self.inside.queries c.set.new.queries).items)) c.self.view_is told
+    let base = finish_does old c.args.client (op_of c.in-Ok.op) c.perform.new.self c.in_ok-ranked.ranked (subst (λ call. PlansAlways c.self.inside.store c.args.client call (Ok (op_of c.in-Ok.op))) c.finish-call.ensures c.in-Ok.ensures.state) c.perform.ensures.exact says in
+    let placed = subst (λ l. Does old c.args.client ActFinish (Ok (Answer c.in_ok-ranked.ranked.items)) (running_of c.perform.new.self c.self.inside.setup l)) (sym scans) base in
+    let told = subst (λ l. Does old c.args.client ActFinish (Ok (Answer l)) (running_of c.perform.new.self c.self.inside.setup (with_items c.self.inside.queries c.set.new.queries).items)) (sym c.of.ensures) placed in
+    subst (λ r. Does r c.args.client ActFinish (Ok (Answer c.of.result)) (running_of c.perform.new.self c.self.inside.setup (with_items c.self.inside.queries c.set.new.queries).items)) c.self.view_is told
+
+pub perform-requires : goal.perform-requires
+perform-requires c = plan_itself c.self.inside.store c.args.client c.finish-call.result (op_of c.in-Ok.op) c.in-Ok.ensures.exact

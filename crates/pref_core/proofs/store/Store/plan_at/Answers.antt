@@ -1,6 +1,17 @@
-use Rattle.pref_core.specs.Planned.{op_or_fault}
+use Rattle.std.proofs.Common.{◌≡◌, sym, subst, Ok, Err, Some}
+use Rattle.pref_core.specs.Operations.{IsPlan, refusal_at}
 use Rattle.pref_core.proofs.Legal.{plans_in}
 use Rattle.pref_core.proofs.store.Store.plan_at.Goals as goal
 
-pub returns-clause-state : goal.returns-clause-state
-returns-clause-state c state h = plans_in c.args.self.now state c.args.client c.args.call.now (op_or_fault c.plan_by.result) h c.plan_by.ensures
+pub returns-in-Ok-clause-exact : goal.returns-in-Ok-clause-exact
+returns-in-Ok-clause-exact c =
+    subst (λ call. IsPlan c.args.self.now c.args.client call c.op.result) c.lent.ensures
+    (subst (IsPlan c.args.self.now c.args.client c.lent.result) (sym c.op.ensures) c.in-Ok.ensures)
+
+pub returns-in-Ok-clause-state : goal.returns-in-Ok-clause-state
+returns-in-Ok-clause-state c state h = plans_in c.args.self.now state c.args.client c.args.call (Ok c.op.result) h (returns-in-Ok-clause-exact c)
+
+pub returns-in-Err-clause-state : goal.returns-in-Err-clause-state
+returns-in-Err-clause-state c state h =
+    plans_in c.args.self.now state c.args.client c.args.call (Err c.in-Err.fault) h
+    (subst (λ call. refusal_at c.args.self.now c.args.client call ≡ Some c.in-Err.fault) c.lent.ensures c.in-Err.ensures)

@@ -4,88 +4,86 @@ use Rattle.pref_core.specs.declared.call.Op.{Op}
 use Rattle.pref_core.specs.Indexes.{IsIndexOf}
 use Rattle.pref_core.specs.Planned.{op_of}
 use Rattle.pref_core.specs.State.{added, refusal}
-use Rattle.pref_core.specs.Operations.{applied, IsPlan}
+use Rattle.pref_core.specs.Operations.{applied}
 use Rattle.pref_core.specs.Slots.{Contents}
 use Rattle.pref_share.specs.Openings.{MayFollow, first_contents, contents_at, state_at}
 use Rattle.pref_share.specs.declared.published.Published.{Published}
 use Rattle.pref_share.specs.declared.published.Stamp.{Stamp}
 use Rattle.pref_share.specs.Views.{stamped, HoldsHistory}
-use Rattle.pref_share.proofs.Histories.{contents_at-append, left_stands, planned, unplanned}
+use Rattle.pref_share.proofs.Histories.{contents_at-append, planned, unplanned}
 use Rattle.pref_share.proofs.Keeps.{published_left, published_next}
 use Rattle.pref_share.proofs.master.Master.join.Goals as goal
 
 pub returns-in-Err-clause-refused : goal.returns-in-Err-clause-refused
 returns-in-Err-clause-refused g c =
     let o = g.J.Naming.opening in
-    let left : c.published_store.result.now ≡ contents_at o c.self.inside.history = rw (c.published_store.ensures, c.deref.ensures) (published_left o g.J.Naming.book (manually_drop_value c.self.inside.writer).desk.shown.value c.self.inside.history c.self.invariant.3 c.self.invariant.2) in
+    let left : c.published_store-store.result.now ≡ contents_at o c.self.inside.history = rw (c.published_store-store.ensures, c.deref.ensures) (published_left o g.J.Naming.book (manually_drop_value c.self.inside.writer).desk.shown.value c.self.inside.history c.self.invariant.3 c.self.invariant.2) in
     subst (λ (l : List Op). (refusal (state_at o l) c.args.client c.args.call.now ≡ Some c.in-Err.fault) ⊎ (nat_lt 0 (added c.args.call.now) ≡ true)) c.self.view_is
-    (inl (unplanned o c.self.inside.history c.published_store.result.now c.args.client c.args.call.now c.in-Err.fault c.self.invariant.0 left c.in-Err.ensures.state))
+    (inl (unplanned o c.self.inside.history c.published_store-store.result.now c.args.client c.args.call.now c.in-Err.fault c.self.invariant.0 left c.in-Err.ensures.state))
+
+pub look_up-requires : goal.look_up-requires
+look_up-requires g c =
+    let o = g.J.Naming.opening in
+    let left : c.published_store-store.result.now ≡ contents_at o c.self.inside.history = rw (c.published_store-store.ensures, c.deref.ensures) (published_left o g.J.Naming.book (manually_drop_value c.self.inside.writer).desk.shown.value c.self.inside.history c.self.invariant.3 c.self.invariant.2) in
+    subst (λ (s : Contents). IsIndexOf s c.self.inside.index) (sym left) c.self.invariant.1
+
+pub reindex-requires-clause-plan : goal.reindex-requires-clause-plan
+reindex-requires-clause-plan g c =
+    let plan = c.in-Ok.ensures.exact in
+    record { by = refl; what = refl; next = plan.next; fits = plan.fits }
+
+pub reindex-requires-clause-index : goal.reindex-requires-clause-index
+reindex-requires-clause-index g c =
+    let o = g.J.Naming.opening in
+    let left : c.published_store-store.result.now ≡ contents_at o c.self.inside.history = rw (c.published_store-store.ensures, c.deref.ensures) (published_left o g.J.Naming.book (manually_drop_value c.self.inside.writer).desk.shown.value c.self.inside.history c.self.invariant.3 c.self.invariant.2) in
+    subst (λ (s : Contents). IsIndexOf s c.self.inside.index) (sym left) c.self.invariant.1
 
 pub invariant_of-self : goal.invariant_of-self
 invariant_of-self g c =
     let o = g.J.Naming.opening in
-    let store = c.published_store.result.now in
-    let left : c.published_store.result.now ≡ contents_at o c.self.inside.history = rw (c.published_store.ensures, c.deref.ensures) (published_left o g.J.Naming.book (manually_drop_value c.self.inside.writer).desk.shown.value c.self.inside.history c.self.invariant.3 c.self.invariant.2) in
-    let plan : IsPlan store c.in-Ok.op.client c.in-Ok.op.call.now (op_of c.in-Ok.op) = record { by = refl; what = refl; next = c.in-Ok.ensures.exact.next; fits = c.in-Ok.ensures.exact.fits } in
-    let index = c.in_err-prepare.ensures.index store (state_at o c.self.inside.history) (left_stands o c.self.inside.history store c.self.invariant.0 left) plan (subst (λ (s : Contents). IsIndexOf s c.self.inside.index) (sym left) c.self.invariant.1) in (
+    let left : c.published_store-store.result.now ≡ contents_at o c.self.inside.history = rw (c.published_store-store.ensures, c.deref.ensures) (published_left o g.J.Naming.book (manually_drop_value c.self.inside.writer).desk.shown.value c.self.inside.history c.self.invariant.3 c.self.invariant.2) in (
       c.self.invariant.0,
-      subst (λ (s : Contents). IsIndexOf s c.prepare.new.self) left index,
+      subst (λ (s : Contents). IsIndexOf s c.reindex.new.index) left c.in_err-reindex.ensures.same,
       c.self.invariant.2,
       c.self.invariant.3,
       c.self.invariant.4,
       c.self.invariant.5,
     )
 
-pub reindex-requires-clause-plan : goal.reindex-requires-clause-plan
-reindex-requires-clause-plan g c =
-    let same : c.published_store.result.now ≡ c.published_store-2.result.now = rw (c.published_store.ensures, c.deref.ensures, c.published_store-2.ensures, c.deref-2.ensures) refl in
-    subst (λ (s : Contents). IsPlan s c.in-Ok.op.client c.in-Ok.op.call.now (op_of c.in-Ok.op)) same (record { by = refl; what = refl; next = c.in-Ok.ensures.exact.next; fits = c.in-Ok.ensures.exact.fits })
-
-pub reindex-requires-clause-ready : goal.reindex-requires-clause-ready
-reindex-requires-clause-ready g c =
-    let o = g.J.Naming.opening in
-    let left : c.published_store-2.result.now ≡ contents_at o c.self.inside.history = rw (c.published_store-2.ensures, c.deref-2.ensures) (published_left o g.J.Naming.book (manually_drop_value c.self.inside.writer).desk.shown.value c.self.inside.history c.self.invariant.3 c.self.invariant.2) in
-    record {
-      before = c.self.inside.index;
-      is_index = subst (λ (s : Contents). IsIndexOf s c.self.inside.index) (sym left) c.self.invariant.1;
-      prepares = c.in_ok-prepare.ensures.prepared;
-    }
-
 pub add-requires : goal.add-requires
 add-requires g c =
     let o = g.J.Naming.opening in
-    let left : c.published_store.result.now ≡ contents_at o c.self.inside.history = rw (c.published_store.ensures, c.deref.ensures) (published_left o g.J.Naming.book (manually_drop_value c.self.inside.writer).desk.shown.value c.self.inside.history c.self.invariant.3 c.self.invariant.2) in
-    (planned o c.self.inside.history c.published_store.result.now c.args.client c.args.call.now (op_of c.in-Ok.op) c.self.invariant.0 left c.in-Ok.ensures.state).2
+    let left : c.published_store-store.result.now ≡ contents_at o c.self.inside.history = rw (c.published_store-store.ensures, c.deref.ensures) (published_left o g.J.Naming.book (manually_drop_value c.self.inside.writer).desk.shown.value c.self.inside.history c.self.invariant.3 c.self.invariant.2) in
+    (planned o c.self.inside.history c.published_store-store.result.now c.args.client c.args.call.now (op_of c.in-Ok.op) c.self.invariant.0 left c.in-Ok.ensures.state).2
 
 pub replace_with-requires : goal.replace_with-requires
 replace_with-requires g c =
     let o = g.J.Naming.opening in
-    let left : c.published_store.result.now ≡ contents_at o c.self.inside.history = rw (c.published_store.ensures, c.deref.ensures) (published_left o g.J.Naming.book (manually_drop_value c.self.inside.writer).desk.shown.value c.self.inside.history c.self.invariant.3 c.self.invariant.2) in
+    let left : c.published_store-store.result.now ≡ contents_at o c.self.inside.history = rw (c.published_store-store.ensures, c.deref.ensures) (published_left o g.J.Naming.book (manually_drop_value c.self.inside.writer).desk.shown.value c.self.inside.history c.self.invariant.3 c.self.invariant.2) in
     let x = (manually_drop_value c.self.inside.writer).desk.shown.value in
     let stamp : Stamp = record { op = op_of c.in-Ok.op; len = c.len.result; seen = c.token-token.result } in
     let log : stamp.seen.log ≡ c.add.new.self = c.token-token.ensures.log ∙ c.whole-seen.ensures.same in
     let stands : HoldsHistory (first_contents o) g.J.Naming.book (stamped x stamp) =
-    published_next o g.J.Naming.book x stamp c.self.inside.history c.self.invariant.0 c.self.invariant.2 c.self.invariant.3 (planned o c.self.inside.history c.published_store.result.now c.args.client c.args.call.now (op_of c.in-Ok.op) c.self.invariant.0 left c.in-Ok.ensures.state).2 (log ∙ c.add.ensures) (c.len.ensures.length ∙ ap length (sym c.token-token.ensures.log)) c.token-token.ensures.book in
+    published_next o g.J.Naming.book x stamp c.self.inside.history c.self.invariant.0 c.self.invariant.2 c.self.invariant.3 (planned o c.self.inside.history c.published_store-store.result.now c.args.client c.args.call.now (op_of c.in-Ok.op) c.self.invariant.0 left c.in-Ok.ensures.state).2 (log ∙ c.add.ensures) (c.len.ensures.length ∙ ap length (sym c.token-token.ensures.log)) c.token-token.ensures.book in
     rw (c.deref_mut-2.ensures.value, c.append.ensures.desk, c.append.ensures.pending, c.deref_mut.ensures.value, c.self.invariant.5) (c.self.invariant.4, stands)
 
 pub invariant_of-self-2 : goal.invariant_of-self-2
 invariant_of-self-2 g c =
     let o = g.J.Naming.opening in
     let op = op_of c.in-Ok.op in
-    let left : c.published_store.result.now ≡ contents_at o c.self.inside.history = rw (c.published_store.ensures, c.deref.ensures) (published_left o g.J.Naming.book (manually_drop_value c.self.inside.writer).desk.shown.value c.self.inside.history c.self.invariant.3 c.self.invariant.2) in
+    let left : c.published_store-store.result.now ≡ contents_at o c.self.inside.history = rw (c.published_store-store.ensures, c.deref.ensures) (published_left o g.J.Naming.book (manually_drop_value c.self.inside.writer).desk.shown.value c.self.inside.history c.self.invariant.3 c.self.invariant.2) in
     let x = (manually_drop_value c.self.inside.writer).desk.shown.value in
     let stamp : Stamp = record { op = op_of c.in-Ok.op; len = c.len.result; seen = c.token-token.result } in
     let log : stamp.seen.log ≡ c.add.new.self = c.token-token.ensures.log ∙ c.whole-seen.ensures.same in
     let stands : HoldsHistory (first_contents o) g.J.Naming.book (stamped x stamp) =
-    published_next o g.J.Naming.book x stamp c.self.inside.history c.self.invariant.0 c.self.invariant.2 c.self.invariant.3 (planned o c.self.inside.history c.published_store.result.now c.args.client c.args.call.now (op_of c.in-Ok.op) c.self.invariant.0 left c.in-Ok.ensures.state).2 (log ∙ c.add.ensures) (c.len.ensures.length ∙ ap length (sym c.token-token.ensures.log)) c.token-token.ensures.book in
+    published_next o g.J.Naming.book x stamp c.self.inside.history c.self.invariant.0 c.self.invariant.2 c.self.invariant.3 (planned o c.self.inside.history c.published_store-store.result.now c.args.client c.args.call.now (op_of c.in-Ok.op) c.self.invariant.0 left c.in-Ok.ensures.state).2 (log ∙ c.add.ensures) (c.len.ensures.length ∙ ap length (sym c.token-token.ensures.log)) c.token-token.ensures.book in
     let folded : fold stamped c.deref_mut-2.result.now.desk.shown.value (drop c.deref_mut-2.result.now.behind c.deref_mut-2.result.now.log.items) ≡ stamped x stamp =
     rw (c.deref_mut-2.ensures.value, c.append.ensures.desk, c.append.ensures.pending, c.deref_mut.ensures.value, c.self.invariant.5) refl in
     let shown : c.replace_with.new.dest.desk.shown.value ≡ stamped x stamp = c.replace_with.ensures.1 ∙ folded in
-    let same : c.published_store-2.result.now ≡ c.published_store.result.now = rw (c.published_store.ensures, c.deref.ensures, c.published_store-2.ensures, c.deref-2.ensures) refl in
-    let store : applied c.published_store-2.result.now op ≡ contents_at o c.add.new.self =
-    ap (λ (s : Contents). applied s op) (same ∙ left) ∙ sym (contents_at-append o c.self.inside.history (op ∷ [])) ∙ ap (contents_at o) (sym c.add.ensures) in (
+    let store : applied c.published_store-store.result.now op ≡ contents_at o c.add.new.self =
+    ap (λ (s : Contents). applied s op) left ∙ sym (contents_at-append o c.self.inside.history (op ∷ [])) ∙ ap (contents_at o) (sym c.add.ensures) in (
       c.whole-seen.ensures.legal,
-      subst (λ (s : Contents). IsIndexOf s c.reindex.new.index) store c.reindex.ensures,
+      subst (λ (s : Contents). IsIndexOf s c.reindex.new.index) store c.in_ok-reindex.ensures.after,
       ap (λ (p : Published). p.seen.log) shown ∙ log,
       subst (HoldsHistory (first_contents o) g.J.Naming.book) (sym shown) stands,
       rw (c.replace_with.ensures.0, c.deref_mut-2.ensures.value, c.append.ensures.desk, c.deref_mut.ensures.value) c.self.invariant.4,
@@ -95,6 +93,6 @@ invariant_of-self-2 g c =
 pub returns-clause-planned : goal.returns-clause-planned
 returns-clause-planned g c =
     let o = g.J.Naming.opening in
-    let left : c.published_store.result.now ≡ contents_at o c.self.inside.history = rw (c.published_store.ensures, c.deref.ensures) (published_left o g.J.Naming.book (manually_drop_value c.self.inside.writer).desk.shown.value c.self.inside.history c.self.invariant.3 c.self.invariant.2) in
+    let left : c.published_store-store.result.now ≡ contents_at o c.self.inside.history = rw (c.published_store-store.ensures, c.deref.ensures) (published_left o g.J.Naming.book (manually_drop_value c.self.inside.writer).desk.shown.value c.self.inside.history c.self.invariant.3 c.self.invariant.2) in
     subst (λ (l : List Op). (c.in-Ok.op.client ≡ c.args.client) × (c.in-Ok.op.call.now ≡ c.args.call.now) × MayFollow o l (op_of c.in-Ok.op)) c.self.view_is
-    (planned o c.self.inside.history c.published_store.result.now c.args.client c.args.call.now (op_of c.in-Ok.op) c.self.invariant.0 left c.in-Ok.ensures.state)
+    (planned o c.self.inside.history c.published_store-store.result.now c.args.client c.args.call.now (op_of c.in-Ok.op) c.self.invariant.0 left c.in-Ok.ensures.state)
