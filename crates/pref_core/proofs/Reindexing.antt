@@ -1,7 +1,7 @@
 -- An index follows the store through each op that is done.
-use Rattle.std.proofs.Common.{◌≡◌, ℕ, suc, ◌+◌, ◌<◌, ◌≤◌, Bool, true, false, ◌&&◌, ◌||◌, cond, eqb, nat_le, nat_lt, List, [], ◌∷◌, map, length, set, drop, Option, Some, None, is_some, ◌⊎◌, inl, inr, refl, sym, ap, ◌∙◌, subst, arith}
+use Rattle.std.proofs.Common.{◌≡◌, ℕ, suc, ◌+◌, ◌<◌, ◌≤◌, Bool, true, false, ◌&&◌, ◌||◌, cond, eqb, nat_le, nat_lt, List, [], ◌∷◌, map, length, set, drop, Option, Some, None, is_some, inl, inr, refl, sym, ap, ◌∙◌, subst, arith}
 use Rattle.std.specs.List.{AllByRecursion}
-use Rattle.std.proofs.lemmas.Bool.{eqb-true, eqb-false, ne_eqb, le-leb, leb-true, lt-ltb, le-ltb, ltb-true, ltb-false, or_right, and_from, and_parts, true≢false}
+use Rattle.std.proofs.lemmas.Bool.{eqb-true, ne_eqb, le-leb, lt-ltb, ltb-true, ltb-false, or_right, and_from, and_parts, true≢false}
 use Rattle.pref_core.specs.declared.store.version.Version.{Version}
 use Rattle.pref_core.specs.declared.changes.Change.{Change}
 use Rattle.pref_core.specs.declared.changes.Change.TheVariants.{Add, Set, Remove}
@@ -338,15 +338,6 @@ adds_one first next slot row rest slots start now new all h points = record {
         outside true e =
             let parts = and_parts (nat_le first id) (nat_lt id next) e in
             absurd (true≢false (sym (and_from _ _ parts.0 (lt-ltb id (next + 1) (let low = ltb-true id next parts.1 in omega arith))) ∙ out))
-
--- The index as it was, but that it may lack the ids of these rows once they were taken out.
-pub lacks_added : (first next : ℕ) (start now new : Pairs) → ((id : ℕ) → (nat_le first id && nat_lt id next) ≡ false → slot_of now id ≡ slot_of start id)
-    → ((id : ℕ) → slot_of new id ≡ cond (nat_le first id && nat_lt id next) None (slot_of now id)) → LacksFrom first start new
-lacks_added first next start now new others takes id = go (nat_le first id && nat_lt id next) refl
-  where
-    go : (b : Bool) → (nat_le first id && nat_lt id next) ≡ b → (slot_of new id ≡ slot_of start id) ⊎ ((first ≤ id) × (slot_of new id ≡ None))
-    go true e = inr (leb-true first id (and_parts (nat_le first id) (nat_lt id next) e).0, takes id ∙ ap (λ b. cond b None (slot_of now id)) e)
-    go false e = inl (takes id ∙ ap (λ b. cond b None (slot_of now id)) e ∙ others id e)
 
 -- what an index has already
 pub points_still : (index : Pairs) (id : ℕ) (slot : Option ℕ) → slot_of index id ≡ slot → Points index id slot index

@@ -1,8 +1,8 @@
-use Rattle.std.proofs.Common.{◌≡◌, Ok, Err, None, length, arith, refl, sym, subst, ◌∙◌, ap, rules}
+use Rattle.std.proofs.Common.{◌≡◌, Ok, Err, None, length, arith, refl, sym, subst, ◌∙◌, ap}
 use Rattle.std.specs.Vec.{with_items}
 use Rattle.std.proofs.lemmas.List.{with_items_is}
 use Rattle.pref_core.specs.State.{with_seat}
-use Rattle.pref_core.specs.Systems.{Does, as_reply}
+use Rattle.pref_core.specs.Systems.{Does}
 use Rattle.pref_core.specs.Operations.{IsPlan}
 use Rattle.pref_core.specs.Planned.{op_of}
 use Rattle.pref_core.proofs.Legal.{plan_itself}

@@ -1,9 +1,8 @@
-use Rattle.std.proofs.Common.{◌≡◌, Err, sym, subst, rules}
+use Rattle.std.proofs.Common.{Err, subst}
 use Rattle.pref_core.specs.declared.event.Act.TheVariants.{Begin as ActBegin}
-use Rattle.pref_core.specs.declared.event.Reply.TheVariants.{Begun}
 use Rattle.pref_core.specs.declared.call.Call.TheVariants.{Begin}
 use Rattle.pref_core.specs.Operations.{IsPlan}
-use Rattle.pref_core.specs.Systems.{Running, Does, as_reply}
+use Rattle.pref_core.specs.Systems.{Running, Does}
 use Rattle.pref_core.specs.Planned.{op_of}
 use Rattle.pref_core.proofs.Steps.{PlansAlways, running_of}
 use Rattle.pref_core.proofs.Doing.{begin_not}

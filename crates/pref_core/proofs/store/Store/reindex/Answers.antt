@@ -1,5 +1,5 @@
 use Rattle.std.proofs.Common.{◌≡◌, ◌&&◌, ◌^◌, ◌<◌, ℕ, Bool, true, false, Result, Ok, Err, OnErr, refl, sym, ap, ◌∙◌, subst}
-use Rattle.pref_core.specs.Indexes.{slot_of, given, added_rows, moved_rows, PointsAll, LacksFrom, IsPlaceOf, IsIndexOf}
+use Rattle.pref_core.specs.Indexes.{slot_of, given, added_rows, moved_rows, PointsAll, LacksFrom, IsPlaceOf}
 use Rattle.pref_core.specs.Kept.{IsKept}
 use Rattle.pref_core.specs.Planned.{op_of}
 use Rattle.pref_core.specs.Slots.{Contents}

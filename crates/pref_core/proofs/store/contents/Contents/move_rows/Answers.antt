@@ -1,4 +1,4 @@
-use Rattle.std.proofs.Common.{◌+◌, ◌||◌, ℕ, [], ◌∷◌, cond, drop, Option, Some, None, refl, sym, ap, ap₂, ◌∙◌, subst, arith}
+use Rattle.std.proofs.Common.{◌+◌, ◌||◌, ℕ, ◌∷◌, drop, Option, Some, None, refl, sym, ap, ap₂, ◌∙◌, subst, arith}
 use Rattle.std.proofs.lemmas.Bool.{eq-eqb, ltb-false, ltb-true}
 use Rattle.pref_core.specs.declared.changes.Change.TheVariants.{Set}
 use Rattle.pref_core.specs.Changes.{ended_by}
