@@ -1,23 +1,26 @@
 -- The order of entries that two chains say is stairs. That in which entries are kept is a chain, and lists in it are in the order of the stairs.
-use Rattle.std.proofs.Common.{Bor, Ordering, ◌≡◌, ◌<◌, ◌≤◌, Bool, false, true, not, ◌&&◌, ◌||◌, ℕ, suc, List, [], ◌∷◌, length, get_or, ap, subst, arith}
+use Rattle.std.proofs.Common.{Bor, Ordering, ◌≡◌, ◌<◌, ◌≤◌, Bool, false, true, not, ℕ, suc, inl, inr, List, [], ◌∷◌, length, get_or, ◌∙◌, ap, subst, arith}
 use Rattle.std.specs.Prelude.{nat_lt}
 use Rattle.std.specs.Cmp.{IsStrictWeakOrder}
 use Rattle.std.specs.Fn.{Called}
 use Rattle.std.specs.List.Sorted.{IsSortedByClosure}
 use Rattle.std.specs.Ordering.{is_lt}
+use Rattle.std.proofs.lemmas.Bool.{cases_lt}
 use Rattle.std.proofs.lemmas.Fn.{always_returns_same}
 use Rattle.std.proofs.lemmas.List.Sorted.{sorted_far}
 use denote.Param.Members.{Mut}
 use Rattle.pref_term.specs.ChainOrder.{chain_order_is_product}
-use Rattle.pref_term.specs.Chains.{chain_order, first_chain, second_chain, tie_chain}
+use Rattle.pref_term.specs.Chains.{chain_order}
 use Rattle.pref_term.specs.Order.{IsStrictOrder}
 use Rattle.pref_sky.specs.ChainOrders.{AreInOrder, comes_before, own_order}
-use Rattle.pref_sky.specs.Stairs.{AreStairs, IsChain, IsInOrder, better_in, by_row, comes_first, earlier_in, first_within, in_turn, second_within, tie_or_twin}
+use Rattle.pref_sky.specs.Items.{entry_at}
+use Rattle.pref_sky.specs.Stairs.{AreStairs, IsChain, IsInOrder, by_row, comes_first, first_within, in_turn, second_within, tie_or_twin}
 use Rattle.pref_sky.specs.declared.chain_order.ChainOrder.{ChainOrder}
 use Rattle.pref_sky.specs.declared.entry.Entry.{Entry}
-use Rattle.pref_sky.proofs.ChainStairs.{chain_of_entries, earlier_chain, entries_are_stairs, keys_chain, places_chain}
+use Rattle.pref_sky.proofs.ChainStairs.{entries_are_stairs, places_chain}
 use Rattle.pref_sky.proofs.Members.{place_of}
-use Rattle.pref_sky.proofs.StairLaws.{chain_in_turn, in_weaker_order, strict_stairs}
+use Rattle.pref_sky.proofs.MergedLists.{in_order_at}
+use Rattle.pref_sky.proofs.StairLaws.{chain_in_turn, strict_stairs}
 
 -- ---- the order that they say
 
@@ -37,44 +40,22 @@ own_is_strict order =
 -- it is a chain
 pub before_is_chain : (order : ChainOrder) → IsChain (comes_before order)
 before_is_chain order =
-    let earlier = by_row (earlier_in order.columns.items) in
-    let first = by_row (better_in (first_chain order.chains)) in
-    let second = by_row (better_in (second_chain order.chains)) in
-    let tie = by_row (better_in (tie_chain order.chains)) in
-    let smaller : Entry → Entry → Bool = λ a b. nat_lt a.id b.id in
-    chain_in_turn earlier (in_turn first (in_turn second (in_turn tie smaller))) (chain_of_entries (earlier_in order.columns.items) (earlier_chain order.columns.items))
-    (chain_in_turn first (in_turn second (in_turn tie smaller)) (chain_of_entries (better_in (first_chain order.chains)) (keys_chain (first_chain order.chains)))
-    (chain_in_turn second (in_turn tie smaller) (chain_of_entries (better_in (second_chain order.chains)) (keys_chain (second_chain order.chains)))
-    (chain_in_turn tie smaller (chain_of_entries (better_in (tie_chain order.chains)) (keys_chain (tie_chain order.chains))) (places_chain (λ e. e.id)))))
+    let stairs = own_are_stairs order in
+    chain_in_turn _ _ (chain_in_turn _ _ stairs.first_is_chain (chain_in_turn _ _ stairs.second_is_chain stairs.tie_is_chain)) (places_chain (λ e. e.id))
 
--- what comes first in the stairs comes before
-first_comes_before : (earlier later better worse further nearer tie last : Bool) → (tie ≡ true → last ≡ true)
-    → ((earlier || ((not earlier && not later) && better))
-    || ((not (earlier || ((not earlier && not later) && better)) && not (later || ((not later && not earlier) && worse)))
-    && ((later || ((not later && not earlier) && further)) || ((not (later || ((not later && not earlier) && further)) && not (earlier || ((not earlier && not later) && nearer))) && tie)))) ≡ true
-    → (earlier || ((not earlier && not later) && (better || ((not better && not worse) && (further || ((not further && not nearer) && last)))))) ≡ true
-first_comes_before earlier later better worse further nearer tie last then h = grind (arith, then, h)
+not_before : (first second : Entry → Entry → Bool) (a b : Entry) → not (in_turn first second a b) ≡ true → first a b ≡ false
+not_before first second a b h = grind (arith, h)
 
--- a twin that is earlier has the smaller id
-twin_comes_before : (ahead behind distinct smaller : Bool) → (ahead || ((not ahead && not behind) && (distinct && smaller))) ≡ true → (ahead || ((not ahead && not behind) && smaller)) ≡ true
-twin_comes_before ahead behind distinct smaller h = grind (arith, h)
-
-unless : (x y : Bool) → (x ≡ true → y ≡ true) → not y ≡ true → not x ≡ true
-unless x y then h = grind (arith, then, h)
-
--- a list in this order is in that of the stairs
-pub in_order_of_stairs : (order : ChainOrder) (xs : List Entry) → AreInOrder order xs
-    → IsInOrder (λ a b. not (comes_first (by_row (first_within order.columns.items order.chains)) (by_row (second_within order.columns.items order.chains)) (tie_or_twin order.chains order.distinct) b a)) xs
-in_order_of_stairs order xs =
-    let columns = order.columns.items in
-    let keys = first_chain order.chains in
-    let others = second_chain order.chains in
-    let ties = tie_chain order.chains in
-    in_weaker_order (λ a b. not (comes_before order b a)) (λ a b. not (comes_first (by_row (first_within columns order.chains)) (by_row (second_within columns order.chains)) (tie_or_twin order.chains order.distinct) b a))
-    (λ a b. unless _ _
-    (first_comes_before (earlier_in columns b.row a.row) (earlier_in columns a.row b.row) (better_in keys b.row a.row) (better_in keys a.row b.row) (better_in others b.row a.row) (better_in others a.row b.row)
-    (tie_or_twin order.chains order.distinct b a) (in_turn (by_row (better_in ties)) (λ x y. nat_lt x.id y.id) b a)
-    (twin_comes_before (better_in ties b.row a.row) (better_in ties a.row b.row) order.distinct (nat_lt b.id a.id)))) xs
+-- in a list in this order none comes first in the stairs before what stands in front of it
+pub stands_behind : (order : ChainOrder) (xs : List Entry) → AreInOrder order xs → (j p : ℕ) → j ≤ p → p < length xs
+    → comes_first (by_row (first_within order.columns.items order.chains)) (by_row (second_within order.columns.items order.chains)) (tie_or_twin order.chains order.distinct) (entry_at xs p) (entry_at xs j) ≡ false
+stands_behind order xs ordered j p le inside =
+    let before = comes_before order in
+    not_before (comes_first (by_row (first_within order.columns.items order.chains)) (by_row (second_within order.columns.items order.chains)) (tie_or_twin order.chains order.distinct)) (λ a b. nat_lt a.id b.id) (entry_at xs p) (entry_at xs j)
+    (elim (cases_lt j p) [
+      | inl less ↦ in_order_at (λ a b. not (before b a)) xs j p (record { id = 0; row = [] }) ordered less inside
+      | inr past ↦ let same : j ≡ p = omega (arith, le, past) in ap not (ap (λ k. before (entry_at xs p) (entry_at xs k)) same ∙ (before_is_chain order).strict.irreflexive (entry_at xs p))
+    ])
 
 -- ---- lists that are sorted by it
 

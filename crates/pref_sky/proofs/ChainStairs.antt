@@ -15,27 +15,19 @@ use Rattle.pref_term.specs.declared.key.Key.{Key}
 use Rattle.pref_term.specs.declared.relation.Relation.{Relation}
 use Rattle.pref_sky.specs.Levels.{entry_order}
 use Rattle.pref_sky.specs.Stairs.{AreStairs, IsChain, IsLine, are_level, better_in, by_row, earlier_in, earlier_twin, first_within, in_turn, second_within, tie_or_twin}
+use Rattle.pref_sky.specs.StairLaws.{AreChain, IsStairs, OrderGroups}
 use Rattle.pref_sky.specs.declared.entry.Entry.{Entry}
-use Rattle.pref_sky.proofs.StairLaws.{chain_in_turn, grouped_stairs, line_of_one}
+use Rattle.pref_sky.proofs.StairLaws.{chain_in_turn, line_of_one, serves_groups}
 
 -- ---- chains
 
 no_chain : {E : Type 0} → IsChain {E = E} (λ a b. false)
 no_chain = record { strict = record { irreflexive = λ a. refl; transitive = λ a b c h k. h }; between = λ a b c h k. h }
 
-below_itself : (x : ℤ) → int_lt x x ≡ false
-below_itself x = grind (arith, ints)
-
-below_on : (x y z : ℤ) → int_lt x y ≡ true → int_lt y z ≡ true → int_lt x z ≡ true
-below_on x y z h k = grind (arith, ints)
-
-below_between : (x y z : ℤ) → int_lt x z ≡ true → int_lt x y ≡ false → int_lt y z ≡ true
-below_between x y z h k = grind (arith, ints)
-
 numbers_chain : {E : Type 0} (number : E → ℤ) → IsChain (λ a b. int_lt (number a) (number b))
 numbers_chain number = record {
-  strict = record { irreflexive = λ a. below_itself (number a); transitive = λ a b c h k. below_on (number a) (number b) (number c) h k };
-  between = λ a b c h k. below_between (number a) (number b) (number c) h k;
+  strict = record { irreflexive = λ a. grind (arith, ints); transitive = λ a b c h k. grind (arith, ints) };
+  between = λ a b c h k. grind (arith, ints);
 }
 
 pub places_chain : {E : Type 0} (place : E → ℕ) → IsChain (λ a b. nat_lt (place a) (place b))
@@ -87,6 +79,12 @@ worse_in keys a b =
 pub same_in : (keys : List Key) (a b : List ℤ) → is_same (by_chain keys a b) ≡ are_level (better_in keys) a b
 same_in keys a b = grind (arith, sides keys a b)
 
+pub keys_are_chain : (keys : List Key) → AreChain keys
+keys_are_chain keys = record { chain = keys_chain keys; worse = worse_in keys; same = same_in keys }
+
+pub columns_order_groups : (columns : List ℕ) → OrderGroups columns
+columns_order_groups columns = record { chain = earlier_chain columns; same_group = same_group columns }
+
 -- ---- the product of two chains
 
 product_better : (r s t : Relation) (p q : Bool) → is_worse r ≡ p → is_worse s ≡ q → is_same r ≡ (not (is_better r) && not p) → is_same s ≡ (not (is_better s) && not q)
@@ -114,10 +112,10 @@ module _ (order : RowOrder) (columns : List ℕ) (chains : Chains) (distinct : B
   }
 
   -- rows
-  pub rows_are_stairs : AreStairs order.over (first_within columns chains) (second_within columns chains) (better_in (tie_chain chains))
+  rows_are_stairs : AreStairs order.over (first_within columns chains) (second_within columns chains) (better_in (tie_chain chains))
   rows_are_stairs =
       let product : List ℤ → List ℤ → Bool = λ a b. is_better (by_chains chains a b) in
-      let grouped = grouped_stairs product (better_in (first_chain chains)) (better_in (second_chain chains)) (better_in (tie_chain chains)) without_groups (earlier_in columns) (earlier_chain columns) in
+      let grouped = (serves_groups product (better_in (first_chain chains)) (better_in (second_chain chains)) (better_in (tie_chain chains)) (earlier_in columns)).stairs without_groups (earlier_chain columns) in
       record {
         first_is_chain = grouped.first_is_chain;
         second_is_chain = grouped.second_is_chain;
@@ -152,8 +150,11 @@ module _ (order : RowOrder) (columns : List ℕ) (chains : Chains) (distinct : B
       }
 
   -- where both are one chain and there is no tie, a line
-  pub entries_are_a_line : first_chain chains ≡ second_chain chains → tie_chain chains ≡ [] → IsLine (entry_order order) (by_row (earlier_in columns)) (in_turn (by_row (better_in (first_chain chains))) (earlier_twin distinct))
+  entries_are_a_line : first_chain chains ≡ second_chain chains → tie_chain chains ≡ [] → IsLine (entry_order order) (by_row (earlier_in columns)) (in_turn (by_row (better_in (first_chain chains))) (earlier_twin distinct))
   entries_are_a_line one none =
       subst (λ keys. IsLine (entry_order order) (by_row (earlier_in columns)) (in_turn (by_row (better_in (first_chain chains))) (in_turn (by_row (better_in keys)) (earlier_twin distinct)))) none
       (line_of_one (entry_order order) (by_row (earlier_in columns)) (by_row (better_in (first_chain chains))) (by_row (better_in (second_chain chains))) (tie_or_twin chains distinct) (λ a b. ap (λ keys. better_in keys a.row b.row) one)
       (chain_of_entries (earlier_in columns) (earlier_chain columns)) (chain_of_entries (better_in (first_chain chains)) (keys_chain (first_chain chains))) entries_are_stairs)
+
+  pub products_are_stairs : IsStairs order columns chains distinct
+  products_are_stairs = record { rows = rows_are_stairs; entries = entries_are_stairs; line = entries_are_a_line }

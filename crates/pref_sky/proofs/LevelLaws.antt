@@ -1,7 +1,7 @@
 -- Laws of the levels, for the crates above: no entries have no levels, the order in which entries stand does not matter, and what is held has different ids.
-use Rattle.std.proofs.Common.{leb, ◌-◌, inl, inr, ◌≡◌, ℕ, zero, suc, ◌≤◌, ◌<◌, ◌+◌, Bool, true, false, cond, not, ◌&&◌, List, [], ◌∷◌, ◌++◌, map, append_assoc, subst, refl, sym, ◌∙◌, ap, arith, filter, append-nil, ◌==◌, ltb}
+use Rattle.std.proofs.Common.{leb, ◌-◌, ◌≡◌, ℕ, zero, suc, ◌<◌, ◌+◌, Bool, true, false, cond, not, ◌&&◌, List, [], ◌∷◌, ◌++◌, map, append_assoc, subst, refl, sym, ◌∙◌, ap, arith, filter, append-nil, ◌==◌, ltb}
 use Rattle.std.specs.List.{count_by, flat_map}
-use Rattle.std.proofs.lemmas.Bool.{cases_Bool, ltb-true, lt-ltb, leb-true, le-leb, and_parts, and_from, cond_both, both_ways}
+use Rattle.std.proofs.lemmas.Bool.{ltb-true, lt-ltb, leb-true, le-leb, and_parts, and_from}
 use Rattle.std.proofs.lemmas.List.Sums.{sum_by-cons, sum_by-append}
 use Rattle.pref_term.specs.Order.{IsStrictOrder}
 use Rattle.pref_table.specs.declared.row.Row.{Row}
@@ -15,6 +15,8 @@ use Rattle.pref_sky.specs.Best.{best, rest, without_best}
 use Rattle.pref_term.specs.AskOrder.{order_of, order_of_is_row_order}
 use Rattle.pref_sky.specs.Levels.{entry_order, HaveDifferentIds, in_order_of_id, at_level, entry_of, held_after, levels}
 use Rattle.pref_sky.specs.Answers.{count_before, count_upto, selected, answer_of, at_least}
+pub use Rattle.pref_sky.proofs.Counts.{count_and, count_both, count_filtered, count_within}
+use Rattle.pref_sky.proofs.Counts.{count_split}
 use Rattle.pref_sky.proofs.Removals.{comes_after, comes_after_less}
 use Rattle.pref_sky.proofs.Members.{Among, in_filter, from_filter}
 use Rattle.pref_sky.proofs.Orders.{SameMembers, count_in_order}
@@ -47,46 +49,26 @@ answer_of_same ask xs ys dx dy same =
     let strict = entry_order_is_strict (order_of ask) (order_of_is_row_order ask) in
     selected_of_same (entry_order (order_of ask)) strict (in_same_group ask.group) (entry_order_stays_in_groups ask) ask.mode xs ys (levels_of_same (entry_order (order_of ask)) strict xs ys dx dy same)
 
--- two tests of which an entry passes one at most, and then a third
-pub count_both : {E : Type 0} (p q r : E → Bool) (xs : List E) → ((x : E) → cond (p x) 1 0 + cond (q x) 1 0 ≤ cond (r x) 1 0) → count_by p xs + count_by q xs ≤ count_by r xs
-count_both p q r [] each = omega arith
-count_both p q r (x ∷ xs) each =
-    omega (arith, each x, count_both p q r xs each, sum_by-cons (λ y. cond (p y) 1 0) x xs, sum_by-cons (λ y. cond (q y) 1 0) x xs, sum_by-cons (λ y. cond (r y) 1 0) x xs)
+count_never : {E : Type 0} (p : E → Bool) (xs : List E) → count_by (λ x. p x && false) xs ≡ 0
+count_never p [] = refl
+count_never p (x ∷ xs) =
+    let here = elim (p x) as (λ b. cond {A = ℕ} (b && false) 1 0 ≡ 0) [ true ↦ refl | false ↦ refl ] in
+    omega (arith, here, count_never p xs, sum_by-cons (λ y. cond (p y && false) 1 0) x xs)
 
-pub count_filtered : {E : Type 0} (p q : E → Bool) (xs : List E) → count_by p (filter q xs) ≡ count_by (λ x. p x && q x) xs
-count_filtered p q [] = refl
-count_filtered p q (x ∷ xs) =
-    let deeper = count_filtered p q xs in
-    let whole = sum_by-cons (λ y. cond (p y && q y) 1 0) x xs in
-    let kept = sum_by-cons (λ y. cond (p y) 1 0) x (filter q xs) in
-    cond_both (q x) (x ∷ filter q xs) (filter q xs) (λ l. count_by p l ≡ count_by (λ y. p y && q y) (x ∷ xs))
-    (λ h. let both = ap (λ b. cond {A = ℕ} (p x && b) 1 0) h in let one = elim (p x) as (λ b. cond {A = ℕ} (b && true) 1 0 ≡ cond b 1 0) [ true ↦ refl | false ↦ refl ] in omega (arith, deeper, whole, kept, both, one))
-    (λ h. let both = ap (λ b. cond {A = ℕ} (p x && b) 1 0) h in let none = elim (p x) as (λ b. cond {A = ℕ} (b && false) 1 0 ≡ 0) [ true ↦ refl | false ↦ refl ] in omega (arith, deeper, whole, both, none))
+here_or_earlier : (p a b : Bool) → (b ≡ true → a ≡ true) → cond (p && not a) 1 0 + cond (p && (a && not b)) 1 0 ≡ cond (p && not b) 1 0
+here_or_earlier p a b h = grind (arith, h)
 
-one_at_most : (p a b : Bool) → (b ≡ true → a ≡ true) → cond (p && not a) 1 0 + cond (p && (a && not b)) 1 0 ≤ cond (p && not b) 1 0
-one_at_most true true true h = omega arith
-one_at_most true true false h = omega arith
-one_at_most true false true h = absurd (both_ways false refl (h refl))
-one_at_most true false false h = omega arith
-one_at_most false a b h = omega arith
-
-pub count_and : {E : Type 0} (p q : E → Bool) (xs : List E) → count_by (λ x. p x && q x) xs ≤ count_by p xs
-count_and p q [] = omega arith
-count_and p q (x ∷ xs) =
-    let here = elim (p x) as (λ b. cond {A = ℕ} (b && q x) 1 0 ≤ cond b 1 0) [ true ↦ elim (q x) as (λ b. cond {A = ℕ} b 1 0 ≤ 1) [ true ↦ omega arith | false ↦ omega arith ] | false ↦ omega arith ] in
-    omega (arith, here, count_and p q xs, sum_by-cons (λ y. cond (p y && q y) 1 0) x xs, sum_by-cons (λ y. cond (p y) 1 0) x xs)
-
--- held entries are no more than those that don't come after the removals
-count_held : (over : Entry → Entry → Bool) (p : Entry → Bool) (all : List Entry) (n : ℕ) → count_by p (map entry_of (levels over all n)) ≤ count_by (λ e. p e && not (comes_after over all n e)) all
-count_held over p all zero = omega arith
-count_held over p all (suc n) =
+-- the entries of the levels up to n are those that no chain of n stands over
+pub count_levels : (over : Entry → Entry → Bool) (p : Entry → Bool) (all : List Entry) (n : ℕ) → count_by p (map entry_of (levels over all n)) ≡ count_by (λ e. p e && not (comes_after over all n e)) all
+count_levels over p all zero = sym (count_never p all)
+count_levels over p all (suc n) =
     let more = ap (count_by p) (held_more over all n) in
     let joined = sum_by-append (λ e. cond (p e) 1 0) (map entry_of (levels over all n)) (in_order_of_id (filter (is_at over all n) all)) in
     let level = count_in_order p (filter (is_at over all n) all) in
     let filtered = count_filtered p (is_at over all n) all in
-    let both = count_both (λ e. p e && not (comes_after over all n e)) (λ e. p e && is_at over all n e) (λ e. p e && not (comes_after over all (suc n) e)) all
-    (λ e. one_at_most (p e) (comes_after over all n e) (comes_after over all (suc n) e) (comes_after_less over all n e)) in
-    omega (arith, more, joined, level, filtered, both, count_held over p all n)
+    let both = count_split (λ e. p e && not (comes_after over all n e)) (λ e. p e && is_at over all n e) (λ e. p e && not (comes_after over all (suc n) e)) all
+    (λ e. here_or_earlier (p e) (comes_after over all n e) (comes_after over all (suc n) e) (comes_after_less over all n e)) in
+    omega (arith, more, joined, level, filtered, both, count_levels over p all n)
 
 -- what is held of entries has different ids
 pub held_differ : (over : Entry → Entry → Bool) (before new : List Entry) (n : ℕ) → HaveDifferentIds (before ++ new) → HaveDifferentIds (map entry_of (levels over before n) ++ new)
@@ -99,7 +81,7 @@ held_differ over before new n different =
             different.once id,
             sum_by-append (λ e. cond (p e) 1 0) before new,
             sum_by-append (λ e. cond (p e) 1 0) (map entry_of (levels over before n)) new,
-            count_held over p before n,
+            count_levels over p before n,
             count_and p (λ e. not (comes_after over before n e)) before,
           );
     }
@@ -125,17 +107,6 @@ cut_into over strict cut before held (piece ∷ pieces) is different =
 pub held_after_pieces : (over : Entry → Entry → Bool) → IsStrictOrder over → (cut : ℕ) (pieces : List (List Entry)) → HaveDifferentIds (flat_map (λ piece. piece) pieces)
     → held_after over cut [] pieces ≡ levels over (flat_map (λ piece. piece) pieces) cut
 held_after_pieces over strict cut pieces different = cut_into over strict cut [] [] pieces (levels_of_none over cut) different
-
--- where each entry that passes p passes q, no more pass p
-pub count_within : {E : Type 0} (p q : E → Bool) (xs : List E) → ((x : E) → p x ≡ true → q x ≡ true) → count_by p xs ≤ count_by q xs
-count_within p q [] within = omega arith
-count_within p q (x ∷ xs) within =
-    let here : cond {A = ℕ} (p x) 1 0 ≤ cond (q x) 1 0 =
-    elim (cases_Bool (p x)) [
-      | inl passes ↦ let a = ap (λ b. cond {A = ℕ} b 1 0) passes in let b = ap (λ b. cond {A = ℕ} b 1 0) (within x passes) in omega (arith, a, b)
-      | inr fails ↦ let a = ap (λ b. cond {A = ℕ} b 1 0) fails in omega (arith, a)
-    ] in
-    omega (arith, here, count_within p q xs within, sum_by-cons (λ y. cond (p y) 1 0) x xs, sum_by-cons (λ y. cond (q y) 1 0) x xs)
 
 -- an entry is kept just where no number of levels below its own holds k of its group
 pub kept_before_k : (same : Row → Row → Bool) (k : ℕ) (all : List Ranked) (r : Ranked) → Among r (at_least same k all) → (m : ℕ) → m < r.level → count_upto same all r.row m < k

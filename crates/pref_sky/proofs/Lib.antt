@@ -1,5 +1,6 @@
 pub mod Members
 pub mod Removals
+pub mod Counts
 pub mod Orders
 pub mod Merges
 pub mod Retained
@@ -30,12 +31,10 @@ pub mod RankedLevels
 pub mod Layering
 pub mod MergedLists
 pub mod Ranks
-pub mod RankedAbove
 pub mod PartLaws
 pub mod FirstRanked
 pub mod SortedLevels
-pub mod UpperLevels
-pub mod Chosen
+pub mod Leveled
 pub mod Pools
 pub mod PartItems
 pub mod PartArrivals

@@ -5,8 +5,9 @@ use Rattle.std.proofs.lemmas.Bool.{cases_lt, both_ways, and_parts, and_from, fal
 use Rattle.std.proofs.lemmas.List.Sums.{sum_by-cons}
 use Rattle.pref_term.specs.Order.{StandAlike}
 use Rattle.pref_sky.specs.Best.{best, rest}
+use Rattle.pref_sky.specs.StairLaws.{LevelsHoldAlike, LineHasLevels}
 use Rattle.pref_sky.specs.Stairs.{AreClassesOf, AreStairs, IsInOrder, IsLine, are_level, comes_first, in_turn}
-use Rattle.pref_sky.proofs.LevelLaws.{count_both}
+use Rattle.pref_sky.proofs.Counts.{count_both}
 use Rattle.pref_sky.proofs.Members.{Among, any_from, any_gives, in_filter, from_filter, in_right}
 use Rattle.pref_sky.proofs.Orders.{one_passes}
 use Rattle.pref_sky.proofs.Removals.{comes_after, comes_after_among_more, best_of_rest_is, same_answer}
@@ -33,7 +34,7 @@ alike_come_after over all a b alike (suc n) h =
 alike_back : {E : Type 0} (over : E → E → Bool) (a b : E) → StandAlike over a b → StandAlike over b a
 alike_back over a b alike = record { above = λ c. sym (alike.above c); below = λ c. sym (alike.below c) }
 
-pub alike_on_one_level : {E : Type 0} (over : E → E → Bool) (all : List E) (a b : E) → StandAlike over a b → Among b all → (n : ℕ) → Among a (best over (rest over all n)) → Among b (best over (rest over all n))
+alike_on_one_level : {E : Type 0} (over : E → E → Bool) (all : List E) (a b : E) → StandAlike over a b → Among b all → (n : ℕ) → Among a (best over (rest over all n)) → Among b (best over (rest over all n))
 alike_on_one_level over all a b alike mb n m =
     let w = on_level over all n a m in
     to_level over all n b mb (alike_come_after over all a b alike n w.0)
@@ -53,19 +54,8 @@ chains_of_classes : {E : Type 0} (over : E → E → Bool) (classes all : List E
 chains_of_classes over classes all are n x =
     same_answer (comes_after over classes n x) (comes_after over all n x) (comes_after_among_more over classes all are.within n x) (from_all over classes all are n x)
 
--- and so their levels
-pub level_among_all : {E : Type 0} (over : E → E → Bool) (classes all : List E) → AreClassesOf over classes all → (n : ℕ) (r : E) → Among r classes → Among r (best over (rest over classes n)) → Among r (best over (rest over all n))
-level_among_all over classes all are n r mr m =
-    let w = on_level over classes n r m in
-    to_level over all n r (are.within r mr) (sym (chains_of_classes over classes all are n r) ∙ w.0) (sym (chains_of_classes over classes all are (suc n) r) ∙ w.1)
-
-pub level_among_classes : {E : Type 0} (over : E → E → Bool) (classes all : List E) → AreClassesOf over classes all → (n : ℕ) (r : E) → Among r classes → Among r (best over (rest over all n)) → Among r (best over (rest over classes n))
-level_among_classes over classes all are n r mr m =
-    let w = on_level over all n r m in
-    to_level over classes n r mr (chains_of_classes over classes all are n r ∙ w.0) (chains_of_classes over classes all are (suc n) r ∙ w.1)
-
 -- which are alike
-pub stairs_alike : {E : Type 0} (over f s t : E → E → Bool) → AreStairs over f s t → (a b : E) → are_level (comes_first f s t) a b ≡ true → StandAlike over a b
+stairs_alike : {E : Type 0} (over f s t : E → E → Bool) → AreStairs over f s t → (a b : E) → are_level (comes_first f s t) a b ≡ true → StandAlike over a b
 stairs_alike {E = E} over f s t stairs a b level =
     let first : are_level f a b ≡ true = grind (arith, level) in
     let second : are_level s a b ≡ true = grind (arith, level) in
@@ -80,7 +70,7 @@ stairs_alike {E = E} over f s t stairs a b level =
     }
 
 module _ {E : Type 0} (over earlier better : E → E → Bool) (line : IsLine over earlier better) where
-  pub line_alike : (a b : E) → are_level (in_turn earlier better) a b ≡ true → StandAlike over a b
+  line_alike : (a b : E) → are_level (in_turn earlier better) a b ≡ true → StandAlike over a b
   line_alike a b level =
       let above : (c : E) → over c a ≡ over c b =
       λ c. grind (arith, level, line.is c a, line.is c b, level_above earlier line.groups a b c, level_below earlier line.groups a b c, level_above better line.chain a b c) in
@@ -137,7 +127,7 @@ module _ {E : Type 0} (over earlier better : E → E → Bool) (line : IsLine ov
         any_from (λ z. comes_after over classes n z && over z x) classes w.0 w.1 (and_from (comes_after over classes n w.0) (over w.0 x) (chain_above n w.0 (omega (arith, h, w.3))) w.2)
 
     -- the levels: those behind as many classes
-    pub classes_of_level : (n : ℕ) (x : E) → Among x (best over (rest over all n)) → count_by (λ r. over r x) classes ≡ n
+    classes_of_level : (n : ℕ) (x : E) → Among x (best over (rest over all n)) → count_by (λ r. over r x) classes ≡ n
     classes_of_level n x m =
         let w = on_level over all n x m in
         elim (cases_lt n (count_by (λ r. over r x) classes)) [
@@ -145,7 +135,7 @@ module _ {E : Type 0} (over earlier better : E → E → Bool) (line : IsLine ov
           | inr most ↦ omega (arith, most, classes_above n x (chains_of_classes over classes all are n x ∙ w.0))
         ]
 
-    pub level_of_classes : (n : ℕ) (x : E) → Among x all → count_by (λ r. over r x) classes ≡ n → Among x (best over (rest over all n))
+    level_of_classes : (n : ℕ) (x : E) → Among x all → count_by (λ r. over r x) classes ≡ n → Among x (best over (rest over all n))
     level_of_classes n x m count =
         to_level over all n x m (sym (chains_of_classes over classes all are n x) ∙ chain_above n x (omega (arith, count)))
         (sym (chains_of_classes over classes all are (suc n) x) ∙ false_from_ne_true (comes_after over classes (suc n) x) (λ h. let many = classes_above (suc n) x h in omega (arith, many, count)))
@@ -171,6 +161,12 @@ module _ {E : Type 0} (over earlier better : E → E → Bool) (line : IsLine ov
       grind (arith, behind_front front r back x rises.1 (λ z m. group z (inr m)) alike, dominates, alike.above e, sum_by-cons (λ s. cond {A = ℕ} (over s x) 1 0) e (front ++ r ∷ back))
 
   -- its place is its level
-  pub level_of_place : (front : List E) (r : E) (back all : List E) → IsInOrder (in_turn earlier better) (front ++ r ∷ back) → AreClassesOf over (front ++ r ∷ back) all
+  level_of_place : (front : List E) (r : E) (back all : List E) → IsInOrder (in_turn earlier better) (front ++ r ∷ back) → AreClassesOf over (front ++ r ∷ back) all
       → ((z : E) → Among z front → are_level earlier z r ≡ true) → (x : E) → Among x all → StandAlike over r x → Among x (best over (rest over all (length front)))
   level_of_place front r back all rises are group x m alike = level_of_classes (front ++ r ∷ back) all rises are (length front) x m (behind_front front r back x rises group alike)
+
+  pub line_has_levels : LineHasLevels over earlier better
+  line_has_levels = record { level = classes_of_level; each = level_of_classes; place = level_of_place }
+
+pub levels_hold_alike : {E : Type 0} (over : E → E → Bool) → LevelsHoldAlike over
+levels_hold_alike over = record { level = alike_on_one_level over; stairs = stairs_alike over; line = line_alike over }

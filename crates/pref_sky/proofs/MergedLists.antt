@@ -16,6 +16,17 @@ in_order_joined le (x ∷ xs) ys first second across = (
   in_order_joined le xs ys first.1 second (λ a b ma mb. across a b (inr ma) mb),
 )
 
+-- one entry more in its place
+pub in_order_with : {E : Type 0} (le : E → E → Bool) (xs ys : List E) (e : E) → IsInOrder le (xs ++ ys) → ((a : E) → Among a xs → le a e ≡ true) → ((b : E) → Among b ys → le e b ≡ true) → IsInOrder le (xs ++ e ∷ ys)
+in_order_with le [] ys e h to from = (from, h)
+in_order_with le (x ∷ xs) ys e h to from = (
+  λ z m. elim (in_either xs (e ∷ ys) z m) [
+    | inl near ↦ h.0 z (in_left xs ys z near)
+    | inr far ↦ elim far [ inl same ↦ ap (le x) same ∙ to x (inl refl) | inr behind ↦ h.0 z (in_right xs ys z behind) ]
+  ],
+  in_order_with le xs ys e h.1 (λ a m. to a (inr m)) from,
+)
+
 pub in_order_front : {E : Type 0} (le : E → E → Bool) (xs ys : List E) → IsInOrder le (xs ++ ys) → IsInOrder le xs
 in_order_front le [] ys h = tt
 in_order_front le (x ∷ xs) ys h = ((λ z m. h.0 z (in_left xs ys z m)), in_order_front le xs ys h.1)
@@ -28,7 +39,7 @@ pub in_order_across : {E : Type 0} (le : E → E → Bool) (xs ys : List E) → 
 in_order_across le [] ys h a b ma mb = absurd ma
 in_order_across le (x ∷ xs) ys h a b ma mb = elim ma [ inl same ↦ ap (λ v. le v b) same ∙ h.0 b (in_right xs ys b mb) | inr later ↦ in_order_across le xs ys h.1 a b later mb ]
 
-in_order_at : {E : Type 0} (le : E → E → Bool) (xs : List E) (i j : ℕ) (d : E) → IsInOrder le xs → i < j → j < length xs → le (get_or xs i d) (get_or xs j d) ≡ true
+pub in_order_at : {E : Type 0} (le : E → E → Bool) (xs : List E) (i j : ℕ) (d : E) → IsInOrder le xs → i < j → j < length xs → le (get_or xs i d) (get_or xs j d) ≡ true
 in_order_at le [] i j d h before inside = absurd (omega (arith, inside))
 in_order_at le (x ∷ xs) i zero d h before inside = absurd (omega (arith, before))
 in_order_at le (x ∷ xs) zero (suc j) d h before inside = h.0 (get_or xs j d) (among_place xs j d (omega (arith, inside)))
@@ -43,54 +54,34 @@ module _ {E : Type 0} (before : E → E → Bool) (chain : IsChain before) where
         | inr past ↦ let same : i ≡ j = omega (arith, le, past) in ap (λ k. before (get_or xs k d) e) same ∙ passes
       ]
 
-  -- ---- one entry more is merged, behind those that come before it
+  -- one entry more is merged, behind those that come before it
+  module _ (all front back : List E) (e : E) (later : List E) (sorted : IsInOrder (λ a b. not (before b a)) (all ++ (front ++ back))) (coming : IsInOrder (λ a b. not (before b a)) (e ∷ later))
+      (below : (a b : E) → Among a all → Among b (e ∷ later) → before b a ≡ false) (passed : (x : E) → Among x front → before x e ≡ true) (left : (x : E) → Among x back → before x e ≡ false) where
+    pub merged_more : IsInOrder (λ a b. not (before b a)) ((all ++ front) ++ e ∷ back)
+    merged_more =
+        in_order_with (λ a b. not (before b a)) (all ++ front) back e (subst (IsInOrder (λ a b. not (before b a))) (sym (append_assoc all front back)) sorted)
+        (λ a m. elim (in_either all front a m) [
+          | inl old ↦ ap not (below a e old (inl refl))
+          | inr new ↦ grind (arith, passed a new, chain.strict.transitive a e a, chain.strict.irreflexive a)
+        ])
+        (λ b m. ap not (left b m))
 
-  pub merged_more : (all front back : List E) (e : E) (later : List E) → IsInOrder (λ a b. not (before b a)) (all ++ (front ++ back)) → IsInOrder (λ a b. not (before b a)) (all ++ e ∷ later)
-      → ((x : E) → Among x front → before x e ≡ true) → ((x : E) → Among x back → before x e ≡ false)
-      → IsInOrder (λ a b. not (before b a)) (((all ++ front) ++ e ∷ []) ++ back) × IsInOrder (λ a b. not (before b a)) (((all ++ front) ++ e ∷ []) ++ later)
-  merged_more all front back e later sorted coming passed left =
-      let le : E → E → Bool = λ a b. not (before b a) in
-      let placed : List E = all ++ front in
-      let next : IsInOrder le (e ∷ later) = in_order_back le all (e ∷ later) coming in
-      let stretch : IsInOrder le (front ++ back) = in_order_back le all (front ++ back) sorted in
-      let near : IsInOrder le placed = in_order_front le placed back (subst (IsInOrder le) (sym (append_assoc all front back)) sorted) in
-      let to_e : (a : E) → Among a placed → le a e ≡ true =
-      λ a m. elim (in_either all front a m) [
-        | inl old ↦ in_order_across le all (e ∷ later) coming a e old (inl refl)
-        | inr new ↦ grind (arith, passed a new, chain.strict.transitive a e a, chain.strict.irreflexive a)
-      ] in
-      let now : IsInOrder le (placed ++ e ∷ []) = in_order_joined le placed (e ∷ []) near ((λ z m. absurd m), tt) (λ a b m k. elim k [ inl same ↦ ap (le a) same ∙ to_e a m | inr none ↦ absurd none ]) in
-      let to_back : (a b : E) → Among a (placed ++ e ∷ []) → Among b back → le a b ≡ true =
-      λ a b m k. elim (in_either placed (e ∷ []) a m) [
-        | inl there ↦ elim (in_either all front a there) [
-          | inl old ↦ in_order_across le all (front ++ back) sorted a b old (in_right front back b k)
-          | inr new ↦ in_order_across le front back stretch a b new k
+    -- and the others come no earlier
+    pub below_later : (a b : E) → Among a ((all ++ front) ++ e ∷ []) → Among b later → before b a ≡ false
+    below_later a b m k =
+        let far = coming.0 b k in
+        elim (in_either (all ++ front) (e ∷ []) a m) [
+          | inl there ↦ elim (in_either all front a there) [ inl old ↦ below a b old (inr k) | inr new ↦ grind (arith, passed a new, far, chain.strict.transitive b a e) ]
+          | inr last ↦ elim last [ inl same ↦ grind (arith, far, ap (before b) same) | inr none ↦ absurd none ]
         ]
-        | inr last ↦ elim last [ inl same ↦ grind (arith, left b k, ap (before b) same) | inr none ↦ absurd none ]
-      ] in
-      let to_later : (a b : E) → Among a (placed ++ e ∷ []) → Among b later → le a b ≡ true =
-      λ a b m k. elim (in_either placed (e ∷ []) a m) [
-        | inl there ↦ elim (in_either all front a there) [
-          | inl old ↦ in_order_across le all (e ∷ later) coming a b old (inr k)
-          | inr new ↦ grind (arith, passed a new, next.0 b k, chain.strict.transitive b a e)
-        ]
-        | inr last ↦ elim last [ inl same ↦ grind (arith, next.0 b k, ap (before b) same) | inr none ↦ absurd none ]
-      ] in (
-        in_order_joined le (placed ++ e ∷ []) back now (in_order_back le front back stretch) to_back,
-        in_order_joined le (placed ++ e ∷ []) later now next.1 to_later,
-      )
 
 -- and no entry is lost
-pub moved_more : {E : Type 0} (before all front back : List E) (e : E) → IsPermutation before (all ++ (front ++ back)) → IsPermutation (before ++ e ∷ []) (((all ++ front) ++ e ∷ []) ++ back)
+pub moved_more : {E : Type 0} (before all front back : List E) (e : E) → IsPermutation before (all ++ (front ++ back)) → IsPermutation (before ++ e ∷ []) ((all ++ front) ++ e ∷ back)
 moved_more before all front back e moved =
     let placed = all ++ front in
-    let whole : all ++ (front ++ back) ≡ placed ++ back = sym (append_assoc all front back) in
-    let there : (placed ++ e ∷ []) ++ back ≡ placed ++ e ∷ back = append_assoc placed (e ∷ []) back in
-    let to_front = IsPermutation-to_front before e in
-    let kept = IsPermutation-cons e before (placed ++ back) (subst (IsPermutation before) whole moved) in
-    let into = IsPermutation-sym (placed ++ e ∷ back) (e ∷ (placed ++ back)) (IsPermutation-middle placed e back) in
-    subst (IsPermutation (before ++ e ∷ [])) (sym there)
-    (IsPermutation-trans (before ++ e ∷ []) (e ∷ before) (placed ++ e ∷ back) to_front (IsPermutation-trans (e ∷ before) (e ∷ (placed ++ back)) (placed ++ e ∷ back) kept into))
+    let kept = IsPermutation-cons e before (placed ++ back) (subst (IsPermutation before) (sym (append_assoc all front back)) moved) in
+    IsPermutation-trans (before ++ e ∷ []) (e ∷ before) (placed ++ e ∷ back) (IsPermutation-to_front before e)
+    (IsPermutation-trans (e ∷ before) (e ∷ (placed ++ back)) (placed ++ e ∷ back) kept (IsPermutation-sym (placed ++ e ∷ back) (e ∷ (placed ++ back)) (IsPermutation-middle placed e back)))
 
 -- what stands before a place where a test changes, and behind it
 pub passes_before : {E : Type 0} (p : E → Bool) (xs : List E) (n : ℕ) → IsPartitionPoint (λ x. p x ≡ true) (λ x. p x ≡ false) xs n → n ≤ length xs → (x : E) → Among x (take n xs) → p x ≡ true

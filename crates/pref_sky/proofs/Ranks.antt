@@ -1,5 +1,5 @@
 -- The entries of some levels, each level in order of id: one list for each set of them.
-use Rattle.std.proofs.Common.{◌≡◌, ℕ, zero, suc, ◌<◌, ◌+◌, Bool, ◌⊎◌, inl, inr, List, [], ◌∷◌, ◌++◌, length, map, take, drop, ◌-◌, refl, sym, ◌∙◌, ap, subst, arith, append-nil, append_assoc, length-append, drop_of_length-le}
+use Rattle.std.proofs.Common.{◌≡◌, ℕ, zero, suc, ◌<◌, ◌≤◌, ◌+◌, Bool, ◌⊎◌, inl, inr, List, [], ◌∷◌, ◌++◌, length, map, take, drop, ◌-◌, refl, sym, ◌∙◌, ap, subst, arith, append-nil, append_assoc, length-append, drop_of_length-le}
 use Rattle.std.proofs.lemmas.Bool.{cases_lt}
 use Rattle.std.specs.List.Sorted.{IsNonDecreasingBy, IsPermutation}
 use Rattle.std.proofs.lemmas.List.{get_or-map, length-map}
@@ -80,10 +80,10 @@ level_rises n (x ∷ xs) rises = (
   level_rises n xs rises.1,
 )
 
-pub upto_rises : (level : ℕ → List Entry) (n : ℕ) → ((k : ℕ) → HaveDifferentIds (level k)) → RisesBy ComesBefore (ranked_upto level n)
+pub upto_rises : (level : ℕ → List Entry) (n : ℕ) → ((k : ℕ) → suc k ≤ n → HaveDifferentIds (level k)) → RisesBy ComesBefore (ranked_upto level n)
 upto_rises level zero different = tt
 upto_rises level (suc n) different =
-    rises_beside ComesBefore (ranked_upto level n) (one_level (suc n) (level n)) (upto_rises level n different) (level_rises (suc n) (in_order_of_id (level n)) (rises_in_order (level n) (different n)))
+    rises_beside ComesBefore (ranked_upto level n) (one_level (suc n) (level n)) (upto_rises level n (λ k le. different k (omega (arith, le)))) (level_rises (suc n) (in_order_of_id (level n)) (rises_in_order (level n) (different n (omega arith))))
     (λ r s mr ms.
     let v = from_upto level n r mr in
     let w = from_map (at_level (suc n)) (in_order_of_id (level n)) s ms in
@@ -104,7 +104,7 @@ members_within level other n m within r among =
 pub same_upto : (level other : ℕ → List Entry) (n m : ℕ) → ((k : ℕ) → HaveDifferentIds (level k)) → ((k : ℕ) → HaveDifferentIds (other k)) → AreWithin level n other m → AreWithin other m level n
     → ranked_upto level n ≡ ranked_upto other m
 same_upto level other n m different also there back =
-    same_if_rise ComesBefore one_way (ranked_upto level n) (ranked_upto other m) (upto_rises level n different) (upto_rises other m also)
+    same_if_rise ComesBefore one_way (ranked_upto level n) (ranked_upto other m) (upto_rises level n (λ k le. different k)) (upto_rises other m (λ k le. also k))
     (record { there = members_within level other n m there; back = members_within other level m n back })
 
 -- where the lists are one, so are the levels

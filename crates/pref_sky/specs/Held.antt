@@ -4,13 +4,12 @@ use Rattle.std.specs.Prelude.{List, [], ◌++◌}
 use Rattle.pref_sky.specs.declared.entry.Ranked.{Ranked}
 use Rattle.pref_sky.specs.declared.partial.Held.{Held}
 use Rattle.pref_sky.specs.declared.partial.Held.TheVariants.{Nothing, Sorted, Apart}
-use Rattle.pref_sky.specs.ChainOrders.{own_order}
-use Rattle.pref_sky.specs.Levels.{levels}
+use Rattle.pref_sky.specs.ChainOrders.{own_levels}
 use Rattle.pref_sky.specs.Items.{parts_at}
 use Rattle.pref_sky.specs.Parts.{ranked_parts}
 
 -- the entries in it, in order of level, then id
 abbrev pub ranked_held : Held → List Ranked
 ranked_held Nothing = []
-ranked_held (Sorted sorted) = levels (own_order sorted.order) (sorted.sorted.items ++ sorted.recent.items) sorted.cut
+ranked_held (Sorted sorted) = own_levels sorted.pruned.order (sorted.pruned.entries.items ++ sorted.recent.items)
 ranked_held (Apart apart) = ranked_parts (parts_at apart.pool.entries.items apart.parts.items)

@@ -1,7 +1,7 @@
-//! Two chains with a tie, within groups of columns, which say an order of entries, and the one in which entries are kept.
+//! Two chains with a tie, within groups of columns, which say an order of entries, and the one in which entries are kept; and the cut of
+//! their levels.
 
 ghost use Rattle.std.specs.Prelude.{◌≡◌, ◌<◌, true, All, IfOk, IfSome};
-ghost use Rattle.std.specs.List.Sorted.{IsPermutation};
 ghost use Rattle.std.specs.Ordering.{is_gt, is_lt};
 ghost use Rattle.pref_sky.specs.Stairs.{earlier_in, first_within, tie_or_twin};
 ghost use Rattle.pref_term.specs.Chains.{IsInRow, IsProductOf, by_chain, first_chain, second_chain};
@@ -42,27 +42,29 @@ fn better_first(relation: Relation) -> Ordering
 }
 
 /// A copy of what an order says that is a product of two chains within groups: the columns of the groups, the chains with their tie, and
-/// whether rows of a group that are the same in all of these are twins.
+/// whether rows of a group that are the same in all of these are twins. With it the number of levels that are asked for.
 #[derive(Drop)]
 pub(crate) struct ChainOrder {
     pub(crate) columns: Vec<usize>,
     pub(crate) chains: Chains,
     pub(crate) distinct: bool,
+    pub(crate) cut: u32,
     ghost group: { All (λ col. col < 16) columns.items },
     ghost in_row: { IsInRow chains },
 }
 
 impl ChainOrder {
     // Here, since what the file names at its top may not name the struct.
-    ghost use Rattle.pref_sky.specs.ChainOrders.{AreInOrder, comes_before, own_order};
+    ghost use Rattle.pref_sky.specs.ChainOrders.{AreSorted, comes_before, own_order};
 
     /// A copy of what an order says; `None` where it is no product of two chains, or doesn't say. Takes memory for the copy, and `Err` is
     /// out of memory.
     pub(crate) fn of<D: Dominance>(
         alloc: Global,
         dominance: &D,
+        cut: u32,
     ) -> Result<Option<ChainOrder>, AllocError>
-        ensures { IfOk result (λ found. IfSome found (λ order. IsProductOf (D.order dominance.now) order.columns.items order.chains order.distinct)) }
+        ensures { IfOk result (λ found. IfSome found (λ order. IsProductOf (D.order dominance.now) order.columns.items order.chains order.distinct × (order.cut ≡ cut))) }
     {
         let Some((columns, chains, distinct)) = dominance.chains() else {
             return Ok(None);
@@ -73,16 +75,18 @@ impl ChainOrder {
             columns,
             chains,
             distinct,
+            cut,
         }))
     }
 
-    /// Whether it is what this order says. Takes no memory.
-    pub(crate) fn is_of<D: Dominance>(&self, dominance: &D) -> bool
-        ensures { result ≡ true → IsProductOf (D.order dominance.now) self.now.columns.items self.now.chains self.now.distinct }
+    /// Whether it is what this order says, with this cut. Takes no memory.
+    pub(crate) fn is_of<D: Dominance>(&self, dominance: &D, cut: u32) -> bool
+        ensures { result ≡ true → IsProductOf (D.order dominance.now) self.now.columns.items self.now.chains self.now.distinct × (self.now.cut ≡ cut) }
     {
         match dominance.chains() {
             Some((columns, chains, distinct)) => {
-                self.distinct == distinct
+                self.cut == cut
+                    && self.distinct == distinct
                     && self.columns.as_slice() == columns
                     && self.chains.is_same(chains)
             }
@@ -170,9 +174,8 @@ impl ChainOrder {
     }
 
     /// Puts entries in order. Takes no memory.
-    pub(crate) fn sort(&self, entries: &mut [Entry])
-        ensures permutation { IsPermutation entries.old entries.new }
-        ensures in_order { AreInOrder self.now entries.new }
+    pub(crate) fn sort(&self, entries: &mut Vec<Entry>)
+        ensures { AreSorted self.now entries.old.items entries.new.items }
     {
         entries.sort_unstable_by(|a, b| self.compare(a, b));
     }

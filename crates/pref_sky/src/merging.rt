@@ -1,16 +1,12 @@
-//! Entries in the order of two chains: new ones are merged into those that are in order, and all are listed with their levels.
+//! Entries in the order of two chains: new ones are merged into those that are in order.
 
-ghost use Rattle.std.specs.List.Sorted.{IsPermutation};
-ghost use Rattle.std.specs.Prelude.{◌≡◌, ◌≤◌, ◌<◌, ◌++◌, ◌^◌, true, false, Bool, List, length, take, drop, IfOk};
-ghost use Rattle.pref_sky.specs.ChainOrders.{AreInOrder, comes_before};
-ghost use Rattle.pref_sky.specs.Layers.{AreLevels};
-ghost use Rattle.pref_sky.specs.Levels.{HaveDifferentIds, levels};
+ghost use Rattle.std.specs.Prelude.{◌≡◌, ◌≤◌, ◌++◌, true, false, length, take, drop, IfOk};
+ghost use Rattle.pref_sky.specs.ChainOrders.{AreInOrder, AreSorted, comes_before};
 ghost use Rattle.pref_sky.specs.Members.{Among};
 ghost use Rattle.pref_sky.specs.declared.entry.Entry.{Entry};
-ghost use Rattle.pref_term.specs.Order.{IsStrictOrder};
 
 use crate::chain_order::ChainOrder;
-use crate::entry::{Entry, Ranked};
+use crate::entry::Entry;
 use std::alloc::{AllocError, Global};
 
 /// How many entries of a list in order come before this one: a search by halves.
@@ -32,8 +28,7 @@ fn merge(
 ) -> Result<Vec<Entry>, AllocError>
     requires sorted { AreInOrder order.now sorted.now }
     requires coming { AreInOrder order.now coming.now }
-    ensures permutation { IfOk result (λ all. IsPermutation (sorted.now ++ coming.now) all.items) }
-    ensures in_order { IfOk result (λ all. AreInOrder order.now all.items) }
+    ensures { IfOk result (λ all. AreSorted order.now (sorted.now ++ coming.now) all.items) }
 {
     let mut all = Vec::with_capacity(alloc, sorted.len().saturating_add(coming.len()))?;
     let mut rest = sorted;
@@ -58,36 +53,9 @@ pub(crate) fn merged(
     recent: &[Entry],
 ) -> Result<Vec<Entry>, AllocError>
     requires { AreInOrder order.now sorted.now }
-    ensures permutation { IfOk result (λ all. IsPermutation (sorted.now ++ recent.now) all.items) }
-    ensures in_order { IfOk result (λ all. AreInOrder order.now all.items) }
+    ensures { IfOk result (λ all. AreSorted order.now (sorted.now ++ recent.now) all.items) }
 {
     let mut coming = Vec::from_slice(alloc, recent)?;
     order.sort(&mut coming);
     merge(alloc, order, sorted, &coming)
-}
-
-/// The entries above the cut, in order of level, then id, where so many levels are above each of these.
-pub(crate) fn ranked_by(
-    alloc: Global,
-    cut: usize,
-    entries: &[Entry],
-    above: &[usize],
-) -> Result<Vec<Ranked>, AllocError>
-    requires { cut < 2 ^ 32 }
-    ensures { (over : Entry → Entry → Bool) → IsStrictOrder over → HaveDifferentIds entries.now → AreLevels over cut entries.now entries.now above.now
-        → IfOk result (λ ranked. ranked.items ≡ levels over entries.now cut) }
-{
-    let held = above.iter().filter(|above| **above < cut).count();
-    let mut ranked = Vec::with_capacity(alloc, held)?;
-    for (entry, above) in entries.iter().zip(above) {
-        if *above < cut {
-            ranked.push(Ranked {
-                level: *above as u32 + 1,
-                id: entry.id,
-                row: entry.row,
-            })?;
-        }
-    }
-    ranked.sort_unstable_by_key(|entry| (entry.level, entry.id));
-    Ok(ranked)
 }

@@ -8,7 +8,7 @@ ghost use Rattle.pref_sky.specs.Parts.{ranked_parts};
 ghost use Rattle.pref_sky.specs.declared.entry.Entry.{Entry};
 
 use crate::chain_order::ChainOrder;
-use crate::entry::{Entry, Ranked};
+use crate::entry::{Entry, Ranked, entries_of};
 use crate::parts::Parts;
 use crate::sorted::SortedEntries;
 use pref_term::Dominance;
@@ -72,8 +72,8 @@ fn begun<D: Dominance>(
         IfOk result (λ held. (before : List Entry) → HaveDifferentIds (before ++ entries.now) → [] ≡ levels over before cut
         → ranked_held held ≡ levels over (before ++ entries.now) cut) }
 {
-    if let Some(order) = ChainOrder::of(alloc, dominance)? {
-        let sorted = SortedEntries::of(alloc, order, cut, entries)?;
+    if let Some(order) = ChainOrder::of(alloc, dominance, cut)? {
+        let sorted = SortedEntries::of(alloc, order, entries)?;
         return Ok(Held::Sorted(sorted));
     }
     let parts = Parts::of(alloc, dominance, window, cut, entries)?;
@@ -97,13 +97,7 @@ fn begun_anew<D: Dominance>(
         IfOk result (λ held. (before : List Entry) → HaveDifferentIds (before ++ entries.now) → ranked.now ≡ levels over before cut
         → ranked_held held ≡ levels over (before ++ entries.now) cut) }
 {
-    let mut all = Vec::with_capacity(alloc, ranked.len().saturating_add(entries.len()))?;
-    for entry in ranked {
-        all.push(Entry {
-            row: entry.row,
-            id: entry.id,
-        })?;
-    }
+    let mut all = entries_of(alloc, ranked)?;
     all.extend_from_slice(entries)?;
     begun(alloc, dominance, window, cut, &all)
 }
@@ -183,7 +177,7 @@ impl Partial {
                 Ok(())
             }
             Held::Sorted(sorted) => {
-                if sorted.cut == cut && sorted.order.is_of(dominance) {
+                if sorted.pruned.order.is_of(dominance, cut) {
                     return sorted.add(alloc, entries);
                 }
                 let ranked = sorted.ranked(alloc)?;

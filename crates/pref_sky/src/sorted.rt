@@ -1,17 +1,17 @@
 //! Entries of an order that is a product of two chains: they are kept in the order of the chains, and their levels are found only when
 //! they are asked for.
 
-ghost use Rattle.std.specs.Prelude.{◌≡◌, ◌≤◌, ◌<◌, ◌++◌, ◌-◌, [], true, nat_lt, List, All, filter, length, map, slice_index, vec_len, IfOk, OnErr, OnOk};
-ghost use Rattle.pref_sky.specs.ChainOrders.{AreInOrder, own_order};
-ghost use Rattle.pref_sky.specs.Levels.{HaveDifferentIds, entry_of, levels};
-ghost use Rattle.pref_sky.specs.Sorted.{AreInOrder-prop, AreLowest, HoldsUpper, is_below};
-ghost use Rattle.pref_sky.specs.Layers.{AreLevels, chosen};
+ghost use Rattle.std.specs.Prelude.{◌≡◌, ◌≤◌, ◌<◌, ◌++◌, true, List, All, get_or, length, map, vec_len, IfOk, IfSome, OnErr, OnOk};
+ghost use Rattle.pref_sky.specs.ChainOrders.{AreInOrder, is_below, own_levels};
+ghost use Rattle.pref_sky.specs.Levels.{HaveDifferentIds, entry_of};
+ghost use Rattle.pref_sky.specs.Sorted.{AreInOrder-prop, AreLeveled, AreLowest, HoldsUpper};
 ghost use Rattle.pref_sky.specs.declared.entry.Entry.{Entry};
+ghost use Rattle.pref_sky.specs.declared.entry.Ranked.{Ranked};
 
 use crate::chain_order::ChainOrder;
-use crate::entry::{Entry, Ranked};
-use crate::layers::levels_above;
-use crate::merging::{merged, ranked_by};
+use crate::entry::{Entry, Ranked, entries_of};
+use crate::layers::leveled;
+use crate::merging::merged;
 use std::alloc::{AllocError, Global};
 
 /// The fewest entries that come before the lists are merged.
@@ -20,128 +20,31 @@ const MANY: usize = 64;
 /// How many entries a piece of the first addition has, at most.
 const PIECE: usize = 64;
 
-/// Entries of an order that is a product of two chains. Their levels up to the cut are found when they are asked for.
-#[derive(Drop)]
-pub(crate) struct SortedEntries {
-    pub(crate) order: ChainOrder,
-    pub(crate) cut: u32,
-    /// In the order of the chains.
-    pub(crate) sorted: Vec<Entry>,
-    /// What came since these were sorted.
-    pub(crate) recent: Vec<Entry>,
-    /// Places among the sorted ones of those of the last level: what one of them dominates is below the cut.
-    lowest: Vec<usize>,
-    /// Which of these dominated a new entry last. Any number is right.
-    lately: usize,
-    ghost in_order: { AreInOrder order sorted.items } by { AreInOrder-prop order sorted.items },
-    ghost ids: { HaveDifferentIds (map entry_of (levels (own_order order) (sorted.items ++ recent.items) cut)) },
-    ghost low: { AreLowest (own_order order) sorted.items cut lowest.items },
-}
-
-/// Takes the entries out that so many levels are above, with their numbers. Takes no memory.
-fn drop_lower(cut: usize, entries: &mut Vec<Entry>, above: &mut Vec<usize>)
-    requires { length above.old.items ≡ length entries.old.items }
-    ensures entries { entries.new.items ≡ chosen (λ n. nat_lt n cut) entries.old.items above.old.items }
-    ensures above { above.new.items ≡ filter (λ n. nat_lt n cut) above.old.items }
-{
-    let mut kept = 0;
-    for place in 0..above.len() {
-        if above[place] < cut {
-            entries[kept] = entries[place];
-            above[kept] = above[place];
-            kept += 1;
-        }
-    }
-    entries.truncate(kept);
-    above.truncate(kept);
-}
-
-/// The places of a number.
-fn places_of(alloc: Global, numbers: &[usize], number: usize) -> Result<Vec<usize>, AllocError>
-    ensures { IfOk result (λ places. All (λ place. (place < length numbers.now) × (slice_index numbers.now place ≡ number)) places.items) }
+/// The places of the entries of a level.
+fn places_of(alloc: Global, ranked: &[Ranked], level: u32) -> Result<Vec<usize>, AllocError>
+    ensures { IfOk result (λ places. All (λ place. (place < length ranked.now) × ((d : Ranked) → (get_or ranked.now place d).level ≡ level)) places.items) }
 {
     let mut places = Vec::new(alloc);
-    for (place, other) in numbers.iter().enumerate() {
-        if *other == number {
+    for (place, entry) in ranked.iter().enumerate() {
+        if entry.level == level {
             places.push(place)?;
         }
     }
     Ok(places)
 }
 
-/// The entries of the levels up to a cut, in the order of the chains, and how many levels are above each.
+/// Entries in the order of the chains, as they were left when the last ones that are below the cut were dropped.
 #[derive(Drop)]
-struct Layered {
-    entries: Vec<Entry>,
-    above: Vec<usize>,
+pub(crate) struct Pruned {
+    pub(crate) order: ChainOrder,
+    pub(crate) entries: Vec<Entry>,
+    /// Places of the entries of the last level: what one of them dominates is below the cut.
+    lowest: Vec<usize>,
+    ghost in_order: { AreInOrder order entries.items } by { AreInOrder-prop order entries.items },
+    ghost low: { AreLowest order entries.items lowest.items },
 }
 
-impl SortedEntries {
-    /// What holds nothing. Takes no memory.
-    pub(crate) fn new(alloc: Global, order: ChainOrder, cut: u32) -> SortedEntries
-        ensures order { result.order ≡ order }
-        ensures cut { result.cut ≡ cut }
-        ensures sorted { result.sorted.items ≡ [] }
-        ensures recent { result.recent.items ≡ [] }
-    {
-        SortedEntries {
-            order,
-            cut,
-            sorted: Vec::new(alloc),
-            recent: Vec::new(alloc),
-            lowest: Vec::new(alloc),
-            lately: 0,
-        }
-    }
-
-    /// The entries of its levels.
-    ///
-    /// Cost: a copy of all entries, a sort of the recent ones, and a search by halves among the levels for each.
-    fn layered(&self, alloc: Global) -> Result<Layered, AllocError>
-        ensures in_order { IfOk result (λ layered. AreInOrder self.now.order layered.entries.items) }
-        ensures above { IfOk result (λ layered. AreLevels (own_order self.now.order) self.now.cut layered.entries.items layered.entries.items layered.above.items) }
-        ensures upper { IfOk result (λ layered. All (λ n. n < self.now.cut) layered.above.items) }
-        ensures ids { IfOk result (λ layered. HaveDifferentIds layered.entries.items) }
-        ensures levels { let own = own_order self.now.order in
-            IfOk result (λ layered. levels own layered.entries.items self.now.cut ≡ levels own (self.now.sorted.items ++ self.now.recent.items) self.now.cut) }
-    {
-        let cut = self.cut as usize;
-        let mut entries = merged(alloc, &self.order, &self.sorted, &self.recent)?;
-        let mut above = levels_above(alloc, &self.order, cut, &entries)?;
-        drop_lower(cut, &mut entries, &mut above);
-        Ok(Layered { entries, above })
-    }
-
-    /// The entries of its levels, in order of level, then id.
-    pub(crate) fn ranked(&self, alloc: Global) -> Result<Vec<Ranked>, AllocError>
-        ensures { IfOk result (λ ranked. ranked.items ≡ levels (own_order self.now.order) (self.now.sorted.items ++ self.now.recent.items) self.now.cut) }
-    {
-        let layered = self.layered(alloc)?;
-        ranked_by(alloc, self.cut as usize, &layered.entries, &layered.above)
-    }
-
-    /// Whether so many entries came that it is worth while to look which are below the cut. Where there are no more than the cut, none is.
-    fn has_grown(&self) -> bool {
-        let held = self.sorted.len().saturating_add(self.recent.len());
-        held > self.cut as usize
-            && self.recent.len() >= (self.sorted.len() / 8).saturating_add(MANY)
-    }
-
-    /// Drops what is below the cut. What it says stays, and where it is out of memory all does.
-    fn prune(&mut self, alloc: Global) -> Result<(), AllocError>
-        ensures order { self.new.order ≡ self.old.order }
-        ensures cut { self.new.cut ≡ self.old.cut }
-        ensures levels { let own = own_order self.old.order in
-            levels own (self.new.sorted.items ++ self.new.recent.items) self.old.cut ≡ levels own (self.old.sorted.items ++ self.old.recent.items) self.old.cut }
-    {
-        let layered = self.layered(alloc)?;
-        let last = (self.cut as usize).saturating_sub(1);
-        self.lowest = places_of(alloc, &layered.above, last)?;
-        self.sorted = layered.entries;
-        self.recent.clear();
-        Ok(())
-    }
-
+impl Pruned {
     /// Which of those of the last level stands for all where an entry is compared with them: the last one that the entry is not earlier
     /// than. A search by halves. Any number is right.
     fn candidate(&self, entry: &Entry) -> usize {
@@ -149,7 +52,7 @@ impl SortedEntries {
         let mut high = self.lowest.len();
         while low < high {
             let middle = low + (high - low) / 2;
-            let other = &self.sorted[self.lowest[middle]];
+            let other = &self.entries[self.lowest[middle]];
             if self.order.is_earlier(entry, other) {
                 high = middle;
             } else {
@@ -162,65 +65,120 @@ impl SortedEntries {
     /// Whether the one of the last level that stands somewhere among these dominates an entry.
     #[inline(always)]
     fn dominates(&self, which: usize, entry: &Entry) -> bool
-        ensures { result ≡ true → is_below (own_order self.now.order) self.now.sorted.items self.now.cut entry.now ≡ true }
+        ensures { result ≡ true → is_below self.now.order self.now.entries.items entry.now ≡ true }
     {
-        which < self.lowest.len() && self.order.is_over(&self.sorted[self.lowest[which]], entry)
+        which < self.lowest.len() && self.order.is_over(&self.entries[self.lowest[which]], entry)
     }
 
-    /// Whether an entry is seen to be below the cut. The one that dominated such an entry last is asked first.
+    /// Which of those of the last level is seen to dominate an entry, if one is. The one that dominated such an entry last is asked first.
     #[inline(always)]
-    fn is_low(&mut self, entry: &Entry) -> bool
-        ensures order { self.new.order ≡ self.old.order }
-        ensures cut { self.new.cut ≡ self.old.cut }
-        ensures sorted { self.new.sorted ≡ self.old.sorted }
-        ensures recent { self.new.recent ≡ self.old.recent }
-        ensures low { result ≡ true → is_below (own_order self.old.order) self.old.sorted.items self.old.cut entry.now ≡ true }
+    fn find_over(&self, lately: usize, entry: &Entry) -> Option<usize>
+        ensures { IfSome result (λ which. is_below self.now.order self.now.entries.items entry.now ≡ true) }
     {
-        if self.dominates(self.lately, entry) {
-            return true;
+        if self.dominates(lately, entry) {
+            return Some(lately);
         }
         let which = self.candidate(entry);
-        if !self.dominates(which, entry) {
-            return false;
+        if self.dominates(which, entry) {
+            Some(which)
+        } else {
+            None
         }
-        self.lately = which;
-        true
     }
 
     /// Puts the entries that are not seen to be below the cut behind the recent ones. Where it is out of memory, some of them.
-    fn keep_others(&mut self, entries: &[Entry]) -> Result<(), AllocError>
-        requires { HaveDifferentIds (map entry_of (levels (own_order self.old.order) (self.old.sorted.items ++ self.old.recent.items) self.old.cut) ++ entries.now) }
-        ensures order { self.new.order ≡ self.old.order }
-        ensures cut { self.new.cut ≡ self.old.cut }
-        ensures sorted { self.new.sorted ≡ self.old.sorted }
-        ensures recent { (kept : List Entry) × (self.new.recent.items ≡ self.old.recent.items ++ kept)
-            × OnOk result (HoldsUpper (own_order self.old.order) self.old.sorted.items self.old.cut entries.now kept) }
+    fn keep_others(
+        &self,
+        lately: &mut usize,
+        recent: &mut Vec<Entry>,
+        entries: &[Entry],
+    ) -> Result<(), AllocError>
+        ensures { (kept : List Entry) × (recent.new.items ≡ recent.old.items ++ kept)
+            × OnOk result (HoldsUpper self.now.order self.now.entries.items entries.now kept) }
     {
         for entry in entries {
-            if !self.is_low(entry) {
-                self.recent.push(*entry)?;
+            match self.find_over(*lately, entry) {
+                Some(which) => *lately = which,
+                None => recent.push(*entry)?,
             }
         }
         Ok(())
     }
 
+    /// The entries of the levels of these and the recent ones.
+    ///
+    /// Cost: a copy of all entries, a sort of the recent ones, and a search by halves among the levels for each.
+    fn leveled(&self, alloc: Global, recent: &[Entry]) -> Result<Vec<Ranked>, AllocError>
+        ensures { IfOk result (λ found. AreLeveled self.now.order (self.now.entries.items ++ recent.now) found.items) }
+    {
+        let entries = merged(alloc, &self.order, &self.entries, recent)?;
+        leveled(alloc, &self.order, &entries)
+    }
+
+    /// Whether beside these so many entries came that it is worth while to look which are below the cut. Where there are no more than the
+    /// cut, none is.
+    fn is_outgrown(&self, recent: usize) -> bool {
+        let pruned = self.entries.len();
+        pruned.saturating_add(recent) > self.order.cut as usize
+            && recent >= (pruned / 8).saturating_add(MANY)
+    }
+
+    /// Where many entries came, merges them into these, and drops what is below the cut. The levels of both stay, and where it is out of
+    /// memory all does.
+    fn prune(&mut self, alloc: Global, recent: &mut Vec<Entry>) -> Result<(), AllocError>
+        requires { HaveDifferentIds (map entry_of (own_levels self.old.order (self.old.entries.items ++ recent.old.items))) }
+        ensures order { self.new.order ≡ self.old.order }
+        ensures levels { own_levels self.old.order (self.new.entries.items ++ recent.new.items) ≡ own_levels self.old.order (self.old.entries.items ++ recent.old.items) }
+    {
+        if !self.is_outgrown(recent.len()) {
+            return Ok(());
+        }
+        let found = self.leveled(alloc, recent)?;
+        let entries = entries_of(alloc, &found)?;
+        self.lowest = places_of(alloc, &found, self.order.cut)?;
+        self.entries = entries;
+        recent.clear();
+        Ok(())
+    }
+}
+
+/// Entries of an order that is a product of two chains. Their levels up to the cut are found when they are asked for.
+#[derive(Drop)]
+pub(crate) struct SortedEntries {
+    pub(crate) pruned: Pruned,
+    /// What came since these were pruned.
+    pub(crate) recent: Vec<Entry>,
+    /// Which of the last level dominated a new entry last. Any number is right.
+    lately: usize,
+    ghost ids: { HaveDifferentIds (map entry_of (own_levels pruned.order (pruned.entries.items ++ recent.items))) },
+}
+
+impl SortedEntries {
+    /// The entries of its levels, in order of level, then id.
+    pub(crate) fn ranked(&self, alloc: Global) -> Result<Vec<Ranked>, AllocError>
+        ensures { IfOk result (λ ranked. ranked.items ≡ own_levels self.now.pruned.order (self.now.pruned.entries.items ++ self.now.recent.items)) }
+    {
+        let mut ranked = self.pruned.leveled(alloc, &self.recent)?;
+        ranked.sort_unstable_by_key(|entry| (entry.level, entry.id));
+        Ok(ranked)
+    }
+
     /// Adds entries, as [`Partial::add`](crate::Partial::add) does.
     pub(crate) fn add(&mut self, alloc: Global, entries: &[Entry]) -> Result<(), AllocError>
-        requires { HaveDifferentIds (map entry_of (levels (own_order self.old.order) (self.old.sorted.items ++ self.old.recent.items) self.old.cut) ++ entries.now) }
-        ensures order { self.new.order ≡ self.old.order }
-        ensures cut { self.new.cut ≡ self.old.cut }
-        ensures ok { let own = own_order self.old.order in
-            (before : List Entry) → HaveDifferentIds (before ++ entries.now)
-            → levels own (self.old.sorted.items ++ self.old.recent.items) self.old.cut ≡ levels own before self.old.cut
-            → OnOk result (levels own (self.new.sorted.items ++ self.new.recent.items) self.old.cut ≡ levels own (before ++ entries.now) self.old.cut) }
-        ensures err { let own = own_order self.old.order in
-            OnErr result (levels own (self.new.sorted.items ++ self.new.recent.items) self.old.cut ≡ levels own (self.old.sorted.items ++ self.old.recent.items) self.old.cut) }
+        requires { HaveDifferentIds (map entry_of (own_levels self.old.pruned.order (self.old.pruned.entries.items ++ self.old.recent.items)) ++ entries.now) }
+        ensures order { self.new.pruned.order ≡ self.old.pruned.order }
+        ensures ok { let own = own_levels self.old.pruned.order in
+            (before : List Entry) → HaveDifferentIds (before ++ entries.now) → own (self.old.pruned.entries.items ++ self.old.recent.items) ≡ own before
+            → OnOk result (own (self.new.pruned.entries.items ++ self.new.recent.items) ≡ own (before ++ entries.now)) }
+        ensures err { let own = own_levels self.old.pruned.order in
+            OnErr result (own (self.new.pruned.entries.items ++ self.new.recent.items) ≡ own (self.old.pruned.entries.items ++ self.old.recent.items)) }
     {
-        if self.has_grown() {
-            self.prune(alloc)?;
-        }
+        self.pruned.prune(alloc, &mut self.recent)?;
         let held = self.recent.len();
-        if let Err(error) = self.keep_others(entries) {
+        if let Err(error) = self
+            .pruned
+            .keep_others(&mut self.lately, &mut self.recent, entries)
+        {
             self.recent.truncate(held);
             return Err(error);
         }
@@ -231,15 +189,21 @@ impl SortedEntries {
     pub(crate) fn of(
         alloc: Global,
         order: ChainOrder,
-        cut: u32,
         entries: &[Entry],
     ) -> Result<SortedEntries, AllocError>
         requires { HaveDifferentIds entries.now }
-        ensures order { IfOk result (λ held. held.order ≡ order) }
-        ensures cut { IfOk result (λ held. held.cut ≡ cut) }
-        ensures levels { IfOk result (λ held. levels (own_order order) (held.sorted.items ++ held.recent.items) cut ≡ levels (own_order order) entries.now cut) }
+        ensures order { IfOk result (λ held. held.pruned.order ≡ order) }
+        ensures levels { IfOk result (λ held. own_levels order (held.pruned.entries.items ++ held.recent.items) ≡ own_levels order entries.now) }
     {
-        let mut held = SortedEntries::new(alloc, order, cut);
+        let mut held = SortedEntries {
+            pruned: Pruned {
+                order,
+                entries: Vec::new(alloc),
+                lowest: Vec::new(alloc),
+            },
+            recent: Vec::new(alloc),
+            lately: 0,
+        };
         let mut rest = entries;
         'each_piece: while !rest.is_empty() {
             let (piece, others) = rest.split_at(PIECE.min(rest.len()));

@@ -1,11 +1,12 @@
-use Rattle.std.proofs.Common.{◌≡◌, ◌∙◌, ◌++◌, ◌+◌, [], ◌∷◌, not, take, drop, sym, ap, subst, append_assoc}
+use Rattle.std.proofs.Common.{◌≡◌, ◌∙◌, ◌++◌, ◌+◌, [], ◌∷◌, true, false, not, take, drop, sym, ap, subst, append_assoc, take-append-drop}
 use Rattle.std.specs.List.Sorted.{IsPermutation}
 use Rattle.std.proofs.lemmas.List.{drop_more}
+use Rattle.pref_sky.specs.declared.entry.Entry.{Entry}
 use Rattle.pref_sky.specs.ChainOrders.{AreInOrder, comes_before}
 use Rattle.pref_sky.proofs.ChainOrders.{before_is_chain}
 use Rattle.pref_sky.proofs.Loops.{front_more}
 use Rattle.pref_sky.proofs.Members.{Among}
-use Rattle.pref_sky.proofs.MergedLists.{in_order_back, merged_more, moved_more}
+use Rattle.pref_sky.proofs.MergedLists.{below_later, in_order_back, merged_more, moved_more}
 use Rattle.pref_sky.proofs.merging.merge.Goals as goal
 
 pub count_before-requires : goal.count_before-requires
@@ -16,24 +17,28 @@ count_before-requires c =
 pub loop-entry-preserved : goal.loop-entry-preserved
 loop-entry-preserved c =
     let order = c.args.order.now in
+    let chain = before_is_chain order in
     let coming = c.args.coming.now in
     let place = c.loop-entry.entry-index in
     let all = c.loop-entry.all.items in
-    let rest = c.loop-entry.rest.now in
     let front = c.split_at.result.0.now in
     let back = c.split_at.result.1.now in
     let e = c.entry-item.result in
     let later = drop (place + 1) coming in
     let inv = c.loop-entry.invariant in
-    let whole : rest ≡ front ++ back = c.split_at.ensures.by_index.0 in
     let new : c.push.new.self.items ≡ (all ++ front) ++ e ∷ [] = (c.in_ok-push.ensures {u = tt}).items ∙ ap (λ l. l ++ e ∷ []) (c.in_ok-extend_from_slice.ensures {u = tt}).items in
+    let whole : c.push.new.self.items ++ back ≡ (all ++ front) ++ e ∷ back = ap (λ l. l ++ back) new ∙ append_assoc (all ++ front) (e ∷ []) back in
     let next : drop place coming ≡ e ∷ later = drop_more coming place e c.loop-entry-test.true ∙ ap (λ x. x ∷ later) (sym c.entry-item.is) in
-    let done : c.args.sorted.now ++ take (place + 1) coming ≡ (c.args.sorted.now ++ take place coming) ++ e ∷ [] = ap (λ l. c.args.sorted.now ++ l) (front_more coming place e c.loop-entry-test.true c.entry-item.is) ∙ sym (append_assoc c.args.sorted.now (take place coming) (e ∷ [])) in
-    let ordered = merged_more (comes_before order) (before_is_chain order) all front back e later (subst (λ l. AreInOrder order (all ++ l)) whole inv.sorted) (subst (λ l. AreInOrder order (all ++ l)) next inv.coming)
-    (λ x m. c.count_before.ensures.front x (subst (Among x) c.split_at.ensures.front m)) (λ x m. c.count_before.ensures.back x (subst (Among x) c.split_at.ensures.back m)) in
+    let ordered : AreInOrder order (e ∷ later) =
+    subst (AreInOrder order) next (in_order_back (λ a b. not (comes_before order b a)) (take place coming) (drop place coming) (subst (AreInOrder order) (sym (take-append-drop place coming)) c.requires.coming)) in
+    let sorted : AreInOrder order (all ++ (front ++ back)) = subst (λ l. AreInOrder order (all ++ l)) c.split_at.ensures.by_index.0 inv.sorted in
+    let below : (a b : Entry) → Among a all → Among b (e ∷ later) → comes_before order b a ≡ false = subst (λ l. (a b : Entry) → Among a all → Among b l → comes_before order b a ≡ false) next inv.below in
+    let passed : (x : Entry) → Among x front → comes_before order x e ≡ true = λ x m. c.count_before.ensures.front x (subst (Among x) c.split_at.ensures.front m) in
+    let left : (x : Entry) → Among x back → comes_before order x e ≡ false = λ x m. c.count_before.ensures.back x (subst (Among x) c.split_at.ensures.back m) in
     record {
-      permutation = subst (λ l. IsPermutation (c.args.sorted.now ++ take (place + 1) coming) (l ++ back)) (sym new)
-          (subst (λ l. IsPermutation l (((all ++ front) ++ e ∷ []) ++ back)) (sym done) (moved_more (c.args.sorted.now ++ take place coming) all front back e (subst (λ l. IsPermutation (c.args.sorted.now ++ take place coming) (all ++ l)) whole inv.permutation)));
-      sorted = subst (λ l. AreInOrder order (l ++ back)) (sym new) ordered.0;
-      coming = subst (λ l. AreInOrder order (l ++ later)) (sym new) ordered.1;
+      moved = subst (λ l. IsPermutation l (c.push.new.self.items ++ back)) (sym (ap (λ l. c.args.sorted.now ++ l) (front_more coming place e c.loop-entry-test.true c.entry-item.is) ∙ sym (append_assoc c.args.sorted.now (take place coming) (e ∷ []))))
+          (subst (IsPermutation ((c.args.sorted.now ++ take place coming) ++ e ∷ [])) (sym whole)
+          (moved_more (c.args.sorted.now ++ take place coming) all front back e (subst (λ l. IsPermutation (c.args.sorted.now ++ take place coming) (all ++ l)) c.split_at.ensures.by_index.0 inv.moved)));
+      sorted = subst (AreInOrder order) (sym whole) (merged_more (comes_before order) chain all front back e later sorted ordered below passed left);
+      below = λ a b m k. below_later (comes_before order) chain all front back e later sorted ordered below passed left a b (subst (Among a) new m) k;
     }

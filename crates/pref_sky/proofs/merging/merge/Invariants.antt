@@ -1,13 +1,15 @@
-use Rattle.std.proofs.Common.{◌++◌, drop, take}
+use Rattle.std.proofs.Common.{◌≡◌, ◌++◌, false, drop, take}
 use Rattle.std.specs.List.Sorted.{IsPermutation}
-use Rattle.pref_sky.specs.ChainOrders.{AreInOrder}
+use Rattle.pref_sky.specs.declared.entry.Entry.{Entry}
+use Rattle.pref_sky.specs.ChainOrders.{AreInOrder, comes_before}
+use Rattle.pref_sky.specs.Members.{Among}
 use Rattle.pref_sky.proofs.merging.merge.Given as goal
 
 -- what is merged stands in order in front of what is left of both lists
 abbrev pub invariant-loop-entry : goal.invariant-loop-entry
 invariant-loop-entry l =
     record {
-      permutation : IsPermutation (l.sorted ++ take l.entry-index l.coming) (l.all.items ++ l.rest);
+      moved : IsPermutation (l.sorted ++ take l.entry-index l.coming) (l.all.items ++ l.rest);
       sorted : AreInOrder l.order (l.all.items ++ l.rest);
-      coming : AreInOrder l.order (l.all.items ++ drop l.entry-index l.coming);
+      below : (a b : Entry) → Among a l.all.items → Among b (drop l.entry-index l.coming) → comes_before l.order b a ≡ false;
     }

@@ -1,12 +1,12 @@
-use Rattle.std.proofs.Common.{◌++◌, map, sym, ◌∙◌, ap, subst}
+use Rattle.std.proofs.Common.{◌≡◌, ◌++◌, map, sym, ◌∙◌, ap, subst}
 use Rattle.std.specs.Prelude.{IfSome}
 use Rattle.pref_term.specs.Chains.{IsProductOf}
 use Rattle.pref_sky.specs.declared.chain_order.ChainOrder.{ChainOrder}
-use Rattle.pref_sky.specs.ChainOrders.{own_order}
+use Rattle.pref_sky.specs.ChainOrders.{own_levels}
 use Rattle.pref_sky.specs.Levels.{entry_of, entry_order, levels}
 use Rattle.pref_sky.proofs.LevelLaws.{held_differ}
 use Rattle.pref_sky.proofs.Merges.{entry_order_is_strict, merge}
-use Rattle.pref_sky.proofs.SortedLevels.{levels_agree, levels_by, says_its_own}
+use Rattle.pref_sky.proofs.SortedLevels.{says_its_levels}
 use Rattle.pref_sky.proofs.partial.begun.Goals as goal
 
 -- the levels are by what the chains say, which is what the order says
@@ -20,9 +20,9 @@ returns-in-Some-clause-ok g c = λ before apart none.
     let entries = c.args.entries.now in
     let cut = c.args.cut in
     let made = c.in_ok-sorted.ensures {u = tt} in
-    let product : IsProductOf row_order order.columns.items order.chains order.distinct =
-    subst (λ found. IfSome found (λ (o : ChainOrder). IsProductOf row_order o.columns.items o.chains o.distinct)) c.in-Some.is (c.in_ok-order.ensures {u = tt}) in
-    levels_by order sorted.order cut sorted.cut (sorted.sorted.items ++ sorted.recent.items) made.order made.cut
+    let product : IsProductOf row_order order.columns.items order.chains order.distinct × (order.cut ≡ cut) =
+    subst (λ found. IfSome found (λ (o : ChainOrder). IsProductOf row_order o.columns.items o.chains o.distinct × (o.cut ≡ cut))) c.in-Some.is (c.in_ok-order.ensures {u = tt}) in
+    ap (λ (o : ChainOrder). own_levels o (sorted.pruned.entries.items ++ sorted.recent.items)) made.order
     ∙ (made.levels
-    ∙ (sym (levels_agree over (own_order order) (says_its_own row_order order product) entries cut)
+    ∙ (sym (says_its_levels row_order order cut product entries)
     ∙ (ap (λ l. levels over (map entry_of l ++ entries) cut) none ∙ merge over strict before entries cut apart (held_differ over before entries cut apart))))

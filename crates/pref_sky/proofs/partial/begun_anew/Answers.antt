@@ -1,4 +1,4 @@
-use Rattle.std.proofs.Common.{◌≡◌, ◌++◌, [], map, take_all, sym, ◌∙◌, ap, subst}
+use Rattle.std.proofs.Common.{◌≡◌, ◌++◌, [], map, sym, ◌∙◌, ap, subst}
 use Rattle.std.proofs.lemmas.Result.{IfOk-weaker}
 use Rattle.pref_sky.specs.Levels.{HaveDifferentIds, entry_of, entry_order, levels}
 use Rattle.pref_sky.proofs.LevelLaws.{levels_of_none}
@@ -14,9 +14,7 @@ returns-clause-ok g c =
     let ranked = c.args.ranked.now in
     let entries = c.args.entries.now in
     let cut = c.args.cut in
-    let held = map entry_of ranked in
-    let copied : c.loop-entry.all.items ≡ held = c.loop-entry.invariant ∙ ap (map entry_of) (take_all c.loop-entry.entry-index ranked c.loop-entry-test.false) in
-    let whole : c.deref.result.now ≡ held ++ entries = c.deref.ensures.value ∙ ((c.in_ok-extend_from_slice.ensures {u = tt}).items ∙ ap (λ l. l ++ entries) copied) in
+    let whole : c.deref.result.now ≡ map entry_of ranked ++ entries = c.deref.ensures.value ∙ ((c.in_ok-extend_from_slice.ensures {u = tt}).items ∙ ap (λ l. l ++ entries) (c.in_ok-all.ensures {u = tt})) in
     IfOk-weaker c.begun.result _ _ (λ made begun before apart is.
     begun [] (subst HaveDifferentIds (sym whole) c.requires.ids) (levels_of_none over cut)
     ∙ (ap (λ l. levels over l cut) whole

@@ -1,6 +1,7 @@
-use Rattle.std.proofs.Common.{◌≡◌, ◌<◌, length, slice_index}
+use Rattle.std.proofs.Common.{◌≡◌, ◌<◌, length, get_or}
 use Rattle.std.specs.Prelude.{All}
+use Rattle.pref_sky.specs.declared.entry.Ranked.{Ranked}
 use Rattle.pref_sky.proofs.sorted.places_of.Given as goal
 
 abbrev pub invariant-loop-place : goal.invariant-loop-place
-invariant-loop-place l = All (λ place. (place < length l.numbers) × (slice_index l.numbers place ≡ l.number)) l.places.items
+invariant-loop-place l = All (λ place. (place < length l.ranked) × ((d : Ranked) → (get_or l.ranked place d).level ≡ l.level)) l.places.items

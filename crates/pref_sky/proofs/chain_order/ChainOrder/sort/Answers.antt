@@ -2,5 +2,8 @@ use Rattle.std.proofs.Common.{rules}
 use Rattle.pref_sky.proofs.ChainOrders.{in_order_from_sort_by}
 use Rattle.pref_sky.proofs.chain_order.ChainOrder.sort.Goals as goal
 
-pub returns-clause-in_order : goal.returns-clause-in_order
-returns-clause-in_order c = in_order_from_sort_by c.args.self.now c.sort_unstable_by.new.self c.sort_unstable_by.ensures.sorted (λ a r f' k. search rules)
+pub returns : goal.returns
+returns c = record {
+  moved = c.sort_unstable_by.ensures.permutation;
+  in_order = in_order_from_sort_by c.args.self.now c.sort_unstable_by.new.self.items c.sort_unstable_by.ensures.sorted (λ a r f' k. search rules);
+}

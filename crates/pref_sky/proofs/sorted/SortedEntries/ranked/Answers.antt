@@ -1,17 +1,12 @@
-use Rattle.std.proofs.Common.{◌∙◌, ap, subst, sym}
-use Rattle.std.proofs.lemmas.Result.{IfOk-weaker}
-use Rattle.pref_sky.specs.ChainOrders.{own_order}
-use Rattle.pref_sky.specs.Layers.{AreLevels}
-use Rattle.pref_sky.specs.Levels.{HaveDifferentIds, levels}
-use Rattle.pref_sky.proofs.ChainOrders.{own_is_strict}
+use Rattle.std.proofs.Common.{rules, ◌++◌, subst}
+use Rattle.pref_sky.specs.Sorted.{AreLeveled}
+use Rattle.pref_sky.proofs.Leveled.{found_ranked, sorted_by_rank}
 use Rattle.pref_sky.proofs.sorted.SortedEntries.ranked.Goals as goal
 
 pub returns : goal.returns
 returns c =
-    let fn = c.args.self.now in
-    let own = own_order fn.order in
-    let layered = c.in_ok-layered.ensures {u = tt} in
-    let same = c.deref.ensures.value in
-    IfOk-weaker c.ranked_by.result _ _ (λ ranked is. is ∙ (ap (λ l. levels own l fn.cut) same ∙ layered.levels))
-    (c.ranked_by.ensures own (own_is_strict fn.order) (subst HaveDifferentIds (sym same) layered.ids)
-    (subst (AreLevels own fn.cut c.deref.result.now c.deref.result.now) (sym c.deref-2.ensures.value) (subst (λ l. AreLevels own fn.cut l l c.in_ok-layered.layered.above.items) (sym same) layered.above)))
+    let fn = c.args.self.now.pruned in
+    let found = c.in_ok-ranked.ranked.items in
+    let are : AreLeveled fn.order (fn.entries.items ++ c.args.self.now.recent.items) found = subst (λ l. AreLeveled fn.order (fn.entries.items ++ l) found) c.deref.ensures.value (c.in_ok-ranked.ensures {u = tt}) in
+    found_ranked fn.order (fn.entries.items ++ c.args.self.now.recent.items) found c.args.self.now.ids are c.sort_unstable_by_key.new.self.items c.sort_unstable_by_key.ensures.permutation
+    (sorted_by_rank c.sort_unstable_by_key.new.self.items c.sort_unstable_by_key.ensures.sorted (λ a r f k. search rules))

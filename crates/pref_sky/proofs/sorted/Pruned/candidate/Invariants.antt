@@ -1,5 +1,5 @@
 use Rattle.std.proofs.Common.{◌≤◌, ◌-◌, vec_len}
-use Rattle.pref_sky.proofs.sorted.SortedEntries.candidate.Given as goal
+use Rattle.pref_sky.proofs.sorted.Pruned.candidate.Given as goal
 
 abbrev pub invariant-loop-low : goal.invariant-loop-low
 invariant-loop-low l = l.high ≤ vec_len l.self.lowest

@@ -1,0 +1,7 @@
+use Rattle.std.proofs.Common.{◌≡◌, ◌++◌, List, take}
+use Rattle.pref_sky.specs.declared.entry.Entry.{Entry}
+use Rattle.pref_sky.specs.Sorted.{HoldsUpper}
+use Rattle.pref_sky.proofs.sorted.Pruned.keep_others.Given as goal
+
+abbrev pub invariant-loop-entry : goal.invariant-loop-entry
+invariant-loop-entry l = (kept : List Entry) × (l.recent.items ≡ l.fn.recent.items ++ kept) × HoldsUpper l.self.order l.self.entries.items (take l.entry-index l.entries) kept

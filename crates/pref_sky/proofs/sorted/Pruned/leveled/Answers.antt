@@ -1,0 +1,15 @@
+use Rattle.std.proofs.Common.{◌∙◌, ◌++◌, ap, subst}
+use Rattle.std.proofs.lemmas.Result.{IfOk-weaker}
+use Rattle.pref_sky.specs.ChainOrders.{AreSorted, own_order}
+use Rattle.pref_sky.specs.Layers.{leveled}
+use Rattle.pref_sky.proofs.sorted.Pruned.leveled.Goals as goal
+
+pub returns : goal.returns
+returns c =
+    let fn = c.args.self.now in
+    let all = c.in_ok-entries.entries.items in
+    IfOk-weaker c.leveled.result _ _ (λ found is. record {
+      all = all;
+      sorted = subst (λ l. AreSorted fn.order (l ++ c.args.recent.now) all) c.deref.ensures.value (c.in_ok-entries.ensures {u = tt});
+      is = is ∙ ap (λ l. leveled (own_order fn.order) l fn.order.cut l) c.deref-2.ensures.value;
+    }) c.leveled.ensures
