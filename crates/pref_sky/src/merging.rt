@@ -1,6 +1,6 @@
 //! Entries in the order of two chains: new ones are merged into those that are in order.
 
-ghost use Rattle.std.specs.Prelude.{◌≡◌, ◌≤◌, ◌++◌, true, false, length, take, drop, IfOk};
+ghost use Rattle.std.specs.Prelude.{◌≡◌, ◌≤◌, ◌++◌, true, false, length, take, drop, IfOk, OnOk};
 ghost use Rattle.pref_sky.specs.ChainOrders.{AreInOrder, AreSorted, comes_before};
 ghost use Rattle.pref_sky.specs.Members.{Among};
 ghost use Rattle.pref_sky.specs.declared.entry.Entry.{Entry};
@@ -19,6 +19,16 @@ fn count_before(order: &ChainOrder, entries: &[Entry], entry: &Entry) -> usize
     entries.partition_point(|held| order.compare(held, entry).is_lt())
 }
 
+/// Puts entries behind others, each by itself: for so long an element that is faster than `extend_from_slice`.
+fn push_all(all: &mut Vec<Entry>, entries: &[Entry]) -> Result<(), AllocError>
+    ensures { OnOk result (all.new.items ≡ all.old.items ++ entries.now) }
+{
+    for entry in entries {
+        all.push(*entry)?;
+    }
+    Ok(())
+}
+
 /// Two lists that are in order as one. Stretches of the first one are copied as they are, so that few entries go in among many fast.
 fn merge(
     alloc: Global,
@@ -34,11 +44,11 @@ fn merge(
     let mut rest = sorted;
     for entry in coming {
         let (front, back) = rest.split_at(count_before(order, rest, entry));
-        all.extend_from_slice(front)?;
+        push_all(&mut all, front)?;
         all.push(*entry)?;
         rest = back;
     }
-    all.extend_from_slice(rest)?;
+    push_all(&mut all, rest)?;
     Ok(all)
 }
 

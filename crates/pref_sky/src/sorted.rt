@@ -1,7 +1,7 @@
 //! Entries of an order that is a product of two chains: they are kept in the order of the chains, and their levels are found only when
 //! they are asked for.
 
-ghost use Rattle.std.specs.Prelude.{◌≡◌, ◌≤◌, ◌<◌, ◌++◌, true, List, All, get_or, length, map, vec_len, IfOk, IfSome, OnErr, OnOk};
+ghost use Rattle.std.specs.Prelude.{◌≡◌, ◌≤◌, ◌<◌, ◌++◌, true, List, All, get_or, length, map, vec_len, IfOk, OnErr, OnOk};
 ghost use Rattle.pref_sky.specs.ChainOrders.{AreInOrder, is_below, own_levels};
 ghost use Rattle.pref_sky.specs.Levels.{HaveDifferentIds, entry_of};
 ghost use Rattle.pref_sky.specs.Sorted.{AreInOrder-prop, AreLeveled, AreLowest, HoldsUpper};
@@ -70,23 +70,8 @@ impl Pruned {
         which < self.lowest.len() && self.order.is_over(&self.entries[self.lowest[which]], entry)
     }
 
-    /// Which of those of the last level is seen to dominate an entry, if one is. The one that dominated such an entry last is asked first.
-    #[inline(always)]
-    fn find_over(&self, lately: usize, entry: &Entry) -> Option<usize>
-        ensures { IfSome result (λ which. is_below self.now.order self.now.entries.items entry.now ≡ true) }
-    {
-        if self.dominates(lately, entry) {
-            return Some(lately);
-        }
-        let which = self.candidate(entry);
-        if self.dominates(which, entry) {
-            Some(which)
-        } else {
-            None
-        }
-    }
-
-    /// Puts the entries that are not seen to be below the cut behind the recent ones. Where it is out of memory, some of them.
+    /// Puts the entries that are not seen to be below the cut behind the recent ones. The one that dominated an entry last is asked first.
+    /// Where it is out of memory, some of them.
     fn keep_others(
         &self,
         lately: &mut usize,
@@ -97,9 +82,13 @@ impl Pruned {
             × OnOk result (HoldsUpper self.now.order self.now.entries.items entries.now kept) }
     {
         for entry in entries {
-            match self.find_over(*lately, entry) {
-                Some(which) => *lately = which,
-                None => recent.push(*entry)?,
+            if !self.dominates(*lately, entry) {
+                let which = self.candidate(entry);
+                if self.dominates(which, entry) {
+                    *lately = which;
+                } else {
+                    recent.push(*entry)?;
+                }
             }
         }
         Ok(())

@@ -26,7 +26,7 @@ loop-entry-preserved c =
     let e = c.entry-item.result in
     let later = drop (place + 1) coming in
     let inv = c.loop-entry.invariant in
-    let new : c.push.new.self.items ≡ (all ++ front) ++ e ∷ [] = (c.in_ok-push.ensures {u = tt}).items ∙ ap (λ l. l ++ e ∷ []) (c.in_ok-extend_from_slice.ensures {u = tt}).items in
+    let new : c.push.new.self.items ≡ (all ++ front) ++ e ∷ [] = (c.in_ok-push.ensures {u = tt}).items ∙ ap (λ l. l ++ e ∷ []) (c.in_ok-push_all.ensures {u = tt}) in
     let whole : c.push.new.self.items ++ back ≡ (all ++ front) ++ e ∷ back = ap (λ l. l ++ back) new ∙ append_assoc (all ++ front) (e ∷ []) back in
     let next : drop place coming ≡ e ∷ later = drop_more coming place e c.loop-entry-test.true ∙ ap (λ x. x ∷ later) (sym c.entry-item.is) in
     let ordered : AreInOrder order (e ∷ later) =

@@ -1,12 +1,11 @@
 use Rattle.std.proofs.Common.{◌≡◌, ◌∙◌, ◌+◌, ◌++◌, [], ◌∷◌, true, take, Vec, Global, sym, ap, subst, append_assoc}
-use Rattle.std.specs.Prelude.{IfSome}
 use Rattle.pref_sky.specs.declared.entry.Entry.{Entry}
 use Rattle.pref_sky.specs.ChainOrders.{is_below}
 use Rattle.pref_sky.specs.Sorted.{HoldsUpper}
 use Rattle.pref_sky.proofs.Loops.{front_more}
 use Rattle.pref_sky.proofs.SortedLevels.{upper_keeps, upper_leaves}
 use Rattle.pref_sky.proofs.sorted.Pruned.keep_others.Goals as goal
-use Rattle.pref_sky.proofs.sorted.Pruned.keep_others.Goals.{in-Some, in-None+in_ok-push-in-None}
+use Rattle.pref_sky.proofs.sorted.Pruned.keep_others.Goals.{then-not-dominates+then-dominates, then-not-dominates+else-dominates+in_ok-push, else-not-dominates}
 
 pub loop-entry-preserved : goal.loop-entry-preserved
 loop-entry-preserved c =
@@ -18,16 +17,14 @@ loop-entry-preserved c =
     let e = c.entry-item.result in
     let inv = c.loop-entry.invariant in
     let more : take (i + 1) entries ≡ take i entries ++ e ∷ [] = front_more entries i e c.loop-entry-test.true c.entry-item.is in
-    elim c.match-find_over.branch [
-      | in-Some w ↦ (
-        inv.0,
-        ap (λ (v : Vec Entry Global). v.items) w.recent-is ∙ inv.1,
-        subst (λ l. HoldsUpper order sorted l inv.0) (sym more)
-            (upper_leaves order sorted (take i entries) inv.0 e inv.2 (subst (λ found. IfSome found (λ which. is_below order sorted e ≡ true)) w.in-Some.is c.find_over.ensures)),
-      )
-      | in-None+in_ok-push-in-None w ↦ (
+    let leaves : is_below order sorted e ≡ true → HoldsUpper order sorted (take (i + 1) entries) inv.0 =
+    λ low. subst (λ l. HoldsUpper order sorted l inv.0) (sym more) (upper_leaves order sorted (take i entries) inv.0 e inv.2 low) in
+    elim c.if-not-dominates.branch [
+      | then-not-dominates+then-dominates w ↦ (inv.0, ap (λ (v : Vec Entry Global). v.items) w.recent-is ∙ inv.1, leaves (w.dominates-then-not-dominates.ensures w.if-dominates.true))
+      | then-not-dominates+else-dominates+in_ok-push w ↦ (
         inv.0 ++ e ∷ [],
-        ap (λ (v : Vec Entry Global). v.items) w.recent-is ∙ ((w.in_ok-push-in-None.ensures {u = tt}).items ∙ (ap (λ l. l ++ e ∷ []) inv.1 ∙ append_assoc recent inv.0 (e ∷ []))),
+        ap (λ (v : Vec Entry Global). v.items) w.recent-is ∙ ((w.in_ok-push.ensures {u = tt}).items ∙ (ap (λ l. l ++ e ∷ []) inv.1 ∙ append_assoc recent inv.0 (e ∷ []))),
         subst (λ l. HoldsUpper order sorted l (inv.0 ++ e ∷ [])) (sym more) (upper_keeps order sorted (take i entries) inv.0 e inv.2),
       )
+      | else-not-dominates w ↦ (inv.0, ap (λ (v : Vec Entry Global). v.items) w.recent-is ∙ inv.1, leaves (c.dominates.ensures w.if-not-dominates.false))
     ]
