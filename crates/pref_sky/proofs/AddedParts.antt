@@ -194,4 +194,4 @@ module _ (over : Entry → Entry → Bool) (number : Entry → ℕ) (cut : ℕ) 
         | inl stays ↦ inl stays
         | inr below ↦ inr (late over number within cut old before (first_differ before entries different) (first_differ (map entry_of (ranked_parts old)) entries apart) parted is x below.0 below.1 below.3)
       ])
-      upper.counts before different refl
+      upper.counts

@@ -16,11 +16,11 @@ use Rattle.pref_term.specs.AskOrder.{order_of, order_of_is_row_order}
 use Rattle.pref_sky.specs.Levels.{entry_order, HaveDifferentIds, in_order_of_id, at_level, entry_of, held_after, levels}
 use Rattle.pref_sky.specs.Answers.{count_before, count_upto, selected, answer_of, at_least}
 pub use Rattle.pref_sky.proofs.Counts.{count_and, count_both, count_filtered, count_within}
-use Rattle.pref_sky.proofs.Counts.{count_split}
-use Rattle.pref_sky.proofs.Removals.{comes_after, comes_after_less}
+use Rattle.pref_sky.proofs.Removals.{comes_after}
 use Rattle.pref_sky.proofs.Members.{Among, in_filter, from_filter}
 use Rattle.pref_sky.proofs.Orders.{SameMembers, count_in_order}
-use Rattle.pref_sky.proofs.Merges.{entry_order_is_strict, entry_order_stays_in_groups, is_at, held_more, same_levels, merge}
+use Rattle.pref_sky.proofs.Merges.{different_best, entry_order_is_strict, entry_order_stays_in_groups, same_by_level}
+use Rattle.pref_sky.proofs.SortedLevels.{count_levels, merge}
 use Rattle.pref_sky.proofs.Enough.{StaysInGroups, enough}
 
 -- nothing is left of nothing
@@ -36,7 +36,7 @@ levels_of_none over (suc n) =
 -- the order in which the entries stand does not matter
 pub levels_of_same : (over : Entry → Entry → Bool) → IsStrictOrder over → (xs ys : List Entry) → HaveDifferentIds xs → HaveDifferentIds ys → SameMembers xs ys → (n : ℕ) → levels over xs n ≡ levels over ys n
 levels_of_same over strict xs ys dx dy same n =
-    same_levels over strict xs ys n dx dy (record { within = same.there; kept = λ x m early. same.back x m }) n (omega arith)
+    same_by_level over strict xs ys n (λ k le. different_best over xs k dx) (λ k le. different_best over ys k dy) (record { within = same.there; kept = λ x m early. same.back x m }) n (omega arith)
 
 selected_of_same : (over : Entry → Entry → Bool) → IsStrictOrder over → (same : Row → Row → Bool) → StaysInGroups over same → (mode : Mode) (xs ys : List Entry) → ((n : ℕ) → levels over xs n ≡ levels over ys n) → selected over same mode xs ≡ selected over same mode ys
 selected_of_same over strict same within Best xs ys levels_same = levels_same 1
@@ -48,27 +48,6 @@ pub answer_of_same : (ask : Question) (xs ys : List Entry) → HaveDifferentIds 
 answer_of_same ask xs ys dx dy same =
     let strict = entry_order_is_strict (order_of ask) (order_of_is_row_order ask) in
     selected_of_same (entry_order (order_of ask)) strict (in_same_group ask.group) (entry_order_stays_in_groups ask) ask.mode xs ys (levels_of_same (entry_order (order_of ask)) strict xs ys dx dy same)
-
-count_never : {E : Type 0} (p : E → Bool) (xs : List E) → count_by (λ x. p x && false) xs ≡ 0
-count_never p [] = refl
-count_never p (x ∷ xs) =
-    let here = elim (p x) as (λ b. cond {A = ℕ} (b && false) 1 0 ≡ 0) [ true ↦ refl | false ↦ refl ] in
-    omega (arith, here, count_never p xs, sum_by-cons (λ y. cond (p y && false) 1 0) x xs)
-
-here_or_earlier : (p a b : Bool) → (b ≡ true → a ≡ true) → cond (p && not a) 1 0 + cond (p && (a && not b)) 1 0 ≡ cond (p && not b) 1 0
-here_or_earlier p a b h = grind (arith, h)
-
--- the entries of the levels up to n are those that no chain of n stands over
-pub count_levels : (over : Entry → Entry → Bool) (p : Entry → Bool) (all : List Entry) (n : ℕ) → count_by p (map entry_of (levels over all n)) ≡ count_by (λ e. p e && not (comes_after over all n e)) all
-count_levels over p all zero = sym (count_never p all)
-count_levels over p all (suc n) =
-    let more = ap (count_by p) (held_more over all n) in
-    let joined = sum_by-append (λ e. cond (p e) 1 0) (map entry_of (levels over all n)) (in_order_of_id (filter (is_at over all n) all)) in
-    let level = count_in_order p (filter (is_at over all n) all) in
-    let filtered = count_filtered p (is_at over all n) all in
-    let both = count_split (λ e. p e && not (comes_after over all n e)) (λ e. p e && is_at over all n e) (λ e. p e && not (comes_after over all (suc n) e)) all
-    (λ e. here_or_earlier (p e) (comes_after over all n e) (comes_after over all (suc n) e) (comes_after_less over all n e)) in
-    omega (arith, more, joined, level, filtered, both, count_levels over p all n)
 
 -- what is held of entries has different ids
 pub held_differ : (over : Entry → Entry → Bool) (before new : List Entry) (n : ℕ) → HaveDifferentIds (before ++ new) → HaveDifferentIds (map entry_of (levels over before n) ++ new)
@@ -99,7 +78,7 @@ cut_into over strict cut before held (piece ∷ pieces) is different =
     let whole : before ++ (piece ++ others) ≡ (before ++ piece) ++ others = sym (append_assoc before piece others) in
     let first = first_differ (before ++ piece) others (subst HaveDifferentIds whole different) in
     cut_into over strict cut (before ++ piece) (levels over (map entry_of held ++ piece) cut) pieces
-    (ap (λ l. levels over (map entry_of l ++ piece) cut) is ∙ merge over strict before piece cut first (held_differ over before piece cut first))
+    (ap (λ l. levels over (map entry_of l ++ piece) cut) is ∙ merge over strict cut before piece (held_differ over before piece cut first))
     (subst HaveDifferentIds whole different)
     ∙ ap (λ l. levels over l cut) (sym whole)
 

@@ -26,14 +26,13 @@ use Rattle.pref_sky.specs.Sorted.{AreLeveled, AreLowest}
 use Rattle.pref_sky.proofs.ChainOrders.{own_is_strict}
 use Rattle.pref_sky.proofs.Layering.{HasChain, count_is}
 use Rattle.pref_sky.proofs.Counts.{count_filter, count_filtered}
-use Rattle.pref_sky.proofs.LevelLaws.{count_levels}
 use Rattle.pref_sky.proofs.LineLaws.{on_level}
 use Rattle.pref_sky.proofs.Members.{Among, among_place, any_from, from_filter, from_map, in_filter, in_map, place_of}
 use Rattle.pref_sky.proofs.Merges.{HoldsLevels, held_all, held_within}
 use Rattle.pref_sky.proofs.Orders.{RisesBy, SameMembers, different_later, different_tail, same_if_permuted, same_if_rise}
 use Rattle.pref_sky.proofs.Ranks.{ComesBefore, from_upto, levels_upto_is, one_way, upto_rises}
 use Rattle.pref_sky.proofs.Removals.{comes_after, early_stays, same_chains}
-use Rattle.pref_sky.proofs.SortedLevels.{bests_differ, some_differ, some_levels}
+use Rattle.pref_sky.proofs.SortedLevels.{bests_differ, count_levels, some_differ, some_levels}
 use Rattle.pref_sky.proofs.StairLaws.{filter_in_order}
 use Rattle.pref_sky.proofs.Staying.{leaves, stays}
 

@@ -1,22 +1,43 @@
--- Lists with the same levels up to a cut, where the ids differ of what is of these: what is below may be left out, and may be there twice.
-use Rattle.std.proofs.Common.{◌≡◌, ℕ, suc, ◌≤◌, Bool, true, false, cond, not, ltb, ◌&&◌, ◌||◌, ◌⊎◌, inl, inr, List, [], ◌∷◌, ◌++◌, map, sym, ◌∙◌, ap, subst, arith, append_assoc, ◌==◌}
+-- Lists with the same levels up to a cut, where the ids differ of what is of these: what is below may be left out, and may be there twice. So the levels up to a cut of a list are those of what is of these levels, with the others.
+use Rattle.std.proofs.Common.{◌≡◌, ℕ, zero, suc, ◌≤◌, ◌+◌, Bool, true, false, cond, not, ltb, ◌&&◌, ◌||◌, ◌⊎◌, inl, inr, List, [], ◌∷◌, ◌++◌, map, refl, sym, ◌∙◌, ap, subst, arith, append_assoc, filter, ◌==◌}
 use Rattle.std.specs.List.{count_by}
 use Rattle.std.proofs.lemmas.Bool.{and_parts, and_from, both_ways, not-true, not_from_false, false_from_ne_true}
-use Rattle.std.proofs.lemmas.List.Sums.{sum_by-append}
+use Rattle.std.proofs.lemmas.List.Sums.{sum_by-append, sum_by-cons}
 use Rattle.pref_term.specs.Chains.{IsProductOf}
 use Rattle.pref_term.specs.Order.{IsStrictOrder, RowOrder}
 use Rattle.pref_sky.specs.declared.chain_order.ChainOrder.{ChainOrder}
 use Rattle.pref_sky.specs.declared.entry.Entry.{Entry}
 use Rattle.pref_sky.specs.Best.{best, rest}
 use Rattle.pref_sky.specs.ChainOrders.{is_below, own_levels, own_order}
-use Rattle.pref_sky.specs.Levels.{HaveDifferentIds, entry_of, entry_order, levels}
+use Rattle.pref_sky.specs.Levels.{HaveDifferentIds, entry_of, entry_order, in_order_of_id, levels}
 use Rattle.pref_sky.specs.Sorted.{HoldsUpper}
 use Rattle.pref_sky.proofs.ChainOrders.{own_is_strict}
 use Rattle.pref_sky.proofs.Members.{Among, in_left, in_right, in_either}
-use Rattle.pref_sky.proofs.Removals.{comes_after, comes_after_among_more, best_of_rest_is, early_stays, same_chains}
-use Rattle.pref_sky.proofs.Merges.{HoldsLevels, held_all, held_within, is_at, merge, same_by_level}
-use Rattle.pref_sky.proofs.Counts.{count_and, count_filtered, count_within}
-use Rattle.pref_sky.proofs.LevelLaws.{count_levels}
+use Rattle.pref_sky.proofs.Orders.{count_in_order}
+use Rattle.pref_sky.proofs.Removals.{comes_after, comes_after_less, comes_after_among_more, best_of_rest_is, early_stays, same_chains}
+use Rattle.pref_sky.proofs.Merges.{HoldsLevels, held_all, held_more, held_within, is_at, same_by_level}
+use Rattle.pref_sky.proofs.Counts.{count_and, count_filtered, count_split, count_within}
+
+count_never : {E : Type 0} (p : E → Bool) (xs : List E) → count_by (λ x. p x && false) xs ≡ 0
+count_never p [] = refl
+count_never p (x ∷ xs) =
+    let here = elim (p x) as (λ b. cond {A = ℕ} (b && false) 1 0 ≡ 0) [ true ↦ refl | false ↦ refl ] in
+    omega (arith, here, count_never p xs, sum_by-cons (λ y. cond (p y && false) 1 0) x xs)
+
+here_or_earlier : (p a b : Bool) → (b ≡ true → a ≡ true) → cond (p && not a) 1 0 + cond (p && (a && not b)) 1 0 ≡ cond (p && not b) 1 0
+here_or_earlier p a b h = grind (arith, h)
+
+-- the entries of the levels up to n are those that no chain of n stands over
+pub count_levels : (over : Entry → Entry → Bool) (p : Entry → Bool) (all : List Entry) (n : ℕ) → count_by p (map entry_of (levels over all n)) ≡ count_by (λ e. p e && not (comes_after over all n e)) all
+count_levels over p all zero = sym (count_never p all)
+count_levels over p all (suc n) =
+    let more = ap (count_by p) (held_more over all n) in
+    let joined = sum_by-append (λ e. cond (p e) 1 0) (map entry_of (levels over all n)) (in_order_of_id (filter (is_at over all n) all)) in
+    let level = count_in_order p (filter (is_at over all n) all) in
+    let filtered = count_filtered p (is_at over all n) all in
+    let both = count_split (λ e. p e && not (comes_after over all n e)) (λ e. p e && is_at over all n e) (λ e. p e && not (comes_after over all (suc n) e)) all
+    (λ e. here_or_earlier (p e) (comes_after over all n e) (comes_after over all (suc n) e) (comes_after_less over all n e)) in
+    omega (arith, more, joined, level, filtered, both, count_levels over p all n)
 
 -- the ids of one of the levels differ
 pub bests_differ : (over : Entry → Entry → Bool) (all : List Entry) (cut : ℕ) → HaveDifferentIds (map entry_of (levels over all cut)) → (n : ℕ) → suc n ≤ cut → HaveDifferentIds (best over (rest over all n))
@@ -75,8 +96,9 @@ module _ (over : Entry → Entry → Bool) (strict : IsStrictOrder over) (cut : 
             );
       }
 
-  with_levels : levels over (map entry_of (levels over held cut) ++ entries) cut ≡ levels over (held ++ entries) cut
-  with_levels =
+  -- the merge law: those of the levels stand for all that are held
+  pub merge : levels over (map entry_of (levels over held cut) ++ entries) cut ≡ levels over (held ++ entries) cut
+  merge =
       let top = map entry_of (levels over held cut) in
       some_levels over strict (top ++ entries) (held ++ entries) cut
       (record {
@@ -110,11 +132,8 @@ module _ (over : Entry → Entry → Bool) (strict : IsStrictOrder over) (cut : 
     pub kept_differ : HaveDifferentIds (map entry_of (levels over (held ++ kept) cut))
     kept_differ = some_differ over strict (held ++ kept) (held ++ entries) cut kept_holds no_more all_differ
 
-    pub kept_levels : (before : List Entry) → HaveDifferentIds (before ++ entries) → levels over held cut ≡ levels over before cut → levels over (held ++ kept) cut ≡ levels over (before ++ entries) cut
-    kept_levels before apart is =
-        some_levels over strict (held ++ kept) (held ++ entries) cut kept_holds no_more all_differ
-        ∙ (sym with_levels
-        ∙ (ap (λ l. levels over (map entry_of l ++ entries) cut) is ∙ merge over strict before entries cut apart (subst (λ l. HaveDifferentIds (map entry_of l ++ entries)) is different)))
+    pub kept_levels : levels over (held ++ kept) cut ≡ levels over (held ++ entries) cut
+    kept_levels = some_levels over strict (held ++ kept) (held ++ entries) cut kept_holds no_more all_differ
 
 -- and of sorted and recent entries, with what is kept of new ones
 module _ (order : ChainOrder) (sorted recent entries : List Entry) (different : HaveDifferentIds (map entry_of (own_levels order (sorted ++ recent)) ++ entries)) (kept : List Entry) (upper : HoldsUpper order sorted entries kept) where
@@ -126,10 +145,14 @@ module _ (order : ChainOrder) (sorted recent entries : List Entry) (different : 
       subst (λ l. HaveDifferentIds (map entry_of (own_levels order l))) (append_assoc sorted recent kept)
       (kept_differ (own_order order) (own_is_strict order) order.cut (sorted ++ recent) entries different kept upper.within covers upper.counts)
 
-  pub upper_levels : (before : List Entry) → HaveDifferentIds (before ++ entries) → own_levels order (sorted ++ recent) ≡ own_levels order before → own_levels order (sorted ++ (recent ++ kept)) ≡ own_levels order (before ++ entries)
-  upper_levels before apart is =
+  pub upper_levels : (before : List Entry) → own_levels order (sorted ++ recent) ≡ own_levels order before → own_levels order (sorted ++ (recent ++ kept)) ≡ own_levels order (before ++ entries)
+  upper_levels before is =
+      let own = own_order order in
+      let strict = own_is_strict order in
       ap (own_levels order) (sym (append_assoc sorted recent kept))
-      ∙ kept_levels (own_order order) (own_is_strict order) order.cut (sorted ++ recent) entries different kept upper.within covers upper.counts before apart is
+      ∙ (kept_levels own strict order.cut (sorted ++ recent) entries different kept upper.within covers upper.counts
+      ∙ (sym (merge own strict order.cut (sorted ++ recent) entries different)
+      ∙ (ap (λ l. levels own (map entry_of l ++ entries) order.cut) is ∙ merge own strict order.cut before entries (subst (λ l. HaveDifferentIds (map entry_of l ++ entries)) is different))))
 
 -- one more of the new entries is looked at
 module _ (order : ChainOrder) (sorted entries kept : List Entry) (e : Entry) (upper : HoldsUpper order sorted entries kept) where

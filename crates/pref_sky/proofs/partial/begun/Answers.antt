@@ -5,8 +5,8 @@ use Rattle.pref_sky.specs.declared.chain_order.ChainOrder.{ChainOrder}
 use Rattle.pref_sky.specs.ChainOrders.{own_levels}
 use Rattle.pref_sky.specs.Levels.{entry_of, entry_order, levels}
 use Rattle.pref_sky.proofs.LevelLaws.{held_differ}
-use Rattle.pref_sky.proofs.Merges.{entry_order_is_strict, merge}
-use Rattle.pref_sky.proofs.SortedLevels.{says_its_levels}
+use Rattle.pref_sky.proofs.Merges.{entry_order_is_strict}
+use Rattle.pref_sky.proofs.SortedLevels.{merge, says_its_levels}
 use Rattle.pref_sky.proofs.partial.begun.Goals as goal
 
 -- the levels are by what the chains say, which is what the order says
@@ -25,4 +25,4 @@ returns-in-Some-clause-ok g c = λ before apart none.
     ap (λ (o : ChainOrder). own_levels o (sorted.pruned.entries.items ++ sorted.recent.items)) made.order
     ∙ (made.levels
     ∙ (sym (says_its_levels row_order order cut product entries)
-    ∙ (ap (λ l. levels over (map entry_of l ++ entries) cut) none ∙ merge over strict before entries cut apart (held_differ over before entries cut apart))))
+    ∙ (ap (λ l. levels over (map entry_of l ++ entries) cut) none ∙ merge over strict cut before entries (held_differ over before entries cut apart))))

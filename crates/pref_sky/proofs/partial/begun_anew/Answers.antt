@@ -2,7 +2,8 @@ use Rattle.std.proofs.Common.{◌≡◌, ◌++◌, [], map, sym, ◌∙◌, ap, 
 use Rattle.std.proofs.lemmas.Result.{IfOk-weaker}
 use Rattle.pref_sky.specs.Levels.{HaveDifferentIds, entry_of, entry_order, levels}
 use Rattle.pref_sky.proofs.LevelLaws.{levels_of_none}
-use Rattle.pref_sky.proofs.Merges.{entry_order_is_strict, merge}
+use Rattle.pref_sky.proofs.Merges.{entry_order_is_strict}
+use Rattle.pref_sky.proofs.SortedLevels.{merge}
 use Rattle.pref_sky.proofs.partial.begun_anew.Goals as goal
 
 -- what is begun with has the levels of all
@@ -18,4 +19,4 @@ returns-clause-ok g c =
     IfOk-weaker c.begun.result _ _ (λ made begun before apart is.
     begun [] (subst HaveDifferentIds (sym whole) c.requires.ids) (levels_of_none over cut)
     ∙ (ap (λ l. levels over l cut) whole
-    ∙ (ap (λ l. levels over (map entry_of l ++ entries) cut) is ∙ merge over strict before entries cut apart (subst (λ l. HaveDifferentIds (map entry_of l ++ entries)) is c.requires.ids)))) c.begun.ensures.ok
+    ∙ (ap (λ l. levels over (map entry_of l ++ entries) cut) is ∙ merge over strict cut before entries (subst (λ l. HaveDifferentIds (map entry_of l ++ entries)) is c.requires.ids)))) c.begun.ensures.ok

@@ -46,4 +46,4 @@ returns-clause-ok c = λ before apart is.
     let kept = c.in_default.ensures {u = tt} in
     let was : own_levels new.order (sorted ++ recent) ≡ own_levels new.order before = levels_still at ∙ (is ∙ ap (λ (o : ChainOrder). own_levels o before) (sym c.prune.ensures.order)) in
     subst (λ (o : ChainOrder). own_levels o (sorted ++ c.keep_others.new.recent.items) ≡ own_levels o (before ++ c.args.entries.now)) c.prune.ensures.order
-    (ap (λ l. own_levels new.order (sorted ++ l)) kept.1 ∙ upper_levels new.order sorted recent c.args.entries.now (coming_differ at) kept.0 kept.2 before apart was)
+    (ap (λ l. own_levels new.order (sorted ++ l)) kept.1 ∙ upper_levels new.order sorted recent c.args.entries.now (coming_differ at) kept.0 kept.2 before was)
