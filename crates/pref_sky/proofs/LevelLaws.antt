@@ -1,8 +1,8 @@
 -- Laws of the levels, for the crates above: no entries have no levels, the order in which entries stand does not matter, and what is held has different ids.
-use Rattle.std.proofs.Common.{leb, ◌-◌, ◌≡◌, ℕ, zero, suc, ◌<◌, ◌+◌, Bool, true, false, cond, not, ◌&&◌, List, [], ◌∷◌, ◌++◌, map, append_assoc, subst, refl, sym, ◌∙◌, ap, arith, filter, append-nil, ◌==◌, ltb}
-use Rattle.std.specs.List.{count_by, flat_map}
+use Rattle.std.proofs.Common.{leb, ◌-◌, ◌≡◌, ℕ, zero, suc, ◌<◌, Bool, cond, not, ◌&&◌, List, [], ◌∷◌, ◌++◌, map, append_assoc, subst, refl, sym, ◌∙◌, ap, arith, append-nil, ◌==◌, ltb}
+use Rattle.std.specs.List.{flat_map}
 use Rattle.std.proofs.lemmas.Bool.{ltb-true, lt-ltb, leb-true, le-leb, and_parts, and_from}
-use Rattle.std.proofs.lemmas.List.Sums.{sum_by-cons, sum_by-append}
+use Rattle.std.proofs.lemmas.List.Sums.{sum_by-append}
 use Rattle.pref_term.specs.Order.{IsStrictOrder}
 use Rattle.pref_table.specs.declared.row.Row.{Row}
 use Rattle.pref_term.specs.declared.ask.Mode.{Mode}
@@ -18,7 +18,7 @@ use Rattle.pref_sky.specs.Answers.{count_before, count_upto, selected, answer_of
 pub use Rattle.pref_sky.proofs.Counts.{count_and, count_both, count_filtered, count_within}
 use Rattle.pref_sky.proofs.Removals.{comes_after}
 use Rattle.pref_sky.proofs.Members.{Among, in_filter, from_filter}
-use Rattle.pref_sky.proofs.Orders.{SameMembers, count_in_order}
+use Rattle.pref_sky.proofs.Orders.{SameMembers}
 use Rattle.pref_sky.proofs.Merges.{different_best, entry_order_is_strict, entry_order_stays_in_groups, same_by_level}
 use Rattle.pref_sky.proofs.SortedLevels.{count_levels, merge}
 use Rattle.pref_sky.proofs.Enough.{StaysInGroups, enough}
