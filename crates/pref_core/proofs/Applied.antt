@@ -1,18 +1,9 @@
 -- An op that is legal at slots that stand for a state leaves slots that stand for the next one.
-use Rattle.std.proofs.Common.{◌≡◌, ℕ, zero, suc, Bool, true, false, not, List, [], ◌∷◌, length, Option, Some, None, is_some, slice_set, refl, sym, ap, ◌∙◌, arith}
-use Rattle.std.specs.List.{AllZip}
-use Rattle.std.proofs.lemmas.Bool.{and_parts, eqb-true}
-use Rattle.pref_core.specs.declared.store.version.Version.{Version}
-use Rattle.pref_core.specs.declared.store.caller.Caller.{Caller}
-use Rattle.pref_core.specs.declared.call.Call.{Call}
-use Rattle.pref_core.specs.declared.call.Call.TheVariants.{Insert, Update, Delete, Commit, Begin, Finish, Abandon}
-use Rattle.pref_core.specs.declared.call.Outcome.{Outcome}
-use Rattle.pref_core.specs.declared.call.Outcome.TheVariants.{Added, Done, NoSuchRow, Full}
-use Rattle.pref_core.specs.declared.call.Op.{Op}
-use Rattle.pref_core.specs.State.{State, Client, Snapshot, with_seat, is_change, missing, ended, begun, begins_row, needed_after, granted, outcome, succeeds, committed, begun_after, counted, after, is_formed}
-use Rattle.pref_core.specs.Parts.{outcome_of}
-use Rattle.pref_core.specs.Slots.{Contents, StandsFor, StandsForClient, ShowsBegin, stamps, caller_calls}
-use Rattle.pref_core.specs.Operations.{grown, filled, begin_after, callers_after, is_next, same_number, same_outcome, outcome_at, refusal_at, slots_after, stepped}
+use Rattle.pref_core.proofs.Common.{◌≡◌, ℕ, zero, suc, Bool, true, false, not, List, [], ◌∷◌, length, Option, Some, None, is_some, slice_set, refl, sym, ap, ◌∙◌, arith, AllZip, and_parts, eqb-true}
+use Rattle.pref_core.proofs.Common.{Version, Caller, Call, Insert, Update, Delete, Commit, Begin, Finish, Abandon, Outcome, Added, Done, NoSuchRow, Full, Op, State, Client, Snapshot, with_seat}
+use Rattle.pref_core.proofs.Common.{is_change, missing, ended, begun, begins_row, needed_after, granted, outcome, succeeds, committed, begun_after, counted, after, is_formed, outcome_of, Contents}
+use Rattle.pref_core.proofs.Common.{StandsFor, StandsForClient, ShowsBegin, stamps, caller_calls, grown, filled, begin_after, callers_after, is_next, same_number, same_outcome, outcome_at, refusal_at}
+use Rattle.pref_core.proofs.Common.{slots_after, stepped}
 use Rattle.pref_core.proofs.Committing.{grown_stands}
 use Rattle.pref_core.proofs.Reuse.{filled_stands}
 use Rattle.pref_core.proofs.Outcomes.{SameSeat, nobody, somebody, same_seat, same_outcome_at}

@@ -1,23 +1,9 @@
 -- The slots of a change that are known by a look at them alone.
-use Rattle.std.proofs.Common.{◌≡◌, ℕ, suc, ◌+◌, ◌≤◌, Bool, true, false, not, ◌&&◌, ◌||◌, cond, eqb, nat_lt, List, [], ◌∷◌, ◌++◌, length, take, drop, Option, Some, None, is_some, slice_get, ◌⊎◌, inl, inr, ⊎_elim, refl, sym, ap, ap₂, ◌∙◌, subst, arith}
-use Rattle.std.proofs.lemmas.Bool.{eq-eqb, eqb-true, or_cases, or_left, or_right, true≢false}
-use Rattle.std.proofs.lemmas.List.{append-nil}
-use Rattle.pref_core.specs.declared.call.Call.{Call}
-use Rattle.pref_core.specs.declared.call.Outcome.{Outcome}
-use Rattle.pref_core.specs.declared.call.Outcome.TheVariants.{Added, Done}
-use Rattle.pref_core.specs.declared.call.Op.{Op}
-use Rattle.pref_core.specs.declared.changes.Change.{Change}
-use Rattle.pref_core.specs.declared.changes.Change.TheVariants.{Add, Set, Remove}
-use Rattle.pref_core.specs.declared.store.version.Version.{Version}
-use Rattle.pref_core.specs.Rows.{Row}
-use Rattle.pref_core.specs.Changes.{ended_by, begun_by, begins_any}
-use Rattle.pref_core.specs.Indexes.{row_at, IsPlaceOf}
-use Rattle.pref_core.specs.Kept.{IsKept, FitAtOnce, are_free, frees_at, zones_of}
-use Rattle.pref_core.specs.Operations.{filled, is_free, is_next, outcome_at, placed, slots_after, used, grown}
-use Rattle.pref_core.specs.Places.{free_at}
-use Rattle.pref_core.specs.Slots.{Contents, begins, visible}
-use Rattle.pref_core.specs.State.{added, begins_row, begun, changes_of, ended, granted, is_change, is_formed, missing, succeeds}
-use Rattle.pref_core.specs.Table.{Line, among}
+use Rattle.pref_core.proofs.Common.{◌≡◌, ℕ, suc, ◌+◌, ◌≤◌, Bool, true, false, not, ◌&&◌, ◌||◌, cond, eqb, nat_lt, List, [], ◌∷◌, ◌++◌, length, take, drop, Option, Some, None, is_some, slice_get, ◌⊎◌}
+use Rattle.pref_core.proofs.Common.{inl, inr, ⊎_elim, refl, sym, ap, ap₂, ◌∙◌, subst, arith, eq-eqb, eqb-true, or_cases, or_left, or_right, true≢false, append-nil, Call, Outcome, Added, Done, Op}
+use Rattle.pref_core.proofs.Common.{Change, Add, Set, Remove, Version, Row, ended_by, begun_by, begins_any, row_at, IsPlaceOf, IsKept, FitAtOnce, are_free, frees_at, zones_of, filled, is_free}
+use Rattle.pref_core.proofs.Common.{is_next, outcome_at, placed, slots_after, used, grown, free_at, Contents, begins, visible, added, begins_row, begun, changes_of, ended, granted, is_change}
+use Rattle.pref_core.proofs.Common.{is_formed, missing, succeeds, Line, among}
 use Rattle.pref_core.proofs.Applied.{IsAllowed-from}
 use Rattle.pref_core.proofs.Changing.{AreApart, drop_all, drop_at, ended_so_far, formed_apart, take_at}
 use Rattle.pref_core.proofs.Choosing.{ChosenUpTo, all_chosen, closed_slots, outcome_fits, outcome_other, stamps_next}

@@ -1,21 +1,8 @@
 -- No number of a store comes near its type's end.
-use Rattle.std.proofs.Common.{◌≡◌, ℕ, zero, suc, ◌+◌, ◌^◌, ◌<◌, ◌≤◌, Bool, true, false, cond, ◌&&◌, nat_lt, List, [], ◌∷◌, map, length, Option, Some, None, is_some, slice_get, slice_set, refl, sym, ap, ◌∙◌, arith}
-use Rattle.std.specs.List.{AllByRecursion, sum_by}
-use Rattle.std.proofs.lemmas.List.{length-map, length-set}
-use Rattle.std.proofs.lemmas.Bool.{ltb-true}
-use Rattle.std.proofs.lemmas.List.Elements.{All-from_recursion}
-use Rattle.std.proofs.lemmas.List.Sums.{sum_by-le, sum_by-cons}
-use Rattle.pref_sky.specs.declared.entry.Entry.{Entry}
-use Rattle.pref_core.specs.declared.store.version.Version.{Version}
-use Rattle.pref_core.specs.declared.store.caller.Caller.{Caller}
-use Rattle.pref_core.specs.declared.call.Call.{Call}
-use Rattle.pref_core.specs.declared.call.Call.TheVariants.{Insert, Update, Delete, Commit, Begin, Finish, Abandon}
-use Rattle.pref_core.specs.declared.fault.CoreFault.TheVariants.{Spent}
-use Rattle.pref_core.specs.declared.call.Op.{Op}
-use Rattle.pref_core.specs.State.{seat, with_seat, is_change, succeeds, ended, begun, added, refusal_of, refusal_by_query, is_formed}
-use Rattle.pref_core.specs.Slots.{Contents, stamps, born}
-use Rattle.pref_core.specs.Operations.{is_free, filled, close, slots_after, begin_after, callers_after, is_next, stepped, grown}
-use Rattle.pref_core.specs.Bounds.{IsBounded}
+use Rattle.pref_core.proofs.Common.{◌≡◌, ℕ, zero, suc, ◌+◌, ◌^◌, ◌<◌, ◌≤◌, Bool, true, false, cond, ◌&&◌, nat_lt, List, [], ◌∷◌, map, length, Option, Some, None, is_some, slice_get, slice_set, refl}
+use Rattle.pref_core.proofs.Common.{sym, ap, ◌∙◌, arith, AllByRecursion, sum_by, length-map, length-set, ltb-true, All-from_recursion, sum_by-le, sum_by-cons, Entry, Version, Caller, Call, Insert}
+use Rattle.pref_core.proofs.Common.{Update, Delete, Commit, Begin, Finish, Abandon, Spent, Op, seat, with_seat, is_change, succeeds, ended, begun, added, refusal_of, refusal_by_query, is_formed}
+use Rattle.pref_core.proofs.Common.{Contents, stamps, born, is_free, filled, close, slots_after, begin_after, callers_after, is_next, stepped, grown, IsBounded}
 use Rattle.pref_core.proofs.Applied.{IsAllowed, IsAllowed-from}
 use Rattle.pref_core.proofs.Changing.{commit_length}
 use Rattle.pref_core.proofs.Counts.{added_by-length}

@@ -1,10 +1,7 @@
 -- The links of a store's slots, as lists.
-use Rattle.std.proofs.Common.{◌≡◌, ℕ, zero, suc, ◌+◌, ◌^◌, ◌<◌, Bool, true, false, List, [], ◌∷◌, length, set, slice_index, Option, Some, None, refl, sym, ap, ◌∙◌, subst, arith, ⊎_elim}
-use Rattle.std.proofs.lemmas.List.{length-map, length-set, get_or-set_same, get_or-set_other}
-use Rattle.std.proofs.lemmas.Bool.{true≢false}
-use Rattle.pref_core.specs.declared.store.version.Version.{Version}
-use Rattle.pref_core.specs.Indexes.{row_at, IsPlaceOf}
-use Rattle.pref_core.specs.Links.{shown, ids_of, home_of, id_at, AreIds, AreLinked, IsBefore, AreLinks}
+use Rattle.pref_core.proofs.Common.{◌≡◌, ℕ, zero, suc, ◌+◌, ◌^◌, ◌<◌, Bool, true, false, List, [], ◌∷◌, length, set, slice_index, Option, Some, None, refl, sym, ap, ◌∙◌, subst, arith, ⊎_elim}
+use Rattle.pref_core.proofs.Common.{length-map, length-set, get_or-set_same, get_or-set_other, true≢false, Version, row_at, IsPlaceOf, shown, ids_of, home_of, id_at, AreIds, AreLinked, IsBefore}
+use Rattle.pref_core.proofs.Common.{AreLinks}
 use Rattle.pref_core.proofs.Zones.{has_row_at}
 use Rattle.pref_core.proofs.Indexing.{no_place}
 use Rattle.pref_core.proofs.Linking.{id_within, shows_row, row_shown, place_behind, added, removed}

@@ -1,18 +1,8 @@
 -- The changes of a commit: which ids they name, and that the rows that they begin have ids of their own.
-use Rattle.std.proofs.Common.{◌≡◌, ℕ, zero, suc, ◌+◌, ◌<◌, ◌≤◌, Bool, true, false, not, ◌||◌, cond, eqb, List, [], ◌∷◌, ◌++◌, map, length, take, drop, add-one, slice_get, Option, Some, None, is_some, refl, sym, ap, ◌∙◌, subst, arith, ⊎_elim, ◌⊎◌, inl, inr, nat_lt}
-use Rattle.std.specs.Prelude.{nat_le}
-use Rattle.std.proofs.lemmas.List.{append-nil, take_more}
-use Rattle.std.proofs.lemmas.Option.{slice_get_within, get_or_from_slice_get}
-use Rattle.std.proofs.lemmas.Bool.{and_parts, or_parts, or_cases, or_right, eqb-true, eq-eqb, leb-true}
-use Rattle.pref_core.specs.declared.changes.Change.{Change}
-use Rattle.pref_core.specs.declared.changes.Change.TheVariants.{Add, Set, Remove}
-use Rattle.pref_core.specs.declared.call.Call.{Call}
-use Rattle.pref_core.specs.declared.call.Call.TheVariants.{Insert, Update, Delete, Commit, Begin, Finish, Abandon}
-use Rattle.pref_core.specs.Changes.{ended_by, begun_by, added_by, twice_from, twice, is_change_count, is_commit}
-use Rattle.pref_core.specs.Table.{Line, among, has}
-use Rattle.pref_core.specs.State.{missing, ended, is_formed}
-use Rattle.pref_core.specs.Kept.{AreFresh}
-use Rattle.pref_sky.specs.declared.entry.Entry.{Entry}
+use Rattle.pref_core.proofs.Common.{◌≡◌, ℕ, zero, suc, ◌+◌, ◌<◌, ◌≤◌, Bool, true, false, not, ◌||◌, cond, eqb, List, [], ◌∷◌, ◌++◌, map, length, take, drop, add-one, slice_get, Option, Some, None}
+use Rattle.pref_core.proofs.Common.{is_some, refl, sym, ap, ◌∙◌, subst, arith, ⊎_elim, ◌⊎◌, inl, inr, nat_lt, nat_le, append-nil, take_more, slice_get_within, get_or_from_slice_get, and_parts}
+use Rattle.pref_core.proofs.Common.{or_parts, or_cases, or_right, eqb-true, eq-eqb, leb-true, Change, Add, Set, Remove, Call, Insert, Update, Delete, Commit, Begin, Finish, Abandon, ended_by}
+use Rattle.pref_core.proofs.Common.{begun_by, added_by, twice_from, twice, is_change_count, is_commit, Line, among, has, missing, ended, is_formed, AreFresh, Entry}
 
 never : (b : Bool) → (b ≡ true → ⊥) → b ≡ false
 never true f = absurd (f refl)

@@ -1,24 +1,8 @@
 -- The slots of the rows that a call begins, chosen one after the other.
-use Rattle.std.proofs.Common.{◌≡◌, ℕ, suc, ◌+◌, ◌<◌, ◌≤◌, Bool, true, false, ◌&&◌, cond, List, [], ◌∷◌, ◌++◌, map, length, Option, Some, None, Result, Ok, Err, is_some, slice_set, refl, sym, ap, ◌∙◌, subst, arith}
-use Rattle.std.specs.List.{count_by}
-use Rattle.std.proofs.lemmas.List.{length-map, length-append, append-nil, append_assoc}
-use Rattle.std.proofs.lemmas.Bool.{le-ltb}
-use Rattle.pref_core.specs.declared.store.version.Version.{Version}
-use Rattle.pref_core.specs.declared.call.Call.{Call}
-use Rattle.pref_core.specs.declared.call.Op.{Op}
-use Rattle.pref_core.specs.declared.call.Outcome.{Outcome}
-use Rattle.pref_core.specs.declared.call.Outcome.TheVariants.{NoSuchRow}
-use Rattle.pref_sky.specs.declared.entry.Entry.{Entry}
-use Rattle.pref_core.specs.declared.changes.Change.{Change}
-use Rattle.pref_core.specs.declared.changes.Change.TheVariants.{Add, Set, Remove}
-use Rattle.pref_core.specs.Changes.{begun_by, begins_any}
-use Rattle.pref_core.specs.Table.{among}
-use Rattle.pref_core.specs.State.{changes_of, ended, begun, begins_row, is_change, missing, granted, succeeds}
-use Rattle.pref_core.specs.Slots.{Contents, begins, born, visible}
-use Rattle.pref_core.specs.Operations.{close, filled, placed, used, grown, is_free, outcome_at}
-use Rattle.pref_core.specs.Parts.{outcome_of}
-use Rattle.pref_core.specs.Places.{is_free_zone}
-use Rattle.pref_core.specs.Kept.{IsFreed, FindsFreed, is_open, zones_of}
+use Rattle.pref_core.proofs.Common.{◌≡◌, ℕ, suc, ◌+◌, ◌<◌, ◌≤◌, Bool, true, false, ◌&&◌, cond, List, [], ◌∷◌, ◌++◌, map, length, Option, Some, None, Result, Ok, Err, is_some, slice_set, refl, sym, ap}
+use Rattle.pref_core.proofs.Common.{◌∙◌, subst, arith, count_by, length-map, length-append, append-nil, append_assoc, le-ltb, Version, Call, Op, Outcome, NoSuchRow, Entry, Change, Add, Set, Remove}
+use Rattle.pref_core.proofs.Common.{begun_by, begins_any, among, changes_of, ended, begun, begins_row, is_change, missing, granted, succeeds, Contents, begins, born, visible, close, filled, placed}
+use Rattle.pref_core.proofs.Common.{used, grown, is_free, outcome_at, outcome_of, is_free_zone, IsFreed, FindsFreed, is_open, zones_of}
 use Rattle.pref_core.proofs.Changing.{begun_few}
 use Rattle.pref_core.proofs.Plans.{succeeds-fits}
 use Rattle.pref_core.proofs.Several.{count_grown, filled_snoc, free_still, some_left}

@@ -1,21 +1,7 @@
 -- The row of an id ends: one slot is written, and what is kept beside the slots goes along.
-use Rattle.std.proofs.Common.{◌≡◌, ℕ, zero, suc, ◌^◌, Bool, true, false, ◌&&◌, ◌||◌, eqb, List, [], ◌∷◌, map, set, Option, Some, None, slice_get, refl, sym, ap, ap₂, ◌∙◌, subst, arith, ⊎_elim}
-use Rattle.std.specs.List.{AllByRecursion}
-use Rattle.std.specs.Option.{option_map}
-use Rattle.std.proofs.lemmas.List.{map-set}
-use Rattle.std.proofs.lemmas.Option.{slice_get-map}
-use Rattle.std.proofs.lemmas.Bool.{le-leb, and_parts, eqb-true, eq-eqb, cases_eq, true≢false}
-use Rattle.pref_core.specs.declared.store.version.Version.{Version}
-use Rattle.pref_core.specs.declared.store.caller.Caller.{Caller}
-use Rattle.pref_core.specs.declared.store.places.Zone.{Zone}
-use Rattle.pref_core.specs.declared.store.places.Zone.TheVariants.{Live}
-use Rattle.pref_sky.specs.declared.entry.Entry.{Entry}
-use Rattle.pref_core.specs.Table.{among}
-use Rattle.pref_core.specs.Slots.{is_visible, born, IsWithin, EndsBy}
-use Rattle.pref_core.specs.Operations.{close, close_at}
-use Rattle.pref_core.specs.Places.{zone_of}
-use Rattle.pref_core.specs.Indexes.{is_row, row_at, IsPlaceOf}
-use Rattle.pref_core.specs.Links.{shown, ids_of, id_at, AreIds, AreLinks}
+use Rattle.pref_core.proofs.Common.{◌≡◌, ℕ, zero, suc, ◌^◌, Bool, true, false, ◌&&◌, ◌||◌, eqb, List, [], ◌∷◌, map, set, Option, Some, None, slice_get, refl, sym, ap, ap₂, ◌∙◌, subst, arith, ⊎_elim}
+use Rattle.pref_core.proofs.Common.{AllByRecursion, option_map, map-set, slice_get-map, le-leb, and_parts, eqb-true, eq-eqb, cases_eq, true≢false, Version, Caller, Zone, Live, Entry, among}
+use Rattle.pref_core.proofs.Common.{is_visible, born, IsWithin, EndsBy, close, close_at, zone_of, is_row, row_at, IsPlaceOf, shown, ids_of, id_at, AreIds, AreLinks}
 use Rattle.pref_core.proofs.Keys.{eqb_comm}
 use Rattle.pref_core.proofs.Zones.{holds_there, read_written, read_other, live_by, close_idle, has_row_at}
 use Rattle.pref_core.proofs.Linking.{shows_row, row_shown}

@@ -1,18 +1,8 @@
 -- After a commit the slots stand for the state after it: first as if there were always an empty slot, then in slots that are used again.
-use Rattle.std.proofs.Common.{◌≡◌, ℕ, suc, ◌+◌, ◌<◌, ◌≤◌, true, false, not, ◌||◌, ◌&&◌, cond, eqb, List, [], ◌∷◌, ◌++◌, map, Option, None, refl, sym, ap, ◌∙◌, subst, arith, ⊎_elim}
-use Rattle.std.specs.List.{AllByRecursion, AllZip}
-use Rattle.std.specs.List.Sorted.{IsPermutation}
-use Rattle.std.proofs.lemmas.List.Sorted.{list_any-IsPermutation, IsPermutation-trans, IsPermutation-sym, IsPermutation-cons, IsPermutation-middle}
-use Rattle.std.proofs.lemmas.Bool.{cases_lt, or_parts, or_from}
-use Rattle.pref_core.specs.declared.store.version.Version.{Version}
-use Rattle.pref_core.specs.declared.call.Call.{Call}
-use Rattle.pref_core.specs.declared.store.caller.Caller.{Caller}
-use Rattle.pref_core.specs.Table.{Line, among, put, without, with_rows, has, holds_key, IsOrdered}
-use Rattle.pref_sky.specs.declared.entry.Entry.{Entry}
-use Rattle.pref_core.specs.State.{State, Client, committed, is_change, is_formed, changes_of, ended, begun, added, missing}
-use Rattle.pref_core.specs.Slots.{Contents, StandsFor, StandsForClient, Shows, AreDifferent, IsWithin, visible, born}
-use Rattle.pref_core.specs.Operations.{close, grown}
-use Rattle.pref_core.specs.Kept.{AreFresh}
+use Rattle.pref_core.proofs.Common.{◌≡◌, ℕ, suc, ◌+◌, ◌<◌, ◌≤◌, true, false, not, ◌||◌, ◌&&◌, cond, eqb, List, [], ◌∷◌, ◌++◌, map, Option, None, refl, sym, ap, ◌∙◌, subst, arith, ⊎_elim}
+use Rattle.pref_core.proofs.Common.{AllByRecursion, AllZip, IsPermutation, list_any-IsPermutation, IsPermutation-trans, IsPermutation-sym, IsPermutation-cons, IsPermutation-middle, cases_lt, or_parts}
+use Rattle.pref_core.proofs.Common.{or_from, Version, Call, Caller, Line, among, put, without, with_rows, has, holds_key, IsOrdered, Entry, State, Client, committed, is_change, is_formed, changes_of}
+use Rattle.pref_core.proofs.Common.{ended, begun, added, missing, Contents, StandsFor, StandsForClient, Shows, AreDifferent, IsWithin, visible, born, close, grown, AreFresh}
 use Rattle.pref_core.proofs.Tables.{has-without, has_visible-new, IsOrdered-put}
 use Rattle.pref_core.proofs.Visible.{seen_born, put_permutes}
 use Rattle.pref_core.proofs.Changing.{ids_of, begun_fresh, found_all, formed_apart}

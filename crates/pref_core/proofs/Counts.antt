@@ -1,12 +1,6 @@
 -- How many changes a call makes, and how many rows they begin and add, one change after the other.
-use Rattle.std.proofs.Common.{◌≡◌, ℕ, zero, suc, ◌+◌, ◌<◌, ◌≤◌, Bool, true, false, ◌||◌, cond, eqb, List, [], ◌∷◌, ◌++◌, length, take, drop, get_or, slice_get, add-one, Some, refl, sym, ap, ◌∙◌, arith, nat_lt}
-use Rattle.std.proofs.Math.Seq.{drop-cons}
-use Rattle.std.proofs.lemmas.Bool.{lt-ltb, eq-eqb, or_right}
-use Rattle.std.proofs.lemmas.List.{take-append-drop}
-use Rattle.pref_core.specs.declared.changes.Change.{Change}
-use Rattle.pref_core.specs.declared.changes.Change.TheVariants.{Add, Set, Remove}
-use Rattle.pref_core.specs.Changes.{ended_by, begun_by, added_by, begins_any}
-use Rattle.pref_core.specs.Table.{among}
+use Rattle.pref_core.proofs.Common.{◌≡◌, ℕ, zero, suc, ◌+◌, ◌<◌, ◌≤◌, Bool, true, false, ◌||◌, cond, eqb, List, [], ◌∷◌, ◌++◌, length, take, drop, get_or, slice_get, add-one, Some, refl, sym, ap, ◌∙◌}
+use Rattle.pref_core.proofs.Common.{arith, nat_lt, drop-cons, lt-ltb, eq-eqb, or_right, take-append-drop, Change, Add, Set, Remove, ended_by, begun_by, added_by, begins_any, among}
 use Rattle.pref_core.proofs.Changing.{ended_by-append, drop_at}
 
 pub drop_item : {X : Type 0} (xs : List X) (at : ℕ) (x other : X) → x ≡ get_or xs at other → at < length xs → drop at xs ≡ x ∷ drop (at + 1) xs

@@ -1,32 +1,13 @@
 -- Each part of a machine does its act.
-use Rattle.std.proofs.Common.{◌≡◌, ℕ, ◌-◌, ◌&&◌, true, false, List, length, Option, Some, None, is_some, Ok, Err, Result, IfErr, MatchResult, ⊎_elim, inr, nat_lt, ap, refl, sym, ◌∙◌, subst}
+use Rattle.pref_core.proofs.Common.{◌≡◌, ℕ, ◌-◌, ◌&&◌, true, false, List, length, Option, Some, None, is_some, Ok, Err, Result, IfErr, MatchResult, ⊎_elim, inr, nat_lt, ap, refl, sym, ◌∙◌, subst}
+use Rattle.pref_core.proofs.Common.{option_map, Ranked, Question, Call, CallInsert, CallUpdate, CallDelete, CallCommit, Begin, Finish, Abandon, Change, Op, CoreFault, OutOfMemory, Act, ActInsert}
+use Rattle.pref_core.proofs.Common.{ActUpdate, ActDelete, ActCommit, ActBegin, ActScan, ActFinish, ActAbandon, ActGet, ActRoom, Event, Reply, Inserted, Updated, Deleted, Committed, Begun, Left}
+use Rattle.pref_core.proofs.Common.{Answer, Abandoned, Room, Refused, Row, AreAllowed, blocks, Line, line_of, State, is_change, succeeds, added, seat, with_seat, needed, System, Step, step}
+use Rattle.pref_core.proofs.Common.{told_of_commit, Contents, StandsFor, IsIndexOf, adds, applied, IsPlan, Scan, begin, Running, StandsForSystem, may_want_memory, is_refusal, Tells, Does, as_reply}
+use Rattle.pref_core.proofs.Common.{without_event, Steps, IsInOrder, Changes, told_of, NextIsNewAt, ScansAt, AnswersAt, is_begin}
 use Rattle.std.specs.Global.{Vec}
-use Rattle.std.specs.Option.{option_map}
-use Rattle.pref_sky.specs.declared.entry.Ranked.{Ranked}
-use Rattle.pref_term.specs.Question.{Question}
-use Rattle.pref_core.specs.declared.call.Call.{Call}
-use Rattle.pref_core.specs.declared.call.Call.TheVariants.{Insert as CallInsert, Update as CallUpdate, Delete as CallDelete, Commit as CallCommit, Begin, Finish, Abandon}
-use Rattle.pref_core.specs.declared.changes.Change.{Change}
-use Rattle.pref_core.specs.declared.call.Op.{Op}
-use Rattle.pref_core.specs.declared.fault.CoreFault.{CoreFault}
-use Rattle.pref_core.specs.declared.fault.CoreFault.TheVariants.{OutOfMemory}
-use Rattle.pref_core.specs.declared.event.Act.{Act}
-use Rattle.pref_core.specs.declared.event.Act.TheVariants.{Insert as ActInsert, Update as ActUpdate, Delete as ActDelete, Commit as ActCommit, Begin as ActBegin, Scan as ActScan, Finish as ActFinish, Abandon as ActAbandon, Get as ActGet, Room as ActRoom}
-use Rattle.pref_core.specs.declared.event.Event.{Event}
-use Rattle.pref_core.specs.declared.event.Reply.{Reply}
-use Rattle.pref_core.specs.declared.event.Reply.TheVariants.{Inserted, Updated, Deleted, Committed, Begun, Left, Answer, Abandoned, Room, Refused}
 use Rattle.pref_core.specs.declared.event.StepFault.{StepFault}
-use Rattle.pref_core.specs.Rows.{Row}
-use Rattle.pref_core.specs.Limits.{AreAllowed, blocks}
-use Rattle.pref_core.specs.Table.{Line, line_of}
-use Rattle.pref_core.specs.State.{State, is_change, succeeds, added, seat, with_seat, needed}
-use Rattle.pref_core.specs.Step.{System, Step, step, told_of_commit}
-use Rattle.pref_core.specs.Slots.{Contents, StandsFor}
-use Rattle.pref_core.specs.Indexes.{IsIndexOf, adds}
-use Rattle.pref_core.specs.Operations.{applied, IsPlan}
-use Rattle.pref_core.specs.Scans.{Scan, begin}
-use Rattle.pref_core.specs.Systems.{Running, StandsForSystem, may_want_memory, is_refusal, Tells, Does, as_reply, without_event, Steps}
-use Rattle.pref_core.specs.Parts.{IsInOrder, Changes, change_of, told_of, NextIsNewAt, ScansAt, AnswersAt, is_begin}
+use Rattle.pref_core.specs.Parts.{change_of}
 use Rattle.pref_core.proofs.Legal.{plans_in}
 use Rattle.pref_core.proofs.Steps.{PlansAlways, running_of, adding_not_refused, change_tells, change_refused, begin_tells, begin_refused}
 use Rattle.pref_core.proofs.Reindexing.{indexed_still}

@@ -1,26 +1,9 @@
 -- What becomes of the zones where an open query begins or ends.
-use Rattle.std.proofs.Common.{◌≡◌, ℕ, zero, suc, ◌+◌, ◌-◌, ◌^◌, ◌<◌, ◌≤◌, ◌⊎◌, inl, inr, Bool, true, false, cond, nat_lt, List, [], ◌∷◌, ◌++◌, map, length, set, replicate, Option, Some, None, is_some, slice_get, refl, sym, ap, ap₂, ◌∙◌, subst, arith}
-use Rattle.std.specs.List.{AllByRecursion, AllZip}
-use Rattle.std.specs.Option.{option_to_list}
-use Rattle.std.proofs.lemmas.List.{length-set}
-use Rattle.std.proofs.lemmas.Option.{slice_get_within}
-use Rattle.std.proofs.lemmas.Bool.{le-leb, ne_eqb}
-use Rattle.pref_core.specs.declared.store.version.Version.{Version}
-use Rattle.pref_core.specs.declared.store.caller.Caller.{Caller}
-use Rattle.pref_core.specs.declared.store.places.Zone.{Zone}
-use Rattle.pref_core.specs.declared.store.places.Zone.TheVariants.{Free, Ended, Live}
-use Rattle.pref_core.specs.declared.call.Call.{Call}
-use Rattle.pref_core.specs.declared.call.Call.TheVariants.{Insert, Update, Delete, Commit, Begin, Finish, Abandon}
-use Rattle.pref_core.specs.declared.fault.CoreFault.TheVariants.{QueryOpen, Spent}
-use Rattle.pref_core.specs.declared.call.Op.{Op}
-use Rattle.pref_core.specs.Rows.{Row}
-use Rattle.pref_core.specs.State.{refusal_of, after}
-use Rattle.pref_core.specs.Slots.{Contents, is_needed, StandsFor, IsWithin, EndsBy, opening_slots}
-use Rattle.pref_core.specs.Operations.{begin_after, callers_after, refusal_at, is_next, slots_after, stepped, applied}
-use Rattle.pref_core.specs.Stability.{is_end}
-use Rattle.pref_core.specs.Places.{kept_from, zone_of, number_of, is_kept_by, MayBecome}
-use Rattle.pref_core.specs.Bounds.{IsBounded}
-use Rattle.pref_core.specs.Kept.{IsKept, zones_of}
+use Rattle.pref_core.proofs.Common.{◌≡◌, ℕ, zero, suc, ◌+◌, ◌-◌, ◌^◌, ◌<◌, ◌≤◌, ◌⊎◌, inl, inr, Bool, true, false, cond, nat_lt, List, [], ◌∷◌, ◌++◌, map, length, set, replicate, Option, Some, None}
+use Rattle.pref_core.proofs.Common.{is_some, slice_get, refl, sym, ap, ap₂, ◌∙◌, subst, arith, AllByRecursion, AllZip, option_to_list, length-set, slice_get_within, le-leb, ne_eqb, Version, Caller}
+use Rattle.pref_core.proofs.Common.{Zone, Free, Ended, Live, Call, Insert, Update, Delete, Commit, Begin, Finish, Abandon, QueryOpen, Spent, Op, Row, refusal_of, after, Contents, is_needed, StandsFor}
+use Rattle.pref_core.proofs.Common.{IsWithin, EndsBy, opening_slots, begin_after, callers_after, refusal_at, is_next, slots_after, stepped, applied, is_end, kept_from, zone_of, number_of, is_kept_by}
+use Rattle.pref_core.proofs.Common.{MayBecome, IsBounded, IsKept, zones_of}
 use Rattle.pref_core.proofs.Applied.{stepped_stands}
 use Rattle.pref_core.proofs.Bounds.{IsBounded-stepped}
 

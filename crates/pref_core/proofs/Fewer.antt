@@ -1,13 +1,7 @@
 -- Fewer keys are needed where each is needed before.
-use Rattle.std.proofs.Common.{◌≡◌, ℕ, ◌≤◌, Bool, true, false, not, ◌||◌, cond, List, [], ◌∷◌, ◌++◌, length, suc, subst, refl, sym, ap, ◌∙◌, arith}
-use Rattle.std.proofs.lemmas.Bool.{or_right}
-use Rattle.pref_core.specs.Table.{Line, Key, same_key, holds_key, keys, different, with_rows, without, among}
-use Rattle.pref_core.specs.State.{found_tables, ended, changes_of}
-use Rattle.pref_core.specs.declared.changes.Change.{Change}
-use Rattle.pref_core.specs.declared.changes.Change.TheVariants.{Add, Set, Remove}
-use Rattle.pref_core.specs.Changes.{begun_by, begins_any}
-use Rattle.pref_core.specs.Slots.{AreDifferent}
-use Rattle.pref_core.specs.Laws.{DeletesNeedNoMore, EndsNeedNoMore}
+use Rattle.pref_core.proofs.Common.{◌≡◌, ℕ, ◌≤◌, Bool, true, false, not, ◌||◌, cond, List, [], ◌∷◌, ◌++◌, length, suc, subst, refl, sym, ap, ◌∙◌, arith, or_right, Line, Key, same_key, holds_key, keys}
+use Rattle.pref_core.proofs.Common.{different, with_rows, without, among, found_tables, ended, changes_of, Change, Add, Set, Remove, begun_by, begins_any, AreDifferent, DeletesNeedNoMore}
+use Rattle.pref_core.proofs.Common.{EndsNeedNoMore}
 use Rattle.pref_core.proofs.Counting.{others, holds_key-others-at, AreDifferent-others, length-others, same_key_refl, same_key-true, holds_key-different, AreDifferent-different, holds_key-keys-append}
 
 pub fewer : (xs ys : List Key) → AreDifferent xs → AreDifferent ys → ((key : Key) → holds_key xs key ≡ true → holds_key ys key ≡ true) → length xs ≤ length ys

@@ -1,27 +1,10 @@
 -- The rows that a call begins, in their slots, one after the other.
-use Rattle.std.proofs.Common.{◌≡◌, ℕ, suc, ◌+◌, ◌^◌, ◌<◌, Bool, true, false, not, ◌&&◌, ◌||◌, cond, eqb, nat_eq, List, [], ◌∷◌, ◌++◌, map, length, drop, set, Option, Some, None, is_some, slice_get, get_or, unwrap_or, refl, sym, ap, ap₂, ◌∙◌, subst, arith, ⊎_elim}
-use Rattle.std.specs.List.{AllByRecursion}
-use Rattle.std.proofs.lemmas.List.{length-map, length-set, map-set, set-set}
-use Rattle.std.proofs.Math.Seq.{map-set_same}
-use Rattle.std.specs.Option.{option_map}
-use Rattle.std.proofs.lemmas.Option.{slice_get_within, slice_get-get_or, slice_get-map}
-use Rattle.std.proofs.lemmas.Bool.{le-leb, eqb-true, eqb-false, ne_eqb, cases_eq, or_parts, and_parts, true≢false}
-use Rattle.pref_core.specs.declared.store.version.Version.{Version}
-use Rattle.pref_core.specs.declared.store.places.Zone.{Zone}
-use Rattle.pref_core.specs.declared.store.places.Zone.TheVariants.{Free, Ended, Live}
-use Rattle.pref_sky.specs.declared.entry.Entry.{Entry}
-use Rattle.pref_core.specs.Table.{among, has}
-use Rattle.pref_core.specs.declared.call.Op.{Op}
-use Rattle.pref_core.specs.declared.call.Call.{Call}
-use Rattle.pref_core.specs.declared.call.Call.TheVariants.{Update}
-use Rattle.pref_core.specs.declared.call.Outcome.{Outcome}
-use Rattle.pref_core.specs.State.{State, ended, begun, begins_row, added, missing, granted, is_change, succeeds}
-use Rattle.pref_core.specs.Slots.{Contents, StandsFor, IsWithin, EndsBy, is_visible, begins, stamps, born, visible}
-use Rattle.pref_core.specs.Operations.{close, close_at, grown, is_free, filled, outcome_at, is_next, slots_after, used}
-use Rattle.pref_core.specs.Places.{is_free_zone, free_at, zone_of}
-use Rattle.pref_core.specs.Indexes.{is_row, row_at, IsPlaceOf}
-use Rattle.pref_core.specs.Links.{shown, ids_of, id_at, AreIds, AreLinks}
-use Rattle.pref_core.specs.Kept.{IsTracked, AreFresh, with_slots, are_free}
+use Rattle.pref_core.proofs.Common.{◌≡◌, ℕ, suc, ◌+◌, ◌^◌, ◌<◌, Bool, true, false, not, ◌&&◌, ◌||◌, cond, eqb, nat_eq, List, [], ◌∷◌, ◌++◌, map, length, drop, set, Option, Some, None, is_some}
+use Rattle.pref_core.proofs.Common.{slice_get, get_or, unwrap_or, refl, sym, ap, ap₂, ◌∙◌, subst, arith, ⊎_elim, AllByRecursion, length-map, length-set, map-set, set-set, map-set_same, option_map}
+use Rattle.pref_core.proofs.Common.{slice_get_within, slice_get-get_or, slice_get-map, le-leb, eqb-true, eqb-false, ne_eqb, cases_eq, or_parts, and_parts, true≢false, Version, Zone, Free, Ended, Live}
+use Rattle.pref_core.proofs.Common.{Entry, among, has, Op, Call, Update, Outcome, State, ended, begun, begins_row, added, missing, granted, is_change, succeeds, Contents, StandsFor, IsWithin, EndsBy}
+use Rattle.pref_core.proofs.Common.{is_visible, begins, stamps, born, visible, close, close_at, grown, is_free, filled, outcome_at, is_next, slots_after, used, is_free_zone, free_at, zone_of, is_row}
+use Rattle.pref_core.proofs.Common.{row_at, IsPlaceOf, shown, ids_of, id_at, AreIds, AreLinks, IsTracked, AreFresh, with_slots, are_free}
 use Rattle.pref_core.proofs.Applied.{IsAllowed-from, succeeds-missing}
 use Rattle.pref_core.proofs.Chains.{id_at-here, id_at-there}
 use Rattle.pref_core.proofs.Counts.{drop_item, drop_inside}

@@ -1,14 +1,8 @@
 -- The needed versions are within the capacity after each legal history.
-use Rattle.std.proofs.Common.{◌≡◌, ℕ, zero, suc, ◌≤◌, Bool, true, false, ◌||◌, cond, List, [], ◌∷◌, ◌++◌, length, Option, Some, None, slice_get, slice_set, ⊎_elim, refl, sym, ap, ◌∙◌, arith}
-use Rattle.std.proofs.lemmas.Bool.{or_cases, or_left, or_right}
-use Rattle.std.proofs.lemmas.List.Sums.{count_by-le-length}
-use Rattle.pref_core.specs.declared.call.Call.{Call}
-use Rattle.pref_core.specs.declared.call.Call.TheVariants.{Insert, Update, Delete, Commit, Begin, Finish, Abandon}
-use Rattle.pref_core.specs.Table.{Line, Key, holds_key, keys}
-use Rattle.pref_core.specs.State.{State, Client, Snapshot, found_tables, needed, is_change, missing, ended, granted, outcome, succeeds, begins_row, committed, begun_after, counted, after}
-use Rattle.pref_core.specs.Parts.{outcome_of}
-use Rattle.pref_core.specs.Slots.{is_needed, stamps}
-use Rattle.pref_core.specs.Laws.{NeededFits, NeededFitsSlots}
+use Rattle.pref_core.proofs.Common.{◌≡◌, ℕ, zero, suc, ◌≤◌, Bool, true, false, ◌||◌, cond, List, [], ◌∷◌, ◌++◌, length, Option, Some, None, slice_get, slice_set, ⊎_elim, refl, sym, ap, ◌∙◌, arith}
+use Rattle.pref_core.proofs.Common.{or_cases, or_left, or_right, count_by-le-length, Call, Insert, Update, Delete, Commit, Begin, Finish, Abandon, Line, Key, holds_key, keys, State, Client, Snapshot}
+use Rattle.pref_core.proofs.Common.{found_tables, needed, is_change, missing, ended, granted, outcome, succeeds, begins_row, committed, begun_after, counted, after, outcome_of, is_needed, stamps}
+use Rattle.pref_core.proofs.Common.{NeededFits, NeededFitsSlots}
 use Rattle.pref_core.proofs.Counting.{length-needed, holds_key-different, AreDifferent-different, holds_key-keys-append}
 use Rattle.pref_core.proofs.Fewer.{fewer, ends_need_no_more}
 use Rattle.pref_core.proofs.Plans.{succeeds-fits}

@@ -1,22 +1,9 @@
 -- The slots that ended rows leave free.
-use Rattle.std.proofs.Common.{◌≡◌, ℕ, zero, suc, ◌+◌, ◌<◌, ◌≤◌, Bool, true, false, ◌&&◌, ◌||◌, cond, eqb, List, [], ◌∷◌, ◌++◌, map, length, set, Option, Some, None, slice_get, refl, sym, ap, ◌∙◌, subst, arith, ⊎_elim}
-use Rattle.std.specs.List.{count_by, filter}
-use Rattle.std.specs.Option.{option_map}
-use Rattle.std.proofs.lemmas.List.{length-map, length-set}
-use Rattle.std.proofs.lemmas.List.Elements.{filter-append}
-use Rattle.std.proofs.lemmas.Option.{slice_get-map, slice_get_within}
-use Rattle.std.proofs.lemmas.Bool.{le-leb, eqb-true, eq-eqb, cases_eq, or_cases, or_right, and_parts, true≢false}
-use Rattle.pref_core.specs.declared.store.version.Version.{Version}
-use Rattle.pref_core.specs.declared.store.places.Zone.{Zone}
-use Rattle.pref_core.specs.declared.store.places.Zone.TheVariants.{Free}
-use Rattle.pref_core.specs.Table.{among}
-use Rattle.pref_core.specs.State.{State, missing}
-use Rattle.pref_core.specs.Slots.{Contents, StandsFor, IsWithin, is_visible, visible, begins}
-use Rattle.pref_core.specs.Operations.{close, is_free}
-use Rattle.pref_core.specs.Places.{is_free_zone, is_spare, free_at, zone_of}
-use Rattle.pref_core.specs.Bounds.{IsBounded}
-use Rattle.pref_core.specs.Indexes.{is_row, row_at, IsPlaceOf}
-use Rattle.pref_core.specs.Kept.{AreOldPlaces, frees_at, is_open, IsFreed}
+use Rattle.pref_core.proofs.Common.{◌≡◌, ℕ, zero, suc, ◌+◌, ◌<◌, ◌≤◌, Bool, true, false, ◌&&◌, ◌||◌, cond, eqb, List, [], ◌∷◌, ◌++◌, map, length, set, Option, Some, None, slice_get, refl, sym, ap}
+use Rattle.pref_core.proofs.Common.{◌∙◌, subst, arith, ⊎_elim, count_by, option_map, length-map, length-set, filter-append, slice_get-map, slice_get_within, le-leb, eqb-true, eq-eqb, cases_eq}
+use Rattle.pref_core.proofs.Common.{or_cases, or_right, and_parts, true≢false, Version, Zone, Free, among, State, missing, Contents, StandsFor, IsWithin, is_visible, visible, begins, close, is_free}
+use Rattle.pref_core.proofs.Common.{is_free_zone, is_spare, free_at, zone_of, IsBounded, is_row, row_at, IsPlaceOf, AreOldPlaces, frees_at, is_open, IsFreed}
+use Rattle.std.specs.List.{filter}
 use Rattle.pref_core.proofs.Changing.{AreApart}
 use Rattle.pref_core.proofs.Closing.{row_alive}
 use Rattle.pref_core.proofs.Keys.{within-close}

@@ -1,14 +1,7 @@
 -- The test of an op at slots is legality in the state that they stand for.
-use Rattle.std.proofs.Common.{◌≡◌, ℕ, suc, Bool, true, false, not, cond, List, length, Option, Some, None, Ok, Err, Result, is_some, refl, sym, ap, ◌∙◌}
-use Rattle.std.proofs.lemmas.Bool.{and_from, eq-eqb}
-use Rattle.pref_core.specs.declared.store.version.Version.{Version}
-use Rattle.pref_core.specs.declared.store.caller.Caller.{Caller}
-use Rattle.pref_core.specs.declared.call.Call.{Call}
-use Rattle.pref_core.specs.declared.fault.CoreFault.{CoreFault}
-use Rattle.pref_core.specs.declared.call.Op.{Op}
-use Rattle.pref_core.specs.State.{State, after, seat, refusal_of, is_formed}
-use Rattle.pref_core.specs.Slots.{Contents, StandsFor, caller_calls}
-use Rattle.pref_core.specs.Operations.{IsNext, IsLegal, IsPlan, is_next, slots_after, stepped, applied, same_number, same_outcome, outcome_at, refusal_at, Plans, PlansIn, AppliesIn}
+use Rattle.pref_core.proofs.Common.{◌≡◌, ℕ, suc, Bool, true, false, not, cond, List, length, Option, Some, None, Ok, Err, Result, is_some, refl, sym, ap, ◌∙◌, and_from, eq-eqb, Version, Caller, Call}
+use Rattle.pref_core.proofs.Common.{CoreFault, Op, State, after, seat, refusal_of, is_formed, Contents, StandsFor, caller_calls, IsNext, IsLegal, IsPlan, is_next, slots_after, stepped, applied}
+use Rattle.pref_core.proofs.Common.{same_number, same_outcome, outcome_at, refusal_at, Plans, PlansIn, AppliesIn}
 use Rattle.pref_core.proofs.Outcomes.{same_calls, same_refusal, same_outcome_at}
 use Rattle.pref_core.proofs.Applied.{IsAllowed-from, stepped_stands}
 use Rattle.pref_core.proofs.Plans.{same_outcome_refl}

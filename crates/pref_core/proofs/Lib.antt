@@ -1,3 +1,4 @@
+pub mod Common
 pub mod WorkedRows
 pub mod Permutations
 pub mod Arranging

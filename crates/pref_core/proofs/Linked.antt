@@ -1,21 +1,8 @@
 -- How the ids that a store's slots show go along with a commit.
-use Rattle.std.proofs.Common.{◌≡◌, ℕ, zero, suc, ◌+◌, ◌^◌, ◌<◌, ◌≤◌, Bool, true, false, not, cond, eqb, List, [], ◌∷◌, map, set, Option, Some, None, refl, sym, ap, ap₂, ◌∙◌, subst, arith, ⊎_elim}
-use Rattle.std.specs.List.{AllByRecursion}
-use Rattle.std.proofs.lemmas.List.{map-set}
-use Rattle.std.proofs.lemmas.List.Sorted.{length_permutation}
-use Rattle.std.proofs.lemmas.Bool.{le-leb, cases_lt, true≢false}
-use Rattle.pref_core.specs.declared.store.version.Version.{Version}
-use Rattle.pref_core.specs.declared.store.places.Zone.{Zone}
-use Rattle.pref_core.specs.declared.call.Call.{Call}
-use Rattle.pref_sky.specs.declared.entry.Entry.{Entry}
-use Rattle.pref_core.specs.Table.{has}
-use Rattle.pref_core.specs.State.{State, changes_of, ended, begun, added, missing, is_formed}
-use Rattle.pref_core.specs.Slots.{Contents, StandsFor, IsWithin, EndsBy, is_visible, is_needed, visible, born}
-use Rattle.pref_core.specs.Operations.{close, is_free}
-use Rattle.pref_core.specs.Bounds.{IsBounded}
-use Rattle.pref_core.specs.Indexes.{row_at, IsPlaceOf}
-use Rattle.pref_core.specs.Links.{shown, ids_of, id_at, AreIds, AreLinks}
-use Rattle.pref_core.specs.Kept.{IsTracked, AreFresh}
+use Rattle.pref_core.proofs.Common.{◌≡◌, ℕ, zero, suc, ◌+◌, ◌^◌, ◌<◌, ◌≤◌, Bool, true, false, not, cond, eqb, List, [], ◌∷◌, map, set, Option, Some, None, refl, sym, ap, ap₂, ◌∙◌, subst, arith}
+use Rattle.pref_core.proofs.Common.{⊎_elim, AllByRecursion, map-set, length_permutation, le-leb, cases_lt, true≢false, Version, Zone, Call, Entry, has, State, changes_of, ended, begun, added, missing}
+use Rattle.pref_core.proofs.Common.{is_formed, Contents, StandsFor, IsWithin, EndsBy, is_visible, is_needed, visible, born, close, is_free, IsBounded, row_at, IsPlaceOf, shown, ids_of, id_at, AreIds}
+use Rattle.pref_core.proofs.Common.{AreLinks, IsTracked, AreFresh}
 use Rattle.pref_core.proofs.Bounds.{next_id-small}
 use Rattle.pref_core.proofs.Changing.{begun_fresh, found_all, formed_apart}
 use Rattle.pref_core.proofs.Indexing.{ended_place}

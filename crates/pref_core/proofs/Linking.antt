@@ -1,10 +1,8 @@
 -- Links, as a row is looked for, added and removed.
-use Rattle.std.proofs.Common.{◌≡◌, ℕ, zero, suc, ◌+◌, ◌<◌, ◌≤◌, ◌⊎◌, ◌&&◌, Bool, true, false, cond, eqb, List, [], ◌∷◌, length, Option, Some, None, refl, sym, ap, ◌∙◌, subst, arith, ⊎_elim, inl, inr}
-use Rattle.std.proofs.lemmas.Bool.{cases_eq, cases_lt, ltb-true, ltb-false, eqb-true, eq-eqb, and_parts}
-use Rattle.pref_core.specs.declared.store.version.Version.{Version}
-use Rattle.pref_core.specs.Slots.{is_visible}
-use Rattle.pref_core.specs.Indexes.{row_at}
-use Rattle.pref_core.specs.Links.{ids_of, id_at, is_above, AreIds, IsNext, LeadsTo, IsNode, AreLinked, IsOnWay, rank, IsBefore}
+use Rattle.pref_core.proofs.Common.{◌≡◌, ℕ, zero, suc, ◌+◌, ◌<◌, ◌≤◌, ◌⊎◌, ◌&&◌, Bool, true, false, cond, eqb, List, [], ◌∷◌, length, Option, Some, None, refl, sym, ap, ◌∙◌, subst, arith, ⊎_elim, inl}
+use Rattle.pref_core.proofs.Common.{inr, cases_eq, cases_lt, ltb-true, ltb-false, eqb-true, eq-eqb, and_parts, Version, is_visible, row_at, ids_of, id_at, is_above, AreIds, LeadsTo, IsNode, AreLinked}
+use Rattle.pref_core.proofs.Common.{IsOnWay, rank, IsBefore}
+use Rattle.pref_core.specs.Links.{IsNext}
 
 pub some_same : (a b : ℕ) → ◌≡◌ {A = Option ℕ} (Some a) (Some b) → a ≡ b
 some_same a b e = cc

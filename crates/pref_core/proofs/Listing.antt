@@ -1,12 +1,7 @@
 -- Which places are free, by the order of places.
-use Rattle.std.proofs.Common.{◌≡◌, ℕ, zero, suc, ◌+◌, ◌<◌, ◌≤◌, nat_lt, Bool, true, false, ◌||◌, eqb, List, [], ◌∷◌, map, length, take, get_or, Option, Some, None, slice_get, refl, sym, ap, ◌∙◌, subst, arith, ⊎_elim}
-use Rattle.std.specs.Option.{option_map}
-use Rattle.std.proofs.lemmas.Option.{slice_get_within, slice_get-map, slice_get-get_or, get_or_from_slice_get}
-use Rattle.std.proofs.lemmas.Bool.{eqb-true, eq-eqb, or_cases, or_right}
-use Rattle.pref_core.specs.declared.store.places.Zone.{Zone}
-use Rattle.pref_core.specs.declared.store.places.Zone.TheVariants.{Free, Ended, Live}
-use Rattle.pref_core.specs.Places.{numbered, number_at, zone_at, is_free_zone, free_at, IsArranged}
-use Rattle.pref_core.specs.Table.{among}
+use Rattle.pref_core.proofs.Common.{◌≡◌, ℕ, zero, suc, ◌+◌, ◌<◌, ◌≤◌, nat_lt, Bool, true, false, ◌||◌, eqb, List, [], ◌∷◌, map, length, take, get_or, Option, Some, None, slice_get, refl, sym, ap, ◌∙◌}
+use Rattle.pref_core.proofs.Common.{subst, arith, ⊎_elim, option_map, slice_get_within, slice_get-map, slice_get-get_or, get_or_from_slice_get, eqb-true, eq-eqb, or_cases, or_right, Zone, Free, Ended}
+use Rattle.pref_core.proofs.Common.{Live, numbered, number_at, zone_at, is_free_zone, free_at, IsArranged, among}
 use Rattle.pref_core.proofs.Arranging.{number_past, number_below, number_is, number_here, free_number, zone_free, free_from}
 
 -- The free places are the first ones of the order.

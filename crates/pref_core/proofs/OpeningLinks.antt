@@ -1,15 +1,10 @@
 -- The links of a store as it is opened.
-use Rattle.std.proofs.Common.{◌≡◌, ℕ, zero, suc, ◌+◌, ◌-◌, ◌%◌, ◌^◌, ◌<◌, ◌≤◌, ◌++◌, Bool, true, false, cond, nat_lt, List, [], ◌∷◌, map, length, replicate, get_or, slice_index, Option, Some, None, refl, sym, ap, ap₂, ◌∙◌, subst, arith, ⊎_elim}
-use Rattle.std.specs.List.{range_with_len}
+use Rattle.pref_core.proofs.Common.{◌≡◌, ℕ, zero, suc, ◌+◌, ◌-◌, ◌%◌, ◌^◌, ◌<◌, ◌≤◌, ◌++◌, Bool, true, false, cond, nat_lt, List, [], ◌∷◌, map, length, replicate, get_or, slice_index, Option, Some}
+use Rattle.pref_core.proofs.Common.{None, refl, sym, ap, ap₂, ◌∙◌, subst, arith, ⊎_elim, range_with_len, ltb-true, ltb-false, lt-ltb, le-ltb, le-leb, length-append, length-replicate, get_or-replicate}
+use Rattle.pref_core.proofs.Common.{get_or-append-add, get_or-map-range_with_len, length-map-range_with_len, Version, Row, opening_slots, shown, ids_of, home_of, id_at, LeadsTo, AreLinked, AreLinks}
+use Rattle.pref_core.proofs.Common.{opening_ids, opening_link}
 use Rattle.std.proofs.Math.Nat.{mod-eq_of_lt}
 use Rattle.std.proofs.Math.ListN.{get_or-append}
-use Rattle.std.proofs.lemmas.Bool.{ltb-true, ltb-false, lt-ltb, le-ltb, le-leb}
-use Rattle.std.proofs.lemmas.List.{length-append, length-replicate, get_or-replicate, get_or-append-add}
-use Rattle.std.proofs.lemmas.List.FromFn.{get_or-map-range_with_len, length-map-range_with_len}
-use Rattle.pref_core.specs.declared.store.version.Version.{Version}
-use Rattle.pref_core.specs.Rows.{Row}
-use Rattle.pref_core.specs.Slots.{opening_slots}
-use Rattle.pref_core.specs.Links.{shown, ids_of, home_of, id_at, LeadsTo, AreLinked, AreLinks, opening_ids, opening_link}
 use Rattle.pref_core.proofs.Linking.{some_same}
 
 opened : (limit capacity rows : ℕ) (homes : ℕ → ℕ) (ids : ℕ → Option ℕ) (links : ℕ → ℕ) → rows ≤ capacity → capacity < limit

@@ -1,24 +1,9 @@
 -- An index follows the store through each op that is done.
-use Rattle.std.proofs.Common.{◌≡◌, ℕ, suc, ◌+◌, ◌<◌, ◌≤◌, Bool, true, false, ◌&&◌, ◌||◌, cond, eqb, nat_le, nat_lt, List, [], ◌∷◌, map, length, set, drop, Option, Some, None, is_some, inl, inr, refl, sym, ap, ◌∙◌, subst, arith}
-use Rattle.std.specs.List.{AllByRecursion}
-use Rattle.std.proofs.lemmas.Bool.{eqb-true, ne_eqb, le-leb, lt-ltb, ltb-true, ltb-false, or_right, and_from, and_parts, true≢false}
-use Rattle.pref_core.specs.declared.store.version.Version.{Version}
-use Rattle.pref_core.specs.declared.changes.Change.{Change}
-use Rattle.pref_core.specs.declared.changes.Change.TheVariants.{Add, Set, Remove}
-use Rattle.pref_core.specs.declared.call.Call.{Call}
-use Rattle.pref_core.specs.declared.call.Call.TheVariants.{Insert, Update, Delete, Commit, Begin, Finish, Abandon}
-use Rattle.pref_core.specs.declared.call.Outcome.{Outcome}
-use Rattle.pref_core.specs.declared.call.Outcome.TheVariants.{Added, Done, NoSuchRow, Full}
-use Rattle.pref_core.specs.declared.call.Op.{Op}
-use Rattle.pref_sky.specs.declared.entry.Entry.{Entry}
-use Rattle.pref_core.specs.Rows.{Row}
-use Rattle.pref_core.specs.Changes.{ended_by, begun_by, added_by}
-use Rattle.pref_core.specs.Table.{among, has}
-use Rattle.pref_core.specs.State.{missing, granted, is_change, succeeds, added, begins_row, changes_of, ended, begun}
-use Rattle.pref_core.specs.Parts.{outcome_of}
-use Rattle.pref_core.specs.Slots.{Contents, IsWithin, visible, begins, born}
-use Rattle.pref_core.specs.Operations.{close, is_free, filled, used, grown, slots_after, is_next, applied}
-use Rattle.pref_core.specs.Indexes.{slot_of, Points, PointsAll, given, added_rows, moved_rows, LacksFrom, adds, IsPlaceOf, IsIndexOf}
+use Rattle.pref_core.proofs.Common.{◌≡◌, ℕ, suc, ◌+◌, ◌<◌, ◌≤◌, Bool, true, false, ◌&&◌, ◌||◌, cond, eqb, nat_le, nat_lt, List, [], ◌∷◌, map, length, set, drop, Option, Some, None, is_some, inl, inr}
+use Rattle.pref_core.proofs.Common.{refl, sym, ap, ◌∙◌, subst, arith, AllByRecursion, eqb-true, ne_eqb, le-leb, lt-ltb, ltb-true, ltb-false, or_right, and_from, and_parts, true≢false, Version, Change}
+use Rattle.pref_core.proofs.Common.{Add, Set, Remove, Call, Insert, Update, Delete, Commit, Begin, Finish, Abandon, Outcome, Added, Done, NoSuchRow, Full, Op, Entry, Row, ended_by, begun_by, added_by}
+use Rattle.pref_core.proofs.Common.{among, has, missing, granted, is_change, succeeds, added, begins_row, changes_of, ended, begun, outcome_of, Contents, IsWithin, visible, begins, born, close}
+use Rattle.pref_core.proofs.Common.{is_free, filled, used, grown, slots_after, is_next, applied, slot_of, Points, PointsAll, given, added_rows, moved_rows, LacksFrom, adds, IsPlaceOf, IsIndexOf}
 use Rattle.pref_core.proofs.Applied.{IsAllowed-from}
 use Rattle.pref_core.proofs.Changing.{AreApart, formed_apart, found_all}
 use Rattle.pref_core.proofs.Filling.{none_missing, slots_still}

@@ -1,23 +1,10 @@
 -- Rows that a commit sets, each replaced where it stands.
-use Rattle.std.proofs.Common.{◌≡◌, Bor, ℕ, suc, ◌+◌, ◌<◌, Bool, true, false, cond, eqb, List, [], ◌∷◌, map, length, drop, set, Option, Some, None, is_some, slice_get, get_or, refl, sym, ap, ap₂, ◌∙◌, subst, arith, ⊎_elim}
-use Rattle.std.proofs.lemmas.List.{map-set, set-set}
-use Rattle.std.proofs.lemmas.Bool.{le-leb, eqb-true, eq-eqb, and_parts, cases_eq, true≢false}
-use Rattle.pref_core.specs.declared.changes.Change.{Change}
-use Rattle.pref_core.specs.declared.changes.Change.TheVariants.{Add, Set, Remove}
+use Rattle.pref_core.proofs.Common.{◌≡◌, Bor, ℕ, suc, ◌+◌, ◌<◌, Bool, true, false, cond, eqb, List, [], ◌∷◌, map, length, drop, set, Option, Some, None, is_some, slice_get, get_or, refl, sym, ap, ap₂}
+use Rattle.pref_core.proofs.Common.{◌∙◌, subst, arith, ⊎_elim, map-set, set-set, le-leb, eqb-true, eq-eqb, and_parts, cases_eq, true≢false, Change, Add, Set, Remove, Op, Zone, Version, ended_by}
+use Rattle.pref_core.proofs.Common.{begun_by, is_row, row_at, IsTracked, KeepSlots, replaced, with_slots, change_of, close, close_at, filled, is_free, slots_after, Row, Contents, born, is_visible}
+use Rattle.pref_core.proofs.Common.{stamps, added, changes_of, ended, is_change, succeeds, among}
 use Rattle.pref_core.specs.declared.changes.LentChange.{LentChange}
 use Rattle.pref_core.specs.declared.changes.LentChange.TheVariants.{Add as LentAdd, Set as LentSet, Remove as LentRemove}
-use Rattle.pref_core.specs.declared.call.Op.{Op}
-use Rattle.pref_core.specs.declared.store.places.Zone.{Zone}
-use Rattle.pref_core.specs.declared.store.version.Version.{Version}
-use Rattle.pref_core.specs.Changes.{ended_by, begun_by}
-use Rattle.pref_core.specs.Indexes.{is_row, row_at}
-use Rattle.pref_core.specs.Kept.{IsTracked, KeepSlots, replaced, with_slots}
-use Rattle.pref_core.specs.Lent.{change_of}
-use Rattle.pref_core.specs.Operations.{close, close_at, filled, is_free, slots_after}
-use Rattle.pref_core.specs.Rows.{Row}
-use Rattle.pref_core.specs.Slots.{Contents, born, is_visible, stamps}
-use Rattle.pref_core.specs.State.{added, changes_of, ended, is_change, succeeds}
-use Rattle.pref_core.specs.Table.{among}
 use Rattle.pref_core.proofs.Changing.{AreApart, drop_at}
 use Rattle.pref_core.proofs.Counts.{drop_inside, drop_item}
 use Rattle.pref_core.proofs.Filling.{begun_commit, close_more, commit_filled, end_slots, replace_tracked}

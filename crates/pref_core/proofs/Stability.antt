@@ -1,20 +1,9 @@
 -- What an open query was shown at its begin stays, though slots are used again.
-use Rattle.std.proofs.Common.{◌≡◌, ℕ, zero, suc, ◌+◌, ◌*◌, ◌<◌, ◌≤◌, Bool, true, false, ◌&&◌, cond, nat_lt, ◌^◌, List, [], ◌∷◌, map, take, drop, Option, Some, None, is_some, slice_get, slice_set, refl, sym, ap, ap₂, ◌∙◌, subst, arith, ⊎_elim}
-use Rattle.std.specs.List.{AllByRecursion, filter_map, cons_option}
-use Rattle.std.proofs.lemmas.List.{take-map, drop-map}
-use Rattle.std.proofs.lemmas.Bool.{cases_eq, eq-eqb}
-use Rattle.pref_core.specs.declared.store.version.Version.{Version}
-use Rattle.pref_core.specs.declared.store.caller.Caller.{Caller}
-use Rattle.pref_core.specs.declared.call.Call.{Call}
-use Rattle.pref_core.specs.declared.call.Call.TheVariants.{Insert, Update, Delete, Commit, Begin, Finish, Abandon}
-use Rattle.pref_core.specs.declared.fault.CoreFault.TheVariants.{QueryOpen, Spent}
-use Rattle.pref_core.specs.declared.call.Op.{Op}
-use Rattle.pref_core.specs.Table.{Line}
-use Rattle.pref_sky.specs.declared.entry.Entry.{Entry}
-use Rattle.pref_core.specs.State.{seat, with_seat, is_change, ended, begun, added, succeeds, refusal_of}
-use Rattle.pref_core.specs.Slots.{Contents, seen, visible, begins, stamps, caller_begun, caller_calls, block_of, born}
-use Rattle.pref_core.specs.Operations.{close, is_free, filled, refusal_at, begin_after, callers_after, is_next, slots_after, stepped, applied, ran}
-use Rattle.pref_core.specs.Stability.{is_end, ends_query, IsStable}
+use Rattle.pref_core.proofs.Common.{◌≡◌, ℕ, zero, suc, ◌+◌, ◌*◌, ◌<◌, ◌≤◌, Bool, true, false, ◌&&◌, cond, nat_lt, ◌^◌, List, [], ◌∷◌, map, take, drop, Option, Some, None, is_some, slice_get}
+use Rattle.pref_core.proofs.Common.{slice_set, refl, sym, ap, ap₂, ◌∙◌, subst, arith, ⊎_elim, AllByRecursion, filter_map, cons_option, take-map, drop-map, cases_eq, eq-eqb, Version, Caller, Call}
+use Rattle.pref_core.proofs.Common.{Insert, Update, Delete, Commit, Begin, Finish, Abandon, QueryOpen, Spent, Op, Line, Entry, seat, with_seat, is_change, ended, begun, added, succeeds, refusal_of}
+use Rattle.pref_core.proofs.Common.{Contents, seen, visible, begins, stamps, caller_begun, caller_calls, block_of, born, close, is_free, filled, refusal_at, begin_after, callers_after, is_next}
+use Rattle.pref_core.proofs.Common.{slots_after, stepped, applied, ran, is_end, ends_query, IsStable}
 use Rattle.pref_core.proofs.Visible.{seen_close-before, seen_born-before}
 use Rattle.pref_core.proofs.Standing.{hidden_unneeded}
 use Rattle.pref_core.proofs.Reuse.{IsFree-from}

@@ -1,27 +1,10 @@
 -- What a machine tells at each act is the system's reply: changes and begins.
-use Rattle.std.proofs.Common.{◌≡◌, ℕ, ◌^◌, Bool, true, false, cond, nat_lt, List, Option, Some, None, is_some, Ok, Err, Result, inl, refl, sym, ap, ◌∙◌, subst}
-use Rattle.std.specs.Option.{option_map}
-use Rattle.pref_term.specs.Question.{Question}
-use Rattle.pref_core.specs.declared.call.Call.{Call}
-use Rattle.pref_core.specs.declared.call.Call.TheVariants.{Insert as CallInsert, Update as CallUpdate, Delete as CallDelete, Commit as CallCommit, Begin, Finish, Abandon}
-use Rattle.pref_core.specs.declared.call.Outcome.{Outcome}
-use Rattle.pref_core.specs.declared.call.Outcome.TheVariants.{Added, Done, NoSuchRow, Full}
-use Rattle.pref_core.specs.declared.call.Op.{Op}
-use Rattle.pref_core.specs.declared.fault.CoreFault.{CoreFault}
-use Rattle.pref_core.specs.declared.fault.CoreFault.TheVariants.{NoSuchClient, Spent, QueryOpen}
-use Rattle.pref_core.specs.declared.event.Act.{Act}
-use Rattle.pref_core.specs.declared.event.Act.TheVariants.{Begin as ActBegin}
-use Rattle.pref_core.specs.declared.event.Reply.{Reply}
-use Rattle.pref_core.specs.declared.event.Reply.TheVariants.{Begun}
-use Rattle.pref_core.specs.Limits.{Limits, AreAllowed, blocks}
-use Rattle.pref_core.specs.State.{State, is_change, seat, with_seat, refusal, refusal_of, refusal_by_query, begun_after, outcome}
-use Rattle.pref_core.specs.Step.{Open, Member, System, Step, snapshot, state_of, refused, counted_with, changed, change, step}
-use Rattle.pref_core.specs.Slots.{Contents, StandsFor}
-use Rattle.pref_core.specs.Indexes.{adds}
-use Rattle.pref_core.specs.Operations.{PlansIn, applied}
-use Rattle.pref_core.specs.Scans.{Scan, begin}
-use Rattle.pref_core.specs.Systems.{Running, StandsForSystem, is_refusal, Tells}
-use Rattle.pref_core.specs.Parts.{change_of, told_of, numbered, step_of}
+use Rattle.pref_core.proofs.Common.{◌≡◌, ℕ, ◌^◌, Bool, true, false, cond, nat_lt, List, Option, Some, None, is_some, Ok, Err, Result, inl, refl, sym, ap, ◌∙◌, subst, option_map, Question, Call}
+use Rattle.pref_core.proofs.Common.{CallInsert, CallUpdate, CallDelete, CallCommit, Begin, Finish, Abandon, Outcome, Added, Done, NoSuchRow, Full, Op, CoreFault, NoSuchClient, Spent, QueryOpen, Act}
+use Rattle.pref_core.proofs.Common.{ActBegin, Reply, Begun, Limits, AreAllowed, blocks, State, is_change, seat, with_seat, refusal, refusal_of, refusal_by_query, begun_after, outcome, Open, Member}
+use Rattle.pref_core.proofs.Common.{System, Step, snapshot, state_of, refused, counted_with, changed, change, step, Contents, StandsFor, adds, PlansIn, applied, Scan, begin, Running, StandsForSystem}
+use Rattle.pref_core.proofs.Common.{is_refusal, Tells, told_of, step_of}
+use Rattle.pref_core.specs.Parts.{change_of, numbered}
 use Rattle.pref_core.proofs.Shown.{length-applied}
 use Rattle.pref_core.proofs.Systems.{refusal_there, refusal_nobody, IsThere, IsThere-from, IsLetIn, IsLetIn-from, changed_stands, queried_stands, follows_begun}
 

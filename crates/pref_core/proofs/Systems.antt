@@ -1,25 +1,9 @@
 -- What runs stands for the system, call by call.
-use Rattle.std.proofs.Common.{◌≡◌, ℕ, zero, suc, ◌+◌, ◌^◌, Bool, true, false, cond, nat_lt, List, ◌∷◌, map, length, replicate, Option, Some, None, is_some, refl, sym, ap, ◌∙◌, subst, ⊎_elim}
-use Rattle.std.specs.Option.{option_map}
-use Rattle.std.proofs.lemmas.Bool.{cases_eq}
-use Rattle.pref_term.specs.Question.{Question}
-use Rattle.pref_core.specs.declared.store.version.Version.{Version}
-use Rattle.pref_core.specs.declared.store.caller.Caller.{Caller}
-use Rattle.pref_core.specs.declared.call.Call.{Call}
-use Rattle.pref_core.specs.declared.call.Call.TheVariants.{Insert, Update, Delete, Commit, Begin, Finish, Abandon}
-use Rattle.pref_core.specs.declared.call.Outcome.{Outcome}
-use Rattle.pref_core.specs.declared.call.Outcome.TheVariants.{Added, Done, NoSuchRow, Full}
-use Rattle.pref_core.specs.declared.call.Op.{Op}
-use Rattle.pref_core.specs.declared.event.Reply.{Reply}
-use Rattle.pref_core.specs.declared.fault.CoreFault.TheVariants.{NoSuchClient, Spent}
-use Rattle.pref_core.specs.Rows.{Row}
-use Rattle.pref_core.specs.Limits.{Limits, AreAllowed, blocks}
-use Rattle.pref_core.specs.State.{State, Client, Snapshot, seat, with_seat, begun_of, refusal, refusal_of, refusal_by_query, is_change, succeeds, outcome, committed, counted, begun_after, after, opening, idle_clients}
-use Rattle.pref_core.specs.Step.{Open, Member, System, snapshot, client_of, state_of, counted_with, scanned_with, changed, opened}
-use Rattle.pref_core.specs.Slots.{Contents, StandsFor, Shows, ShowsBegin}
-use Rattle.pref_core.specs.Operations.{IsLegal, applied}
-use Rattle.pref_core.specs.Scans.{Scan, begin}
-use Rattle.pref_core.specs.Systems.{Running, Follows, StandsForQuery, StandsForMember, StandsForSystem}
+use Rattle.pref_core.proofs.Common.{◌≡◌, ℕ, zero, suc, ◌+◌, ◌^◌, Bool, true, false, cond, nat_lt, List, ◌∷◌, map, length, replicate, Option, Some, None, is_some, refl, sym, ap, ◌∙◌, subst, ⊎_elim}
+use Rattle.pref_core.proofs.Common.{option_map, cases_eq, Question, Version, Caller, Call, Insert, Update, Delete, Commit, Begin, Finish, Abandon, Outcome, Added, Done, NoSuchRow, Full, Op, Reply}
+use Rattle.pref_core.proofs.Common.{NoSuchClient, Spent, Row, Limits, AreAllowed, blocks, State, Client, Snapshot, seat, with_seat, begun_of, refusal, refusal_of, refusal_by_query, is_change}
+use Rattle.pref_core.proofs.Common.{succeeds, outcome, committed, counted, begun_after, after, opening, idle_clients, Open, Member, System, snapshot, client_of, state_of, counted_with, scanned_with}
+use Rattle.pref_core.proofs.Common.{changed, opened, Contents, StandsFor, Shows, ShowsBegin, IsLegal, applied, Scan, begin, Running, Follows, StandsForQuery, StandsForMember, StandsForSystem}
 use Rattle.pref_core.proofs.Legal.{applied_stands}
 use Rattle.pref_core.proofs.Outcomes.{SameSeat, nobody, somebody, same_seat}
 use Rattle.pref_core.proofs.Stability.{shown, seat-with_seat_same, seat-with_seat_other}

@@ -1,20 +1,11 @@
 -- Worked runs, computed from the definitions.
-use Rattle.std.proofs.Common.{false, ◌≡◌, ℕ, pos, List, [], ◌∷◌, map, refl, Err}
+use Rattle.pref_core.proofs.Common.{false, ◌≡◌, ℕ, pos, List, [], ◌∷◌, map, refl, Err, Question, Ranked, Event, Act, Get, Inserted, Updated, Deleted, Committed, Begun, Left, Answer, Abandoned, Found}
+use Rattle.pref_core.proofs.Common.{RoomIs, Refused, NoSuchClient, QueryOpen, NoQuery, AllScanned, NotDone, Twice, ChangeCount, Add, Set, Remove, commit_of, Row, Limits, replies}
 use Rattle.pref_table.specs.Rows.{padded}
 use Rattle.pref_term.specs.Preference.{scored, low}
-use Rattle.pref_term.specs.Question.{Question}
 use Rattle.pref_term.specs.declared.ask.Mode.TheVariants.{Best, TopLevel}
-use Rattle.pref_sky.specs.declared.entry.Ranked.{Ranked}
-use Rattle.pref_core.specs.declared.event.Event.{Event}
-use Rattle.pref_core.specs.declared.event.Act.{Act}
-use Rattle.pref_core.specs.declared.event.Act.TheVariants.{Insert, Update, Delete, Commit, Begin, Scan, Finish, Abandon, Get, Room}
-use Rattle.pref_core.specs.declared.event.Reply.TheVariants.{Inserted, Updated, Deleted, Committed, Begun, Left, Answer, Abandoned, Found, Room as RoomIs, Refused}
-use Rattle.pref_core.specs.declared.fault.CoreFault.TheVariants.{NoSuchClient, QueryOpen, NoQuery, AllScanned, NotDone, NoSuchRow, Full, Twice, ChangeCount}
-use Rattle.pref_core.specs.declared.changes.Change.TheVariants.{Add, Set, Remove}
-use Rattle.pref_core.specs.Changes.{commit_of}
-use Rattle.pref_core.specs.Rows.{Row}
-use Rattle.pref_core.specs.Limits.{Limits}
-use Rattle.pref_core.specs.Step.{replies}
+use Rattle.pref_core.specs.declared.event.Act.TheVariants.{Insert, Update, Delete, Commit, Begin, Scan, Finish, Abandon, Room}
+use Rattle.pref_core.specs.declared.fault.CoreFault.TheVariants.{NoSuchRow, Full}
 
 abbrev row : ℕ → Row
 row n = padded (pos n ∷ [])

@@ -1,17 +1,7 @@
 -- The zones of slots, and how many are free.
-use Rattle.std.proofs.Common.{◌≡◌, ℕ, zero, suc, ◌+◌, ◌<◌, Bool, true, false, not, ◌&&◌, ◌||◌, cond, eqb, List, [], ◌∷◌, map, length, set, Option, Some, None, slice_get, is_some, refl, sym, ap, ◌∙◌, subst, arith}
-use Rattle.std.specs.List.{count_by, cons_option, AllByRecursion}
-use Rattle.std.specs.Option.{option_to_list}
-use Rattle.std.proofs.lemmas.List.Sums.{sum_by-cons}
-use Rattle.std.proofs.lemmas.Bool.{le-leb, and_parts, or_right}
-use Rattle.pref_core.specs.declared.store.version.Version.{Version}
-use Rattle.pref_core.specs.declared.store.caller.Caller.{Caller}
-use Rattle.pref_core.specs.declared.store.places.Zone.TheVariants.{Ended}
-use Rattle.pref_core.specs.Table.{Line, among, has}
-use Rattle.pref_core.specs.Slots.{is_visible, seen, visible, line, is_needed, begins, IsWithin, EndsBy}
-use Rattle.pref_core.specs.Operations.{close, close_at, is_free}
-use Rattle.pref_core.specs.Places.{is_free_zone, free_at, kept_from, zone_of, is_spare}
-use Rattle.pref_core.specs.Indexes.{row_at}
+use Rattle.pref_core.proofs.Common.{◌≡◌, ℕ, zero, suc, ◌+◌, ◌<◌, Bool, true, false, not, ◌&&◌, ◌||◌, cond, eqb, List, [], ◌∷◌, map, length, set, Option, Some, None, slice_get, is_some, refl, sym, ap}
+use Rattle.pref_core.proofs.Common.{◌∙◌, subst, arith, count_by, cons_option, AllByRecursion, option_to_list, sum_by-cons, le-leb, and_parts, or_right, Version, Caller, Ended, Line, among, has}
+use Rattle.pref_core.proofs.Common.{is_visible, seen, visible, line, is_needed, begins, IsWithin, EndsBy, close, close_at, is_free, is_free_zone, free_at, kept_from, zone_of, is_spare, row_at}
 use Rattle.pref_core.proofs.Counting.{is_needed-empty}
 
 pub count_by-cons : {X : Type 0} (p : X → Bool) (x : X) (xs : List X) → count_by p (x ∷ xs) ≡ cond (p x) 1 0 + count_by p xs

@@ -1,38 +1,26 @@
 -- What each act of a client is in the sequential table.
-use Rattle.std.proofs.Common.{◌≡◌, ℕ, suc, ◌-◌, ◌^◌, ◌<◌, Bool, true, false, cond, nat_lt, ◌&&◌, List, [], ◌∷◌, map, length, Option, Some, None, is_some, refl, sym, ap, ◌∙◌, subst, arith, inl, inr}
-use Rattle.std.specs.Option.{option_map}
+use Rattle.pref_share.proofs.Common.{◌≡◌, ℕ, suc, ◌-◌, ◌^◌, ◌<◌, Bool, true, false, cond, nat_lt, ◌&&◌, List, [], ◌∷◌, map, length, Option, Some, None, is_some, refl, sym, ap, ◌∙◌, subst, arith, inl}
+use Rattle.pref_share.proofs.Common.{inr, option_map, Call, CallInsert, CallUpdate, CallDelete, CallCommit, CallBegin, CallFinish, CallAbandon, Added, Done, Full, Act, Insert, Update, Delete, Commit}
+use Rattle.pref_share.proofs.Common.{Begin, ScanAct, Finish, Abandon, Get, Room, Reply, CoreFault, Spent, QueryOpen, NoQuery, AllScanned, NotDone, MissingRow, State, Snapshot, seat, with_seat}
+use Rattle.pref_share.proofs.Common.{is_change, begins_row, committed, ended, granted, missing, needed, outcome, after, begun_after, refusal_of, refusal_by_query, Open, Member, System, Step, snapshot}
+use Rattle.pref_share.proofs.Common.{client_of, state_of, refused, counted_with, one_less, scanned_with, told_of_commit, changed, change, seat-with_seat_same, client_there, state_of-counted}
+use Rattle.pref_share.proofs.Common.{after_quiet, state_of-changed, members-changed, Opening, IsLegalFrom, state_at, Asking, Standing, own_refusal, Joins, Changes, Commits, Sees, Begins, Finishes}
+use Rattle.pref_share.proofs.Common.{HasLeft, Scanned, row_after, room_at, open_of, member_of, call_of, step_by, IsStep, StepsTo}
 use Rattle.pref_term.specs.Question.{Question}
 use Rattle.pref_sky.specs.declared.entry.Ranked.{Ranked}
 use Rattle.pref_sky.specs.Answers.{answer_of}
 use Rattle.pref_core.specs.Rows.{Row}
 use Rattle.pref_core.specs.declared.changes.Change.{Change}
-use Rattle.pref_core.specs.declared.call.Call.{Call}
-use Rattle.pref_core.specs.declared.call.Call.TheVariants.{Insert as CallInsert, Update as CallUpdate, Delete as CallDelete, Commit as CallCommit, Begin as CallBegin, Finish as CallFinish, Abandon as CallAbandon}
 use Rattle.pref_core.specs.declared.call.Outcome.{Outcome}
-use Rattle.pref_core.specs.declared.call.Outcome.TheVariants.{Added, Done, Full}
-use Rattle.pref_core.specs.declared.event.Act.{Act}
-use Rattle.pref_core.specs.declared.event.Act.TheVariants.{Insert, Update, Delete, Commit, Begin, Scan as ScanAct, Finish, Abandon, Get, Room}
 use Rattle.pref_core.specs.declared.event.Committed.{Committed}
-use Rattle.pref_core.specs.declared.event.Reply.{Reply}
 use Rattle.pref_core.specs.declared.event.Reply.TheVariants.{Inserted, Updated, Deleted, Committed as CommittedIs, Begun, Left, Answer, Abandoned, Found, Room as RoomIs, Refused as RefusedReply}
-use Rattle.pref_core.specs.declared.fault.CoreFault.{CoreFault}
-use Rattle.pref_core.specs.declared.fault.CoreFault.TheVariants.{Spent, QueryOpen, NoQuery, AllScanned, NotDone, NoSuchRow as MissingRow}
 use Rattle.pref_core.specs.Limits.{Limits, blocks}
 use Rattle.pref_core.specs.Table.{Line, line_of, entries}
 use Rattle.pref_core.specs.Changes.{added_by}
-use Rattle.pref_core.specs.State.{State, Snapshot, seat, with_seat, is_change, begins_row, committed, ended, granted, missing, needed, outcome, after, begun_after, refusal_of, refusal_by_query}
-use Rattle.pref_core.specs.Step.{Open, Member, System, Step, snapshot, client_of, state_of, refused, counted_with, one_less, scanned_with, told_of_commit, changed, change}
 use Rattle.pref_core.specs.Parts.{outcome_of, numbered, step_of}
-use Rattle.pref_core.proofs.Stability.{seat-with_seat_same}
 use Rattle.pref_core.proofs.Seats.{with_seat_self, with_seat-map}
 use Rattle.pref_core.proofs.Steps.{somebody_steps, let_in_steps}
 use Rattle.pref_core.proofs.Scanning.{some_left, no_left}
-use Rattle.pref_core.proofs.Systems.{client_there, state_of-counted, after_quiet, state_of-changed, members-changed}
-use Rattle.pref_share.specs.Openings.{Opening, IsLegalFrom, state_at}
-use Rattle.pref_share.specs.Standing.{Asking, Standing}
-use Rattle.pref_share.specs.Clients.{own_refusal, Joins, Changes, Commits, Sees, Begins, Finishes, HasLeft}
-use Rattle.pref_share.specs.Scanning.{Scanned, row_after, room_at}
-use Rattle.pref_share.specs.Runs.{open_of, member_of, call_of, step_by, IsStep, StepsTo}
 use Rattle.pref_share.proofs.Histories.{state_at-append}
 use Rattle.pref_share.proofs.Prefixes.{prefix_self}
 

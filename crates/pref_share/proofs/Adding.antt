@@ -1,12 +1,10 @@
 -- Who has the pen adds to the whole history, whatever the book is.
-use Rattle.std.proofs.Common.{◌≡◌, ◌≢◌, ℕ, zero, suc, ◌<◌, ◌==◌, Bool, true, false, ◌⊎◌, List, [], ◌∷◌, ◌++◌, length, set, refl, ap, sym, subst, ◌∙◌, arith, inl, inr, ⊎_elim, length-append, None}
-use Rattle.std.proofs.lemmas.List.{append-nil, map-append}
+use Rattle.pref_share.proofs.Common.{◌≡◌, ◌≢◌, ℕ, zero, suc, ◌<◌, ◌==◌, Bool, true, false, ◌⊎◌, List, [], ◌∷◌, ◌++◌, length, set, refl, ap, sym, subst, ◌∙◌, arith, inl, inr, ⊎_elim, length-append}
+use Rattle.pref_share.proofs.Common.{None, append-nil, map-append, IsPrefix, Cell, cell, keeps, gives, adds, Nib, no_nib, may_write, Moves, Op}
 use Rattle.std.proofs.lemmas.Bool.Decides.{nat_tests}
-use mathlib.Core.List.{IsPrefix}
 use prog.Atomic.{either}
-use Rattle.logbook.specs.Pages.{Cell, cell, keeps, gives, adds, Nib, no_nib, may_write, step, Moves}
+use Rattle.logbook.specs.Pages.{step}
 use Rattle.pref_share.proofs.Prefixes.{prefix_trans}
-use Rattle.pref_core.specs.declared.call.Op.{Op}
 use Rattle.pref_share.specs.declared.entry.Entry.{Entry}
 use Rattle.pref_share.specs.Book.{ops_of, Home, IsKept, key_from, key_after, first_key, Begins, IsWhole, Adds}
 

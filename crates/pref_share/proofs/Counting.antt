@@ -1,19 +1,11 @@
 -- How many calls each client has made along a legal history.
-use Rattle.std.proofs.Common.{◌≡◌, ℕ, zero, suc, ◌+◌, ◌*◌, ◌^◌, ◌<◌, ◌≤◌, Bool, true, false, cond, ◌==◌, List, [], ◌∷◌, length, Option, Some, None, is_some, refl, sym, ap, ◌∙◌, subst, arith}
-use Rattle.std.specs.List.{AllByRecursion, sum_by}
-use Rattle.std.proofs.lemmas.Bool.{ne_eqb, eqb-true}
-use Rattle.std.proofs.lemmas.List.{length-set}
-use Rattle.std.proofs.lemmas.List.Elements.{All-from_recursion}
+use Rattle.pref_share.proofs.Common.{◌≡◌, ℕ, zero, suc, ◌+◌, ◌*◌, ◌^◌, ◌<◌, ◌≤◌, Bool, true, false, cond, ◌==◌, List, [], ◌∷◌, length, Option, Some, None, is_some, refl, sym, ap, ◌∙◌, subst, arith}
+use Rattle.pref_share.proofs.Common.{AllByRecursion, sum_by, ne_eqb, eqb-true, length-set, All-from_recursion, Call, Op, State, Client, Snapshot, seat, with_seat, is_change, succeeds, committed}
+use Rattle.pref_share.proofs.Common.{counted, begun_after, outcome, after, calls_of, begun_of, refusal_of, idle_clients, same_number, IsLegalCall, IsLegalHistory, state_after, numbered_of}
+use Rattle.pref_share.proofs.Common.{seat-with_seat_same, seat-with_seat_other, HasCall, history_of}
 use Rattle.std.proofs.lemmas.List.Sums.{sum_by-le}
 use native.Mathlib.Decide.{ℕ_discrete}
-use Rattle.pref_core.specs.declared.call.Call.{Call}
-use Rattle.pref_core.specs.declared.call.Op.{Op}
-use Rattle.pref_core.specs.State.{State, Client, Snapshot, seat, with_seat, is_change, succeeds, committed, counted, begun_after, outcome, after, calls_of, begun_of, refusal_of, idle_clients}
-use Rattle.pref_core.specs.Operations.{same_number}
-use Rattle.pref_core.specs.History.{IsLegalCall, IsLegalHistory, state_after, numbered_of}
-use Rattle.pref_core.proofs.Stability.{seat-with_seat_same, seat-with_seat_other}
 use Rattle.pref_core.proofs.Bounds.{sum_by-set_suc, AllByRecursion-set, few_calls}
-use Rattle.pref_share.specs.Openings.{HasCall, history_of}
 
 pub after_clients : (n : ℕ) (s : State) (client : ℕ) (call : Call) → (after n s client call).clients ≡ counted s client call
 after_clients n s client call = go (is_change call) (succeeds (outcome n s call))

@@ -1,19 +1,11 @@
 -- Legal operations: how a list of them grows, and what its store stands for.
-use Rattle.std.proofs.Common.{◌≡◌, ◌≤◌, List, [], ◌∷◌, ◌++◌, map, length, Some, Ok, Err, ℕ, refl, sym, ap, ◌∙◌, subst}
-use mathlib.Core.List.{IsPrefix}
-use Rattle.pref_core.specs.declared.call.Call.{Call}
-use Rattle.pref_core.specs.declared.call.Op.{Op}
-use Rattle.pref_core.specs.declared.fault.CoreFault.{CoreFault}
-use Rattle.pref_core.specs.State.{State, after, refusal}
-use Rattle.pref_core.specs.Slots.{Contents, StandsFor}
-use Rattle.pref_core.specs.Operations.{IsLegal, PlansIn, applied, ran}
-use Rattle.pref_core.specs.History.{IsLegalHistory, state_after, numbered_of, AreLegalOps}
+use Rattle.pref_share.proofs.Common.{◌≡◌, ◌≤◌, List, [], ◌∷◌, ◌++◌, map, length, Some, Ok, Err, ℕ, refl, sym, ap, ◌∙◌, subst, IsPrefix, Call, Op, CoreFault, State, after, refusal, Contents, StandsFor}
+use Rattle.pref_share.proofs.Common.{IsLegal, PlansIn, applied, ran, IsLegalHistory, state_after, numbered_of, AreLegalOps, Opening, IsLegalFrom, MayFollow, LegalIsHistory, first_contents}
+use Rattle.pref_share.proofs.Common.{first_state, history_of, contents_at, state_at, AreLetIn}
 use Rattle.pref_core.proofs.Legal.{applied_stands, is_next-from, IsNext-from}
 use Rattle.pref_core.proofs.Shown.{length-applied, length-ran}
 use Rattle.pref_core.proofs.Histories.{ops_are_history}
 use Rattle.pref_core.proofs.Openings.{opened_stands}
-use Rattle.pref_share.specs.Openings.{Opening, IsLegalFrom, MayFollow, LegalIsHistory, first_contents, first_state, history_of, contents_at, state_at}
-use Rattle.pref_share.specs.Views.{AreLetIn}
 
 abbrev pub reached : Contents → State → List Op → State
 reached contents state ops = state_after (length contents.slots) state (map numbered_of ops)

@@ -1,16 +1,6 @@
 -- A joint run is one run of the sequential table.
-use Rattle.std.proofs.Common.{◌≡◌, ℕ, zero, suc, ◌<◌, ◌≤◌, List, [], ◌∷◌, ◌++◌, length, get_or, Some, None, slice_get, refl, sym, ap, ◌∙◌, subst, arith, ◌⊎◌, inl, inr, ⊎_elim}
-use Rattle.std.specs.List.{All}
-use Rattle.std.specs.Global.{Vec}
-use Rattle.std.proofs.lemmas.Bool.{cases_eq}
-use Rattle.std.proofs.lemmas.List.{length-append}
-use Rattle.std.proofs.lemmas.Option.{slice_get_within, slice_get_cases}
-use Rattle.pref_core.specs.declared.call.Op.{Op}
-use Rattle.pref_core.specs.declared.event.Act.{Act}
-use Rattle.pref_core.specs.declared.event.Reply.{Reply}
-use Rattle.pref_share.specs.Openings.{Opening}
-use Rattle.pref_share.specs.Standing.{newcomer, newcomers}
-use Rattle.pref_share.specs.Runs.{IsPart, IsJointRun}
+use Rattle.pref_share.proofs.Common.{◌≡◌, ℕ, zero, suc, ◌<◌, ◌≤◌, List, [], ◌∷◌, ◌++◌, length, get_or, Some, None, slice_get, refl, sym, ap, ◌∙◌, subst, arith, ◌⊎◌, inl, inr, ⊎_elim, All, Vec}
+use Rattle.pref_share.proofs.Common.{cases_eq, length-append, slice_get_within, slice_get_cases, Op, Act, Reply, Opening, newcomer, newcomers, IsPart, IsJointRun}
 use Rattle.pref_share.specs.Interleavings.{Answered, JointRunsAreSequential}
 use Rattle.pref_share.proofs.Prefixes.{prefix_get}
 use Rattle.pref_share.proofs.LastCalls.{IsOneOf}

@@ -1,21 +1,16 @@
 -- The steps of the writer and of the readers keep the rule.
-use Rattle.std.proofs.Common.{◌≡◌, ◌≢◌, ℕ, List, [], ◌∷◌, ◌++◌, length, set, true, is_some, Some, refl, ap, sym, subst, ◌∙◌, ⊎_elim}
+use Rattle.pref_share.proofs.Common.{◌≡◌, ◌≢◌, ℕ, List, [], ◌∷◌, ◌++◌, length, set, true, is_some, Some, refl, ap, sym, subst, ◌∙◌, ⊎_elim, Book, Op, Contents, applied, ran, is_next, slots_after}
+use Rattle.pref_share.proofs.Common.{Opening, IsLegalFrom, MayFollow, first_contents, contents_at, state_at, Published, stamped, HoldsHistory, Fits, Kept, Knows, Opens, Stays, Reads, AreLetIn}
 use mathlib.Core.Option.{some}
 use lib.ListN.{get_elem?}
-use Rattle.logbook.specs.Pages.{Book}
 use Rattle.crossbeam_utils.specs.Register.{Admits, TurnsAt, Forks, Merges}
 use Rattle.atomic_table.proofs.Lists.{at_set, at_snoc}
-use Rattle.pref_core.specs.declared.call.Op.{Op}
-use Rattle.pref_core.specs.Slots.{Contents}
-use Rattle.pref_core.specs.Operations.{applied, ran, is_next, slots_after}
 use Rattle.pref_core.proofs.Legal.{is_next-from}
-use Rattle.pref_share.specs.Openings.{Opening, IsLegalFrom, MayFollow, first_contents, contents_at, state_at}
 use Rattle.pref_share.proofs.Histories.{ran-append, legal_stands}
 use Rattle.pref_share.specs.declared.published.Base.{Base}
 use Rattle.pref_share.specs.declared.published.View.{View}
-use Rattle.pref_share.specs.declared.published.Published.{Published}
 use Rattle.pref_share.specs.declared.published.Stamp.{Stamp}
-use Rattle.pref_share.specs.Views.{stamped, HoldsHistory, Fits, Kept, newcomer, Knows, Opens, Stays, Reads, AreLetIn}
+use Rattle.pref_share.specs.Views.{newcomer}
 
 fits_newcomer : (opening : Contents) (book : Book) → Fits opening book newcomer
 fits_newcomer opening book = record { has_opening = (λ b e. absurd cc); has_book = (λ b e. absurd cc) }

@@ -1,17 +1,7 @@
 -- The last operation of a history: whose call it is, and what the others' counts are before it.
-use Rattle.std.proofs.Common.{◌≡◌, ℕ, zero, suc, ◌<◌, ◌≤◌, List, [], ◌∷◌, ◌++◌, length, Option, Some, None, refl, sym, ap, ◌∙◌, subst, arith, inl, inr, ◌⊎◌}
-use Rattle.std.proofs.lemmas.List.{length-append, length-set}
-use Rattle.std.proofs.lemmas.Option.{slice_get_within}
-use mathlib.Core.List.{IsPrefix}
-use Rattle.pref_core.specs.declared.call.Call.{Call}
-use Rattle.pref_core.specs.declared.call.Op.{Op}
-use Rattle.pref_core.specs.declared.event.Act.{Act}
-use Rattle.pref_core.specs.declared.event.Reply.{Reply}
-use Rattle.pref_core.specs.State.{State, Client, seat, with_seat, after, calls_of}
-use Rattle.pref_core.specs.History.{state_after}
-use Rattle.pref_share.specs.Openings.{Opening, IsLegalFrom, history_of, first_state, state_at, calls_at}
-use Rattle.pref_share.specs.Standing.{Standing, newcomer}
-use Rattle.pref_share.specs.Runs.{Looks, Adds, Runs, none, then}
+use Rattle.pref_share.proofs.Common.{◌≡◌, ℕ, zero, suc, ◌<◌, ◌≤◌, List, [], ◌∷◌, ◌++◌, length, Option, Some, None, refl, sym, ap, ◌∙◌, subst, arith, inl, inr, ◌⊎◌, length-append, length-set}
+use Rattle.pref_share.proofs.Common.{slice_get_within, IsPrefix, Call, Op, Act, Reply, State, Client, seat, with_seat, after, calls_of, state_after, Opening, IsLegalFrom, history_of, first_state}
+use Rattle.pref_share.proofs.Common.{state_at, calls_at, Standing, newcomer, Looks, Adds, Runs, none, then}
 use Rattle.pref_share.proofs.Histories.{history_rest, legal_is_history, state_at-append}
 use Rattle.pref_share.proofs.Counting.{IsCaller, IsGrown, after_clients, caller, calls_own, calls_grow, idle_seat, length-idle, one_more, seat_other}
 

@@ -1,5 +1,5 @@
 -- What stands at a place of a list.
-use Rattle.std.proofs.Common.{◌≡◌, ℕ, zero, suc, ◌<◌, List, [], ◌∷◌, length, get_or, refl, arith}
+use Rattle.pref_share.proofs.Common.{◌≡◌, ℕ, zero, suc, ◌<◌, List, [], ◌∷◌, length, get_or, refl, arith}
 
 there : {B : Type 0} (l : List B) (i : ℕ) → i < length l → (b : B) × ((d : B) → get_or l i d ≡ b)
 there [] i lt = absurd (omega arith)

@@ -1,6 +1,5 @@
 -- Two lists of one length, whose elements at each place are related.
-use Rattle.std.proofs.Common.{◌≡◌, ℕ, zero, suc, List, [], ◌∷◌, ◌++◌, length, Some, slice_get, refl, ap, arith}
-use Rattle.std.specs.List.{All}
+use Rattle.pref_share.proofs.Common.{◌≡◌, ℕ, zero, suc, List, [], ◌∷◌, ◌++◌, length, Some, slice_get, refl, ap, arith, All}
 
 abbrev pub Pairs : {A B : Type 0} → (ℕ → A → B → Type 0) → List A → List B → Type 0
 Pairs R [] [] = Unit {0}

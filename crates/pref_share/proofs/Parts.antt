@@ -1,14 +1,6 @@
 -- The parts of all clients in a history, and the last act of each.
-use Rattle.std.proofs.Common.{◌≡◌, ◌==◌, ℕ, suc, ◌<◌, ◌≤◌, cond, List, [], ◌∷◌, ◌++◌, length, Some, refl, sym, ap, ◌∙◌, subst, arith, ◌⊎◌, inl, inr, ⊎_elim}
-use Rattle.std.proofs.lemmas.Bool.{cases_eq, eq-eqb, ne_eqb}
-use Rattle.std.proofs.lemmas.List.{length-append}
-use mathlib.Core.List.{IsPrefix}
-use Rattle.pref_core.specs.declared.call.Op.{Op}
-use Rattle.pref_core.specs.declared.event.Act.{Act}
-use Rattle.pref_core.specs.declared.event.Reply.{Reply}
-use Rattle.pref_share.specs.Openings.{Opening, IsLegalFrom, calls_at}
-use Rattle.pref_share.specs.Standing.{Standing, newcomer}
-use Rattle.pref_share.specs.Runs.{StepsTo, Looks, Adds, Runs, none, then, RunsTo}
+use Rattle.pref_share.proofs.Common.{◌≡◌, ◌==◌, ℕ, suc, ◌<◌, ◌≤◌, cond, List, [], ◌∷◌, ◌++◌, length, Some, refl, sym, ap, ◌∙◌, subst, arith, ◌⊎◌, inl, inr, ⊎_elim, cases_eq, eq-eqb, ne_eqb}
+use Rattle.pref_share.proofs.Common.{length-append, IsPrefix, Op, Act, Reply, Opening, IsLegalFrom, calls_at, Standing, newcomer, StepsTo, Looks, Adds, Runs, none, then, RunsTo}
 use Rattle.pref_share.specs.Performing.{IsIn}
 use Rattle.pref_share.proofs.Prefixes.{prefix_shorter, prefix_whole, prefix_length}
 use Rattle.pref_share.proofs.Histories.{legal-prefix}

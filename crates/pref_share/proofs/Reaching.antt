@@ -1,23 +1,14 @@
 -- Runs of the sequential table that reach what the parts of all clients in a history say.
-use Rattle.std.proofs.Common.{◌≡◌, ◌==◌, ℕ, zero, suc, ◌<◌, ◌≤◌, Bool, true, false, cond, List, [], ◌∷◌, ◌++◌, map, length, Some, refl, sym, ap, ◌∙◌, subst, arith, inl, inr, ◌⊎◌}
-use Rattle.std.specs.List.{All, filter}
-use Rattle.std.proofs.lemmas.Bool.{eq-eqb, ne_eqb}
-use Rattle.std.proofs.lemmas.List.{length-append, map-append, append-nil}
-use Rattle.std.proofs.lemmas.List.Elements.{filter-append, All-nil, All-push}
-use Rattle.pref_core.specs.declared.call.Op.{Op}
-use Rattle.pref_core.specs.declared.event.Act.{Act}
+use Rattle.pref_share.proofs.Common.{◌≡◌, ◌==◌, ℕ, zero, suc, ◌<◌, ◌≤◌, Bool, true, false, cond, List, [], ◌∷◌, ◌++◌, map, length, Some, refl, sym, ap, ◌∙◌, subst, arith, inl, inr, ◌⊎◌, All, filter}
+use Rattle.pref_share.proofs.Common.{eq-eqb, ne_eqb, length-append, map-append, append-nil, filter-append, All-nil, All-push, Op, Act, Reply, seat, System, state_of, opened, step, replies}
+use Rattle.pref_share.proofs.Common.{replies_from, Opening, IsLegalFrom, first_state, state_at, Standing, member_of, step_by, IsStep, StepsTo}
 use Rattle.pref_core.specs.declared.event.Event.{Event}
-use Rattle.pref_core.specs.declared.event.Reply.{Reply}
-use Rattle.pref_core.specs.State.{seat}
-use Rattle.pref_core.specs.Step.{System, state_of, opened, step, replies, replies_from}
-use Rattle.pref_share.specs.Openings.{Opening, IsLegalFrom, first_state, state_at}
-use Rattle.pref_share.specs.Standing.{Standing}
-use Rattle.pref_share.specs.Runs.{member_of, step_by, IsStep, StepsTo}
 use Rattle.pref_share.specs.Interleavings.{Answered, events_of, replies_of, acts_of, part_of}
 use Rattle.pref_share.proofs.Histories.{legal-prefix}
 use Rattle.pref_share.proofs.Sequences.{system_after, system_after-more, replies_from-more, step_leaves, opened_clients, opened_seat}
 use Rattle.pref_share.proofs.LastCalls.{last_of, last_one_of, IsOneOf, counts}
-use Rattle.pref_share.proofs.Parts.{Part, nothing_done, longer, IsPartAt, ArePartsAt, with_part, with_part-own, with_part-other, with_part-each, with_part-same, LooksNoMore, behind, idle, joined, NoneLooks, LooksAt, without_looks, never_empty, made_last, last_at, parts_before}
+use Rattle.pref_share.proofs.Parts.{Part, nothing_done, longer, IsPartAt, ArePartsAt, with_part, with_part-own, with_part-other, with_part-each, with_part-same, LooksNoMore, behind, idle, joined}
+use Rattle.pref_share.proofs.Parts.{NoneLooks, LooksAt, without_looks, never_empty, made_last, last_at, parts_before}
 
 -- the system at the end of a run
 abbrev pub system_of : Opening → List Answered → System

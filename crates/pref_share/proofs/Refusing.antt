@@ -1,21 +1,11 @@
 -- What a refusal of a client's call is as the reply to an act.
-use Rattle.std.proofs.Common.{◌≡◌, ℕ, suc, true, Some, Result, Ok, Err, IfErr, refl, sym, ap, ◌∙◌, subst}
+use Rattle.pref_share.proofs.Common.{◌≡◌, ℕ, suc, true, Some, Result, Ok, Err, IfErr, refl, sym, ap, ◌∙◌, subst, Call, CallUpdate, CallDelete, CallCommit, CallBegin, CallFinish, CallAbandon, NoRow}
+use Rattle.pref_share.proofs.Common.{NoRoom, Act, Insert, Update, Delete, Commit, Begin, Scan, Finish, Abandon, Get, Room, NoQuery, AllScanned, NotDone, NoSuchRow, OutOfMemory, is_change, ShareFault}
+use Rattle.pref_share.proofs.Common.{Core, ClientInUse, Held, Closed, Opening, IsLegalFrom, HasCall, Standing, Sees, IsInUse, asks_for_memory, RefusesCall, RefusesChange, RefusesFinish, RefusesScan}
+use Rattle.pref_share.proofs.Common.{RefusesGet, Performs, call_of}
 use Rattle.std.specs.Prelude.{IsErrAnd}
-use Rattle.pref_core.specs.declared.call.Call.{Call}
-use Rattle.pref_core.specs.declared.call.Call.TheVariants.{Update as CallUpdate, Delete as CallDelete, Commit as CallCommit, Begin as CallBegin, Finish as CallFinish, Abandon as CallAbandon}
-use Rattle.pref_core.specs.declared.call.Outcome.TheVariants.{NoSuchRow as NoRow, Full as NoRoom}
-use Rattle.pref_core.specs.declared.event.Act.{Act}
-use Rattle.pref_core.specs.declared.event.Act.TheVariants.{Insert, Update, Delete, Commit, Begin, Scan, Finish, Abandon, Get, Room}
-use Rattle.pref_core.specs.declared.fault.CoreFault.TheVariants.{NoQuery, AllScanned, NotDone, NoSuchRow, Full, OutOfMemory}
-use Rattle.pref_core.specs.State.{is_change}
+use Rattle.pref_core.specs.declared.fault.CoreFault.TheVariants.{Full}
 use Rattle.pref_core.specs.Systems.{may_want_memory}
-use Rattle.pref_share.specs.declared.fault.ShareFault.{ShareFault}
-use Rattle.pref_share.specs.declared.fault.ShareFault.TheVariants.{Core, ClientInUse, Held, Closed}
-use Rattle.pref_share.specs.Openings.{Opening, IsLegalFrom, HasCall}
-use Rattle.pref_share.specs.Standing.{Standing}
-use Rattle.pref_share.specs.Clients.{Sees, IsInUse, asks_for_memory, RefusesCall, RefusesChange, RefusesFinish}
-use Rattle.pref_share.specs.Scanning.{RefusesScan, RefusesGet}
-use Rattle.pref_share.specs.Runs.{Performs, call_of}
 use Rattle.pref_share.specs.Performing.{reply_or_stop}
 use Rattle.pref_share.proofs.Acting.{sees_same, refused_by_itself, refused_change, not_done, got_none, no_query, all_scanned}
 

@@ -1,26 +1,10 @@
 -- The reports of clients, and what follows from them of the whole run.
-use Rattle.std.proofs.Common.{◌≡◌, ℕ, suc, ◌<◌, ◌+◌, ◌^◌, Bool, true, false, List, [], ◌++◌, length, map, get_or, Option, Some, None, slice_get, refl, sym, ap, ◌∙◌, subst, arith, inl, inr, ⊎_elim}
-use Rattle.std.specs.Option.{is_some, option_or}
-use Rattle.std.specs.List.{All}
-use Rattle.std.proofs.lemmas.List.{append-nil, length-append}
-use Rattle.std.proofs.lemmas.List.Elements.{All-get_or}
-use Rattle.std.proofs.lemmas.Option.{slice_get_within, get_or_from_slice_get}
-use Rattle.std.specs.Global.{Vec}
-use mathlib.Core.List.{IsPrefix}
-use Rattle.pref_core.specs.declared.call.Op.{Op}
-use Rattle.pref_core.specs.declared.event.Act.{Act}
-use Rattle.pref_core.specs.declared.event.Reply.{Reply}
-use Rattle.pref_share.specs.declared.fault.ShareFault.{ShareFault}
-use Rattle.pref_share.specs.declared.fault.ShareFault.TheVariants.{Core, ClientInUse, Held, Closed}
+use Rattle.pref_share.proofs.Common.{◌≡◌, ℕ, suc, ◌<◌, ◌+◌, ◌^◌, Bool, true, false, List, [], ◌++◌, length, map, get_or, Option, Some, None, slice_get, refl, sym, ap, ◌∙◌, subst, arith, inl, inr}
+use Rattle.pref_share.proofs.Common.{⊎_elim, option_or, All, append-nil, length-append, All-get_or, slice_get_within, get_or_from_slice_get, Vec, IsPrefix, Op, Act, Reply, ShareFault, Core}
+use Rattle.pref_share.proofs.Common.{ClientInUse, Held, Closed, Opening, IsLegalFrom, HasCall, calls_at, Standing, Sees, IsInUse, RunsTo, StopsAt, IsJointRun, IsPart, WasLetIn, Ends, Did, DidActs}
+use Rattle.pref_share.proofs.Common.{IsFoundInUse, IsWithin, StandsWithin, AreReports, AreTaken, IsFirstStopped, AreWorked, DidTask, IsFirstOf, Settles, report_of, Worked, Listed}
+use Rattle.std.specs.Option.{is_some}
 use Rattle.pref_share.specs.declared.run.Report.{Report}
-use Rattle.pref_share.specs.Openings.{Opening, IsLegalFrom, HasCall, calls_at}
-use Rattle.pref_share.specs.Standing.{Standing}
-use Rattle.pref_share.specs.Clients.{Sees, IsInUse}
-use Rattle.pref_share.specs.Runs.{RunsTo, StopsAt, IsJointRun, IsPart}
-use Rattle.pref_share.specs.Reports.{WasLetIn, Ends, Did, DidActs, IsFoundInUse, IsWithin, StandsWithin, AreReports, AreTaken, IsFirstStopped}
-use Rattle.pref_share.specs.Settling.{AreWorked, DidTask, IsFirstOf, Settles, report_of}
-use Rattle.pref_share.specs.declared.run.Worked.{Worked}
-use Rattle.pref_share.specs.declared.task.Listed.{Listed}
 use Rattle.pref_share.proofs.Pairs.{Pairs, choose, pairs_all, pairs_at, pairs_cut, pairs_length}
 use Rattle.pref_share.proofs.Prefixes.{prefix_self, prefix_trans}
 use Rattle.pref_share.proofs.Refusing.{stops_in_use}

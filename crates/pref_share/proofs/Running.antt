@@ -1,20 +1,7 @@
 -- Runs of acts, one act longer, and what stands at a place of two lists.
-use Rattle.std.proofs.Common.{◌≡◌, ℕ, zero, suc, ◌<◌, Bool, true, false, List, [], ◌∷◌, ◌++◌, ◌+◌, ◌^◌, length, map, get_or, Some, Result, Ok, slice_get, refl, sym, ap, ◌∙◌, subst, arith, inr, ⊎_elim}
-use Rattle.std.proofs.lemmas.Bool.{cases_eq}
-use Rattle.std.proofs.lemmas.List.{append_assoc, get_or-map, length-append}
-use Rattle.std.proofs.lemmas.Option.{get_or_from_slice_get, slice_get_within}
-use Rattle.std.specs.Global.{Vec}
-use Rattle.std.specs.List.{All}
-use Rattle.std.specs.Prelude.{IfOk}
-use Rattle.pref_core.specs.declared.event.Act.{Act}
-use Rattle.pref_core.specs.declared.event.Reply.{Reply}
-use Rattle.pref_share.specs.declared.fault.ShareFault.{ShareFault}
-use Rattle.pref_share.specs.declared.fault.ShareFault.TheVariants.{Core, ClientInUse, Held, Closed}
-use Rattle.pref_share.specs.Clients.{Sees}
-use Rattle.pref_share.specs.Openings.{IsLegalFrom, Opening}
-use Rattle.pref_share.specs.Standing.{Standing}
-use Rattle.pref_share.specs.Runs.{StepsTo, Runs, none, then, RunsTo, StopsAt, nobody}
-use Rattle.pref_share.specs.Reports.{DidActs, WasLetIn}
+use Rattle.pref_share.proofs.Common.{◌≡◌, ℕ, zero, suc, ◌<◌, Bool, true, false, List, [], ◌∷◌, ◌++◌, ◌+◌, ◌^◌, length, map, get_or, Some, Result, Ok, slice_get, refl, sym, ap, ◌∙◌, subst, arith, inr}
+use Rattle.pref_share.proofs.Common.{⊎_elim, cases_eq, append_assoc, get_or-map, length-append, get_or_from_slice_get, slice_get_within, Vec, All, IfOk, Act, Reply, ShareFault, Core, ClientInUse}
+use Rattle.pref_share.proofs.Common.{Held, Closed, Sees, IsLegalFrom, Opening, Standing, StepsTo, Runs, none, then, RunsTo, StopsAt, nobody, DidActs, WasLetIn}
 use Rattle.pref_share.proofs.Acting.{sees_same}
 
 pub runs_more : (o : Opening) (s t u : Standing) (acts : List Act) (replies longer : List Reply) (act : Act) (reply : Reply) → RunsTo o s acts replies t → StepsTo o t act reply u → longer ≡ replies ++ reply ∷ [] → RunsTo o s (acts ++ act ∷ []) longer u

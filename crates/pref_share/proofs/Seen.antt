@@ -1,9 +1,7 @@
 -- Two beginnings of one history.
-use Rattle.std.proofs.Common.{◌≡◌, ℕ, ◌<◌, ◌≤◌, Bool, true, false, List, length, arith, MatchBool}
+use Rattle.pref_share.proofs.Common.{◌≡◌, ℕ, ◌<◌, ◌≤◌, Bool, true, false, List, length, arith, MatchBool, IsPrefix, Op}
 use Rattle.std.proofs.lemmas.Bool.Decides.{nat_tests}
 use lib.Dec.{leb}
-use mathlib.Core.List.{IsPrefix}
-use Rattle.pref_core.specs.declared.call.Op.{Op}
 use Rattle.pref_share.proofs.Prefixes.{prefix_shorter}
 
 -- the shorter begins the longer

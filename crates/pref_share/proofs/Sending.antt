@@ -1,6 +1,6 @@
 -- A client and its acts may go to another thread: a question is a tree, which crosses with its parts.
+use Rattle.pref_share.proofs.Common.{IsSend, sendable, view_send}
 use denote.RattleType.{RattleType}
-use denote.Param.Send.{IsSend, sendable, view_send}
 use denote.Param.SendFields.{declared_send, variants_send, as_row_send}
 use Rattle.std.proofs.Crossing.{frees}
 use Rattle.std.proofs.alloc.Global.TheSendSync as heap

@@ -1,21 +1,14 @@
 -- The sequential table along events: one event more, and the clients that an event leaves alone.
-use Rattle.std.proofs.Common.{◌≡◌, ℕ, zero, suc, ◌-◌, ◌^◌, ◌<◌, ◌≤◌, Bool, true, false, cond, nat_lt, List, [], ◌∷◌, ◌++◌, map, replicate, Option, Some, None, refl, ap, ◌∙◌, arith}
-use Rattle.pref_core.specs.declared.call.Call.{Call}
-use Rattle.pref_core.specs.declared.call.Call.TheVariants.{Insert as CallInsert, Update as CallUpdate, Delete as CallDelete, Commit as CallCommit}
-use Rattle.pref_core.specs.declared.event.Act.{Act}
-use Rattle.pref_core.specs.declared.event.Act.TheVariants.{Insert, Update, Delete, Commit, Begin, Scan, Finish, Abandon, Get, Room}
+use Rattle.pref_share.proofs.Common.{◌≡◌, ℕ, zero, suc, ◌-◌, ◌^◌, ◌<◌, ◌≤◌, Bool, true, false, cond, nat_lt, List, [], ◌∷◌, ◌++◌, map, replicate, Option, Some, None, refl, ap, ◌∙◌, arith, Call}
+use Rattle.pref_share.proofs.Common.{CallInsert, CallUpdate, CallDelete, CallCommit, Act, Insert, Update, Delete, Commit, Begin, Scan, Finish, Abandon, Get, Room, Reply, NoSuchClient, Spent}
+use Rattle.pref_share.proofs.Common.{AllScanned, NotDone, seat, outcome, idle_clients, Open, Member, System, Step, told_of_commit, client_of, state_of, refused, counted_with, scanned_with, one_less}
+use Rattle.pref_share.proofs.Common.{change, finish, scan, step, replies_from, seat-with_seat_other, members-changed}
 use Rattle.pref_core.specs.declared.event.Event.{Event}
-use Rattle.pref_core.specs.declared.event.Reply.{Reply}
 use Rattle.pref_core.specs.declared.event.Reply.TheVariants.{Inserted, Updated, Deleted, Committed as CommittedIs, Left, Answer}
-use Rattle.pref_core.specs.declared.fault.CoreFault.TheVariants.{NoSuchClient, Spent, AllScanned, NotDone}
 use Rattle.pref_core.specs.Limits.{Limits}
 use Rattle.pref_core.specs.Table.{entries}
 use Rattle.pref_sky.specs.Answers.{answer_of}
-use Rattle.pref_core.specs.State.{seat, outcome, idle_clients}
-use Rattle.pref_core.specs.Step.{Open, Member, System, Step, told_of_commit, client_of, state_of, refused, counted_with, scanned_with, one_less, change, finish, scan, step, replies_from}
 use Rattle.pref_core.specs.Parts.{numbered, step_of}
-use Rattle.pref_core.proofs.Stability.{seat-with_seat_other}
-use Rattle.pref_core.proofs.Systems.{members-changed}
 
 -- the system after events
 abbrev pub system_after : Limits → System → List Event → System

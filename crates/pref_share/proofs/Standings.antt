@@ -1,39 +1,24 @@
 -- What a client's counter and query are along the history that it sees.
-use Rattle.std.proofs.Common.{◌≡◌, ℕ, suc, ◌^◌, ◌<◌, ◌≤◌, Bool, true, false, cond, nat_lt, ◌&&◌, ◌==◌, List, [], ◌∷◌, ◌++◌, length, Option, Some, None, is_some, Result, Ok, Err, refl, sym, ap, ◌∙◌, subst, arith, inl, inr, MatchResult, IfOk, IfErr}
-use Rattle.std.specs.List.{AllByRecursion}
-use Rattle.std.specs.Option.{unwrap_or}
-use Rattle.std.specs.Global.{Vec}
-use mathlib.Core.List.{IsPrefix}
+use Rattle.pref_share.proofs.Common.{◌≡◌, ℕ, suc, ◌^◌, ◌<◌, ◌≤◌, Bool, true, false, cond, nat_lt, ◌&&◌, ◌==◌, List, [], ◌∷◌, ◌++◌, length, Option, Some, None, is_some, Result, Ok, Err, refl, sym, ap}
+use Rattle.pref_share.proofs.Common.{◌∙◌, subst, arith, inl, inr, MatchResult, IfOk, IfErr, AllByRecursion, unwrap_or, Vec, IsPrefix, Call, Op, Added, Done, Full, ShareFault, CoreFault, State, Client}
+use Rattle.pref_share.proofs.Common.{Snapshot, is_change, calls_of, begun_of, begun_after, after, granted, outcome, refusal, refusal_of, told_of_commit, Contents, StandsFor, Shows, ShowsBegin}
+use Rattle.pref_share.proofs.Common.{eqb-true, ran, same_number, IsLegalHistory, state_after, begin, NextIsNew, IsScanned, Answers, Scanned, begun_after-change, Opening, IsLegalFrom, HasCall}
+use Rattle.pref_share.proofs.Common.{MayFollow, history_of, contents_at, state_at, calls_at, first_state, Asking, Standing, Sees, Joins, Changes, Commits, RefusesChange, IsAnswer, own_refusal}
+use Rattle.pref_share.proofs.Common.{AsksOrNone, Asks, Stands, IsJoined, GivesNone, snapshot_at, done_or_refused}
 use Rattle.pref_term.specs.Question.{Question}
 use Rattle.pref_sky.specs.declared.entry.Ranked.{Ranked}
 use Rattle.pref_core.specs.declared.store.caller.Caller.{Caller}
-use Rattle.pref_core.specs.declared.call.Call.{Call}
 use Rattle.pref_core.specs.declared.call.Call.TheVariants.{Commit, Begin, Finish, Abandon}
-use Rattle.pref_core.specs.declared.call.Op.{Op}
 use Rattle.pref_core.specs.declared.call.Outcome.{Outcome}
-use Rattle.pref_core.specs.declared.call.Outcome.TheVariants.{Added, Done, NoSuchRow, Full}
+use Rattle.pref_core.specs.declared.call.Outcome.TheVariants.{NoSuchRow}
 use Rattle.pref_core.specs.declared.changes.Change.{Change}
 use Rattle.pref_core.specs.declared.event.Committed.{Committed}
-use Rattle.pref_share.specs.declared.fault.ShareFault.{ShareFault}
-use Rattle.pref_core.specs.declared.fault.CoreFault.{CoreFault}
 use Rattle.pref_core.specs.Changes.{added_by}
-use Rattle.pref_core.specs.State.{State, Client, Snapshot, is_change, calls_of, begun_of, begun_after, after, granted, outcome, refusal, refusal_of}
-use Rattle.pref_core.specs.Step.{told_of_commit}
-use Rattle.pref_core.specs.Slots.{Contents, StandsFor, Shows, ShowsBegin}
-use Rattle.std.proofs.lemmas.Bool.{eqb-true}
-use Rattle.pref_core.specs.Operations.{ran, same_number}
-use Rattle.pref_core.specs.History.{IsLegalHistory, state_after}
 use Rattle.pref_core.specs.Stability.{is_end, ends_query}
-use Rattle.pref_core.specs.Scans.{Scan, begin, NextIsNew, IsScanned, Answers}
-use Rattle.pref_share.specs.Scanning.{Scanned}
+use Rattle.pref_core.specs.Scans.{Scan}
 use Rattle.pref_core.proofs.Outcomes.{SameSeat, nobody, somebody, same_seat}
 use Rattle.pref_core.proofs.Shown.{begun_kept}
-use Rattle.pref_core.proofs.Systems.{begun_after-change}
 use Rattle.pref_core.proofs.Following.{stays_on_its_way, begun_on_its_way, next_is_new_on_its_way, scanned_on_its_way, answers_the_begin}
-use Rattle.pref_share.specs.Openings.{Opening, IsLegalFrom, HasCall, MayFollow, history_of, contents_at, state_at, calls_at, first_state}
-use Rattle.pref_share.specs.Standing.{Asking, Standing}
-use Rattle.pref_share.specs.Clients.{Sees, Joins, Changes, Commits, RefusesChange, IsAnswer, own_refusal}
-use Rattle.pref_share.specs.Following.{AsksOrNone, Asks, Stands, IsJoined, GivesNone, snapshot_at, done_or_refused}
 use Rattle.pref_share.proofs.Prefixes.{prefix_self, prefix_trans}
 use Rattle.pref_share.proofs.Histories.{legal-more, legal-prefix, legal_stands, legal_capacity, contents_at-append, state_at-append, history_rest, legal_is_history}
 use Rattle.pref_share.proofs.Counting.{IsGrown, caller, calls_own, begun_own, calls_grow, none_own, has_call, calls_few, idle_seat}

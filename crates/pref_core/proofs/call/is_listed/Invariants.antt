@@ -1,5 +1,4 @@
-use Rattle.std.proofs.Common.{◌≡◌, drop}
-use Rattle.pref_core.specs.Table.{among}
+use Rattle.pref_core.proofs.Common.{◌≡◌, drop, among}
 use Rattle.pref_core.proofs.call.is_listed.Given as goal
 
 abbrev pub invariant-loop-other : goal.invariant-loop-other

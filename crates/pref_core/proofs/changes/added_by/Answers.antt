@@ -1,5 +1,4 @@
-use Rattle.std.proofs.Common.{◌+◌, [], ◌∷◌, drop, ap, ◌∙◌, arith}
-use Rattle.pref_core.specs.Changes.{added_by}
+use Rattle.pref_core.proofs.Common.{◌+◌, [], ◌∷◌, drop, ap, ◌∙◌, arith, added_by}
 use Rattle.pref_core.proofs.Changing.{added_one}
 use Rattle.pref_core.proofs.Counts.{drop_item, one_adds}
 use Rattle.pref_core.proofs.changes.added_by.Goals as goal

@@ -1,5 +1,4 @@
-use Rattle.std.proofs.Common.{◌≡◌, ◌+◌, ◌≤◌, drop}
-use Rattle.pref_core.specs.Changes.{added_by}
+use Rattle.pref_core.proofs.Common.{◌≡◌, ◌+◌, ◌≤◌, drop, added_by}
 use Rattle.pref_core.proofs.changes.added_by.Given as goal
 
 abbrev pub invariant-loop-change : goal.invariant-loop-change

@@ -1,8 +1,7 @@
-use Rattle.std.proofs.Common.{◌+◌, true, false, length, drop, ap, sym, ◌∙◌, arith}
-use Rattle.pref_core.specs.Changes.{begun_by}
+use Rattle.pref_core.proofs.Common.{◌+◌, true, false, length, drop, ap, sym, ◌∙◌, arith, begun_by}
 use Rattle.pref_core.proofs.Counts.{drop_item, one_begins}
-use Rattle.pref_core.proofs.changes.begun_by.Goals as goal
 use Rattle.pref_core.proofs.changes.begun_by.Goals.{then-begins, else-begins}
+use Rattle.pref_core.proofs.changes.begun_by.Goals as goal
 
 pub overflow_add-begun : goal.overflow_add-begun
 overflow_add-begun c = let few = c.loop-change.invariant.few in let inside = c.loop-change-test.true in omega arith

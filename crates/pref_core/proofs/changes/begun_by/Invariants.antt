@@ -1,5 +1,4 @@
-use Rattle.std.proofs.Common.{◌≡◌, ℕ, ◌+◌, ◌≤◌, length, drop}
-use Rattle.pref_core.specs.Changes.{begun_by}
+use Rattle.pref_core.proofs.Common.{◌≡◌, ℕ, ◌+◌, ◌≤◌, length, drop, begun_by}
 use Rattle.pref_core.proofs.changes.begun_by.Given as goal
 
 abbrev pub invariant-loop-change : goal.invariant-loop-change

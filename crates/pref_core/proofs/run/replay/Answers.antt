@@ -1,5 +1,4 @@
-use Rattle.std.proofs.Common.{◌∙◌, sym}
-use Rattle.pref_core.specs.Step.{opened}
+use Rattle.pref_core.proofs.Common.{◌∙◌, sym, opened}
 use Rattle.pref_core.proofs.Replies.{all_replied}
 use Rattle.pref_core.proofs.run.replay.Goals as goal
 

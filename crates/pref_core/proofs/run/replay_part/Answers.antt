@@ -1,10 +1,6 @@
-use Rattle.std.proofs.Common.{◌≡◌, [], ◌∷◌, ◌++◌, ◌<◌, length, drop, ap, ◌∙◌, arith, sym, subst}
-use Rattle.std.proofs.lemmas.Bool.{lt-ltb}
-use Rattle.std.proofs.lemmas.List.{length_push}
+use Rattle.pref_core.proofs.Common.{◌≡◌, [], ◌∷◌, ◌++◌, ◌<◌, length, drop, ap, ◌∙◌, arith, sym, subst, lt-ltb, length_push, step, replies_from, StandsForSystem}
 use Rattle.std.proofs.lemmas.Iterator.Consumers.{YieldsList-turn}
 use Rattle.std.proofs.lemmas.Iterator.Adapters.{YieldsList-from_vec}
-use Rattle.pref_core.specs.Step.{step, replies_from}
-use Rattle.pref_core.specs.Systems.{StandsForSystem}
 use Rattle.pref_core.proofs.Replies.{reply_is_added, replies_step, one_reply_more, stopped_replies}
 use Rattle.pref_core.proofs.run.replay_part.Goals as goal
 

@@ -1,6 +1,4 @@
-use Rattle.std.proofs.Common.{◌≡◌, ◌≤◌, ◌++◌, length, drop}
-use Rattle.pref_core.specs.Step.{System, replies, replies_from}
-use Rattle.pref_core.specs.Systems.{StandsForSystem}
+use Rattle.pref_core.proofs.Common.{◌≡◌, ◌≤◌, ◌++◌, length, drop, System, replies, replies_from, StandsForSystem}
 use Rattle.pref_core.proofs.run.replay_part.Given as goal
 
 abbrev pub invariant-loop-event : goal.invariant-loop-event

@@ -1,5 +1,4 @@
-use Rattle.std.proofs.Common.{◌≡◌}
-use Rattle.pref_share.specs.Standing.{newcomers}
+use Rattle.pref_share.proofs.Common.{◌≡◌, newcomers}
 use Rattle.pref_share.proofs.board.all_clients.Given as goal
 
 abbrev pub invariant-loop-client : goal.invariant-loop-client

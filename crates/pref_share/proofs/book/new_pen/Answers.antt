@@ -1,4 +1,4 @@
-use Rattle.std.proofs.Common.{ap, sym, ◌∙◌}
+use Rattle.pref_share.proofs.Common.{ap, sym, ◌∙◌}
 use Rattle.pref_share.proofs.Adding.{begins_moves}
 use Rattle.pref_share.proofs.book.new_pen.Goals as goal
 

@@ -1,4 +1,4 @@
-use Rattle.std.proofs.Common.{◌≡◌, drop}
+use Rattle.pref_share.proofs.Common.{◌≡◌, drop}
 use Rattle.pref_share.proofs.master.append.Given as goal
 
 abbrev pub invariant-loop : goal.invariant-loop

@@ -1,4 +1,4 @@
-use Rattle.std.proofs.Common.{◌∙◌}
+use Rattle.pref_share.proofs.Common.{◌∙◌}
 use Rattle.pref_share.proofs.Keeps.{opens}
 use Rattle.pref_share.proofs.master.open_with.Goals as goal
 

@@ -1,7 +1,4 @@
-use Rattle.std.proofs.Common.{sym, subst}
-use Rattle.pref_share.specs.declared.published.Published.{Published}
-use Rattle.pref_share.specs.Views.{HoldsHistory}
-use Rattle.pref_share.specs.Openings.{first_contents}
+use Rattle.pref_share.proofs.Common.{sym, subst, Published, HoldsHistory, first_contents}
 use Rattle.pref_share.proofs.Keeps.{stays}
 use Rattle.pref_share.proofs.master.publish.Goals as goal
 

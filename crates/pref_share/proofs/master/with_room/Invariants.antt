@@ -1,5 +1,4 @@
-use Rattle.std.proofs.Common.{◌≡◌, drop, fold}
-use Rattle.pref_share.specs.Views.{stamped}
+use Rattle.pref_share.proofs.Common.{◌≡◌, drop, fold, stamped}
 use Rattle.pref_share.proofs.master.with_room.Given as goal
 
 abbrev pub invariant-loop : goal.invariant-loop

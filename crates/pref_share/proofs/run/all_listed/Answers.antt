@@ -1,10 +1,4 @@
-use Rattle.std.proofs.Common.{◌≡◌, ◌++◌, ◌∷◌, [], ◌∙◌, ap, map, sym}
-use Rattle.std.proofs.lemmas.List.{append_assoc, map-append}
-use Rattle.std.proofs.lemmas.List.Elements.{All-push}
-use Rattle.std.specs.Global.{Vec}
-use Rattle.std.specs.Vec.Iter.{into_iter_items}
-use Rattle.pref_core.specs.declared.event.Act.{Act}
-use Rattle.pref_share.specs.declared.task.Listed.{Listed}
+use Rattle.pref_share.proofs.Common.{◌≡◌, ◌++◌, ◌∷◌, [], ◌∙◌, ap, map, sym, append_assoc, map-append, All-push, Vec, into_iter_items, Act, Listed}
 use Rattle.pref_share.proofs.run.all_listed.Goals as goal
 
 pub loop-list-preserved : goal.loop-list-preserved

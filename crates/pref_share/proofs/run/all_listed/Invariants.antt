@@ -1,6 +1,4 @@
-use Rattle.std.proofs.Common.{◌≡◌, ◌++◌, [], map}
-use Rattle.std.specs.List.{All}
-use Rattle.std.specs.Vec.Iter.{into_iter_items}
+use Rattle.pref_share.proofs.Common.{◌≡◌, ◌++◌, [], map, All, into_iter_items}
 use Rattle.pref_share.proofs.run.all_listed.Given as goal
 
 abbrev pub invariant-loop-list : goal.invariant-loop-list

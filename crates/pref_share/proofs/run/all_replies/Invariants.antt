@@ -1,5 +1,4 @@
-use Rattle.std.proofs.Common.{◌≡◌, ◌++◌, map}
-use Rattle.std.specs.Vec.Iter.{into_iter_items}
+use Rattle.pref_share.proofs.Common.{◌≡◌, ◌++◌, map, into_iter_items}
 use Rattle.pref_share.proofs.run.all_replies.Given as goal
 
 abbrev pub invariant-loop-listed : goal.invariant-loop-listed

@@ -1,5 +1,4 @@
-use Rattle.std.proofs.Common.{◌≡◌, ◌++◌, map, Ok}
-use Rattle.std.specs.Vec.Iter.{into_iter_items}
+use Rattle.pref_share.proofs.Common.{◌≡◌, ◌++◌, map, Ok, into_iter_items}
 use Rattle.pref_share.proofs.run.all_worked.Given as goal
 
 abbrev pub invariant-loop-worked : goal.invariant-loop-worked

@@ -1,6 +1,4 @@
-use Rattle.std.proofs.Common.{◌≡◌, ◌++◌, ◌∷◌, [], ◌∙◌, List, ap, map, rules, sym}
-use Rattle.std.proofs.lemmas.List.{append_assoc, map-append}
-use Rattle.std.specs.Vec.Iter.{into_iter_items}
+use Rattle.pref_share.proofs.Common.{◌≡◌, ◌++◌, ◌∷◌, [], ◌∙◌, List, ap, map, rules, sym, append_assoc, map-append, into_iter_items}
 use Rattle.pref_share.specs.declared.run.Job.{Job}
 use Rattle.pref_share.proofs.run.paired.Goals as goal
 

@@ -1,6 +1,4 @@
-use Rattle.std.proofs.Common.{◌≡◌, ◌++◌, map}
-use Rattle.std.specs.Vec.Iter.{into_iter_items}
-use Rattle.pref_share.specs.Settling.{report_of}
+use Rattle.pref_share.proofs.Common.{◌≡◌, ◌++◌, map, into_iter_items, report_of}
 use Rattle.pref_share.proofs.run.reports_of.Given as goal
 
 abbrev pub invariant-loop-worked : goal.invariant-loop-worked

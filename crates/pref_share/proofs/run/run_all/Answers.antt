@@ -1,9 +1,4 @@
-use denote.Param.Send.{sendable}
-use Rattle.std.proofs.Common.{◌≡◌, List, ap, arith, length, sym, subst}
-use Rattle.std.specs.Vec.Iter.{into_iter_items}
-use Rattle.pref_share.specs.declared.task.Listed.{Listed}
-use Rattle.pref_share.specs.Runs.{IsJointRun}
-use Rattle.pref_share.specs.Standing.{Standing}
+use Rattle.pref_share.proofs.Common.{sendable, ◌≡◌, List, ap, arith, length, sym, subst, into_iter_items, Listed, IsJointRun, Standing}
 use Rattle.pref_share.proofs.Interleavings.{joint_runs_are_sequential, length-newcomers}
 use Rattle.pref_share.proofs.Reporting.{joint_of_lists}
 use Rattle.pref_share.proofs.Running.{few_each}

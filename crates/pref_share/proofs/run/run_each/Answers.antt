@@ -1,9 +1,7 @@
-use denote.Param.Send.{sendable}
+use Rattle.pref_share.proofs.Common.{sendable, Listed, into_iter_items}
 use Rattle.pref_share.proofs.Sending.{listed_send}
 use Rattle.pref_share.proofs.Reporting.{are_reports}
 use Rattle.pref_share.proofs.Running.{few_each}
-use Rattle.pref_share.specs.declared.task.Listed.{Listed}
-use Rattle.std.specs.Vec.Iter.{into_iter_items}
 use Rattle.pref_share.proofs.run.run_each.Goals as goal
 
 pub work_tasks-requires-send-T : goal.work_tasks-requires-send-T

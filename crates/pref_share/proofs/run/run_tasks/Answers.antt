@@ -1,13 +1,5 @@
-use Rattle.std.proofs.Common.{◌≡◌, ◌∙◌, ℕ, Bool, List, Err, IfErr, ⊎_elim, ap, arith, inl, inr, length, map, rules, subst, sym}
-use Rattle.std.specs.Global.{Vec}
-use Rattle.pref_core.specs.declared.event.Act.{Act}
-use Rattle.pref_core.specs.declared.fault.CoreFault.TheVariants.{OutOfMemory}
-use Rattle.pref_share.specs.declared.fault.ShareFault.{ShareFault}
-use Rattle.pref_share.specs.declared.fault.ShareFault.TheVariants.{Core}
-use Rattle.pref_share.specs.Reports.{RefusesRun}
-use Rattle.pref_share.specs.Runs.{IsJointRun}
-use Rattle.pref_share.specs.Settling.{IsFirstOf}
-use Rattle.pref_share.specs.Standing.{Standing}
+use Rattle.pref_share.proofs.Common.{◌≡◌, ◌∙◌, ℕ, Bool, List, Err, IfErr, ⊎_elim, ap, arith, inl, inr, length, map, rules, subst, sym, Vec, Act, OutOfMemory, ShareFault, Core, RefusesRun, IsJointRun}
+use Rattle.pref_share.proofs.Common.{IsFirstOf, Standing}
 use Rattle.pref_share.proofs.Interleavings.{joint_runs_are_sequential, length-newcomers}
 use Rattle.pref_share.proofs.Reporting.{tasks_joint, tasks_refused}
 use Rattle.pref_share.proofs.Running.{length_map}

@@ -1,5 +1,4 @@
-use Rattle.std.proofs.Common.{◌≡◌, ℕ, ◌<◌, ◌≤◌, get_or}
-use Rattle.pref_share.specs.Settling.{Settles}
+use Rattle.pref_share.proofs.Common.{◌≡◌, ℕ, ◌<◌, ◌≤◌, get_or, Settles}
 use Rattle.pref_share.proofs.run.settle_each.Given as goal
 
 abbrev pub invariant-loop-worked : goal.invariant-loop-worked

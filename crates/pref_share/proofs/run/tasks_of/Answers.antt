@@ -1,8 +1,4 @@
-use Rattle.std.proofs.Common.{◌≡◌, ◌++◌, ◌∷◌, [], ◌∙◌, List, None, ap, inl, rules, sym}
-use Rattle.std.proofs.lemmas.List.{append_assoc, map-append}
-use Rattle.std.proofs.lemmas.List.Elements.{All-push}
-use Rattle.std.specs.Vec.Iter.{into_iter_items}
-use Rattle.pref_share.specs.declared.run.Worked.{Worked}
+use Rattle.pref_share.proofs.Common.{◌≡◌, ◌++◌, ◌∷◌, [], ◌∙◌, List, None, ap, inl, rules, sym, append_assoc, map-append, All-push, into_iter_items, Worked}
 use Rattle.pref_share.proofs.run.tasks_of.Goals as goal
 
 pub loop-worked-preserved : goal.loop-worked-preserved

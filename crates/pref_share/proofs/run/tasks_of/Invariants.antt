@@ -1,6 +1,4 @@
-use Rattle.std.proofs.Common.{◌≡◌, ◌++◌, None, map}
-use Rattle.std.specs.List.{All}
-use Rattle.std.specs.Vec.Iter.{into_iter_items}
+use Rattle.pref_share.proofs.Common.{◌≡◌, ◌++◌, None, map, All, into_iter_items}
 use Rattle.pref_share.proofs.run.tasks_of.Given as goal
 
 abbrev pub invariant-loop-worked : goal.invariant-loop-worked

@@ -1,4 +1,4 @@
-use Rattle.std.proofs.Common.{false, true, refl, rules}
+use Rattle.pref_share.proofs.Common.{false, true, refl, rules}
 use Rattle.pref_share.proofs.Running.{goes_first, goes_held, goes_more, goes_no_further}
 use Rattle.pref_share.proofs.run.work.Goals as goal
 

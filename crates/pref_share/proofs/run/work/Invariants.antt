@@ -1,4 +1,4 @@
-use Rattle.std.proofs.Common.{length}
+use Rattle.pref_share.proofs.Common.{length}
 use Rattle.pref_share.proofs.Running.{Goes}
 use Rattle.pref_share.proofs.run.work.Given as goal
 

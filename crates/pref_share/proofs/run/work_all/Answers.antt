@@ -1,10 +1,10 @@
-use denote.Param.Send.{sendable}
+use Rattle.pref_share.proofs.Common.{sendable}
 use denote.Param.SendFields.{declared_send, variants_send, as_row_send}
 use Rattle.std.proofs.Crossing.{frees}
+use Rattle.pref_share.proofs.Sending.{client_send}
 use Rattle.std.proofs.alloc.Global.TheSendSync as heap
 use Rattle.std.proofs.option.Option.TheSendSync as options
 use Rattle.pref_share.proofs.fault.ShareFault.TheSendSync as faults
-use Rattle.pref_share.proofs.Sending.{client_send}
 use Rattle.pref_share.proofs.run.work_all.Goals as goal
 
 pub map_vec-requires-send-J : goal.map_vec-requires-send-J

@@ -1,8 +1,6 @@
-use Rattle.std.proofs.Common.{◌≡◌, ◌++◌, ◌<◌, ◌^◌, ◌∙◌, ℕ, Bool, List, Result, Ok, [], ap, arith, drop, get_or, length, map, subst, sym, take}
+use Rattle.pref_share.proofs.Common.{◌≡◌, ◌++◌, ◌<◌, ◌^◌, ◌∙◌, ℕ, Bool, List, Result, Ok, [], ap, arith, drop, get_or, length, map, subst, sym, take, Worked, AreWorked, DidTask, Settles}
 use Rattle.std.proofs.Math.Seq.{take-append_seam}
 use Rattle.pref_share.specs.declared.run.Job.{Job}
-use Rattle.pref_share.specs.declared.run.Worked.{Worked}
-use Rattle.pref_share.specs.Settling.{AreWorked, DidTask, Settles}
 use Rattle.pref_share.proofs.Reporting.{are_worked}
 use Rattle.pref_share.proofs.Running.{all_mapped, length_map, told_at}
 use Rattle.pref_share.proofs.run.work_tasks.Goals as goal

@@ -1,5 +1,4 @@
-use Rattle.std.proofs.Common.{ap, ◌∙◌, nat_lt}
-use Rattle.pref_core.specs.State.{changes_of}
+use Rattle.pref_core.proofs.Common.{ap, ◌∙◌, nat_lt, changes_of}
 use Rattle.pref_core.proofs.Counts.{begins_some}
 use Rattle.pref_core.proofs.call.LentCall.begins_row.Goals as goal
 

@@ -1,4 +1,4 @@
-use Rattle.std.proofs.Common.{◌≤◌, length, ap, arith}
+use Rattle.pref_core.proofs.Common.{◌≤◌, length, ap, arith}
 use Rattle.pref_core.proofs.Changing.{begun_few, commit_length}
 use Rattle.pref_core.proofs.call.LentCall.begun.Goals as goal
 

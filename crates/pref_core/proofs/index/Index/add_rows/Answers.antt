@@ -1,14 +1,9 @@
-use Rattle.std.proofs.Common.{◌+◌, ◌∷◌, ℕ, Option, drop, sym, ap, ap₂, ◌∙◌, subst, arith}
-use Rattle.std.proofs.lemmas.Bool.{ltb-false, ltb-true}
-use Rattle.pref_core.specs.declared.changes.Change.TheVariants.{Add}
-use Rattle.pref_core.specs.Indexes.{slot_of, given, added_rows}
-use Rattle.pref_core.specs.Lent.{change_of}
-use Rattle.pref_core.specs.State.{changes_of}
+use Rattle.pref_core.proofs.Common.{◌+◌, ◌∷◌, ℕ, Option, drop, sym, ap, ap₂, ◌∙◌, subst, arith, ltb-false, ltb-true, Add, slot_of, given, added_rows, change_of, changes_of}
 use Rattle.pref_core.proofs.Changing.{drop_at, drop_all}
 use Rattle.pref_core.proofs.Counts.{drop_item, drop_more}
 use Rattle.pref_core.proofs.Reindexing.{AddsRest, adds_one}
-use Rattle.pref_core.proofs.index.Index.add_rows.Goals as goal
 use Rattle.pref_core.proofs.index.Index.add_rows.Goals.{in-Add+in-Some+in_default-put, in-Set, in-Remove}
+use Rattle.pref_core.proofs.index.Index.add_rows.Goals as goal
 
 pub returns-in_default-clause-added : goal.returns-in_default-clause-added
 returns-in_default-clause-added c id =

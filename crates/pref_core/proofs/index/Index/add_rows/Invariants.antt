@@ -1,6 +1,4 @@
-use Rattle.std.proofs.Common.{◌+◌, ◌≤◌, drop}
-use Rattle.pref_core.specs.Indexes.{slot_of, given, added_rows}
-use Rattle.pref_core.specs.State.{changes_of}
+use Rattle.pref_core.proofs.Common.{◌+◌, ◌≤◌, drop, slot_of, given, added_rows, changes_of}
 use Rattle.pref_core.proofs.Reindexing.{AddsRest}
 use Rattle.pref_core.proofs.index.Index.add_rows.Given as goal
 

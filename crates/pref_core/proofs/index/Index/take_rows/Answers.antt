@@ -1,5 +1,4 @@
-use Rattle.std.proofs.Common.{◌≡◌, ◌&&◌, None, cond, nat_le, nat_lt, ap, ◌∙◌, arith}
-use Rattle.pref_core.specs.Indexes.{slot_of}
+use Rattle.pref_core.proofs.Common.{◌≡◌, ◌&&◌, None, cond, nat_le, nat_lt, ap, ◌∙◌, arith, slot_of}
 use Rattle.pref_core.proofs.index.Index.take_rows.Goals as goal
 
 pub returns : goal.returns

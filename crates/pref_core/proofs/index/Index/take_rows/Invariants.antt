@@ -1,5 +1,4 @@
-use Rattle.std.proofs.Common.{◌≡◌, ◌≤◌, ◌&&◌, ℕ, None, cond, nat_le, nat_lt}
-use Rattle.pref_core.specs.Indexes.{slot_of}
+use Rattle.pref_core.proofs.Common.{◌≡◌, ◌≤◌, ◌&&◌, ℕ, None, cond, nat_le, nat_lt, slot_of}
 use Rattle.pref_core.proofs.index.Index.take_rows.Given as goal
 
 abbrev pub invariant-loop-id : goal.invariant-loop-id

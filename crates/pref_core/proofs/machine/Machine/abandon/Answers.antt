@@ -1,15 +1,6 @@
-use Rattle.std.proofs.Common.{◌≡◌, Ok, Err, None, length, arith, refl, sym, subst, ◌∙◌, ap}
-use Rattle.std.specs.Vec.{with_items}
-use Rattle.std.proofs.lemmas.List.{with_items_is}
-use Rattle.pref_core.specs.State.{with_seat}
-use Rattle.pref_core.specs.Systems.{Does}
-use Rattle.pref_core.specs.Operations.{IsPlan}
-use Rattle.pref_core.specs.Planned.{op_of}
+use Rattle.pref_core.proofs.Common.{◌≡◌, Ok, Err, None, length, arith, refl, sym, subst, ◌∙◌, ap, with_items, with_items_is, with_seat, Does, IsPlan, op_of, Abandon, ActAbandon, Abandoned}
 use Rattle.pref_core.proofs.Legal.{plan_itself}
 use Rattle.pref_core.proofs.Steps.{PlansAlways, running_of}
-use Rattle.pref_core.specs.declared.call.Call.TheVariants.{Abandon}
-use Rattle.pref_core.specs.declared.event.Act.TheVariants.{Abandon as ActAbandon}
-use Rattle.pref_core.specs.declared.event.Reply.TheVariants.{Abandoned}
 use Rattle.pref_core.proofs.Doing.{abandon_does, abandon_not, in_order_quiet}
 use Rattle.pref_core.proofs.machine.Machine.abandon.Goals as goal
 

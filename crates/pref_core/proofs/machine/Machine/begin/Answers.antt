@@ -1,9 +1,4 @@
-use Rattle.std.proofs.Common.{Err, subst}
-use Rattle.pref_core.specs.declared.event.Act.TheVariants.{Begin as ActBegin}
-use Rattle.pref_core.specs.declared.call.Call.TheVariants.{Begin}
-use Rattle.pref_core.specs.Operations.{IsPlan}
-use Rattle.pref_core.specs.Systems.{Running, Does}
-use Rattle.pref_core.specs.Planned.{op_of}
+use Rattle.pref_core.proofs.Common.{Err, subst, ActBegin, Begin, IsPlan, Running, Does, op_of}
 use Rattle.pref_core.proofs.Steps.{PlansAlways, running_of}
 use Rattle.pref_core.proofs.Doing.{begin_not}
 use Rattle.pref_core.proofs.machine.Machine.begin.Goals as goal

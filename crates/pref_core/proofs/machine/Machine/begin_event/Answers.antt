@@ -1,10 +1,4 @@
-use Rattle.std.proofs.Common.{Ok, Err, refl, subst}
-use Rattle.pref_core.specs.declared.event.Act.TheVariants.{Begin as ActBegin}
-use Rattle.pref_core.specs.declared.event.Reply.TheVariants.{Begun}
-use Rattle.pref_core.specs.declared.call.Call.TheVariants.{Begin}
-use Rattle.pref_core.specs.Operations.{IsPlan}
-use Rattle.pref_core.specs.Systems.{Running, Steps}
-use Rattle.pref_core.specs.Planned.{op_of}
+use Rattle.pref_core.proofs.Common.{Ok, Err, refl, subst, ActBegin, Begun, Begin, IsPlan, Running, Steps, op_of}
 use Rattle.pref_core.proofs.Steps.{PlansAlways, running_of}
 use Rattle.pref_core.proofs.Doing.{begin_steps_not, steps_does}
 use Rattle.pref_core.proofs.machine.Machine.begin_event.Goals as goal

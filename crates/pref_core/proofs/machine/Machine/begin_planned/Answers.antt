@@ -1,14 +1,4 @@
-use Rattle.std.proofs.Common.{◌≡◌, Ok, Some, length, arith, refl, sym, subst, ◌∙◌}
-use Rattle.std.specs.Vec.{with_items}
-use Rattle.std.proofs.lemmas.List.{with_items_is}
-use Rattle.pref_core.specs.State.{with_seat}
-use Rattle.pref_core.specs.declared.call.Call.TheVariants.{Begin}
-use Rattle.pref_core.specs.declared.event.Act.TheVariants.{Begin as ActBegin}
-use Rattle.pref_core.specs.declared.event.Reply.TheVariants.{Begun}
-use Rattle.pref_core.specs.Limits.{blocks}
-use Rattle.pref_core.specs.Operations.{IsPlan}
-use Rattle.pref_core.specs.Systems.{Running, Does}
-use Rattle.pref_core.specs.Planned.{op_of}
+use Rattle.pref_core.proofs.Common.{◌≡◌, Ok, Some, length, arith, refl, sym, subst, ◌∙◌, with_items, with_items_is, with_seat, Begin, ActBegin, Begun, blocks, IsPlan, Running, Does, op_of}
 use Rattle.pref_core.proofs.Legal.{plan_itself}
 use Rattle.pref_core.proofs.Steps.{running_of}
 use Rattle.pref_core.proofs.Doing.{begin_does, in_order_quiet}

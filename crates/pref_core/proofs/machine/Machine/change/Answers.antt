@@ -1,11 +1,4 @@
-use Rattle.std.proofs.Common.{◌≡◌, nat_lt, true, Err, refl, sym, subst, rules}
-use Rattle.pref_core.specs.declared.fault.CoreFault.TheVariants.{OutOfMemory}
-use Rattle.pref_core.specs.Indexes.{IsIndexOf}
-use Rattle.pref_core.specs.Planned.{op_of}
-use Rattle.pref_core.specs.State.{added}
-use Rattle.pref_core.specs.declared.event.Reply.TheVariants.{Abandoned}
-use Rattle.pref_core.specs.Systems.{as_reply}
-use Rattle.pref_core.specs.Parts.{Changes}
+use Rattle.pref_core.proofs.Common.{◌≡◌, nat_lt, true, Err, refl, sym, subst, rules, OutOfMemory, IsIndexOf, op_of, added, Abandoned, as_reply, Changes}
 use Rattle.pref_core.proofs.Steps.{running_of}
 use Rattle.pref_core.proofs.Legal.{plan_itself}
 use Rattle.pref_core.proofs.Doing.{change_done, change_not, change_unmade, in_order_changed}

@@ -1,10 +1,6 @@
-use Rattle.std.proofs.Common.{◌≡◌, Ok, Err, refl, sym, ap, ◌∙◌, subst, rules}
-use Rattle.pref_core.specs.declared.event.Act.TheVariants as act
-use Rattle.pref_core.specs.declared.event.Reply.TheVariants.{Committed}
-use Rattle.pref_core.specs.declared.call.Call.TheVariants.{Commit}
-use Rattle.pref_core.specs.Systems.{Running, Does, as_reply}
-use Rattle.pref_core.specs.Parts.{Changes}
+use Rattle.pref_core.proofs.Common.{◌≡◌, Ok, Err, refl, sym, ap, ◌∙◌, subst, rules, Committed, Commit, Running, Does, as_reply, Changes}
 use Rattle.pref_core.proofs.Doing.{commit_does}
+use Rattle.pref_core.specs.declared.event.Act.TheVariants as act
 use Rattle.pref_core.proofs.machine.Machine.commit.Goals as goal
 
 pub returns : goal.returns

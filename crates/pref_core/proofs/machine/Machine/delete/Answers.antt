@@ -1,7 +1,4 @@
-use Rattle.std.proofs.Common.{refl, subst}
-use Rattle.pref_core.specs.declared.event.Reply.TheVariants.{Deleted}
-use Rattle.pref_core.specs.Systems.{as_reply}
-use Rattle.pref_core.specs.Parts.{Changes}
+use Rattle.pref_core.proofs.Common.{refl, subst, Deleted, as_reply, Changes}
 use Rattle.pref_core.proofs.Doing.{delete_does}
 use Rattle.pref_core.proofs.machine.Machine.delete.Goals as goal
 

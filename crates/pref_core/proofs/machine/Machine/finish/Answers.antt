@@ -1,16 +1,7 @@
-use Rattle.std.proofs.Common.{◌≡◌, Ok, Err, None, length, arith, refl, sym, subst, ◌∙◌, ap, rules}
-use Rattle.std.specs.Vec.{with_items}
-use Rattle.std.proofs.lemmas.List.{with_items_is}
-use Rattle.pref_core.specs.State.{with_seat, seat}
-use Rattle.pref_core.specs.Systems.{Does, as_reply}
-use Rattle.pref_core.specs.Parts.{AnswersAt}
-use Rattle.pref_core.specs.Operations.{IsPlan}
-use Rattle.pref_core.specs.Planned.{op_of}
+use Rattle.pref_core.proofs.Common.{◌≡◌, Ok, Err, None, length, arith, refl, sym, subst, ◌∙◌, ap, rules, with_items, with_items_is, with_seat, seat, Does, as_reply, AnswersAt, IsPlan, op_of, Finish}
+use Rattle.pref_core.proofs.Common.{ActFinish, Answer}
 use Rattle.pref_core.proofs.Legal.{plan_itself}
 use Rattle.pref_core.proofs.Steps.{PlansAlways, running_of}
-use Rattle.pref_core.specs.declared.call.Call.TheVariants.{Finish}
-use Rattle.pref_core.specs.declared.event.Act.TheVariants.{Finish as ActFinish}
-use Rattle.pref_core.specs.declared.event.Reply.TheVariants.{Answer}
 use Rattle.pref_core.proofs.Doing.{finish_does, finish_not, finish_early, in_order_quiet}
 use Rattle.pref_core.proofs.machine.Machine.finish.Goals as goal
 

@@ -1,7 +1,4 @@
-use Rattle.std.proofs.Common.{Some, None, is_some, sym, subst, ◌∙◌, ap}
-use Rattle.pref_core.specs.declared.event.Act.TheVariants.{Get as ActGet}
-use Rattle.pref_core.specs.State.{seat}
-use Rattle.pref_core.specs.Systems.{Does}
+use Rattle.pref_core.proofs.Common.{Some, None, is_some, sym, subst, ◌∙◌, ap, ActGet, seat, Does}
 use Rattle.pref_core.proofs.Steps.{running_of}
 use Rattle.pref_core.proofs.Endings.{told_get}
 use Rattle.pref_core.proofs.Doing.{get_does}

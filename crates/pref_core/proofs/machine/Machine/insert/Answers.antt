@@ -1,9 +1,5 @@
-use Rattle.std.proofs.Common.{◌≡◌, Ok, Err, refl, sym, ap, ◌∙◌, subst, rules}
+use Rattle.pref_core.proofs.Common.{◌≡◌, Ok, Err, refl, sym, ap, ◌∙◌, subst, rules, Inserted, Does, as_reply, Changes, Running}
 use Rattle.pref_core.specs.declared.event.Act.TheVariants.{Insert}
-use Rattle.pref_core.specs.declared.event.Reply.TheVariants.{Inserted}
-use Rattle.pref_core.specs.Systems.{Does, as_reply}
-use Rattle.pref_core.specs.Parts.{Changes}
-use Rattle.pref_core.specs.Systems.{Running}
 use Rattle.pref_core.proofs.Doing.{insert_does}
 use Rattle.pref_core.proofs.machine.Machine.insert.Goals as goal
 

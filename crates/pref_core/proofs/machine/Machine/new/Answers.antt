@@ -1,5 +1,4 @@
-use Rattle.std.proofs.Common.{replicate, None, refl, ap, ◌∙◌}
-use Rattle.pref_core.specs.Step.{opened}
+use Rattle.pref_core.proofs.Common.{replicate, None, refl, ap, ◌∙◌, opened}
 use Rattle.pref_core.proofs.Systems.{opened_system}
 use Rattle.pref_core.proofs.machine.Machine.new.Goals as goal
 

@@ -1,8 +1,4 @@
-use Rattle.std.proofs.Common.{Ok, is_some, sym, subst, ◌∙◌, ap}
-use Rattle.pref_core.specs.declared.event.Act.TheVariants.{Room as ActRoom}
-use Rattle.pref_core.specs.declared.event.Reply.TheVariants.{Room}
-use Rattle.pref_core.specs.State.{seat}
-use Rattle.pref_core.specs.Systems.{Does}
+use Rattle.pref_core.proofs.Common.{Ok, is_some, sym, subst, ◌∙◌, ap, ActRoom, Room, seat, Does}
 use Rattle.pref_core.proofs.Steps.{running_of}
 use Rattle.pref_core.proofs.Doing.{room_does}
 use Rattle.pref_core.proofs.machine.Machine.room.Goals as goal

@@ -1,12 +1,5 @@
-use Rattle.std.proofs.Common.{◌≡◌, length, arith, sym, subst}
-use Rattle.std.specs.Vec.{with_items}
-use Rattle.std.proofs.lemmas.List.{with_items_is}
-use Rattle.pref_core.specs.State.{seat}
-use Rattle.pref_core.specs.declared.event.Act.TheVariants.{Scan as ActScan}
-use Rattle.pref_core.specs.Systems.{Does, as_reply}
-use Rattle.pref_core.specs.Parts.{ScansAt, NextIsNewAt}
+use Rattle.pref_core.proofs.Common.{◌≡◌, length, arith, sym, subst, with_items, with_items_is, seat, ActScan, Does, as_reply, ScansAt, NextIsNewAt, Left}
 use Rattle.pref_core.proofs.Steps.{running_of}
-use Rattle.pref_core.specs.declared.event.Reply.TheVariants.{Left}
 use Rattle.pref_core.proofs.Doing.{scan_does, next_is_new_in_order, in_order_after}
 use Rattle.pref_core.proofs.machine.Machine.scan.Goals as goal
 

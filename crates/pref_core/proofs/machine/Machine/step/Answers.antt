@@ -1,4 +1,4 @@
-use Rattle.std.proofs.Common.{refl}
+use Rattle.pref_core.proofs.Common.{refl}
 use Rattle.pref_core.proofs.Doing.{steps_does}
 use Rattle.pref_core.proofs.machine.Machine.step.Goals as goal
 

@@ -1,7 +1,4 @@
-use Rattle.std.proofs.Common.{refl, subst}
-use Rattle.pref_core.specs.declared.event.Reply.TheVariants.{Updated}
-use Rattle.pref_core.specs.Systems.{as_reply}
-use Rattle.pref_core.specs.Parts.{Changes}
+use Rattle.pref_core.proofs.Common.{refl, subst, Updated, as_reply, Changes}
 use Rattle.pref_core.proofs.Doing.{update_does}
 use Rattle.pref_core.proofs.machine.Machine.update.Goals as goal
 

@@ -1,4 +1,4 @@
-use Rattle.std.proofs.Common.{arith, ◌≡◌, ◌∙◌}
+use Rattle.pref_core.proofs.Common.{arith, ◌≡◌, ◌∙◌}
 use Rattle.pref_core.proofs.Places.{next_is_new_there, scans_some, scans_none}
 use Rattle.pref_core.proofs.machine.seats.scan_at.Goals as goal
 

@@ -1,4 +1,4 @@
-use Rattle.std.proofs.Common.{◌++◌, map, sym, subst, ◌∙◌}
+use Rattle.pref_core.proofs.Common.{◌++◌, map, sym, subst, ◌∙◌}
 use Rattle.pref_sky.specs.Levels.{HaveDifferentIds, entry_of}
 use Rattle.pref_core.proofs.query.Query.scan.Goals as goal
 

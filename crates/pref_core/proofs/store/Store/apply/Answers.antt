@@ -1,13 +1,8 @@
-use Rattle.std.proofs.Common.{◌≡◌, ◌&&◌, Bool, true, is_some, sym, ap, ◌∙◌, subst}
-use Rattle.std.proofs.lemmas.Bool.{and_from, and_parts, true≢false}
-use Rattle.pref_core.specs.declared.call.Op.{Op}
-use Rattle.pref_core.specs.Slots.{Contents}
-use Rattle.pref_core.specs.Operations.{AppliesIn, IsLegal, is_next, applied, slots_after}
-use Rattle.pref_core.specs.Planned.{op_of}
+use Rattle.pref_core.proofs.Common.{◌≡◌, ◌&&◌, Bool, true, is_some, sym, ap, ◌∙◌, subst, and_from, and_parts, true≢false, Op, Contents, AppliesIn, IsLegal, is_next, applied, slots_after, op_of}
 use Rattle.pref_core.proofs.Ends.{kept_stepped, stepped_is}
 use Rattle.pref_core.proofs.Legal.{applies_in, applied_not, is_next-from}
-use Rattle.pref_core.proofs.store.Store.apply.Goals as goal
 use Rattle.pref_core.proofs.store.Store.apply.Goals.{After-step, Else-is_legal}
+use Rattle.pref_core.proofs.store.Store.apply.Goals as goal
 
 -- an op that is found legal by the contents that the store shows is so by those inside
 legal : (inside now : Contents) (op : Op) (b : Bool) → inside ≡ now → b ≡ (is_next now op && is_some (slots_after now op)) → b ≡ true → (is_next inside op ≡ true) × (is_some (slots_after inside op) ≡ true)

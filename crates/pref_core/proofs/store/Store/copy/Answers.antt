@@ -1,5 +1,4 @@
-use Rattle.std.proofs.Common.{sym, subst}
-use Rattle.pref_core.specs.Kept.{IsKept}
+use Rattle.pref_core.proofs.Common.{sym, subst, IsKept}
 use Rattle.pref_core.proofs.store.Store.copy.Goals as goal
 
 pub invariant_of-result : goal.invariant_of-result

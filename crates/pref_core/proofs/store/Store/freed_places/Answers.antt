@@ -1,18 +1,11 @@
-use Rattle.std.proofs.Common.{◌≡◌, ◌+◌, ◌++◌, suc, [], ◌∷◌, true, false, take, drop, sym, ap, ◌∙◌, subst, arith}
-use Rattle.std.specs.Option.{option_to_list}
-use Rattle.std.proofs.lemmas.List.{append-nil}
-use Rattle.pref_core.specs.Changes.{ended_by}
-use Rattle.pref_core.specs.Indexes.{IsPlaceOf}
-use Rattle.pref_core.specs.Kept.{IsFreed, frees_at}
-use Rattle.pref_core.specs.Slots.{Contents, begins, visible}
-use Rattle.pref_core.specs.State.{changes_of, ended, missing}
-use Rattle.pref_core.specs.Lent.{change_of}
+use Rattle.pref_core.proofs.Common.{◌≡◌, ◌+◌, ◌++◌, suc, [], ◌∷◌, true, false, take, drop, sym, ap, ◌∙◌, subst, arith, option_to_list, append-nil, ended_by, IsPlaceOf, IsFreed, frees_at, Contents}
+use Rattle.pref_core.proofs.Common.{begins, visible, changes_of, ended, missing, change_of}
 use Rattle.pref_core.proofs.Bounds.{stamp-small}
 use Rattle.pref_core.proofs.Changing.{ended_so_far, formed_apart, take_all}
 use Rattle.pref_core.proofs.Counts.{ended_first, ended_next, named_at}
 use Rattle.pref_core.proofs.Freeing.{FreesUpTo, frees_one, frees_few, frees_missing, freed_all}
-use Rattle.pref_core.proofs.store.Store.freed_places.Goals as goal
 use Rattle.pref_core.proofs.store.Store.freed_places.Goals.{in-Some+in-Some-place_of+then-frees, in-Some+in-Some-place_of+else-frees, in_default}
+use Rattle.pref_core.proofs.store.Store.freed_places.Goals as goal
 
 pub frees-requires : goal.frees-requires
 frees-requires c = let small = stamp-small _ c.self.invariant.bounded in omega arith

@@ -1,6 +1,4 @@
-use Rattle.std.proofs.Common.{take}
-use Rattle.pref_core.specs.Changes.{ended_by}
-use Rattle.pref_core.specs.State.{changes_of, ended}
+use Rattle.pref_core.proofs.Common.{take, ended_by, changes_of, ended}
 use Rattle.pref_core.proofs.Freeing.{FreesUpTo}
 use Rattle.pref_core.proofs.store.Store.freed_places.Given as goal
 

@@ -1,7 +1,4 @@
-use Rattle.std.proofs.Common.{◌∙◌, ap, subst}
-use Rattle.pref_core.specs.Slots.{Contents}
-use Rattle.pref_core.specs.Indexes.{IsPlaceOf}
-use Rattle.pref_core.specs.Kept.{row_in}
+use Rattle.pref_core.proofs.Common.{◌∙◌, ap, subst, Contents, IsPlaceOf, row_in}
 use Rattle.pref_core.proofs.Lookups.{row_of_place}
 use Rattle.pref_core.proofs.store.Store.get_at.Goals as goal
 

@@ -1,7 +1,4 @@
-use Rattle.std.proofs.Common.{◌&&◌, is_some, sym, ap, ◌∙◌}
-use Rattle.pref_core.specs.Operations.{is_next, slots_after}
-use Rattle.pref_core.specs.Planned.{op_of}
-use Rattle.pref_core.specs.Slots.{Contents}
+use Rattle.pref_core.proofs.Common.{◌&&◌, is_some, sym, ap, ◌∙◌, is_next, slots_after, op_of, Contents}
 use Rattle.pref_core.proofs.AtOnce.{next_fits}
 use Rattle.pref_core.proofs.store.Store.is_legal.Goals as goal
 

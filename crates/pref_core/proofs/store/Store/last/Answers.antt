@@ -1,9 +1,5 @@
-use Rattle.std.proofs.Common.{◌≡◌, ℕ, Option, Some, None, refl, ap, ◌∙◌}
-use Rattle.std.specs.Option.{option_map, unwrap_or}
-use Rattle.pref_core.specs.declared.store.caller.Caller.{Caller}
-use Rattle.pref_core.specs.declared.store.Store.TheInside.{Inside}
-use Rattle.pref_core.specs.State.{seat}
-use Rattle.pref_core.specs.Slots.{Contents}
+use Rattle.pref_core.proofs.Common.{◌≡◌, ℕ, Option, Some, None, refl, ap, ◌∙◌, option_map, Caller, Inside, seat, Contents}
+use Rattle.std.specs.Option.{unwrap_or}
 use Rattle.pref_core.proofs.Outcomes.{same_calls}
 use Rattle.pref_core.proofs.store.Store.last.Goals as goal
 

@@ -1,4 +1,4 @@
-use Rattle.pref_core.specs.Planned.{op_or_fault}
+use Rattle.pref_core.proofs.Common.{op_or_fault}
 use Rattle.pref_core.proofs.Legal.{plans_in}
 use Rattle.pref_core.proofs.store.Store.look_up.Goals as goal
 

@@ -1,6 +1,4 @@
-use Rattle.std.proofs.Common.{◌≡◌, length, arith, refl, sym, subst}
-use Rattle.pref_core.specs.Slots.{Contents, StandsFor, opening_contents}
-use Rattle.pref_core.specs.State.{opening}
+use Rattle.pref_core.proofs.Common.{◌≡◌, length, arith, refl, sym, subst, Contents, StandsFor, opening_contents, opening}
 use Rattle.pref_core.proofs.Openings.{opened_stands}
 use Rattle.pref_core.proofs.store.Store.new.Goals as goal
 

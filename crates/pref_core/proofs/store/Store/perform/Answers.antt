@@ -1,10 +1,8 @@
-use Rattle.std.proofs.Common.{◌≡◌, true, sym, ap, ◌∙◌, subst}
-use Rattle.pref_core.specs.Operations.{AppliesIn, is_next, applied}
-use Rattle.pref_core.specs.Planned.{op_of}
+use Rattle.pref_core.proofs.Common.{◌≡◌, true, sym, ap, ◌∙◌, subst, AppliesIn, is_next, applied, op_of}
 use Rattle.pref_core.proofs.Ends.{kept_stepped, stepped_is}
 use Rattle.pref_core.proofs.Legal.{applies_in}
-use Rattle.pref_core.proofs.store.Store.perform.Goals as goal
 use Rattle.pref_core.proofs.store.Store.perform.Goals.{After-step}
+use Rattle.pref_core.proofs.store.Store.perform.Goals as goal
 
 next : (c : After-step) → is_next c.self.inside.contents (op_of c.args.op.now) ≡ true
 next c = ap (λ s. is_next s (op_of c.args.op.now)) c.self.view_is ∙ c.requires.next

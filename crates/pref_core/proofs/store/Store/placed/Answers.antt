@@ -1,7 +1,4 @@
-use Rattle.std.proofs.Common.{ap, ◌∙◌}
-use Rattle.pref_core.specs.declared.store.Store.TheInside.{Inside}
-use Rattle.pref_core.specs.Operations.{outcome_at}
-use Rattle.pref_core.specs.State.{granted}
+use Rattle.pref_core.proofs.Common.{ap, ◌∙◌, Inside, outcome_at, granted}
 use Rattle.pref_core.proofs.store.Store.placed.Goals as goal
 
 pub slots_for-requires-clause-told : goal.slots_for-requires-clause-told

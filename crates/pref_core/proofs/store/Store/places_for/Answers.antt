@@ -1,16 +1,9 @@
-use Rattle.std.proofs.Common.{◌+◌, ◌++◌, [], ◌∷◌, drop, sym, ap, ◌∙◌, subst, arith}
-use Rattle.pref_core.specs.declared.store.Store.TheInside.{Inside}
-use Rattle.pref_core.specs.Bounds.{IsBounded}
-use Rattle.pref_core.specs.Changes.{begun_by, added_by}
-use Rattle.pref_core.specs.Kept.{is_open, zones_of}
-use Rattle.pref_core.specs.Slots.{Contents}
-use Rattle.pref_core.specs.State.{changes_of}
-use Rattle.pref_core.specs.Lent.{change_of}
+use Rattle.pref_core.proofs.Common.{◌+◌, ◌++◌, [], ◌∷◌, drop, sym, ap, ◌∙◌, subst, arith, Inside, IsBounded, begun_by, added_by, is_open, zones_of, Contents, changes_of, change_of}
 use Rattle.pref_core.proofs.Bounds.{next_id-small}
 use Rattle.pref_core.proofs.Changing.{begun_at, added_one, drop_all}
 use Rattle.pref_core.proofs.Choosing.{ChosenUpTo, none_chosen, chosen_few, choose_one, one_left, all_chosen}
-use Rattle.pref_core.proofs.store.Store.places_for.Goals as goal
 use Rattle.pref_core.proofs.store.Store.places_for.Goals.{in-Some+in-Some-choose, in_default}
+use Rattle.pref_core.proofs.store.Store.places_for.Goals as goal
 
 pub loop-at-init : goal.loop-at-init
 loop-at-init c =

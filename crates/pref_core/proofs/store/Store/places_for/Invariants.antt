@@ -1,6 +1,4 @@
-use Rattle.std.proofs.Common.{◌+◌, ◌≤◌, drop}
-use Rattle.pref_core.specs.Changes.{begun_by}
-use Rattle.pref_core.specs.State.{changes_of}
+use Rattle.pref_core.proofs.Common.{◌+◌, ◌≤◌, drop, begun_by, changes_of}
 use Rattle.pref_core.proofs.Choosing.{ChosenUpTo}
 use Rattle.pref_core.proofs.store.Store.places_for.Given as goal
 

@@ -1,5 +1,4 @@
-use Rattle.std.proofs.Common.{◌≡◌, sym, subst, Ok, Err, Some}
-use Rattle.pref_core.specs.Operations.{IsPlan, refusal_at}
+use Rattle.pref_core.proofs.Common.{◌≡◌, sym, subst, Ok, Err, Some, IsPlan, refusal_at}
 use Rattle.pref_core.proofs.Legal.{plans_in}
 use Rattle.pref_core.proofs.store.Store.plan_at.Goals as goal
 

@@ -1,8 +1,4 @@
-use Rattle.std.proofs.Common.{◌≡◌, ◌+◌, Some, refl, sym, ap, ◌∙◌, arith}
-use Rattle.pref_core.specs.declared.call.Op.{Op}
-use Rattle.pref_core.specs.declared.store.Store.TheInside.{Inside}
-use Rattle.pref_core.specs.Slots.{Contents}
-use Rattle.pref_core.specs.State.{seat, refusal_of}
+use Rattle.pref_core.proofs.Common.{◌≡◌, ◌+◌, Some, refl, sym, ap, ◌∙◌, arith, Op, Inside, Contents, seat, refusal_of}
 use Rattle.pref_core.proofs.Legal.{is_next-planned}
 use Rattle.pref_core.proofs.store.Store.plan_by.Goals as goal
 

@@ -1,9 +1,5 @@
-use Rattle.std.proofs.Common.{◌≡◌, ◌&&◌, ◌^◌, ◌<◌, ℕ, Bool, true, false, Result, Ok, Err, OnErr, refl, sym, ap, ◌∙◌, subst}
-use Rattle.pref_core.specs.Indexes.{slot_of, given, added_rows, moved_rows, PointsAll, LacksFrom, IsPlaceOf}
-use Rattle.pref_core.specs.Kept.{IsKept}
-use Rattle.pref_core.specs.Planned.{op_of}
-use Rattle.pref_core.specs.Slots.{Contents}
-use Rattle.pref_core.specs.State.{changes_of, is_change, succeeds}
+use Rattle.pref_core.proofs.Common.{◌≡◌, ◌&&◌, ◌^◌, ◌<◌, ℕ, Bool, true, false, Result, Ok, Err, OnErr, refl, sym, ap, ◌∙◌, subst, slot_of, given, added_rows, moved_rows, PointsAll, LacksFrom}
+use Rattle.pref_core.proofs.Common.{IsPlaceOf, IsKept, op_of, Contents, changes_of, is_change, succeeds}
 use Rattle.pref_core.proofs.Bounds.{next_id-small}
 use Rattle.pref_core.proofs.Reindexing.{added_new, adds_none, indexed, indexed_again, indexed_still, places_below}
 use Rattle.pref_core.proofs.store.Store.reindex.Goals as goal

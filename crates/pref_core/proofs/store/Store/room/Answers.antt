@@ -1,10 +1,4 @@
-use Rattle.std.proofs.Common.{◌≡◌, ◌∙◌, length, ap, arith}
-use Rattle.std.specs.List.{count_by}
-use Rattle.pref_core.specs.State.{needed}
-use Rattle.pref_core.specs.Slots.{Contents}
-use Rattle.pref_core.specs.Operations.{used}
-use Rattle.pref_core.specs.Places.{is_free_zone}
-use Rattle.pref_core.specs.Kept.{zones_of}
+use Rattle.pref_core.proofs.Common.{◌≡◌, ◌∙◌, length, ap, arith, count_by, needed, Contents, used, is_free_zone, zones_of}
 use Rattle.pref_core.proofs.Counting.{length-needed}
 use Rattle.pref_core.proofs.Zones.{used_zones}
 use Rattle.pref_core.proofs.store.Store.room.Goals as goal

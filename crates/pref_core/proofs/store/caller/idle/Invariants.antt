@@ -1,4 +1,4 @@
-use Rattle.std.proofs.Common.{◌≡◌, replicate, None}
+use Rattle.pref_core.proofs.Common.{◌≡◌, replicate, None}
 use Rattle.pref_core.proofs.store.caller.idle.Given as goal
 
 abbrev pub invariant-loop-client : goal.invariant-loop-client

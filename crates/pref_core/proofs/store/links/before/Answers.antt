@@ -1,5 +1,4 @@
-use Rattle.std.proofs.Common.{◌+◌, ◌^◌, ℕ, length, refl, sym, ap, ◌∙◌, inl, arith, slice_index}
-use Rattle.pref_core.specs.Links.{ids_of, home_of, id_at}
+use Rattle.pref_core.proofs.Common.{◌+◌, ◌^◌, ℕ, length, refl, sym, ap, ◌∙◌, inl, arith, slice_index, ids_of, home_of, id_at}
 use Rattle.pref_core.proofs.Linking.{before_from, way_on}
 use Rattle.pref_core.proofs.Chains.{linked_at, long_at, home_inside, within_at}
 use Rattle.pref_core.proofs.store.links.before.Goals as goal

@@ -1,5 +1,4 @@
-use Rattle.std.proofs.Common.{◌^◌, ◌<◌, length, slice_index}
-use Rattle.pref_core.specs.Links.{ids_of, home_of, id_at, IsOnWay, rank}
+use Rattle.pref_core.proofs.Common.{◌^◌, ◌<◌, length, slice_index, ids_of, home_of, id_at, IsOnWay, rank}
 use Rattle.pref_core.proofs.store.links.before.Given as goal
 
 abbrev pub invariant-along : goal.invariant-along

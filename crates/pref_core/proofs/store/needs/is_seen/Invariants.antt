@@ -1,5 +1,4 @@
-use Rattle.std.proofs.Common.{◌≡◌, drop, Some}
-use Rattle.pref_core.specs.Slots.{is_needed, begins}
+use Rattle.pref_core.proofs.Common.{◌≡◌, drop, Some, is_needed, begins}
 use Rattle.pref_core.proofs.store.needs.is_seen.Given as goal
 
 abbrev pub invariant-loop-caller : goal.invariant-loop-caller

@@ -1,5 +1,4 @@
-use Rattle.std.proofs.Common.{◌≡◌, drop, Some}
-use Rattle.pref_core.specs.Places.{kept_from}
+use Rattle.pref_core.proofs.Common.{◌≡◌, drop, Some, kept_from}
 use Rattle.pref_core.proofs.store.needs.kept_by.Given as goal
 
 abbrev pub invariant-loop-keeper : goal.invariant-loop-keeper

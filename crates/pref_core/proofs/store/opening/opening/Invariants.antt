@@ -1,5 +1,4 @@
-use Rattle.std.proofs.Common.{◌≡◌, ◌++◌, drop, replicate, None}
-use Rattle.pref_core.specs.Slots.{opening_slots}
+use Rattle.pref_core.proofs.Common.{◌≡◌, ◌++◌, drop, replicate, None, opening_slots}
 use Rattle.pref_core.proofs.store.opening.opening.Given as goal
 
 abbrev pub invariant-loop-row : goal.invariant-loop-row

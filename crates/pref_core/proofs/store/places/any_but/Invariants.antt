@@ -1,5 +1,4 @@
-use Rattle.std.proofs.Common.{◌≡◌, ℕ, ◌⊎◌, drop, true}
-use Rattle.pref_core.specs.Table.{among}
+use Rattle.pref_core.proofs.Common.{◌≡◌, ℕ, ◌⊎◌, drop, true, among}
 use Rattle.pref_core.proofs.store.places.any_but.Given as goal
 
 abbrev pub invariant-loop-place : goal.invariant-loop-place

@@ -1,9 +1,7 @@
-use Rattle.std.proofs.Common.{◌≡◌, ◌++◌, [], ◌∷◌, ◌∙◌, ap₂, sym, arith, rules}
-use Rattle.std.proofs.lemmas.List.FromFn.{map-range_with_len_more}
+use Rattle.pref_core.proofs.Common.{◌≡◌, ◌++◌, [], ◌∷◌, ◌∙◌, ap₂, sym, arith, rules, map-range_with_len_more, turned}
 use Rattle.pref_core.proofs.Turning.{low, high}
-use Rattle.pref_core.specs.Places.{turned}
-use Rattle.pref_core.proofs.store.places.turned.Goals as goal
 use Rattle.pref_core.proofs.store.places.turned.Goals.{then-at-capacity, else-at-capacity}
+use Rattle.pref_core.proofs.store.places.turned.Goals as goal
 
 pub loop-at-preserved : goal.loop-at-preserved
 loop-at-preserved c =

@@ -1,6 +1,4 @@
-use Rattle.std.proofs.Common.{◌≡◌, map}
-use Rattle.std.specs.List.{range_with_len}
-use Rattle.pref_core.specs.Places.{turned}
+use Rattle.pref_core.proofs.Common.{◌≡◌, map, range_with_len, turned}
 use Rattle.pref_core.proofs.store.places.turned.Given as goal
 
 abbrev pub invariant-loop-at : goal.invariant-loop-at

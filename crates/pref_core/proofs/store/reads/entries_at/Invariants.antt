@@ -1,7 +1,4 @@
-use Rattle.std.proofs.Common.{◌≡◌, ◌++◌, ◌≤◌, drop, length}
-use Rattle.std.specs.Vec.{vec_len, vec_capacity}
-use Rattle.pref_core.specs.Table.{entries}
-use Rattle.pref_core.specs.Slots.{visible}
+use Rattle.pref_core.proofs.Common.{◌≡◌, ◌++◌, ◌≤◌, drop, length, vec_len, vec_capacity, entries, visible}
 use Rattle.pref_core.proofs.store.reads.entries_at.Given as goal
 
 abbrev pub invariant-loop-slot : goal.invariant-loop-slot

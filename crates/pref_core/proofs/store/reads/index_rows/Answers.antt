@@ -1,9 +1,7 @@
-use Rattle.std.proofs.Common.{◌+◌, Some, ap, sym, subst, ◌∙◌, arith}
-use Rattle.std.proofs.lemmas.Option.{slice_get-get_or}
-use Rattle.pref_core.specs.Indexes.{slot_of}
+use Rattle.pref_core.proofs.Common.{◌+◌, Some, ap, sym, subst, ◌∙◌, arith, slice_get-get_or, slot_of}
 use Rattle.pref_core.proofs.Indexing.{IsPlaceUpTo, place_at_end, place_past, place_put, row_at-hidden, row_at-empty}
-use Rattle.pref_core.proofs.store.reads.index_rows.Goals as goal
 use Rattle.pref_core.proofs.store.reads.index_rows.Goals.{in-Some+then-is_visible_at+in_ok-put-in-Some, in-Some+else-is_visible_at, in-None}
+use Rattle.pref_core.proofs.store.reads.index_rows.Goals as goal
 
 pub loop-place-init : goal.loop-place-init
 loop-place-init c id = subst (λ index. IsPlaceUpTo c.args.stamp id c.args.slots.now 0 (slot_of index id)) (sym c.in_ok-index.ensures) (λ k l. absurd (omega arith))

@@ -1,5 +1,4 @@
-use Rattle.std.proofs.Common.{ℕ}
-use Rattle.pref_core.specs.Indexes.{slot_of}
+use Rattle.pref_core.proofs.Common.{ℕ, slot_of}
 use Rattle.pref_core.proofs.Indexing.{IsPlaceUpTo}
 use Rattle.pref_core.proofs.store.reads.index_rows.Given as goal
 

@@ -1,4 +1,4 @@
-use Rattle.std.proofs.Common.{rules}
+use Rattle.pref_share.proofs.Common.{rules}
 use Rattle.pref_share.proofs.Adding.{starts}
 use Rattle.pref_share.proofs.book.Name.new.Goals as goal
 

@@ -1,8 +1,4 @@
-use Rattle.std.proofs.Common.{◌≡◌, Option, Some, sym, subst, ◌∙◌, MatchResult}
-use Rattle.pref_core.specs.Scans.{Answers}
-use Rattle.pref_share.specs.Standing.{Asking, Standing}
-use Rattle.pref_share.specs.Clients.{IsAnswer}
-use Rattle.pref_share.specs.Following.{Stands, GivesNone}
+use Rattle.pref_share.proofs.Common.{◌≡◌, Option, Some, sym, subst, ◌∙◌, MatchResult, Answers, Asking, Standing, IsAnswer, Stands, GivesNone}
 use Rattle.pref_share.proofs.Standings.{answers}
 use Rattle.pref_share.proofs.client.Client.answer.Goals as goal
 

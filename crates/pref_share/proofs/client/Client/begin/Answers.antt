@@ -1,8 +1,5 @@
-use Rattle.std.proofs.Common.{◌≡◌, suc, ◌+◌, Option, Some, sym, subst, ap, ◌∙◌, arith}
+use Rattle.pref_share.proofs.Common.{◌≡◌, suc, ◌+◌, Option, Some, sym, subst, ap, ◌∙◌, arith, begin, Asking, Standing, IsJoined, MayJoin, Stands}
 use Rattle.pref_core.specs.declared.call.Call.TheVariants.{Begin}
-use Rattle.pref_core.specs.Scans.{begin}
-use Rattle.pref_share.specs.Standing.{Asking, Standing}
-use Rattle.pref_share.specs.Following.{IsJoined, MayJoin, Stands}
 use Rattle.pref_share.proofs.Standings.{stands_begun}
 use Rattle.pref_share.proofs.client.Client.begin.Goals as goal
 

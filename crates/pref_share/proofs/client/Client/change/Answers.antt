@@ -1,7 +1,4 @@
-use Rattle.std.proofs.Common.{◌≡◌, suc, ◌+◌, None, refl, sym, subst, ◌∙◌, arith, rules}
-use Rattle.pref_share.specs.Standing.{Standing}
-use Rattle.pref_share.specs.Clients.{own_refusal}
-use Rattle.pref_share.specs.Following.{IsJoined, MayJoin}
+use Rattle.pref_share.proofs.Common.{◌≡◌, suc, ◌+◌, None, refl, sym, subst, ◌∙◌, arith, rules, Standing, own_refusal, IsJoined, MayJoin}
 use Rattle.pref_share.proofs.Standings.{stands_changed, joins, change_told}
 use Rattle.pref_share.proofs.client.Client.change.Goals as goal
 

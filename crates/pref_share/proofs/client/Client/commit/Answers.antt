@@ -1,8 +1,5 @@
-use Rattle.std.proofs.Common.{◌≡◌, ℕ, subst}
-use Rattle.pref_core.specs.declared.call.Call.{Call}
+use Rattle.pref_share.proofs.Common.{◌≡◌, ℕ, subst, Call, granted, Changes}
 use Rattle.pref_core.specs.declared.call.Call.TheVariants.{Commit}
-use Rattle.pref_core.specs.State.{granted}
-use Rattle.pref_share.specs.Clients.{Changes}
 use Rattle.pref_share.proofs.Standings.{commit_told}
 use Rattle.pref_share.proofs.client.Client.commit.Goals as goal
 

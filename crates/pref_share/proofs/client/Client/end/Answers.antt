@@ -1,7 +1,4 @@
-use Rattle.std.proofs.Common.{◌≡◌, suc, ◌+◌, None, refl, sym, subst, arith}
-use Rattle.pref_share.specs.Standing.{Standing}
-use Rattle.pref_share.specs.Clients.{own_refusal}
-use Rattle.pref_share.specs.Following.{IsJoined, MayJoin}
+use Rattle.pref_share.proofs.Common.{◌≡◌, suc, ◌+◌, None, refl, sym, subst, arith, Standing, own_refusal, IsJoined, MayJoin}
 use Rattle.pref_share.proofs.Standings.{stands_ended, joins, joins_as_done}
 use Rattle.pref_share.proofs.client.Client.end.Goals as goal
 

@@ -1,6 +1,4 @@
-use Rattle.std.proofs.Common.{rules, refl, sym, ◌≡◌, ◌∙◌}
-use Rattle.pref_share.specs.Openings.{state_at}
-use Rattle.pref_share.specs.Scanning.{row_after}
+use Rattle.pref_share.proofs.Common.{rules, refl, sym, ◌≡◌, ◌∙◌, state_at, row_after}
 use Rattle.pref_share.proofs.Histories.{left_stands}
 use Rattle.pref_share.proofs.Standings.{sees}
 use Rattle.pref_share.proofs.client.Client.get.Goals.{Joined-row, in-Some-row, in-None}

@@ -1,4 +1,4 @@
-use Rattle.std.proofs.Common.{arith}
+use Rattle.pref_share.proofs.Common.{arith}
 use Rattle.pref_share.proofs.Standings.{counter_small}
 use Rattle.pref_share.proofs.client.Client.in_use.Goals as goal
 

@@ -1,12 +1,4 @@
-use Rattle.std.proofs.Common.{◌≡◌, ◌++◌, ◌∷◌, [], List, Some, None, ⊎_elim, sym, subst, ◌∙◌, ap}
-use Rattle.std.specs.Option.{unwrap_or}
-use Rattle.pref_core.specs.declared.call.Op.{Op}
-use Rattle.pref_core.specs.Planned.{op_of}
-use Rattle.pref_core.specs.State.{refusal}
-use Rattle.pref_share.specs.Openings.{MayFollow, state_at, calls_at}
-use Rattle.pref_share.specs.Standing.{Standing}
-use Rattle.pref_share.specs.Clients.{own_refusal}
-use Rattle.pref_share.specs.Following.{IsJoined}
+use Rattle.pref_share.proofs.Common.{◌≡◌, ◌++◌, ◌∷◌, [], List, Some, None, ⊎_elim, sym, subst, ◌∙◌, ap, unwrap_or, Op, op_of, refusal, MayFollow, state_at, calls_at, Standing, own_refusal, IsJoined}
 use Rattle.pref_share.proofs.Standings.{ahead, even, moved_up, same_refusal, joined}
 use Rattle.pref_share.proofs.client.Client.join.Goals as goal
 

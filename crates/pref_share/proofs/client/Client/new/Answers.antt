@@ -1,6 +1,4 @@
-use Rattle.std.proofs.Common.{ℕ, ◌≤◌, List, sym, subst, ap, ◌∙◌}
-use Rattle.pref_core.specs.declared.call.Op.{Op}
-use Rattle.pref_share.specs.Openings.{IsLegalFrom}
+use Rattle.pref_share.proofs.Common.{ℕ, ◌≤◌, List, sym, subst, ap, ◌∙◌, Op, IsLegalFrom}
 use Rattle.pref_share.proofs.Standings.{stands_new}
 use Rattle.pref_share.proofs.client.Client.new.Goals as goal
 

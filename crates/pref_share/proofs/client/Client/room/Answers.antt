@@ -1,7 +1,4 @@
-use Rattle.std.proofs.Common.{◌-◌, length, refl, ap, ◌∙◌}
-use Rattle.pref_core.specs.State.{needed}
-use Rattle.pref_core.specs.Slots.{Contents}
-use Rattle.pref_share.specs.Openings.{state_at}
+use Rattle.pref_share.proofs.Common.{◌-◌, length, refl, ap, ◌∙◌, needed, Contents, state_at}
 use Rattle.pref_share.proofs.Histories.{left_stands, legal_capacity}
 use Rattle.pref_share.proofs.Standings.{sees}
 use Rattle.pref_share.proofs.client.Client.room.Goals as goal

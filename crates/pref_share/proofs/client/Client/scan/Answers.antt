@@ -1,18 +1,8 @@
-use Rattle.std.proofs.Common.{rules, ◌≡◌, suc, ◌++◌, List, map, Option, Result, Some, refl, sym, subst, ap, ◌∙◌}
-use Rattle.std.specs.Global.{Vec}
-use mathlib.Core.List.{IsPrefix}
+use Rattle.pref_share.proofs.Common.{rules, ◌≡◌, suc, ◌++◌, List, map, Option, Result, Some, refl, sym, subst, ap, ◌∙◌, Vec, IsPrefix, Op, CoreFault, next_block, Contents, Opening, IsLegalFrom}
+use Rattle.pref_share.proofs.Common.{calls_at, contents_at, state_at, first_contents, Asking, Standing, IsInUse, Knows, HasMore, Stands}
 use Rattle.pref_sky.specs.declared.entry.Entry.{Entry}
 use Rattle.pref_sky.specs.Levels.{HaveDifferentIds, entry_of}
-use Rattle.pref_core.specs.declared.call.Op.{Op}
-use Rattle.pref_core.specs.declared.fault.CoreFault.{CoreFault}
-use Rattle.pref_core.specs.Scans.{Scan, Reads, next_block}
-use Rattle.pref_core.specs.Slots.{Contents}
-use Rattle.pref_share.specs.Openings.{Opening, IsLegalFrom, calls_at, contents_at, state_at, first_contents}
-use Rattle.pref_share.specs.Standing.{Asking, Standing}
-use Rattle.pref_share.specs.Clients.{IsInUse}
-use Rattle.pref_share.specs.Views.{Knows}
-use Rattle.pref_share.specs.Scanning.{HasMore}
-use Rattle.pref_share.specs.Following.{Stands}
+use Rattle.pref_core.specs.Scans.{Scan, Reads}
 use Rattle.pref_share.proofs.Histories.{left_stands}
 use Rattle.pref_share.proofs.Standings.{ahead, even, next_new, stands_seen, stands_scanned, sees, scanned}
 use Rattle.pref_share.proofs.client.Client.scan.Given.{Over}

@@ -1,9 +1,4 @@
-use Rattle.std.proofs.Common.{◌≡◌, List, ◌∙◌, ap, refl, sym, subst}
-use Rattle.std.specs.Option.{unwrap_or}
-use Rattle.pref_core.specs.declared.call.Op.{Op}
-use Rattle.pref_share.specs.Openings.{calls_at}
-use Rattle.pref_share.specs.Standing.{Standing}
-use Rattle.pref_share.specs.Following.{IsAhead}
+use Rattle.pref_share.proofs.Common.{◌≡◌, List, ◌∙◌, ap, refl, sym, subst, unwrap_or, Op, calls_at, Standing, IsAhead}
 use Rattle.pref_share.proofs.Standings.{ahead, even}
 use Rattle.pref_share.proofs.client.Client.settle.Goals as goal
 

@@ -1,6 +1,4 @@
-use Rattle.std.proofs.Common.{refl}
-use Rattle.pref_core.specs.declared.call.Call.TheVariants.{Insert as CallInsert, Update as CallUpdate, Delete as CallDelete, Commit as CallCommit, Begin as CallBegin, Abandon as CallAbandon}
-use Rattle.pref_core.specs.declared.event.Act.TheVariants.{Insert, Update, Delete, Commit, Begin, Abandon}
+use Rattle.pref_share.proofs.Common.{refl, CallInsert, CallUpdate, CallDelete, CallCommit, CallBegin, CallAbandon, Insert, Update, Delete, Commit, Begin, Abandon}
 use Rattle.pref_share.proofs.Acting.{inserted, updated, deleted, commits, begun, scanned_step, finished, abandoned, got, has_room}
 use Rattle.pref_share.proofs.Refusing.{change_refused, quiet_refused, finish_refused, scan_refused, get_refused, room_refused, passed_on}
 use Rattle.pref_share.proofs.client.acts.answer.Goals as goal

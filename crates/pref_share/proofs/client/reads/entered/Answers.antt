@@ -1,7 +1,4 @@
-use Rattle.std.proofs.Common.{sym, subst}
-use Rattle.pref_share.specs.declared.published.Published.{Published}
-use Rattle.pref_share.specs.Openings.{first_contents}
-use Rattle.pref_share.specs.Views.{HoldsHistory}
+use Rattle.pref_share.proofs.Common.{sym, subst, Published, first_contents, HoldsHistory}
 use Rattle.pref_share.proofs.Keeps.{reads}
 use Rattle.pref_share.proofs.client.reads.entered.Goals as goal
 

@@ -1,4 +1,4 @@
-use Rattle.pref_share.specs.Openings.{first_contents, first_state}
+use Rattle.pref_share.proofs.Common.{first_contents, first_state}
 use Rattle.pref_share.proofs.Histories.{legal_from_let_in, opens}
 use Rattle.pref_share.proofs.client.reads.history_of.Goals as goal
 

@@ -1,7 +1,4 @@
-use Rattle.std.proofs.Common.{◌≡◌, ◌+◌, ◌++◌, ◌∷◌, [], length, sym, subst, ◌∙◌, ap, refl, arith}
-use Rattle.std.proofs.lemmas.List.{append-nil, length-append}
-use Rattle.pref_core.specs.Planned.{op_of}
-use Rattle.pref_share.specs.Openings.{IsLegalFrom, MayFollow}
+use Rattle.pref_share.proofs.Common.{◌≡◌, ◌+◌, ◌++◌, ◌∷◌, [], length, sym, subst, ◌∙◌, ap, refl, arith, append-nil, length-append, op_of, IsLegalFrom, MayFollow}
 use Rattle.pref_share.specs.Book.{ops_of}
 use Rattle.pref_share.proofs.Adding.{adds_moves, entry_added}
 use Rattle.pref_share.proofs.Histories.{legal-more, legal_is_history}

@@ -1,4 +1,4 @@
-use Rattle.std.proofs.Common.{ap, sym, ◌∙◌}
+use Rattle.pref_share.proofs.Common.{ap, sym, ◌∙◌}
 use Rattle.pref_share.proofs.Adding.{whole_moves}
 use Rattle.pref_share.proofs.history.History.check.Goals as goal
 

@@ -1,7 +1,5 @@
-use Rattle.std.proofs.Common.{List, ap, subst, refl}
+use Rattle.pref_share.proofs.Common.{List, ap, subst, refl, IsPrefix, Op}
 use lib.Dec.{leb}
-use mathlib.Core.List.{IsPrefix}
-use Rattle.pref_core.specs.declared.call.Op.{Op}
 use Rattle.pref_share.proofs.Seen.{compared}
 use Rattle.pref_share.proofs.history.Prefix.begins.Goals as goal
 

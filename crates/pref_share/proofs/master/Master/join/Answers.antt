@@ -1,15 +1,7 @@
-use Rattle.std.proofs.Common.{nat_lt, Some, true, ◌⊎◌, inl, ◌≡◌, ◌∷◌, List, [], length, drop, fold, sym, subst, ◌∙◌, ap, refl}
-use Rattle.core.specs.Mem.{manually_drop_value}
-use Rattle.pref_core.specs.declared.call.Op.{Op}
+use Rattle.pref_share.proofs.Common.{nat_lt, Some, true, ◌⊎◌, inl, ◌≡◌, ◌∷◌, List, [], length, drop, fold, sym, subst, ◌∙◌, ap, refl, manually_drop_value, Op, op_of, added, refusal, applied, Contents}
+use Rattle.pref_share.proofs.Common.{MayFollow, first_contents, contents_at, state_at, Published, stamped, HoldsHistory}
 use Rattle.pref_core.specs.Indexes.{IsIndexOf}
-use Rattle.pref_core.specs.Planned.{op_of}
-use Rattle.pref_core.specs.State.{added, refusal}
-use Rattle.pref_core.specs.Operations.{applied}
-use Rattle.pref_core.specs.Slots.{Contents}
-use Rattle.pref_share.specs.Openings.{MayFollow, first_contents, contents_at, state_at}
-use Rattle.pref_share.specs.declared.published.Published.{Published}
 use Rattle.pref_share.specs.declared.published.Stamp.{Stamp}
-use Rattle.pref_share.specs.Views.{stamped, HoldsHistory}
 use Rattle.pref_share.proofs.Histories.{contents_at-append, planned, unplanned}
 use Rattle.pref_share.proofs.Keeps.{published_left, published_next}
 use Rattle.pref_share.proofs.master.Master.join.Goals as goal

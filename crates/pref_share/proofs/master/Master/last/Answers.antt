@@ -1,4 +1,4 @@
-use Rattle.pref_share.specs.Openings.{state_at}
+use Rattle.pref_share.proofs.Common.{state_at}
 use Rattle.pref_share.proofs.Histories.{left_stands}
 use Rattle.pref_share.proofs.master.Master.last.Goals as goal
 

@@ -1,15 +1,8 @@
-use Rattle.std.proofs.Common.{◌≡◌, [], length, sym, subst, ap, ◌∙◌, List}
-use Rattle.core.specs.Mem.{manually_drop_value}
+use Rattle.pref_share.proofs.Common.{◌≡◌, [], length, sym, subst, ap, ◌∙◌, List, manually_drop_value, Op, ran, Contents, Book, IsLegalFrom, first_contents, contents_at, AreLetIn, HoldsHistory, Knows}
+use Rattle.pref_share.proofs.Common.{Published}
 use Rattle.left_right.specs.Sides.{view}
-use Rattle.pref_core.specs.declared.call.Op.{Op}
 use Rattle.pref_core.specs.Indexes.{IsIndexOf}
-use Rattle.pref_core.specs.Operations.{ran}
-use Rattle.pref_core.specs.Slots.{Contents}
-use Rattle.logbook.specs.Pages.{Book}
-use Rattle.pref_share.specs.Openings.{IsLegalFrom, first_contents, contents_at}
 use Rattle.pref_share.specs.Reached.{Reached}
-use Rattle.pref_share.specs.Views.{AreLetIn, HoldsHistory, Knows}
-use Rattle.pref_share.specs.declared.published.Published.{Published}
 use Rattle.pref_share.proofs.master.Master.open.Goals as goal
 
 pub invariant_of-result : goal.invariant_of-result

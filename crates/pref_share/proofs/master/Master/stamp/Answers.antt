@@ -1,4 +1,4 @@
-use Rattle.std.proofs.Common.{◌∙◌}
+use Rattle.pref_share.proofs.Common.{◌∙◌}
 use Rattle.pref_share.proofs.Histories.{left_stands}
 use Rattle.pref_share.proofs.master.Master.stamp.Goals as goal
 

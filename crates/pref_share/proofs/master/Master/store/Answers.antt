@@ -1,6 +1,4 @@
-use Rattle.std.proofs.Common.{◌≡◌, ap, ◌∙◌}
-use Rattle.core.specs.Mem.{manually_drop_value}
-use Rattle.pref_share.specs.Openings.{contents_at}
+use Rattle.pref_share.proofs.Common.{◌≡◌, ap, ◌∙◌, manually_drop_value, contents_at}
 use Rattle.pref_share.proofs.Keeps.{published_left}
 use Rattle.pref_share.proofs.master.Master.store.Goals as goal
 

@@ -1,8 +1,4 @@
-use Rattle.std.proofs.Common.{◌≡◌, ◌≤◌, suc, ◌∷◌, [], map, length, drop}
-use Rattle.pref_core.specs.Kept.{are_free}
-use Rattle.pref_core.specs.Operations.{close}
-use Rattle.pref_core.specs.Slots.{begins}
-use Rattle.pref_core.specs.State.{ended}
+use Rattle.pref_core.proofs.Common.{◌≡◌, ◌≤◌, suc, ◌∷◌, [], map, length, drop, are_free, close, begins, ended}
 use Rattle.pref_core.proofs.store.contents.Contents.are_free.Given as goal
 
 abbrev pub invariant-loop-place : goal.invariant-loop-place

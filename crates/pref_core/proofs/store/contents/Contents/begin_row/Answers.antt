@@ -1,8 +1,4 @@
-use Rattle.std.proofs.Common.{◌<◌, set, Some, sym, ap, ◌∙◌, subst, arith}
-use Rattle.pref_core.specs.Links.{ids_of, AreLinks}
-use Rattle.pref_core.specs.Operations.{is_free}
-use Rattle.pref_core.specs.Slots.{Contents, stamps, visible}
-use Rattle.pref_core.specs.Table.{has}
+use Rattle.pref_core.proofs.Common.{◌<◌, set, Some, sym, ap, ◌∙◌, subst, arith, ids_of, AreLinks, is_free, Contents, stamps, visible, has}
 use Rattle.pref_core.proofs.Filling.{free_there, begin_tracked}
 use Rattle.pref_core.proofs.store.contents.Contents.begin_row.Goals as goal
 

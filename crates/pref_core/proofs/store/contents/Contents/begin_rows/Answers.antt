@@ -1,15 +1,8 @@
-use Rattle.std.proofs.Common.{◌+◌, ◌++◌, [], ◌∷◌, List, Option, drop, sym, ap, ◌∙◌, subst, arith}
-use Rattle.pref_core.specs.declared.store.version.Version.{Version}
-use Rattle.pref_sky.specs.declared.entry.Entry.{Entry}
-use Rattle.pref_core.specs.Changes.{begun_by, added_by}
-use Rattle.pref_core.specs.Operations.{filled}
-use Rattle.pref_core.specs.Slots.{begins, stamps}
-use Rattle.pref_core.specs.State.{changes_of, begun}
-use Rattle.pref_core.specs.Lent.{change_of}
+use Rattle.pref_core.proofs.Common.{◌+◌, ◌++◌, [], ◌∷◌, List, Option, drop, sym, ap, ◌∙◌, subst, arith, Version, Entry, begun_by, added_by, filled, begins, stamps, changes_of, begun, change_of}
 use Rattle.pref_core.proofs.Changing.{added_one, begun_at, drop_all}
 use Rattle.pref_core.proofs.Filling.{BegunUpTo, FillsRest, BeginsNext, begins_next, begun_one, fills_end}
-use Rattle.pref_core.proofs.store.contents.Contents.begin_rows.Goals as goal
 use Rattle.pref_core.proofs.store.contents.Contents.begin_rows.Goals.{In-Some, in-Some, in_default}
+use Rattle.pref_core.proofs.store.contents.Contents.begin_rows.Goals as goal
 
 -- the rows behind the one that begins
 abbrev rest : In-Some → List Entry

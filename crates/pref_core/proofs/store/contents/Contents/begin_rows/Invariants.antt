@@ -1,8 +1,4 @@
-use Rattle.std.proofs.Common.{◌+◌, ◌≤◌, drop}
-use Rattle.pref_core.specs.Changes.{begun_by}
-use Rattle.pref_core.specs.Operations.{filled}
-use Rattle.pref_core.specs.Slots.{stamps}
-use Rattle.pref_core.specs.State.{changes_of, begun}
+use Rattle.pref_core.proofs.Common.{◌+◌, ◌≤◌, drop, begun_by, filled, stamps, changes_of, begun}
 use Rattle.pref_core.proofs.Filling.{BegunUpTo}
 use Rattle.pref_core.proofs.store.contents.Contents.begin_rows.Given as goal
 

@@ -1,10 +1,6 @@
-use Rattle.std.proofs.Common.{◌≡◌, ℕ, ◌||◌, true, false, Option, Some, None, IfSome, IfNone, sym, ap, ◌∙◌, ⊎_elim}
-use Rattle.std.proofs.lemmas.Bool.{or_cases}
-use Rattle.pref_core.specs.Kept.{is_open, zones_of}
-use Rattle.pref_core.specs.Places.{free_at}
-use Rattle.pref_core.specs.Table.{among}
-use Rattle.pref_core.proofs.store.contents.Contents.choose.Goals as goal
+use Rattle.pref_core.proofs.Common.{◌≡◌, ℕ, ◌||◌, true, false, Option, Some, None, IfSome, IfNone, sym, ap, ◌∙◌, ⊎_elim, or_cases, is_open, zones_of, free_at, among}
 use Rattle.pref_core.proofs.store.contents.Contents.choose.Goals.{After-any_free_but}
+use Rattle.pref_core.proofs.store.contents.Contents.choose.Goals as goal
 
 zones : (c : After-any_free_but) → c.self.inside.places ≡ zones_of c.args.self.now
 zones c = c.self.invariant.listed ∙ ap zones_of c.self.view_is

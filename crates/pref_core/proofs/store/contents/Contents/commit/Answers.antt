@@ -1,16 +1,10 @@
-use Rattle.std.proofs.Common.{◌≡◌, suc, ◌+◌, set, Some, sym, ap, ap₂, ◌∙◌, subst, is_some, arith}
-use Rattle.pref_sky.specs.declared.entry.Entry.{Entry}
-use Rattle.pref_core.specs.Indexes.{row_at}
-use Rattle.pref_core.specs.Kept.{IsTracked, KeepSlots, replaced}
-use Rattle.pref_core.specs.Slots.{Contents, born}
-use Rattle.pref_core.specs.State.{added, changes_of}
+use Rattle.pref_core.proofs.Common.{◌≡◌, suc, ◌+◌, set, Some, sym, ap, ap₂, ◌∙◌, subst, is_some, arith, Entry, row_at, IsTracked, KeepSlots, replaced, Contents, born, added, changes_of, op_of}
 use Rattle.pref_core.proofs.Bounds.{stamp-small, next_id-small, added-small}
 use Rattle.pref_core.proofs.Applied.{IsAllowed-from}
 use Rattle.pref_core.proofs.Changing.{formed_apart}
 use Rattle.pref_core.proofs.Filling.{commit_fresh, commit_filled, commit_replaced}
 use Rattle.pref_core.proofs.Linked.{tracked_next}
 use Rattle.pref_core.proofs.Replacing.{commit_kept}
-use Rattle.pref_core.specs.Planned.{op_of}
 use Rattle.pref_core.proofs.store.contents.Contents.commit.Goals as goal
 
 pub overflow_add-self : goal.overflow_add-self

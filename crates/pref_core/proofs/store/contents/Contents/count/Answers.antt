@@ -1,10 +1,4 @@
-use Rattle.std.proofs.Common.{◌≡◌, ◌-◌, ◌≤◌, length, map, sym, ap, ◌∙◌, subst, arith}
-use Rattle.std.specs.List.{AllZip}
-use Rattle.std.proofs.lemmas.List.{with_items_is}
-use Rattle.pref_core.specs.Kept.{zones_of}
-use Rattle.pref_core.specs.Operations.{callers_after, refusal_at}
-use Rattle.pref_core.specs.Places.{MayBecome, zone_of}
-use Rattle.pref_core.specs.Slots.{Contents}
+use Rattle.pref_core.proofs.Common.{◌≡◌, ◌-◌, ◌≤◌, length, map, sym, ap, ◌∙◌, subst, arith, AllZip, with_items_is, zones_of, callers_after, refusal_at, MayBecome, zone_of, Contents}
 use Rattle.pref_core.proofs.Ends.{callers_long, seated, zones_kept, zones_end}
 use Rattle.pref_core.proofs.store.contents.Contents.count.Goals as goal
 

@@ -1,22 +1,13 @@
-use Rattle.std.proofs.Common.{◌≡◌, ℕ, ◌<◌, ◌≤◌, true, List, [], ◌∷◌, length, map, set, get_or, Option, Some, None, unwrap_or, sym, ap, ap₂, ◌∙◌, subst, arith}
-use Rattle.std.specs.Prelude.{option_map, slice_get}
-use Rattle.std.proofs.lemmas.Grind.{common_steps}
-use Rattle.std.proofs.lemmas.List.{get_or-set_same}
-use Rattle.std.proofs.lemmas.Option.{slice_get-get_or}
-use Rattle.pref_core.specs.declared.store.version.Version.{Version}
-use Rattle.pref_core.specs.Indexes.{row_at, IsPlaceOf}
-use Rattle.pref_core.specs.Kept.{IsTracked, with_slots}
-use Rattle.pref_core.specs.Links.{ids_of, AreLinks}
-use Rattle.pref_core.specs.Operations.{close}
-use Rattle.pref_core.specs.Places.{number_of, zone_of}
-use Rattle.pref_core.specs.Slots.{Contents}
+use Rattle.pref_core.proofs.Common.{◌≡◌, ℕ, ◌<◌, ◌≤◌, true, List, [], ◌∷◌, length, map, set, get_or, Option, Some, None, unwrap_or, sym, ap, ap₂, ◌∙◌, subst, arith, slice_get, common_steps}
+use Rattle.pref_core.proofs.Common.{get_or-set_same, slice_get-get_or, Version, row_at, IsPlaceOf, IsTracked, with_slots, ids_of, AreLinks, close, number_of, zone_of, Contents}
+use Rattle.std.specs.Prelude.{option_map}
 use Rattle.pref_core.proofs.Chains.{within_at}
 use Rattle.pref_core.proofs.Ends.{zone_few}
 use Rattle.pref_core.proofs.Filling.{end_none, end_alive, end_slots, end_tracked}
 use Rattle.pref_core.proofs.Linking.{row_shown}
 use Rattle.pref_core.proofs.Zones.{row_version}
-use Rattle.pref_core.proofs.store.contents.Contents.end_row.Goals as goal
 use Rattle.pref_core.proofs.store.contents.Contents.end_row.Goals.{In-Some}
+use Rattle.pref_core.proofs.store.contents.Contents.end_row.Goals as goal
 
 shown : (c : In-Some) → row_at c.self.inside.stamp c.args.id c.self.inside.slots.items c.in-Some.place ≡ true
 shown c = ap (λ l. row_at c.self.inside.stamp c.args.id l c.in-Some.place) (sym c.deref.ensures.value) ∙ c.in-Some.ensures.place

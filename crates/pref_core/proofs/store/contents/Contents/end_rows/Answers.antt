@@ -1,13 +1,8 @@
-use Rattle.std.proofs.Common.{◌++◌, [], ◌∷◌, take, sym, ap, ◌∙◌, subst}
-use Rattle.std.specs.Option.{option_to_list}
-use Rattle.std.proofs.lemmas.List.{append-nil}
-use Rattle.pref_core.specs.Changes.{ended_by}
-use Rattle.pref_core.specs.State.{changes_of}
-use Rattle.pref_core.specs.Lent.{change_of}
+use Rattle.pref_core.proofs.Common.{◌++◌, [], ◌∷◌, take, sym, ap, ◌∙◌, subst, option_to_list, append-nil, ended_by, changes_of, change_of}
 use Rattle.pref_core.proofs.Changing.{ended_so_far}
 use Rattle.pref_core.proofs.Filling.{EndedUpTo, ended_none, ended_more}
-use Rattle.pref_core.proofs.store.contents.Contents.end_rows.Goals as goal
 use Rattle.pref_core.proofs.store.contents.Contents.end_rows.Goals.{in-Some, in_default}
+use Rattle.pref_core.proofs.store.contents.Contents.end_rows.Goals as goal
 
 pub loop-at-init : goal.loop-at-init
 loop-at-init c = ended_none c.args.self.now

@@ -1,6 +1,4 @@
-use Rattle.std.proofs.Common.{take}
-use Rattle.pref_core.specs.Changes.{ended_by}
-use Rattle.pref_core.specs.State.{changes_of}
+use Rattle.pref_core.proofs.Common.{take, ended_by, changes_of}
 use Rattle.pref_core.proofs.Filling.{EndedUpTo}
 use Rattle.pref_core.proofs.store.contents.Contents.end_rows.Given as goal
 

@@ -1,17 +1,9 @@
-use Rattle.std.proofs.Common.{◌+◌, Some, refl, sym, ap, ◌∙◌, subst, arith}
-use Rattle.std.proofs.lemmas.Bool.{eqb-true, ltb-true}
-use Rattle.std.proofs.lemmas.Option.{slice_get-get_or}
-use Rattle.pref_core.specs.declared.changes.Change.TheVariants.{Set}
-use Rattle.pref_core.specs.Indexes.{row_at}
-use Rattle.pref_core.specs.Kept.{FitAtOnce, zones_of}
-use Rattle.pref_core.specs.Places.{free_at}
-use Rattle.pref_core.specs.Slots.{Contents}
-use Rattle.pref_core.specs.State.{changes_of, ended}
+use Rattle.pref_core.proofs.Common.{◌+◌, Some, refl, sym, ap, ◌∙◌, subst, arith, eqb-true, ltb-true, slice_get-get_or, Set, row_at, FitAtOnce, zones_of, free_at, Contents, changes_of, ended}
 use Rattle.pref_core.proofs.AtOnce.{FitsUpTo, fits_added, fits_set, fits_removed, fits_all}
 use Rattle.pref_core.proofs.Bounds.{stamp-small}
 use Rattle.pref_core.proofs.Counts.{named_at}
-use Rattle.pref_core.proofs.store.contents.Contents.fit_at_once.Goals as goal
 use Rattle.pref_core.proofs.store.contents.Contents.fit_at_once.Goals.{in-Add-Some, in-Set-Some, in-Remove-default}
+use Rattle.pref_core.proofs.store.contents.Contents.fit_at_once.Goals as goal
 
 pub frees-requires : goal.frees-requires
 frees-requires c = let small = stamp-small c.args.self.now c.requires.kept.bounded in omega arith

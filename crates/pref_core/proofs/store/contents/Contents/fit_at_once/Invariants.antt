@@ -1,4 +1,4 @@
-use Rattle.std.proofs.Common.{◌≤◌}
+use Rattle.pref_core.proofs.Common.{◌≤◌}
 use Rattle.pref_core.proofs.AtOnce.{FitsUpTo}
 use Rattle.pref_core.proofs.store.contents.Contents.fit_at_once.Given as goal
 

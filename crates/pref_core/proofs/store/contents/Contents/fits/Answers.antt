@@ -1,12 +1,9 @@
-use Rattle.std.proofs.Common.{◌≡◌, ◌&&◌, Bool, nat_eq, length, true, false, refl, sym, ap, ◌∙◌}
-use Rattle.std.proofs.lemmas.Bool.{ne_eqb}
-use Rattle.pref_core.specs.State.{is_change, succeeds}
+use Rattle.pref_core.proofs.Common.{◌≡◌, ◌&&◌, Bool, nat_eq, length, true, false, refl, sym, ap, ◌∙◌, ne_eqb, is_change, succeeds, op_of}
 use Rattle.pref_core.proofs.Applied.{IsAllowed-from}
 use Rattle.pref_core.proofs.Choosing.{missing_quiet}
 use Rattle.pref_core.proofs.Filling.{fits_begun, fits_other, fits_quiet}
-use Rattle.pref_core.specs.Planned.{op_of}
-use Rattle.pref_core.proofs.store.contents.Contents.fits.Goals as goal
 use Rattle.pref_core.proofs.store.contents.Contents.fits.Goals.{in_default-via-in-Ok+then-is_change+else-succeeds, in_default-via-in-Ok+else-is_change, in_default-via-in_default}
+use Rattle.pref_core.proofs.store.contents.Contents.fits.Goals as goal
 
 pub returns-then-as_slice-begun : goal.returns-then-as_slice-begun
 returns-then-as_slice-begun c =

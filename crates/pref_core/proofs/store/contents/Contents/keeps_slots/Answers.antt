@@ -1,10 +1,4 @@
-use Rattle.std.proofs.Common.{◌+◌, ◌∷◌, drop, sym, ap, ◌∙◌, subst}
-use Rattle.std.proofs.lemmas.Bool.{ltb-true}
-use Rattle.pref_core.specs.declared.changes.Change.TheVariants.{Set}
-use Rattle.pref_core.specs.Indexes.{row_at}
-use Rattle.pref_core.specs.Kept.{KeepSlots}
-use Rattle.pref_core.specs.Slots.{Contents}
-use Rattle.pref_core.specs.State.{changes_of}
+use Rattle.pref_core.proofs.Common.{◌+◌, ◌∷◌, drop, sym, ap, ◌∙◌, subst, ltb-true, Set, row_at, KeepSlots, Contents, changes_of}
 use Rattle.pref_core.proofs.Changing.{drop_at}
 use Rattle.pref_core.proofs.Counts.{drop_item}
 use Rattle.pref_core.proofs.store.contents.Contents.keeps_slots.Goals as goal

@@ -1,6 +1,4 @@
-use Rattle.std.proofs.Common.{drop}
-use Rattle.pref_core.specs.Kept.{KeepSlots}
-use Rattle.pref_core.specs.State.{changes_of}
+use Rattle.pref_core.proofs.Common.{drop, KeepSlots, changes_of}
 use Rattle.pref_core.proofs.store.contents.Contents.keeps_slots.Given as goal
 
 abbrev pub invariant-loop-at : goal.invariant-loop-at

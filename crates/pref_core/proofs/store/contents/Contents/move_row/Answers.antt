@@ -1,6 +1,4 @@
-use Rattle.std.proofs.Common.{Some, sym, ap, ◌∙◌, subst}
-use Rattle.pref_core.specs.Indexes.{slot_of, row_at, IsPlaceOf}
-use Rattle.pref_core.specs.Slots.{Contents}
+use Rattle.pref_core.proofs.Common.{Some, sym, ap, ◌∙◌, subst, slot_of, row_at, IsPlaceOf, Contents}
 use Rattle.pref_core.proofs.Linked.{place_known}
 use Rattle.pref_core.proofs.Reindexing.{points_still}
 use Rattle.pref_core.proofs.store.contents.Contents.move_row.Goals as goal

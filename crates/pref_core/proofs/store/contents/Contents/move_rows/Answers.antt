@@ -1,17 +1,10 @@
-use Rattle.std.proofs.Common.{◌+◌, ◌||◌, ℕ, ◌∷◌, drop, Option, Some, None, refl, sym, ap, ap₂, ◌∙◌, subst, arith}
-use Rattle.std.proofs.lemmas.Bool.{eq-eqb, ltb-false, ltb-true}
-use Rattle.pref_core.specs.declared.changes.Change.TheVariants.{Set}
-use Rattle.pref_core.specs.Changes.{ended_by}
-use Rattle.pref_core.specs.Indexes.{slot_of, given, moved_rows}
-use Rattle.pref_core.specs.State.{changes_of}
-use Rattle.pref_core.specs.Table.{among}
+use Rattle.pref_core.proofs.Common.{◌+◌, ◌||◌, ℕ, ◌∷◌, drop, Option, Some, None, refl, sym, ap, ap₂, ◌∙◌, subst, arith, eq-eqb, ltb-false, ltb-true, Set, ended_by, slot_of, given, moved_rows}
+use Rattle.pref_core.proofs.Common.{changes_of, among, op_of, change_of}
 use Rattle.pref_core.proofs.Changing.{drop_at, drop_all}
 use Rattle.pref_core.proofs.Counts.{drop_item, drop_more}
 use Rattle.pref_core.proofs.Reindexing.{AreThere, MovesRest, moves_one, ended_there}
-use Rattle.pref_core.specs.Planned.{op_of}
-use Rattle.pref_core.specs.Lent.{change_of}
-use Rattle.pref_core.proofs.store.contents.Contents.move_rows.Goals as goal
 use Rattle.pref_core.proofs.store.contents.Contents.move_rows.Goals.{in-Add, in-Set+in-Some, in-Remove}
+use Rattle.pref_core.proofs.store.contents.Contents.move_rows.Goals as goal
 
 pub loop-at-init : goal.loop-at-init
 loop-at-init c =

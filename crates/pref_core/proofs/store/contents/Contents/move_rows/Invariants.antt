@@ -1,6 +1,4 @@
-use Rattle.std.proofs.Common.{◌≤◌, drop}
-use Rattle.pref_core.specs.Indexes.{slot_of, given, moved_rows}
-use Rattle.pref_core.specs.State.{changes_of}
+use Rattle.pref_core.proofs.Common.{◌≤◌, drop, slot_of, given, moved_rows, changes_of}
 use Rattle.pref_core.proofs.Reindexing.{MovesRest}
 use Rattle.pref_core.proofs.store.contents.Contents.move_rows.Given as goal
 

@@ -1,8 +1,4 @@
-use Rattle.std.proofs.Common.{◌+◌, ◌-◌, ◌++◌, length, replicate, Option, None, arith, refl, ap, ◌∙◌, subst}
-use Rattle.pref_core.specs.declared.store.version.Version.{Version}
-use Rattle.pref_core.specs.Kept.{IsKept}
-use Rattle.pref_core.specs.Links.{AreLinks}
-use Rattle.pref_core.specs.Slots.{opening_slots}
+use Rattle.pref_core.proofs.Common.{◌+◌, ◌-◌, ◌++◌, length, replicate, Option, None, arith, refl, ap, ◌∙◌, subst, Version, IsKept, AreLinks, opening_slots}
 use Rattle.pref_core.proofs.Ends.{zones_opened}
 use Rattle.pref_core.proofs.Linked.{known_ids}
 use Rattle.pref_core.proofs.OpeningLinks.{opening_is}

@@ -1,6 +1,4 @@
-use Rattle.std.proofs.Common.{subst, ◌∙◌}
-use Rattle.pref_core.specs.Indexes.{IsPlaceOf}
-use Rattle.pref_core.specs.Slots.{Contents}
+use Rattle.pref_core.proofs.Common.{subst, ◌∙◌, IsPlaceOf, Contents}
 use Rattle.pref_core.proofs.store.contents.Contents.place_of.Goals as goal
 
 pub returns-in-None : goal.returns-in-None

@@ -1,6 +1,4 @@
-use Rattle.std.proofs.Common.{refl, ap, ◌∙◌}
-use Rattle.pref_core.specs.Indexes.{row_at}
-use Rattle.pref_core.specs.Slots.{Contents}
+use Rattle.pref_core.proofs.Common.{refl, ap, ◌∙◌, row_at, Contents}
 use Rattle.pref_core.proofs.Filling.{replace_tracked}
 use Rattle.pref_core.proofs.Zones.{row_version}
 use Rattle.pref_core.proofs.store.contents.Contents.replace.Goals as goal

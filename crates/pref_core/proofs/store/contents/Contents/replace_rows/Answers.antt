@@ -1,12 +1,8 @@
-use Rattle.std.proofs.Common.{List, Option, ◌+◌, drop, sym, subst}
-use Rattle.pref_core.specs.declared.store.version.Version.{Version}
-use Rattle.pref_core.specs.Kept.{KeepSlots, replaced}
-use Rattle.pref_core.specs.State.{changes_of}
-use Rattle.pref_core.specs.Lent.{change_of}
+use Rattle.pref_core.proofs.Common.{List, Option, ◌+◌, drop, sym, subst, Version, KeepSlots, replaced, changes_of, change_of}
 use Rattle.pref_core.proofs.Changing.{drop_at}
 use Rattle.pref_core.proofs.Replacing.{ReplacesNext, ReplacedUpTo, replaces_next, replaced_one, sets_row}
-use Rattle.pref_core.proofs.store.contents.Contents.replace_rows.Goals as goal
 use Rattle.pref_core.proofs.store.contents.Contents.replace_rows.Goals.{In-Set, in-Set, in_default}
+use Rattle.pref_core.proofs.store.contents.Contents.replace_rows.Goals as goal
 
 abbrev all : In-Set → List (Option Version)
 all c = replaced c.args.self.now.stamp (changes_of c.args.op.now.call.now) c.args.op.now.slots c.args.self.now.slots

@@ -1,6 +1,4 @@
-use Rattle.std.proofs.Common.{drop}
-use Rattle.pref_core.specs.Kept.{replaced}
-use Rattle.pref_core.specs.State.{changes_of}
+use Rattle.pref_core.proofs.Common.{drop, replaced, changes_of}
 use Rattle.pref_core.proofs.Replacing.{ReplacedUpTo}
 use Rattle.pref_core.proofs.store.contents.Contents.replace_rows.Given as goal
 

@@ -1,7 +1,4 @@
-use Rattle.std.proofs.Common.{◌+◌, ◌-◌, length, ap, arith}
-use Rattle.std.proofs.lemmas.Grind.{common_steps}
-use Rattle.pref_core.specs.Slots.{Contents}
-use Rattle.pref_core.specs.State.{ended}
+use Rattle.pref_core.proofs.Common.{◌+◌, ◌-◌, length, ap, arith, common_steps, Contents, ended}
 use Rattle.pref_core.proofs.Choosing.{size_is, freed_less}
 use Rattle.pref_core.proofs.store.contents.Contents.size_after.Goals as goal
 

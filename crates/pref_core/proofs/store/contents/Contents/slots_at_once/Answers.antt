@@ -1,5 +1,4 @@
-use Rattle.std.proofs.Common.{arith}
-use Rattle.pref_core.specs.Lent.{change_of}
+use Rattle.pref_core.proofs.Common.{arith, change_of}
 use Rattle.pref_core.proofs.Bounds.{next_id-small}
 use Rattle.pref_core.proofs.Changing.{added_one}
 use Rattle.pref_core.proofs.store.contents.Contents.slots_at_once.Goals as goal

@@ -1,4 +1,4 @@
-use Rattle.std.proofs.Common.{◌+◌, ◌≤◌, length}
+use Rattle.pref_core.proofs.Common.{◌+◌, ◌≤◌, length}
 use Rattle.pref_core.proofs.store.contents.Contents.slots_at_once.Given as goal
 
 abbrev pub invariant-loop-at : goal.invariant-loop-at

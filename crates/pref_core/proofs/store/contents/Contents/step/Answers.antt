@@ -1,10 +1,7 @@
-use Rattle.std.proofs.Common.{◌≡◌, ◌&&◌, Bool, Some, true, false, refl, sym, ap, ◌∙◌}
-use Rattle.pref_core.specs.Slots.{Contents}
-use Rattle.pref_core.specs.State.{is_change, succeeds}
+use Rattle.pref_core.proofs.Common.{◌≡◌, ◌&&◌, Bool, Some, true, false, refl, sym, ap, ◌∙◌, Contents, is_change, succeeds, op_of}
 use Rattle.pref_core.proofs.Filling.{slots_still}
-use Rattle.pref_core.specs.Planned.{op_of}
-use Rattle.pref_core.proofs.store.contents.Contents.step.Goals as goal
 use Rattle.pref_core.proofs.store.contents.Contents.step.Goals.{then-is_change+then-succeeds, else-is_change, else-is_change-via-then-is_change+else-succeeds, else-is_change-via-else-is_change}
+use Rattle.pref_core.proofs.store.contents.Contents.step.Goals as goal
 
 none : (a b : Bool) → b ≡ false → (a && b) ≡ false
 none true b e = e

@@ -1,6 +1,4 @@
-use Rattle.std.proofs.Common.{length, sym, subst, ap, ◌∙◌, arith}
-use Rattle.std.proofs.lemmas.Grind.{get_or_default_zero}
-use Rattle.pref_core.specs.Links.{ids_of, AreLinks}
+use Rattle.pref_core.proofs.Common.{length, sym, subst, ap, ◌∙◌, arith, get_or_default_zero, ids_of, AreLinks}
 use Rattle.pref_core.proofs.Chains.{links_added}
 use Rattle.pref_core.proofs.store.links.Links.add.Goals as goal
 

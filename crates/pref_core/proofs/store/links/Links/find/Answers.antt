@@ -1,7 +1,4 @@
-use Rattle.std.proofs.Common.{◌<◌, length, sym, ap, subst, ◌∙◌, arith}
-use Rattle.std.proofs.lemmas.Grind.{get_or_default_zero, common_steps}
-use Rattle.pref_core.specs.Indexes.{row_at}
-use Rattle.pref_core.specs.Links.{ids_of, AreLinks}
+use Rattle.pref_core.proofs.Common.{◌<◌, length, sym, ap, subst, ◌∙◌, arith, get_or_default_zero, common_steps, row_at, ids_of, AreLinks}
 use Rattle.pref_core.proofs.Chains.{nowhere}
 use Rattle.pref_core.proofs.store.links.Links.find.Goals as goal
 

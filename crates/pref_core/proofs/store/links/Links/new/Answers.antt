@@ -1,11 +1,8 @@
-use Rattle.std.proofs.Common.{◌≡◌, ◌++◌, [], ◌∷◌, map, replicate, ap, ap₂, cond, ◌∙◌, subst, sym, arith, rules, append_assoc}
-use Rattle.std.specs.List.{range_with_len}
-use Rattle.std.proofs.lemmas.Bool.{lt-ltb, le-ltb}
-use Rattle.std.proofs.lemmas.List.FromFn.{map-range_with_len_more}
-use Rattle.pref_core.specs.Links.{AreLinks, opening_ids, opening_link}
+use Rattle.pref_core.proofs.Common.{◌≡◌, ◌++◌, [], ◌∷◌, map, replicate, ap, ap₂, cond, ◌∙◌, subst, sym, arith, rules, append_assoc, range_with_len, lt-ltb, le-ltb, map-range_with_len_more, AreLinks}
+use Rattle.pref_core.proofs.Common.{opening_ids, opening_link}
 use Rattle.pref_core.proofs.OpeningLinks.{opening_links}
-use Rattle.pref_core.proofs.store.links.Links.new.Goals as goal
 use Rattle.pref_core.proofs.store.links.Links.new.Goals.{then-home-rows, else-home-rows}
+use Rattle.pref_core.proofs.store.links.Links.new.Goals as goal
 
 pub loop-home-preserved : goal.loop-home-preserved
 loop-home-preserved c =

@@ -1,6 +1,4 @@
-use Rattle.std.proofs.Common.{◌≡◌, ◌++◌, map, replicate}
-use Rattle.std.specs.List.{range_with_len}
-use Rattle.pref_core.specs.Links.{opening_link}
+use Rattle.pref_core.proofs.Common.{◌≡◌, ◌++◌, map, replicate, range_with_len, opening_link}
 use Rattle.pref_core.proofs.store.links.Links.new.Given as goal
 
 abbrev pub invariant-loop-place : goal.invariant-loop-place

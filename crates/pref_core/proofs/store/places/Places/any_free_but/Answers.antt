@@ -1,6 +1,4 @@
-use Rattle.std.proofs.Common.{◌≡◌, ℕ, true, false, take, get_or, Option, Some, None, IfSome, IfNone, ap, sym, ◌∙◌}
-use Rattle.pref_core.specs.Places.{free_at}
-use Rattle.pref_core.specs.Table.{among}
+use Rattle.pref_core.proofs.Common.{◌≡◌, ℕ, true, false, take, get_or, Option, Some, None, IfSome, IfNone, ap, sym, ◌∙◌, free_at, among}
 use Rattle.pref_core.proofs.Listing.{free_listed, listed_free}
 use Rattle.pref_core.proofs.store.places.Places.any_free_but.Goals as goal
 

@@ -1,4 +1,4 @@
-use Rattle.std.proofs.Common.{slice_get, sym, ap, ◌∙◌}
+use Rattle.pref_core.proofs.Common.{slice_get, sym, ap, ◌∙◌}
 use Rattle.pref_core.proofs.Listing.{kept_first, kept_none}
 use Rattle.pref_core.proofs.store.places.Places.any_kept.Goals as goal
 

@@ -1,7 +1,5 @@
-use Rattle.std.proofs.Common.{◌≡◌, ◌<◌, ℕ, Bool, false, nat_lt, length, List, Option, Some, None, get_or, slice_get, refl, sym, ap, ◌∙◌, arith}
-use Rattle.std.proofs.lemmas.Bool.{ltb-true, ltb-false}
-use Rattle.std.proofs.lemmas.Option.{slice_get-get_or, slice_get_within}
-use Rattle.pref_core.specs.Places.{free_at}
+use Rattle.pref_core.proofs.Common.{◌≡◌, ◌<◌, ℕ, Bool, false, nat_lt, length, List, Option, Some, None, get_or, slice_get, refl, sym, ap, ◌∙◌, arith, ltb-true, ltb-false, slice_get-get_or}
+use Rattle.pref_core.proofs.Common.{slice_get_within, free_at}
 use Rattle.pref_core.proofs.Listing.{free_there}
 use Rattle.pref_core.proofs.store.places.Places.is_free.Goals as goal
 

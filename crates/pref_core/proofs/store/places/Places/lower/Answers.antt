@@ -1,6 +1,4 @@
-use Rattle.std.proofs.Common.{◌≡◌, refl, ◌+◌, ◌<◌, ◌∙◌, ap, map, length, get_or, slice_get, subst, set, arith, sym}
-use Rattle.std.proofs.lemmas.List.{with_items_is}
-use Rattle.pref_core.specs.Places.{numbered, zone_at, IsInverse, moved_order, moved_positions}
+use Rattle.pref_core.proofs.Common.{◌≡◌, refl, ◌+◌, ◌<◌, ◌∙◌, ap, map, length, get_or, slice_get, subst, set, arith, sym, with_items_is, numbered, zone_at, IsInverse, moved_order, moved_positions}
 use Rattle.pref_core.proofs.Arranging.{arranged_same, lowers}
 use Rattle.pref_core.proofs.store.places.Places.lower.Goals as goal
 

@@ -1,5 +1,4 @@
-use Rattle.std.proofs.Common.{◌-◌, ◌∙◌, map, ap, refl}
-use Rattle.pref_core.specs.Places.{zone_at}
+use Rattle.pref_core.proofs.Common.{◌-◌, ◌∙◌, map, ap, refl, zone_at}
 use Rattle.pref_core.proofs.Arranging.{arranged_same}
 use Rattle.pref_core.proofs.Turning.{opened, turned_arranged, turned_zones}
 use Rattle.pref_core.proofs.store.places.Places.new.Goals as goal

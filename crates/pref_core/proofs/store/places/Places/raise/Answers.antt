@@ -1,6 +1,5 @@
-use Rattle.std.proofs.Common.{◌≡◌, refl, ◌-◌, ◌<◌, ◌∙◌, suc, ap, map, length, get_or, slice_get, subst, set, arith, sym}
-use Rattle.std.proofs.lemmas.List.{with_items_is}
-use Rattle.pref_core.specs.Places.{numbered, zone_at, IsInverse, moved_order, moved_positions}
+use Rattle.pref_core.proofs.Common.{◌≡◌, refl, ◌-◌, ◌<◌, ◌∙◌, suc, ap, map, length, get_or, slice_get, subst, set, arith, sym, with_items_is, numbered, zone_at, IsInverse, moved_order}
+use Rattle.pref_core.proofs.Common.{moved_positions}
 use Rattle.pref_core.proofs.Arranging.{arranged_same, bound_some, raises}
 use Rattle.pref_core.proofs.store.places.Places.raise.Goals as goal
 

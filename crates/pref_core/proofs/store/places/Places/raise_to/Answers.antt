@@ -1,5 +1,4 @@
-use Rattle.std.proofs.Common.{◌≡◌, ◌+◌, suc, set, slice_get, sym, ap, ◌∙◌, arith}
-use Rattle.pref_core.specs.Places.{numbered}
+use Rattle.pref_core.proofs.Common.{◌≡◌, ◌+◌, suc, set, slice_get, sym, ap, ◌∙◌, arith, numbered}
 use Rattle.pref_core.proofs.Arranging.{set_same, set_twice}
 use Rattle.pref_core.proofs.Zones.{read_written}
 use Rattle.pref_core.proofs.store.places.Places.raise_to.Goals as goal

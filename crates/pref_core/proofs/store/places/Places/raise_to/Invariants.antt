@@ -1,5 +1,4 @@
-use Rattle.std.proofs.Common.{◌≡◌, set}
-use Rattle.pref_core.specs.Places.{numbered}
+use Rattle.pref_core.proofs.Common.{◌≡◌, set, numbered}
 use Rattle.pref_core.proofs.store.places.Places.raise_to.Given as goal
 
 abbrev pub invariant-loop-zone : goal.invariant-loop-zone

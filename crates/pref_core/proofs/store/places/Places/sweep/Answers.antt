@@ -1,9 +1,5 @@
-use Rattle.std.proofs.Common.{◌≡◌, ℕ, ◌+◌, ◌<◌, map, get_or, length, set, Option, Some, IfNone, slice_get, ap, sym, ◌∙◌, subst, arith}
-use Rattle.std.proofs.lemmas.List.{length-map, get_or-map}
-use Rattle.std.proofs.lemmas.Option.{slice_get_within}
-use Rattle.pref_core.specs.declared.store.places.Zone.{Zone}
-use Rattle.pref_core.specs.declared.store.places.Zone.TheVariants.{Live, Ended}
-use Rattle.pref_core.specs.Places.{MayBecome, number_of, zone_of}
+use Rattle.pref_core.proofs.Common.{◌≡◌, ℕ, ◌+◌, ◌<◌, map, get_or, length, set, Option, Some, IfNone, slice_get, ap, sym, ◌∙◌, subst, arith, length-map, get_or-map, slice_get_within, Zone, Live}
+use Rattle.pref_core.proofs.Common.{Ended, MayBecome, number_of, zone_of}
 use Rattle.pref_core.proofs.Ends.{zone_few}
 use Rattle.pref_core.proofs.Sweeping.{IsSweeping, AllZip-length, sweep_begins, sweep_goes, swept, swept_all}
 use Rattle.pref_core.proofs.store.places.Places.sweep.Goals as goal

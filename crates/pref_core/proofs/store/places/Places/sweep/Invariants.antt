@@ -1,5 +1,4 @@
-use Rattle.std.proofs.Common.{map}
-use Rattle.pref_core.specs.Places.{zone_of}
+use Rattle.pref_core.proofs.Common.{map, zone_of}
 use Rattle.pref_core.proofs.Sweeping.{IsSweeping}
 use Rattle.pref_core.proofs.store.places.Places.sweep.Given as goal
 
