@@ -14,7 +14,7 @@ use Rattle.pref_sky.specs.Best.{best, is_beaten, rest}
 use Rattle.pref_sky.specs.Items.{AreAllItems, AreInPool, AreItems, entries_at, levels_at, levels_in, parts_at}
 use Rattle.pref_sky.specs.declared.item.Item.{Item}
 use Rattle.pref_sky.specs.Levels.{HaveDifferentIds, entry_of, levels}
-use Rattle.pref_sky.specs.Made.{ArePartsMade, IsPartMade, LeaveAlone, new_levels}
+use Rattle.pref_sky.specs.Made.{ArePartsMade, ArePut, IsPartMade, LeaveAlone, new_levels}
 use Rattle.pref_sky.specs.Partials.{IsBehind, IsMade, held_at, replaced}
 use Rattle.pref_sky.specs.Parts.{ArePartedBy, depth, is_in, levels_of, ranked_parts, ranked_upto}
 use Rattle.pref_sky.proofs.Halves.{beaten_by_rest}
@@ -60,9 +60,9 @@ made_or_not part (made ∷ all) =
 
 -- parts in which those that were made are in their places
 module _ (over : Entry → Entry → Bool) (cut : ℕ) (rule : Entry → ℕ) (pool : List Entry) (parts new : List Part) (arrivals : List Arrival) (all : List Made) (are : ArePartsMade over cut rule pool parts arrivals all)
-    (put : All (λ made. levels_in made.part new ≡ replaced made.first (new_levels made) (levels_in made.part parts)) all) (others : (part : ℕ) → LeaveAlone all part → levels_in part new ≡ levels_in part parts) where
+    (put : ArePut all parts new) where
   is_put : (made : Made) → Among made all → levels_in made.part new ≡ replaced made.first (new_levels made) (levels_in made.part parts)
-  is_put = all_among (λ (m : Made). levels_in m.part new ≡ replaced m.first (new_levels m) (levels_in m.part parts)) all put
+  is_put = all_among (λ (m : Made). levels_in m.part new ≡ replaced m.first (new_levels m) (levels_in m.part parts)) all put.made
 
   is_made : (made : Made) → Among made all → IsPartMade over cut rule pool parts arrivals made
   is_made = all_among (IsPartMade over cut rule pool parts arrivals) all are.each
@@ -78,9 +78,9 @@ module _ (over : Entry → Entry → Bool) (cut : ℕ) (rule : Entry → ℕ) (p
             levels_of_at pool made.part new ∙ (ap (levels_at pool) (is_put made w.1) ∙ replaced_map (λ (level : Vec Item Global). entries_at pool level.items) made.first (new_levels made) held) in
             subst (λ p. IsMade over cut (levels_of p (parts_at pool parts)) (levels_of p (parts_at pool new)) (map (arrived pool) (coming_to p arrivals))) w.2
             (subst (λ l. IsMade over cut l (levels_of made.part (parts_at pool new)) (map (arrived pool) (coming_to made.part arrivals))) (sym (levels_of_at pool made.part parts))
-            (subst (λ l. IsMade over cut (levels_at pool held) l (map (arrived pool) (coming_to made.part arrivals))) (sym now) (is_made made w.1).made))
+            (subst (λ l. IsMade over cut (levels_at pool held) l (map (arrived pool) (coming_to made.part arrivals))) (sym now) (is_made made w.1).levels.made))
         | inr alone ↦
-            let same : levels_of part (parts_at pool new) ≡ was = levels_of_at pool part new ∙ (ap (levels_at pool) (others part alone) ∙ sym (levels_of_at pool part parts)) in
+            let same : levels_of part (parts_at pool new) ≡ was = levels_of_at pool part new ∙ (ap (levels_at pool) (put.others part alone) ∙ sym (levels_of_at pool part parts)) in
             subst (λ l. IsMade over cut was l (map (arrived pool) (coming_to part arrivals))) (sym same)
             (subst (λ l. IsMade over cut was was (map (arrived pool) l)) (sym (are.others part alone)) (nothing_comes over cut was))
       ]
@@ -100,9 +100,9 @@ module _ (over : Entry → Entry → Bool) (cut : ℕ) (rule : Entry → ℕ) (p
             (subst (AreAllItems rule pool) (sym (is_put made w.1))
             (All-append IsLevel (take made.first held ++ news) (drop back held)
             (All-append IsLevel (take made.first held) news (All-take IsLevel made.first held there)
-            (All-take IsLevel (made.end - made.first) (drop made.first made.levels.items) (All-drop IsLevel made.first made.levels.items (is_made made w.1).items)))
+            (All-take IsLevel (made.end - made.first) (drop made.first made.levels.items) (All-drop IsLevel made.first made.levels.items (is_made made w.1).levels.items)))
             (All-drop IsLevel back held there)))
-        | inr alone ↦ subst (AreAllItems rule pool) (sym (others n alone)) (in_pool_of rule pool parts in_pool n)
+        | inr alone ↦ subst (AreAllItems rule pool) (sym (put.others n alone)) (in_pool_of rule pool parts in_pool n)
       ])
 
   pub depth_after : (most : ℕ) → cut ≤ most → depth (parts_at pool parts) ≤ most → depth (parts_at pool new) ≤ most
@@ -114,10 +114,10 @@ module _ (over : Entry → Entry → Bool) (cut : ℕ) (rule : Entry → ℕ) (p
       elim (made_or_not part all) [
         | inl w ↦
             let made = w.0 in
-            let one = is_made made w.1 in
+            let one = (is_made made w.1).levels in
             subst (λ p. length (levels_of p (parts_at pool new)) ≤ most) w.2
             (omega (arith, counted new made.part, ap length (is_put made w.1), taken_long made.first made.end made.levels.items (levels_in made.part parts) one.fits.inside one.fits.first one.fits.new, one.no_deeper, before made.part, cut_fits))
-        | inr alone ↦ omega (arith, counted new part, ap length (others part alone), before part)
+        | inr alone ↦ omega (arith, counted new part, ap length (put.others part alone), before part)
       ])
 
 -- those that come to a part are those of its number

@@ -1,72 +1,44 @@
 -- An addition to parts, from what arrived to what they hold.
-use Rattle.std.proofs.Common.{◌≡◌, ℕ, ◌<◌, Bool, List, ◌++◌, length, map, filter, sym, ◌∙◌, ap, subst, arith}
+use Rattle.std.proofs.Common.{◌≡◌, ℕ, ◌<◌, Bool, List, ◌++◌, length, map, filter, sym, ◌∙◌, subst, arith}
 use Rattle.std.specs.Prelude.{All}
 use Rattle.pref_term.specs.Order.{IsStrictOrder}
 use Rattle.pref_sky.specs.declared.arrival.Arrival.{Arrival}
 use Rattle.pref_sky.specs.declared.entry.Entry.{Entry}
 use Rattle.pref_sky.specs.declared.making.Made.{Made}
-use Rattle.pref_sky.specs.Arrivals.{IsArrival, KeepsUpper, StartsAt, arrived}
-use Rattle.pref_sky.specs.Items.{AreInPool, levels_at, levels_in, parts_at}
+use Rattle.pref_sky.specs.Arrivals.{AreComing, HaveArrived, IsArrival, StartsAt, arrived}
+use Rattle.pref_sky.specs.Items.{levels_at, levels_in, parts_at}
 use Rattle.pref_sky.specs.Levels.{HaveDifferentIds, entry_of, levels}
-use Rattle.pref_sky.specs.Made.{ArePartsMade, LeaveAlone, new_levels}
-use Rattle.pref_sky.specs.Partials.{IsMade, replaced}
+use Rattle.pref_sky.specs.Made.{ArePartsMade, ArePut}
+use Rattle.pref_sky.specs.Partials.{IsMade}
 use Rattle.pref_sky.specs.Parts.{ArePartedBy, is_in, levels_of, part_of, parts_by, ranked_parts}
 use Rattle.pref_sky.proofs.AddedParts.{added, coming_of, no_more, part_after, some_differ, upper_levels}
 use Rattle.pref_sky.proofs.LevelLaws.{first_differ}
 use Rattle.pref_sky.proofs.Members.{all_among, among_all}
 use Rattle.pref_sky.proofs.PartItems.{Part, levels_of_at}
 use Rattle.pref_sky.proofs.PartLaws.{IsWithin, differ_after, part_below, parted_after}
-use Rattle.pref_sky.proofs.Pools.{in_pool_more, parts_more}
 
--- the pool has grown
-pub record HasGrown (rule : Entry → ℕ) (pool now : List Entry) (parts : List Part) : Type 0 where
-  pub same : parts_at now parts ≡ parts_at pool parts
-  pub items : AreInPool rule now parts
-
-pub has_grown : (rule : Entry → ℕ) (pool now : List Entry) (parts : List Part) → AreInPool rule pool parts → (more : List Entry) × (now ≡ pool ++ more) → HasGrown rule pool now parts
-has_grown rule pool now parts items grown =
-    record {
-      same = ap (λ p. parts_at p parts) grown.1 ∙ parts_more rule pool grown.0 parts items;
-      items = subst (λ p. AreInPool rule p parts) (sym grown.1) (in_pool_more rule pool grown.0 parts items);
-    }
-
--- what arrived, where the pool has grown
-pub record HasArrived (over : Entry → Entry → Bool) (rule : Entry → ℕ) (cut : ℕ) (columns : List ℕ) (pool : List Entry) (parts : List Part) (entries : List Entry) (arrivals : List Arrival) : Type 0 where
-  pub are : All (IsArrival over rule (part_of columns) pool (parts_at pool parts)) arrivals
-  pub upper : KeepsUpper over cut (part_of columns) (parts_at pool parts) entries (map (arrived pool) arrivals)
-
-pub has_arrived : (over : Entry → Entry → Bool) (rule : Entry → ℕ) (cut : ℕ) (columns these : List ℕ) (pool now : List Entry) (parts those : List Part) (entries : List Entry) (arrivals : List Arrival) → HasGrown rule pool now parts → these ≡ columns → those ≡ parts
-    → All (IsArrival over rule (part_of these) now (parts_at pool those)) arrivals → KeepsUpper over cut (part_of these) (parts_at pool those) entries (map (arrived now) arrivals) → HasArrived over rule cut columns now parts entries arrivals
-has_arrived over rule cut columns these pool now parts those entries arrivals grown same_columns same_parts are upper =
-    let same : parts_at pool those ≡ parts_at now parts = ap (parts_at pool) same_parts ∙ sym grown.same in
-    record {
-      are = subst (λ l. All (IsArrival over rule (part_of columns) now l) arrivals) same (subst (λ l. All (IsArrival over rule (part_of l) now (parts_at pool those)) arrivals) same_columns are);
-      upper = subst (λ l. KeepsUpper over cut (part_of columns) l entries (map (arrived now) arrivals)) same
-          (subst (λ l. KeepsUpper over cut (part_of l) (parts_at pool those) entries (map (arrived now) arrivals)) same_columns upper);
-    }
-
-module _ (over : Entry → Entry → Bool) (rule : Entry → ℕ) (cut : ℕ) (columns : List ℕ) (pool : List Entry) (parts : List Part) (entries : List Entry) (arrivals : List Arrival) (here : HasArrived over rule cut columns pool parts entries arrivals) where
+module _ (over : Entry → Entry → Bool) (rule : Entry → ℕ) (cut : ℕ) (columns : List ℕ) (pool : List Entry) (parts : List Part) (entries : List Entry) (arrivals : List Arrival) (here : HaveArrived over rule cut columns pool parts entries arrivals) where
   of_part : All (λ a. part_of columns (arrived pool a) ≡ a.part) arrivals
   of_part = among_all (λ (a : Arrival). part_of columns (arrived pool a) ≡ a.part) arrivals (λ a m. (all_among (IsArrival over rule (part_of columns) pool (parts_at pool parts)) arrivals here.are a m).part)
 
   -- to parts that there are, and to their levels
-  pub to_parts : length parts ≡ parts_by columns → All (λ a. a.part < length parts) arrivals
-  to_parts long =
-      among_all (λ (a : Arrival). a.part < length parts) arrivals
-      (λ a m. omega (arith, long, part_below columns (arrived pool a), all_among (λ (b : Arrival). part_of columns (arrived pool b) ≡ b.part) arrivals of_part a m))
-
-  pub to_levels : All (λ a. StartsAt over rule pool (levels_at pool (levels_in a.part parts)) a) arrivals
-  to_levels =
-      among_all (λ (a : Arrival). StartsAt over rule pool (levels_at pool (levels_in a.part parts)) a) arrivals
-      (λ a m. subst (λ l. StartsAt over rule pool l a) (levels_of_at pool a.part parts) (all_among (IsArrival over rule (part_of columns) pool (parts_at pool parts)) arrivals here.are a m).starts)
+  pub to_coming : length parts ≡ parts_by columns → AreComing over rule pool parts arrivals
+  to_coming long =
+      record {
+        dealt = here.dealt;
+        part = among_all (λ (a : Arrival). a.part < length parts) arrivals
+            (λ a m. omega (arith, long, part_below columns (arrived pool a), all_among (λ (b : Arrival). part_of columns (arrived pool b) ≡ b.part) arrivals of_part a m));
+        start = among_all (λ (a : Arrival). StartsAt over rule pool (levels_at pool (levels_in a.part parts)) a) arrivals
+            (λ a m. subst (λ l. StartsAt over rule pool l a) (levels_of_at pool a.part parts) (all_among (IsArrival over rule (part_of columns) pool (parts_at pool parts)) arrivals here.are a m).starts);
+      }
 
   -- and the parts once they are made and put in their places
   module _ (new : List Part) (all : List Made) (are : ArePartsMade over cut rule pool parts arrivals all)
-      (put : All (λ made. levels_in made.part new ≡ replaced made.first (new_levels made) (levels_in made.part parts)) all) (others : (part : ℕ) → LeaveAlone all part → levels_in part new ≡ levels_in part parts)
+      (put : ArePut all parts new)
       (different : HaveDifferentIds (map entry_of (ranked_parts (parts_at pool parts)) ++ entries)) (parted : ArePartedBy (part_of columns) (parts_at pool parts)) where
     after : (part : ℕ) → IsMade over cut (levels_of part (parts_at pool parts)) (levels_of part (parts_at pool new)) (filter (is_in (part_of columns) part) (map (arrived pool) arrivals))
     after part =
-        subst (IsMade over cut (levels_of part (parts_at pool parts)) (levels_of part (parts_at pool new))) (sym (coming_of (part_of columns) pool arrivals of_part part)) (part_after over cut rule pool parts new arrivals all are put others part)
+        subst (IsMade over cut (levels_of part (parts_at pool parts)) (levels_of part (parts_at pool new))) (sym (coming_of (part_of columns) pool arrivals of_part part)) (part_after over cut rule pool parts new arrivals all are put part)
 
     apart : HaveDifferentIds (map entry_of (ranked_parts (parts_at pool parts)) ++ map (arrived pool) arrivals)
     apart = some_differ over (part_of columns) cut (parts_at pool parts) entries (map (arrived pool) arrivals) here.upper (map entry_of (ranked_parts (parts_at pool parts))) different

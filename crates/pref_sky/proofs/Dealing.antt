@@ -1,5 +1,5 @@
 -- One entry more comes to parts, and what comes is put in order.
-use Rattle.std.proofs.Common.{Bor, ◌≡◌, ◌∙◌, ℕ, ◌≤◌, ◌<◌, ◌+◌, Bool, false, cond, inl, inr, List, [], ◌∷◌, ◌++◌, Vec, Global, get_or, length, map, sym, ap, subst, arith}
+use Rattle.std.proofs.Common.{Bor, ◌≡◌, ◌∙◌, ℕ, ◌≤◌, ◌<◌, ◌+◌, Bool, false, cond, inl, inr, List, [], ◌∷◌, ◌++◌, Vec, Global, get_or, length, map, refl, sym, ap, subst, arith}
 use Rattle.std.specs.Fn.{Called}
 use Rattle.std.specs.List.Sorted.{IsPermutation, IsSortedBy, IsSortedByKeyClosure}
 use Rattle.std.specs.Ordering.{is_lt, nat_cmp, ordering_then}
@@ -13,61 +13,55 @@ use Rattle.std.proofs.lemmas.List.Sums.{sum_by-append}
 use denote.Param.Members.{Mut}
 use Rattle.pref_sky.specs.declared.entry.Entry.{Entry}
 use Rattle.pref_sky.specs.declared.item.Item.{Item}
+use Rattle.pref_sky.specs.declared.pool.Pool.{Pool}
+use Rattle.pref_sky.specs.Signatures.{signature_by}
 use Rattle.pref_sky.specs.declared.arrival.Arrival.{Arrival}
 use Rattle.pref_sky.specs.Arrivals.{AreDealt, IsArrival, KeepsUpper, arrived, deals_before}
-use Rattle.pref_sky.specs.Items.{AreAllItems, AreInPool, IsItem, levels_at, parts_at}
+use Rattle.pref_sky.specs.Items.{AreAllItems, AreInPool, HasGrown, IsItem, levels_at, parts_at}
 use Rattle.pref_sky.specs.Partials.{IsBehind}
 use Rattle.pref_sky.specs.Parts.{levels_of}
 use Rattle.pref_sky.proofs.Members.{all_among, in_either, in_left, in_right, map_agree_among}
 use Rattle.pref_sky.proofs.Orders.{same_if_permuted}
-use Rattle.pref_sky.proofs.Pools.{entry_behind, entry_more, item_more, levels_more, part_here}
+use Rattle.pref_sky.proofs.Pools.{entry_grown, item_grown, levels_grown, part_here}
 
 -- ---- what came stays where it is while the pool grows
 
-pub part_stays : (rule : Entry → ℕ) (pool more now : List Entry) (parts : List (Vec (Vec Item Global) Global)) (n : ℕ) (part : Vec (Vec Item Global) Global) → AreInPool rule pool parts → n < length parts → part ≡ get_or parts n part
-    → now ≡ pool ++ more → levels_at now part.items ≡ levels_of n (parts_at pool parts)
-part_stays rule pool more now parts n part are inside is grown =
-    let here = subst (λ (p : Vec (Vec Item Global) Global). AreAllItems rule pool p.items) (sym is) (are n part inside) in
-    ap (λ l. levels_at l part.items) grown ∙ (levels_more rule pool more part.items here ∙ sym (part_here pool parts n part inside is))
+pub part_stays : (a b : Pool) → HasGrown a b → (parts : List (Vec (Vec Item Global) Global)) (n : ℕ) (part : Vec (Vec Item Global) Global) → AreInPool (signature_by a.cuts) a.entries.items parts → n < length parts → part ≡ get_or parts n part
+    → levels_at b.entries.items part.items ≡ levels_of n (parts_at a.entries.items parts)
+part_stays a b grown parts n part are inside is =
+    let here = subst (λ (p : Vec (Vec Item Global) Global). AreAllItems (signature_by a.cuts) a.entries.items p.items) (sym is) (are n part inside) in
+    levels_grown a b grown part.items here ∙ sym (part_here a.entries.items parts n part inside is)
 
-module _ (over : Entry → Entry → Bool) (rule : Entry → ℕ) (number : Entry → ℕ) (parts : List (List (List Entry))) where
-  arrived_more : (pool more : List Entry) (a : Arrival) → IsArrival over rule number pool parts a → arrived (pool ++ more) a ≡ arrived pool a
-  arrived_more pool more a is = entry_more pool more a.item.place is.starts.item.within
-
-  arrival_more : (pool more : List Entry) (a : Arrival) → IsArrival over rule number pool parts a → IsArrival over rule number (pool ++ more) parts a
-  arrival_more pool more a is =
-      let same = arrived_more pool more a is in
-      record {
-        part = ap number same ∙ is.part;
-        starts = record { item = item_more rule pool more a.item is.starts.item; within = is.starts.within; behind = subst (IsBehind over (levels_of a.part parts) a.start) (sym same) is.starts.behind };
-      }
-
+module _ (over : Entry → Entry → Bool) (number : Entry → ℕ) (parts : List (List (List Entry))) where
   -- an entry that was put into the pool for a part
-  pub arrival_here : (pool : List Entry) (e : Entry) (levels : List (List Entry)) (a : Arrival) → levels ≡ levels_of a.part parts → number e ≡ a.part → IsItem rule (pool ++ e ∷ []) a.item → a.item.place ≡ length pool
-      → a.start ≤ length levels → IsBehind over levels a.start e → IsArrival over rule number (pool ++ e ∷ []) parts a
-  arrival_here pool e levels a here numbered is placed within behind =
-      let same : arrived (pool ++ e ∷ []) a ≡ e = entry_behind pool e a.item placed in
+  pub arrival_here : (rule : Entry → ℕ) (pool : List Entry) (e : Entry) (levels : List (List Entry)) (x : Arrival) → levels ≡ levels_of x.part parts → number e ≡ x.part → IsItem rule pool x.item → arrived pool x ≡ e
+      → x.start ≤ length levels → IsBehind over levels x.start e → IsArrival over rule number pool parts x
+  arrival_here rule pool e levels x here numbered is same within behind =
       record {
         part = ap number same ∙ numbered;
         starts = record {
           item = is;
-          within = subst (λ l. a.start ≤ length l) here within;
-          behind = subst (λ x. IsBehind over (levels_of a.part parts) a.start x) (sym same) (subst (λ l. IsBehind over l a.start e) here behind);
+          within = subst (λ l. x.start ≤ length l) here within;
+          behind = subst (λ y. IsBehind over (levels_of x.part parts) x.start y) (sym same) (subst (λ l. IsBehind over l x.start e) here behind);
         };
       }
 
-  pub arrivals_push : (pool : List Entry) (e : Entry) (arrivals : List Arrival) (a : Arrival) → All (IsArrival over rule number pool parts) arrivals → IsArrival over rule number (pool ++ e ∷ []) parts a
-      → All (IsArrival over rule number (pool ++ e ∷ []) parts) (arrivals ++ a ∷ [])
-  arrivals_push pool e arrivals a are is =
-      All-push (IsArrival over rule number (pool ++ e ∷ []) parts) arrivals a (λ k d inside. arrival_more pool (e ∷ []) (get_or arrivals k d) (are k d inside)) is
+  module _ (a b : Pool) (grown : HasGrown a b) (arrivals : List Arrival) (are : All (IsArrival over (signature_by a.cuts) number a.entries.items parts) arrivals) where
+    arrived_grown : (x : Arrival) → IsArrival over (signature_by a.cuts) number a.entries.items parts x → arrived b.entries.items x ≡ arrived a.entries.items x
+    arrived_grown x is = entry_grown a b grown x.item.place is.starts.item.within
 
-  pub arrived_push : (pool : List Entry) (e : Entry) (arrivals : List Arrival) (a : Arrival) → All (IsArrival over rule number pool parts) arrivals → arrived (pool ++ e ∷ []) a ≡ e
-      → map (arrived (pool ++ e ∷ [])) (arrivals ++ a ∷ []) ≡ map (arrived pool) arrivals ++ e ∷ []
-  arrived_push pool e arrivals a are is =
-      let now = arrived (pool ++ e ∷ []) in
-      map-append now arrivals (a ∷ [])
-      ∙ (ap (λ l. l ++ now a ∷ []) (map_agree_among now (arrived pool) arrivals (λ x m. arrived_more pool (e ∷ []) x (all_among (IsArrival over rule number pool parts) arrivals are x m)))
-      ∙ ap (λ y. map (arrived pool) arrivals ++ y ∷ []) is)
+    arrival_grown : (x : Arrival) → IsArrival over (signature_by a.cuts) number a.entries.items parts x → IsArrival over (signature_by b.cuts) number b.entries.items parts x
+    arrival_grown x is =
+        arrival_here (signature_by b.cuts) b.entries.items (arrived a.entries.items x) (levels_of x.part parts) x refl is.part (item_grown a b grown x.item is.starts.item) (arrived_grown x is) is.starts.within is.starts.behind
+
+    pub arrivals_push : (x : Arrival) → IsArrival over (signature_by b.cuts) number b.entries.items parts x → All (IsArrival over (signature_by b.cuts) number b.entries.items parts) (arrivals ++ x ∷ [])
+    arrivals_push x is = All-push (IsArrival over (signature_by b.cuts) number b.entries.items parts) arrivals x (λ k d inside. arrival_grown (get_or arrivals k d) (are k d inside)) is
+
+    pub arrived_push : (x : Arrival) → map (arrived b.entries.items) (arrivals ++ x ∷ []) ≡ map (arrived a.entries.items) arrivals ++ arrived b.entries.items x ∷ []
+    arrived_push x =
+        let now = arrived b.entries.items in
+        map-append now arrivals (x ∷ [])
+        ∙ ap (λ l. l ++ now x ∷ []) (map_agree_among now (arrived a.entries.items) arrivals (λ y m. arrived_grown y (all_among (IsArrival over (signature_by a.cuts) number a.entries.items parts) arrivals are y m)))
 
 -- ---- those that are not below the cut are kept
 

@@ -1,11 +1,10 @@
 -- Of ranked entries in order of level: the first levels that hold so many together.
-use Rattle.std.proofs.Common.{◌≡◌, ℕ, zero, suc, ◌≤◌, ◌<◌, ◌+◌, Bool, true, false, cond, List, [], ◌∷◌, ◌++◌, map, length, get_or, take, drop, filter, leb, ltb, refl, sym, ◌∙◌, ap, arith, append-nil}
-use Rattle.std.specs.List.{count_by}
+use Rattle.std.proofs.Common.{◌≡◌, ℕ, zero, suc, ◌≤◌, ◌<◌, ◌+◌, Bool, true, false, cond, List, [], ◌∷◌, ◌++◌, map, length, get_or, take, drop, filter, leb, ltb, sym, ◌∙◌, ap, arith, append-nil}
 use Rattle.std.specs.List.Sorted.{IsNonDecreasingBy, IsPartitionPoint}
 use Rattle.std.proofs.lemmas.Bool.{le-ltb, lt-ltb, leb-true, leb-false}
-use Rattle.std.proofs.lemmas.List.{get_or-drop, get_or-take, length-drop, length-take-le, take-append-drop}
+use Rattle.std.proofs.lemmas.List.{get_or-drop, get_or-take, get_or_default, length-drop, length-take-le, take-append-drop}
 use Rattle.std.proofs.lemmas.List.Elements.{filter-append}
-use Rattle.std.proofs.lemmas.List.Sums.{sum_by-append, length-filter}
+use Rattle.std.proofs.lemmas.List.Sums.{count_by-le-length, length-filter, sum_by-take-drop}
 use Rattle.pref_term.specs.Better.{in_same_group}
 use Rattle.pref_sky.specs.declared.entry.Entry.{Entry}
 use Rattle.pref_sky.specs.declared.entry.Ranked.{Ranked}
@@ -55,25 +54,6 @@ place_in_last xs n r m =
     let w = place_of (drop n xs) r r m in
     (n + w.0, omega arith, omega (arith, w.1, length-drop n xs), sym (get_or-drop n xs w.0 r) ∙ w.2)
 
-count_split : (test : Ranked → Bool) (xs : List Ranked) (n : ℕ) → count_by test xs ≡ length (filter test (take n xs)) + length (filter test (drop n xs))
-count_split test xs n =
-    omega (
-      arith,
-      ap (count_by test) (sym (take-append-drop n xs)),
-      sum_by-append (λ (s : Ranked). cond (test s) 1 0) (take n xs) (drop n xs),
-      length-filter test (take n xs),
-      length-filter test (drop n xs),
-    )
-
-filter_shorter : (test : Ranked → Bool) (xs : List Ranked) → length (filter test xs) ≤ length xs
-filter_shorter test [] = omega arith
-filter_shorter test (x ∷ xs) = elim (test x) as (λ b. length (cond b (x ∷ filter test xs) (filter test xs)) ≤ suc (length xs)) [ true ↦ (let deeper = filter_shorter test xs in omega (arith, deeper)) | false ↦ (let deeper = filter_shorter test xs in omega (arith, deeper)) ]
-
-same_there : (xs : List Ranked) (k : ℕ) (c d : Ranked) → k < length xs → get_or xs k c ≡ get_or xs k d
-same_there [] k c d l = absurd (omega (arith, l))
-same_there (x ∷ xs) zero c d l = refl
-same_there (x ∷ xs) (suc k) c d l = same_there xs k c d (omega (arith, l))
-
 module _ (xs : List Ranked) (sorted : IsNonDecreasingBy (λ (r : Ranked). r.level) xs) where
   -- fewer stand before an entry that is of no later level than the one at a place
   fewer_before : (place : ℕ) (r d : Ranked) → place < length xs → r.level ≤ (get_or xs place d).level → count_before (in_same_group []) xs r ≤ place
@@ -83,10 +63,10 @@ module _ (xs : List Ranked) (sorted : IsNonDecreasingBy (λ (r : Ranked). r.leve
       none_pass test (drop place xs) (λ s m.
       let w = place_in_last xs place s m in
       let up = sorted place w.0 s w.1 w.2 in
-      let here = ap (λ (t : Ranked). t.level) (same_there xs place s d within) in
+      let here = ap (λ (t : Ranked). t.level) (get_or_default xs place s d within) in
       let at = ap (λ (t : Ranked). t.level) w.3 in
       le-ltb s.level r.level (omega (arith, up, here, at, low))) in
-      omega (arith, count_split test xs place, ap length none, filter_shorter test (take place xs), length-take-le place xs (omega (arith, within)))
+      omega (arith, sum_by-take-drop (λ (s : Ranked). cond (test s) 1 0) xs place, length-filter test (drop place xs), ap length none, count_by-le-length test (take place xs), length-take-le place xs (omega (arith, within)))
 
   -- so many stand before an entry that is of a later level than the last of them
   as_many_before : (place : ℕ) (r d : Ranked) → place < length xs → (get_or xs place d).level < r.level → suc place ≤ count_before (in_same_group []) xs r
@@ -96,10 +76,10 @@ module _ (xs : List Ranked) (sorted : IsNonDecreasingBy (λ (r : Ranked). r.leve
       all_pass test (take (suc place) xs) (λ s m.
       let w = place_in_first xs (suc place) s (omega (arith, within)) m in
       let up = sorted w.0 place d (omega (arith, w.1)) within in
-      let here = ap (λ (t : Ranked). t.level) (same_there xs w.0 s d (omega (arith, w.1, within))) in
+      let here = ap (λ (t : Ranked). t.level) (get_or_default xs w.0 s d (omega (arith, w.1, within))) in
       let at = ap (λ (t : Ranked). t.level) w.2 in
       lt-ltb s.level r.level (omega (arith, up, here, at, high))) in
-      omega (arith, count_split test xs (suc place), ap length all, length-take-le (suc place) xs (omega (arith, within)))
+      omega (arith, sum_by-take-drop (λ (s : Ranked). cond (test s) 1 0) xs (suc place), length-filter test (take (suc place) xs), ap length all, length-take-le (suc place) xs (omega (arith, within)))
 
   -- the levels up to that of the entry at a place are the first ones that hold one more than the place says
   pub first_ranked : (place count : ℕ) (d : Ranked) → place < length xs → count ≤ length xs
@@ -128,7 +108,7 @@ pub all_ranked : (least : ℕ) (xs : List Ranked) → length xs < least → xs �
 all_ranked least xs few =
     let test : Ranked → Ranked → Bool = λ r s. ltb s.level r.level in
     sym (all_pass (λ r. ltb (count_before (in_same_group []) xs r) least) xs (λ r m.
-    lt-ltb (count_before (in_same_group []) xs r) least (omega (arith, few, length-filter (test r) xs, filter_shorter (test r) xs))))
+    lt-ltb (count_before (in_same_group []) xs r) least (omega (arith, few, count_by-le-length (test r) xs))))
 
 pub none_ranked : (xs : List Ranked) → [] ≡ at_least (in_same_group []) 0 xs
 none_ranked xs = sym (none_pass (λ r. ltb (count_before (in_same_group []) xs r) 0) xs (λ r m. le-ltb (count_before (in_same_group []) xs r) 0 (omega arith)))

@@ -6,7 +6,7 @@ pub mod Merges
 pub mod Retained
 pub mod Loops
 pub mod Sifting
-pub mod PassShares
+pub mod Bags
 pub mod PassSteps
 pub mod Items
 pub mod Parting

@@ -1,12 +1,10 @@
 -- Levels of items that are made anew: what they stand for are the levels that an addition makes.
-use Rattle.std.proofs.Common.{◌≡◌, ℕ, zero, suc, ◌≤◌, ◌<◌, ◌+◌, ◌-◌, Bool, false, cond, nat_lt, ◌⊎◌, inl, inr, List, [], ◌∷◌, ◌++◌, Vec, length, map, take, drop, get_or, refl, sym, ◌∙◌, ap, subst, arith, length-append, length-drop}
+use Rattle.std.proofs.Common.{◌≡◌, ℕ, suc, ◌≤◌, ◌<◌, ◌+◌, ◌-◌, Bool, ◌⊎◌, inl, inr, List, [], ◌∷◌, ◌++◌, Vec, length, map, take, drop, get_or, refl, sym, ◌∙◌, ap, subst, arith, length-append, length-drop}
 use Rattle.std.specs.Global.{Global}
 use Rattle.std.specs.Prelude.{All}
-use Rattle.std.specs.List.{count_by}
-use Rattle.std.proofs.lemmas.Bool.{ltb-false}
 use Rattle.std.proofs.lemmas.List.{drop-map, drop-take, get_or-drop, get_or_default, length-map, map-append, nil_from_length, take-append-drop}
 use Rattle.std.proofs.lemmas.List.Elements.{All-append, All-drop, All-push, All-take}
-use Rattle.std.proofs.lemmas.List.Sums.{sum_by-append}
+use Rattle.std.proofs.lemmas.List.Sorted.{IsNonDecreasingBy-drop}
 use Rattle.pref_term.specs.Order.{IsStrictOrder, RowOrder}
 use Rattle.pref_term.specs.declared.signature.scale.Scale.{Scale}
 use Rattle.pref_term.specs.Signatures.{Suit}
@@ -14,56 +12,24 @@ use Rattle.pref_sky.specs.declared.arrival.Arrival.{Arrival}
 use Rattle.pref_sky.specs.declared.entry.Entry.{Entry}
 use Rattle.pref_sky.specs.declared.item.Item.{Item}
 use Rattle.pref_sky.specs.Arrivals.{AreInOrderOfStart, StartsAt, arrived}
-use Rattle.pref_sky.specs.Best.{IsApart}
 use Rattle.pref_sky.specs.Items.{AreAllItems, AreItems, IsItem, entries_at, entry_at, item_order, items_at, levels_at}
 use Rattle.pref_sky.specs.Levels.{entry_order}
-use Rattle.pref_sky.specs.Partials.{IsBehind, IsMade, held_at, replaced}
-use Rattle.pref_sky.specs.Passes.{AreShared, Parted}
+use Rattle.pref_sky.specs.Partials.{IsBehind, IsMade, replaced}
+use Rattle.pref_sky.specs.Passes.{Parted}
 use Rattle.pref_sky.specs.Signatures.{signature_by}
 use Rattle.pref_sky.proofs.Members.{Among, all_among, among_all, from_map, in_map}
 use Rattle.pref_sky.proofs.Pools.{entries_held, items_held}
-use Rattle.pref_sky.proofs.PooledItems.{counts_at, entries_parted, items_apart, shared_are_items, suit_tells}
+use Rattle.pref_sky.proofs.PooledItems.{entries_parted, parted_items, suit_tells}
 use Rattle.pref_sky.proofs.MadeLevels.{AreBehind, Making, making_begins, making_ends, making_more}
 
--- the level at a place
-pub level_there : (levels : List (Vec Item Global)) (n : ℕ) (level : Vec Item Global) → n < length levels → level ≡ get_or levels n level → level.items ≡ items_at n levels
-level_there [] n level inside at = absurd (omega (arith, inside))
-level_there (first ∷ behind) zero level inside at = ap (λ (v : Vec Item Global). v.items) at
-level_there (first ∷ behind) (suc n) level inside at = level_there behind n level (omega (arith, inside)) at
-
-pub no_level : (levels : List (Vec Item Global)) (n : ℕ) → length levels ≤ n → [] ≡ items_at n levels
-no_level [] n past = refl
-no_level (level ∷ behind) zero past = absurd (omega (arith, past))
-no_level (level ∷ behind) (suc n) past = no_level behind n (omega (arith, past))
-
 -- arrivals in order start no earlier than the first
-starts_rise : (arrivals : List Arrival) → AreInOrderOfStart arrivals → (i k : ℕ) (d : Arrival) → i + k < length arrivals → (get_or arrivals i d).start ≤ (get_or arrivals (i + k) d).start
-starts_rise arrivals in_order i zero d inside = let here : i + 0 ≡ i = omega arith in subst (λ j. (get_or arrivals i d).start ≤ (get_or arrivals j d).start) (sym here) (omega arith)
-starts_rise arrivals in_order i (suc k) d inside =
-    let next : (i + k) + 1 ≡ i + suc k = omega arith in
-    let step = ltb-false (get_or arrivals ((i + k) + 1) d).start (get_or arrivals (i + k) d).start (in_order (i + k) d (omega arith) (omega (arith, inside))) in
-    let earlier = starts_rise arrivals in_order i k d (omega (arith, inside)) in
-    subst (λ j. (get_or arrivals i d).start ≤ (get_or arrivals j d).start) next (omega (arith, step, earlier))
-
 pub first_starts : (arrivals : List Arrival) (none : Arrival) → 0 < length arrivals → AreInOrderOfStart arrivals → All (λ (a : Arrival). (get_or arrivals 0 none).start ≤ a.start) arrivals
-first_starts arrivals none some in_order k d inside =
-    let same = ap (λ (a : Arrival). a.start) (get_or_default arrivals 0 none d some) in
-    let here : 0 + k ≡ k = omega arith in
-    let rises = starts_rise arrivals in_order 0 k d (omega (arith, inside)) in
-    omega (arith, same, rises, ap (λ j. (get_or arrivals j d).start) here)
+first_starts arrivals none some in_order k d inside = omega (arith, ap (λ (a : Arrival). a.start) (get_or_default arrivals 0 none d some), in_order 0 k d (omega arith) inside)
 
 -- the first starts within the levels
 pub first_inside : (over : Entry → Entry → Bool) (rule : Entry → ℕ) (pool : List Entry) (levels : List (Vec Item Global)) (arrivals : List Arrival) (none : Arrival) → 0 < length arrivals
     → All (StartsAt over rule pool (levels_at pool levels)) arrivals → (get_or arrivals 0 none).start ≤ length levels
 first_inside over rule pool levels arrivals none some starts = omega (arith, (starts 0 none some).within, length-map levels (λ (level : Vec Item Global). entries_at pool level.items))
-
-in_order_behind : (arrivals : List Arrival) (n : ℕ) → AreInOrderOfStart arrivals → AreInOrderOfStart (drop n arrivals)
-in_order_behind arrivals n in_order k d low inside =
-    let next : n + (k + 1) ≡ (n + k) + 1 = omega arith in
-    let first = get_or-drop n arrivals k d in
-    let second = get_or-drop n arrivals (k + 1) d ∙ ap (λ j. get_or arrivals j d) next in
-    subst (λ (a : Arrival). nat_lt a.start (get_or (drop n arrivals) k d).start ≡ false) (sym second)
-    (subst (λ (a : Arrival). nat_lt (get_or arrivals ((n + k) + 1) d).start a.start ≡ false) (sym first) (in_order (n + k) d (omega arith) (omega (arith, inside, length-drop n arrivals))))
 
 -- those behind the first ones that start at a place
 pub start_later : (arrivals : List Arrival) (n place : ℕ) (none : Arrival) → n < length arrivals → ((get_or arrivals n none).start ≡ place → ⊥) → AreInOrderOfStart arrivals → All (λ (a : Arrival). place ≤ a.start) arrivals
@@ -71,7 +37,7 @@ pub start_later : (arrivals : List Arrival) (n place : ℕ) (none : Arrival) →
 start_later arrivals n place none within other in_order from k d inside =
     let start = ap (λ (a : Arrival). a.start) (get_or_default arrivals n d none within) in
     let there = ap (λ (a : Arrival). a.start) (get_or-drop n arrivals k d) in
-    omega (arith, start, there, other, from n d within, starts_rise arrivals in_order n k d (omega (arith, inside, length-drop n arrivals)))
+    omega (arith, start, there, other, from n d within, in_order n (n + k) d (omega arith) (omega (arith, inside, length-drop n arrivals)))
 
 -- the entries of arrivals
 arrived_items : (pool : List Entry) (arrivals : List Arrival) → entries_at pool (map (λ (a : Arrival). a.item) arrivals) ≡ map (arrived pool) arrivals
@@ -123,9 +89,9 @@ module _ (order : RowOrder) (strict : IsStrictOrder (entry_order order)) (cuts :
   -- one level more was made
   pub making_items_more : Suit order cuts → AreAllItems (signature_by cuts) pool levels → (made : List (Vec Item Global)) (down now others : List Item) (rest : List Arrival) (count : ℕ) (top : Vec Item Global) → length made < cut
       → All (λ (a : Arrival). length made < a.start) (drop count rest) → now ≡ down ++ map (λ (a : Arrival). a.item) (take count rest)
-      → AreShared (items_at (length made) levels ++ now) top.items others → (IsApart (item_order order pool) (items_at (length made) levels) → Parted (item_order order pool) (items_at (length made) levels ++ now) top.items others)
+      → Parted (item_order order pool) (items_at (length made) levels) now top.items others
       → MakingItems order cuts pool cut first levels arrivals made down rest → MakingItems order cuts pool cut first levels arrivals (made ++ top ∷ []) others (drop count rest)
-  making_items_more suit are made down now others rest count top below later pushed shared parted so_far =
+  making_items_more suit are made down now others rest count top below later pushed parted so_far =
       let over = entry_order order in
       let rule = signature_by cuts in
       let n = length made in
@@ -137,13 +103,11 @@ module _ (order : RowOrder) (strict : IsStrictOrder (entry_order order)) (cuts :
       subst (AreItems rule pool) (sym pushed) (All-append (IsItem rule pool) down (map (λ (a : Arrival). a.item) here) so_far.down_items (arrival_items over rule pool old here (All-take (StartsAt over rule pool old) count rest so_far.starts))) in
       let held_items = items_held rule pool n levels are in
       let both = All-append (IsItem rule pool) held now held_items now_items in
-      let each = shared_are_items rule pool (held ++ now) top.items others shared both in
+      let each = parted_items order rule pool held now top.items others parted both in
       let entry : Item → Entry = λ item. entry_at pool item.place in
       let held_is = entries_held pool n levels in
       let now_is : entries_at pool now ≡ entries_at pool down ++ map (arrived pool) here =
       ap (entries_at pool) pushed ∙ (map-append entry down (map (λ (a : Arrival). a.item) here) ∙ ap (λ l. entries_at pool down ++ l) (arrived_items pool here)) in
-      let all_is : entries_at pool (held ++ now) ≡ held_at n old ++ (entries_at pool down ++ map (arrived pool) here) =
-      map-append entry held now ∙ (ap (λ l. l ++ entries_at pool now) held_is ∙ ap (λ l. held_at n old ++ l) now_is) in
       let rest_is : map (arrived pool) rest ≡ map (arrived pool) here ++ map (arrived pool) behind = ap (map (arrived pool)) (sym (take-append-drop count rest)) ∙ map-append (arrived pool) here behind in
       let behind_starts = All-drop (StartsAt over rule pool old) count rest so_far.starts in
       let made_is : levels_at pool (made ++ top ∷ []) ≡ levels_at pool made ++ entries_at pool top.items ∷ [] = map-append (λ (level : Vec Item Global). entries_at pool level.items) made (top ∷ []) in
@@ -151,16 +115,9 @@ module _ (order : RowOrder) (strict : IsStrictOrder (entry_order order)) (cuts :
       let level : Making over cut first (suc n) old (levels_at pool made ++ entries_at pool top.items ∷ []) (map (arrived pool) arrivals) (entries_at pool others) (map (arrived pool) behind) =
       making_more over strict cut first n old (levels_at pool made) (map (arrived pool) arrivals) (entries_at pool down) (map (arrived pool) here) (map (arrived pool) behind) (entries_at pool top.items) (entries_at pool others) below
       (arrivals_behind over rule pool old (suc n) behind behind_starts (λ k d inside. omega (arith, later k d inside)))
-      (λ p. omega (
-        arith,
-        counts_at pool (held ++ now) top.items others shared p,
-        ap (count_by p) all_is,
-        sum_by-append (λ (e : Entry). cond (p e) 1 0) (held_at n old) (entries_at pool down ++ map (arrived pool) here),
-        sum_by-append (λ (e : Entry). cond (p e) 1 0) (entries_at pool down) (map (arrived pool) here),
-      ))
-      (λ apart. subst (λ l. Parted over l (entries_at pool top.items) (entries_at pool others)) all_is
-      (entries_parted order rule pool (held ++ now) top.items others (suit_tells order cuts suit) both
-      (parted (items_apart order rule pool held (suit_tells order cuts suit) held_items (subst (IsApart over) (sym held_is) apart)))))
+      (subst (λ l. Parted over l (entries_at pool down ++ map (arrived pool) here) (entries_at pool top.items) (entries_at pool others)) held_is
+      (subst (λ l. Parted over (entries_at pool held) l (entries_at pool top.items) (entries_at pool others)) now_is
+      (entries_parted order rule pool held now top.items others (suit_tells order cuts suit) both parted)))
       (subst (Making over cut first n old (levels_at pool made) (map (arrived pool) arrivals) (entries_at pool down)) rest_is so_far.making) in
       record {
         making = subst (λ j. Making over cut first j old (levels_at pool (made ++ top ∷ [])) (map (arrived pool) arrivals) (entries_at pool others) (map (arrived pool) behind)) next
@@ -168,7 +125,7 @@ module _ (order : RowOrder) (strict : IsStrictOrder (entry_order order)) (cuts :
         made_items = All-push (λ (level : Vec Item Global). AreItems rule pool level.items) made top so_far.made_items each.0;
         down_items = each.1;
         starts = behind_starts;
-        in_order = in_order_behind rest count so_far.in_order;
+        in_order = IsNonDecreasingBy-drop (λ (a : Arrival). a.start) count rest so_far.in_order;
         behind = λ k d inside. omega (arith, next, later k d inside);
       }
 

@@ -17,6 +17,7 @@ use Rattle.pref_sky.proofs.Orders.{SameMembers, among_in_order}
 use Rattle.pref_sky.proofs.Merges.{HoldsLevels, different_best, is_at, same_best}
 use Rattle.pref_sky.proofs.HeldLevels.{beaten_by_more, best_apart, best_of_same, best_without, different_by_count, left_without, same_behind, same_beside, same_sym, same_then, without_of_same}
 use Rattle.pref_sky.proofs.Halves.{beaten_by_rest}
+use Rattle.pref_sky.proofs.Parting.{best_are, others_are}
 use Rattle.pref_sky.proofs.LevelLaws.{held_differ}
 use Rattle.pref_sky.proofs.LevelByLevel.{best_with_top, without_with_top}
 use Rattle.pref_sky.proofs.RankedLevels.{count_joined, count_level, level_differs, one_level}
@@ -145,7 +146,7 @@ held_behind k xs ys past = held_is k (xs ++ ys) ∙ (get_or-append_right xs ys (
 
 -- one level more is told
 merging_more : (over : Entry → Entry → Bool) → IsStrictOrder over → (before coming : List Entry) (cut first n : ℕ) (old made : List (List Entry)) (down here later top others : List Entry) → n < cut → length made ≡ n → Holds over before cut old
-    → AreBehind over old (suc n) later → Parted over (held_at n old ++ (down ++ here)) top others → Merging over before coming cut first n made down (here ++ later)
+    → AreBehind over old (suc n) later → Parted over (held_at n old) (down ++ here) top others → Merging over before coming cut first n made down (here ++ later)
     → Merging over before coming cut first (suc n) (made ++ top ∷ []) others later
 merging_more over strict before coming cut first n old made down here later top others below long holds starts parted m =
     let all = before ++ coming in
@@ -153,6 +154,7 @@ merging_more over strict before coming cut first n old made down here later top 
     let held = held_at n old in
     let now = down ++ here in
     let both = now ++ left in
+    let apart : IsApart over held = λ x y mx my. best_apart over left x y (among_in_order (best over left) x (holds.there n x mx).1) (among_in_order (best over left) y (holds.there n y my).1) in
     let held_best : SameMembers held (best over left) = record { there = λ x among. (holds.there n x among).1; back = λ x among. holds.back n x below among } in
     let lower : (x : Entry) → Among x later → is_beaten over both x ≡ true =
     λ x among.
@@ -162,7 +164,7 @@ merging_more over strict before coming cut first n old made down here later top 
     let whole : SameMembers (rest over all n) (later ++ both) =
     same_then (rest over all n) ((now ++ later) ++ left) (later ++ both) (subst (λ l. SameMembers (rest over all n) (l ++ left)) (sym (append_assoc down here later)) m.left) (second_first now later left) in
     let told_here : SameMembers top (best over (rest over all n)) =
-    same_then top (best over (held ++ now)) (best over (rest over all n)) parted.best_are
+    same_then top (best over (held ++ now)) (best over (rest over all n)) (best_are over held now top others parted apart)
     (same_then (best over (held ++ now)) (best over both) (best over (rest over all n)) (best_with_top over strict now left held held_best)
     (same_then (best over both) (best over (later ++ both)) (best over (rest over all n)) (same_sym (best over (later ++ both)) (best over both) (best_without over strict later both lower))
     (same_sym (best over (rest over all n)) (best over (later ++ both)) (best_of_same over (rest over all n) (later ++ both) whole)))) in
@@ -183,7 +185,7 @@ merging_more over strict before coming cut first n old made down here later top 
           (same_then (later ++ without_best over both) (later ++ (others ++ lost)) ((others ++ later) ++ lost)
           (same_behind later (without_best over both) (others ++ lost)
           (same_then (without_best over both) (without_best over (held ++ now) ++ lost) (others ++ lost) (without_with_top over strict now left held held_best)
-          (same_beside (without_best over (held ++ now)) others lost (same_sym others (without_best over (held ++ now)) parted.others_are))))
+          (same_beside (without_best over (held ++ now)) others lost (same_sym others (without_best over (held ++ now)) (others_are over held now top others parted apart)))))
           (same_sym ((others ++ later) ++ lost) (later ++ (others ++ lost)) (second_first others later lost)));
     }
 
@@ -278,9 +280,8 @@ making_begins over strict cut first old made coming long starts some among =
     }
 
 pub making_more : (over : Entry → Entry → Bool) → IsStrictOrder over → (cut first n : ℕ) (old made : List (List Entry)) (coming down here later top others : List Entry) → n < cut → AreBehind over old (suc n) later
-    → ((p : Entry → Bool) → count_by p top + count_by p others ≡ count_by p (held_at n old) + (count_by p down + count_by p here)) → (IsApart over (held_at n old) → Parted over (held_at n old ++ (down ++ here)) top others)
-    → Making over cut first n old made coming down (here ++ later) → Making over cut first (suc n) old (made ++ top ∷ []) coming others later
-making_more over strict cut first n old made coming down here later top others below starts bag parted making =
+    → Parted over (held_at n old) (down ++ here) top others → Making over cut first n old made coming down (here ++ later) → Making over cut first (suc n) old (made ++ top ∷ []) coming others later
+making_more over strict cut first n old made coming down here later top others below starts parted making =
     let long = making.long in
     let from = making.from in
     record {
@@ -290,16 +291,15 @@ making_more over strict cut first n old made coming down here later top others b
           omega (
             arith,
             making.counts p,
-            bag p,
+            parted.bag p,
+            sum_by-append (λ (e : Entry). cond (p e) 1 0) (held_at n old) (down ++ here),
+            sum_by-append (λ (e : Entry). cond (p e) 1 0) down here,
             count_behind p n old,
             sum_by-append (λ (e : Entry). cond (p e) 1 0) here later,
             ap (sum_by (count_by p)) (drop-append-le first made (top ∷ []) (omega (arith, long, from))),
             sum_by_push (count_by p) (drop first made) top,
           );
-      merging = λ before holds.
-          let apart : IsApart over (held_at n old) =
-          λ x y mx my. best_apart over (rest over before n) x y (among_in_order (best over (rest over before n)) x (holds.there n x mx).1) (among_in_order (best over (rest over before n)) y (holds.there n y my).1) in
-          merging_more over strict before coming cut first n old made down here later top others below long holds starts (parted apart) (making.merging before holds);
+      merging = λ before holds. merging_more over strict before coming cut first n old made down here later top others below long holds starts parted (making.merging before holds);
     }
 
 pub making_ends : (over : Entry → Entry → Bool) → IsStrictOrder over → (cut first n : ℕ) (old made : List (List Entry)) (coming down later : List Entry) → first ≤ length old → AreBehind over old first coming

@@ -2,7 +2,7 @@
 use Rattle.std.proofs.Common.{◌≡◌, ℕ, ◌≤◌, ◌<◌, ◌+◌, Bool, false, ◌&&◌, ◌||◌, ltb, eqb, eq-eqb, inl, inr, List, ◌++◌, length, get_or, take, drop, filter, sym, ◌∙◌, ap, subst, arith, append-nil, length-take, length-drop, get_or-drop}
 use Rattle.std.specs.Prelude.{All}
 use Rattle.std.specs.List.Sorted.{IsNonDecreasingBy}
-use Rattle.std.proofs.lemmas.Bool.{and_from, both_ways, cases_lt, eqb-true, false_from_ne_true, lt-ltb, or_left, or_right}
+use Rattle.std.proofs.lemmas.Bool.{and_from, both_ways, cases_lt, eqb-true, false_from_ne_true, lt-ltb, ltb-false, or_left, or_right}
 use Rattle.std.proofs.lemmas.List.{get_or-take, get_or_default, take-append-drop}
 use Rattle.std.proofs.lemmas.List.Elements.{filter-append}
 use Rattle.std.proofs.lemmas.List.Sorted.{IsNonDecreasingBy-from_all_adjacent}
@@ -48,17 +48,19 @@ dealt_behind arrivals n dealt k d from inside =
 module _ (part : ℕ) (arrivals : List Arrival) (n : ℕ) (dealt : AreDealt arrivals) where
   -- in order of start within one part
   pub by_start : All (λ a. a.part ≡ part) (take n arrivals) → AreInOrderOfStart (take n arrivals)
-  by_start here k d from inside =
+  by_start here =
+      IsNonDecreasingBy-from_all_adjacent (λ (a : Arrival). a.start) (take n arrivals)
+      (λ k d inside.
       let short : k + 1 < n = omega (arith, inside, length-take n arrivals) in
       let there : k + 1 < length arrivals = omega (arith, inside, length-take n arrivals) in
-      let next = get_or (take n arrivals) (k + 1) d in
-      let this = get_or (take n arrivals) k d in
-      let next_is : next ≡ get_or arrivals (k + 1) d = get_or-take n arrivals (k + 1) d short in
-      let this_is : this ≡ get_or arrivals k d = get_or-take n arrivals k d (omega (arith, short)) in
-      let stays : (ltb next.part this.part || (eqb next.part this.part && ltb next.start this.start)) ≡ false =
-      subst (λ x. (ltb x.part this.part || (eqb x.part this.part && ltb x.start this.start)) ≡ false) (sym next_is)
-      (let at : Arrival = get_or arrivals (k + 1) d in subst (λ x. (ltb at.part x.part || (eqb at.part x.part && ltb at.start x.start)) ≡ false) (sym this_is) (dealt k d (omega arith) there)) in
-      starts_stay next.part this.part next.start this.start stays (here (k + 1) d inside ∙ sym (here k d (omega (arith, inside))))
+      let next = get_or arrivals (k + 1) d in
+      let this = get_or arrivals k d in
+      let next_is : get_or (take n arrivals) (k + 1) d ≡ next = get_or-take n arrivals (k + 1) d short in
+      let this_is : get_or (take n arrivals) k d ≡ this = get_or-take n arrivals k d (omega (arith, short)) in
+      let same : next.part ≡ this.part =
+      omega (arith, ap (λ (a : Arrival). a.part) next_is, ap (λ (a : Arrival). a.part) this_is, here (k + 1) d inside, here k d (omega (arith, inside))) in
+      let stays : this.start ≤ next.start = ltb-false next.start this.start (starts_stay next.part this.part next.start this.start (dealt k d (omega arith) there) same) in
+      omega (arith, ap (λ (a : Arrival). a.start) next_is, ap (λ (a : Arrival). a.start) this_is, stays))
 
   -- what is behind those of the first part is of later ones
   pub later_behind : All (λ a. part ≤ a.part) arrivals → ((d : Arrival) → n < length arrivals → (get_or arrivals n d).part ≡ part → ⊥) → All (λ a. part < a.part) (drop n arrivals)

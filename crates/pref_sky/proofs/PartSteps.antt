@@ -1,5 +1,5 @@
 -- The levels of parts are made anew, part by part, and put into the parts.
-use Rattle.std.proofs.Common.{◌≡◌, ℕ, ◌≤◌, ◌<◌, Bool, inl, inr, List, [], ◌∷◌, ◌++◌, length, take, drop, filter, map, max, set, ltb, eqb, sym, ◌∙◌, ap, subst, arith, refl}
+use Rattle.std.proofs.Common.{◌≡◌, ℕ, ◌<◌, Bool, inl, inr, List, [], ◌∷◌, ◌++◌, length, take, drop, filter, set, ltb, eqb, sym, ◌∙◌, ap, subst, arith, refl}
 use Rattle.std.specs.Prelude.{All}
 use Rattle.std.proofs.lemmas.Bool.{eqb-true, false_from_ne_true, lt-ltb, ltb-true}
 use Rattle.std.proofs.lemmas.List.{length-set, take-append-drop}
@@ -7,10 +7,10 @@ use Rattle.std.proofs.lemmas.List.Elements.{All-drop, All-push, filter-append}
 use Rattle.pref_sky.specs.declared.arrival.Arrival.{Arrival}
 use Rattle.pref_sky.specs.declared.entry.Entry.{Entry}
 use Rattle.pref_sky.specs.declared.making.Made.{Made}
-use Rattle.pref_sky.specs.Arrivals.{AreDealt, StartsAt, arrived, coming_to}
-use Rattle.pref_sky.specs.Items.{AreAllItems, levels_at, levels_in}
-use Rattle.pref_sky.specs.Made.{AreInOrderOfPart, Fits, IsPartMade, LeaveAlone, new_levels}
-use Rattle.pref_sky.specs.Partials.{IsMade, replaced}
+use Rattle.pref_sky.specs.Arrivals.{AreComing, StartsAt, coming_to}
+use Rattle.pref_sky.specs.Items.{levels_at, levels_in}
+use Rattle.pref_sky.specs.Made.{AreInOrderOfPart, AreLevelsMade, ArePut, IsPartMade, LeaveAlone, new_levels}
+use Rattle.pref_sky.specs.Partials.{replaced}
 use Rattle.pref_sky.proofs.Enough.{none_pass}
 use Rattle.pref_sky.proofs.Members.{Among, all_among, among_all, in_left, in_right, in_either, from_filter}
 use Rattle.pref_sky.proofs.MergedLists.{in_order_across, in_order_joined}
@@ -30,9 +30,7 @@ pub record MakingParts (over : Entry → Entry → Bool) (cut : ℕ) (rule : Ent
   pub once : AreInOrderOfPart all
   pub later : (made : Made) (a : Arrival) → Among made all → Among a rest → made.part < a.part
   pub others : (part : ℕ) → LeaveAlone all part → coming_to part arrivals ≡ coming_to part rest
-  pub dealt : AreDealt rest
-  pub part : All (λ a. a.part < length parts) rest
-  pub start : All (λ a. StartsAt over rule pool (levels_at pool (levels_in a.part parts)) a) rest
+  pub coming : AreComing over rule pool parts rest
 
 -- those that come to the first part stand in front
 module _ (over : Entry → Entry → Bool) (cut : ℕ) (rule : Entry → ℕ) (pool : List Entry) (parts : List Part) (arrivals rest : List Arrival) (all : List Made) (making : MakingParts over cut rule pool parts arrivals rest all)
@@ -46,7 +44,7 @@ module _ (over : Entry → Entry → Bool) (cut : ℕ) (rule : Entry → ℕ) (p
       (λ a m.
       let of_rest = (from_filter (λ (b : Arrival). eqb b.part part) rest a (subst (Among a) coming m)).0 in
       let its : levels_in a.part parts ≡ held = ap (λ p. levels_in p parts) (coming_are part rest a (subst (Among a) coming m)) ∙ there in
-      subst (λ l. StartsAt over rule pool (levels_at pool l) a) its (all_among (λ (b : Arrival). StartsAt over rule pool (levels_at pool (levels_in b.part parts)) b) rest making.start a of_rest))
+      subst (λ l. StartsAt over rule pool (levels_at pool l) a) its (all_among (λ (b : Arrival). StartsAt over rule pool (levels_at pool (levels_in b.part parts)) b) rest making.coming.start a of_rest))
 
   -- and the levels of this part are made
   module _ (behind : All (λ a. part < a.part) (drop n rest)) (first : Arrival) (is_first : Among first rest) (of_part : first.part ≡ part) (made : Made) (is : made.part ≡ part) where
@@ -56,19 +54,13 @@ module _ (over : Entry → Entry → Bool) (cut : ℕ) (rule : Entry → ℕ) (p
     alone : LeaveAlone all part
     alone = among_all (λ (m : Made). m.part ≡ part → ⊥) all (λ m among same. omega (arith, earlier m among, same))
 
-    pub part_made : Fits made held → made.end ≤ max cut (length held) → AreAllItems rule pool made.levels.items
-        → IsMade over cut (levels_at pool held) (replaced made.first (levels_at pool (new_levels made)) (levels_at pool held)) (map (arrived pool) (take n rest)) → IsPartMade over cut rule pool parts arrivals made
-    part_made fits no_deeper items anew =
+    pub part_made : AreLevelsMade over cut rule pool held (take n rest) made → IsPartMade over cut rule pool parts arrivals made
+    part_made anew =
         let its : levels_in made.part parts ≡ held = ap (λ p. levels_in p parts) is ∙ there in
         let comes : take n rest ≡ coming_to made.part arrivals = coming ∙ (sym (making.others part alone) ∙ ap (λ p. coming_to p arrivals) (sym is)) in
         record {
-          part = omega (arith, is, of_part, all_among (λ (a : Arrival). a.part < length parts) rest making.part first is_first);
-          fits = subst (Fits made) (sym its) fits;
-          no_deeper = subst (λ l. made.end ≤ max cut (length l)) (sym its) no_deeper;
-          items = items;
-          made =
-              subst (λ l. IsMade over cut (levels_at pool (levels_in made.part parts)) (replaced made.first (levels_at pool (new_levels made)) (levels_at pool (levels_in made.part parts))) (map (arrived pool) l)) comes
-              (subst (λ l. IsMade over cut (levels_at pool l) (replaced made.first (levels_at pool (new_levels made)) (levels_at pool l)) (map (arrived pool) (take n rest))) (sym its) anew);
+          part = omega (arith, is, of_part, all_among (λ (a : Arrival). a.part < length parts) rest making.coming.part first is_first);
+          levels = subst (λ l. AreLevelsMade over cut rule pool l (coming_to made.part arrivals) made) (sym its) (subst (λ l. AreLevelsMade over cut rule pool held l made) comes anew);
         }
 
     pub making_more : IsPartMade over cut rule pool parts arrivals made → MakingParts over cut rule pool parts arrivals (drop n rest) (all ++ made ∷ [])
@@ -93,19 +85,15 @@ module _ (over : Entry → Entry → Bool) (cut : ℕ) (rule : Entry → ℕ) (p
               none_pass mine (take n rest) (λ a m. false_from_ne_true (mine a) (λ same. alone_last all made p left (is ∙ (sym (all_among (λ (b : Arrival). b.part ≡ part) (take n rest) front_of_part a m) ∙ eqb-true a.part p same)))) in
               making.others p (alone_before all made p left)
               ∙ (ap (filter mine) (sym (take-append-drop n rest)) ∙ (filter-append mine (take n rest) (drop n rest) ∙ ap (λ l. l ++ filter mine (drop n rest)) none));
-          dealt = dealt_behind rest n making.dealt;
-          part = All-drop (λ (a : Arrival). a.part < length parts) n rest making.part;
-          start = All-drop (λ (a : Arrival). StartsAt over rule pool (levels_at pool (levels_in a.part parts)) a) n rest making.start;
+          coming = record {
+            dealt = dealt_behind rest n making.coming.dealt;
+            part = All-drop (λ (a : Arrival). a.part < length parts) n rest making.coming.part;
+            start = All-drop (λ (a : Arrival). StartsAt over rule pool (levels_at pool (levels_in a.part parts)) a) n rest making.coming.start;
+          };
         }
 
--- the parts are in their places that were put so far
-pub record PuttingParts (first now : List Part) (done : List Made) : Type 0 where
-  pub made : All (λ made. levels_in made.part now ≡ replaced made.first (new_levels made) (levels_in made.part first)) done
-  pub others : (part : ℕ) → LeaveAlone done part → levels_in part now ≡ levels_in part first
-  pub long : length now ≡ length first
-
 -- one part more is put
-module _ (first now : List Part) (done : List Made) (putting : PuttingParts first now done) (made : Made) (once : AreInOrderOfPart (done ++ made ∷ [])) where
+module _ (first now : List Part) (done : List Made) (putting : ArePut done first now) (made : Made) (once : AreInOrderOfPart (done ++ made ∷ [])) where
   not_yet : LeaveAlone done made.part
   not_yet =
       among_all (λ (m : Made). m.part ≡ made.part → ⊥) done
@@ -114,7 +102,7 @@ module _ (first now : List Part) (done : List Made) (putting : PuttingParts firs
   pub still_there : levels_in made.part now ≡ levels_in made.part first
   still_there = putting.others made.part not_yet
 
-  pub putting_more : (new : Part) → made.part < length now → new.items ≡ replaced made.first (new_levels made) (levels_in made.part first) → PuttingParts first (set now made.part new) (done ++ made ∷ [])
+  pub putting_more : (new : Part) → made.part < length now → new.items ≡ replaced made.first (new_levels made) (levels_in made.part first) → ArePut (done ++ made ∷ []) first (set now made.part new)
   putting_more new there is =
       let IsPut : Made → Type 0 = λ m. levels_in m.part (set now made.part new) ≡ replaced m.first (new_levels m) (levels_in m.part first) in
       record {

@@ -1,10 +1,13 @@
 -- Lists that are parted into their best and the others, by what their items stand for.
-use Rattle.std.proofs.Common.{◌≡◌, Bool, cond, not, List, [], ◌∷◌, refl, sym, ◌∙◌, ap, subst, arith, map}
+use Rattle.std.proofs.Common.{◌≡◌, Bool, cond, not, inl, inr, List, [], ◌∷◌, ◌++◌, refl, sym, ◌∙◌, ap, subst, arith, map}
 use Rattle.std.specs.List.{count_by}
+use Rattle.std.proofs.lemmas.Bool.{both_ways, not-true}
+use Rattle.std.proofs.lemmas.List.{map-append}
 use Rattle.std.proofs.lemmas.List.Sums.{sum_by-cons}
-use Rattle.pref_sky.specs.Best.{is_beaten}
+use Rattle.pref_sky.specs.Best.{IsApart, best, is_beaten, without_best}
 use Rattle.pref_sky.specs.Passes.{Parted}
-use Rattle.pref_sky.proofs.Members.{Among, any_from, any_gives, in_filter, from_filter, from_map, in_map}
+use Rattle.pref_sky.proofs.Members.{Among, any_from, any_gives, in_filter, from_filter, from_map, in_left, in_map}
+use Rattle.pref_sky.proofs.Orders.{SameMembers}
 use Rattle.pref_sky.proofs.Removals.{same_answer}
 
 pub count_map : {E F : Type 0} (f : E → F) (p : F → Bool) (xs : List E) → count_by p (map f xs) ≡ count_by (λ x. p (f x)) xs
@@ -23,31 +26,47 @@ beaten_map f below over all agree x m =
     let w = any_gives (λ y. below y x) all h in
     any_from (λ y. over y (f x)) (map f all) (f w.0) (in_map f all w.0 w.1) (sym (agree w.0 x w.1 m) ∙ w.2))
 
-pub parted_map : {E F : Type 0} (f : E → F) (below : E → E → Bool) (over : F → F → Bool) (all top others : List E) → ((x y : E) → Among x all → Among y all → below x y ≡ over (f x) (f y)) → Parted below all top others → Parted over (map f all) (map f top) (map f others)
-parted_map f below over all top others agree p =
+pub parted_map : {E F : Type 0} (f : E → F) (below : E → E → Bool) (over : F → F → Bool) (held items top others : List E) → ((x y : E) → Among x (held ++ items) → Among y (held ++ items) → below x y ≡ over (f x) (f y))
+    → Parted below held items top others → Parted over (map f held) (map f items) (map f top) (map f others)
+parted_map f below over held items top others agree p =
+    let all = held ++ items in
+    let joined : map f held ++ map f items ≡ map f all = sym (map-append f held items) in
     let beaten = beaten_map f below over all agree in
+    let apart : IsApart over (map f held) → IsApart below held =
+    λ apart x y mx my. agree x y (in_left held items x mx) (in_left held items y my) ∙ apart (f x) (f y) (in_map f held x mx) (in_map f held y my) in
     record {
-      best_are = record {
-        there = λ y m.
-            let v = from_map f top y m in
-            let w = from_filter (λ x. not (is_beaten below all x)) all v.0 (p.best_are.there v.0 v.1) in
-            in_filter (λ x. not (is_beaten over (map f all) x)) (map f all) y (subst (λ z. Among z (map f all)) (sym v.2) (in_map f all v.0 w.0))
-            (ap (λ z. not (is_beaten over (map f all) z)) v.2 ∙ (ap not (beaten v.0 w.0) ∙ w.1));
-        back = λ y m.
-            let w = from_filter (λ x. not (is_beaten over (map f all) x)) (map f all) y m in
-            let v = from_map f all y w.0 in
-            subst (λ z. Among z (map f top)) (sym v.2)
-            (in_map f top v.0 (p.best_are.back v.0 (in_filter (λ x. not (is_beaten below all x)) all v.0 v.1 (ap not (sym (beaten v.0 v.1)) ∙ (ap (λ z. not (is_beaten over (map f all) z)) (sym v.2) ∙ w.1)))));
-      };
-      others_are = record {
-        there = λ y m.
-            let v = from_map f others y m in
-            let w = from_filter (is_beaten below all) all v.0 (p.others_are.there v.0 v.1) in
-            in_filter (is_beaten over (map f all)) (map f all) y (subst (λ z. Among z (map f all)) (sym v.2) (in_map f all v.0 w.0)) (ap (is_beaten over (map f all)) v.2 ∙ (beaten v.0 w.0 ∙ w.1));
-        back = λ y m.
-            let w = from_filter (is_beaten over (map f all)) (map f all) y m in
-            let v = from_map f all y w.0 in
-            subst (λ z. Among z (map f others)) (sym v.2) (in_map f others v.0 (p.others_are.back v.0 (in_filter (is_beaten below all) all v.0 v.1 (sym (beaten v.0 v.1) ∙ (ap (is_beaten over (map f all)) (sym v.2) ∙ w.1)))));
-      };
-      bag = λ q. omega (arith, count_map f q top, count_map f q others, p.bag (λ x. q (f x)), count_map f q all);
+      within = λ y m. subst (Among y) (sym joined) (elim m [
+        | inl a ↦ let v = from_map f top y a in subst (λ z. Among z (map f all)) (sym v.2) (in_map f all v.0 (p.within v.0 (inl v.1)))
+        | inr a ↦ let v = from_map f others y a in subst (λ z. Among z (map f all)) (sym v.2) (in_map f all v.0 (p.within v.0 (inr v.1)))
+      ]);
+      covers = λ y m.
+          let v = from_map f all y (subst (Among y) joined m) in
+          elim (p.covers v.0 v.1) [ inl a ↦ inl (subst (λ z. Among z (map f top)) (sym v.2) (in_map f top v.0 a)) | inr a ↦ inr (subst (λ z. Among z (map f others)) (sym v.2) (in_map f others v.0 a)) ];
+      bag = λ q. omega (arith, count_map f q top, count_map f q others, p.bag (λ x. q (f x)), count_map f q all, ap (count_by q) joined);
+      unbeaten = λ h y m.
+          let v = from_map f top y m in
+          ap (λ l. is_beaten over l y) joined ∙ (ap (is_beaten over (map f all)) v.2 ∙ (beaten v.0 (p.within v.0 (inl v.1)) ∙ p.unbeaten (apart h) v.0 v.1));
+      beaten = λ h y m.
+          let v = from_map f others y m in
+          ap (λ l. is_beaten over l y) joined ∙ (ap (is_beaten over (map f all)) v.2 ∙ (beaten v.0 (p.within v.0 (inr v.1)) ∙ p.beaten (apart h) v.0 v.1));
     }
+
+-- where none of the held ones dominates another, the two lists are the best and what is left without them
+module _ {E : Type 0} (over : E → E → Bool) (held items top others : List E) (p : Parted over held items top others) (apart : IsApart over held) where
+  pub best_are : SameMembers top (best over (held ++ items))
+  best_are =
+      record {
+        there = λ x m. in_filter (λ y. not (is_beaten over (held ++ items) y)) (held ++ items) x (p.within x (inl m)) (ap not (p.unbeaten apart x m));
+        back = λ x m.
+            let w = from_filter (λ y. not (is_beaten over (held ++ items) y)) (held ++ items) x m in
+            elim (p.covers x w.0) [ inl a ↦ a | inr a ↦ absurd (both_ways (is_beaten over (held ++ items) x) (not-true (is_beaten over (held ++ items) x) w.1) (p.beaten apart x a)) ];
+      }
+
+  pub others_are : SameMembers others (without_best over (held ++ items))
+  others_are =
+      record {
+        there = λ x m. in_filter (is_beaten over (held ++ items)) (held ++ items) x (p.within x (inr m)) (p.beaten apart x m);
+        back = λ x m.
+            let w = from_filter (is_beaten over (held ++ items)) (held ++ items) x m in
+            elim (p.covers x w.0) [ inl a ↦ absurd (both_ways (is_beaten over (held ++ items) x) (p.unbeaten apart x a) w.1) | inr a ↦ a ];
+      }

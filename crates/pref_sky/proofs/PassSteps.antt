@@ -1,29 +1,32 @@
--- The steps of a pass, and what they keep true: what goes to the rest is dominated, and what is early at the end of a pass is best.
-use Rattle.std.proofs.Common.{◌≡◌, ℕ, ◌<◌, ◌≤◌, ◌+◌, Bool, true, false, not, ◌⊎◌, inl, inr, List, [], ◌∷◌, ◌++◌, length, ◌∙◌, ap, arith, ltb}
-use Rattle.std.proofs.lemmas.Bool.{both_ways, le-ltb, lt-ltb, not-true, not_from_false, false_from_ne_true}
+-- The steps of passes, and what they keep true: nothing is lost, each pass settles more, what goes to the rest is dominated, and what is early at the end of a pass is best.
+use Rattle.std.proofs.Common.{◌≡◌, ℕ, ◌<◌, ◌≤◌, ◌+◌, Bool, true, false, cond, ◌⊎◌, inl, inr, List, [], ◌∷◌, ◌++◌, length, refl, sym, ◌∙◌, ap, subst, arith, length-append}
+use Rattle.std.specs.List.{sum_by}
+use Rattle.std.proofs.lemmas.Bool.{both_ways, false_from_ne_true}
+use Rattle.std.proofs.lemmas.List.Sums.{sum_by-append, sum_by-cons}
 use Rattle.pref_term.specs.Order.{IsStrictOrder}
-use Rattle.pref_sky.specs.Best.{IsApart, best, is_beaten}
-use Rattle.pref_sky.specs.Passes.{IsClear, Sifted, Somewhere, Passing, Parted}
-use Rattle.pref_sky.specs.Passes.Somewhere.{is_best, is_early, is_late, is_overflow, is_left, is_rest}
-use Rattle.pref_sky.proofs.Members.{Among, any_from, any_gives, in_filter, from_filter, in_left, in_right, in_either}
-use Rattle.pref_sky.proofs.PassShares.{shared_held, shared_out, shares_begun, shares_dropped, shares_early, shares_ended, shares_late, shares_overflowing, shares_sifted_early, shares_sifted_late}
+use Rattle.pref_sky.specs.declared.item.Item.{Item}
+use Rattle.pref_sky.specs.Best.{IsApart, is_beaten}
+use Rattle.pref_sky.specs.Passes.{IsClear, Parted, Passing, Sifted}
+use Rattle.pref_sky.proofs.Bags.{among_if, among_or, is_item, long_by, none_by, some_of, sum_by-ones}
+use Rattle.pref_sky.proofs.Members.{Among, any_from, any_gives, in_left, in_either}
 use Rattle.pref_sky.proofs.Removals.{unbeaten_over}
 
--- a list that something is among is not empty
-among_some : {E : Type 0} (xs : List E) (x : E) → Among x xs → 0 < length xs
-among_some [] x m = absurd m
-among_some (y ∷ ys) x m = omega arith
+-- a list is empty, or not
+some_or_none : {E : Type 0} (xs : List E) → (0 < length xs) ⊎ (length xs ≡ 0)
+some_or_none [] = inr refl
+some_or_none (x ∷ xs) = inl (omega arith)
 
 none_of_empty : {E : Type 0} (xs : List E) (x : E) → length xs ≡ 0 → Among x xs → ⊥
-none_of_empty xs x empty m = both_ways (ltb 0 (length xs)) (le-ltb 0 (length xs) (omega (arith, empty))) (lt-ltb 0 (length xs) (among_some xs x m))
+none_of_empty [] x empty m = absurd m
+none_of_empty (y ∷ ys) x empty m = absurd (omega (arith, empty))
 
--- an item that is clear of two lists is clear of both
-clear_both : {E : Type 0} (over : E → E → Bool) (xs ys : List E) (e : E) → IsClear over xs e → IsClear over ys e → (x : E) → Among x xs ⊎ Among x ys → (over x e ≡ false) × (over e x ≡ false)
-clear_both over xs ys e here there x m = elim m [ inl a ↦ here x a | inr b ↦ there x b ]
+-- what is among a list with one more
+or_last : {E : Type 0} (xs : List E) (e x : E) → Among x (xs ++ e ∷ []) → Among x xs ⊎ (x ≡ e)
+or_last xs e x m = elim (in_either xs (e ∷ []) x m) [ inl old ↦ inl old | inr new ↦ elim new [ inl same ↦ inr same | inr none ↦ absurd none ] ]
 
--- with it, what was apart is apart
-apart_with_one : {E : Type 0} (over : E → E → Bool) → IsStrictOrder over → (e : E) (P : E → Type 0) → ((x y : E) → P x → P y → over x y ≡ false) → ((x : E) → P x → (over x e ≡ false) × (over e x ≡ false))
-    → (x y : E) → P x ⊎ (x ≡ e) → P y ⊎ (y ≡ e) → over x y ≡ false
+-- with an item that is clear of it, what was apart is apart
+apart_with_one : (over : Item → Item → Bool) → IsStrictOrder over → (e : Item) (P : Item → Type 0) → ((x y : Item) → P x → P y → over x y ≡ false) → ((x : Item) → P x → (over x e ≡ false) × (over e x ≡ false))
+    → (x y : Item) → P x ⊎ (x ≡ e) → P y ⊎ (y ≡ e) → over x y ≡ false
 apart_with_one over strict e P apart clear x y mx my =
     elim mx [
       | inl a ↦ elim my [ inl b ↦ apart x y a b | inr same ↦ ap (over x) same ∙ (clear x a).0 ]
@@ -31,266 +34,256 @@ apart_with_one over strict e P apart clear x y mx my =
     ]
 
 -- none of a list dominates an item where no answer says so
-pub unbeaten_if : {E : Type 0} (over : E → E → Bool) (xs : List E) (e : E) → ((x : E) → Among x xs → over x e ≡ false) → is_beaten over xs e ≡ false
+unbeaten_if : {E : Type 0} (over : E → E → Bool) (xs : List E) (e : E) → ((x : E) → Among x xs → over x e ≡ false) → is_beaten over xs e ≡ false
 unbeaten_if over xs e none = false_from_ne_true (is_beaten over xs e) (λ h. let w = any_gives (λ x. over x e) xs h in both_ways (over w.0 e) (none w.0 w.1) w.2)
 
--- a pass, where something went out of the early items
-pub sift_early : {E : Type 0} (over : E → E → Bool) (window : ℕ) (input best left : List E) (before : ℕ) (early late overflow rest new more : List E) (e : E) → Among e input → Sifted over e early new rest more
-    → Passing over window input best left before early late overflow rest → Passing over window input best left before new late overflow more
-sift_early {E = E} over window input best left before early late overflow rest new more e there s p =
-    let old : (x : E) → Among x new ⊎ Among x late → Among x early ⊎ Among x late = λ x m. elim m [ inl a ↦ inl (s.within x a) | inr b ↦ inr b ] in
-    record {
-      shares = shares_sifted_early over window input best left before early late overflow rest new more e s p.shares;
-      covers = λ x m. elim (p.covers x m) [
-        | is_best a ↦ is_best a
-        | is_early a ↦ elim (s.splits x a) [ inl b ↦ is_early b | inr b ↦ is_rest b ]
-        | is_late a ↦ is_late a
-        | is_overflow a ↦ is_overflow a
-        | is_left a ↦ is_left a
-        | is_rest a ↦ is_rest (s.keeps x a)
-      ];
-      beaten = λ x a. elim (s.went x a) [ inl b ↦ p.beaten x b | inr b ↦ any_from (λ y. over y x) input e there b.1 ];
-      told = p.told;
-      clear = λ x z m w. p.clear x z m (elim w [ inl v ↦ inl (old z v) | inr v ↦ inr v ]);
-      apart = λ x y mx my. p.apart x y (old x mx) (old y my);
-      settled = λ x z mx mz. p.settled x z (s.within x mx) mz;
-    }
+module _ (over : Item → Item → Bool) (held : List Item) (window : ℕ) (input best : List Item) (before : ℕ) where
+  -- what the next item dominates went out of the window
+  pub pass_sifted : (left early late overflow rest early_now late_now more most : List Item) (e : Item) → Sifted over e early early_now rest more → Sifted over e late late_now more most
+      → Passing over held window input best (e ∷ left) before early late overflow rest → Passing over held window input best (e ∷ left) before early_now late_now overflow most
+  pass_sifted left early late overflow rest early_now late_now more most e s t p =
+      let first : (f : Item → ℕ) → sum_by f more ≡ sum_by f rest + sum_by f s.gone = λ f. ap (sum_by f) s.behind ∙ sum_by-append f rest s.gone in
+      let second : (f : Item → ℕ) → sum_by f most ≡ sum_by f more + sum_by f t.gone = λ f. ap (sum_by f) t.behind ∙ sum_by-append f more t.gone in
+      let early_less : length early_now + length s.gone ≡ length early = long_by early_now s.gone early s.bag in
+      let late_less : length late_now + length t.gone ≡ length late = long_by late_now t.gone late t.bag in
+      let longer : length most ≡ (length rest + length s.gone) + length t.gone =
+      ap length t.behind ∙ (length-append more t.gone ∙ ap (λ n. n + length t.gone) (ap length s.behind ∙ length-append rest s.gone)) in
+      record {
+        bag = λ f. omega (arith, p.bag f, s.bag f, t.bag f, first f, second f);
+        fresh = λ h. omega (arith, p.fresh h, late_less);
+        more = omega (arith, p.more, longer);
+        fits = omega (arith, p.fits, early_less, late_less);
+        falls = λ h. omega (arith, p.falls h, early_less, longer);
+        told = λ apart.
+            let told = p.told apart in
+            let there : Among e input = among_if e input (omega (arith, p.bag (is_item e), some_of e (e ∷ left) (inl refl))) in
+            let of_early : (x : Item) → Among x early_now → Among x early = λ x m. among_if x early (omega (arith, s.bag (is_item x), some_of x early_now m)) in
+            let of_late : (x : Item) → Among x late_now → Among x late = λ x m. among_if x late (omega (arith, t.bag (is_item x), some_of x late_now m)) in
+            let old : (x : Item) → Among x early_now ⊎ Among x late_now → Among x early ⊎ Among x late = λ x m. elim m [ inl a ↦ inl (of_early x a) | inr b ↦ inr (of_late x b) ] in
+            record {
+              beaten = λ x m. elim (in_either more t.gone x (subst (Among x) t.behind m)) [
+                | inl a ↦ elim (in_either rest s.gone x (subst (Among x) s.behind a)) [ inl b ↦ told.beaten x b | inr b ↦ any_from (λ y. over y x) input e there (s.below x b) ]
+                | inr a ↦ any_from (λ y. over y x) input e there (t.below x a)
+              ];
+              unbeaten = told.unbeaten;
+              clear = λ x z m w. told.clear x z m (elim w [ inl v ↦ inl (old z v) | inr v ↦ inr v ]);
+              apart = λ x y mx my. told.apart x y (old x mx) (old y my);
+              settled = λ x z mx mz. told.settled x z (of_early x mx) mz;
+            };
+      }
 
--- and out of the late ones
-pub sift_late : {E : Type 0} (over : E → E → Bool) (window : ℕ) (input best left : List E) (before : ℕ) (early late overflow rest new more : List E) (e : E) → Among e input → Sifted over e late new rest more
-    → Passing over window input best left before early late overflow rest → Passing over window input best left before early new overflow more
-sift_late {E = E} over window input best left before early late overflow rest new more e there s p =
-    let old : (x : E) → Among x early ⊎ Among x new → Among x early ⊎ Among x late = λ x m. elim m [ inl a ↦ inl a | inr b ↦ inr (s.within x b) ] in
-    record {
-      shares = shares_sifted_late over window input best left before early late overflow rest new more e s p.shares;
-      covers = λ x m. elim (p.covers x m) [
-        | is_best a ↦ is_best a
-        | is_early a ↦ is_early a
-        | is_late a ↦ elim (s.splits x a) [ inl b ↦ is_late b | inr b ↦ is_rest b ]
-        | is_overflow a ↦ is_overflow a
-        | is_left a ↦ is_left a
-        | is_rest a ↦ is_rest (s.keeps x a)
-      ];
-      beaten = λ x a. elim (s.went x a) [ inl b ↦ p.beaten x b | inr b ↦ any_from (λ y. over y x) input e there b.1 ];
-      told = p.told;
-      clear = λ x z m w. p.clear x z m (elim w [ inl v ↦ inl (old z v) | inr v ↦ inr v ]);
-      apart = λ x y mx my. p.apart x y (old x mx) (old y my);
-      settled = p.settled;
-    }
+  -- the next item is dominated by one of the window
+  pub pass_dropped : (left early late overflow rest : List Item) (e : Item) → (IsApart over held → (w : Item) × (Among w early ⊎ Among w late) × (over w e ≡ true))
+      → Passing over held window input best (e ∷ left) before early late overflow rest → Passing over held window input best left before early late overflow (rest ++ e ∷ [])
+  pass_dropped left early late overflow rest e above p =
+      let long = length-append rest (e ∷ []) in
+      record {
+        bag = λ f. omega (arith, p.bag f, sum_by-cons f e left, sum_by-append f rest (e ∷ []), sum_by-cons f e []);
+        fresh = p.fresh;
+        more = omega (arith, p.more, long);
+        fits = p.fits;
+        falls = λ h. omega (arith, p.falls h, long);
+        told = λ apart.
+            let told = p.told apart in
+            let top = above apart in
+            let w = top.0 in
+            let holds : Among w input =
+            among_if w input (elim top.1 [ inl a ↦ omega (arith, p.bag (is_item w), some_of w early a) | inr b ↦ omega (arith, p.bag (is_item w), some_of w late b) ]) in
+            record {
+              beaten = λ x a. elim (or_last rest e x a) [ inl old ↦ told.beaten x old | inr same ↦ any_from (λ y. over y x) input w holds (ap (over w) same ∙ top.2) ];
+              unbeaten = told.unbeaten;
+              clear = λ x z m v. told.clear x z m (elim v [ inl u ↦ inl u | inr u ↦ inr (elim u [ inl a ↦ inl a | inr a ↦ inr (inr a) ]) ]);
+              apart = told.apart;
+              settled = told.settled;
+            };
+      }
 
--- the next item is dominated by a held one
-pub drops : {E : Type 0} (over : E → E → Bool) (window : ℕ) (input best left : List E) (before : ℕ) (early late overflow rest : List E) (e w : E) → Among w early ⊎ Among w late → over w e ≡ true
-    → Passing over window input best (e ∷ left) before early late overflow rest → Passing over window input best left before early late overflow (rest ++ e ∷ [])
-drops {E = E} over window input best left before early late overflow rest e w held above p =
-    let holds : Among w input = elim held [ inl a ↦ p.shares.within w (is_early a) | inr b ↦ p.shares.within w (is_late b) ] in
-    record {
-      shares = shares_dropped window input best left before early late overflow rest e p.shares;
-      covers = λ x m. elim (p.covers x m) [
-        | is_best a ↦ is_best a
-        | is_early a ↦ is_early a
-        | is_late a ↦ is_late a
-        | is_overflow a ↦ is_overflow a
-        | is_left a ↦ elim a [ inl same ↦ is_rest (in_right rest (e ∷ []) x (inl same)) | inr later ↦ is_left later ]
-        | is_rest a ↦ is_rest (in_left rest (e ∷ []) x a)
-      ];
-      beaten = λ x a. elim (in_either rest (e ∷ []) x a) [
-        | inl old ↦ p.beaten x old
-        | inr new ↦ elim new [ inl same ↦ any_from (λ y. over y x) input w holds (ap (over w) same ∙ above) | inr none ↦ absurd none ]
-      ];
-      told = p.told;
-      clear = λ x z m v. p.clear x z m (elim v [ inl u ↦ inl u | inr u ↦ inr (elim u [ inl a ↦ inl a | inr a ↦ inr (inr a) ]) ]);
-      apart = p.apart;
-      settled = p.settled;
-    }
+  -- it overflows: the window is full
+  pub pass_overflows : (left early late overflow rest : List Item) (e : Item) → (IsApart over held → IsClear over early e) → (length late ≡ 0 → window ≤ length early)
+      → Passing over held window input best (e ∷ left) before early late overflow rest → Passing over held window input best left before early late (overflow ++ e ∷ []) rest
+  pass_overflows left early late overflow rest e is_clear full p =
+      let long = length-append overflow (e ∷ []) in
+      record {
+        bag = λ f. omega (arith, p.bag f, sum_by-cons f e left, sum_by-append f overflow (e ∷ []), sum_by-cons f e []);
+        fresh = λ h. omega (arith, h, long);
+        more = p.more;
+        fits = p.fits;
+        falls = λ h. elim (some_or_none overflow) [ inl some ↦ p.falls some | inr none ↦ let early_some = full (p.fresh none) in omega (arith, early_some, p.more) ];
+        told = λ apart.
+            let told = p.told apart in
+            record {
+              beaten = told.beaten;
+              unbeaten = told.unbeaten;
+              clear = λ x z m v. elim v [
+                | inl u ↦ told.clear x z m (inl u)
+                | inr u ↦ elim u [
+                  | inl a ↦ elim (or_last overflow e z a) [ inl old ↦ told.clear x z m (inr (inl old)) | inr same ↦ told.clear x z m (inr (inr (inl same))) ]
+                  | inr a ↦ told.clear x z m (inr (inr (inr a)))
+                ]
+              ];
+              apart = told.apart;
+              settled = λ x z mx mz. elim (or_last overflow e z mz) [
+                | inl old ↦ told.settled x z mx old
+                | inr same ↦ let clear = is_clear apart x mx in (ap (over x) same ∙ clear.0, ap (λ v. over v x) same ∙ clear.1)
+              ];
+            };
+      }
 
--- it overflows: the window is full
-pub overflows : {E : Type 0} (over : E → E → Bool) (window : ℕ) (input best left : List E) (before : ℕ) (early late overflow rest : List E) (e : E) → IsClear over early e → (length late ≡ 0 → window ≤ length early)
-    → Passing over window input best (e ∷ left) before early late overflow rest → Passing over window input best left before early late (overflow ++ e ∷ []) rest
-overflows {E = E} over window input best left before early late overflow rest e clear full p =
-    record {
-      shares = shares_overflowing window input best left before early late overflow rest e full p.shares;
-      covers = λ x m. elim (p.covers x m) [
-        | is_best a ↦ is_best a
-        | is_early a ↦ is_early a
-        | is_late a ↦ is_late a
-        | is_overflow a ↦ is_overflow (in_left overflow (e ∷ []) x a)
-        | is_left a ↦ elim a [ inl same ↦ is_overflow (in_right overflow (e ∷ []) x (inl same)) | inr later ↦ is_left later ]
-        | is_rest a ↦ is_rest a
-      ];
-      beaten = p.beaten;
-      told = p.told;
-      clear = λ x z m v. elim v [
-        | inl u ↦ p.clear x z m (inl u)
-        | inr u ↦ elim u [
-          | inl a ↦ elim (in_either overflow (e ∷ []) z a) [ inl old ↦ p.clear x z m (inr (inl old)) | inr new ↦ elim new [ inl same ↦ p.clear x z m (inr (inr (inl same))) | inr none ↦ absurd none ] ]
-          | inr a ↦ p.clear x z m (inr (inr (inr a)))
-        ]
-      ];
-      apart = p.apart;
-      settled = λ x z mx mz. elim (in_either overflow (e ∷ []) z mz) [
-        | inl old ↦ p.settled x z mx old
-        | inr new ↦ elim new [ inl same ↦ (ap (over x) same ∙ (clear x mx).0, ap (λ v. over v x) same ∙ (clear x mx).1) | inr none ↦ absurd none ]
-      ];
-    }
+  -- it joins the window: the early ones where nothing overflowed so far, and else the late ones
+  pub pass_joined : (left early late overflow rest early_now late_now : List Item) (e : Item) → IsStrictOrder over → (IsApart over held → IsClear over early e × IsClear over late e) → length early + length late < window
+      → ((early_now ≡ early ++ e ∷ []) × (late_now ≡ late) × (length overflow ≡ 0)) ⊎ ((early_now ≡ early) × (late_now ≡ late ++ e ∷ []) × (0 < length overflow))
+      → Passing over held window input best (e ∷ left) before early late overflow rest → Passing over held window input best left before early_now late_now overflow rest
+  pass_joined left early late overflow rest early_now late_now e strict is_clear room joined p =
+      let bag : (f : Item → ℕ) → sum_by f early_now + sum_by f late_now ≡ (sum_by f early + sum_by f late) + sum_by f (e ∷ []) =
+      λ f. elim joined [
+        | inl j ↦ omega (arith, ap (sum_by f) j.0, ap (sum_by f) j.1, sum_by-append f early (e ∷ []))
+        | inr j ↦ omega (arith, ap (sum_by f) j.0, ap (sum_by f) j.1, sum_by-append f late (e ∷ []))
+      ] in
+      let fits : length early_now + length late_now ≤ window = elim joined [
+        | inl j ↦ omega (arith, ap length j.0, ap length j.1, length-append early (e ∷ []), room)
+        | inr j ↦ omega (arith, ap length j.0, ap length j.1, length-append late (e ∷ []), room)
+      ] in
+      let from : (x : Item) → Among x early_now ⊎ Among x late_now → (Among x early ⊎ Among x late) ⊎ (x ≡ e) =
+      λ x m. elim joined [
+        | inl j ↦ elim m [ inl a ↦ elim (or_last early e x (subst (Among x) j.0 a)) [ inl old ↦ inl (inl old) | inr same ↦ inr same ] | inr b ↦ inl (inr (subst (Among x) j.1 b)) ]
+        | inr j ↦ elim m [ inl a ↦ inl (inl (subst (Among x) j.0 a)) | inr b ↦ elim (or_last late e x (subst (Among x) j.1 b)) [ inl old ↦ inl (inr old) | inr same ↦ inr same ] ]
+      ] in
+      record {
+        bag = λ f. omega (arith, p.bag f, bag f, sum_by-cons f e left, sum_by-cons f e []);
+        fresh = λ h. elim joined [ inl j ↦ omega (arith, ap length j.1, p.fresh h) | inr j ↦ absurd (omega (arith, h, j.2)) ];
+        more = p.more;
+        fits = fits;
+        falls = λ h. elim joined [ inl j ↦ absurd (omega (arith, h, j.2)) | inr j ↦ let falls = p.falls h in omega (arith, ap length j.0, falls) ];
+        told = λ apart.
+            let told = p.told apart in
+            let clear = is_clear apart in
+            let both : (x : Item) → Among x early ⊎ Among x late → (over x e ≡ false) × (over e x ≡ false) = λ x m. elim m [ inl a ↦ clear.0 x a | inr b ↦ clear.1 x b ] in
+            record {
+              beaten = told.beaten;
+              unbeaten = told.unbeaten;
+              clear = λ x z m v. elim v [
+                | inl u ↦ elim (from z u) [ inl old ↦ told.clear x z m (inl old) | inr same ↦ told.clear x z m (inr (inr (inl same))) ]
+                | inr u ↦ elim u [ inl a ↦ told.clear x z m (inr (inl a)) | inr a ↦ told.clear x z m (inr (inr (inr a))) ]
+              ];
+              apart = λ x y mx my. apart_with_one over strict e (λ z. Among z early ⊎ Among z late) told.apart both x y (from x mx) (from y my);
+              settled = λ x z mx mz. elim joined [
+                | inl j ↦ let gone = none_of_empty overflow z j.2 mz in (absurd gone, absurd gone)
+                | inr j ↦ told.settled x z (subst (Among x) j.0 mx) mz
+              ];
+            };
+      }
 
--- it joins the early ones: nothing overflowed so far
-pub joins_early : {E : Type 0} (over : E → E → Bool) → IsStrictOrder over → (window : ℕ) (input best left : List E) (before : ℕ) (early late overflow rest : List E) (e : E) → IsClear over early e → IsClear over late e → length early + length late < window → length overflow ≡ 0
-    → Passing over window input best (e ∷ left) before early late overflow rest → Passing over window input best left before (early ++ e ∷ []) late overflow rest
-joins_early {E = E} over strict window input best left before early late overflow rest e clear_early clear_late room none p =
-    let from : (x : E) → Among x (early ++ e ∷ []) ⊎ Among x late → (Among x early ⊎ Among x late) ⊎ (x ≡ e) =
-    λ x m. elim m [
-      | inl a ↦ elim (in_either early (e ∷ []) x a) [ inl old ↦ inl (inl old) | inr new ↦ elim new [ inl same ↦ inr same | inr void ↦ absurd void ] ]
-      | inr b ↦ inl (inr b)
-    ] in
-    record {
-      shares = shares_early window input best left before early late overflow rest e room none p.shares;
-      covers = λ x m. elim (p.covers x m) [
-        | is_best a ↦ is_best a
-        | is_early a ↦ is_early (in_left early (e ∷ []) x a)
-        | is_late a ↦ is_late a
-        | is_overflow a ↦ is_overflow a
-        | is_left a ↦ elim a [ inl same ↦ is_early (in_right early (e ∷ []) x (inl same)) | inr later ↦ is_left later ]
-        | is_rest a ↦ is_rest a
-      ];
-      beaten = p.beaten;
-      told = p.told;
-      clear = λ x z m v. elim v [
-        | inl u ↦ elim (from z u) [ inl old ↦ p.clear x z m (inl old) | inr same ↦ p.clear x z m (inr (inr (inl same))) ]
-        | inr u ↦ elim u [ inl a ↦ p.clear x z m (inr (inl a)) | inr a ↦ p.clear x z m (inr (inr (inr a))) ]
-      ];
-      apart = λ x y mx my. apart_with_one over strict e (λ z. Among z early ⊎ Among z late) p.apart (clear_both over early late e clear_early clear_late) x y (from x mx) (from y my);
-      settled = λ x z mx mz. let gone = none_of_empty overflow z none mz in (absurd gone, absurd gone);
-    }
+  -- a pass ends: what is early is best
+  pub pass_ends : (early late overflow rest : List Item) → IsStrictOrder over → 0 < window → Passing over held window input best [] before early late overflow rest
+      → Passing over held window input (best ++ early) overflow (length rest) late [] [] rest
+  pass_ends early late overflow rest strict some p =
+      record {
+        bag = λ f. let b = p.bag f in omega (arith, b, sum_by-append f best early);
+        fresh = λ h. refl;
+        more = omega (arith, some);
+        fits = omega (arith, p.fits);
+        falls = λ h. omega (arith, h);
+        told = λ apart.
+            let told = p.told apart in
+            let below : (x : Item) → Among x early → (y : Item) → Among y input → (Among y rest → over y x ≡ false) → over y x ≡ false =
+            λ x mx y my others. elim (among_or y best) [
+              | inl a ↦ told.clear y x a (inl (inl mx))
+              | inr no_best ↦ elim (among_or y early) [
+                | inl a ↦ told.apart y x (inl a) (inl mx)
+                | inr no_early ↦ elim (among_or y late) [
+                  | inl a ↦ told.apart y x (inr a) (inl mx)
+                  | inr no_late ↦ elim (among_or y overflow) [
+                    | inl a ↦ (told.settled x y mx a).1
+                    | inr no_overflow ↦ others (among_if y rest (let b = p.bag (is_item y) in omega (arith, b, some_of y input my, no_best, no_early, no_late, no_overflow)))
+                  ]
+                ]
+              ]
+            ] in
+            let unbeaten : (x y : Item) → Among x early → Among y input → over y x ≡ false =
+            λ x y mx my. below x mx y my (λ r. false_from_ne_true (over y x) (λ above.
+            let t = unbeaten_over over strict (λ _. true) input y (told.beaten y r) in
+            both_ways (over t.0 x) (below x mx t.0 t.1 (λ beaten. absurd (both_ways (is_beaten over input t.0) t.4 (told.beaten t.0 beaten)))) (strict.transitive t.0 y x t.3 above))) in
+            record {
+              beaten = told.beaten;
+              unbeaten = λ x y m my. elim (in_either best early x m) [ inl old ↦ told.unbeaten x y old my | inr new ↦ unbeaten x y new my ];
+              clear = λ x z m v. elim (in_either best early x m) [
+                | inl old ↦ elim v [
+                  | inl u ↦ elim u [ inl a ↦ told.clear x z old (inl (inr a)) | inr a ↦ absurd a ]
+                  | inr u ↦ elim u [ inl a ↦ absurd a | inr a ↦ told.clear x z old (inr (inl a)) ]
+                ]
+                | inr new ↦ elim v [
+                  | inl u ↦ elim u [ inl a ↦ told.apart x z (inl new) (inr a) | inr a ↦ absurd a ]
+                  | inr u ↦ elim u [ inl a ↦ absurd a | inr a ↦ (told.settled x z new a).0 ]
+                ]
+              ];
+              apart = λ x y mx my. elim mx [ inl a ↦ elim my [ inl b ↦ told.apart x y (inr a) (inr b) | inr b ↦ absurd b ] | inr a ↦ absurd a ];
+              settled = λ x z mx mz. absurd mz;
+            };
+      }
 
--- it joins the late ones
-pub joins_late : {E : Type 0} (over : E → E → Bool) → IsStrictOrder over → (window : ℕ) (input best left : List E) (before : ℕ) (early late overflow rest : List E) (e : E) → IsClear over early e → IsClear over late e → length early + length late < window → 0 < length overflow
-    → Passing over window input best (e ∷ left) before early late overflow rest → Passing over window input best left before early (late ++ e ∷ []) overflow rest
-joins_late {E = E} over strict window input best left before early late overflow rest e clear_early clear_late room some p =
-    let from : (x : E) → Among x early ⊎ Among x (late ++ e ∷ []) → (Among x early ⊎ Among x late) ⊎ (x ≡ e) =
-    λ x m. elim m [
-      | inl a ↦ inl (inl a)
-      | inr b ↦ elim (in_either late (e ∷ []) x b) [ inl old ↦ inl (inr old) | inr new ↦ elim new [ inl same ↦ inr same | inr void ↦ absurd void ] ]
-    ] in
-    record {
-      shares = shares_late window input best left before early late overflow rest e room some p.shares;
-      covers = λ x m. elim (p.covers x m) [
-        | is_best a ↦ is_best a
-        | is_early a ↦ is_early a
-        | is_late a ↦ is_late (in_left late (e ∷ []) x a)
-        | is_overflow a ↦ is_overflow a
-        | is_left a ↦ elim a [ inl same ↦ is_late (in_right late (e ∷ []) x (inl same)) | inr later ↦ is_left later ]
-        | is_rest a ↦ is_rest a
-      ];
-      beaten = p.beaten;
-      told = p.told;
-      clear = λ x z m v. elim v [
-        | inl u ↦ elim (from z u) [ inl old ↦ p.clear x z m (inl old) | inr same ↦ p.clear x z m (inr (inr (inl same))) ]
-        | inr u ↦ elim u [ inl a ↦ p.clear x z m (inr (inl a)) | inr a ↦ p.clear x z m (inr (inr (inr a))) ]
-      ];
-      apart = λ x y mx my. apart_with_one over strict e (λ z. Among z early ⊎ Among z late) p.apart (clear_both over early late e clear_early clear_late) x y (from x mx) (from y my);
-      settled = p.settled;
-    }
+  pub pass_long : (left early late overflow rest : List Item) → Passing over held window input best left before early late overflow rest
+      → length best + length early + length late + length overflow + length left + length rest ≡ length input
+  pass_long left early late overflow rest p =
+      omega (arith, p.bag (λ _. 1), sum_by-ones best, sum_by-ones early, sum_by-ones late, sum_by-ones overflow, sum_by-ones left, sum_by-ones rest, sum_by-ones input)
 
--- a pass ends: what is early is best
-pub ends : {E : Type 0} (over : E → E → Bool) → IsStrictOrder over → (window : ℕ) (input best : List E) (before : ℕ) (early late overflow rest : List E) → 0 < window
-    → Passing over window input best [] before early late overflow rest → Passing over window input (best ++ early) overflow (length rest) late [] [] rest
-ends {E = E} over strict window input best before early late overflow rest some p =
-    let below : (x : E) → Among x early → (y : E) → Somewhere best early late overflow [] rest y → (Among y rest → over y x ≡ false) → over y x ≡ false =
-    λ x mx y m others. elim m [
-      | is_best a ↦ p.clear y x a (inl (inl mx))
-      | is_early a ↦ p.apart y x (inl a) (inl mx)
-      | is_late a ↦ p.apart y x (inr a) (inl mx)
-      | is_overflow a ↦ (p.settled x y mx a).1
-      | is_left a ↦ absurd a
-      | is_rest a ↦ others a
-    ] in
-    let unbeaten : (x y : E) → Among x early → Among y input → over y x ≡ false =
-    λ x y mx my. below x mx y (p.covers y my) (λ r. false_from_ne_true (over y x) (λ above.
-    let t = unbeaten_over over strict (λ _. true) input y (p.beaten y r) in
-    both_ways (over t.0 x) (below x mx t.0 (p.covers t.0 t.1) (λ beaten. absurd (both_ways (is_beaten over input t.0) t.4 (p.beaten t.0 beaten)))) (strict.transitive t.0 y x t.3 above))) in
-    record {
-      shares = shares_ended window input best before early late overflow rest some p.shares;
-      covers = λ x m. elim (p.covers x m) [
-        | is_best a ↦ is_best (in_left best early x a)
-        | is_early a ↦ is_best (in_right best early x a)
-        | is_late a ↦ is_early a
-        | is_overflow a ↦ is_left a
-        | is_left a ↦ absurd a
-        | is_rest a ↦ is_rest a
-      ];
-      beaten = p.beaten;
-      told = λ x y m my. elim (in_either best early x m) [ inl old ↦ p.told x y old my | inr new ↦ unbeaten x y new my ];
-      clear = λ x z m v. elim (in_either best early x m) [
-        | inl old ↦ elim v [
-          | inl u ↦ elim u [ inl a ↦ p.clear x z old (inl (inr a)) | inr a ↦ absurd a ]
-          | inr u ↦ elim u [ inl a ↦ absurd a | inr a ↦ p.clear x z old (inr (inl a)) ]
-        ]
-        | inr new ↦ elim v [
-          | inl u ↦ elim u [ inl a ↦ p.apart x z (inl new) (inr a) | inr a ↦ absurd a ]
-          | inr u ↦ elim u [ inl a ↦ absurd a | inr a ↦ (p.settled x z new a).0 ]
-        ]
-      ];
-      apart = λ x y mx my. elim mx [ inl a ↦ elim my [ inl b ↦ p.apart x y (inr a) (inr b) | inr b ↦ absurd b ] | inr a ↦ absurd a ];
-      settled = λ x z mx mz. absurd mz;
-    }
+  -- more is settled at the end of a pass than at its begin
+  pub more_settled : (early late overflow rest : List Item) → length best + before < length input → Passing over held window input best [] before early late overflow rest
+      → length best + before < length best + length early + length rest
+  more_settled early late overflow rest some p =
+      elim (some_or_none overflow) [
+        | inl more ↦ let f = p.falls more in omega (arith, f)
+        | inr none ↦ omega (arith, pass_long [] early late overflow rest p, p.fresh none, none, some)
+      ]
 
--- all passes begin with a window that holds a list that is apart
-pub begins : {E : Type 0} (over : E → E → Bool) (window : ℕ) (held items : List E) → length held < window → IsApart over held → Passing over window (held ++ items) [] items (length held) held [] [] []
-begins over window held items room apart =
+-- all passes begin with a window that holds some
+pub passes_begin : (over : Item → Item → Bool) (held : List Item) (window : ℕ) (items : List Item) → length held < window → Passing over held window (held ++ items) [] items (length held) held [] [] []
+passes_begin over held window items room =
     record {
-      shares = shares_begun window held items room;
-      covers = λ x m. elim (in_either held items x m) [ inl a ↦ is_early a | inr b ↦ is_left b ];
-      beaten = λ x m. absurd m;
-      told = λ x y m my. absurd m;
-      clear = λ x z m v. absurd m;
-      apart = λ x y mx my. elim mx [ inl a ↦ elim my [ inl b ↦ apart x y a b | inr b ↦ absurd b ] | inr a ↦ absurd a ];
-      settled = λ x z mx mz. absurd mz;
+      bag = λ f. omega (arith, sum_by-append f held items);
+      fresh = λ h. refl;
+      more = omega (arith, room);
+      fits = omega (arith, room);
+      falls = λ h. omega (arith, h);
+      told = λ apart. record {
+        beaten = λ x m. absurd m;
+        unbeaten = λ x y m my. absurd m;
+        clear = λ x z m v. absurd m;
+        apart = λ x y mx my. elim mx [ inl a ↦ elim my [ inl b ↦ apart x y a b | inr b ↦ absurd b ] | inr a ↦ absurd a ];
+        settled = λ x z mx mz. absurd mz;
+      };
     }
 
 -- all passes end: the best are told, and the others are the rest
-pub parted : {E : Type 0} (over : E → E → Bool) (window : ℕ) (input best left : List E) (before : ℕ) (early late overflow rest : List E) → length left ≡ 0 → length early ≡ 0 → length late ≡ 0 → length overflow ≡ 0
-    → Passing over window input best left before early late overflow rest → Parted over input best rest
-parted {E = E} over window input best left before early late overflow rest left_none early_none late_none overflow_none p =
-    let of_two : (x : E) → Among x input → Among x best ⊎ Among x rest =
-    λ x m. elim (p.covers x m) [
-      | is_best a ↦ inl a
-      | is_early a ↦ absurd (none_of_empty early x early_none a)
-      | is_late a ↦ absurd (none_of_empty late x late_none a)
-      | is_overflow a ↦ absurd (none_of_empty overflow x overflow_none a)
-      | is_left a ↦ absurd (none_of_empty left x left_none a)
-      | is_rest a ↦ inr a
-    ] in
-    let unbeaten : (x : E) → Among x best → is_beaten over input x ≡ false = λ x m. unbeaten_if over input x (λ y my. p.told x y m my) in
+pub passes_end : (over : Item → Item → Bool) (held : List Item) (window : ℕ) (items best left : List Item) (before : ℕ) (early late overflow rest : List Item) → length left ≡ 0 → length early ≡ 0 → length late ≡ 0 → length overflow ≡ 0
+    → Passing over held window (held ++ items) best left before early late overflow rest → Parted over held items best rest
+passes_end over held window items best left before early late overflow rest left_none early_none late_none overflow_none p =
+    let bag : (f : Item → ℕ) → sum_by f best + sum_by f rest ≡ sum_by f (held ++ items) =
+    λ f. omega (arith, p.bag f, none_by f left left_none, none_by f early early_none, none_by f late late_none, none_by f overflow overflow_none) in
     record {
-      best_are = record {
-        there = λ x m. in_filter (λ y. not (is_beaten over input y)) input x (p.shares.within x (is_best m)) (not_from_false (is_beaten over input x) (unbeaten x m));
-        back = λ x m.
-            let w = from_filter (λ y. not (is_beaten over input y)) input x m in
-            elim (of_two x w.0) [ inl a ↦ a | inr a ↦ absurd (both_ways (is_beaten over input x) (not-true (is_beaten over input x) w.1) (p.beaten x a)) ];
-      };
-      others_are = record {
-        there = λ x m. in_filter (is_beaten over input) input x (p.shares.within x (is_rest m)) (p.beaten x m);
-        back = λ x m.
-            let w = from_filter (is_beaten over input) input x m in
-            elim (of_two x w.0) [ inl a ↦ absurd (both_ways (is_beaten over input x) (unbeaten x a) w.1) | inr a ↦ a ];
-      };
-      bag = (shared_out window input best left before early late overflow rest left_none early_none late_none overflow_none p.shares).bag;
+      within = λ x m. among_if x (held ++ items) (elim m [ inl a ↦ omega (arith, bag (is_item x), some_of x best a) | inr b ↦ omega (arith, bag (is_item x), some_of x rest b) ]);
+      covers = λ x m. elim (among_or x best) [ inl a ↦ inl a | inr none ↦ inr (among_if x rest (omega (arith, bag (is_item x), some_of x (held ++ items) m, none))) ];
+      bag = λ q. bag (λ y. cond (q y) 1 0);
+      unbeaten = λ apart x m. unbeaten_if over (held ++ items) x (λ y my. (p.told apart).unbeaten x y m my);
+      beaten = λ apart. (p.told apart).beaten;
     }
 
--- where no items come, those that were held are the best, since they are apart
-pub parted_held : {E : Type 0} (over : E → E → Bool) (held items : List E) → length items ≡ 0 → IsApart over held → Parted over (held ++ items) held []
-parted_held {E = E} over held items none apart =
-    let all = held ++ items in
-    let within : (x : E) → Among x all → Among x held = λ x m. elim (in_either held items x m) [ inl a ↦ a | inr b ↦ absurd (none_of_empty items x none b) ] in
-    let unbeaten : (x : E) → Among x all → is_beaten over all x ≡ false = λ x m. unbeaten_if over all x (λ y my. apart y x (within y my) (within x m)) in
+-- where no items come, those that were held are the best
+pub parted_held : (over : Item → Item → Bool) (held items : List Item) → length items ≡ 0 → Parted over held items held []
+parted_held over held items none =
+    let within : (x : Item) → Among x (held ++ items) → Among x held = λ x m. elim (in_either held items x m) [ inl a ↦ a | inr b ↦ absurd (none_of_empty items x none b) ] in
     record {
-      best_are = record {
-        there = λ x m. let a = in_left held items x m in in_filter (λ y. not (is_beaten over all y)) all x a (not_from_false (is_beaten over all x) (unbeaten x a));
-        back = λ x m. within x (from_filter (λ y. not (is_beaten over all y)) all x m).0;
-      };
-      others_are = record {
-        there = λ x m. absurd m;
-        back = λ x m. let w = from_filter (is_beaten over all) all x m in absurd (both_ways (is_beaten over all x) (unbeaten x w.0) w.1);
-      };
-      bag = (shared_held held items none).bag;
+      within = λ x m. elim m [ inl a ↦ in_left held items x a | inr b ↦ absurd b ];
+      covers = λ x m. inl (within x m);
+      bag = λ q. omega (arith, sum_by-append (λ (y : Item). cond (q y) 1 0) held items, none_by (λ y. cond (q y) 1 0) items none);
+      unbeaten = λ apart x m. unbeaten_if over (held ++ items) x (λ y my. apart y x (within y my) m);
+      beaten = λ apart x m. absurd m;
     }
+
+-- what holds of lists holds of the same ones
+pub of_same_lists : {E : Type 0} (P : List E → List E → List E → List E → List E → List E → Type 0) (best left early late overflow rest best_now left_now early_now late_now overflow_now rest_now : List E)
+    → best_now ≡ best → left_now ≡ left → early_now ≡ early → late_now ≡ late → overflow_now ≡ overflow → rest_now ≡ rest → P best left early late overflow rest → P best_now left_now early_now late_now overflow_now rest_now
+of_same_lists P best left early late overflow rest best_now left_now early_now late_now overflow_now rest_now b l e t o r p =
+    subst (λ v. P v left_now early_now late_now overflow_now rest_now) (sym b)
+    (subst (λ v. P best v early_now late_now overflow_now rest_now) (sym l)
+    (subst (λ v. P best left v late_now overflow_now rest_now) (sym e)
+    (subst (λ v. P best left early v overflow_now rest_now) (sym t) (subst (λ v. P best left early late v rest_now) (sym o) (subst (λ v. P best left early late overflow v) (sym r) p)))))

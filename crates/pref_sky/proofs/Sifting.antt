@@ -1,10 +1,10 @@
 -- What goes out of a list where an item meets it, and what the item is clear of.
-use Rattle.std.proofs.Common.{◌≡◌, ℕ, ◌<◌, ◌≤◌, ◌+◌, ◌-◌, Bool, true, false, cond, ◌&&◌, inl, inr, List, [], ◌∷◌, ◌++◌, length, refl, sym, ◌∙◌, ap, arith, length-append, ltb, get_or, suc, zero, set}
+use Rattle.std.proofs.Common.{◌≡◌, ℕ, ◌<◌, ◌≤◌, ◌+◌, Bool, true, false, ◌&&◌, inl, inr, List, [], ◌∷◌, ◌++◌, length, sym, ◌∙◌, ap, arith, append-nil, append_assoc, ltb, get_or}
 use Rattle.std.specs.List.{swap_remove}
 use Rattle.std.specs.List.Sorted.{IsPermutation}
 use Rattle.std.proofs.lemmas.Bool.{and_right, cases_lt, both_ways, le-ltb, lt-ltb}
-use Rattle.std.proofs.lemmas.List.{length-take-le, length-set}
-use Rattle.std.proofs.lemmas.List.Sorted.{IsPermutation-swap_remove, length_permutation, sum_by-IsPermutation}
+use Rattle.std.proofs.lemmas.List.{get_or_default}
+use Rattle.std.proofs.lemmas.List.Sorted.{sum_by-IsPermutation}
 use Rattle.std.proofs.lemmas.List.Sums.{sum_by-cons, sum_by-append, sum_by-swap_remove}
 use Rattle.pref_term.specs.Order.{RowOrder, StandAlike}
 use Rattle.pref_term.specs.Signatures.{is_within}
@@ -13,8 +13,7 @@ use Rattle.pref_sky.specs.declared.item.Item.{Item}
 use Rattle.pref_sky.specs.Best.{IsApart}
 use Rattle.pref_sky.specs.Items.{is_word, item_order, place_order}
 use Rattle.pref_sky.specs.Passes.{IsClear, IsTold, Sifted}
-use Rattle.pref_sky.proofs.Members.{Among, in_left, in_right, in_either, place_of}
-use Rattle.pref_sky.proofs.Orders.{same_if_permuted}
+use Rattle.pref_sky.proofs.Members.{Among, in_either, place_of}
 
 -- the first so many of a list are clear
 abbrev pub AreClear : {E : Type 0} → (E → E → Bool) → List E → E → ℕ → Type 0
@@ -25,51 +24,22 @@ abbrev pub AreTold : List Item → Item → ℕ → ℕ → Type 0
 AreTold xs e from to = (k : ℕ) (d : Item) → from ≤ k → k < to → IsTold e.signature (get_or xs k d)
 
 -- nothing went out so far
-pub sifted_none : {E : Type 0} (over : E → E → Bool) (e : E) (old rest : List E) → Sifted over e old old rest rest
-sifted_none over e old rest =
-    record {
-      splits = λ x m. inl m;
-      keeps = λ x m. m;
-      within = λ x m. m;
-      went = λ x m. inl m;
-      bag = λ p. refl;
-      lengths = refl;
-      longer = omega arith;
-    }
+pub sifted_none : (over : Item → Item → Bool) (e : Item) (old rest : List Item) → Sifted over e old old rest rest
+sifted_none over e old rest = record { gone = []; behind = sym (append-nil rest); bag = λ f. omega arith; below = λ x m. absurd m }
 
 -- where one of a list that is apart stands as an item does, all of it is clear of the item
 pub clear_if_alike : {E : Type 0} (over : E → E → Bool) (xs : List E) (y e : E) → Among y xs → StandAlike over y e → IsApart over xs → IsClear over xs e
 clear_if_alike over xs y e here alike apart x m = (sym (alike.above x) ∙ apart x y m here, sym (alike.below x) ∙ apart y x here m)
 
--- what stands at a place of a list does so whatever would stand in its place outside
-pub get_or_any : {E : Type 0} (xs : List E) (i : ℕ) (d e : E) → i < length xs → get_or xs i d ≡ get_or xs i e
-get_or_any [] i d e l = absurd (omega (arith, l))
-get_or_any (x ∷ xs) zero d e l = refl
-get_or_any (x ∷ xs) (suc i) d e l = get_or_any xs i d e (omega (arith, l))
-
-shorter : {E : Type 0} (xs : List E) (i : ℕ) (x : E) → i < length xs → length (swap_remove xs i x) + 1 ≡ length xs
-shorter xs i x inside = omega (arith, inside, length-take-le (length xs - 1) (set xs i (get_or xs (length xs - 1) x)) (omega (arith, length-set xs i (get_or xs (length xs - 1) x))))
-
 -- one more goes out, that the item dominates: the last one takes its place
-pub sifted_more : {E : Type 0} (over : E → E → Bool) (e : E) (old held start rest : List E) (i : ℕ) (x : E) → i < length held → x ≡ get_or held i x → over e x ≡ true
+pub sifted_more : (over : Item → Item → Bool) (e : Item) (old held start rest : List Item) (i : ℕ) (x : Item) → i < length held → x ≡ get_or held i x → over e x ≡ true
     → Sifted over e old held start rest → Sifted over e old (swap_remove held i x) start (rest ++ x ∷ [])
-sifted_more {E = E} over e old held start rest i x inside is above s =
-    let moved = IsPermutation-swap_remove held i x inside is in
-    let same = same_if_permuted held (x ∷ swap_remove held i x) moved in
+sifted_more over e old held start rest i x inside is above s =
     record {
-      splits = λ y m. elim (s.splits y m) [
-        | inl a ↦ elim (same.there y a) [ inl this ↦ inr (in_right rest (x ∷ []) y (inl this)) | inr b ↦ inl b ]
-        | inr b ↦ inr (in_left rest (x ∷ []) y b)
-      ];
-      keeps = λ y m. in_left rest (x ∷ []) y (s.keeps y m);
-      within = λ y m. s.within y (same.back y (inr m));
-      went = λ y m. elim (in_either rest (x ∷ []) y m) [
-        | inl a ↦ s.went y a
-        | inr b ↦ elim b [ inl this ↦ inr (s.within y (same.back y (inl this)), ap (over e) this ∙ above) | inr void ↦ absurd void ]
-      ];
-      bag = λ p. let f : E → ℕ = λ y. cond (p y) 1 0 in omega (arith, s.bag p, sum_by-swap_remove f held i x inside, ap f is, sum_by-append f rest (x ∷ []), sum_by-cons f x []);
-      lengths = omega (arith, s.lengths, shorter held i x inside, length-append rest (x ∷ []));
-      longer = omega (arith, s.longer, length-append rest (x ∷ []));
+      gone = s.gone ++ x ∷ [];
+      behind = ap (λ l. l ++ x ∷ []) s.behind ∙ append_assoc start s.gone (x ∷ []);
+      bag = λ f. omega (arith, s.bag f, sum_by-swap_remove f held i x inside, ap f is, sum_by-append f s.gone (x ∷ []), sum_by-cons f x []);
+      below = λ y m. elim (in_either s.gone (x ∷ []) y m) [ inl a ↦ s.below y a | inr b ↦ elim b [ inl this ↦ ap (over e) this ∙ above | inr void ↦ absurd void ] ];
     }
 
 below_differs : (k n : ℕ) → k < n → k ≡ n → ⊥
@@ -92,7 +62,7 @@ clear_more over xs e n y inside at above below each k d within =
       | inl before ↦ each k d before
       | inr here ↦
           let same : k ≡ n = omega (arith, within, here) in
-          let is : get_or xs k d ≡ y = ap (λ m. get_or xs m d) same ∙ (get_or_any xs n d y inside ∙ sym at) in
+          let is : get_or xs k d ≡ y = ap (λ m. get_or xs m d) same ∙ (get_or_default xs n d y inside ∙ sym at) in
           (ap (λ z. over z e) is ∙ above, ap (over e) is ∙ below)
     ]
 
@@ -104,18 +74,9 @@ clear_by_place over xs e n all each x m =
     (ap (λ y. over y e) (sym w.2) ∙ both.0, ap (over e) (sym w.2) ∙ both.1)
 
 -- two of the list change places
-pub sifted_moved : {E : Type 0} (over : E → E → Bool) (e : E) (old held start rest moved : List E) → IsPermutation held moved → Sifted over e old held start rest → Sifted over e old moved start rest
-sifted_moved {E = E} over e old held start rest moved permuted s =
-    let same = same_if_permuted held moved permuted in
-    record {
-      splits = λ y m. elim (s.splits y m) [ inl a ↦ inl (same.there y a) | inr b ↦ inr b ];
-      keeps = s.keeps;
-      within = λ y m. s.within y (same.back y m);
-      went = s.went;
-      bag = λ p. let f : E → ℕ = λ y. cond (p y) 1 0 in omega (arith, s.bag p, sum_by-IsPermutation f held moved permuted);
-      lengths = omega (arith, s.lengths, length_permutation held moved permuted);
-      longer = s.longer;
-    }
+pub sifted_moved : (over : Item → Item → Bool) (e : Item) (old held start rest moved : List Item) → IsPermutation held moved → Sifted over e old held start rest → Sifted over e old moved start rest
+sifted_moved over e old held start rest moved permuted s =
+    record { gone = s.gone; behind = s.behind; bag = λ f. omega (arith, s.bag f, sum_by-IsPermutation f held moved permuted); below = s.below }
 
 -- items of which the signatures tell are clear
 told_is_clear : (order : RowOrder) (pool : List Entry) (x e : Item) → IsTold e.signature x → (item_order order pool x e ≡ false) × (item_order order pool e x ≡ false)

@@ -1,13 +1,15 @@
 -- No public contract cites this.
 -- What comes to parts: entries with their parts, and levels that they are seen to be below.
-use Rattle.std.specs.Prelude.{◌≡◌, ◌≤◌, ◌==◌, ◌&&◌, ◌||◌, nat_lt, ◌⊎◌, Bool, ℕ, List, length, count_by, filter}
-use Rattle.std.specs.List.Sorted.{IsSortedBy}
+use Rattle.std.specs.Prelude.{◌≡◌, ◌≤◌, ◌<◌, ◌==◌, ◌&&◌, ◌||◌, nat_lt, ◌⊎◌, Bool, ℕ, List, All, Vec, length, count_by, filter, map}
+use Rattle.std.specs.Global.{Global}
+use Rattle.std.specs.List.Sorted.{IsNonDecreasingBy, IsSortedBy}
 use Rattle.pref_sky.specs.declared.entry.Entry.{Entry}
 use Rattle.pref_sky.specs.declared.arrival.Arrival.{Arrival}
-use Rattle.pref_sky.specs.Items.{IsItem, entry_at}
+use Rattle.pref_sky.specs.declared.item.Item.{Item}
+use Rattle.pref_sky.specs.Items.{IsItem, entry_at, levels_at, levels_in, parts_at}
 use Rattle.pref_sky.specs.Members.{Among}
 use Rattle.pref_sky.specs.Partials.{IsBehind}
-use Rattle.pref_sky.specs.Parts.{levels_of}
+use Rattle.pref_sky.specs.Parts.{levels_of, part_of}
 
 -- the entry that arrived
 abbrev pub arrived : List Entry → Arrival → Entry
@@ -37,9 +39,21 @@ deals_before a b = nat_lt a.part b.part || (a.part == b.part && nat_lt a.start b
 abbrev pub AreDealt : List Arrival → Type 0
 AreDealt arrivals = IsSortedBy deals_before arrivals
 
+-- what entries become that come to parts: those that may be above the cut arrive in a pool that holds the entries of the parts
+pub record HaveArrived (over : Entry → Entry → Bool) (rule : Entry → ℕ) (cut : ℕ) (columns : List ℕ) (pool : List Entry) (parts : List (Vec (Vec Item Global) Global)) (entries : List Entry) (arrivals : List Arrival) : Type 0 where
+  pub are : All (IsArrival over rule (part_of columns) pool (parts_at pool parts)) arrivals
+  pub upper : KeepsUpper over cut (part_of columns) (parts_at pool parts) entries (map (arrived pool) arrivals)
+  pub dealt : AreDealt arrivals
+
+-- in order of part and start, and each comes to one of these parts
+pub record AreComing (over : Entry → Entry → Bool) (rule : Entry → ℕ) (pool : List Entry) (parts : List (Vec (Vec Item Global) Global)) (arrivals : List Arrival) : Type 0 where
+  pub dealt : AreDealt arrivals
+  pub part : All (λ a. a.part < length parts) arrivals
+  pub start : All (λ a. StartsAt over rule pool (levels_at pool (levels_in a.part parts)) a) arrivals
+
 -- in order of start
 abbrev pub AreInOrderOfStart : List Arrival → Type 0
-AreInOrderOfStart arrivals = IsSortedBy (λ a b. nat_lt a.start b.start) arrivals
+AreInOrderOfStart arrivals = IsNonDecreasingBy (λ a. a.start) arrivals
 
 -- those that come to a part
 abbrev pub coming_to : ℕ → List Arrival → List Arrival

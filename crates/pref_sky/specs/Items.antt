@@ -1,11 +1,12 @@
 -- No public contract cites this.
 -- Items: signatures, and places in a pool of entries.
-use Rattle.std.specs.Prelude.{◌≡◌, ◌<◌, Bool, ◌&&◌, nat_lt, ◌^◌, ℕ, zero, suc, List, [], ◌∷◌, length, get_or, map, All, Vec}
+use Rattle.std.specs.Prelude.{◌≡◌, ◌<◌, Bool, ◌&&◌, nat_lt, ◌^◌, ℕ, zero, suc, List, [], ◌∷◌, ◌++◌, length, get_or, map, All, Vec}
 use Rattle.std.specs.Global.{Global}
 use Rattle.pref_term.specs.Order.{RowOrder}
 use Rattle.pref_term.specs.Signatures.{is_within}
 use Rattle.pref_sky.specs.declared.entry.Entry.{Entry}
 use Rattle.pref_sky.specs.declared.item.Item.{Item}
+use Rattle.pref_sky.specs.declared.pool.Pool.{Pool}
 use Rattle.pref_sky.specs.Levels.{entry_order}
 
 -- the entry at a place of a pool
@@ -61,3 +62,9 @@ abbrev pub levels_in : ℕ → List (Vec (Vec Item Global) Global) → List (Vec
 levels_in n [] = []
 levels_in zero (part ∷ others) = part.items
 levels_in (suc n) (part ∷ others) = levels_in n others
+
+-- a pool with the same cuts that may have further entries behind its own
+pub record HasGrown (old new : Pool) : Type 0 where
+  pub cuts : new.cuts ≡ old.cuts
+  pub more : List Entry
+  pub entries : new.entries.items ≡ old.entries.items ++ more

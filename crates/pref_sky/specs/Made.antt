@@ -31,16 +31,32 @@ AreInOrderOfPart all = IsInOrder (λ a b. nat_lt a.part b.part) all
 abbrev pub LeaveAlone : List Made → ℕ → Type 0
 LeaveAlone all part = All (λ made. made.part ≢ part) all
 
--- what these arrivals make of the levels of one of these parts
+-- what these arrivals make of levels
+pub record AreLevelsMade (over : Entry → Entry → Bool) (cut : ℕ) (rule : Entry → ℕ) (pool : List Entry) (levels : List (Vec Item Global)) (arrivals : List Arrival) (one : Made) : Type 0 where
+  pub fits : Fits one levels
+  pub no_deeper : one.end ≤ max cut (length levels)
+  pub items : AreAllItems rule pool one.levels.items
+  pub made : IsMade over cut (levels_at pool levels) (replaced one.first (levels_at pool (new_levels one)) (levels_at pool levels)) (map (arrived pool) arrivals)
+
+-- and of those of one of these parts
 pub record IsPartMade (over : Entry → Entry → Bool) (cut : ℕ) (rule : Entry → ℕ) (pool : List Entry) (parts : List (Vec (Vec Item Global) Global)) (arrivals : List Arrival) (one : Made) : Type 0 where
   pub part : one.part < length parts
-  pub fits : Fits one (levels_in one.part parts)
-  pub no_deeper : one.end ≤ max cut (length (levels_in one.part parts))
-  pub items : AreAllItems rule pool one.levels.items
-  pub made : IsMade over cut (levels_at pool (levels_in one.part parts)) (replaced one.first (levels_at pool (new_levels one)) (levels_at pool (levels_in one.part parts))) (map (arrived pool) (coming_to one.part arrivals))
+  pub levels : AreLevelsMade over cut rule pool (levels_in one.part parts) (coming_to one.part arrivals) one
 
 -- and of all parts: what is left alone is a part to which nothing comes
 pub record ArePartsMade (over : Entry → Entry → Bool) (cut : ℕ) (rule : Entry → ℕ) (pool : List Entry) (parts : List (Vec (Vec Item Global) Global)) (arrivals : List Arrival) (all : List Made) : Type 0 where
   pub each : All (IsPartMade over cut rule pool parts arrivals) all
   pub once : AreInOrderOfPart all
   pub others : (part : ℕ) → LeaveAlone all part → coming_to part arrivals ≡ []
+
+-- levels for parts that there are, each part once at most
+pub record FitIn (parts : List (Vec (Vec Item Global) Global)) (all : List Made) : Type 0 where
+  pub once : AreInOrderOfPart all
+  pub part : All (λ made. made.part < length parts) all
+  pub fits : All (λ made. Fits made (levels_in made.part parts)) all
+
+-- they are in their places
+pub record ArePut (all : List Made) (old new : List (Vec (Vec Item Global) Global)) : Type 0 where
+  pub made : All (λ made. levels_in made.part new ≡ replaced made.first (new_levels made) (levels_in made.part old)) all
+  pub others : (part : ℕ) → LeaveAlone all part → levels_in part new ≡ levels_in part old
+  pub long : length new ≡ length old

@@ -1,14 +1,12 @@
 //! New entries of parts: each in its part, with the levels that it is seen to be below.
 
-ghost use Rattle.std.specs.Prelude.{◌≡◌, ◌≤◌, ◌<◌, ◌++◌, List, All, length, map, IfOk};
-ghost use Rattle.pref_sky.specs.Arrivals.{AreDealt, IsArrival, KeepsUpper, arrived};
-ghost use Rattle.pref_sky.specs.Items.{AreAllItems, AreInPool, levels_at, parts_at};
+ghost use Rattle.std.specs.Prelude.{◌≡◌, ◌≤◌, ◌<◌, All, length, IfOk};
+ghost use Rattle.pref_sky.specs.Arrivals.{HaveArrived};
+ghost use Rattle.pref_sky.specs.Items.{AreAllItems, AreInPool, HasGrown, levels_at};
 ghost use Rattle.pref_sky.specs.Levels.{entry_order};
 ghost use Rattle.pref_sky.specs.Partials.{IsBehind};
 ghost use Rattle.pref_sky.specs.Parts.{part_of, parts_by};
 ghost use Rattle.pref_sky.specs.Signatures.{signature_by};
-ghost use Rattle.pref_sky.specs.declared.entry.Entry.{Entry};
-ghost use Rattle.pref_sky.specs.declared.arrival.Arrival.{Arrival};
 
 use crate::entry::Entry;
 use crate::item::Item;
@@ -86,13 +84,8 @@ pub(crate) fn arrivals_of<D: Dominance>(
     requires columns { All (λ col. col < 16) columns.now }
     requires long { length parts.now ≡ parts_by columns.now }
     requires items { AreInPool (signature_by pool.old.cuts) pool.old.entries.items parts.now }
-    ensures cuts { pool.new.cuts ≡ pool.old.cuts }
-    ensures pool { (more : List Entry) × (pool.new.entries.items ≡ pool.old.entries.items ++ more) }
-    ensures arrivals { IfOk result (λ arrivals. All (IsArrival (entry_order (D.order dominance.now)) (signature_by pool.new.cuts) (part_of columns.now) pool.new.entries.items
-        (parts_at pool.old.entries.items parts.now)) arrivals.items) }
-    ensures upper { IfOk result (λ arrivals. KeepsUpper (entry_order (D.order dominance.now)) cut (part_of columns.now) (parts_at pool.old.entries.items parts.now)
-        entries.now (map (arrived pool.new.entries.items) arrivals.items)) }
-    ensures dealt { IfOk result (λ arrivals. AreDealt arrivals.items) }
+    ensures grown { HasGrown pool.old pool.new }
+    ensures arrivals { IfOk result (λ arrivals. HaveArrived (entry_order (D.order dominance.now)) (signature_by pool.new.cuts) cut columns.now pool.new.entries.items parts.now entries.now arrivals.items) }
 {
     let mut arrivals = Vec::new(alloc);
     for entry in entries {

@@ -1,11 +1,11 @@
 //! What an addition makes of the levels of a part: they are made anew beside those that there are, as far as something comes to them.
 
 ghost use Rattle.std.specs.Prelude.{◌≡◌, ◌≤◌, ◌<◌, ◌++◌, ℕ, List, All, length, map, max, take, drop, vec_len, IfOk, OnOk};
-ghost use Rattle.pref_sky.specs.Arrivals.{AreInOrderOfStart, StartsAt, arrived};
+ghost use Rattle.pref_sky.specs.Arrivals.{AreInOrderOfStart, StartsAt};
 ghost use Rattle.pref_sky.specs.Items.{AreAllItems, items_at, levels_at};
-ghost use Rattle.pref_sky.specs.Made.{Fits, new_levels};
+ghost use Rattle.pref_sky.specs.Made.{AreLevelsMade, Fits, new_levels};
 ghost use Rattle.pref_sky.specs.Levels.{entry_order};
-ghost use Rattle.pref_sky.specs.Partials.{IsMade, replaced};
+ghost use Rattle.pref_sky.specs.Partials.{replaced};
 ghost use Rattle.pref_sky.specs.Signatures.{signature_by};
 ghost use Rattle.pref_sky.specs.declared.arrival.Arrival.{Arrival};
 ghost use Rattle.pref_sky.specs.declared.entry.Entry.{Entry};
@@ -93,12 +93,7 @@ pub(crate) fn made_of<D: Dominance>(
     requires in_order { AreInOrderOfStart arrivals.now }
     requires some { 0 < length arrivals.now }
     ensures part { IfOk result (λ made. made.part ≡ part) }
-    ensures fits { IfOk result (λ made. Fits made levels.now) }
-    ensures no_deeper { IfOk result (λ made. made.end ≤ max cut (length levels.now)) }
-    ensures items { IfOk result (λ made. AreAllItems (signature_by pool.now.cuts) pool.now.entries.items made.levels.items) }
-    ensures made { let entries = pool.now.entries.items in
-        IfOk result (λ made. IsMade (entry_order (D.order dominance.now)) cut (levels_at entries levels.now)
-        (replaced made.first (levels_at entries (new_levels made)) (levels_at entries levels.now)) (map (arrived entries) arrivals.now)) }
+    ensures made { IfOk result (λ made. AreLevelsMade (entry_order (D.order dominance.now)) cut (signature_by pool.now.cuts) pool.now.entries.items levels.now arrivals.now made) }
 {
     let first = arrivals[0].start;
     let mut made = Vec::new(alloc);

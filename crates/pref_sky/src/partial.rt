@@ -151,7 +151,8 @@ impl Partial {
     /// that one of the last level is seen to dominate, by a search by halves. Once they are an eighth of what is held, and 64, all are
     /// merged, and those below the cut dropped.
     ///
-    /// An order with other groups, chains or cut than the first one begins anew with what is held, at the cost of a copy.
+    /// An order with other groups or chains than the first one begins anew with what is held, at the cost of a copy; so does another cut
+    /// where the order is a product of two chains.
     ///
     /// `Err` is out of memory; the partial result is then as it was.
     pub fn add<D: Dominance>(

@@ -1,12 +1,11 @@
 //! Levels of entries in parts that the order never compares with each other.
 
-ghost use Rattle.std.specs.Prelude.{◌≡◌, ◌≤◌, ◌<◌, ◌++◌, ◌-◌, ◌^◌, [], ℕ, suc, List, All, length, map, take, drop, vec_len, IfOk, OnOk, OnErr};
-ghost use Rattle.pref_sky.specs.Arrivals.{AreDealt, StartsAt, coming_to};
-ghost use Rattle.pref_sky.specs.Items.{AreInPool, AreItems, entries_at, levels_at, levels_in, parts_at};
-ghost use Rattle.pref_sky.specs.Made.{AreInOrderOfPart, ArePartsMade, Fits, LeaveAlone, new_levels};
+ghost use Rattle.std.specs.Prelude.{◌≡◌, ◌≤◌, ◌<◌, ◌++◌, ◌-◌, ◌^◌, [], ℕ, suc, List, All, length, map, take, drop, IfOk, OnOk, OnErr};
+ghost use Rattle.pref_sky.specs.Arrivals.{AreComing, AreDealt, HaveArrived, coming_to};
+ghost use Rattle.pref_sky.specs.Items.{AreInPool, AreItems, entries_at, parts_at};
+ghost use Rattle.pref_sky.specs.Made.{ArePartsMade, ArePut, FitIn};
 ghost use Rattle.pref_sky.specs.Levels.{HaveDifferentIds, at_level, entry_of, entry_order, levels};
-ghost use Rattle.pref_sky.specs.Partials.{replaced};
-ghost use Rattle.pref_sky.specs.Parts.{ArePartedBy, all_at, depth, levels_of, part_of, parts_by, ranked_parts};
+ghost use Rattle.pref_sky.specs.Parts.{ArePartedBy, all_at, depth, part_of, parts_by, ranked_parts};
 ghost use Rattle.pref_sky.specs.Signatures.{signature_by};
 ghost use Rattle.pref_sky.specs.declared.entry.Entry.{Entry};
 ghost use Rattle.pref_term.specs.Order.{StaysWithin};
@@ -16,7 +15,7 @@ use crate::arrival::{Arrival, arrivals_of};
 use crate::entry::{Entry, Ranked};
 use crate::item::Item;
 use crate::making::{Made, level_at, made_of, put};
-use crate::pool::{Pool, take_parts};
+use crate::pool::{Pool, next_look, take_parts};
 use crate::ranking::sort_behind;
 use pref_term::Dominance;
 use std::alloc::{AllocError, Global};
@@ -24,7 +23,7 @@ use std::alloc::{AllocError, Global};
 /// How many parts there are where the order compares rows within groups alone.
 const PARTS: usize = 1024;
 
-/// How many entries a piece of an addition has, at most, and how many more than are held a pool may have before what is held no more is left out.
+/// How many entries a piece of an addition has, at most.
 const PIECE: usize = 1024;
 
 /// How many entries the first piece has, at most.
@@ -100,10 +99,7 @@ fn made_all<D: Dominance>(
     requires window { 0 < window }
     requires suit { Suit (D.order dominance.now) pool.now.cuts }
     requires items { AreInPool (signature_by pool.now.cuts) pool.now.entries.items parts.now }
-    requires part { All (λ a. a.part < length parts.now) arrivals.now }
-    requires start { All (λ a. StartsAt (entry_order (D.order dominance.now)) (signature_by pool.now.cuts) pool.now.entries.items
-        (levels_at pool.now.entries.items (levels_in a.part parts.now)) a) arrivals.now }
-    requires dealt { AreDealt arrivals.now }
+    requires coming { AreComing (entry_order (D.order dominance.now)) (signature_by pool.now.cuts) pool.now.entries.items parts.now arrivals.now }
     ensures { IfOk result (λ all. ArePartsMade (entry_order (D.order dominance.now)) cut (signature_by pool.now.cuts) pool.now.entries.items parts.now arrivals.now all.items) }
 {
     let mut all = Vec::new(alloc);
@@ -121,12 +117,8 @@ fn made_all<D: Dominance>(
 
 /// Puts what was made into the parts. Takes no memory.
 fn put_all(alloc: Global, parts: &mut Vec<Vec<Vec<Item>>>, all: Vec<Made>)
-    requires once { AreInOrderOfPart all.items }
-    requires part { All (λ made. made.part < length parts.old.items) all.items }
-    requires fits { All (λ made. Fits made (levels_in made.part parts.old.items)) all.items }
-    ensures long { vec_len parts.new ≡ vec_len parts.old }
-    ensures made { All (λ made. levels_in made.part parts.new.items ≡ replaced made.first (new_levels made) (levels_in made.part parts.old.items)) all.items }
-    ensures others { (part : ℕ) → LeaveAlone all.items part → levels_in part parts.new.items ≡ levels_in part parts.old.items }
+    requires { FitIn parts.old.items all.items }
+    ensures { ArePut all.items parts.old.items parts.new.items }
 {
     for made in all {
         let part = made.part;
@@ -183,13 +175,16 @@ pub(crate) struct Parts {
     ghost items: { AreInPool (signature_by pool.cuts) pool.entries.items parts.items },
     ghost parted: { ArePartedBy (part_of columns.items) (parts_at pool.entries.items parts.items) },
     ghost shallow: { depth (parts_at pool.entries.items parts.items) < 2 ^ 32 },
+    ghost ids: { HaveDifferentIds (map entry_of (ranked_parts (parts_at pool.entries.items parts.items))) },
 }
 
 impl Parts {
     ghost use Rattle.std.specs.Prelude.{◌≡◌, ◌<◌, ◌++◌, [], List, All, map, IfOk, OnOk, OnErr};
+    ghost use Rattle.pref_sky.specs.Arrivals.{HaveArrived};
     ghost use Rattle.pref_sky.specs.Items.{parts_at};
     ghost use Rattle.pref_sky.specs.Levels.{HaveDifferentIds, entry_of, entry_order, levels};
     ghost use Rattle.pref_sky.specs.Parts.{ranked_parts};
+    ghost use Rattle.pref_sky.specs.Signatures.{signature_by};
     ghost use Rattle.pref_sky.specs.declared.entry.Entry.{Entry};
     ghost use Rattle.pref_term.specs.Order.{StaysWithin};
     ghost use Rattle.pref_term.specs.Signatures.{Suit};
@@ -211,7 +206,6 @@ impl Parts {
 
     /// The entries of all parts, in order of level, then id.
     pub(crate) fn ranked(&self, alloc: Global) -> Result<Vec<Ranked>, AllocError>
-        requires { HaveDifferentIds (map entry_of (ranked_parts (parts_at self.now.pool.entries.items self.now.parts.items))) }
         ensures { IfOk result (λ ranked. ranked.items ≡ ranked_parts (parts_at self.now.pool.entries.items self.now.parts.items)) }
     {
         let mut ranked = Vec::with_capacity(alloc, count_in(&self.parts))?;
@@ -223,22 +217,7 @@ impl Parts {
         Ok(ranked)
     }
 
-    /// Leaves out what is held no more, where that is most of the pool.
-    fn compact(&mut self, alloc: Global, held: usize) -> Result<(), AllocError>
-        ensures columns { self.new.columns ≡ self.old.columns }
-        ensures same { parts_at self.new.pool.entries.items self.new.parts.items ≡ parts_at self.old.pool.entries.items self.old.parts.items }
-    {
-        if self.pool.entries.len() / 2 <= held.saturating_add(PIECE) {
-            return Ok(());
-        }
-        let mut entries = Vec::with_capacity(alloc, held)?;
-        let parts = take_parts(alloc, &mut entries, &self.pool.entries, &self.parts)?;
-        self.pool.entries = entries;
-        self.parts = parts;
-        Ok(())
-    }
-
-    /// Sees that items are signed by cuts that suit the order and serve where these come.
+    /// Sees that items are signed by cuts that suit the order and serve where these come: else what is held is copied to another pool, signed anew.
     fn renew<D: Dominance>(
         &mut self,
         alloc: Global,
@@ -246,23 +225,47 @@ impl Parts {
         coming: &[Entry],
     ) -> Result<(), AllocError>
         ensures suit { OnOk result (Suit (D.order dominance.now) self.new.pool.cuts) }
-        ensures columns { self.new.columns ≡ self.old.columns }
-        ensures same { parts_at self.new.pool.entries.items self.new.parts.items ≡ parts_at self.old.pool.entries.items self.old.parts.items }
+        ensures same { (self.new.columns ≡ self.old.columns) × (parts_at self.new.pool.entries.items self.new.parts.items ≡ parts_at self.old.pool.entries.items self.old.parts.items) }
     {
         if self.pool.is_fresh(dominance) {
             return Ok(());
         }
         let held = count_in(&self.parts);
-        self.compact(alloc, held)?;
-        self.pool.look_at = self.pool.next_look();
         if self.pool.serves(dominance, held, coming.len()) {
+            self.pool.look_at = next_look(self.pool.entries.len());
             return Ok(());
         }
         let cuts = self.pool.cuts_beside(alloc, dominance, held, coming)?;
-        self.pool.cuts = cuts;
-        self.pool.held_when_signed = held;
-        self.pool.sign_parts(&mut self.parts);
+        let mut pool = Pool::with_room(alloc, cuts, held)?;
+        let parts = take_parts(alloc, &mut pool, &self.pool.entries, &self.parts)?;
+        self.pool = pool;
+        self.parts = parts;
         Ok(())
+    }
+
+    /// Puts those of the entries into the pool that are not seen to be below the cut, and tells where they come to.
+    fn admit<D: Dominance>(
+        &mut self,
+        alloc: Global,
+        dominance: &D,
+        cut: u32,
+        entries: &[Entry],
+    ) -> Result<Vec<Arrival>, AllocError>
+        ensures same { (self.new.columns ≡ self.old.columns) × (parts_at self.new.pool.entries.items self.new.parts.items ≡ parts_at self.old.pool.entries.items self.old.parts.items) }
+        ensures arrivals { IfOk result (λ arrivals. Suit (D.order dominance.now) self.new.pool.cuts
+            × HaveArrived (entry_order (D.order dominance.now)) (signature_by self.new.pool.cuts) cut self.new.columns.items self.new.pool.entries.items self.new.parts.items entries.now arrivals.items) }
+    {
+        self.renew(alloc, dominance, entries)?;
+        let pool = &mut self.pool;
+        arrivals_of(
+            alloc,
+            dominance,
+            cut,
+            &self.columns,
+            pool,
+            &self.parts,
+            entries,
+        )
     }
 
     /// Adds entries, each to its part, as [`Partial::add`](crate::Partial::add) does. The order compares rows within
@@ -279,23 +282,12 @@ impl Parts {
         requires groups { StaysWithin (D.order dominance.now) self.old.columns.items }
         requires ids { HaveDifferentIds (map entry_of (ranked_parts (parts_at self.old.pool.entries.items self.old.parts.items)) ++ entries.now) }
         ensures columns { self.new.columns ≡ self.old.columns }
-        ensures ids { HaveDifferentIds (map entry_of (ranked_parts (parts_at self.new.pool.entries.items self.new.parts.items))) }
         ensures ok { let over = entry_order (D.order dominance.now) in
             (before : List Entry) → HaveDifferentIds (before ++ entries.now) → ranked_parts (parts_at self.old.pool.entries.items self.old.parts.items) ≡ levels over before cut
             → OnOk result (ranked_parts (parts_at self.new.pool.entries.items self.new.parts.items) ≡ levels over (before ++ entries.now) cut) }
         ensures err { OnErr result (ranked_parts (parts_at self.new.pool.entries.items self.new.parts.items) ≡ ranked_parts (parts_at self.old.pool.entries.items self.old.parts.items)) }
     {
-        self.renew(alloc, dominance, entries)?;
-        let pool = &mut self.pool;
-        let arrivals = arrivals_of(
-            alloc,
-            dominance,
-            cut,
-            &self.columns,
-            pool,
-            &self.parts,
-            entries,
-        )?;
+        let arrivals = self.admit(alloc, dominance, cut, entries)?;
         let all = made_all(
             alloc,
             dominance,
@@ -319,7 +311,6 @@ impl Parts {
     ) -> Result<Parts, AllocError>
         requires window { 0 < window }
         requires ids { HaveDifferentIds entries.now }
-        ensures ids { IfOk result (λ apart. HaveDifferentIds (map entry_of (ranked_parts (parts_at apart.pool.entries.items apart.parts.items)))) }
         ensures ok { let over = entry_order (D.order dominance.now) in
             IfOk result (λ apart. (before : List Entry) → HaveDifferentIds (before ++ entries.now) → [] ≡ levels over before cut
             → ranked_parts (parts_at apart.pool.entries.items apart.parts.items) ≡ levels over (before ++ entries.now) cut) }

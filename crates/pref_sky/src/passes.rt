@@ -1,10 +1,10 @@
 //! Block-nested-loops over items (Börzsönyi, Kossmann, Stocker 2001): passes by a window of bounded size, which give the best and
 //! the others.
 
-ghost use Rattle.std.specs.Prelude.{◌≡◌, ◌≤◌, ◌<◌, ◌+◌, ◌++◌, [], ◌∷◌, ℕ, Bool, List, get_or, length, IfOk, OnOk};
+ghost use Rattle.std.specs.Prelude.{◌≡◌, ◌≤◌, ◌<◌, [], ◌∷◌, ℕ, Bool, List, get_or, length, IfOk, OnOk};
 ghost use Rattle.pref_sky.specs.Best.{IsApart};
 ghost use Rattle.pref_sky.specs.Items.{item_order};
-ghost use Rattle.pref_sky.specs.Passes.{AreShared, IsClear, IsMet, IsTold, Parted, Passes, Shares, Sifted};
+ghost use Rattle.pref_sky.specs.Passes.{IsClear, IsMet, IsTold, Parted, Passes, Settled, Sifted};
 ghost use Rattle.pref_term.specs.Order.{IsStrictOrder};
 ghost use Rattle.pref_sky.specs.declared.item.Item.{Item};
 
@@ -17,8 +17,7 @@ use std::alloc::{AllocError, Global};
 #[inline(always)]
 fn next_open(items: &[Item], from: usize, signature: u64) -> usize
     requires { from ≤ length items.now }
-    ensures from { from ≤ result }
-    ensures within { result ≤ length items.now }
+    ensures within { (from ≤ result) × (result ≤ length items.now) }
     ensures told { (k : ℕ) (d : Item) → from ≤ k → k < result → IsTold signature (get_or items.now k d) }
 {
     for (skipped, other) in items[from..].iter().enumerate() {
@@ -39,9 +38,8 @@ fn sift<D: Dominance>(
     item: &Item,
     rest: &mut Vec<Item>,
 ) -> Result<bool, AllocError>
-    ensures sifted { OnOk result (Sifted (item_order (D.order dominance.now) pool.now) item.now held.old.items held.new.items rest.old.items rest.new.items) }
-    ensures met { let over = item_order (D.order dominance.now) pool.now in
-        IfOk result (λ beaten. IsApart over held.old.items → IsMet over held.new.items item.now beaten) }
+    ensures { let over = item_order (D.order dominance.now) pool.now in
+        IfOk result (λ beaten. Sifted over item.now held.old.items held.new.items rest.old.items rest.new.items × (IsApart over held.old.items → IsMet over held.new.items item.now beaten)) }
 {
     let mut place = next_open(held, 0, item.signature);
     'each: while place < held.len() {
@@ -77,12 +75,9 @@ struct Pass {
 /// Takes an item that is apart from all that is held into the window, or lets it overflow where that is full.
 fn take_in(window: usize, pass: &mut Pass, item: Item) -> Result<(), AllocError>
     requires { 0 < window }
-    ensures shared { OnOk result ((input best left : List Item) (before : ℕ)
-        → Shares window input best (item ∷ left) before pass.old → Shares window input best left before pass.new) }
-    ensures passed { OnOk result ((over : Item → Item → Bool) → IsStrictOrder over → (input best left : List Item) (before : ℕ)
-        → Passes over window input best (item ∷ left) before pass.old
-        → IsClear over pass.old.early.items item → IsClear over pass.old.late.items item
-        → Passes over window input best left before pass.new) }
+    ensures { OnOk result ((over : Item → Item → Bool) → IsStrictOrder over → (held input best left : List Item) (before : ℕ)
+        → (IsApart over held → IsClear over pass.old.early.items item × IsClear over pass.old.late.items item)
+        → Passes over held window input best (item ∷ left) before pass.old → Passes over held window input best left before pass.new) }
 {
     if pass.late.len() >= window.saturating_sub(pass.early.len()) {
         pass.overflow.push(item)?;
@@ -104,9 +99,8 @@ fn offer<D: Dominance>(
     item: Item,
 ) -> Result<(), AllocError>
     requires { 0 < window }
-    ensures shared { OnOk result ((input best left : List Item) (before : ℕ) → Shares window input best (item ∷ left) before pass.old → Shares window input best left before pass.new) }
-    ensures passed { let over = item_order (D.order dominance.now) pool.now in
-        OnOk result ((input best left : List Item) (before : ℕ) → Passes over window input best (item ∷ left) before pass.old → Passes over window input best left before pass.new) }
+    ensures { let over = item_order (D.order dominance.now) pool.now in
+        OnOk result ((held input best left : List Item) (before : ℕ) → Passes over held window input best (item ∷ left) before pass.old → Passes over held window input best left before pass.new) }
 {
     if sift(dominance, pool, &mut pass.early, &item, &mut pass.rest)? {
         pass.rest.push(item)?;
@@ -129,9 +123,8 @@ fn offer_all<D: Dominance>(
     items: &[Item],
 ) -> Result<(), AllocError>
     requires { 0 < window }
-    ensures shared { OnOk result ((input best : List Item) (before : ℕ) → Shares window input best items.now before pass.old → Shares window input best [] before pass.new) }
-    ensures passed { let over = item_order (D.order dominance.now) pool.now in
-        OnOk result ((input best : List Item) (before : ℕ) → Passes over window input best items.now before pass.old → Passes over window input best [] before pass.new) }
+    ensures { let over = item_order (D.order dominance.now) pool.now in
+        OnOk result ((held input best : List Item) (before : ℕ) → Passes over held window input best items.now before pass.old → Passes over held window input best [] before pass.new) }
 {
     for item in items {
         offer(dominance, pool, window, pass, *item)?;
@@ -149,12 +142,7 @@ pub(crate) struct Found {
 
 /// Ends a pass: the early items are best, the late ones stay in the window. Gives what overflowed.
 fn settle(alloc: Global, pass: &mut Pass, best: &mut Vec<Item>) -> Result<Vec<Item>, AllocError>
-    ensures best { OnOk result (best.new.items ≡ best.old.items ++ pass.old.early.items) }
-    ensures input { IfOk result (λ input. input.items ≡ pass.old.overflow.items) }
-    ensures early { OnOk result (pass.new.early.items ≡ pass.old.late.items) }
-    ensures late { OnOk result (pass.new.late.items ≡ []) }
-    ensures overflow { OnOk result (pass.new.overflow.items ≡ []) }
-    ensures rest { OnOk result (pass.new.rest.items ≡ pass.old.rest.items) }
+    ensures { IfOk result (λ input. Settled best.old.items best.new.items pass.old pass.new input.items) }
 {
     let early = std::mem::replace(&mut pass.early, Vec::new(alloc));
     pass.early = std::mem::replace(&mut pass.late, Vec::new(alloc));
@@ -177,9 +165,7 @@ pub(crate) fn best_and_rest<D: Dominance>(
     items: &[Item],
 ) -> Result<Found, AllocError>
     requires { 0 < window }
-    ensures parted { let over = item_order (D.order dominance.now) pool.now in
-        IfOk result (λ found. IsApart over held.now → Parted over (held.now ++ items.now) found.best.items found.rest.items) }
-    ensures shared { IfOk result (λ found. AreShared (held.now ++ items.now) found.best.items found.rest.items) }
+    ensures parted { IfOk result (λ found. Parted (item_order (D.order dominance.now) pool.now) held.now items.now found.best.items found.rest.items) }
     ensures passes { IfOk result (λ found. found.passes ≤ length items.now) }
 {
     let mut best = Vec::new(alloc);

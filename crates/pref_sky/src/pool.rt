@@ -1,8 +1,8 @@
 //! Entries in one pool, and the cuts by which their items are signed.
 
-ghost use Rattle.std.specs.Prelude.{◌≡◌, ◌++◌, ◌∷◌, [], true, ℕ, List, length, vec_len, IfOk, OnOk, OnErr};
+ghost use Rattle.std.specs.Prelude.{◌≡◌, ◌++◌, ◌∷◌, [], true, ℕ, length, IfOk};
 ghost use Rattle.pref_sky.specs.Best.{is_beaten};
-ghost use Rattle.pref_sky.specs.Items.{AreAllItems, AreInPool, AreItems, IsItem, entries_at, levels_at, parts_at};
+ghost use Rattle.pref_sky.specs.Items.{AreAllItems, AreInPool, AreItems, HasGrown, IsItem, entries_at, levels_at, parts_at};
 ghost use Rattle.pref_sky.specs.Levels.{entry_order};
 ghost use Rattle.pref_sky.specs.Signatures.{signature_by};
 ghost use Rattle.pref_sky.specs.declared.entry.Entry.{Entry};
@@ -23,9 +23,18 @@ const MANY: usize = 48;
 /// more often cost more than they spare where entries come in no order.
 const MORE: usize = 1024;
 
+/// How many more entries than are held a pool may have twice before what is held no more is left out.
+const SPARE: usize = 1024;
+
 /// How many items of a level are asked whether they dominate an entry that comes: the first ones, since what dominates many moves to
 /// the front.
 const NEAR: usize = 32;
+
+/// How many entries there are to be when it is looked again how many of them are held: an eighth more than are there, and 16, since to look
+/// costs a step for each part. Any number is right.
+pub(crate) fn next_look(count: usize) -> usize {
+    count.saturating_add(count / 8).saturating_add(16)
+}
 
 /// Entries, and the cuts by which their items are signed.
 #[derive(Drop)]
@@ -51,18 +60,24 @@ impl Pool {
         }
     }
 
+    /// No entries, with room for so many that are to be signed by these cuts.
+    pub(crate) fn with_room(alloc: Global, cuts: Cuts, held: usize) -> Result<Pool, AllocError>
+        ensures { IfOk result (λ pool. pool.cuts ≡ cuts) }
+    {
+        let entries = Vec::with_capacity(alloc, held)?;
+        Ok(Pool {
+            entries,
+            cuts,
+            held_when_signed: held,
+            look_at: next_look(held),
+        })
+    }
+
     /// Whether the cuts suit the order, and hardly more entries are here than at the last look.
     pub(crate) fn is_fresh<D: Dominance>(&self, dominance: &D) -> bool
         ensures { result ≡ true → Suit (D.order dominance.now) self.now.cuts }
     {
         self.entries.len() < self.look_at && dominance.suits(&self.cuts)
-    }
-
-    /// How many entries there are to be when it is looked again how many of them are held: an eighth more and 16, since to look costs a step
-    /// for each part. Any number is right.
-    pub(crate) fn next_look(&self) -> usize {
-        let count = self.entries.len();
-        count.saturating_add(count / 8).saturating_add(16)
     }
 
     /// Whether so many held entries are too few for signatures to be worth their cost: one in 64 of those that come is counted with
@@ -71,11 +86,12 @@ impl Pool {
         held < MANY.saturating_sub(coming / 64)
     }
 
-    /// Whether the cuts suit the order, and serve where so many entries are held and so many come.
+    /// Whether the cuts suit the order, and serve where so many entries are held and so many come, and no more than half of the pool and
+    /// `SPARE` entries are held no more.
     pub(crate) fn serves<D: Dominance>(&self, dominance: &D, held: usize, coming: usize) -> bool
         ensures { result ≡ true → Suit (D.order dominance.now) self.now.cuts }
     {
-        if !dominance.suits(&self.cuts) {
+        if !dominance.suits(&self.cuts) || self.entries.len() / 2 > held.saturating_add(SPARE) {
             return false;
         }
         if self.cuts.is_none() {
@@ -109,11 +125,9 @@ impl Pool {
     /// Puts an entry behind the others.
     pub(crate) fn push(&mut self, entry: &Entry, signature: u64) -> Result<Item, AllocError>
         requires { signature ≡ signature_by self.old.cuts entry.now }
-        ensures entries { OnOk result (self.new.entries.items ≡ self.old.entries.items ++ entry.now ∷ []) }
-        ensures as_before { OnErr result (self.new.entries.items ≡ self.old.entries.items) }
-        ensures cuts { self.new.cuts ≡ self.old.cuts }
-        ensures item { IfOk result (λ item. IsItem (signature_by self.new.cuts) self.new.entries.items item) }
-        ensures place { IfOk result (λ item. item.place ≡ length self.old.entries.items) }
+        ensures grown { HasGrown self.old self.new }
+        ensures item { IfOk result (λ item. (self.new.entries.items ≡ self.old.entries.items ++ entry.now ∷ []) × IsItem (signature_by self.new.cuts) self.new.entries.items item
+            × (item.place ≡ length self.old.entries.items)) }
     {
         let place = self.entries.len();
         self.entries.push(*entry)?;
@@ -143,63 +157,25 @@ impl Pool {
         }
         false
     }
-
-    /// Signs items of its entries by its cuts. Takes no memory.
-    fn sign(&self, items: &mut Vec<Item>)
-        requires { (rule : Entry → ℕ) × AreItems rule self.now.entries.items items.old.items }
-        ensures entries { entries_at self.now.entries.items items.new.items ≡ entries_at self.now.entries.items items.old.items }
-        ensures items { AreItems (signature_by self.now.cuts) self.now.entries.items items.new.items }
-    {
-        for place in 0..items.len() {
-            let item = items[place];
-            items[place].signature = signature_of(&self.cuts, &self.entries[item.place]);
-        }
-    }
-
-    /// Signs the items of levels by its cuts. Takes no memory.
-    pub(crate) fn sign_levels(&self, levels: &mut Vec<Vec<Item>>)
-        requires { (rule : Entry → ℕ) × AreAllItems rule self.now.entries.items levels.old.items }
-        ensures entries { levels_at self.now.entries.items levels.new.items ≡ levels_at self.now.entries.items levels.old.items }
-        ensures items { AreAllItems (signature_by self.now.cuts) self.now.entries.items levels.new.items }
-    {
-        for place in 0..levels.len() {
-            self.sign(&mut levels[place]);
-        }
-    }
-
-    /// Signs the items of parts by its cuts. Takes no memory.
-    pub(crate) fn sign_parts(&self, parts: &mut Vec<Vec<Vec<Item>>>)
-        requires { (rule : Entry → ℕ) × AreInPool rule self.now.entries.items parts.old.items }
-        ensures long { vec_len parts.new ≡ vec_len parts.old }
-        ensures entries { parts_at self.now.entries.items parts.new.items ≡ parts_at self.now.entries.items parts.old.items }
-        ensures items { AreInPool (signature_by self.now.cuts) self.now.entries.items parts.new.items }
-    {
-        for place in 0..parts.len() {
-            self.sign_levels(&mut parts[place]);
-        }
-    }
 }
 
-/// Puts the entries of items behind those of another pool. Gives their items there.
+/// Puts the entries of items behind those of another pool, and signs them by its cuts. Gives their items there.
 fn take_items(
     alloc: Global,
-    pool: &mut Vec<Entry>,
+    pool: &mut Pool,
     entries: &[Entry],
     items: &[Item],
 ) -> Result<Vec<Item>, AllocError>
     requires { (rule : Entry → ℕ) × AreItems rule entries.now items.now }
-    ensures more { (more : List Entry) × (pool.new.items ≡ pool.old.items ++ more) }
-    ensures entries { IfOk result (λ taken. entries_at pool.new.items taken.items ≡ entries_at entries.now items.now) }
-    ensures items { (rule : Entry → ℕ) → AreItems rule entries.now items.now → IfOk result (λ taken. AreItems rule pool.new.items taken.items) }
+    ensures grown { HasGrown pool.old pool.new }
+    ensures taken { IfOk result (λ taken. AreItems (signature_by pool.new.cuts) pool.new.entries.items taken.items × (entries_at pool.new.entries.items taken.items ≡ entries_at entries.now items.now)) }
 {
     let mut taken = Vec::with_capacity(alloc, items.len())?;
     for item in items {
-        let place = pool.len();
-        pool.push(entries[item.place])?;
-        taken.push(Item {
-            signature: item.signature,
-            place,
-        })?;
+        let entry = &entries[item.place];
+        let signature = signature_of(&pool.cuts, entry);
+        let item = pool.push(entry, signature)?;
+        taken.push(item)?;
     }
     Ok(taken)
 }
@@ -207,14 +183,13 @@ fn take_items(
 /// The same for the items of levels.
 fn take_levels(
     alloc: Global,
-    pool: &mut Vec<Entry>,
+    pool: &mut Pool,
     entries: &[Entry],
     levels: &[Vec<Item>],
 ) -> Result<Vec<Vec<Item>>, AllocError>
     requires { (rule : Entry → ℕ) × AreAllItems rule entries.now levels.now }
-    ensures more { (more : List Entry) × (pool.new.items ≡ pool.old.items ++ more) }
-    ensures entries { IfOk result (λ taken. levels_at pool.new.items taken.items ≡ levels_at entries.now levels.now) }
-    ensures items { (rule : Entry → ℕ) → AreAllItems rule entries.now levels.now → IfOk result (λ taken. AreAllItems rule pool.new.items taken.items) }
+    ensures grown { HasGrown pool.old pool.new }
+    ensures taken { IfOk result (λ taken. AreAllItems (signature_by pool.new.cuts) pool.new.entries.items taken.items × (levels_at pool.new.entries.items taken.items ≡ levels_at entries.now levels.now)) }
 {
     let mut taken = Vec::with_capacity(alloc, levels.len())?;
     for level in levels {
@@ -227,14 +202,14 @@ fn take_levels(
 /// The same for the items of parts.
 pub(crate) fn take_parts(
     alloc: Global,
-    pool: &mut Vec<Entry>,
+    pool: &mut Pool,
     entries: &[Entry],
     parts: &[Vec<Vec<Item>>],
 ) -> Result<Vec<Vec<Vec<Item>>>, AllocError>
     requires { (rule : Entry → ℕ) × AreInPool rule entries.now parts.now }
-    ensures entries { IfOk result (λ taken. parts_at pool.new.items taken.items ≡ parts_at entries.now parts.now) }
-    ensures items { (rule : Entry → ℕ) → AreInPool rule entries.now parts.now → IfOk result (λ taken. AreInPool rule pool.new.items taken.items) }
-    ensures long { IfOk result (λ taken. length taken.items ≡ length parts.now) }
+    ensures grown { HasGrown pool.old pool.new }
+    ensures taken { IfOk result (λ taken. AreInPool (signature_by pool.new.cuts) pool.new.entries.items taken.items × (parts_at pool.new.entries.items taken.items ≡ parts_at entries.now parts.now)
+        × (length taken.items ≡ length parts.now)) }
 {
     let mut taken = Vec::with_capacity(alloc, parts.len())?;
     for part in parts {

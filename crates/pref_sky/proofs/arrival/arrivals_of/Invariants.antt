@@ -1,8 +1,7 @@
-use Rattle.std.proofs.Common.{◌≡◌, ◌++◌, List, map, take}
+use Rattle.std.proofs.Common.{map, take}
 use Rattle.std.specs.Prelude.{All}
-use Rattle.pref_sky.specs.declared.entry.Entry.{Entry}
 use Rattle.pref_sky.specs.Arrivals.{IsArrival, KeepsUpper, arrived}
-use Rattle.pref_sky.specs.Items.{parts_at}
+use Rattle.pref_sky.specs.Items.{HasGrown, parts_at}
 use Rattle.pref_sky.specs.Levels.{entry_order}
 use Rattle.pref_sky.specs.Parts.{part_of}
 use Rattle.pref_sky.specs.Signatures.{signature_by}
@@ -13,8 +12,7 @@ invariant-loop-entry g l =
     let over = entry_order (g.D.Dominance.order l.dominance) in
     let parts = parts_at l.initial.pool.entries.items l.parts in
     record {
-      cuts : l.pool.cuts ≡ l.initial.pool.cuts;
-      pool : (more : List Entry) × (l.pool.entries.items ≡ l.initial.pool.entries.items ++ more);
-      arrivals : All (IsArrival over (signature_by l.initial.pool.cuts) (part_of l.columns) l.pool.entries.items parts) l.arrivals.items;
+      grown : HasGrown l.initial.pool l.pool;
+      arrivals : All (IsArrival over (signature_by l.pool.cuts) (part_of l.columns) l.pool.entries.items parts) l.arrivals.items;
       upper : KeepsUpper over l.cut (part_of l.columns) parts (take l.entry-index l.entries) (map (arrived l.pool.entries.items) l.arrivals.items);
     }

@@ -1,5 +1,5 @@
 use Rattle.std.proofs.Common.{◌∙◌}
-use Rattle.pref_sky.proofs.MadeItems.{level_there, no_level}
+use Rattle.pref_sky.proofs.Pools.{level_there, no_level}
 use Rattle.pref_sky.proofs.making.level_at.Goals as goal
 
 pub returns-then-place-levels : goal.returns-then-place-levels

@@ -4,8 +4,7 @@ use Rattle.std.specs.Prelude.{All}
 use Rattle.pref_sky.specs.declared.arrival.Arrival.{Arrival}
 use Rattle.pref_sky.specs.Items.{AreAllItems, item_order, items_at}
 use Rattle.pref_sky.specs.Levels.{entry_order}
-use Rattle.pref_sky.specs.Passes.{AreShared, Parted}
-use Rattle.pref_sky.specs.Best.{IsApart}
+use Rattle.pref_sky.specs.Passes.{Parted}
 use Rattle.pref_sky.specs.Signatures.{signature_by}
 use Rattle.pref_sky.proofs.Members.{among_place}
 use Rattle.pref_sky.proofs.Merges.{entry_order_is_strict}
@@ -56,39 +55,17 @@ each_level-preserved g c =
     let pushed = (c.in_ok-push_items.ensures {u = tt}) ∙ ap (λ l. c.each_level.down.items ++ map (λ (a : Arrival). a.item) l) c.split_at.ensures.front in
     let top = c.in_ok-found.found.best in
     let down = c.in_ok-found.found.rest.items in
-    let shared : AreShared (items_at (length made) levels ++ now) top.items down =
-    subst (λ l. AreShared (l ++ now) top.items down) held_is (subst (λ l. AreShared (c.level_at-held.result.now ++ l) top.items down) c.deref-in-each_level.ensures.value c.in_ok-found.ensures.shared) in
-    let parted : IsApart (item_order order pool) (items_at (length made) levels) → Parted (item_order order pool) (items_at (length made) levels ++ now) top.items down =
-    subst (λ l. IsApart (item_order order pool) l → Parted (item_order order pool) (l ++ now) top.items down) held_is
-    (subst (λ l. IsApart (item_order order pool) c.level_at-held.result.now → Parted (item_order order pool) (c.level_at-held.result.now ++ l) top.items down) c.deref-in-each_level.ensures.value
-    (subst (λ l. IsApart (item_order order l) c.level_at-held.result.now → Parted (item_order order l) (c.level_at-held.result.now ++ c.deref-in-each_level.result.now) top.items down) c.deref.ensures.value c.in_ok-found.ensures.parted)) in
+    let parted : Parted (item_order order pool) (items_at (length made) levels) now top.items down =
+    subst (λ l. Parted (item_order order pool) l now top.items down) held_is
+    (subst (λ l. Parted (item_order order pool) c.level_at-held.result.now l top.items down) c.deref-in-each_level.ensures.value
+    (subst (λ l. Parted (item_order order l) c.level_at-held.result.now c.deref-in-each_level.result.now top.items down) c.deref.ensures.value c.in_ok-found.ensures.parted)) in
     let after = making_items_more order strict cuts pool c.args.cut first.start levels arrivals c.requires.start (first_starts arrivals none c.requires.some c.requires.in_order) c.requires.suit c.requires.items
-    made c.each_level.down.items now down rest count top below later pushed shared parted inv.so_far in
+    made c.each_level.down.items now down rest count top below later pushed parted inv.so_far in
     record {
       so_far = subst (λ l. MakingItems order cuts pool c.args.cut first.start levels arrivals c.push.new.self.items down l) (sym c.split_at.ensures.back)
           (subst (λ l. MakingItems order cuts pool c.args.cut first.start levels arrivals l down (drop count rest)) (sym (c.in_ok-push.ensures {u = tt}).items) after);
       no_deeper = omega (arith, below, (c.in_ok-push.ensures {u = tt}).len, c.each_level.made.ok.0);
     }
-
-pub returns-clause-fits : goal.returns-clause-fits
-returns-clause-fits g c =
-    let order = g.D.Dominance.order c.args.dominance.now in
-    let levels = c.args.levels.now in
-    let none : Arrival = record { part = 0; start = 0; item = record { signature = 0; place = 0 } } in
-    let from = c.each_level.invariant.so_far.making.from in
-    let end : c.len-end.result ≡ length c.each_level.made.items = omega (arith, c.len-end.ensures, c.each_level.made.ok.0) in
-    let more = (c.in_ok-push_empty-2.ensures {u = tt}).long in
-    let long = c.push_empty-2.new.levels.ok.0 in
-    record {
-      first = omega (arith, end, from);
-      inside = first_inside (entry_order order) (signature_by c.args.pool.now.cuts) c.args.pool.now.entries.items levels c.args.arrivals.now none c.requires.some c.requires.start;
-      new = omega (arith, more, long, c.len-end.ensures);
-      old = omega (arith, more, long);
-      no_more = λ n past past_all. omega (arith, more, long, c.len-end.ensures, past, past_all);
-    }
-
-pub returns-clause-items : goal.returns-clause-items
-returns-clause-items g c = (c.in_ok-push_empty-2.ensures {u = tt}).items (signature_by c.args.pool.now.cuts) c.args.pool.now.entries.items c.each_level.invariant.so_far.made_items
 
 pub returns-clause-made : goal.returns-clause-made
 returns-clause-made g c =
@@ -117,6 +94,20 @@ returns-clause-made g c =
       ]
       | else-each_level-test w ↦ inl (omega (arith, w.each_level-test.false, c.len.ensures, made.ok.0))
     ] in
-    making_items_end order strict cuts pool c.args.cut first.start levels arrivals c.requires.start (first_starts arrivals none c.requires.some c.requires.in_order)
-    made.items c.push_empty-2.new.levels.items down.items rest c.len-end.result
-    (first_inside (entry_order order) (signature_by cuts) pool levels arrivals none c.requires.some c.requires.start) end front ended c.each_level.invariant.so_far
+    let inside = first_inside (entry_order order) (signature_by cuts) pool levels arrivals none c.requires.some c.requires.start in
+    let given = c.in_ok-push_empty-2.ensures {u = tt} in
+    let long = c.push_empty-2.new.levels.ok.0 in
+    record {
+      fits = record {
+        first = omega (arith, end, c.each_level.invariant.so_far.making.from);
+        inside = inside;
+        new = omega (arith, given.long, long, c.len-end.ensures);
+        old = omega (arith, given.long, long);
+        no_more = λ n past past_all. omega (arith, given.long, long, c.len-end.ensures, past, past_all);
+      };
+      no_deeper = omega (arith, end, c.each_level.invariant.no_deeper);
+      items = given.items (signature_by cuts) pool c.each_level.invariant.so_far.made_items;
+      made = making_items_end order strict cuts pool c.args.cut first.start levels arrivals c.requires.start (first_starts arrivals none c.requires.some c.requires.in_order)
+          made.items c.push_empty-2.new.levels.items down.items rest c.len-end.result
+          inside end front ended c.each_level.invariant.so_far;
+    }

@@ -1,10 +1,9 @@
-use Rattle.std.proofs.Common.{◌≡◌, ◌<◌, length, get_or, drop, map, arith, subst, sym, ◌∙◌, refl, false, eqb}
+use Rattle.std.proofs.Common.{◌≡◌, ◌<◌, length, get_or, drop, arith, subst, sym, ◌∙◌, refl, false, eqb}
 use Rattle.std.proofs.lemmas.Bool.{eqb-false}
-use Rattle.pref_sky.specs.Arrivals.{AreInOrderOfStart, StartsAt, arrived}
+use Rattle.pref_sky.specs.Arrivals.{AreInOrderOfStart, StartsAt}
 use Rattle.pref_sky.specs.Items.{levels_at, levels_in}
 use Rattle.pref_sky.specs.Levels.{entry_order}
-use Rattle.pref_sky.specs.Made.{new_levels}
-use Rattle.pref_sky.specs.Partials.{IsMade, replaced}
+use Rattle.pref_sky.specs.Made.{AreLevelsMade}
 use Rattle.pref_sky.specs.Signatures.{signature_by}
 use Rattle.pref_sky.specs.declared.arrival.Arrival.{Arrival}
 use Rattle.std.specs.Prelude.{All}
@@ -19,7 +18,7 @@ none = record { part = 0; start = 0; item = record { signature = 0; place = 0 } 
 
 pub count_coming-requires-clause-first : goal.count_coming-requires-clause-first
 unfolding none
-count_coming-requires-clause-first g c = first_part c.each_part.rest.now none c.each_part.invariant.dealt
+count_coming-requires-clause-first g c = first_part c.each_part.rest.now none c.each_part.invariant.coming.dealt
 
 pub made_of-requires-clause-start : goal.made_of-requires-clause-start
 unfolding none
@@ -33,7 +32,7 @@ made_of-requires-clause-start g c =
     let part = (get_or rest 0 none).part in
     let filled : eqb (length rest) 0 ≡ false = sym c.is_empty.ensures ∙ c.each_part-test.true in
     let some : 0 < length rest = omega (arith, eqb-false (length rest) 0 filled) in
-    let there : levels_in part parts ≡ c.deref.result.now = in_here part parts c.index-parts-part.result (inv.part 0 none some) c.index-parts-part.is ∙ sym c.deref.ensures.value in
+    let there : levels_in part parts ≡ c.deref.result.now = in_here part parts c.index-parts-part.result (inv.coming.part 0 none some) c.index-parts-part.is ∙ sym c.deref.ensures.value in
     subst (All (StartsAt over rule pool (levels_at pool c.deref.result.now))) (sym c.split_at.ensures.front)
     (front_starts over c.args.cut rule pool parts c.args.arrivals.now rest c.each_part.all.items inv part c.count_coming.result c.deref.result.now there c.count_coming.ensures.coming)
 
@@ -44,7 +43,7 @@ made_of-requires-clause-in_order g c =
     let inv = c.each_part.invariant in
     let part = (get_or rest 0 none).part in
     subst AreInOrderOfStart (sym c.split_at.ensures.front)
-    (by_start part rest c.count_coming.result inv.dealt
+    (by_start part rest c.count_coming.result inv.coming.dealt
     (front_of_part (entry_order (g.D.Dominance.order c.args.dominance.now)) c.args.cut (signature_by c.args.pool.now.cuts) c.args.pool.now.entries.items c.args.parts.now c.args.arrivals.now rest c.each_part.all.items inv part c.count_coming.result
     (levels_in part c.args.parts.now) refl c.count_coming.ensures.coming))
 
@@ -66,11 +65,11 @@ each_part-preserved g c =
     let made = c.in_ok-made.made in
     let filled : eqb (length rest) 0 ≡ false = sym c.is_empty.ensures ∙ c.each_part-test.true in
     let some : 0 < length rest = omega (arith, eqb-false (length rest) 0 filled) in
-    let there : levels_in first.part parts ≡ held = in_here first.part parts c.index-parts-part.result (inv.part 0 none some) c.index-parts-part.is ∙ sym c.deref.ensures.value in
+    let there : levels_in first.part parts ≡ held = in_here first.part parts c.index-parts-part.result (inv.coming.part 0 none some) c.index-parts-part.is ∙ sym c.deref.ensures.value in
     let comes = c.count_coming.ensures.coming in
     let is : made.part ≡ first.part = c.in_ok-made.ensures.part in
-    let of_part = part_made over cut rule pool parts arrivals rest all inv first.part n held there comes c.count_coming.ensures.behind first (among_place rest 0 none some) refl made is c.in_ok-made.ensures.fits c.in_ok-made.ensures.no_deeper c.in_ok-made.ensures.items
-    (subst (λ l. IsMade over cut (levels_at pool held) (replaced made.first (levels_at pool (new_levels made)) (levels_at pool held)) (map (arrived pool) l)) c.split_at.ensures.front c.in_ok-made.ensures.made) in
+    let of_part = part_made over cut rule pool parts arrivals rest all inv first.part n held there comes c.count_coming.ensures.behind first (among_place rest 0 none some) refl made is
+    (subst (λ l. AreLevelsMade over cut rule pool held l made) c.split_at.ensures.front c.in_ok-made.ensures.made) in
     let more = making_more over cut rule pool parts arrivals rest all inv first.part n held there comes c.count_coming.ensures.behind first (among_place rest 0 none some) refl made is of_part in
     subst (λ l. MakingParts over cut rule pool parts arrivals l c.push.new.self.items) (sym c.split_at.ensures.back)
     (subst (MakingParts over cut rule pool parts arrivals (drop n rest)) (sym c.in_ok-push.ensures.items) more)

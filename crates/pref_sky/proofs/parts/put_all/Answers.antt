@@ -21,8 +21,8 @@ put-requires c =
     let whole : (done ++ made ∷ []) ++ later ≡ c.args.all.items = append_assoc done (made ∷ []) later ∙ (ap (λ l. done ++ l) (sym c.in-Some.ensures.steps.0) ∙ inv.in_order) in
     let of_all : Among made c.args.all.items = subst (Among made) whole (in_left (done ++ made ∷ []) later made (in_right done (made ∷ []) made (inl refl))) in
     let once : AreInOrderOfPart (done ++ made ∷ []) = in_order_front (λ (a b : Made). ltb a.part b.part) (done ++ made ∷ []) later (subst AreInOrderOfPart (sym whole) c.requires.once) in
-    let inside : made.part < length now = omega (arith, inv.putting.long, all_among (λ (m : Made). m.part < length first) c.args.all.items c.requires.part made of_all) in
-    subst (Fits made) (sym (still_there first now done inv.putting made once) ∙ in_here made.part now c.index_mut.result.now inside c.index_mut.ensures.value)
+    let inside : made.part < length now = omega (arith, inv.put.long, all_among (λ (m : Made). m.part < length first) c.args.all.items c.requires.part made of_all) in
+    subst (Fits made) (sym (still_there first now done inv.put made once) ∙ in_here made.part now c.index_mut.result.now inside c.index_mut.ensures.value)
     (all_among (λ (m : Made). Fits m (levels_in m.part first)) c.args.all.items c.requires.fits made of_all)
 
 pub loop-made-preserved : goal.loop-made-preserved
@@ -36,10 +36,10 @@ loop-made-preserved c =
     let whole : (done ++ made ∷ []) ++ later ≡ c.args.all.items = append_assoc done (made ∷ []) later ∙ (ap (λ l. done ++ l) (sym c.in-Some.ensures.steps.0) ∙ inv.in_order) in
     let of_all : Among made c.args.all.items = subst (Among made) whole (in_left (done ++ made ∷ []) later made (in_right done (made ∷ []) made (inl refl))) in
     let once : AreInOrderOfPart (done ++ made ∷ []) = in_order_front (λ (a b : Made). ltb a.part b.part) (done ++ made ∷ []) later (subst AreInOrderOfPart (sym whole) c.requires.once) in
-    let inside : made.part < length now = omega (arith, inv.putting.long, all_among (λ (m : Made). m.part < length first) c.args.all.items c.requires.part made of_all) in
+    let inside : made.part < length now = omega (arith, inv.put.long, all_among (λ (m : Made). m.part < length first) c.args.all.items c.requires.part made of_all) in
     let held : c.index_mut.result.now.items ≡ levels_in made.part first =
-    sym (in_here made.part now c.index_mut.result.now inside c.index_mut.ensures.value) ∙ still_there first now done inv.putting made once in
+    sym (in_here made.part now c.index_mut.result.now inside c.index_mut.ensures.value) ∙ still_there first now done inv.put made once in
     record {
       in_order = whole;
-      putting = putting_more first now done inv.putting made once c.put.new.levels inside (c.put.ensures ∙ ap (replaced made.first (new_levels made)) held);
+      put = putting_more first now done inv.put made once c.put.new.levels inside (c.put.ensures ∙ ap (replaced made.first (new_levels made)) held);
     }

@@ -1,10 +1,10 @@
 use Rattle.std.proofs.Common.{◌≡◌, ◌++◌}
 use Rattle.std.specs.Vec.Iter.{into_iter_items}
-use Rattle.pref_sky.proofs.PartSteps.{PuttingParts}
+use Rattle.pref_sky.specs.Made.{ArePut}
 use Rattle.pref_sky.proofs.parts.put_all.Given as goal
 
 abbrev pub invariant-loop-made : goal.invariant-loop-made
 invariant-loop-made l = record {
   in_order : l.yielded ++ into_iter_items l.made-iterator ≡ l.fn.all.items;
-  putting : PuttingParts l.fn.parts.items l.parts.items l.yielded;
+  put : ArePut l.yielded l.fn.parts.items l.parts.items;
 }

@@ -1,48 +1,49 @@
 use Rattle.std.proofs.Common.{◌≡◌, ◌∙◌, ◌<◌, ◌+◌, ◌/◌, true, length, sym, ap, subst, arith, vec_len, Vec}
 use Rattle.std.specs.Global.{Global}
 use Rattle.std.specs.List.{swap_remove}
+use Rattle.std.proofs.lemmas.List.{get_or_default}
 use Rattle.std.proofs.lemmas.List.Sorted.{IsPermutation-swap}
 use Rattle.pref_term.specs.Order.{is_better, is_worse, is_same}
 use Rattle.pref_sky.specs.declared.item.Item.{Item}
 use Rattle.pref_sky.specs.Items.{item_order}
 use Rattle.pref_sky.specs.Members.{Among}
 use Rattle.pref_sky.specs.Passes.{Sifted}
+use Rattle.pref_sky.proofs.Bags.{among_if, is_item, some_of}
 use Rattle.pref_sky.proofs.Members.{among_place, any_from}
 use Rattle.pref_sky.proofs.Orders.{same_if_permuted}
-use Rattle.pref_sky.proofs.Sifting.{AreClear, AreTold, clear_if_alike, clear_after_move, clear_by_place, clear_more, clear_upto, get_or_any, sifted_more, sifted_moved, sifted_none}
+use Rattle.pref_sky.proofs.Sifting.{AreClear, AreTold, clear_if_alike, clear_after_move, clear_by_place, clear_more, clear_upto, sifted_more, sifted_moved, sifted_none}
 use Rattle.pref_sky.proofs.passes.sift.Goals as goal
 use Rattle.pref_sky.proofs.passes.sift.Goals.{in-Worse+in_ok-push-in-Worse, in-Neither}
 
 -- one of the list is alike
-pub returns-in-Same-clause-met : goal.returns-in-Same-clause-met
-returns-in-Same-clause-met g c apart =
-    let over = item_order (g.D.Dominance.order c.args.dominance.now) c.args.pool.now in
-    let held = c.each.held.items in
-    let y = c.index.result.now in
-    let inside : c.each.place < length held = omega (arith, c.each-test.true, c.len.ensures, c.each.held.ok.0) in
-    let back = c.each.invariant.sifted.within in
-    clear_if_alike over held y c.args.item.now (subst (λ z. Among z held) (sym c.index.ensures) (among_place held c.each.place y inside)) (c.compare_items.ensures.stand_alike (ap is_same c.in-Same.is))
-    (λ a b ma mb. apart a b (back a ma) (back b mb))
+pub returns-in-Same : goal.returns-in-Same
+returns-in-Same g c = (
+  c.each.invariant.sifted,
+  λ apart.
+      let over = item_order (g.D.Dominance.order c.args.dominance.now) c.args.pool.now in
+      let held = c.each.held.items in
+      let y = c.index.result.now in
+      let inside : c.each.place < length held = omega (arith, c.each-test.true, c.len.ensures, c.each.held.ok.0) in
+      let s = c.each.invariant.sifted in
+      let back : (x : Item) → Among x held → Among x c.args.held.now.items = λ x m. among_if x c.args.held.now.items (omega (arith, s.bag (is_item x), some_of x held m)) in
+      clear_if_alike over held y c.args.item.now (subst (λ z. Among z held) (sym c.index.ensures) (among_place held c.each.place y inside)) (c.compare_items.ensures.stand_alike (ap is_same c.in-Same.is))
+      (λ a b ma mb. apart a b (back a ma) (back b mb)),
+)
 
 -- one of the list dominates the item: it goes to a place further up
-pub returns-in-Better-clause-sifted : goal.returns-in-Better-clause-sifted
-returns-in-Better-clause-sifted g c =
-    let over = item_order (g.D.Dominance.order c.args.dominance.now) c.args.pool.now in
-    let held = c.each.held.items in
-    let inside : c.each.place < length held = omega (arith, c.each-test.true, c.len.ensures, c.each.held.ok.0) in
-    sifted_moved over c.args.item.now c.args.held.now.items held c.args.rest.now.items c.each.rest.items c.swap.new.self.items
-    (IsPermutation-swap held c.swap.new.self.items (c.each.place / 2) c.each.place (omega (arith, inside)) inside c.swap.ensures.items) c.each.invariant.sifted
-
-pub returns-in-Better-clause-met : goal.returns-in-Better-clause-met
-returns-in-Better-clause-met g c apart =
+pub returns-in-Better : goal.returns-in-Better
+returns-in-Better g c =
     let over = item_order (g.D.Dominance.order c.args.dominance.now) c.args.pool.now in
     let held = c.each.held.items in
     let moved = c.swap.new.self.items in
     let y = c.index.result.now in
     let inside : c.each.place < length held = omega (arith, c.each-test.true, c.len.ensures, c.each.held.ok.0) in
-    let same = same_if_permuted held moved (IsPermutation-swap held moved (c.each.place / 2) c.each.place (omega (arith, inside)) inside c.swap.ensures.items) in
-    any_from (λ x. over x c.args.item.now) moved y (same.there y (subst (λ z. Among z held) (sym c.index.ensures) (among_place held c.each.place y inside)))
-    (sym c.compare_items.ensures.better ∙ ap is_better c.in-Better.is)
+    let permuted = IsPermutation-swap held moved (c.each.place / 2) c.each.place (omega (arith, inside)) inside c.swap.ensures.items in (
+      sifted_moved over c.args.item.now c.args.held.now.items held c.args.rest.now.items c.each.rest.items moved permuted c.each.invariant.sifted,
+      λ apart.
+          any_from (λ x. over x c.args.item.now) moved y ((same_if_permuted held moved permuted).there y (subst (λ z. Among z held) (sym c.index.ensures) (among_place held c.each.place y inside)))
+          (sym c.compare_items.ensures.better ∙ ap is_better c.in-Better.is),
+    )
 
 -- the first places are told by the signatures
 pub each-init : goal.each-init
@@ -54,7 +55,7 @@ each-init g c =
     let place = c.next_open-place.result in
     let told : AreTold held item 0 place = subst (λ l. AreTold l item 0 place) c.deref.ensures.value c.next_open-place.ensures.told in
     record {
-      inside = omega (arith, c.next_open-place.ensures.within, ap length c.deref.ensures.value);
+      inside = omega (arith, c.next_open-place.ensures.within.1, ap length c.deref.ensures.value);
       sifted = sifted_none (item_order order pool) item held c.args.rest.now.items;
       clear = clear_upto order pool held item 0 place (λ k d within. absurd (omega (arith, within))) told;
     }
@@ -77,7 +78,7 @@ each-preserved g c =
     elim met.branch [
       | in-Worse+in_ok-push-in-Worse w ↦
           let x = w.swap_remove-beaten.result in
-          let is : x ≡ c.index.result.now = w.swap_remove-beaten.ensures.value ∙ (get_or_any held i x c.index.result.now inside ∙ sym c.index.ensures) in
+          let is : x ≡ c.index.result.now = w.swap_remove-beaten.ensures.value ∙ (get_or_default held i x c.index.result.now inside ∙ sym c.index.ensures) in
           let above : over item x ≡ true = ap (over item) is ∙ (sym c.compare_items.ensures.worse ∙ ap is_worse w.in-Worse.is) in
           let more = sifted_more over item old held start rest i x inside w.swap_remove-beaten.ensures.value above c.each.invariant.sifted in
           let held_is : met.held.items ≡ swap_remove held i x = ap (λ (v : Vec Item Global). v.items) w.held-is ∙ w.swap_remove-beaten.ensures.items in
@@ -96,12 +97,12 @@ each-preserved g c =
     let next = c.next_open-place-in-each.result in
     let told : AreTold met.held.items item met.place next = subst (λ l. AreTold l item met.place next) c.deref-in-each.ensures.value c.next_open-place-in-each.ensures.told in
     record {
-      inside = omega (arith, c.next_open-place-in-each.ensures.within, ap length c.deref-in-each.ensures.value);
+      inside = omega (arith, c.next_open-place-in-each.ensures.within.1, ap length c.deref-in-each.ensures.value);
       sifted = step.0;
       clear = clear_upto order pool met.held.items item met.place next step.1 told;
     }
 
-pub returns-clause-met : goal.returns-clause-met
-returns-clause-met g c apart =
+pub returns : goal.returns
+returns g c =
     let over = item_order (g.D.Dominance.order c.args.dominance.now) c.args.pool.now in
-    clear_by_place over c.each.held.items c.args.item.now c.each.place (omega (arith, c.each-test.false, c.len.ensures, c.each.held.ok.0)) c.each.invariant.clear
+    (c.each.invariant.sifted, λ apart. clear_by_place over c.each.held.items c.args.item.now c.each.place (omega (arith, c.each-test.false, c.len.ensures, c.each.held.ok.0)) c.each.invariant.clear)

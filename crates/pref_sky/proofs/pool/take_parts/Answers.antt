@@ -1,36 +1,46 @@
-use Rattle.std.proofs.Common.{◌≡◌, ◌∙◌, ◌<◌, ◌+◌, ◌∷◌, ◌++◌, [], Vec, length, length-append, take, sym, ap, subst, arith}
+use Rattle.std.proofs.Common.{◌≡◌, ◌∙◌, ◌+◌, ◌∷◌, ◌++◌, [], Vec, length, length-append, take, sym, ap, subst, arith}
 use Rattle.std.proofs.lemmas.List.Elements.{All-push}
 use Rattle.std.specs.Global.{Global}
 use Rattle.pref_sky.specs.declared.item.Item.{Item}
-use Rattle.pref_sky.specs.Items.{AreAllItems, AreInPool, levels_at, parts_at}
-use Rattle.pref_sky.proofs.Pools.{in_pool_more, parts_more, result_more}
+use Rattle.pref_sky.specs.Items.{AreInPool, AreAllItems, levels_at, parts_at}
+use Rattle.pref_sky.specs.Signatures.{signature_by}
+use Rattle.pref_sky.proofs.Pools.{grown_none, grown_then, in_pool_grown, parts_grown, result_more}
 use Rattle.pref_sky.proofs.pool.take_parts.Goals as goal
+
+pub take_levels-requires : goal.take_levels-requires
+take_levels-requires c =
+    let rule = c.requires.0 in
+    (rule, subst (AreAllItems rule c.args.entries.now) (sym c.deref.ensures.value) (subst (λ (v : Vec (Vec Item Global) Global). AreAllItems rule c.args.entries.now v.items) (sym c.part-item.is) (c.requires.1 c.loop-part.part-index c.part-item.result c.loop-part-test.true)))
+
+pub loop-part-init : goal.loop-part-init
+loop-part-init c =
+    record {
+      long = ap length c.in_ok-taken.ensures.items;
+      grown = grown_none c.args.pool.now;
+      items = λ k d inside. absurd (omega (arith, inside, ap length c.in_ok-taken.ensures.items));
+      entries = ap (parts_at c.args.pool.now.entries.items) c.in_ok-taken.ensures.items;
+    }
 
 pub loop-part-preserved : goal.loop-part-preserved
 loop-part-preserved c =
     let inv = c.loop-part.invariant in
     let entries = c.args.entries.now in
     let parts = c.args.parts.now in
-    let pool = c.loop-part.pool.items in
-    let after = c.take_levels.new.pool.items in
+    let pool = c.loop-part.pool in
+    let now = c.take_levels.new.pool in
     let done = c.loop-part.taken.items in
     let i = c.loop-part.part-index in
     let old : Vec (Vec Item Global) Global = c.part-item.result in
     let next : Vec (Vec Item Global) Global = c.in_ok-levels.levels in
-    let inside : i < length parts = c.loop-part-test.true in
-    let more = c.take_levels.ensures.more in
-    let given = c.in_ok-levels.ensures in
-    let put = c.in_ok-push.ensures.items in
-    let is = c.deref.ensures.value in
-    let stay : parts_at after done ≡ parts_at pool done = subst (λ l. parts_at l done ≡ parts_at pool done) (sym more.1) (parts_more c.requires.0 pool more.0 done (inv.items c.requires.0 c.requires.1)) in
-    let same : parts_at after (done ++ next ∷ []) ≡ parts_at entries (take (i + 1) parts) =
-    result_more (λ (v : Vec (Vec Item Global) Global). levels_at pool v.items) (λ (v : Vec (Vec Item Global) Global). levels_at after v.items) (λ (v : Vec (Vec Item Global) Global). levels_at entries v.items) done next parts i old inside c.part-item.is
-    stay inv.entries (given.entries ∙ ap (levels_at entries) is) in
+    let grown = c.in_ok-levels.ensures.grown in
+    let taken = c.in_ok-levels.ensures.taken in
+    let kept = c.in_ok-push.ensures.items in
+    let same : parts_at now.entries.items (done ++ next ∷ []) ≡ parts_at entries (take (i + 1) parts) =
+    result_more (λ (v : Vec (Vec Item Global) Global). levels_at pool.entries.items v.items) (λ (v : Vec (Vec Item Global) Global). levels_at now.entries.items v.items) (λ (v : Vec (Vec Item Global) Global). levels_at entries v.items) done next parts i old c.loop-part-test.true c.part-item.is
+    (parts_grown pool now grown done inv.items) inv.entries (taken.1 ∙ ap (levels_at entries) c.deref.ensures.value) in
     record {
-      long = omega (arith, ap length put, length-append done (next ∷ []), inv.long);
-      entries = subst (λ l. parts_at after l ≡ parts_at entries (take (i + 1) parts)) (sym put) same;
-      items = λ rule are.
-          let here : AreAllItems rule entries c.deref.result.now = subst (AreAllItems rule entries) (sym is) (subst (λ (v : Vec (Vec Item Global) Global). AreAllItems rule entries v.items) (sym c.part-item.is) (are i old inside)) in
-          let before : AreInPool rule after done = subst (λ l. AreInPool rule l done) (sym more.1) (in_pool_more rule pool more.0 done (inv.items rule are)) in
-          subst (AreInPool rule after) (sym put) (All-push (λ (v : Vec (Vec Item Global) Global). AreAllItems rule after v.items) done next before (given.items rule here));
+      long = omega (arith, ap length kept, length-append done (next ∷ []), inv.long);
+      grown = grown_then c.args.pool.now pool inv.grown now grown;
+      items = subst (AreInPool (signature_by now.cuts) now.entries.items) (sym kept) (All-push (λ (v : Vec (Vec Item Global) Global). AreAllItems (signature_by now.cuts) now.entries.items v.items) done next (in_pool_grown pool now grown done inv.items) taken.0);
+      entries = ap (parts_at now.entries.items) kept ∙ same;
     }

@@ -1,6 +1,7 @@
-use Rattle.std.proofs.Common.{◌∙◌, ◌<◌, sym, ap, subst, arith}
+use Rattle.std.proofs.Common.{◌∙◌, ◌<◌, map, sym, ap, subst, arith}
 use Rattle.std.specs.Prelude.{All}
 use Rattle.pref_sky.specs.Items.{parts_at}
+use Rattle.pref_sky.specs.Levels.{HaveDifferentIds, entry_of}
 use Rattle.pref_sky.specs.Members.{Among}
 use Rattle.pref_sky.specs.Partials.{ranked_from}
 use Rattle.pref_sky.specs.Parts.{parts_by}
@@ -21,6 +22,7 @@ invariant_of-result c =
       items = none_in_pool (signature_by c.new.result.cuts) pool parts none;
       parted = λ part r m. absurd (subst (λ l. Among r (ranked_from 1 l)) (none_held pool parts none part) m);
       shallow = omega (arith, depth_none (parts_at pool parts) (none_held pool parts none));
+      ids = subst (λ l. HaveDifferentIds (map entry_of l)) (sym (nothing_held (parts_at pool parts) (none_held pool parts none))) (record { once = λ id. omega arith });
     }
 
 pub returns-clause-nothing : goal.returns-clause-nothing

@@ -55,20 +55,14 @@ each_piece-preserved g c =
           c.in_ok-add.ensures.ok (before ++ inv.done) differ (inv.holds before different none) ∙ ap (λ l. levels over l c.args.cut) (append_assoc before inv.done piece);
     }
 
-pub returns-clause-ids : goal.returns-clause-ids
-returns-clause-ids g c =
-    let over = entry_order (g.D.Dominance.order c.args.dominance.now) in
-    let cut = c.args.cut in
-    let inv = c.each_piece.invariant in
-    let rest = c.each_piece.rest.now in
-    subst (λ l. HaveDifferentIds (map entry_of l)) (sym (inv.holds [] c.requires.ids (levels_of_none over cut)))
-    (first_differ (map entry_of (levels over inv.done cut)) rest (held_differ over inv.done rest cut (subst HaveDifferentIds inv.whole c.requires.ids)))
-
 -- nothing is left
-pub returns-clause-ok : goal.returns-clause-ok
-returns-clause-ok g c = λ before different nothing.
-    let over = entry_order (g.D.Dominance.order c.args.dominance.now) in
-    let inv = c.each_piece.invariant in
-    let none : c.each_piece.rest.now ≡ [] = nil_from_length c.each_piece.rest.now (eqb-true (length c.each_piece.rest.now) 0 (sym c.is_empty.ensures ∙ c.each_piece-test.false)) in
-    let whole : c.args.entries.now ≡ inv.done = inv.whole ∙ (ap (λ l. inv.done ++ l) none ∙ append-nil inv.done) in
-    inv.holds before different nothing ∙ ap (λ l. levels over (before ++ l) c.args.cut) (sym whole)
+pub returns : goal.returns
+returns g c =
+    record {
+      ok = λ before different nothing.
+          let over = entry_order (g.D.Dominance.order c.args.dominance.now) in
+          let inv = c.each_piece.invariant in
+          let none : c.each_piece.rest.now ≡ [] = nil_from_length c.each_piece.rest.now (eqb-true (length c.each_piece.rest.now) 0 (sym c.is_empty.ensures ∙ c.each_piece-test.false)) in
+          let whole : c.args.entries.now ≡ inv.done = inv.whole ∙ (ap (λ l. inv.done ++ l) none ∙ append-nil inv.done) in
+          inv.holds before different nothing ∙ ap (λ l. levels over (before ++ l) c.args.cut) (sym whole);
+    }

@@ -25,5 +25,5 @@ loop-place-preserved c =
     let pushed : c.push_parts.new.ranked.items ≡ found ++ map (at_level (suc place)) here =
     c.in_ok-push_parts.ensures {u = tt} ∙ ap (λ l. found ++ map (at_level (suc place)) (all_at l place)) given in
     let start : length found ≡ c.len-start.result = omega (arith, c.len-start.ensures, c.loop-place.ranked.ok.0) in
-    c.sort_behind.ensures found (suc place) here (all_differ parts c.requires place) start pushed
+    c.sort_behind.ensures found (suc place) here (all_differ parts c.args.self.now.ids place) start pushed
     ∙ (ap (λ l. l ++ one_level (suc place) here) c.loop-place.invariant ∙ ap (ranked_upto (all_at parts)) (sym (add-one place)))

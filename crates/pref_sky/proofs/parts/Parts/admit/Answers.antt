@@ -1,0 +1,42 @@
+use Rattle.std.proofs.Common.{◌∙◌, ◌<◌, ◌^◌, map, sym, subst}
+use Rattle.std.proofs.lemmas.Result.{IfOk-weaker}
+use Rattle.pref_term.specs.Signatures.{Suit}
+use Rattle.pref_sky.specs.Arrivals.{HaveArrived}
+use Rattle.pref_sky.specs.Levels.{HaveDifferentIds, entry_of, entry_order}
+use Rattle.pref_sky.specs.Parts.{ArePartedBy, depth, part_of, ranked_parts}
+use Rattle.pref_sky.specs.Signatures.{signature_by}
+use Rattle.pref_sky.proofs.Pools.{in_pool_grown, parts_grown}
+use Rattle.pref_sky.proofs.parts.Parts.admit.Goals as goal
+
+pub invariant_of-self : goal.invariant_of-self
+invariant_of-self g c =
+    let s = c.renew.new.self in
+    let now = c.arrivals_of.new.pool in
+    let grown = c.arrivals_of.ensures.grown in
+    let same = sym (parts_grown s.pool now grown s.parts.items s.items) in
+    record {
+      within = s.within;
+      long = s.long;
+      items = in_pool_grown s.pool now grown s.parts.items s.items;
+      parted = subst (ArePartedBy (part_of s.columns.items)) same s.parted;
+      shallow = subst (λ l. depth l < 2 ^ 32) same s.shallow;
+      ids = subst (λ l. HaveDifferentIds (map entry_of (ranked_parts l))) same s.ids;
+    }
+
+pub returns-clause-same : goal.returns-clause-same
+returns-clause-same g c =
+    let s = c.renew.new.self in
+    (c.renew.ensures.same.0, parts_grown s.pool c.arrivals_of.new.pool c.arrivals_of.ensures.grown s.parts.items s.items ∙ c.renew.ensures.same.1)
+
+pub returns-clause-arrivals : goal.returns-clause-arrivals
+returns-clause-arrivals g c =
+    let order = g.D.Dominance.order c.args.dominance.now in
+    let s = c.renew.new.self in
+    let now = c.arrivals_of.new.pool in
+    let pool = now.entries.items in
+    let rule = signature_by now.cuts in
+    IfOk-weaker c.arrivals_of.result _ _ (λ arrivals came. (
+      subst (Suit order) (sym c.arrivals_of.ensures.grown.cuts) (c.in_ok-renew.ensures {u = tt}).suit,
+      subst (λ l. HaveArrived (entry_order order) rule c.args.cut l pool s.parts.items c.args.entries.now arrivals.items) c.deref.ensures.value
+          (subst (λ l. HaveArrived (entry_order order) rule c.args.cut c.deref.result.now pool l c.args.entries.now arrivals.items) c.deref-2.ensures.value came),
+    )) c.arrivals_of.ensures.arrivals
