@@ -1,7 +1,8 @@
 use Rattle.std.proofs.Common.{◌≡◌, ◌++◌, map, sym, ◌∙◌, ap, subst}
 use Rattle.std.proofs.lemmas.Result.{IfOk-weaker}
 use Rattle.pref_sky.specs.Levels.{HaveDifferentIds, entry_order, entry_of, levels}
-use Rattle.pref_sky.proofs.Merges.{merge, entry_order_is_strict}
+use Rattle.pref_sky.proofs.Merges.{entry_order_is_strict}
+use Rattle.pref_sky.proofs.SortedLevels.{merge}
 use Rattle.core_tests.proofs.skylines.plain.add_plainly.Goals as goal
 
 pub levels-requires-clause-ids : goal.levels-requires-clause-ids
@@ -19,4 +20,4 @@ returns g c =
     c.deref-2.ensures.value ∙ ((c.in_ok-extend_from_slice.ensures {u = tt}).items ∙ ap (λ l. l ++ c.args.entries.now) (c.in_ok-all.ensures ∙ ap (map entry_of) (c.deref.ensures.value ∙ c.in_ok-held.ensures))) in
     IfOk-weaker c.levels.result _ _ (λ ranked is before different held.
     is ∙ (ap (λ l. levels over l c.args.cut) (all ∙ ap (λ l. map entry_of l ++ c.args.entries.now) held)
-    ∙ merge over strict before c.args.entries.now c.args.cut different (subst (λ l. HaveDifferentIds (map entry_of l ++ c.args.entries.now)) held c.requires.ids))) c.levels.ensures
+    ∙ merge over strict c.args.cut before c.args.entries.now (subst (λ l. HaveDifferentIds (map entry_of l ++ c.args.entries.now)) held c.requires.ids))) c.levels.ensures
