@@ -34,7 +34,7 @@ pub enum Call {
 }
 
 impl Call {
-    /// The same, with its rows lent.
+    /// This call with its rows lent: none is copied.
     pub fn lent(&self) -> LentCall<'_>
         ensures { result ≡ self.now }
     {
@@ -293,7 +293,7 @@ pub enum QueryState {
 impl QueryState {
     ghost use Rattle.pref_core.specs.State.{is_open};
 
-    /// The state of a client that keeps its open query here.
+    /// `Open` where a client keeps an open query here, else `NotOpen`.
     pub fn of<Q>(kept: &Option<Q>) -> QueryState
         ensures { is_open result ≡ is_some kept.now }
     {
@@ -304,7 +304,7 @@ impl QueryState {
     }
 }
 
-/// What becomes of a numbered call.
+/// The outcome of a numbered call.
 #[derive(Clone, Copy, Debug, PartialEq, Eq)]
 pub enum Outcome {
     /// Rows were added, the first of them with this id.
@@ -313,7 +313,7 @@ pub enum Outcome {
     Done,
     /// The table has no row of this id. The call is counted, and no row has changed.
     NoSuchRow(u64),
-    /// This many versions would be needed. The call is counted, and no row has changed.
+    /// There are fewer slots than the versions that would be needed, which are this many. The call is counted, and no row has changed.
     Full(u64),
 }
 
@@ -459,7 +459,7 @@ pub struct Planned<'a> {
 impl Planned<'_> {
     ghost use Rattle.pref_core.specs.Planned.{op_of};
 
-    /// The same, with a call of its own.
+    /// The op with a call of its own: copies the rows that the call lends.
     pub fn op(&self) -> Op
         ensures { result ≡ op_of self.now }
     {

@@ -29,7 +29,7 @@ pub enum Change {
 }
 
 impl Change {
-    /// The same, with its row lent.
+    /// This change with its row lent.
     #[inline(always)]
     pub(crate) fn lent(&self) -> LentChange<'_>
         ensures { change_of result ≡ self.now }

@@ -10,7 +10,7 @@ use pref_term::Ask;
 use std::alloc::{AllocError, Global};
 use std::marker::Model;
 
-/// What a client does.
+/// An action of a client.
 ///
 /// ```text
 /// let hotel = Act::Insert(Row::of(&schema, &[55, 1])?);
@@ -87,7 +87,7 @@ impl BoxedCommit {
 pub struct Event {
     /// The client's number, from 1 on. An event of another number is refused `NoSuchClient`.
     pub client: u8,
-    /// What it does.
+    /// The action.
     pub act: Act,
 }
 
@@ -135,7 +135,7 @@ impl RankedList {
     }
 }
 
-/// What a commit that succeeds returns.
+/// The result of a commit that succeeds.
 #[derive(Clone, Copy, Debug, PartialEq, Eq)]
 pub struct Committed {
     /// How many changes it made.

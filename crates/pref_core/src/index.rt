@@ -14,6 +14,9 @@ use std::marker::Model;
 /// The slot of each row that is in the table now, by id: a hash map beside a store. Contracts see it as its list of
 /// pairs of id and slot.
 ///
+/// It takes 31 to 62 bytes a slot: room for all slots is taken at the opening (for 9, 18, 36 .. rows, 280 bytes for each nine), and where rows
+/// come and go for long it may grow once, to twice that.
+///
 /// [`Store::look_up`] goes by it, and [`Store::reindex`] keeps it that of the store. (this project)
 pub struct Index {
     slots: IndexMap<u64, usize>,

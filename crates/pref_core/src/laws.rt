@@ -6,8 +6,8 @@ ghost use Rattle.pref_core.specs.Laws.{DeletesNeedNoMore, EndsNeedNoMore, Needed
 ghost use Rattle.pref_core.specs.Queries.{NextBlockIsNew, AnswersTheBegin};
 ghost use Rattle.pref_core.specs.Stability.{IsStable};
 
-/// What a block shows at an open query's begin stays the same after every list of operations that does not
-/// end this query, though slots are used again.
+/// A block shows the same entries, as of an open query's begin, after every list of operations that does not end this
+/// query, though slots are used again.
 pub fn blocks_stay()
     ensures { IsStable }
 {}
@@ -49,7 +49,7 @@ pub fn next_block_is_new()
     ensures { NextBlockIsNew }
 {}
 
-/// What a query answers is its question's answer of the table at its begin, whatever was done to the store since.
+/// A query's answer is that of its question over the table at its begin, whatever was done to the store since.
 pub fn answers_the_begin()
     ensures { AnswersTheBegin }
 {}

@@ -96,7 +96,7 @@ impl Query {
         self.add(alloc, &shown)
     }
 
-    /// What the next block shows, copied out of the store, so that [`add`](Query::add) needs no store.
+    /// The entries that the next block shows, copied out of the store, so that [`add`](Query::add) needs no store.
     ///
     /// Refused `AllScanned` where no block is left, else `OutOfMemory`. Cost: each slot of the
     /// block once.
@@ -109,7 +109,7 @@ impl Query {
         Ok(store.block(alloc, self.done, self.size, self.stamp)?)
     }
 
-    /// Adds what the next block shows, as [`read`](Query::read) copied it out, and returns how many blocks are left.
+    /// Adds the entries that the next block shows, as [`read`](Query::read) copied it out, and returns how many blocks are left.
     ///
     /// Refused `OutOfMemory`; the query is then as it was.
     pub fn add(&mut self, alloc: Global, shown: &[Entry]) -> Result<u32, CoreFault>

@@ -122,7 +122,8 @@ impl Store {
         self.contents.row_in(self.contents.place_of(None, id))
     }
 
-    /// The same by an index of this store, which is looked up where another row is at the id's home.
+    /// The row of this id, found by an index of this store: looks at the id's home, and at the index where another row is there. `None` where
+    /// the table has no such row. Constant in the slots; takes no memory.
     pub fn get_at(&self, index: &Index, id: u64) -> Option<Row>
         requires { IsIndexOf self.now index.now }
         ensures { (state : State) → StandsFor self.now state → result ≡ option_map (λ line. line.row) (line_of state.table id) }
@@ -138,7 +139,7 @@ impl Store {
         reads::index_rows(alloc, &self.contents.slots, self.contents.stamp)
     }
 
-    /// What the slots of a block show at a stamp: those from `block` times `size` up to before the next block's
+    /// The entries that the slots of a block show at a stamp: those from `block` times `size` up to before the next block's
     /// or the last slot. Reads these slots alone. `Err` is out of memory.
     pub fn block(
         &self,
@@ -164,7 +165,7 @@ impl Store {
         self.contents.free()
     }
 
-    /// What becomes of a call, and where its new rows go. Changes nothing.
+    /// Plans a call: its outcome, and the slots of its new rows. Changes nothing.
     ///
     /// Refused `NoSuchClient`, `Spent`, `QueryOpen` or `NoQuery`, and then the call has no number. Else an operation
     /// that is legal here, whose outcome may be that the row is missing or the table full. Finds each row as

@@ -15,7 +15,7 @@ use pref_table::Row;
 use std::alloc::Global;
 use std::sync::{Mutex, Wait};
 
-/// What the clients of one table share. It is not `Drop`, since the writer to its readers is not: end it by
+/// A table that its clients share. It is not `Drop`, since the writer to its readers is not: end it by
 /// [`close`](Board::close).
 ///
 /// ```text
@@ -35,7 +35,7 @@ impl<J: Naming> Board<J> {
     }
 }
 
-/// Opens a table with these rows under a new name, and gives its clients, in order of number.
+/// Opens a table with these rows under a new name, and returns the board with its clients, in order of number.
 ///
 /// Refused `Full` where there are more rows than slots, else `OutOfMemory`. `Closed` comes where no
 /// reader is given or a board was opened under this name before, which cannot be. Nothing is kept then. Cost: two

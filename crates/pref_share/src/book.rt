@@ -37,13 +37,13 @@ impl Rule<Entry, u64> for Law {
     ghost moves = { λ ask before after answer. Unit {0} };
 }
 
-/// What shows that the book reached some entries. It has no bytes.
+/// A proof that the book reached some entries. It has no bytes.
 pub(crate) type Entries = Seen<Entry, u64, Law>;
 
 /// The word of the book.
 pub(crate) type Turn = Word<Entry, u64, Law>;
 
-/// What shows that the book reached a history. It has no bytes.
+/// A proof that the book reached a history. It has no bytes.
 pub struct Token {
     seen: Entries,
 }
@@ -180,7 +180,8 @@ pub(crate) fn new_pen(turn: &Turn, seen: &Entries) -> (Pen, bool)
     (pen, found == 0)
 }
 
-/// Which board it is: the book of its history, and what it opens with. Whoever opens a board picks it.
+/// The identity of a board in contracts: the book of its history, its setup and its opening rows. Code that works with any board is generic
+/// over it, as below; nobody but this crate implements it. Where a board is opened, `Brand` stands for it, beside [`Name::new`].
 ///
 /// ```text
 /// fn insert<J: Naming, R: Wait + AllocGlobal>(rt: &R, board: &Board<J>, desk: &mut Client<J>, hotel: Row) -> Result<u64, ShareFault> {
@@ -204,7 +205,7 @@ impl Naming for Brand {
     ghost opening = { record { limits = record { clients = 0; capacity = 0; block = 0; window = 0 }; rows = [] } };
 }
 
-/// The name of a board: a book with an empty history. It takes no memory.
+/// The name of a board that is not open yet: a book with an empty history. One board is opened under it. It takes no memory.
 ///
 /// ```text
 /// run_board::<Brand, _>(&rt, Name::new(), setup, &schema, &hotels)

@@ -156,7 +156,7 @@ impl<J: Naming> Client<J> {
         self.seen.len()
     }
 
-    /// What it has seen, for other clients to hear. Takes no memory and never waits.
+    /// A word of all that the client has seen, for other clients to hear. It is eight bytes; takes no memory and never waits.
     ///
     /// ```text
     /// desk.insert(rt, alloc, &board, hotel)?;

@@ -24,11 +24,11 @@ use std::sync::Wait;
 use std::thread;
 use std::thread::Threads;
 
-/// What holds up each act, and is informed of it.
+/// A gate is asked before each act of a client, and informed after it.
 pub trait Gate {
     ghost use Rattle.std.specs.Prelude.{ℕ, Bool};
 
-    /// What is so whenever this gate gives an answer, by the client's number, its turn and the answer. The author of a gate picks it,
+    /// The promise of this gate about each answer, by the client's number, its turn and the answer. The author of a gate picks it,
     /// and `before` is proved to keep it: `answer ≡ true` for a gate that holds no client.
     ghost says: { Self → ℕ → ℕ → Bool → Type 0 };
 
@@ -36,11 +36,11 @@ pub trait Gate {
     fn before(&self, client: u8, turn: usize) -> bool
         ensures { says self.now client turn result };
 
-    /// Called once the act is answered.
+    /// Called once the act has its reply.
     fn after(&self, client: u8, turn: usize);
 }
 
-/// What came of a client's acts: the client, the replies to those that it did, and why it stopped, where it did not do them all.
+/// The report of a client's run: the client, the replies to the acts that it did, and why it stopped, where it did not do them all.
 ///
 /// The client may go on, by its own calls or in another run.
 #[derive(Drop)]

@@ -7,7 +7,7 @@ use pref_core::{Act, Reply};
 use std::alloc::{AllocError, Global};
 use std::vec::IntoIter;
 
-/// What a client does: its acts, which come one by one, and the replies, each of which is taken before the next act comes.
+/// A task of a client: it gives its acts one by one, and takes the reply to each before it gives the next.
 pub trait Task {
     ghost use Rattle.std.specs.Prelude.{◌≡◌, ◌++◌, ◌∷◌, [], List, MatchOption, IfOk, OnOk};
     ghost use Rattle.pref_core.specs.declared.event.Act.{Act as ActValue};
@@ -16,8 +16,7 @@ pub trait Task {
     /// The acts that have not come.
     ghost left: { Self → List ActValue };
 
-    /// What is so of a task as it was at first and as it is now where these replies were taken since, and no others. The author of a
-    /// task picks it.
+    /// A relation between a task as it was at first, as it is now, and the replies that it took in between. The author of a task picks it.
     ghost took: { Self → Self → List ReplyValue → Type 0 };
 
     /// The next act, if one is left. Refused where there is no memory for it.

@@ -30,7 +30,7 @@ pub fn order_does_not_matter()
         → answer_of ask xs ≡ answer_of ask ys }
 {}
 
-/// What is held of entries has no id that the new ones have.
+/// The entries of the levels of a list have no ids that new entries have, where the list has none of these.
 #[tactic(auto, using(crate::proofs::LevelLaws::held_differ))]
 pub fn held_ids_differ()
     ensures { (over : Entry → Entry → Bool) (before new : List Entry) (cut : ℕ)

@@ -108,7 +108,7 @@ impl Partial {
     ghost use Rattle.pref_sky.specs.Partials.{ranked_from};
     ghost use Rattle.pref_sky.specs.declared.entry.Entry.{Entry};
 
-    /// What is held before anything was added: the levels of no entries. Takes no memory.
+    /// A partial result to which nothing was added: the levels of no entries. Takes no memory.
     #[tactic(auto, using(crate::proofs::LevelLaws::levels_of_none))]
     pub fn empty() -> Partial
         ensures nothing { result ≡ [] }

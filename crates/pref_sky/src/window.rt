@@ -10,7 +10,7 @@ use pref_term::Dominance;
 use std::alloc::{AllocError, Global};
 use std::marker::Model;
 
-/// What became of an entry that was offered to a window.
+/// How an offer of an entry to a window ended.
 #[derive(Clone, Copy, Debug, PartialEq, Eq)]
 pub enum Offer {
     /// Something that the window holds dominates it. The window is as before.

@@ -86,7 +86,7 @@ fn read<J: Naming, T, F: FnOnce(&Store) -> T>(
     )
 }
 
-/// The same with a reader that is handed over and back.
+/// [`read`] with a reader that is handed over and back.
 fn looked<J: Naming, T, F: FnOnce(&Store) -> T>(
     reader: StoreReader,
     seen: &Prefix<J>,
