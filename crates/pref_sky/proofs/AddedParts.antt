@@ -1,25 +1,12 @@
 -- What an addition makes of parts: each holds the levels of what it held and of what came to it.
-use Rattle.std.proofs.Common.{◌≡◌, ℕ, zero, suc, ◌≤◌, ◌+◌, ◌-◌, Bool, true, cond, not, inl, inr, ◌⊎◌, List, [], ◌∷◌, ◌++◌, length, take, drop, filter, map, eqb, refl, sym, ◌∙◌, ap, subst, arith, append-nil, Vec, Global}
-use Rattle.std.specs.Prelude.{All}
-use Rattle.std.proofs.lemmas.Bool.{cases_Bool, cond-true, cond-false}
-use Rattle.std.proofs.lemmas.List.{length-map, map-append, take-map, drop-map}
-use Rattle.std.proofs.lemmas.List.Elements.{All-append, All-drop, All-take, filter-append}
-use Rattle.std.proofs.lemmas.List.Sums.{sum_by-append}
-use Rattle.pref_term.specs.Order.{IsStrictOrder}
-use Rattle.pref_sky.specs.declared.arrival.Arrival.{Arrival}
-use Rattle.pref_sky.specs.declared.entry.Entry.{Entry}
-use Rattle.pref_sky.specs.declared.making.Made.{Made}
-use Rattle.pref_sky.specs.Arrivals.{KeepsUpper, arrived, coming_to}
-use Rattle.pref_sky.specs.Best.{best, is_beaten, rest}
-use Rattle.pref_sky.specs.Items.{AreAllItems, AreInPool, AreItems, entries_at, levels_at, levels_in, parts_at}
-use Rattle.pref_sky.specs.declared.item.Item.{Item}
-use Rattle.pref_sky.specs.Levels.{HaveDifferentIds, entry_of, levels}
-use Rattle.pref_sky.specs.Made.{ArePartsMade, ArePut, IsPartMade, LeaveAlone, new_levels}
-use Rattle.pref_sky.specs.Partials.{IsBehind, IsMade, held_at, replaced}
-use Rattle.pref_sky.specs.Parts.{ArePartedBy, depth, is_in, levels_of, ranked_parts, ranked_upto}
+use Rattle.pref_sky.proofs.Common.{◌≡◌, ℕ, zero, suc, ◌≤◌, ◌+◌, ◌-◌, Bool, true, cond, not, inl, inr, ◌⊎◌, List, [], ◌∷◌, ◌++◌, length, take, drop, filter, map, eqb, refl, sym, ◌∙◌, ap, subst, arith}
+use Rattle.pref_sky.proofs.Common.{append-nil, Vec, Global, All, cases_Bool, cond-true, cond-false, length-map, map-append, take-map, drop-map, All-append, All-drop, All-take, filter-append}
+use Rattle.pref_sky.proofs.Common.{sum_by-append, IsStrictOrder, Arrival, Entry, Made, KeepsUpper, arrived, coming_to, best, is_beaten, rest, AreAllItems, AreInPool, AreItems, entries_at, levels_at}
+use Rattle.pref_sky.proofs.Common.{levels_in, parts_at, Item, HaveDifferentIds, entry_of, levels, ArePartsMade, ArePut, IsPartMade, LeaveAlone, new_levels, IsBehind, IsMade, held_at, replaced}
+use Rattle.pref_sky.proofs.Common.{ArePartedBy, depth, is_in, levels_of, ranked_parts, ranked_upto, Among}
 use Rattle.pref_sky.proofs.Halves.{beaten_by_rest}
 use Rattle.pref_sky.proofs.LevelLaws.{first_differ}
-use Rattle.pref_sky.proofs.Members.{Among, all_among, among_all, any_from, any_gives, from_filter}
+use Rattle.pref_sky.proofs.Members.{all_among, among_all, any_from, any_gives, from_filter}
 use Rattle.pref_sky.proofs.Merges.{different_filter}
 use Rattle.pref_sky.proofs.PartItems.{Part, in_pool_if, in_pool_of, levels_of_at, same_or_not}
 use Rattle.pref_sky.proofs.PartLaws.{IsWithin, NoMore, depth_within, hold_apart, hold_together, level_in_part, within_depth}

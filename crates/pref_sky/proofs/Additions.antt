@@ -1,16 +1,7 @@
 -- An addition to parts, from what arrived to what they hold.
-use Rattle.std.proofs.Common.{◌≡◌, ℕ, ◌<◌, Bool, List, ◌++◌, length, map, filter, sym, ◌∙◌, subst, arith}
-use Rattle.std.specs.Prelude.{All}
-use Rattle.pref_term.specs.Order.{IsStrictOrder}
-use Rattle.pref_sky.specs.declared.arrival.Arrival.{Arrival}
-use Rattle.pref_sky.specs.declared.entry.Entry.{Entry}
-use Rattle.pref_sky.specs.declared.making.Made.{Made}
-use Rattle.pref_sky.specs.Arrivals.{AreComing, HaveArrived, IsArrival, StartsAt, arrived}
-use Rattle.pref_sky.specs.Items.{levels_at, levels_in, parts_at}
-use Rattle.pref_sky.specs.Levels.{HaveDifferentIds, entry_of, levels}
-use Rattle.pref_sky.specs.Made.{ArePartsMade, ArePut}
-use Rattle.pref_sky.specs.Partials.{IsMade}
-use Rattle.pref_sky.specs.Parts.{ArePartedBy, is_in, levels_of, part_of, parts_by, ranked_parts}
+use Rattle.pref_sky.proofs.Common.{◌≡◌, ℕ, ◌<◌, Bool, List, ◌++◌, length, map, filter, sym, ◌∙◌, subst, arith, All, IsStrictOrder, Arrival, Entry, Made, AreComing, HaveArrived, IsArrival, StartsAt}
+use Rattle.pref_sky.proofs.Common.{arrived, levels_at, levels_in, parts_at, HaveDifferentIds, entry_of, levels, ArePartsMade, ArePut, IsMade, ArePartedBy, is_in, levels_of, part_of, parts_by}
+use Rattle.pref_sky.proofs.Common.{ranked_parts}
 use Rattle.pref_sky.proofs.AddedParts.{added, coming_of, no_more, part_after, some_differ, upper_levels}
 use Rattle.pref_sky.proofs.LevelLaws.{first_differ}
 use Rattle.pref_sky.proofs.Members.{all_among, among_all}

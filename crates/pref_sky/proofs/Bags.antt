@@ -1,10 +1,6 @@
 -- What is among a list of items is counted in it, and lists that are counted alike are as long.
-use Rattle.std.proofs.Common.{◌≡◌, ℕ, ◌<◌, ◌+◌, Bool, cond, ◌&&◌, ◌⊎◌, inl, inr, List, [], ◌∷◌, length, refl, ◌∙◌, ap, arith, eqb, eq-eqb}
-use Rattle.std.specs.List.{sum_by}
-use Rattle.std.proofs.lemmas.Bool.{and_from, and_parts, cases_Bool, eqb-true}
-use Rattle.std.proofs.lemmas.List.Sums.{sum_by-cons}
-use Rattle.pref_sky.specs.declared.item.Item.{Item}
-use Rattle.pref_sky.proofs.Members.{Among}
+use Rattle.pref_sky.proofs.Common.{◌≡◌, ℕ, ◌<◌, ◌+◌, Bool, cond, ◌&&◌, ◌⊎◌, inl, inr, List, [], ◌∷◌, length, refl, ◌∙◌, ap, arith, eqb, eq-eqb, sum_by, and_from, and_parts, cases_Bool, eqb-true}
+use Rattle.pref_sky.proofs.Common.{sum_by-cons, Item, Among}
 use Rattle.pref_sky.proofs.Orders.{one_passes}
 
 abbrev same_item : Item → Item → Bool

@@ -1,22 +1,9 @@
 -- The order of entries that two chains say is stairs. That in which entries are kept is a chain, and lists in it are in the order of the stairs.
-use Rattle.std.proofs.Common.{Bor, Ordering, ◌≡◌, ◌<◌, ◌≤◌, Bool, false, true, not, ℕ, suc, inl, inr, List, [], ◌∷◌, length, get_or, ◌∙◌, ap, subst, arith}
-use Rattle.std.specs.Prelude.{nat_lt}
+use Rattle.pref_sky.proofs.Common.{Bor, Ordering, ◌≡◌, ◌<◌, ◌≤◌, Bool, false, true, not, ℕ, suc, inl, inr, List, [], ◌∷◌, length, get_or, ◌∙◌, ap, subst, arith, nat_lt, Called, IsSortedByClosure}
+use Rattle.pref_sky.proofs.Common.{is_lt, cases_lt, always_returns_same, sorted_far, Mut, chain_order, IsStrictOrder, AreInOrder, comes_before, own_order, entry_at, AreStairs, IsChain, IsInOrder}
+use Rattle.pref_sky.proofs.Common.{by_row, comes_first, first_within, in_turn, second_within, tie_or_twin, ChainOrder, Entry}
 use Rattle.std.specs.Cmp.{IsStrictWeakOrder}
-use Rattle.std.specs.Fn.{Called}
-use Rattle.std.specs.List.Sorted.{IsSortedByClosure}
-use Rattle.std.specs.Ordering.{is_lt}
-use Rattle.std.proofs.lemmas.Bool.{cases_lt}
-use Rattle.std.proofs.lemmas.Fn.{always_returns_same}
-use Rattle.std.proofs.lemmas.List.Sorted.{sorted_far}
-use denote.Param.Members.{Mut}
 use Rattle.pref_term.specs.ChainOrder.{chain_order_is_product}
-use Rattle.pref_term.specs.Chains.{chain_order}
-use Rattle.pref_term.specs.Order.{IsStrictOrder}
-use Rattle.pref_sky.specs.ChainOrders.{AreInOrder, comes_before, own_order}
-use Rattle.pref_sky.specs.Items.{entry_at}
-use Rattle.pref_sky.specs.Stairs.{AreStairs, IsChain, IsInOrder, by_row, comes_first, first_within, in_turn, second_within, tie_or_twin}
-use Rattle.pref_sky.specs.declared.chain_order.ChainOrder.{ChainOrder}
-use Rattle.pref_sky.specs.declared.entry.Entry.{Entry}
 use Rattle.pref_sky.proofs.ChainStairs.{entries_are_stairs, places_chain}
 use Rattle.pref_sky.proofs.Members.{place_of}
 use Rattle.pref_sky.proofs.MergedLists.{in_order_at}

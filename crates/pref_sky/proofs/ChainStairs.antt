@@ -1,22 +1,14 @@
 -- Lists of keys are chains, and an order that is the product of two of them within groups is stairs.
-use Rattle.std.proofs.Common.{◌≡◌, ℤ, ℕ, Bool, true, false, not, ◌&&◌, ◌||◌, List, [], ◌∷◌, refl, sym, ◌∙◌, ap, subst, arith}
-use Rattle.std.specs.Prelude.{int_lt, nat_lt}
-use Rattle.std.specs.Ordering.{int_eq}
+use Rattle.pref_sky.proofs.Common.{◌≡◌, ℤ, ℕ, Bool, true, false, not, ◌&&◌, ◌||◌, List, [], ◌∷◌, refl, sym, ◌∙◌, ap, subst, arith, int_lt, nat_lt, int_eq, nat_tests, cell, in_same_group, IsProductOf}
+use Rattle.pref_sky.proofs.Common.{by_chain, by_chains, first_chain, second_chain, tie_chain, RowOrder, is_better, is_same, is_worse, entry_order, AreStairs, IsChain, IsLine, are_level, better_in}
+use Rattle.pref_sky.proofs.Common.{by_row, earlier_in, earlier_twin, first_within, in_turn, second_within, tie_or_twin, AreChain, IsStairs, OrderGroups, Entry}
 use Rattle.std.proofs.lemmas.Int.{ints}
-use Rattle.std.proofs.lemmas.Bool.Decides.{nat_tests}
-use Rattle.pref_term.specs.Better.{cell, in_same_group}
-use Rattle.pref_term.specs.Chains.{IsProductOf, by_chain, by_chains, first_chain, second_chain, tie_chain}
 use Rattle.pref_term.specs.Keys.{keyed}
-use Rattle.pref_term.specs.Order.{RowOrder, is_better, is_same, is_worse}
 use Rattle.pref_term.specs.RelationLaws.{priority-same, product-same}
 use Rattle.pref_term.specs.Walk.{by_scores, by_sides, in_product, in_priority}
 use Rattle.pref_term.specs.declared.chains.Chains.{Chains}
 use Rattle.pref_term.specs.declared.key.Key.{Key}
 use Rattle.pref_term.specs.declared.relation.Relation.{Relation}
-use Rattle.pref_sky.specs.Levels.{entry_order}
-use Rattle.pref_sky.specs.Stairs.{AreStairs, IsChain, IsLine, are_level, better_in, by_row, earlier_in, earlier_twin, first_within, in_turn, second_within, tie_or_twin}
-use Rattle.pref_sky.specs.StairLaws.{AreChain, IsStairs, OrderGroups}
-use Rattle.pref_sky.specs.declared.entry.Entry.{Entry}
 use Rattle.pref_sky.proofs.StairLaws.{chain_in_turn, line_of_one, serves_groups}
 
 -- ---- chains

@@ -1,25 +1,9 @@
 -- One entry more comes to parts, and what comes is put in order.
-use Rattle.std.proofs.Common.{Bor, ◌≡◌, ◌∙◌, ℕ, ◌≤◌, ◌<◌, ◌+◌, Bool, false, cond, inl, inr, List, [], ◌∷◌, ◌++◌, Vec, Global, get_or, length, map, refl, sym, ap, subst, arith}
-use Rattle.std.specs.Fn.{Called}
-use Rattle.std.specs.List.Sorted.{IsPermutation, IsSortedBy, IsSortedByKeyClosure}
-use Rattle.std.specs.Ordering.{is_lt, nat_cmp, ordering_then}
-use Rattle.std.specs.Prelude.{All, count_by}
-use Rattle.std.proofs.lemmas.Bool.Decides.{nat_tests}
-use Rattle.std.proofs.lemmas.Fn.{always_returns_same}
-use Rattle.std.proofs.lemmas.List.{map-append}
-use Rattle.std.proofs.lemmas.List.Elements.{All-push}
-use Rattle.std.proofs.lemmas.List.Sorted.{sum_by-IsPermutation}
-use Rattle.std.proofs.lemmas.List.Sums.{sum_by-append}
-use denote.Param.Members.{Mut}
-use Rattle.pref_sky.specs.declared.entry.Entry.{Entry}
-use Rattle.pref_sky.specs.declared.item.Item.{Item}
-use Rattle.pref_sky.specs.declared.pool.Pool.{Pool}
-use Rattle.pref_sky.specs.Signatures.{signature_by}
-use Rattle.pref_sky.specs.declared.arrival.Arrival.{Arrival}
-use Rattle.pref_sky.specs.Arrivals.{AreDealt, IsArrival, KeepsUpper, arrived, deals_before}
-use Rattle.pref_sky.specs.Items.{AreAllItems, AreInPool, HasGrown, IsItem, levels_at, parts_at}
-use Rattle.pref_sky.specs.Partials.{IsBehind}
-use Rattle.pref_sky.specs.Parts.{levels_of}
+use Rattle.pref_sky.proofs.Common.{Bor, ◌≡◌, ◌∙◌, ℕ, ◌≤◌, ◌<◌, ◌+◌, Bool, false, cond, inl, inr, List, [], ◌∷◌, ◌++◌, Vec, Global, get_or, length, map, refl, sym, ap, subst, arith, Called}
+use Rattle.pref_sky.proofs.Common.{IsPermutation, IsSortedBy, IsSortedByKeyClosure, is_lt, nat_cmp, ordering_then, All, nat_tests, always_returns_same, map-append, All-push, sum_by-IsPermutation}
+use Rattle.pref_sky.proofs.Common.{sum_by-append, Mut, Entry, Item, Pool, signature_by, Arrival, AreDealt, IsArrival, KeepsUpper, arrived, deals_before, AreAllItems, AreInPool, HasGrown, IsItem}
+use Rattle.pref_sky.proofs.Common.{levels_at, parts_at, IsBehind, levels_of}
+use Rattle.std.specs.Prelude.{count_by}
 use Rattle.pref_sky.proofs.Members.{all_among, in_either, in_left, in_right, map_agree_among}
 use Rattle.pref_sky.proofs.Orders.{same_if_permuted}
 use Rattle.pref_sky.proofs.Pools.{entry_grown, item_grown, levels_grown, part_here}

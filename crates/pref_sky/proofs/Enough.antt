@@ -1,17 +1,9 @@
 -- k levels always hold enough for an ask for at least k.
-use Rattle.std.proofs.Common.{◌≡◌, ℕ, zero, suc, ◌≤◌, ◌<◌, ◌+◌, Bool, true, false, cond, not, ◌&&◌, ◌⊎◌, inl, inr, List, [], ◌∷◌, ◌++◌, map, length, ltb, refl, sym, ◌∙◌, ap, subst, arith, filter, append-nil}
-use Rattle.std.proofs.lemmas.Bool.{cases_Bool, cases_lt, and_parts, and_from, not_from_false, lt-ltb, le-ltb}
-use Rattle.std.proofs.lemmas.List.Sums.{sum_by-append, length-filter}
-use Rattle.std.proofs.lemmas.List.Elements.{filter-append}
+use Rattle.pref_sky.proofs.Common.{◌≡◌, ℕ, zero, suc, ◌≤◌, ◌<◌, ◌+◌, Bool, true, false, cond, not, ◌&&◌, ◌⊎◌, inl, inr, List, [], ◌∷◌, ◌++◌, map, length, ltb, refl, sym, ◌∙◌, ap, subst, arith, filter}
+use Rattle.pref_sky.proofs.Common.{append-nil, cases_Bool, cases_lt, and_parts, and_from, not_from_false, lt-ltb, le-ltb, sum_by-append, length-filter, filter-append, IsStrictOrder, Row, Entry}
+use Rattle.pref_sky.proofs.Common.{Ranked, is_beaten, best, without_best, rest, in_order_of_id, at_level, levels, count_before, at_least, Among}
 use Rattle.std.proofs.lemmas.List.Filters.{length-filter_both}
-use Rattle.pref_term.specs.Order.{IsStrictOrder}
-use Rattle.pref_table.specs.declared.row.Row.{Row}
-use Rattle.pref_sky.specs.declared.entry.Entry.{Entry}
-use Rattle.pref_sky.specs.declared.entry.Ranked.{Ranked}
-use Rattle.pref_sky.specs.Best.{is_beaten, best, without_best, rest}
-use Rattle.pref_sky.specs.Levels.{in_order_of_id, at_level, levels}
-use Rattle.pref_sky.specs.Answers.{count_before, at_least}
-use Rattle.pref_sky.proofs.Members.{Among, in_filter, from_filter, in_either, from_map}
+use Rattle.pref_sky.proofs.Members.{in_filter, from_filter, in_either, from_map}
 use Rattle.pref_sky.proofs.Removals.{comes_after, comes_after_upto, unbeaten_over, best_of_rest_is}
 use Rattle.pref_sky.proofs.Orders.{one_passes, among_in_order, from_in_order}
 use Rattle.pref_sky.proofs.Merges.{is_at}

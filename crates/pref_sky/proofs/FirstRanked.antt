@@ -1,18 +1,10 @@
 -- Of ranked entries in order of level: the first levels that hold so many together.
-use Rattle.std.proofs.Common.{◌≡◌, ℕ, zero, suc, ◌≤◌, ◌<◌, ◌+◌, Bool, true, false, cond, List, [], ◌∷◌, ◌++◌, map, length, get_or, take, drop, filter, leb, ltb, sym, ◌∙◌, ap, arith, append-nil}
-use Rattle.std.specs.List.Sorted.{IsNonDecreasingBy, IsPartitionPoint}
-use Rattle.std.proofs.lemmas.Bool.{le-ltb, lt-ltb, leb-true, leb-false}
-use Rattle.std.proofs.lemmas.List.{get_or-drop, get_or-take, get_or_default, length-drop, length-take-le, take-append-drop}
-use Rattle.std.proofs.lemmas.List.Elements.{filter-append}
-use Rattle.std.proofs.lemmas.List.Sums.{count_by-le-length, length-filter, sum_by-take-drop}
-use Rattle.pref_term.specs.Better.{in_same_group}
-use Rattle.pref_sky.specs.declared.entry.Entry.{Entry}
-use Rattle.pref_sky.specs.declared.entry.Ranked.{Ranked}
-use Rattle.pref_sky.specs.Answers.{at_least, count_before}
-use Rattle.pref_sky.specs.Best.{best, rest}
-use Rattle.pref_sky.specs.Levels.{at_level, in_order_of_id, levels}
+use Rattle.pref_sky.proofs.Common.{◌≡◌, ℕ, zero, suc, ◌≤◌, ◌<◌, ◌+◌, Bool, true, false, cond, List, [], ◌∷◌, ◌++◌, map, length, get_or, take, drop, filter, leb, ltb, sym, ◌∙◌, ap, arith, append-nil}
+use Rattle.pref_sky.proofs.Common.{IsNonDecreasingBy, IsPartitionPoint, le-ltb, lt-ltb, leb-true, leb-false, get_or-drop, get_or-take, get_or_default, length-drop, length-take-le, take-append-drop}
+use Rattle.pref_sky.proofs.Common.{filter-append, count_by-le-length, length-filter, sum_by-take-drop, in_same_group, Entry, Ranked, at_least, count_before, best, rest, at_level, in_order_of_id}
+use Rattle.pref_sky.proofs.Common.{levels, Among}
 use Rattle.pref_sky.proofs.Enough.{all_pass, levels_upto, none_pass}
-use Rattle.pref_sky.proofs.Members.{Among, among_place, from_map, place_of}
+use Rattle.pref_sky.proofs.Members.{among_place, from_map, place_of}
 use Rattle.pref_sky.proofs.Orders.{RisesBy}
 use Rattle.pref_sky.proofs.Ranks.{rises_beside}
 

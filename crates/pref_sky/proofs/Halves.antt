@@ -1,7 +1,5 @@
 -- Something of what n removals leave is over an entry just where a chain of n + 1 entries stands over it. So where a level is over it, each level before is.
-use Rattle.std.proofs.Common.{◌≡◌, ℕ, suc, Bool, List, ◌∙◌, ap}
-use Rattle.pref_sky.specs.declared.entry.Entry.{Entry}
-use Rattle.pref_sky.specs.Best.{is_beaten, rest}
+use Rattle.pref_sky.proofs.Common.{◌≡◌, ℕ, suc, Bool, List, ◌∙◌, ap, Entry, is_beaten, rest}
 use Rattle.pref_sky.proofs.Removals.{any_filter, comes_after, rest_is}
 
 -- what n removals leave is over an entry just where a chain of n + 1 entries stands over it

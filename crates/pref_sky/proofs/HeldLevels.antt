@@ -1,13 +1,7 @@
 -- Lists with the same members have the same best, and entries that others are over change nothing of the best.
-use Rattle.std.proofs.Common.{◌≡◌, ◌≤◌, ◌+◌, Bool, true, false, cond, not, inl, inr, List, ◌++◌, sym, ◌∙◌, ap, arith, eqb}
-use Rattle.std.specs.List.{count_by}
-use Rattle.std.proofs.lemmas.Bool.{both_ways, not-true, not_from_false, false_from_ne_true}
-use Rattle.std.proofs.lemmas.List.Sums.{sum_by-append}
-use Rattle.pref_term.specs.Order.{IsStrictOrder}
-use Rattle.pref_sky.specs.declared.entry.Entry.{Entry}
-use Rattle.pref_sky.specs.Best.{IsApart, best, is_beaten, without_best}
-use Rattle.pref_sky.specs.Levels.{HaveDifferentIds, in_order_of_id}
-use Rattle.pref_sky.proofs.Members.{Among, any_from, any_gives, in_filter, from_filter, in_left, in_right, in_either}
+use Rattle.pref_sky.proofs.Common.{◌≡◌, ◌≤◌, ◌+◌, Bool, true, false, cond, not, inl, inr, List, ◌++◌, sym, ◌∙◌, ap, arith, eqb, count_by, both_ways, not-true, not_from_false, false_from_ne_true}
+use Rattle.pref_sky.proofs.Common.{sum_by-append, IsStrictOrder, Entry, IsApart, best, is_beaten, without_best, HaveDifferentIds, in_order_of_id, Among}
+use Rattle.pref_sky.proofs.Members.{any_from, any_gives, in_filter, from_filter, in_left, in_right, in_either}
 use Rattle.pref_sky.proofs.Removals.{same_answer}
 use Rattle.pref_sky.proofs.Orders.{SameMembers, from_in_order}
 

@@ -1,16 +1,9 @@
 -- The order of items is strict, whatever their signatures are.
-use Rattle.std.proofs.Common.{◌≡◌, ◌<◌, ◌≤◌, ◌^◌, ℕ, true, ◌&&◌, List, length, ◌∙◌, ap, arith, ltb, eq-eqb, w64}
-use Rattle.std.proofs.lemmas.Bool.{and_parts, and_from, and_right, ltb-true, eqb-true, lt-ltb}
-use Rattle.std.specs.Prelude.{bit_and, min}
+use Rattle.pref_sky.proofs.Common.{◌≡◌, ◌<◌, ◌≤◌, ◌^◌, ℕ, true, ◌&&◌, List, length, ◌∙◌, ap, arith, ltb, eq-eqb, w64, and_parts, and_from, and_right, ltb-true, eqb-true, lt-ltb, bit_and, min}
+use Rattle.pref_sky.proofs.Common.{IsStrictOrder, RowOrder, is_within, Entry, Item, IsItem, entry_at, is_word, item_order, place_order, entry_order}
 use Rattle.std.specs.Int.{bit_at, bit_not}
 use Rattle.std.proofs.lemmas.Nat.{and_le_l}
 use Rattle.std.proofs.lemmas.Nat.Bits.{bit_at_and, bit_at_not, bit_at-zero, bit_at-lt, same_from_bits_below}
-use Rattle.pref_term.specs.Order.{IsStrictOrder, RowOrder}
-use Rattle.pref_term.specs.Signatures.{is_within}
-use Rattle.pref_sky.specs.declared.entry.Entry.{Entry}
-use Rattle.pref_sky.specs.declared.item.Item.{Item}
-use Rattle.pref_sky.specs.Items.{IsItem, entry_at, is_word, item_order, place_order}
-use Rattle.pref_sky.specs.Levels.{entry_order}
 use Rattle.pref_sky.proofs.Removals.{same_answer}
 
 pub place_order_is_strict : (order : RowOrder) (pool : List Entry) → IsStrictOrder (entry_order order) → IsStrictOrder (place_order order pool)

@@ -1,13 +1,8 @@
 -- The levels of a list in the order of stairs, by one pass: the last entry of a level stands for all of it.
-use Rattle.std.proofs.Common.{◌≡◌, ℕ, suc, zero, ◌<◌, ◌≤◌, ◌+◌, ◌-◌, Bool, true, false, not, nat_lt, ◌&&◌, ◌⊎◌, inl, inr, List, [], ◌∷◌, ◌++◌, refl, sym, ◌∙◌, ap, subst, arith, length, get_or, get_or-set_same, get_or-set_other}
-use Rattle.std.specs.Prelude.{slice_set}
-use Rattle.std.proofs.lemmas.Bool.{both_ways, and_parts, and_from, cases_eq, cases_lt, cond_both, cond-true, cond-false, false_from_ne_true, ltb-true, ltb-false, not-true}
-use Rattle.std.proofs.lemmas.List.{get_or_append_left, get_or_push, length-set, length_push}
-use Rattle.pref_sky.specs.declared.entry.Entry.{Entry}
-use Rattle.pref_sky.specs.Items.{entry_at}
-use Rattle.pref_sky.specs.Layers.{StandsBehind, count_above, with_last}
-use Rattle.pref_sky.specs.Stairs.{AreStairs, comes_first}
-use Rattle.pref_sky.proofs.Members.{Among, among_place, any_from, place_of}
+use Rattle.pref_sky.proofs.Common.{◌≡◌, ℕ, suc, zero, ◌<◌, ◌≤◌, ◌+◌, ◌-◌, Bool, true, false, not, nat_lt, ◌&&◌, ◌⊎◌, inl, inr, List, [], ◌∷◌, ◌++◌, refl, sym, ◌∙◌, ap, subst, arith, length, get_or}
+use Rattle.pref_sky.proofs.Common.{get_or-set_same, get_or-set_other, slice_set, both_ways, and_parts, and_from, cases_eq, cases_lt, cond_both, cond-true, cond-false, false_from_ne_true, ltb-true}
+use Rattle.pref_sky.proofs.Common.{ltb-false, not-true, get_or_append_left, get_or_push, length-set, length_push, Entry, entry_at, StandsBehind, count_above, with_last, AreStairs, comes_first, Among}
+use Rattle.pref_sky.proofs.Members.{among_place, any_from, place_of}
 use Rattle.pref_sky.proofs.Merges.{is_at}
 use Rattle.pref_sky.proofs.Removals.{comes_after, early_stays, same_answer, unbeaten_over}
 use Rattle.pref_sky.proofs.StairLaws.{later, stands_for, strict_stairs}

@@ -1,10 +1,7 @@
 -- The merge law at one level: the new level is the best of the held level and the entries that come to it, and the others of both go down.
-use Rattle.std.proofs.Common.{◌≡◌, Bool, true, false, not, inl, inr, List, ◌++◌, sym, ◌∙◌, ap}
-use Rattle.std.proofs.lemmas.Bool.{cases_Bool, both_ways, not-true, not_from_false, false_from_ne_true}
-use Rattle.pref_term.specs.Order.{IsStrictOrder}
-use Rattle.pref_sky.specs.declared.entry.Entry.{Entry}
-use Rattle.pref_sky.specs.Best.{best, is_beaten, without_best}
-use Rattle.pref_sky.proofs.Members.{Among, any_from, any_gives, in_filter, from_filter, in_left, in_right, in_either}
+use Rattle.pref_sky.proofs.Common.{◌≡◌, Bool, true, false, not, inl, inr, List, ◌++◌, sym, ◌∙◌, ap, cases_Bool, both_ways, not-true, not_from_false, false_from_ne_true, IsStrictOrder, Entry, best}
+use Rattle.pref_sky.proofs.Common.{is_beaten, without_best, Among}
+use Rattle.pref_sky.proofs.Members.{any_from, any_gives, in_filter, from_filter, in_left, in_right, in_either}
 use Rattle.pref_sky.proofs.Removals.{same_answer, unbeaten_over}
 use Rattle.pref_sky.proofs.Orders.{SameMembers}
 use Rattle.pref_sky.proofs.HeldLevels.{beaten_by_more}

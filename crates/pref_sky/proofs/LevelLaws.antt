@@ -1,27 +1,16 @@
 -- Laws of the levels, for the crates above: no entries have no levels, the order in which entries stand does not matter, and what is held has different ids.
-use Rattle.std.proofs.Common.{leb, ◌-◌, ◌≡◌, ℕ, zero, suc, ◌<◌, Bool, cond, not, ◌&&◌, List, [], ◌∷◌, ◌++◌, map, append_assoc, subst, refl, sym, ◌∙◌, ap, arith, append-nil, ◌==◌, ltb}
-use Rattle.std.specs.List.{flat_map}
-use Rattle.std.proofs.lemmas.Bool.{ltb-true, lt-ltb, leb-true, le-leb, and_parts, and_from}
-use Rattle.std.proofs.lemmas.List.Sums.{sum_by-append}
-use Rattle.pref_term.specs.Order.{IsStrictOrder}
-use Rattle.pref_table.specs.declared.row.Row.{Row}
+use Rattle.pref_sky.proofs.Common.{leb, ◌-◌, ◌≡◌, ℕ, zero, suc, ◌<◌, Bool, cond, not, ◌&&◌, List, [], ◌∷◌, ◌++◌, map, append_assoc, subst, refl, sym, ◌∙◌, ap, arith, append-nil, ◌==◌, ltb, flat_map}
+use Rattle.pref_sky.proofs.Common.{ltb-true, lt-ltb, leb-true, le-leb, and_parts, and_from, sum_by-append, IsStrictOrder, Row, Best, TopLevel, AtLeast, Question, in_same_group, Entry, Ranked, best}
+use Rattle.pref_sky.proofs.Common.{rest, without_best, order_of, order_of_is_row_order, entry_order, HaveDifferentIds, in_order_of_id, at_level, entry_of, held_after, levels, count_before, count_upto}
+use Rattle.pref_sky.proofs.Common.{selected, answer_of, at_least, Among}
 use Rattle.pref_term.specs.declared.ask.Mode.{Mode}
-use Rattle.pref_term.specs.declared.ask.Mode.TheVariants.{Best, TopLevel, AtLeast}
-use Rattle.pref_term.specs.Question.{Question}
-use Rattle.pref_term.specs.Better.{in_same_group}
-use Rattle.pref_sky.specs.declared.entry.Entry.{Entry}
-use Rattle.pref_sky.specs.declared.entry.Ranked.{Ranked}
-use Rattle.pref_sky.specs.Best.{best, rest, without_best}
-use Rattle.pref_term.specs.AskOrder.{order_of, order_of_is_row_order}
-use Rattle.pref_sky.specs.Levels.{entry_order, HaveDifferentIds, in_order_of_id, at_level, entry_of, held_after, levels}
-use Rattle.pref_sky.specs.Answers.{count_before, count_upto, selected, answer_of, at_least}
-pub use Rattle.pref_sky.proofs.Counts.{count_and, count_both, count_filtered, count_within}
 use Rattle.pref_sky.proofs.Removals.{comes_after}
-use Rattle.pref_sky.proofs.Members.{Among, in_filter, from_filter}
+use Rattle.pref_sky.proofs.Members.{in_filter, from_filter}
 use Rattle.pref_sky.proofs.Orders.{SameMembers}
 use Rattle.pref_sky.proofs.Merges.{different_best, entry_order_is_strict, entry_order_stays_in_groups, same_by_level}
 use Rattle.pref_sky.proofs.SortedLevels.{count_levels, merge}
 use Rattle.pref_sky.proofs.Enough.{StaysInGroups, enough}
+pub use Rattle.pref_sky.proofs.Counts.{count_and, count_both, count_filtered, count_within}
 
 -- nothing is left of nothing
 rest_of_none : (over : Entry → Entry → Bool) (n : ℕ) → rest over [] n ≡ []

@@ -1,33 +1,15 @@
 -- The entries of the levels up to a cut, each with its level: sorted by level and id they are the levels.
-use Rattle.std.proofs.Common.{Bor, ◌≡◌, ◌∙◌, ℕ, suc, ◌≤◌, ◌<◌, ◌+◌, Bool, true, false, not, ◌&&◌, ◌==◌, inl, inr, List, [], ◌∷◌, ◌++◌, length, map, filter, get_or, refl, sym, ap, subst, arith, take}
+use Rattle.pref_sky.proofs.Common.{Bor, ◌≡◌, ◌∙◌, ℕ, suc, ◌≤◌, ◌<◌, ◌+◌, Bool, true, false, not, ◌&&◌, ◌==◌, inl, inr, List, [], ◌∷◌, ◌++◌, length, map, filter, get_or, refl, sym, ap, subst, arith}
+use Rattle.pref_sky.proofs.Common.{take, Called, count_by, IsPermutation, IsSortedBy, IsSortedByKeyClosure, is_lt, nat_cmp, ordering_then, All, cond, and_from, cases_lt, not-true, nat_tests}
+use Rattle.pref_sky.proofs.Common.{always_returns_same, get_or-map, length-map, map-append, IsPermutation-map, sorted_far, sum_by-IsPermutation, Mut, IsStrictOrder, ChainOrder, Entry, Ranked, best}
+use Rattle.pref_sky.proofs.Common.{rest, AreInOrder, comes_before, is_below, own_levels, own_order, entry_at, leveled, with_level, HaveDifferentIds, at_level, entry_of, levels, ranked_upto}
+use Rattle.pref_sky.proofs.Common.{AreLeveled, AreLowest, Among}
 use Rattle.std.specs.Cmp.{IsStrictWeakOrder}
-use Rattle.std.specs.Fn.{Called}
-use Rattle.std.specs.List.{count_by}
-use Rattle.std.specs.List.Sorted.{IsPermutation, IsSortedBy, IsSortedByKeyClosure}
-use Rattle.std.specs.Ordering.{is_lt, nat_cmp, ordering_then}
-use Rattle.std.specs.Prelude.{All, cond}
-use Rattle.std.proofs.lemmas.Bool.{and_from, cases_lt, not-true}
-use Rattle.std.proofs.lemmas.Bool.Decides.{nat_tests}
-use Rattle.std.proofs.lemmas.Fn.{always_returns_same}
-use Rattle.std.proofs.lemmas.List.{get_or-map, length-map, map-append}
-use Rattle.std.proofs.lemmas.List.Sorted.{IsPermutation-map, sorted_far, sum_by-IsPermutation}
-use denote.Param.Members.{Mut}
-use Rattle.pref_term.specs.Order.{IsStrictOrder}
-use Rattle.pref_sky.specs.declared.chain_order.ChainOrder.{ChainOrder}
-use Rattle.pref_sky.specs.declared.entry.Entry.{Entry}
-use Rattle.pref_sky.specs.declared.entry.Ranked.{Ranked}
-use Rattle.pref_sky.specs.Best.{best, rest}
-use Rattle.pref_sky.specs.ChainOrders.{AreInOrder, comes_before, is_below, own_levels, own_order}
-use Rattle.pref_sky.specs.Items.{entry_at}
-use Rattle.pref_sky.specs.Layers.{leveled, with_level}
-use Rattle.pref_sky.specs.Levels.{HaveDifferentIds, at_level, entry_of, levels}
-use Rattle.pref_sky.specs.Parts.{ranked_upto}
-use Rattle.pref_sky.specs.Sorted.{AreLeveled, AreLowest}
 use Rattle.pref_sky.proofs.ChainOrders.{own_is_strict}
 use Rattle.pref_sky.proofs.Layering.{HasChain, count_is}
 use Rattle.pref_sky.proofs.Counts.{count_filter, count_filtered}
 use Rattle.pref_sky.proofs.LineLaws.{on_level}
-use Rattle.pref_sky.proofs.Members.{Among, among_place, any_from, from_filter, from_map, in_filter, in_map, place_of}
+use Rattle.pref_sky.proofs.Members.{among_place, any_from, from_filter, from_map, in_filter, in_map, place_of}
 use Rattle.pref_sky.proofs.Merges.{HoldsLevels, held_all, held_within}
 use Rattle.pref_sky.proofs.Orders.{RisesBy, SameMembers, different_later, different_tail, same_if_permuted, same_if_rise}
 use Rattle.pref_sky.proofs.Ranks.{ComesBefore, from_upto, levels_upto_is, one_way, upto_rises}

@@ -1,12 +1,6 @@
 -- The levels behind the first ones: where a list of levels is cut.
-use Rattle.std.proofs.Common.{◌≡◌, ℕ, zero, suc, ◌≤◌, ◌+◌, Bool, cond, List, [], ◌∷◌, ◌++◌, map, length, take, drop, refl, sym, ◌∙◌, ap, arith, append-nil, append_assoc, eq-eqb}
-use Rattle.std.proofs.lemmas.Bool.{ne_eqb}
-use Rattle.pref_sky.specs.declared.entry.Entry.{Entry}
-use Rattle.pref_sky.specs.declared.entry.Ranked.{Ranked}
-use Rattle.pref_sky.specs.Best.{best, rest}
-use Rattle.pref_sky.specs.Levels.{in_order_of_id, at_level, levels}
-use Rattle.pref_sky.specs.Meetings.{length_of_level}
-use Rattle.std.proofs.lemmas.List.{length-map}
+use Rattle.pref_sky.proofs.Common.{◌≡◌, ℕ, zero, suc, ◌≤◌, ◌+◌, Bool, cond, List, [], ◌∷◌, ◌++◌, map, length, take, drop, refl, sym, ◌∙◌, ap, arith, append-nil, append_assoc, eq-eqb, ne_eqb, Entry}
+use Rattle.pref_sky.proofs.Common.{Ranked, best, rest, in_order_of_id, at_level, levels, length_of_level, length-map}
 use Rattle.pref_sky.proofs.Splits.{cut_at}
 
 -- the entries of the k levels behind the first n

@@ -1,14 +1,9 @@
 -- Classes: alike entries are of one level, and one of each class has the levels. In a line an entry is of the level behind as many classes as dominate it.
-use Rattle.std.proofs.Common.{◌≡◌, ℕ, zero, suc, ◌≤◌, ◌+◌, Bool, true, false, cond, not, ◌&&◌, ◌||◌, inl, inr, List, [], ◌∷◌, ◌++◌, length, refl, sym, ◌∙◌, ap, subst, arith}
-use Rattle.std.specs.List.{count_by}
-use Rattle.std.proofs.lemmas.Bool.{cases_lt, both_ways, and_parts, and_from, false_from_ne_true}
-use Rattle.std.proofs.lemmas.List.Sums.{sum_by-cons}
-use Rattle.pref_term.specs.Order.{StandAlike}
-use Rattle.pref_sky.specs.Best.{best, rest}
-use Rattle.pref_sky.specs.StairLaws.{LevelsHoldAlike, LineHasLevels}
-use Rattle.pref_sky.specs.Stairs.{AreClassesOf, AreStairs, IsInOrder, IsLine, are_level, comes_first, in_turn}
+use Rattle.pref_sky.proofs.Common.{◌≡◌, ℕ, zero, suc, ◌≤◌, ◌+◌, Bool, true, false, cond, not, ◌&&◌, ◌||◌, inl, inr, List, [], ◌∷◌, ◌++◌, length, refl, sym, ◌∙◌, ap, subst, arith, count_by, cases_lt}
+use Rattle.pref_sky.proofs.Common.{both_ways, and_parts, and_from, false_from_ne_true, sum_by-cons, StandAlike, best, rest, LevelsHoldAlike, LineHasLevels, AreClassesOf, AreStairs, IsInOrder, IsLine}
+use Rattle.pref_sky.proofs.Common.{are_level, comes_first, in_turn, Among}
 use Rattle.pref_sky.proofs.Counts.{count_both}
-use Rattle.pref_sky.proofs.Members.{Among, any_from, any_gives, in_filter, from_filter, in_right}
+use Rattle.pref_sky.proofs.Members.{any_from, any_gives, in_filter, from_filter, in_right}
 use Rattle.pref_sky.proofs.Orders.{one_passes}
 use Rattle.pref_sky.proofs.Removals.{comes_after, comes_after_among_more, best_of_rest_is, same_answer}
 use Rattle.pref_sky.proofs.StairLaws.{level_above, level_below}

@@ -1,23 +1,10 @@
 -- Levels of items that are made anew: what they stand for are the levels that an addition makes.
-use Rattle.std.proofs.Common.{◌≡◌, ℕ, suc, ◌≤◌, ◌<◌, ◌+◌, ◌-◌, Bool, ◌⊎◌, inl, inr, List, [], ◌∷◌, ◌++◌, Vec, length, map, take, drop, get_or, refl, sym, ◌∙◌, ap, subst, arith, length-append, length-drop}
-use Rattle.std.specs.Global.{Global}
-use Rattle.std.specs.Prelude.{All}
-use Rattle.std.proofs.lemmas.List.{drop-map, drop-take, get_or-drop, get_or_default, length-map, map-append, nil_from_length, take-append-drop}
-use Rattle.std.proofs.lemmas.List.Elements.{All-append, All-drop, All-push, All-take}
-use Rattle.std.proofs.lemmas.List.Sorted.{IsNonDecreasingBy-drop}
-use Rattle.pref_term.specs.Order.{IsStrictOrder, RowOrder}
+use Rattle.pref_sky.proofs.Common.{◌≡◌, ℕ, suc, ◌≤◌, ◌<◌, ◌+◌, ◌-◌, Bool, ◌⊎◌, inl, inr, List, [], ◌∷◌, ◌++◌, Vec, length, map, take, drop, get_or, refl, sym, ◌∙◌, ap, subst, arith, length-append}
+use Rattle.pref_sky.proofs.Common.{length-drop, Global, All, drop-map, drop-take, get_or-drop, get_or_default, length-map, map-append, nil_from_length, take-append-drop, All-append, All-drop}
+use Rattle.pref_sky.proofs.Common.{All-push, All-take, IsNonDecreasingBy-drop, IsStrictOrder, RowOrder, Suit, Arrival, Entry, Item, AreInOrderOfStart, StartsAt, arrived, AreAllItems, AreItems, IsItem}
+use Rattle.pref_sky.proofs.Common.{entries_at, entry_at, item_order, items_at, levels_at, entry_order, IsBehind, IsMade, replaced, Parted, signature_by, Among}
 use Rattle.pref_term.specs.declared.signature.scale.Scale.{Scale}
-use Rattle.pref_term.specs.Signatures.{Suit}
-use Rattle.pref_sky.specs.declared.arrival.Arrival.{Arrival}
-use Rattle.pref_sky.specs.declared.entry.Entry.{Entry}
-use Rattle.pref_sky.specs.declared.item.Item.{Item}
-use Rattle.pref_sky.specs.Arrivals.{AreInOrderOfStart, StartsAt, arrived}
-use Rattle.pref_sky.specs.Items.{AreAllItems, AreItems, IsItem, entries_at, entry_at, item_order, items_at, levels_at}
-use Rattle.pref_sky.specs.Levels.{entry_order}
-use Rattle.pref_sky.specs.Partials.{IsBehind, IsMade, replaced}
-use Rattle.pref_sky.specs.Passes.{Parted}
-use Rattle.pref_sky.specs.Signatures.{signature_by}
-use Rattle.pref_sky.proofs.Members.{Among, all_among, among_all, from_map, in_map}
+use Rattle.pref_sky.proofs.Members.{all_among, among_all, from_map, in_map}
 use Rattle.pref_sky.proofs.Pools.{entries_held, items_held}
 use Rattle.pref_sky.proofs.PooledItems.{entries_parted, parted_items, suit_tells}
 use Rattle.pref_sky.proofs.MadeLevels.{AreBehind, Making, making_begins, making_ends, making_more}

@@ -1,17 +1,9 @@
 -- What an addition makes of levels: from the first one to which something comes, each new level is the best of the held one and of what comes to it.
-use Rattle.std.proofs.Common.{◌≡◌, ℕ, zero, suc, ◌≤◌, ◌<◌, ◌+◌, ◌-◌, Bool, true, cond, ◌⊎◌, inl, inr, List, [], ◌∷◌, ◌++◌, length, map, drop, get_or, refl, sym, ◌∙◌, ap, subst, arith, filter, append_assoc, length-append, length-drop}
-use Rattle.std.specs.List.{count_by, sum_by}
-use Rattle.std.proofs.lemmas.Bool.{cases_lt, both_ways}
-use Rattle.std.proofs.lemmas.List.{drop_all, drop-append-le, get_or_append_left, get_or-append_right, get_or-drop}
-use Rattle.std.proofs.lemmas.List.Sums.{sum_by-append, sum_by-cons, sum_by_push, sum_by-take-drop}
-use Rattle.pref_term.specs.Order.{IsStrictOrder}
-use Rattle.pref_sky.specs.declared.entry.Entry.{Entry}
-use Rattle.pref_sky.specs.Best.{IsApart, best, is_beaten, rest, without_best}
-use Rattle.pref_sky.specs.Levels.{HaveDifferentIds, entry_of, levels}
-use Rattle.pref_sky.specs.Partials.{IsBehind, IsMade, held_at, ranked_from, replaced}
-use Rattle.pref_sky.specs.Parts.{ranked_upto}
-use Rattle.pref_sky.specs.Passes.{Parted}
-use Rattle.pref_sky.proofs.Members.{Among, any_from, any_gives, in_filter, from_filter, in_left, in_right, in_either}
+use Rattle.pref_sky.proofs.Common.{◌≡◌, ℕ, zero, suc, ◌≤◌, ◌<◌, ◌+◌, ◌-◌, Bool, true, cond, ◌⊎◌, inl, inr, List, [], ◌∷◌, ◌++◌, length, map, drop, get_or, refl, sym, ◌∙◌, ap, subst, arith, filter}
+use Rattle.pref_sky.proofs.Common.{append_assoc, length-append, length-drop, count_by, sum_by, cases_lt, both_ways, drop_all, drop-append-le, get_or_append_left, get_or-append_right, get_or-drop}
+use Rattle.pref_sky.proofs.Common.{sum_by-append, sum_by-cons, sum_by_push, sum_by-take-drop, IsStrictOrder, Entry, IsApart, best, is_beaten, rest, without_best, HaveDifferentIds, entry_of, levels}
+use Rattle.pref_sky.proofs.Common.{IsBehind, IsMade, held_at, ranked_from, replaced, ranked_upto, Parted, Among}
+use Rattle.pref_sky.proofs.Members.{any_from, any_gives, in_filter, from_filter, in_left, in_right, in_either}
 use Rattle.pref_sky.proofs.Removals.{beaten_by_best, best_of_rest_is, comes_after, comes_after_among_more, comes_after_upto, rest_is, same_chains}
 use Rattle.pref_sky.proofs.Orders.{SameMembers, among_in_order}
 use Rattle.pref_sky.proofs.Merges.{HoldsLevels, different_best, is_at, same_best}

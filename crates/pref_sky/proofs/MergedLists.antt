@@ -1,11 +1,8 @@
 -- Two lists in the order of a chain are merged: stretches of the first stand between the entries of the second.
-use Rattle.std.proofs.Common.{◌≡◌, ◌∙◌, ℕ, zero, suc, ◌+◌, ◌≤◌, ◌<◌, Bool, true, false, not, inl, inr, List, [], ◌∷◌, ◌++◌, length, get_or, take, drop, refl, sym, ap, subst, arith, append_assoc, length-drop, length-take}
-use Rattle.std.specs.List.Sorted.{IsPartitionPoint, IsPartitionedBy, IsPermutation}
-use Rattle.std.proofs.lemmas.Bool.{cases_lt}
-use Rattle.std.proofs.lemmas.List.{get_or-drop, get_or-take}
-use Rattle.std.proofs.lemmas.List.Sorted.{IsPermutation-cons, IsPermutation-middle, IsPermutation-sym, IsPermutation-to_front, IsPermutation-trans}
-use Rattle.pref_sky.specs.Stairs.{IsChain, IsInOrder}
-use Rattle.pref_sky.proofs.Members.{Among, among_place, in_left, in_right, in_either, place_of}
+use Rattle.pref_sky.proofs.Common.{◌≡◌, ◌∙◌, ℕ, zero, suc, ◌+◌, ◌≤◌, ◌<◌, Bool, true, false, not, inl, inr, List, [], ◌∷◌, ◌++◌, length, get_or, take, drop, refl, sym, ap, subst, arith, append_assoc}
+use Rattle.pref_sky.proofs.Common.{length-drop, length-take, IsPartitionPoint, IsPartitionedBy, IsPermutation, cases_lt, get_or-drop, get_or-take, IsPermutation-cons, IsPermutation-middle}
+use Rattle.pref_sky.proofs.Common.{IsPermutation-sym, IsPermutation-to_front, IsPermutation-trans, IsChain, IsInOrder, Among}
+use Rattle.pref_sky.proofs.Members.{among_place, in_left, in_right, in_either, place_of}
 
 -- ---- lists in an order, one behind the other
 

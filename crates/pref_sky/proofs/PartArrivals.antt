@@ -1,14 +1,8 @@
 -- Arrivals in order of part, then of start: those that come to one part stand together.
-use Rattle.std.proofs.Common.{◌≡◌, ℕ, ◌≤◌, ◌<◌, ◌+◌, Bool, false, ◌&&◌, ◌||◌, ltb, eqb, eq-eqb, inl, inr, List, ◌++◌, length, get_or, take, drop, filter, sym, ◌∙◌, ap, subst, arith, append-nil, length-take, length-drop, get_or-drop}
-use Rattle.std.specs.Prelude.{All}
-use Rattle.std.specs.List.Sorted.{IsNonDecreasingBy}
-use Rattle.std.proofs.lemmas.Bool.{and_from, both_ways, cases_lt, eqb-true, false_from_ne_true, lt-ltb, ltb-false, or_left, or_right}
-use Rattle.std.proofs.lemmas.List.{get_or-take, get_or_default, take-append-drop}
-use Rattle.std.proofs.lemmas.List.Elements.{filter-append}
-use Rattle.std.proofs.lemmas.List.Sorted.{IsNonDecreasingBy-from_all_adjacent}
-use Rattle.pref_sky.specs.declared.arrival.Arrival.{Arrival}
-use Rattle.pref_sky.specs.Arrivals.{AreDealt, AreInOrderOfStart, coming_to}
-use Rattle.pref_sky.proofs.Members.{Among, all_among, from_filter}
+use Rattle.pref_sky.proofs.Common.{◌≡◌, ℕ, ◌≤◌, ◌<◌, ◌+◌, Bool, false, ◌&&◌, ◌||◌, ltb, eqb, eq-eqb, inl, inr, List, ◌++◌, length, get_or, take, drop, filter, sym, ◌∙◌, ap, subst, arith, append-nil}
+use Rattle.pref_sky.proofs.Common.{length-take, length-drop, get_or-drop, All, IsNonDecreasingBy, and_from, both_ways, cases_lt, eqb-true, false_from_ne_true, lt-ltb, ltb-false, or_left, or_right}
+use Rattle.pref_sky.proofs.Common.{get_or-take, get_or_default, take-append-drop, filter-append, IsNonDecreasingBy-from_all_adjacent, Arrival, AreDealt, AreInOrderOfStart, coming_to, Among}
+use Rattle.pref_sky.proofs.Members.{all_among, from_filter}
 use Rattle.pref_sky.proofs.Enough.{all_pass, none_pass}
 
 -- the parts do not fall, nor do the starts within one

@@ -1,10 +1,6 @@
 -- The levels of one part, where those of one are changed.
-use Rattle.std.proofs.Common.{◌≡◌, ℕ, zero, suc, ◌<◌, inl, inr, ◌⊎◌, List, [], ◌∷◌, length, get_or, set, refl, sym, ◌∙◌, ap, subst, arith, eqb, eq-eqb, Vec, Global}
-use Rattle.std.proofs.lemmas.Bool.{cases_Bool, eqb-true, both_ways}
-use Rattle.pref_sky.specs.declared.entry.Entry.{Entry}
-use Rattle.pref_sky.specs.declared.item.Item.{Item}
-use Rattle.pref_sky.specs.Items.{AreAllItems, AreInPool, levels_at, levels_in, parts_at}
-use Rattle.pref_sky.specs.Parts.{levels_of}
+use Rattle.pref_sky.proofs.Common.{◌≡◌, ℕ, zero, suc, ◌<◌, inl, inr, ◌⊎◌, List, [], ◌∷◌, length, get_or, set, refl, sym, ◌∙◌, ap, subst, arith, eqb, eq-eqb, Vec, Global, cases_Bool, eqb-true}
+use Rattle.pref_sky.proofs.Common.{both_ways, Entry, Item, AreAllItems, AreInPool, levels_at, levels_in, parts_at, levels_of}
 
 abbrev pub Levels : Type 0
 Levels = List (Vec Item Global)

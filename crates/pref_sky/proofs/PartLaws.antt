@@ -1,20 +1,10 @@
 -- Entries in parts: where an order compares within parts alone, each part holds the levels of its own entries.
-use Rattle.std.proofs.Common.{◌≡◌, ℕ, zero, suc, ◌≤◌, ◌<◌, ◌+◌, ◌^◌, ◌/◌, Bool, true, false, cond, not, ◌&&◌, ltb, inl, inr, List, ℤ, [], ◌∷◌, ◌++◌, length, map, refl, sym, ◌∙◌, ap, subst, arith, filter, eqb, eq-eqb, max}
-use Rattle.std.specs.List.{count_by}
-use Rattle.std.proofs.lemmas.Bool.{cases_Bool, cases_lt, eqb-true, not_from_false, and_parts, or_cases}
-use Rattle.std.proofs.lemmas.Bool.Decides.{Decides-int_eq, nat_tests}
-use Rattle.std.proofs.lemmas.List.Elements.{filter_agree}
-use Rattle.std.proofs.lemmas.List.Sums.{sum_by-append, length-filter}
+use Rattle.pref_sky.proofs.Common.{◌≡◌, ℕ, zero, suc, ◌≤◌, ◌<◌, ◌+◌, ◌^◌, ◌/◌, Bool, true, false, cond, not, ◌&&◌, ltb, inl, inr, List, ℤ, [], ◌∷◌, ◌++◌, length, map, refl, sym, ◌∙◌, ap, subst, arith}
+use Rattle.pref_sky.proofs.Common.{filter, eqb, eq-eqb, max, count_by, cases_Bool, cases_lt, eqb-true, not_from_false, and_parts, or_cases, Decides-int_eq, nat_tests, filter_agree, sum_by-append}
+use Rattle.pref_sky.proofs.Common.{length-filter, cell, in_same_group, RowOrder, StaysWithin, mixed, Entry, best, is_beaten, rest, without_best, HaveDifferentIds, at_level, entry_of, entry_order}
+use Rattle.pref_sky.proofs.Common.{levels, held_at, ranked_from, ArePartedBy, all_at, depth, is_in, levels_of, mixed_onto, part_of, parts_by, ranked_parts, ranked_upto, Among}
 use Rattle.std.proofs.Math.Nat.{le-max_left, le-max_right, max-le}
-use Rattle.pref_term.specs.Better.{cell, in_same_group}
-use Rattle.pref_term.specs.Order.{RowOrder, StaysWithin}
-use Rattle.pref_term.specs.Signatures.{mixed}
-use Rattle.pref_sky.specs.declared.entry.Entry.{Entry}
-use Rattle.pref_sky.specs.Best.{best, is_beaten, rest, without_best}
-use Rattle.pref_sky.specs.Levels.{HaveDifferentIds, at_level, entry_of, entry_order, levels}
-use Rattle.pref_sky.specs.Partials.{held_at, ranked_from}
-use Rattle.pref_sky.specs.Parts.{ArePartedBy, all_at, depth, is_in, levels_of, mixed_onto, part_of, parts_by, ranked_parts, ranked_upto}
-use Rattle.pref_sky.proofs.Members.{Among, any_from, any_gives, in_filter, from_filter, in_left, in_right, in_either, from_map}
+use Rattle.pref_sky.proofs.Members.{any_from, any_gives, in_filter, from_filter, in_left, in_right, in_either, from_map}
 use Rattle.pref_sky.proofs.Orders.{one_passes}
 use Rattle.pref_sky.proofs.Removals.{filter_filter, same_answer}
 use Rattle.pref_sky.proofs.Merges.{different_best, different_filter}

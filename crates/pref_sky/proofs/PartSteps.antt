@@ -1,18 +1,9 @@
 -- The levels of parts are made anew, part by part, and put into the parts.
-use Rattle.std.proofs.Common.{◌≡◌, ℕ, ◌<◌, Bool, inl, inr, List, [], ◌∷◌, ◌++◌, length, take, drop, filter, set, ltb, eqb, sym, ◌∙◌, ap, subst, arith, refl}
-use Rattle.std.specs.Prelude.{All}
-use Rattle.std.proofs.lemmas.Bool.{eqb-true, false_from_ne_true, lt-ltb, ltb-true}
-use Rattle.std.proofs.lemmas.List.{length-set, take-append-drop}
-use Rattle.std.proofs.lemmas.List.Elements.{All-drop, All-push, filter-append}
-use Rattle.pref_sky.specs.declared.arrival.Arrival.{Arrival}
-use Rattle.pref_sky.specs.declared.entry.Entry.{Entry}
-use Rattle.pref_sky.specs.declared.making.Made.{Made}
-use Rattle.pref_sky.specs.Arrivals.{AreComing, StartsAt, coming_to}
-use Rattle.pref_sky.specs.Items.{levels_at, levels_in}
-use Rattle.pref_sky.specs.Made.{AreInOrderOfPart, AreLevelsMade, ArePut, IsPartMade, LeaveAlone, new_levels}
-use Rattle.pref_sky.specs.Partials.{replaced}
+use Rattle.pref_sky.proofs.Common.{◌≡◌, ℕ, ◌<◌, Bool, inl, inr, List, [], ◌∷◌, ◌++◌, length, take, drop, filter, set, ltb, eqb, sym, ◌∙◌, ap, subst, arith, refl, All, eqb-true, false_from_ne_true}
+use Rattle.pref_sky.proofs.Common.{lt-ltb, ltb-true, length-set, take-append-drop, All-drop, All-push, filter-append, Arrival, Entry, Made, AreComing, StartsAt, coming_to, levels_at, levels_in}
+use Rattle.pref_sky.proofs.Common.{AreInOrderOfPart, AreLevelsMade, ArePut, IsPartMade, LeaveAlone, new_levels, replaced, Among}
 use Rattle.pref_sky.proofs.Enough.{none_pass}
-use Rattle.pref_sky.proofs.Members.{Among, all_among, among_all, in_left, in_right, in_either, from_filter}
+use Rattle.pref_sky.proofs.Members.{all_among, among_all, in_left, in_right, in_either, from_filter}
 use Rattle.pref_sky.proofs.MergedLists.{in_order_across, in_order_joined}
 use Rattle.pref_sky.proofs.PartArrivals.{coming_are, dealt_behind}
 use Rattle.pref_sky.proofs.PartItems.{Levels, Part, in_set_here, in_set_other}

@@ -1,12 +1,7 @@
 -- Lists that are parted into their best and the others, by what their items stand for.
-use Rattle.std.proofs.Common.{◌≡◌, Bool, cond, not, inl, inr, List, [], ◌∷◌, ◌++◌, refl, sym, ◌∙◌, ap, subst, arith, map}
-use Rattle.std.specs.List.{count_by}
-use Rattle.std.proofs.lemmas.Bool.{both_ways, not-true}
-use Rattle.std.proofs.lemmas.List.{map-append}
-use Rattle.std.proofs.lemmas.List.Sums.{sum_by-cons}
-use Rattle.pref_sky.specs.Best.{IsApart, best, is_beaten, without_best}
-use Rattle.pref_sky.specs.Passes.{Parted}
-use Rattle.pref_sky.proofs.Members.{Among, any_from, any_gives, in_filter, from_filter, from_map, in_left, in_map}
+use Rattle.pref_sky.proofs.Common.{◌≡◌, Bool, cond, not, inl, inr, List, [], ◌∷◌, ◌++◌, refl, sym, ◌∙◌, ap, subst, arith, map, count_by, both_ways, not-true, map-append, sum_by-cons, IsApart, best}
+use Rattle.pref_sky.proofs.Common.{is_beaten, without_best, Parted, Among}
+use Rattle.pref_sky.proofs.Members.{any_from, any_gives, in_filter, from_filter, from_map, in_left, in_map}
 use Rattle.pref_sky.proofs.Orders.{SameMembers}
 use Rattle.pref_sky.proofs.Removals.{same_answer}
 

@@ -1,14 +1,8 @@
 -- The steps of passes, and what they keep true: nothing is lost, each pass settles more, what goes to the rest is dominated, and what is early at the end of a pass is best.
-use Rattle.std.proofs.Common.{◌≡◌, ℕ, ◌<◌, ◌≤◌, ◌+◌, Bool, true, false, cond, ◌⊎◌, inl, inr, List, [], ◌∷◌, ◌++◌, length, refl, sym, ◌∙◌, ap, subst, arith, length-append}
-use Rattle.std.specs.List.{sum_by}
-use Rattle.std.proofs.lemmas.Bool.{both_ways, false_from_ne_true}
-use Rattle.std.proofs.lemmas.List.Sums.{sum_by-append, sum_by-cons}
-use Rattle.pref_term.specs.Order.{IsStrictOrder}
-use Rattle.pref_sky.specs.declared.item.Item.{Item}
-use Rattle.pref_sky.specs.Best.{IsApart, is_beaten}
-use Rattle.pref_sky.specs.Passes.{IsClear, Parted, Passing, Sifted}
+use Rattle.pref_sky.proofs.Common.{◌≡◌, ℕ, ◌<◌, ◌≤◌, ◌+◌, Bool, true, false, cond, ◌⊎◌, inl, inr, List, [], ◌∷◌, ◌++◌, length, refl, sym, ◌∙◌, ap, subst, arith, length-append, sum_by, both_ways}
+use Rattle.pref_sky.proofs.Common.{false_from_ne_true, sum_by-append, sum_by-cons, IsStrictOrder, Item, IsApart, is_beaten, IsClear, Parted, Passing, Sifted, Among}
 use Rattle.pref_sky.proofs.Bags.{among_if, among_or, is_item, long_by, none_by, some_of, sum_by-ones}
-use Rattle.pref_sky.proofs.Members.{Among, any_from, any_gives, in_left, in_either}
+use Rattle.pref_sky.proofs.Members.{any_from, any_gives, in_left, in_either}
 use Rattle.pref_sky.proofs.Removals.{unbeaten_over}
 
 -- a list is empty, or not

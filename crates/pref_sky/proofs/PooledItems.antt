@@ -1,14 +1,7 @@
 -- Items of a pool that are signed by a rule which tells of the order: their entries are parted as they are.
-use Rattle.std.proofs.Common.{◌≡◌, ◌∙◌, ℕ, Bool, true, false, ◌&&◌, ◌||◌, nat_lt, List, ◌++◌, refl, sym, ap, inl, inr}
-use Rattle.std.proofs.lemmas.Bool.{cases_Bool}
-use Rattle.pref_term.specs.Order.{RowOrder}
+use Rattle.pref_sky.proofs.Common.{◌≡◌, ◌∙◌, ℕ, Bool, true, false, ◌&&◌, ◌||◌, nat_lt, List, ◌++◌, refl, sym, ap, inl, inr, cases_Bool, RowOrder, Suit, is_within, signature, Entry, Item, AreItems}
+use Rattle.pref_sky.proofs.Common.{IsItem, entries_at, entry_at, item_order, entry_order, Parted}
 use Rattle.pref_term.specs.declared.signature.scale.Scale.{Scale}
-use Rattle.pref_term.specs.Signatures.{Suit, is_within, signature}
-use Rattle.pref_sky.specs.declared.entry.Entry.{Entry}
-use Rattle.pref_sky.specs.declared.item.Item.{Item}
-use Rattle.pref_sky.specs.Items.{AreItems, IsItem, entries_at, entry_at, item_order}
-use Rattle.pref_sky.specs.Levels.{entry_order}
-use Rattle.pref_sky.specs.Passes.{Parted}
 use Rattle.pref_sky.proofs.Items.{item_agrees}
 use Rattle.pref_sky.proofs.Members.{all_among, among_all}
 use Rattle.pref_sky.proofs.Parting.{parted_map}

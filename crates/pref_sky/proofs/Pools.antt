@@ -1,17 +1,7 @@
 -- Items of a pool stay what they are where entries are put behind its own.
-use Rattle.std.proofs.Common.{◌≡◌, ◌∙◌, ℕ, zero, suc, ◌≤◌, ◌<◌, ◌+◌, List, [], ◌∷◌, ◌++◌, get_or, length, map, take, refl, sym, ap, subst, arith, append-nil, append_assoc, length-append, Bool, true}
-use Rattle.std.proofs.lemmas.List.{get_or_append_left, map-append}
-use Rattle.std.proofs.Math.Seq.{get_or-append_seam}
-use Rattle.std.specs.Prelude.{All, Vec}
-use Rattle.std.specs.Global.{Global}
-use Rattle.pref_sky.specs.declared.entry.Entry.{Entry}
-use Rattle.pref_sky.specs.declared.item.Item.{Item}
-use Rattle.pref_sky.specs.declared.pool.Pool.{Pool}
-use Rattle.pref_sky.specs.Items.{AreAllItems, AreInPool, AreItems, HasGrown, IsItem, entries_at, entry_at, items_at, levels_at, parts_at}
-use Rattle.pref_sky.specs.Best.{is_beaten}
-use Rattle.pref_sky.specs.Partials.{IsBehind, held_at}
-use Rattle.pref_sky.specs.Parts.{levels_of}
-use Rattle.pref_sky.specs.Signatures.{signature_by}
+use Rattle.pref_sky.proofs.Common.{◌≡◌, ◌∙◌, ℕ, zero, suc, ◌≤◌, ◌<◌, ◌+◌, List, [], ◌∷◌, ◌++◌, get_or, length, map, take, refl, sym, ap, subst, arith, append-nil, append_assoc, length-append, Bool}
+use Rattle.pref_sky.proofs.Common.{true, get_or_append_left, map-append, get_or-append_seam, All, Vec, Global, Entry, Item, Pool, AreAllItems, AreInPool, AreItems, HasGrown, IsItem, entries_at}
+use Rattle.pref_sky.proofs.Common.{entry_at, items_at, levels_at, parts_at, is_beaten, IsBehind, held_at, levels_of, signature_by}
 use Rattle.pref_sky.proofs.Loops.{front_more}
 use Rattle.pref_sky.proofs.Members.{all_among, map_agree_among}
 use Rattle.pref_sky.proofs.PartItems.{Part, in_here, levels_of_at}

@@ -1,12 +1,6 @@
 -- The entries of levels, level by level: where they are cut, and how many of a kind they are.
-use Rattle.std.proofs.Common.{◌≡◌, ℕ, zero, suc, ◌+◌, Bool, cond, List, [], ◌∷◌, ◌++◌, map, take, drop, refl, sym, ◌∙◌, ap, arith, append_assoc, ◌==◌}
-use Rattle.std.specs.List.{count_by}
-use Rattle.std.proofs.lemmas.List.{map-append}
-use Rattle.std.proofs.lemmas.List.Sums.{sum_by-append}
-use Rattle.pref_sky.specs.declared.entry.Entry.{Entry}
-use Rattle.pref_sky.specs.declared.entry.Ranked.{Ranked}
-use Rattle.pref_sky.specs.Levels.{HaveDifferentIds, in_order_of_id, at_level, entry_of}
-use Rattle.pref_sky.specs.Partials.{ranked_from, held_at}
+use Rattle.pref_sky.proofs.Common.{◌≡◌, ℕ, zero, suc, ◌+◌, Bool, cond, List, [], ◌∷◌, ◌++◌, map, take, drop, refl, sym, ◌∙◌, ap, arith, append_assoc, ◌==◌, count_by, map-append, sum_by-append, Entry}
+use Rattle.pref_sky.proofs.Common.{Ranked, HaveDifferentIds, in_order_of_id, at_level, entry_of, ranked_from, held_at}
 use Rattle.pref_sky.proofs.Orders.{count_in_order}
 use Rattle.pref_sky.proofs.Merges.{entries_at_level}
 

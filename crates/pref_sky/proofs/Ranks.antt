@@ -1,18 +1,9 @@
 -- The entries of some levels, each level in order of id: one list for each set of them.
-use Rattle.std.proofs.Common.{◌≡◌, ℕ, zero, suc, ◌<◌, ◌≤◌, ◌+◌, Bool, ◌⊎◌, inl, inr, List, [], ◌∷◌, ◌++◌, length, map, take, drop, ◌-◌, refl, sym, ◌∙◌, ap, subst, arith, append-nil, append_assoc, length-append, drop_of_length-le}
-use Rattle.std.proofs.lemmas.Bool.{cases_lt}
-use Rattle.std.specs.List.Sorted.{IsNonDecreasingBy, IsPermutation}
-use Rattle.std.proofs.lemmas.List.{get_or-map, length-map}
-use Rattle.std.proofs.lemmas.List.Sorted.{IsPermutation-map}
-use Rattle.std.proofs.Math.Seq.{take-length}
+use Rattle.pref_sky.proofs.Common.{◌≡◌, ℕ, zero, suc, ◌<◌, ◌≤◌, ◌+◌, Bool, ◌⊎◌, inl, inr, List, [], ◌∷◌, ◌++◌, length, map, take, drop, ◌-◌, refl, sym, ◌∙◌, ap, subst, arith, append-nil, append_assoc}
+use Rattle.pref_sky.proofs.Common.{length-append, drop_of_length-le, cases_lt, IsNonDecreasingBy, IsPermutation, get_or-map, length-map, IsPermutation-map, take-length, Entry, Ranked, best, rest}
+use Rattle.pref_sky.proofs.Common.{HaveDifferentIds, in_order_of_id, at_level, entry_of, levels, ranked_from, held_at, ranked_upto, Among}
 use borrow.Rule.Slice.PartMut.{mid_of, post_of, put_mid}
-use Rattle.pref_sky.specs.declared.entry.Entry.{Entry}
-use Rattle.pref_sky.specs.declared.entry.Ranked.{Ranked}
-use Rattle.pref_sky.specs.Best.{best, rest}
-use Rattle.pref_sky.specs.Levels.{HaveDifferentIds, in_order_of_id, at_level, entry_of, levels}
-use Rattle.pref_sky.specs.Partials.{ranked_from, held_at}
-use Rattle.pref_sky.specs.Parts.{ranked_upto}
-use Rattle.pref_sky.proofs.Members.{Among, in_left, in_right, in_either, from_map}
+use Rattle.pref_sky.proofs.Members.{in_left, in_right, in_either, from_map}
 use Rattle.pref_sky.proofs.Orders.{Rises, RisesBy, rises_in_order, same_if_rise, same_if_permuted, sorted_is, among_in_order, from_in_order}
 use Rattle.pref_sky.proofs.Merges.{entries_at_level}
 use Rattle.pref_sky.proofs.Splits.{cut_at}

@@ -1,10 +1,6 @@
 -- A list with others in the place of what it has behind its first ones.
-use Rattle.std.proofs.Common.{◌≡◌, ℕ, ◌≤◌, ◌<◌, ◌+◌, ◌-◌, ◌⊎◌, inl, inr, List, ◌++◌, length, max, take, drop, get_or, set, sym, ◌∙◌, ap, subst, arith, length-append, length-drop, length-set, get_or-set_other, get_or-set_same}
-use Rattle.std.proofs.lemmas.Bool.{cases_lt}
-use Rattle.std.specs.List.{sum_by}
-use Rattle.std.proofs.lemmas.List.{get_or_append_left, get_or-append_right, get_or-drop, get_or-take, length-take-le}
-use Rattle.std.proofs.lemmas.List.Sums.{sum_by-append}
-use Rattle.pref_sky.specs.Partials.{replaced}
+use Rattle.pref_sky.proofs.Common.{◌≡◌, ℕ, ◌≤◌, ◌<◌, ◌+◌, ◌-◌, ◌⊎◌, inl, inr, List, ◌++◌, length, max, take, drop, get_or, set, sym, ◌∙◌, ap, subst, arith, length-append, length-drop, length-set}
+use Rattle.pref_sky.proofs.Common.{get_or-set_other, get_or-set_same, cases_lt, sum_by, get_or_append_left, get_or-append_right, get_or-drop, get_or-take, length-take-le, sum_by-append, replaced}
 
 module _ {E : Type 0} (first : ℕ) (others old : List E) (inside : first ≤ length old) where
   front_long : length (take first old ++ others) ≡ first + length others

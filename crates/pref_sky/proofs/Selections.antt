@@ -1,17 +1,8 @@
 -- The selection for at least k, level by level: the entries on the levels before one's own stand before it in the list.
-use Rattle.std.proofs.Common.{◌≡◌, ℕ, zero, suc, ◌≤◌, ◌<◌, ◌+◌, ◌-◌, Bool, true, false, cond, ◌&&◌, inl, inr, List, [], ◌++◌, map, length, take, drop, filter, ltb, refl, sym, ◌∙◌, ap, subst, arith, append_assoc, length-append}
-use Rattle.std.specs.List.{count_by}
-use Rattle.std.proofs.lemmas.Bool.{le-ltb, lt-ltb}
-use Rattle.std.proofs.lemmas.List.{map-append, take-append-drop, length-take-le}
-use Rattle.std.proofs.lemmas.List.Sums.{sum_by-append, length-filter}
-use Rattle.pref_table.specs.declared.row.Row.{Row}
-use Rattle.pref_sky.specs.declared.entry.Entry.{Entry}
-use Rattle.pref_sky.specs.declared.entry.Ranked.{Ranked}
-use Rattle.pref_sky.specs.Best.{best, rest}
-use Rattle.pref_sky.specs.Levels.{in_order_of_id, at_level, levels}
-use Rattle.pref_sky.specs.Answers.{count_before}
-use Rattle.pref_sky.specs.Meetings.{length_of_level}
-use Rattle.pref_sky.proofs.Members.{Among, in_either, from_map, map_agree_among}
+use Rattle.pref_sky.proofs.Common.{◌≡◌, ℕ, zero, suc, ◌≤◌, ◌<◌, ◌+◌, ◌-◌, Bool, true, false, cond, ◌&&◌, inl, inr, List, [], ◌++◌, map, length, take, drop, filter, ltb, refl, sym, ◌∙◌, ap, subst}
+use Rattle.pref_sky.proofs.Common.{arith, append_assoc, length-append, count_by, le-ltb, lt-ltb, map-append, take-append-drop, length-take-le, sum_by-append, length-filter, Row, Entry, Ranked, best}
+use Rattle.pref_sky.proofs.Common.{rest, in_order_of_id, at_level, levels, count_before, length_of_level, Among}
+use Rattle.pref_sky.proofs.Members.{in_either, from_map, map_agree_among}
 use Rattle.pref_sky.proofs.Splits.{cut_at}
 use Rattle.pref_sky.proofs.Enough.{filter_agree_among, levels_upto, none_pass}
 use Rattle.pref_sky.proofs.LevelsBehind.{levels_behind, levels_then_behind, level_cut}

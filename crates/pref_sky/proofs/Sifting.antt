@@ -1,19 +1,8 @@
 -- What goes out of a list where an item meets it, and what the item is clear of.
-use Rattle.std.proofs.Common.{◌≡◌, ℕ, ◌<◌, ◌≤◌, ◌+◌, Bool, true, false, ◌&&◌, inl, inr, List, [], ◌∷◌, ◌++◌, length, sym, ◌∙◌, ap, arith, append-nil, append_assoc, ltb, get_or}
-use Rattle.std.specs.List.{swap_remove}
-use Rattle.std.specs.List.Sorted.{IsPermutation}
-use Rattle.std.proofs.lemmas.Bool.{and_right, cases_lt, both_ways, le-ltb, lt-ltb}
-use Rattle.std.proofs.lemmas.List.{get_or_default}
-use Rattle.std.proofs.lemmas.List.Sorted.{sum_by-IsPermutation}
-use Rattle.std.proofs.lemmas.List.Sums.{sum_by-cons, sum_by-append, sum_by-swap_remove}
-use Rattle.pref_term.specs.Order.{RowOrder, StandAlike}
-use Rattle.pref_term.specs.Signatures.{is_within}
-use Rattle.pref_sky.specs.declared.entry.Entry.{Entry}
-use Rattle.pref_sky.specs.declared.item.Item.{Item}
-use Rattle.pref_sky.specs.Best.{IsApart}
-use Rattle.pref_sky.specs.Items.{is_word, item_order, place_order}
-use Rattle.pref_sky.specs.Passes.{IsClear, IsTold, Sifted}
-use Rattle.pref_sky.proofs.Members.{Among, in_either, place_of}
+use Rattle.pref_sky.proofs.Common.{◌≡◌, ℕ, ◌<◌, ◌≤◌, ◌+◌, Bool, true, false, ◌&&◌, inl, inr, List, [], ◌∷◌, ◌++◌, length, sym, ◌∙◌, ap, arith, append-nil, append_assoc, ltb, get_or, swap_remove}
+use Rattle.pref_sky.proofs.Common.{IsPermutation, and_right, cases_lt, both_ways, le-ltb, lt-ltb, get_or_default, sum_by-IsPermutation, sum_by-cons, sum_by-append, sum_by-swap_remove, RowOrder}
+use Rattle.pref_sky.proofs.Common.{StandAlike, is_within, Entry, Item, IsApart, is_word, item_order, place_order, IsClear, IsTold, Sifted, Among}
+use Rattle.pref_sky.proofs.Members.{in_either, place_of}
 
 -- the first so many of a list are clear
 abbrev pub AreClear : {E : Type 0} → (E → E → Bool) → List E → E → ℕ → Type 0

@@ -1,18 +1,9 @@
 -- Lists with the same levels up to a cut, where the ids differ of what is of these: what is below may be left out, and may be there twice. So the levels up to a cut of a list are those of what is of these levels, with the others.
-use Rattle.std.proofs.Common.{◌≡◌, ℕ, zero, suc, ◌≤◌, ◌+◌, Bool, true, false, cond, not, ltb, ◌&&◌, ◌||◌, ◌⊎◌, inl, inr, List, [], ◌∷◌, ◌++◌, map, refl, sym, ◌∙◌, ap, subst, arith, append_assoc, filter, ◌==◌}
-use Rattle.std.specs.List.{count_by}
-use Rattle.std.proofs.lemmas.Bool.{and_parts, and_from, both_ways, not-true, not_from_false, false_from_ne_true}
-use Rattle.std.proofs.lemmas.List.Sums.{sum_by-append, sum_by-cons}
-use Rattle.pref_term.specs.Chains.{IsProductOf}
-use Rattle.pref_term.specs.Order.{IsStrictOrder, RowOrder}
-use Rattle.pref_sky.specs.declared.chain_order.ChainOrder.{ChainOrder}
-use Rattle.pref_sky.specs.declared.entry.Entry.{Entry}
-use Rattle.pref_sky.specs.Best.{best, rest}
-use Rattle.pref_sky.specs.ChainOrders.{is_below, own_levels, own_order}
-use Rattle.pref_sky.specs.Levels.{HaveDifferentIds, entry_of, entry_order, in_order_of_id, levels}
-use Rattle.pref_sky.specs.Sorted.{HoldsUpper}
+use Rattle.pref_sky.proofs.Common.{◌≡◌, ℕ, zero, suc, ◌≤◌, ◌+◌, Bool, true, false, cond, not, ltb, ◌&&◌, ◌||◌, ◌⊎◌, inl, inr, List, [], ◌∷◌, ◌++◌, map, refl, sym, ◌∙◌, ap, subst, arith, append_assoc}
+use Rattle.pref_sky.proofs.Common.{filter, ◌==◌, count_by, and_parts, and_from, both_ways, not-true, not_from_false, false_from_ne_true, sum_by-append, sum_by-cons, IsProductOf, IsStrictOrder}
+use Rattle.pref_sky.proofs.Common.{RowOrder, ChainOrder, Entry, best, rest, is_below, own_levels, own_order, HaveDifferentIds, entry_of, entry_order, in_order_of_id, levels, HoldsUpper, Among}
 use Rattle.pref_sky.proofs.ChainOrders.{own_is_strict}
-use Rattle.pref_sky.proofs.Members.{Among, in_left, in_right, in_either}
+use Rattle.pref_sky.proofs.Members.{in_left, in_right, in_either}
 use Rattle.pref_sky.proofs.Orders.{count_in_order}
 use Rattle.pref_sky.proofs.Removals.{comes_after, comes_after_less, comes_after_among_more, best_of_rest_is, early_stays, same_chains}
 use Rattle.pref_sky.proofs.Merges.{HoldsLevels, held_all, held_more, held_within, is_at, same_by_level}

@@ -1,6 +1,5 @@
 -- Where a list is cut in two.
-use Rattle.std.proofs.Common.{◌≡◌, ℕ, List, ◌++◌, length, take, drop, ◌∙◌, ap}
-use Rattle.std.proofs.Math.Seq.{take-append_seam, drop-append_seam}
+use Rattle.pref_sky.proofs.Common.{◌≡◌, ℕ, List, ◌++◌, length, take, drop, ◌∙◌, ap, take-append_seam, drop-append_seam}
 
 pub cut_at : {E : Type 0} (zs front back : List E) (n : ℕ) → zs ≡ front ++ back → n ≡ length front → (take n zs ≡ front) × (drop n zs ≡ back)
 cut_at zs front back n whole long = (

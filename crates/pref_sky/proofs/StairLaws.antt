@@ -1,11 +1,7 @@
 -- Chains, and stairs: in the order of the first chain one entry stands for all before it.
-use Rattle.std.proofs.Common.{◌≡◌, Bool, true, false, not, ◌||◌, inl, inr, List, [], ◌∷◌, ◌++◌, refl, sym, ◌∙◌, ap, subst, filter, arith}
-use Rattle.std.proofs.lemmas.Bool.{both_ways, false_from_ne_true, cond_both}
-use Rattle.pref_term.specs.Order.{IsStrictOrder}
-use Rattle.pref_sky.specs.Best.{IsApart, best, is_beaten}
-use Rattle.pref_sky.specs.Stairs.{IsChain, AreStairs, IsLine, IsInOrder, are_level, comes_first, in_turn}
-use Rattle.pref_sky.specs.StairLaws.{HasOneCandidate, IsSwept, ServesGroups}
-use Rattle.pref_sky.proofs.Members.{Among, any_from, any_gives, from_filter, in_left, in_right, in_either}
+use Rattle.pref_sky.proofs.Common.{◌≡◌, Bool, true, false, not, ◌||◌, inl, inr, List, [], ◌∷◌, ◌++◌, refl, sym, ◌∙◌, ap, subst, filter, arith, both_ways, false_from_ne_true, cond_both, IsStrictOrder}
+use Rattle.pref_sky.proofs.Common.{IsApart, best, is_beaten, IsChain, AreStairs, IsLine, IsInOrder, are_level, comes_first, in_turn, HasOneCandidate, IsSwept, ServesGroups, Among}
+use Rattle.pref_sky.proofs.Members.{any_from, any_gives, from_filter, in_left, in_right, in_either}
 use Rattle.pref_sky.proofs.MergedLists.{in_order_across, in_order_back, in_order_front}
 use Rattle.pref_sky.proofs.Removals.{beaten_by_best, same_answer}
 

@@ -1,6 +1,5 @@
 -- What stays of a list is moved to its front, one by one.
-use Rattle.std.proofs.Common.{◌≡◌, ℕ, ◌+◌, ◌<◌, Bool, true, false, cond, List, [], ◌∷◌, ◌++◌, length, take, drop, filter, get_or, sym, ◌∙◌, ap, arith, append-nil, get_or-drop}
-use Rattle.std.proofs.lemmas.List.Elements.{filter_more}
+use Rattle.pref_sky.proofs.Common.{◌≡◌, ℕ, ◌+◌, ◌<◌, Bool, true, false, cond, List, [], ◌∷◌, ◌++◌, length, take, drop, filter, get_or, sym, ◌∙◌, ap, arith, append-nil, get_or-drop, filter_more}
 
 -- lists that are the same from a place on have the same element there
 pub same_there : {E : Type 0} (xs ys : List E) (i : ℕ) (d : E) → drop i ys ≡ drop i xs → get_or ys i d ≡ get_or xs i d

@@ -1,12 +1,8 @@
 -- What is best in an order with twins.
-use Rattle.std.proofs.Common.{not, ltb, ◌&&◌, ◌≡◌, false, inl, inr, List, arith}
-use Rattle.std.proofs.lemmas.Bool.{and_from, and_parts, both_ways, cases_lt, false_from_ne_true, lt-ltb, ltb-true, not-true, not_from_false, or_cases, or_parts}
-use Rattle.pref_term.specs.Order.{RowOrder}
-use Rattle.pref_sky.specs.declared.entry.Entry.{Entry}
-use Rattle.pref_sky.specs.Best.{best, is_beaten}
-use Rattle.pref_sky.specs.Levels.{entry_order}
+use Rattle.pref_sky.proofs.Common.{not, ltb, ◌&&◌, ◌≡◌, false, inl, inr, List, arith, and_from, and_parts, both_ways, cases_lt, false_from_ne_true, lt-ltb, ltb-true, not-true, not_from_false}
+use Rattle.pref_sky.proofs.Common.{or_cases, or_parts, RowOrder, Entry, best, is_beaten, entry_order, Among}
 use Rattle.pref_sky.specs.Twins.{IsFirstOfTwins}
-use Rattle.pref_sky.proofs.Members.{Among, any_from, any_gives, in_filter, from_filter}
+use Rattle.pref_sky.proofs.Members.{any_from, any_gives, in_filter, from_filter}
 
 pub best_is_first : (order : RowOrder) (all : List Entry) (e : Entry) → Among e (best (entry_order order) all) → IsFirstOfTwins order all e
 best_is_first order all e m other there =

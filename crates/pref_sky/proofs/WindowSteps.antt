@@ -1,8 +1,6 @@
 -- What an offer to a window leaves of its two lists.
-use Rattle.std.proofs.Common.{◌≡◌, ℕ, ◌≤◌, ◌+◌, Bool, true, false, cond, inl, inr, List, [], ◌∷◌, ◌++◌, length, refl, sym, ◌∙◌, ap, arith, filter, append-nil}
-use Rattle.std.proofs.lemmas.Bool.{both_ways, cond_both, false_from_ne_true}
-use Rattle.pref_sky.specs.declared.entry.Entry.{Entry}
-use Rattle.pref_sky.specs.Best.{is_beaten}
+use Rattle.pref_sky.proofs.Common.{◌≡◌, ℕ, ◌≤◌, ◌+◌, Bool, true, false, cond, inl, inr, List, [], ◌∷◌, ◌++◌, length, refl, sym, ◌∙◌, ap, arith, filter, append-nil, both_ways, cond_both}
+use Rattle.pref_sky.proofs.Common.{false_from_ne_true, Entry, is_beaten}
 use Rattle.pref_sky.specs.Windows.{Held, joined, not_below}
 use Rattle.pref_sky.proofs.Members.{any_from, any_gives, in_either}
 

@@ -1,15 +1,8 @@
 -- Worked examples: the definitions compute.
-use Rattle.std.proofs.Common.{false, true, ◌≡◌, ℕ, List, [], ◌∷◌, map, refl, pos}
+use Rattle.pref_sky.proofs.Common.{false, true, ◌≡◌, ℕ, List, [], ◌∷◌, map, refl, pos, order_of, in_same_group, Question, Best, TopLevel, AtLeast, Entry, Ranked, entry_order, levels, answer_of}
+use Rattle.pref_sky.proofs.Common.{at_least}
 use Rattle.pref_term.specs.Preference.{Preference, low, scored, pareto, prior}
-use Rattle.pref_term.specs.AskOrder.{order_of}
-use Rattle.pref_term.specs.Better.{in_same_group}
-use Rattle.pref_term.specs.Question.{Question}
 use Rattle.pref_term.specs.declared.ask.Mode.{Mode}
-use Rattle.pref_term.specs.declared.ask.Mode.TheVariants.{Best, TopLevel, AtLeast}
-use Rattle.pref_sky.specs.declared.entry.Entry.{Entry}
-use Rattle.pref_sky.specs.declared.entry.Ranked.{Ranked}
-use Rattle.pref_sky.specs.Levels.{entry_order, levels}
-use Rattle.pref_sky.specs.Answers.{answer_of, at_least}
 
 abbrev entry : ℕ → List ℕ → Entry
 entry id cells = record { id = id; row = map pos cells }

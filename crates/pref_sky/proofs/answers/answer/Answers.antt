@@ -1,13 +1,5 @@
-use Rattle.std.proofs.Common.{◌≡◌, ℕ, eqb-true, List, [], ◌∷◌, length, refl, sym, ◌∙◌, ap, arith}
-use Rattle.std.proofs.lemmas.Result.{IfOk-weaker}
-use Rattle.pref_term.specs.AskOrder.{order_of, order_of_is_row_order}
-use Rattle.pref_term.specs.Better.{in_same_group}
-use Rattle.pref_term.specs.declared.ask.Mode.TheVariants.{AtLeast}
-use Rattle.pref_term.specs.Question.{Question, cut_of}
-use Rattle.pref_sky.specs.declared.entry.Entry.{Entry}
-use Rattle.pref_sky.specs.declared.entry.Ranked.{Ranked}
-use Rattle.pref_sky.specs.Answers.{at_least, answer_of, selected}
-use Rattle.pref_sky.specs.Levels.{entry_order, levels}
+use Rattle.pref_sky.proofs.Common.{◌≡◌, ℕ, eqb-true, List, [], ◌∷◌, length, refl, sym, ◌∙◌, ap, arith, IfOk-weaker, order_of, order_of_is_row_order, in_same_group, AtLeast, Question, cut_of, Entry}
+use Rattle.pref_sky.proofs.Common.{Ranked, at_least, answer_of, selected, entry_order, levels}
 use Rattle.pref_sky.proofs.Enough.{enough}
 use Rattle.pref_sky.proofs.Merges.{entry_order_is_strict, entry_order_stays_in_groups}
 use Rattle.pref_sky.proofs.answers.answer.Goals as goal

@@ -1,9 +1,5 @@
-use Rattle.std.proofs.Common.{refl, ◌≡◌, ◌+◌, ◌≤◌, ◌++◌, Bool, List, length, take, drop, sym, ◌∙◌, ap, subst, arith, add-one, suc, map, ltb, length-append}
-use Rattle.std.specs.List.{count_by}
-use Rattle.std.proofs.lemmas.List.{take-append-drop, length-take-le}
-use Rattle.pref_term.specs.Better.{in_same_group}
-use Rattle.pref_sky.specs.declared.entry.Ranked.{Ranked}
-use Rattle.pref_sky.specs.Meetings.{length_of_level}
+use Rattle.pref_sky.proofs.Common.{refl, ◌≡◌, ◌+◌, ◌≤◌, ◌++◌, Bool, List, length, take, drop, sym, ◌∙◌, ap, subst, arith, add-one, suc, map, ltb, length-append, count_by, take-append-drop}
+use Rattle.pref_sky.proofs.Common.{length-take-le, in_same_group, Ranked, length_of_level}
 use Rattle.pref_sky.proofs.Selections.{Selecting, selecting_begins, selecting_more}
 use Rattle.pref_sky.proofs.answers.choose.Goals as goal
 

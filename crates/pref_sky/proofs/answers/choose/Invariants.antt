@@ -1,7 +1,4 @@
-use Rattle.std.proofs.Common.{◌≡◌, ◌≤◌, Bool, List, length}
-use Rattle.pref_term.specs.Better.{in_same_group}
-use Rattle.pref_sky.specs.declared.entry.Entry.{Entry}
-use Rattle.pref_sky.specs.Levels.{levels}
+use Rattle.pref_sky.proofs.Common.{◌≡◌, ◌≤◌, Bool, List, length, in_same_group, Entry, levels}
 use Rattle.pref_sky.proofs.Selections.{Selecting}
 use Rattle.pref_sky.proofs.answers.choose.Given as goal
 

@@ -1,10 +1,9 @@
-use Rattle.std.proofs.Common.{◌≡◌, ◌≤◌, ◌<◌, ◌+◌, ◌++◌, [], ◌∷◌, Bool, false, map, length, take, drop, filter, get_or, set, sym, ◌∙◌, ap, arith, drop-set-lt, length-set}
+use Rattle.pref_sky.proofs.Common.{◌≡◌, ◌≤◌, ◌<◌, ◌+◌, ◌++◌, [], ◌∷◌, Bool, false, map, length, take, drop, filter, get_or, set, sym, ◌∙◌, ap, arith, drop-set-lt, length-set, get_or-map}
+use Rattle.pref_sky.proofs.Common.{take_more_set, Ranked}
 use Rattle.std.proofs.lemmas.Grind.{drop_more_same}
-use Rattle.std.proofs.lemmas.List.{get_or-map, take_more_set}
-use Rattle.pref_sky.specs.declared.entry.Ranked.{Ranked}
 use Rattle.pref_sky.proofs.Staying.{leaves, same_there, stays}
-use Rattle.pref_sky.proofs.answers.keep.Goals as goal
 use Rattle.pref_sky.proofs.answers.keep.Goals.{then-chosen-place, else-chosen-place}
+use Rattle.pref_sky.proofs.answers.keep.Goals as goal
 
 pub loop-place-preserved : goal.loop-place-preserved
 loop-place-preserved c =

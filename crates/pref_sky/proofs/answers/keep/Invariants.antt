@@ -1,5 +1,4 @@
-use Rattle.std.proofs.Common.{◌≡◌, ◌≤◌, Bool, take, drop, map, filter, length}
-use Rattle.pref_sky.specs.declared.entry.Ranked.{Ranked}
+use Rattle.pref_sky.proofs.Common.{◌≡◌, ◌≤◌, Bool, take, drop, map, filter, length, Ranked}
 use Rattle.pref_sky.proofs.answers.keep.Given as goal
 
 -- what is chosen of those so far is in front, and those to come are where they were

@@ -1,9 +1,5 @@
-use Rattle.std.proofs.Common.{rules, ◌≡◌, ◌≤◌, ◌<◌, ◌-◌, suc, [], leb, true, false, List, length, sym, ◌∙◌, ap, subst, arith}
-use Rattle.std.specs.List.Sorted.{IsNonDecreasingBy, IsPartitionPoint}
-use Rattle.std.proofs.lemmas.List.Sorted.{IsPartitionPoint-from_clause, IsPartitionedBy-leb}
-use Rattle.pref_term.specs.Better.{in_same_group}
-use Rattle.pref_sky.specs.declared.entry.Ranked.{Ranked}
-use Rattle.pref_sky.specs.Answers.{at_least}
+use Rattle.pref_sky.proofs.Common.{rules, ◌≡◌, ◌≤◌, ◌<◌, ◌-◌, suc, [], leb, true, false, List, length, sym, ◌∙◌, ap, subst, arith, IsNonDecreasingBy, IsPartitionPoint, IsPartitionPoint-from_clause}
+use Rattle.pref_sky.proofs.Common.{IsPartitionedBy-leb, in_same_group, Ranked, at_least}
 use Rattle.pref_sky.proofs.FirstRanked.{all_ranked, first_ranked, levels_sorted, none_ranked}
 use Rattle.pref_sky.proofs.answers.keep_first_levels.Goals as goal
 

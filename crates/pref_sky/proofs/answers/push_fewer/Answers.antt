@@ -1,8 +1,4 @@
-use Rattle.std.proofs.Common.{◌≡◌, ◌++◌, ◌∷◌, [], Bool, map, take, sym, ◌∙◌, ap, append_assoc, ltb}
-use Rattle.std.specs.List.{count_by}
-use Rattle.std.proofs.lemmas.List.{map-append}
-use Rattle.pref_term.specs.Better.{in_same_group}
-use Rattle.pref_sky.specs.declared.entry.Ranked.{Ranked}
+use Rattle.pref_sky.proofs.Common.{◌≡◌, ◌++◌, ◌∷◌, [], Bool, map, take, sym, ◌∙◌, ap, append_assoc, ltb, count_by, map-append, in_same_group, Ranked}
 use Rattle.pref_sky.proofs.Loops.{front_more}
 use Rattle.pref_sky.proofs.answers.push_fewer.Goals as goal
 

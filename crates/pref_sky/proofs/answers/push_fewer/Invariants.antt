@@ -1,6 +1,4 @@
-use Rattle.std.proofs.Common.{◌≡◌, ◌++◌, map, take, nat_lt}
-use Rattle.std.specs.List.{count_by}
-use Rattle.pref_term.specs.Better.{in_same_group}
+use Rattle.pref_sky.proofs.Common.{◌≡◌, ◌++◌, map, take, nat_lt, count_by, in_same_group}
 use Rattle.pref_sky.proofs.answers.push_fewer.Given as goal
 
 abbrev pub invariant-loop-entry : goal.invariant-loop-entry

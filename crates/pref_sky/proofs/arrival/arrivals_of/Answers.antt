@@ -1,22 +1,11 @@
-use Rattle.std.proofs.Common.{rules, ◌≡◌, ◌∙◌, ◌≤◌, ◌<◌, ◌+◌, ◌∷◌, ◌++◌, [], Vec, Global, length, map, take, sym, ap, subst, arith}
-use Rattle.std.specs.Prelude.{All}
-use Rattle.std.proofs.lemmas.List.{length-map, take_all}
-use Rattle.std.proofs.lemmas.List.Sorted.{All-permutation, IsPermutation-map}
-use Rattle.pref_sky.specs.declared.entry.Entry.{Entry}
-use Rattle.pref_sky.specs.declared.arrival.Arrival.{Arrival}
-use Rattle.pref_sky.specs.declared.item.Item.{Item}
-use Rattle.pref_sky.specs.declared.pool.Pool.{Pool}
-use Rattle.pref_sky.specs.Arrivals.{IsArrival, KeepsUpper, arrived}
-use Rattle.pref_sky.specs.Items.{HasGrown, IsItem, entries_at, levels_at, parts_at}
-use Rattle.pref_sky.specs.Levels.{entry_order}
-use Rattle.pref_sky.specs.Partials.{IsBehind}
-use Rattle.pref_sky.specs.Parts.{levels_of, part_of}
-use Rattle.pref_sky.specs.Signatures.{signature_by}
+use Rattle.pref_sky.proofs.Common.{rules, ◌≡◌, ◌∙◌, ◌≤◌, ◌<◌, ◌+◌, ◌∷◌, ◌++◌, [], Vec, Global, length, map, take, sym, ap, subst, arith, All, length-map, take_all, All-permutation, IsPermutation-map}
+use Rattle.pref_sky.proofs.Common.{Entry, Arrival, Item, Pool, IsArrival, KeepsUpper, arrived, HasGrown, IsItem, entries_at, levels_at, parts_at, entry_order, IsBehind, levels_of, part_of}
+use Rattle.pref_sky.proofs.Common.{signature_by}
 use Rattle.pref_sky.proofs.Dealing.{arrival_here, arrivals_push, arrived_push, dealt_by_key, drops_one, keeps_moved, keeps_one, part_stays}
 use Rattle.pref_sky.proofs.Loops.{front_more}
 use Rattle.pref_sky.proofs.Pools.{entry_behind, grown_then, parts_grown}
-use Rattle.pref_sky.proofs.arrival.arrivals_of.Goals as goal
 use Rattle.pref_sky.proofs.arrival.arrivals_of.Goals.{then-start-cut+in_ok-item+in_ok-push, else-start-cut}
+use Rattle.pref_sky.proofs.arrival.arrivals_of.Goals as goal
 
 pub loop-entry-preserved : goal.loop-entry-preserved
 loop-entry-preserved g c =

@@ -1,10 +1,4 @@
-use Rattle.std.proofs.Common.{map, take}
-use Rattle.std.specs.Prelude.{All}
-use Rattle.pref_sky.specs.Arrivals.{IsArrival, KeepsUpper, arrived}
-use Rattle.pref_sky.specs.Items.{HasGrown, parts_at}
-use Rattle.pref_sky.specs.Levels.{entry_order}
-use Rattle.pref_sky.specs.Parts.{part_of}
-use Rattle.pref_sky.specs.Signatures.{signature_by}
+use Rattle.pref_sky.proofs.Common.{map, take, All, IsArrival, KeepsUpper, arrived, HasGrown, parts_at, entry_order, part_of, signature_by}
 use Rattle.pref_sky.proofs.arrival.arrivals_of.Given as goal
 
 abbrev pub invariant-loop-entry : goal.invariant-loop-entry

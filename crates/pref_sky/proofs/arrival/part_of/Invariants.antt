@@ -1,5 +1,4 @@
-use Rattle.std.proofs.Common.{◌≡◌, drop}
-use Rattle.pref_sky.specs.Parts.{mixed_onto}
+use Rattle.pref_sky.proofs.Common.{◌≡◌, drop, mixed_onto}
 use Rattle.pref_sky.proofs.arrival.part_of.Given as goal
 
 -- the columns that are left are mixed into the word

@@ -1,7 +1,4 @@
-use Rattle.std.proofs.Common.{◌≡◌, ◌+◌, ◌-◌, ◌/◌, ℕ, true, length, subst, arith}
-use Rattle.pref_sky.specs.Best.{is_beaten}
-use Rattle.pref_sky.specs.Items.{entries_at}
-use Rattle.pref_sky.specs.Levels.{entry_order}
+use Rattle.pref_sky.proofs.Common.{◌≡◌, ◌+◌, ◌-◌, ◌/◌, ℕ, true, length, subst, arith, is_beaten, entries_at, entry_order}
 use Rattle.pref_sky.proofs.Pools.{behind_level}
 use Rattle.pref_sky.proofs.arrival.start_of.Goals as goal
 

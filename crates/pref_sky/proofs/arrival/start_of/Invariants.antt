@@ -1,7 +1,4 @@
-use Rattle.std.proofs.Common.{◌≤◌, ◌<◌, ◌-◌, length}
-use Rattle.pref_sky.specs.Items.{levels_at}
-use Rattle.pref_sky.specs.Levels.{entry_order}
-use Rattle.pref_sky.specs.Partials.{IsBehind}
+use Rattle.pref_sky.proofs.Common.{◌≤◌, ◌<◌, ◌-◌, length, levels_at, entry_order, IsBehind}
 use Rattle.pref_sky.proofs.arrival.start_of.Given as goal
 
 abbrev pub invariant-halves : goal.invariant-halves

@@ -1,14 +1,5 @@
-use Rattle.std.proofs.Common.{rules, ◌≡◌, ◌==◌, ◌<◌, ◌++◌, ℕ, [], ◌∷◌, List, get_or, length, take, take_all, sym, ◌∙◌, ap, subst, arith}
-use Rattle.std.proofs.lemmas.List.{get_or_default, map-append, take_more}
-use Rattle.std.proofs.lemmas.List.Sorted.{IsNonDecreasingBy-from_sort_by_key}
-use Rattle.pref_term.specs.Order.{RowOrder}
-use Rattle.pref_sky.specs.declared.entry.Entry.{Entry}
-use Rattle.pref_sky.specs.declared.item.Item.{Item}
-use Rattle.pref_sky.specs.Best.{best}
-use Rattle.pref_sky.specs.Items.{AreItems, entries_at, entry_at, item_order}
-use Rattle.pref_sky.specs.Levels.{HaveDifferentIds, entry_order}
-use Rattle.pref_sky.specs.Passes.{Parted}
-use Rattle.pref_sky.specs.Signatures.{signature_by}
+use Rattle.pref_sky.proofs.Common.{rules, ◌≡◌, ◌==◌, ◌<◌, ◌++◌, ℕ, [], ◌∷◌, List, get_or, length, take, take_all, sym, ◌∙◌, ap, subst, arith, get_or_default, map-append, take_more}
+use Rattle.pref_sky.proofs.Common.{IsNonDecreasingBy-from_sort_by_key, RowOrder, Entry, Item, best, AreItems, entries_at, entry_at, item_order, HaveDifferentIds, entry_order, Parted, signature_by}
 use Rattle.pref_sky.proofs.Merges.{different_best}
 use Rattle.pref_sky.proofs.Orders.{same_in_order, sorted_is}
 use Rattle.pref_sky.proofs.Parting.{best_are}

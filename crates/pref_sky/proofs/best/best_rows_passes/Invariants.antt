@@ -1,5 +1,4 @@
-use Rattle.std.proofs.Common.{◌≡◌, take}
-use Rattle.pref_sky.specs.Items.{entries_at}
+use Rattle.pref_sky.proofs.Common.{◌≡◌, take, entries_at}
 use Rattle.pref_sky.proofs.best.best_rows_passes.Given as goal
 
 abbrev pub invariant-loop-item : goal.invariant-loop-item

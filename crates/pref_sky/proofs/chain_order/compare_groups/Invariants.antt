@@ -1,5 +1,4 @@
-use Rattle.std.proofs.Common.{◌≡◌, drop}
-use Rattle.pref_sky.specs.Stairs.{earlier_in}
+use Rattle.pref_sky.proofs.Common.{◌≡◌, drop, earlier_in}
 use Rattle.pref_sky.proofs.chain_order.compare_groups.Given as goal
 
 -- the columns so far see no difference

@@ -1,5 +1,4 @@
-use Rattle.std.proofs.Common.{◌≡◌, map, take}
-use Rattle.pref_sky.specs.Levels.{entry_of}
+use Rattle.pref_sky.proofs.Common.{◌≡◌, map, take, entry_of}
 use Rattle.pref_sky.proofs.entry.entries_of.Given as goal
 
 abbrev pub invariant-loop-entry : goal.invariant-loop-entry

@@ -1,6 +1,4 @@
-use Rattle.std.proofs.Common.{◌-◌, ◌≡◌, ◌<◌, ◌≤◌, true, false, get_or, length}
-use Rattle.pref_sky.specs.ChainOrders.{own_order}
-use Rattle.pref_sky.specs.Items.{entry_at}
+use Rattle.pref_sky.proofs.Common.{◌-◌, ◌≡◌, ◌<◌, ◌≤◌, true, false, get_or, length, own_order, entry_at}
 use Rattle.pref_sky.proofs.layers.count_above.Given as goal
 
 abbrev pub invariant-halves : goal.invariant-halves

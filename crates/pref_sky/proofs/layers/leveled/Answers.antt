@@ -1,15 +1,9 @@
-use Rattle.std.proofs.Common.{◌≡◌, ◌∙◌, ◌+◌, ◌++◌, ◌∷◌, [], ℕ, Vec, Global, sym, ap, subst, take, add-one}
-use Rattle.std.proofs.lemmas.List.{get_or_read}
-use Rattle.pref_sky.specs.declared.entry.Ranked.{Ranked}
-use Rattle.pref_sky.specs.ChainOrders.{own_order}
-use Rattle.pref_sky.specs.Items.{entry_at}
-use Rattle.pref_sky.specs.Layers.{StandsBehind, leveled}
-use Rattle.pref_sky.specs.Levels.{at_level}
+use Rattle.pref_sky.proofs.Common.{◌≡◌, ◌∙◌, ◌+◌, ◌++◌, ◌∷◌, [], ℕ, Vec, Global, sym, ap, subst, take, add-one, get_or_read, Ranked, own_order, entry_at, StandsBehind, leveled, at_level}
 use Rattle.pref_sky.proofs.ChainOrders.{own_are_stairs, stands_behind}
 use Rattle.pref_sky.proofs.Layering.{AreLasts, lasts_more, lasts_stay, next_chain}
 use Rattle.pref_sky.proofs.Leveled.{listed_as_it_was, listed_more}
-use Rattle.pref_sky.proofs.layers.leveled.Goals as goal
 use Rattle.pref_sky.proofs.layers.leveled.Goals.{then-above-order+in_ok-note_last+in_ok-push, else-above-order}
+use Rattle.pref_sky.proofs.layers.leveled.Goals as goal
 
 pub loop-place-preserved : goal.loop-place-preserved
 loop-place-preserved c =

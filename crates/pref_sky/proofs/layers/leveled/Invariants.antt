@@ -1,6 +1,4 @@
-use Rattle.std.proofs.Common.{◌≡◌, take}
-use Rattle.pref_sky.specs.ChainOrders.{own_order}
-use Rattle.pref_sky.specs.Layers.{leveled}
+use Rattle.pref_sky.proofs.Common.{◌≡◌, take, own_order, leveled}
 use Rattle.pref_sky.proofs.Layering.{AreLasts}
 use Rattle.pref_sky.proofs.layers.leveled.Given as goal
 

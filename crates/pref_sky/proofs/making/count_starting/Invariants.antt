@@ -1,6 +1,4 @@
-use Rattle.std.proofs.Common.{◌≡◌, ◌≤◌, ◌-◌, length, take}
-use Rattle.std.specs.Prelude.{All}
-use Rattle.pref_sky.specs.declared.arrival.Arrival.{Arrival}
+use Rattle.pref_sky.proofs.Common.{◌≡◌, ◌≤◌, ◌-◌, length, take, All, Arrival}
 use Rattle.pref_sky.proofs.making.count_starting.Given as goal
 
 abbrev pub invariant-front : goal.invariant-front

@@ -1,4 +1,4 @@
-use Rattle.std.proofs.Common.{◌∙◌}
+use Rattle.pref_sky.proofs.Common.{◌∙◌}
 use Rattle.pref_sky.proofs.Pools.{level_there, no_level}
 use Rattle.pref_sky.proofs.making.level_at.Goals as goal
 

@@ -1,16 +1,10 @@
-use Rattle.std.proofs.Common.{◌≡◌, ◌≤◌, ◌<◌, ◌⊎◌, inl, inr, ◌++◌, map, get_or, length, take, drop, vec_len, sym, ◌∙◌, ap, subst, arith}
-use Rattle.std.proofs.lemmas.Bool.{both_ways, eqb-true}
-use Rattle.std.specs.Prelude.{All}
-use Rattle.pref_sky.specs.declared.arrival.Arrival.{Arrival}
-use Rattle.pref_sky.specs.Items.{AreAllItems, item_order, items_at}
-use Rattle.pref_sky.specs.Levels.{entry_order}
-use Rattle.pref_sky.specs.Passes.{Parted}
-use Rattle.pref_sky.specs.Signatures.{signature_by}
+use Rattle.pref_sky.proofs.Common.{◌≡◌, ◌≤◌, ◌<◌, ◌⊎◌, inl, inr, ◌++◌, map, get_or, length, take, drop, vec_len, sym, ◌∙◌, ap, subst, arith, both_ways, eqb-true, All, Arrival, AreAllItems, item_order}
+use Rattle.pref_sky.proofs.Common.{items_at, entry_order, Parted, signature_by}
 use Rattle.pref_sky.proofs.Members.{among_place}
 use Rattle.pref_sky.proofs.Merges.{entry_order_is_strict}
 use Rattle.pref_sky.proofs.MadeItems.{MakingItems, first_inside, first_starts, making_items_begin, making_items_end, making_items_more}
-use Rattle.pref_sky.proofs.making.made_of.Goals as goal
 use Rattle.pref_sky.proofs.making.made_of.Goals.{then-each_level-test+else-not-is_empty, then-is_empty, else-is_empty, else-each_level-test}
+use Rattle.pref_sky.proofs.making.made_of.Goals as goal
 
 pub each_level-init : goal.each_level-init
 each_level-init g c =

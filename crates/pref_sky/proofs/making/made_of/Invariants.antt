@@ -1,4 +1,4 @@
-use Rattle.std.proofs.Common.{◌≤◌, ◌-◌, max, length, vec_len}
+use Rattle.pref_sky.proofs.Common.{◌≤◌, ◌-◌, max, length, vec_len}
 use Rattle.pref_sky.proofs.MadeItems.{MakingItems}
 use Rattle.pref_sky.proofs.making.made_of.Given as goal
 

@@ -1,9 +1,4 @@
-use Rattle.std.proofs.Common.{◌∙◌, ◌∷◌, [], length, take, Vec, vec_len, ap, subst, sym, arith}
-use Rattle.std.specs.Global.{Global}
-use Rattle.std.proofs.lemmas.List.{take-append-le}
-use Rattle.std.proofs.lemmas.List.Elements.{All-push}
-use Rattle.pref_sky.specs.declared.item.Item.{Item}
-use Rattle.pref_sky.specs.Items.{AreAllItems, AreItems}
+use Rattle.pref_sky.proofs.Common.{◌∙◌, ◌∷◌, [], length, take, Vec, vec_len, ap, subst, sym, arith, Global, take-append-le, All-push, Item, AreAllItems, AreItems}
 use Rattle.pref_sky.proofs.making.push_empty.Goals as goal
 
 pub each-preserved : goal.each-preserved

@@ -1,6 +1,4 @@
-use Rattle.std.proofs.Common.{◌≡◌, ◌≤◌, ◌-◌, ℕ, List, max, take, vec_len}
-use Rattle.pref_sky.specs.declared.entry.Entry.{Entry}
-use Rattle.pref_sky.specs.Items.{AreAllItems}
+use Rattle.pref_sky.proofs.Common.{◌≡◌, ◌≤◌, ◌-◌, ℕ, List, max, take, vec_len, Entry, AreAllItems}
 use Rattle.pref_sky.proofs.making.push_empty.Given as goal
 
 abbrev pub invariant-each : goal.invariant-each

@@ -1,5 +1,4 @@
-use Rattle.std.proofs.Common.{◌≡◌, ◌++◌, map, take}
-use Rattle.pref_sky.specs.declared.arrival.Arrival.{Arrival}
+use Rattle.pref_sky.proofs.Common.{◌≡◌, ◌++◌, map, take, Arrival}
 use Rattle.pref_sky.proofs.making.push_items.Given as goal
 
 abbrev pub invariant-loop-arrival : goal.invariant-loop-arrival

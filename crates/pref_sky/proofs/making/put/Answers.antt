@@ -1,13 +1,7 @@
-use Rattle.std.proofs.Common.{◌≡◌, ◌≤◌, ◌<◌, ◌+◌, Vec, max, length, get_or, set, arith, sym, ◌∙◌, subst, ◌⊎◌, inl, inr}
-use Rattle.std.specs.Global.{Global}
-use Rattle.std.proofs.lemmas.Bool.{cases_lt}
-use Rattle.std.proofs.lemmas.List.{get_or_read, same_lists}
-use Rattle.pref_sky.specs.declared.item.Item.{Item}
-use Rattle.pref_sky.specs.Made.{new_levels}
-use Rattle.pref_sky.specs.Partials.{replaced}
+use Rattle.pref_sky.proofs.Common.{◌≡◌, ◌≤◌, ◌<◌, ◌+◌, Vec, max, length, get_or, set, arith, sym, ◌∙◌, subst, ◌⊎◌, inl, inr, Global, cases_lt, get_or_read, same_lists, Item, new_levels, replaced}
 use Rattle.pref_sky.proofs.Replacements.{Taking, one_stays, one_taken, stays_there, taken_here, taken_long}
-use Rattle.pref_sky.proofs.making.put.Goals as goal
 use Rattle.pref_sky.proofs.making.put.Goals.{then-place-first, then-place-first-via-then-place-first, then-place-first-via-else-place-first+then-end-place, else-place-first+else-end-place}
+use Rattle.pref_sky.proofs.making.put.Goals as goal
 
 pub loop-place-preserved : goal.loop-place-preserved
 loop-place-preserved c =

@@ -1,5 +1,4 @@
-use Rattle.std.proofs.Common.{◌-◌, take, drop}
-use Rattle.pref_sky.specs.Partials.{replaced}
+use Rattle.pref_sky.proofs.Common.{◌-◌, take, drop, replaced}
 use Rattle.pref_sky.proofs.Replacements.{Taking}
 use Rattle.pref_sky.proofs.making.put.Given as goal
 

@@ -1,8 +1,4 @@
-use Rattle.std.proofs.Common.{rules, ◌≡◌, true, false}
-use Rattle.std.specs.List.Sorted.{IsPartitionPoint}
-use Rattle.std.proofs.lemmas.List.Sorted.{IsPartitionPoint-from_clause}
-use Rattle.pref_sky.specs.ChainOrders.{comes_before}
-use Rattle.pref_sky.specs.declared.entry.Entry.{Entry}
+use Rattle.pref_sky.proofs.Common.{rules, ◌≡◌, true, false, IsPartitionPoint, IsPartitionPoint-from_clause, comes_before, Entry}
 use Rattle.pref_sky.proofs.ChainOrders.{before_is_chain}
 use Rattle.pref_sky.proofs.MergedLists.{fails_behind, parted_by_entry, passes_before}
 use Rattle.pref_sky.proofs.merging.count_before.Goals as goal

@@ -1,11 +1,7 @@
-use Rattle.std.proofs.Common.{◌≡◌, ◌∙◌, ◌++◌, ◌+◌, [], ◌∷◌, true, false, not, take, drop, sym, ap, subst, append_assoc, take-append-drop}
-use Rattle.std.specs.List.Sorted.{IsPermutation}
-use Rattle.std.proofs.lemmas.List.{drop_more}
-use Rattle.pref_sky.specs.declared.entry.Entry.{Entry}
-use Rattle.pref_sky.specs.ChainOrders.{AreInOrder, comes_before}
+use Rattle.pref_sky.proofs.Common.{◌≡◌, ◌∙◌, ◌++◌, ◌+◌, [], ◌∷◌, true, false, not, take, drop, sym, ap, subst, append_assoc, take-append-drop, IsPermutation, drop_more, Entry, AreInOrder}
+use Rattle.pref_sky.proofs.Common.{comes_before, Among}
 use Rattle.pref_sky.proofs.ChainOrders.{before_is_chain}
 use Rattle.pref_sky.proofs.Loops.{front_more}
-use Rattle.pref_sky.proofs.Members.{Among}
 use Rattle.pref_sky.proofs.MergedLists.{below_later, in_order_back, merged_more, moved_more}
 use Rattle.pref_sky.proofs.merging.merge.Goals as goal
 

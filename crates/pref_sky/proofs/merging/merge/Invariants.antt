@@ -1,8 +1,4 @@
-use Rattle.std.proofs.Common.{◌≡◌, ◌++◌, false, drop, take}
-use Rattle.std.specs.List.Sorted.{IsPermutation}
-use Rattle.pref_sky.specs.declared.entry.Entry.{Entry}
-use Rattle.pref_sky.specs.ChainOrders.{AreInOrder, comes_before}
-use Rattle.pref_sky.specs.Members.{Among}
+use Rattle.pref_sky.proofs.Common.{◌≡◌, ◌++◌, false, drop, take, IsPermutation, Entry, AreInOrder, comes_before, Among}
 use Rattle.pref_sky.proofs.merging.merge.Given as goal
 
 -- what is merged stands in order in front of what is left of both lists

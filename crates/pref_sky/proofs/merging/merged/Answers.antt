@@ -1,7 +1,4 @@
-use Rattle.std.proofs.Common.{◌++◌, subst}
-use Rattle.std.specs.List.Sorted.{IsPermutation}
-use Rattle.std.proofs.lemmas.List.Sorted.{IsPermutation-append_right, IsPermutation-trans}
-use Rattle.std.proofs.lemmas.Result.{IfOk-weaker}
+use Rattle.pref_sky.proofs.Common.{◌++◌, subst, IsPermutation, IsPermutation-append_right, IsPermutation-trans, IfOk-weaker}
 use Rattle.pref_sky.proofs.merging.merged.Goals as goal
 
 pub returns : goal.returns

@@ -1,4 +1,4 @@
-use Rattle.std.proofs.Common.{◌≡◌, ◌++◌, take}
+use Rattle.pref_sky.proofs.Common.{◌≡◌, ◌++◌, take}
 use Rattle.pref_sky.proofs.merging.push_all.Given as goal
 
 abbrev pub invariant-loop-entry : goal.invariant-loop-entry

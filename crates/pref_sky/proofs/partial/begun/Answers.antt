@@ -1,9 +1,4 @@
-use Rattle.std.proofs.Common.{◌≡◌, ◌++◌, map, sym, ◌∙◌, ap, subst}
-use Rattle.std.specs.Prelude.{IfSome}
-use Rattle.pref_term.specs.Chains.{IsProductOf}
-use Rattle.pref_sky.specs.declared.chain_order.ChainOrder.{ChainOrder}
-use Rattle.pref_sky.specs.ChainOrders.{own_levels}
-use Rattle.pref_sky.specs.Levels.{entry_of, entry_order, levels}
+use Rattle.pref_sky.proofs.Common.{◌≡◌, ◌++◌, map, sym, ◌∙◌, ap, subst, IfSome, IsProductOf, ChainOrder, own_levels, entry_of, entry_order, levels}
 use Rattle.pref_sky.proofs.LevelLaws.{held_differ}
 use Rattle.pref_sky.proofs.Merges.{entry_order_is_strict}
 use Rattle.pref_sky.proofs.SortedLevels.{merge, says_its_levels}

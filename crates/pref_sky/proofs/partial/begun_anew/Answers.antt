@@ -1,6 +1,4 @@
-use Rattle.std.proofs.Common.{◌≡◌, ◌++◌, [], map, sym, ◌∙◌, ap, subst}
-use Rattle.std.proofs.lemmas.Result.{IfOk-weaker}
-use Rattle.pref_sky.specs.Levels.{HaveDifferentIds, entry_of, entry_order, levels}
+use Rattle.pref_sky.proofs.Common.{◌≡◌, ◌++◌, [], map, sym, ◌∙◌, ap, subst, IfOk-weaker, HaveDifferentIds, entry_of, entry_order, levels}
 use Rattle.pref_sky.proofs.LevelLaws.{levels_of_none}
 use Rattle.pref_sky.proofs.Merges.{entry_order_is_strict}
 use Rattle.pref_sky.proofs.SortedLevels.{merge}

@@ -1,7 +1,4 @@
-use Rattle.std.proofs.Common.{◌≡◌, arith, ap, ◌∙◌}
-use Rattle.std.proofs.lemmas.List.{get_or_default}
-use Rattle.std.proofs.lemmas.List.Elements.{All-more}
-use Rattle.pref_sky.specs.declared.arrival.Arrival.{Arrival}
+use Rattle.pref_sky.proofs.Common.{◌≡◌, arith, ap, ◌∙◌, get_or_default, All-more, Arrival}
 use Rattle.pref_sky.proofs.PartArrivals.{coming_in_front, later_behind}
 use Rattle.pref_sky.proofs.parts.count_coming.Goals as goal
 

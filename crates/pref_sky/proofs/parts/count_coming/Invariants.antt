@@ -1,5 +1,4 @@
-use Rattle.std.proofs.Common.{◌≡◌, ◌≤◌, ◌-◌, length, take}
-use Rattle.std.specs.Prelude.{All}
+use Rattle.pref_sky.proofs.Common.{◌≡◌, ◌≤◌, ◌-◌, length, take, All}
 use Rattle.pref_sky.proofs.parts.count_coming.Given as goal
 
 abbrev pub invariant-front : goal.invariant-front

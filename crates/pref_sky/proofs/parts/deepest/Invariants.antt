@@ -1,7 +1,4 @@
-use Rattle.std.proofs.Common.{◌≡◌, List, drop, max}
-use Rattle.pref_sky.specs.declared.entry.Entry.{Entry}
-use Rattle.pref_sky.specs.Items.{parts_at}
-use Rattle.pref_sky.specs.Parts.{depth}
+use Rattle.pref_sky.proofs.Common.{◌≡◌, List, drop, max, Entry, parts_at, depth}
 use Rattle.pref_sky.proofs.parts.deepest.Given as goal
 
 abbrev pub invariant-loop-levels : goal.invariant-loop-levels

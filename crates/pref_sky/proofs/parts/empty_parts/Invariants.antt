@@ -1,7 +1,5 @@
-use Rattle.std.proofs.Common.{◌≡◌, ◌≤◌, ◌-◌, [], Vec, length}
-use Rattle.std.specs.Global.{Global}
+use Rattle.pref_sky.proofs.Common.{◌≡◌, ◌≤◌, ◌-◌, [], Vec, length, Global, Item}
 use Rattle.std.specs.List.{All}
-use Rattle.pref_sky.specs.declared.item.Item.{Item}
 use Rattle.pref_sky.proofs.parts.empty_parts.Given as goal
 
 abbrev pub invariant-each_part : goal.invariant-each_part

@@ -1,12 +1,5 @@
-use Rattle.std.proofs.Common.{◌≡◌, ◌<◌, length, get_or, drop, arith, subst, sym, ◌∙◌, refl, false, eqb}
-use Rattle.std.proofs.lemmas.Bool.{eqb-false}
-use Rattle.pref_sky.specs.Arrivals.{AreInOrderOfStart, StartsAt}
-use Rattle.pref_sky.specs.Items.{levels_at, levels_in}
-use Rattle.pref_sky.specs.Levels.{entry_order}
-use Rattle.pref_sky.specs.Made.{AreLevelsMade}
-use Rattle.pref_sky.specs.Signatures.{signature_by}
-use Rattle.pref_sky.specs.declared.arrival.Arrival.{Arrival}
-use Rattle.std.specs.Prelude.{All}
+use Rattle.pref_sky.proofs.Common.{◌≡◌, ◌<◌, length, get_or, drop, arith, subst, sym, ◌∙◌, refl, false, eqb, eqb-false, AreInOrderOfStart, StartsAt, levels_at, levels_in, entry_order, AreLevelsMade}
+use Rattle.pref_sky.proofs.Common.{signature_by, Arrival, All}
 use Rattle.pref_sky.proofs.Members.{among_place}
 use Rattle.pref_sky.proofs.PartArrivals.{by_start, first_part}
 use Rattle.pref_sky.proofs.PartItems.{in_here}

@@ -1,6 +1,4 @@
-use Rattle.std.proofs.Common.{length}
-use Rattle.pref_sky.specs.Levels.{entry_order}
-use Rattle.pref_sky.specs.Signatures.{signature_by}
+use Rattle.pref_sky.proofs.Common.{length, entry_order, signature_by}
 use Rattle.pref_sky.proofs.PartSteps.{MakingParts}
 use Rattle.pref_sky.proofs.parts.made_all.Given as goal
 

@@ -1,6 +1,4 @@
-use Rattle.std.proofs.Common.{◌≡◌, ◌++◌, map, take}
-use Rattle.pref_sky.specs.Items.{entries_at}
-use Rattle.pref_sky.specs.Levels.{at_level}
+use Rattle.pref_sky.proofs.Common.{◌≡◌, ◌++◌, map, take, entries_at, at_level}
 use Rattle.pref_sky.proofs.parts.push_items.Given as goal
 
 abbrev pub invariant-loop-item : goal.invariant-loop-item

@@ -1,10 +1,5 @@
-use Rattle.std.proofs.Common.{◌≡◌, ◌∙◌, ◌+◌, ◌++◌, suc, List, Vec, Global, drop, map, sym, ap, subst, append_assoc, add-one}
-use Rattle.std.proofs.lemmas.List.{at_drop_more, map-append}
-use Rattle.pref_sky.specs.declared.item.Item.{Item}
-use Rattle.pref_sky.specs.Items.{AreAllItems, AreItems, entries_at, levels_at, parts_at}
-use Rattle.pref_sky.specs.Levels.{at_level}
-use Rattle.pref_sky.specs.Partials.{held_at}
-use Rattle.pref_sky.specs.Parts.{all_at}
+use Rattle.pref_sky.proofs.Common.{◌≡◌, ◌∙◌, ◌+◌, ◌++◌, suc, List, Vec, Global, drop, map, sym, ap, subst, append_assoc, add-one, at_drop_more, map-append, Item, AreAllItems, AreItems, entries_at}
+use Rattle.pref_sky.proofs.Common.{levels_at, parts_at, at_level, held_at, all_at}
 use Rattle.pref_sky.proofs.Pools.{entries_held, items_held}
 use Rattle.pref_sky.proofs.parts.push_parts.Goals as goal
 

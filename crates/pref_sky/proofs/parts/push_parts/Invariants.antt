@@ -1,7 +1,4 @@
-use Rattle.std.proofs.Common.{◌≡◌, ◌++◌, suc, drop, map}
-use Rattle.pref_sky.specs.Items.{parts_at}
-use Rattle.pref_sky.specs.Levels.{at_level}
-use Rattle.pref_sky.specs.Parts.{all_at}
+use Rattle.pref_sky.proofs.Common.{◌≡◌, ◌++◌, suc, drop, map, parts_at, at_level, all_at}
 use Rattle.pref_sky.proofs.parts.push_parts.Given as goal
 
 -- the entries of the parts that are left are put behind

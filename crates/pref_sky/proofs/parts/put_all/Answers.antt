@@ -1,10 +1,6 @@
-use Rattle.std.proofs.Common.{◌≡◌, ◌<◌, ◌++◌, ◌∷◌, [], length, ap, arith, subst, sym, ◌∙◌, append_assoc, inl, refl, ltb}
+use Rattle.pref_sky.proofs.Common.{◌≡◌, ◌<◌, ◌++◌, ◌∷◌, [], length, ap, arith, subst, sym, ◌∙◌, append_assoc, inl, refl, ltb, AreInOrderOfPart, Fits, new_levels, replaced, Made, levels_in, Among}
 use Rattle.std.specs.Vec.Iter.{into_iter_items}
-use Rattle.pref_sky.specs.Made.{AreInOrderOfPart, Fits, new_levels}
-use Rattle.pref_sky.specs.Partials.{replaced}
-use Rattle.pref_sky.specs.declared.making.Made.{Made}
-use Rattle.pref_sky.specs.Items.{levels_in}
-use Rattle.pref_sky.proofs.Members.{Among, all_among, in_left, in_right}
+use Rattle.pref_sky.proofs.Members.{all_among, in_left, in_right}
 use Rattle.pref_sky.proofs.MergedLists.{in_order_front}
 use Rattle.pref_sky.proofs.PartItems.{in_here}
 use Rattle.pref_sky.proofs.PartSteps.{putting_more, still_there}

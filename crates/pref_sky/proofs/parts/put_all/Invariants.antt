@@ -1,6 +1,5 @@
-use Rattle.std.proofs.Common.{◌≡◌, ◌++◌}
+use Rattle.pref_sky.proofs.Common.{◌≡◌, ◌++◌, ArePut}
 use Rattle.std.specs.Vec.Iter.{into_iter_items}
-use Rattle.pref_sky.specs.Made.{ArePut}
 use Rattle.pref_sky.proofs.parts.put_all.Given as goal
 
 abbrev pub invariant-loop-made : goal.invariant-loop-made

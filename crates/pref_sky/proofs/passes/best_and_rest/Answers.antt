@@ -1,7 +1,4 @@
-use Rattle.std.proofs.Common.{◌≡◌, ◌∙◌, ◌<◌, [], ◌++◌, length, sym, ap, subst, arith, length-append, vec_len}
-use Rattle.std.proofs.lemmas.Bool.{eqb-true, eqb-false}
-use Rattle.pref_sky.specs.Items.{item_order}
-use Rattle.pref_sky.specs.Passes.{Parted, Passes, Passing}
+use Rattle.pref_sky.proofs.Common.{◌≡◌, ◌∙◌, ◌<◌, [], ◌++◌, length, sym, ap, subst, arith, length-append, vec_len, eqb-true, eqb-false, item_order, Parted, Passes, Passing}
 use Rattle.pref_sky.proofs.Items.{item_order_is_strict}
 use Rattle.pref_sky.proofs.Merges.{entry_order_is_strict}
 use Rattle.pref_sky.proofs.PassSteps.{more_settled, of_same_lists, parted_held, pass_ends, pass_long, passes_begin, passes_end}

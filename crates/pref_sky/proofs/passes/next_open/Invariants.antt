@@ -1,6 +1,4 @@
-use Rattle.std.proofs.Common.{ℕ, ◌≤◌, ◌<◌, ◌+◌, get_or}
-use Rattle.pref_sky.specs.declared.item.Item.{Item}
-use Rattle.pref_sky.specs.Passes.{IsTold}
+use Rattle.pref_sky.proofs.Common.{ℕ, ◌≤◌, ◌<◌, ◌+◌, get_or, Item, IsTold}
 use Rattle.pref_sky.proofs.passes.next_open.Given as goal
 
 abbrev pub invariant-loop-skipped : goal.invariant-loop-skipped

@@ -1,7 +1,4 @@
-use Rattle.std.proofs.Common.{◌≡◌, true, sym, subst, inl, inr}
-use Rattle.pref_sky.specs.Best.{IsApart, is_beaten}
-use Rattle.pref_sky.specs.Items.{item_order}
-use Rattle.pref_sky.specs.Passes.{IsClear, IsMet, Passing}
+use Rattle.pref_sky.proofs.Common.{◌≡◌, true, sym, subst, inl, inr, IsApart, is_beaten, item_order, IsClear, IsMet, Passing}
 use Rattle.pref_sky.proofs.Members.{any_gives}
 use Rattle.pref_sky.proofs.Merges.{entry_order_is_strict}
 use Rattle.pref_sky.proofs.Items.{item_order_is_strict}

@@ -1,7 +1,4 @@
-use Rattle.std.proofs.Common.{◌≡◌, ◌∙◌, ◌+◌, [], ◌∷◌, drop, sym, ap, subst, arith, add-one, drop_of_length-le, get_or}
-use Rattle.std.proofs.Math.Seq.{drop-cons}
-use Rattle.pref_sky.specs.Items.{item_order}
-use Rattle.pref_sky.specs.Passes.{Passes}
+use Rattle.pref_sky.proofs.Common.{◌≡◌, ◌∙◌, ◌+◌, [], ◌∷◌, drop, sym, ap, subst, arith, add-one, drop_of_length-le, get_or, drop-cons, item_order, Passes}
 use Rattle.pref_sky.proofs.passes.offer_all.Goals as goal
 
 pub loop-item-preserved : goal.loop-item-preserved

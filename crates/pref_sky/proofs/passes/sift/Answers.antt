@@ -1,19 +1,11 @@
-use Rattle.std.proofs.Common.{◌≡◌, ◌∙◌, ◌<◌, ◌+◌, ◌/◌, true, length, sym, ap, subst, arith, vec_len, Vec}
-use Rattle.std.specs.Global.{Global}
-use Rattle.std.specs.List.{swap_remove}
-use Rattle.std.proofs.lemmas.List.{get_or_default}
-use Rattle.std.proofs.lemmas.List.Sorted.{IsPermutation-swap}
-use Rattle.pref_term.specs.Order.{is_better, is_worse, is_same}
-use Rattle.pref_sky.specs.declared.item.Item.{Item}
-use Rattle.pref_sky.specs.Items.{item_order}
-use Rattle.pref_sky.specs.Members.{Among}
-use Rattle.pref_sky.specs.Passes.{Sifted}
+use Rattle.pref_sky.proofs.Common.{◌≡◌, ◌∙◌, ◌<◌, ◌+◌, ◌/◌, true, length, sym, ap, subst, arith, vec_len, Vec, Global, swap_remove, get_or_default, IsPermutation-swap, is_better, is_worse, is_same}
+use Rattle.pref_sky.proofs.Common.{Item, item_order, Among, Sifted}
 use Rattle.pref_sky.proofs.Bags.{among_if, is_item, some_of}
 use Rattle.pref_sky.proofs.Members.{among_place, any_from}
 use Rattle.pref_sky.proofs.Orders.{same_if_permuted}
 use Rattle.pref_sky.proofs.Sifting.{AreClear, AreTold, clear_if_alike, clear_after_move, clear_by_place, clear_more, clear_upto, sifted_more, sifted_moved, sifted_none}
-use Rattle.pref_sky.proofs.passes.sift.Goals as goal
 use Rattle.pref_sky.proofs.passes.sift.Goals.{in-Worse+in_ok-push-in-Worse, in-Neither}
+use Rattle.pref_sky.proofs.passes.sift.Goals as goal
 
 -- one of the list is alike
 pub returns-in-Same : goal.returns-in-Same

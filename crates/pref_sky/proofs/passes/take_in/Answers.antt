@@ -1,6 +1,4 @@
-use Rattle.std.proofs.Common.{◌≡◌, ◌<◌, ◌≤◌, ◌+◌, length, refl, sym, ◌∙◌, subst, arith, vec_len, inl, inr}
-use Rattle.std.proofs.lemmas.Bool.{eqb-true, eqb-false}
-use Rattle.pref_sky.specs.Passes.{Passing}
+use Rattle.pref_sky.proofs.Common.{◌≡◌, ◌<◌, ◌≤◌, ◌+◌, length, refl, sym, ◌∙◌, subst, arith, vec_len, inl, inr, eqb-true, eqb-false, Passing}
 use Rattle.pref_sky.proofs.PassSteps.{pass_joined, pass_overflows}
 use Rattle.pref_sky.proofs.passes.take_in.Goals as goal
 

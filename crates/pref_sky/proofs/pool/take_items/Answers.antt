@@ -1,10 +1,5 @@
-use Rattle.std.proofs.Common.{◌≡◌, ◌∙◌, ◌<◌, ◌+◌, ◌∷◌, ◌++◌, [], get_or, length, take, sym, ap, subst, arith}
-use Rattle.std.proofs.lemmas.List.{get_or_default}
-use Rattle.std.proofs.lemmas.List.Elements.{All-push}
-use Rattle.pref_sky.specs.declared.entry.Entry.{Entry}
-use Rattle.pref_sky.specs.declared.item.Item.{Item}
-use Rattle.pref_sky.specs.Items.{AreItems, IsItem, entries_at, entry_at}
-use Rattle.pref_sky.specs.Signatures.{signature_by}
+use Rattle.pref_sky.proofs.Common.{◌≡◌, ◌∙◌, ◌<◌, ◌+◌, ◌∷◌, ◌++◌, [], get_or, length, take, sym, ap, subst, arith, get_or_default, All-push, Entry, Item, AreItems, IsItem, entries_at, entry_at}
+use Rattle.pref_sky.proofs.Common.{signature_by}
 use Rattle.pref_sky.proofs.Pools.{entries_grown, entry_behind, grown_none, grown_then, items_grown, result_more}
 use Rattle.pref_sky.proofs.pool.take_items.Goals as goal
 

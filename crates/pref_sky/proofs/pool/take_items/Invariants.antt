@@ -1,6 +1,4 @@
-use Rattle.std.proofs.Common.{◌≡◌, take}
-use Rattle.pref_sky.specs.Items.{AreItems, HasGrown, entries_at}
-use Rattle.pref_sky.specs.Signatures.{signature_by}
+use Rattle.pref_sky.proofs.Common.{◌≡◌, take, AreItems, HasGrown, entries_at, signature_by}
 use Rattle.pref_sky.proofs.pool.take_items.Given as goal
 
 abbrev pub invariant-loop-item : goal.invariant-loop-item

@@ -1,9 +1,4 @@
-use Rattle.std.proofs.Common.{◌≡◌, ◌∙◌, ◌+◌, ◌∷◌, ◌++◌, [], Vec, length, take, sym, ap, subst, arith}
-use Rattle.std.proofs.lemmas.List.Elements.{All-push}
-use Rattle.std.specs.Global.{Global}
-use Rattle.pref_sky.specs.declared.item.Item.{Item}
-use Rattle.pref_sky.specs.Items.{AreAllItems, AreItems, entries_at, levels_at}
-use Rattle.pref_sky.specs.Signatures.{signature_by}
+use Rattle.pref_sky.proofs.Common.{◌≡◌, ◌∙◌, ◌+◌, ◌∷◌, ◌++◌, [], Vec, length, take, sym, ap, subst, arith, All-push, Global, Item, AreAllItems, AreItems, entries_at, levels_at, signature_by}
 use Rattle.pref_sky.proofs.Pools.{all_items_grown, grown_none, grown_then, levels_grown, result_more}
 use Rattle.pref_sky.proofs.pool.take_levels.Goals as goal
 

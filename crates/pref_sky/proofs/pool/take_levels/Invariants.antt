@@ -1,6 +1,4 @@
-use Rattle.std.proofs.Common.{◌≡◌, take}
-use Rattle.pref_sky.specs.Items.{AreAllItems, HasGrown, levels_at}
-use Rattle.pref_sky.specs.Signatures.{signature_by}
+use Rattle.pref_sky.proofs.Common.{◌≡◌, take, AreAllItems, HasGrown, levels_at, signature_by}
 use Rattle.pref_sky.proofs.pool.take_levels.Given as goal
 
 abbrev pub invariant-loop-level : goal.invariant-loop-level

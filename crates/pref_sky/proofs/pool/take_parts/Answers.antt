@@ -1,9 +1,5 @@
-use Rattle.std.proofs.Common.{◌≡◌, ◌∙◌, ◌+◌, ◌∷◌, ◌++◌, [], Vec, length, length-append, take, sym, ap, subst, arith}
-use Rattle.std.proofs.lemmas.List.Elements.{All-push}
-use Rattle.std.specs.Global.{Global}
-use Rattle.pref_sky.specs.declared.item.Item.{Item}
-use Rattle.pref_sky.specs.Items.{AreInPool, AreAllItems, levels_at, parts_at}
-use Rattle.pref_sky.specs.Signatures.{signature_by}
+use Rattle.pref_sky.proofs.Common.{◌≡◌, ◌∙◌, ◌+◌, ◌∷◌, ◌++◌, [], Vec, length, length-append, take, sym, ap, subst, arith, All-push, Global, Item, AreInPool, AreAllItems, levels_at, parts_at}
+use Rattle.pref_sky.proofs.Common.{signature_by}
 use Rattle.pref_sky.proofs.Pools.{grown_none, grown_then, in_pool_grown, parts_grown, result_more}
 use Rattle.pref_sky.proofs.pool.take_parts.Goals as goal
 

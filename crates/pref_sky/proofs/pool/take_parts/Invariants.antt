@@ -1,6 +1,4 @@
-use Rattle.std.proofs.Common.{◌≡◌, length, take}
-use Rattle.pref_sky.specs.Items.{AreInPool, HasGrown, parts_at}
-use Rattle.pref_sky.specs.Signatures.{signature_by}
+use Rattle.pref_sky.proofs.Common.{◌≡◌, length, take, AreInPool, HasGrown, parts_at, signature_by}
 use Rattle.pref_sky.proofs.pool.take_parts.Given as goal
 
 abbrev pub invariant-loop-part : goal.invariant-loop-part

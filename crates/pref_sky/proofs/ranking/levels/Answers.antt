@@ -1,6 +1,4 @@
-use Rattle.std.proofs.Common.{[], ◌∙◌}
-use Rattle.std.proofs.lemmas.Result.{IfOk-weaker}
-use Rattle.pref_sky.specs.Levels.{entry_order}
+use Rattle.pref_sky.proofs.Common.{[], ◌∙◌, IfOk-weaker, entry_order}
 use Rattle.pref_sky.proofs.ranking.levels.Goals as goal
 
 -- what was empty holds the levels of what was added

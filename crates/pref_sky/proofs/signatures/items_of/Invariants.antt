@@ -1,6 +1,4 @@
-use Rattle.std.proofs.Common.{◌≡◌, take}
-use Rattle.pref_sky.specs.Items.{AreItems, entries_at}
-use Rattle.pref_sky.specs.Signatures.{signature_by}
+use Rattle.pref_sky.proofs.Common.{◌≡◌, take, AreItems, entries_at, signature_by}
 use Rattle.pref_sky.proofs.signatures.items_of.Given as goal
 
 abbrev pub invariant-loop-place : goal.invariant-loop-place

@@ -1,6 +1,4 @@
-use Rattle.std.proofs.Common.{◌≡◌, ◌<◌, length, get_or}
-use Rattle.std.specs.Prelude.{All}
-use Rattle.pref_sky.specs.declared.entry.Ranked.{Ranked}
+use Rattle.pref_sky.proofs.Common.{◌≡◌, ◌<◌, length, get_or, All, Ranked}
 use Rattle.pref_sky.proofs.sorted.places_of.Given as goal
 
 abbrev pub invariant-loop-place : goal.invariant-loop-place

@@ -1,7 +1,4 @@
-use Rattle.std.proofs.Common.{◌++◌, Result, Ok, Err, sym, ◌∙◌, ap}
-use Rattle.std.specs.Prelude.{OnOk}
-use Rattle.pref_sky.specs.declared.chain_order.ChainOrder.{ChainOrder}
-use Rattle.pref_sky.specs.ChainOrders.{own_levels}
+use Rattle.pref_sky.proofs.Common.{◌++◌, Result, Ok, Err, sym, ◌∙◌, ap, OnOk, ChainOrder, own_levels}
 use Rattle.pref_sky.specs.Held.{ranked_held}
 use Rattle.pref_sky.proofs.SortedLevels.{says_its_levels}
 use Rattle.pref_sky.proofs.partial.Partial.add.Goals as goal

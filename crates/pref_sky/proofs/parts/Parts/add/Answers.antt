@@ -1,14 +1,5 @@
-use Rattle.std.proofs.Common.{◌≡◌, ℕ, ◌<◌, ◌≤◌, ◌++◌, ◌-◌, ◌^◌, Bool, List, Vec, Global, map, sym, ◌∙◌, ap, subst, arith}
-use Rattle.pref_term.specs.Order.{StaysWithin}
-use Rattle.pref_sky.specs.declared.arrival.Arrival.{Arrival}
-use Rattle.pref_sky.specs.declared.entry.Entry.{Entry}
-use Rattle.pref_sky.specs.declared.making.Made.{Made}
-use Rattle.pref_sky.specs.Arrivals.{AreComing}
-use Rattle.pref_sky.specs.Items.{parts_at}
-use Rattle.pref_sky.specs.Levels.{HaveDifferentIds, entry_of, entry_order}
-use Rattle.pref_sky.specs.Made.{ArePartsMade}
-use Rattle.pref_sky.specs.Parts.{depth, ranked_parts}
-use Rattle.pref_sky.specs.Signatures.{signature_by}
+use Rattle.pref_sky.proofs.Common.{◌≡◌, ℕ, ◌<◌, ◌≤◌, ◌++◌, ◌-◌, ◌^◌, Bool, List, Vec, Global, map, sym, ◌∙◌, ap, subst, arith, StaysWithin, Arrival, Entry, Made, AreComing, parts_at, HaveDifferentIds}
+use Rattle.pref_sky.proofs.Common.{entry_of, entry_order, ArePartsMade, depth, ranked_parts, signature_by}
 use Rattle.pref_sky.proofs.AddedParts.{depth_after, in_pool_after}
 use Rattle.pref_sky.proofs.Additions.{added_differ, added_levels, added_parted, to_coming}
 use Rattle.pref_sky.proofs.Merges.{entry_order_is_strict}

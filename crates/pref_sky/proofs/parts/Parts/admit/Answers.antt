@@ -1,10 +1,4 @@
-use Rattle.std.proofs.Common.{◌∙◌, ◌<◌, ◌^◌, map, sym, subst}
-use Rattle.std.proofs.lemmas.Result.{IfOk-weaker}
-use Rattle.pref_term.specs.Signatures.{Suit}
-use Rattle.pref_sky.specs.Arrivals.{HaveArrived}
-use Rattle.pref_sky.specs.Levels.{HaveDifferentIds, entry_of, entry_order}
-use Rattle.pref_sky.specs.Parts.{ArePartedBy, depth, part_of, ranked_parts}
-use Rattle.pref_sky.specs.Signatures.{signature_by}
+use Rattle.pref_sky.proofs.Common.{◌∙◌, ◌<◌, ◌^◌, map, sym, subst, IfOk-weaker, Suit, HaveArrived, HaveDifferentIds, entry_of, entry_order, ArePartedBy, depth, part_of, ranked_parts, signature_by}
 use Rattle.pref_sky.proofs.Pools.{in_pool_grown, parts_grown}
 use Rattle.pref_sky.proofs.parts.Parts.admit.Goals as goal
 

@@ -1,11 +1,4 @@
-use Rattle.std.proofs.Common.{◌∙◌, ◌<◌, map, sym, ap, subst, arith}
-use Rattle.std.specs.Prelude.{All}
-use Rattle.pref_sky.specs.Items.{parts_at}
-use Rattle.pref_sky.specs.Levels.{HaveDifferentIds, entry_of}
-use Rattle.pref_sky.specs.Members.{Among}
-use Rattle.pref_sky.specs.Partials.{ranked_from}
-use Rattle.pref_sky.specs.Parts.{parts_by}
-use Rattle.pref_sky.specs.Signatures.{signature_by}
+use Rattle.pref_sky.proofs.Common.{◌∙◌, ◌<◌, map, sym, ap, subst, arith, All, parts_at, HaveDifferentIds, entry_of, Among, ranked_from, parts_by, signature_by}
 use Rattle.pref_sky.proofs.PartLaws.{depth_none, nothing_held}
 use Rattle.pref_sky.proofs.Pools.{none_held, none_in_pool}
 use Rattle.pref_sky.proofs.parts.Parts.new.Goals as goal

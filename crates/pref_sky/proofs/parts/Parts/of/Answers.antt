@@ -1,8 +1,5 @@
-use Rattle.std.proofs.Common.{◌≡◌, ◌<◌, ◌++◌, false, length, map, [], sym, ◌∙◌, ap, subst, append_assoc, append-nil, arith, eqb, refl, Vec, Global, ℕ}
-use Rattle.std.proofs.lemmas.Bool.{eqb-true, eqb-false}
-use Rattle.std.proofs.lemmas.List.{nil_from_length}
-use Rattle.pref_term.specs.Order.{StaysWithin}
-use Rattle.pref_sky.specs.Levels.{HaveDifferentIds, entry_of, entry_order, levels}
+use Rattle.pref_sky.proofs.Common.{◌≡◌, ◌<◌, ◌++◌, false, length, map, [], sym, ◌∙◌, ap, subst, append_assoc, append-nil, arith, eqb, refl, Vec, Global, ℕ, eqb-true, eqb-false, nil_from_length}
+use Rattle.pref_sky.proofs.Common.{StaysWithin, HaveDifferentIds, entry_of, entry_order, levels}
 use Rattle.pref_sky.proofs.LevelLaws.{first_differ, held_differ, levels_of_none}
 use Rattle.pref_sky.proofs.parts.Parts.of.Goals as goal
 

@@ -1,9 +1,4 @@
-use Rattle.std.proofs.Common.{◌≡◌, ◌++◌, ◌<◌, [], List, length}
-use Rattle.pref_term.specs.Order.{StaysWithin}
-use Rattle.pref_sky.specs.declared.entry.Entry.{Entry}
-use Rattle.pref_sky.specs.Items.{parts_at}
-use Rattle.pref_sky.specs.Levels.{HaveDifferentIds, entry_order, levels}
-use Rattle.pref_sky.specs.Parts.{ranked_parts}
+use Rattle.pref_sky.proofs.Common.{◌≡◌, ◌++◌, ◌<◌, [], List, length, StaysWithin, Entry, parts_at, HaveDifferentIds, entry_order, levels, ranked_parts}
 use Rattle.pref_sky.proofs.parts.Parts.of.Given as goal
 
 abbrev pub invariant-each_piece : goal.invariant-each_piece

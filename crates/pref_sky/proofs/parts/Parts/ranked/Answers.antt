@@ -1,8 +1,4 @@
-use Rattle.std.proofs.Common.{◌≡◌, ◌∙◌, ◌++◌, suc, length, map, sym, ap, subst, arith, add-one}
-use Rattle.pref_sky.specs.Items.{AreInPool, parts_at}
-use Rattle.pref_sky.specs.Levels.{at_level}
-use Rattle.pref_sky.specs.Parts.{all_at, ranked_upto}
-use Rattle.pref_sky.specs.Signatures.{signature_by}
+use Rattle.pref_sky.proofs.Common.{◌≡◌, ◌∙◌, ◌++◌, suc, length, map, sym, ap, subst, arith, add-one, AreInPool, parts_at, at_level, all_at, ranked_upto, signature_by}
 use Rattle.pref_sky.proofs.PartLaws.{all_differ}
 use Rattle.pref_sky.proofs.RankedLevels.{one_level}
 use Rattle.pref_sky.proofs.parts.Parts.ranked.Goals as goal

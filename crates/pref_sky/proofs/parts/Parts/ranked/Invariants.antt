@@ -1,6 +1,4 @@
-use Rattle.std.proofs.Common.{◌≡◌}
-use Rattle.pref_sky.specs.Items.{parts_at}
-use Rattle.pref_sky.specs.Parts.{all_at, ranked_upto}
+use Rattle.pref_sky.proofs.Common.{◌≡◌, parts_at, all_at, ranked_upto}
 use Rattle.pref_sky.proofs.parts.Parts.ranked.Given as goal
 
 abbrev pub invariant-loop-place : goal.invariant-loop-place

@@ -1,6 +1,4 @@
-use Rattle.std.proofs.Common.{sym, subst}
-use Rattle.pref_sky.specs.Items.{AreInPool}
-use Rattle.pref_sky.specs.Signatures.{signature_by}
+use Rattle.pref_sky.proofs.Common.{sym, subst, AreInPool, signature_by}
 use Rattle.pref_sky.proofs.parts.Parts.renew.Goals as goal
 
 pub take_parts-requires : goal.take_parts-requires

@@ -1,13 +1,6 @@
-use Rattle.std.proofs.Common.{◌≡◌, ◌∙◌, List, [], drop, get_or, take, sym, ap, subst}
-use Rattle.std.proofs.lemmas.List.{take-append-drop}
-use Rattle.pref_term.specs.Order.{is_better}
-use Rattle.pref_sky.specs.declared.entry.Entry.{Entry}
-use Rattle.pref_sky.specs.declared.item.Item.{Item}
-use Rattle.pref_sky.specs.Items.{IsItem, entries_at, entry_at}
-use Rattle.pref_sky.specs.Levels.{entry_order}
-use Rattle.pref_sky.specs.Signatures.{signature_by}
-use Rattle.pref_sky.proofs.Members.{Among, all_among, among_place, any_from, in_left, in_map}
-use Rattle.std.proofs.lemmas.List.{get_or_default}
+use Rattle.pref_sky.proofs.Common.{◌≡◌, ◌∙◌, List, [], drop, get_or, take, sym, ap, subst, take-append-drop, is_better, Entry, Item, IsItem, entries_at, entry_at, entry_order, signature_by, Among}
+use Rattle.pref_sky.proofs.Common.{get_or_default}
+use Rattle.pref_sky.proofs.Members.{all_among, among_place, any_from, in_left, in_map}
 use Rattle.pref_sky.proofs.pool.Pool.dominates.Goals as goal
 
 pub returns-in-Better : goal.returns-in-Better

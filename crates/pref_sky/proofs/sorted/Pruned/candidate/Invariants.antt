@@ -1,4 +1,4 @@
-use Rattle.std.proofs.Common.{◌≤◌, ◌-◌, vec_len}
+use Rattle.pref_sky.proofs.Common.{◌≤◌, ◌-◌, vec_len}
 use Rattle.pref_sky.proofs.sorted.Pruned.candidate.Given as goal
 
 abbrev pub invariant-loop-low : goal.invariant-loop-low

@@ -1,11 +1,8 @@
-use Rattle.std.proofs.Common.{◌≡◌, ◌∙◌, ◌+◌, ◌++◌, [], ◌∷◌, true, take, Vec, Global, sym, ap, subst, append_assoc}
-use Rattle.pref_sky.specs.declared.entry.Entry.{Entry}
-use Rattle.pref_sky.specs.ChainOrders.{is_below}
-use Rattle.pref_sky.specs.Sorted.{HoldsUpper}
+use Rattle.pref_sky.proofs.Common.{◌≡◌, ◌∙◌, ◌+◌, ◌++◌, [], ◌∷◌, true, take, Vec, Global, sym, ap, subst, append_assoc, Entry, is_below, HoldsUpper}
 use Rattle.pref_sky.proofs.Loops.{front_more}
 use Rattle.pref_sky.proofs.SortedLevels.{upper_keeps, upper_leaves}
-use Rattle.pref_sky.proofs.sorted.Pruned.keep_others.Goals as goal
 use Rattle.pref_sky.proofs.sorted.Pruned.keep_others.Goals.{then-not-dominates+then-dominates, then-not-dominates+else-dominates+in_ok-push, else-not-dominates}
+use Rattle.pref_sky.proofs.sorted.Pruned.keep_others.Goals as goal
 
 pub loop-entry-preserved : goal.loop-entry-preserved
 loop-entry-preserved c =

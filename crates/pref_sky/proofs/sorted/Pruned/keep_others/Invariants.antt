@@ -1,6 +1,4 @@
-use Rattle.std.proofs.Common.{◌≡◌, ◌++◌, List, take}
-use Rattle.pref_sky.specs.declared.entry.Entry.{Entry}
-use Rattle.pref_sky.specs.Sorted.{HoldsUpper}
+use Rattle.pref_sky.proofs.Common.{◌≡◌, ◌++◌, List, take, Entry, HoldsUpper}
 use Rattle.pref_sky.proofs.sorted.Pruned.keep_others.Given as goal
 
 abbrev pub invariant-loop-entry : goal.invariant-loop-entry

@@ -1,7 +1,4 @@
-use Rattle.std.proofs.Common.{◌∙◌, ◌++◌, ap, subst}
-use Rattle.std.proofs.lemmas.Result.{IfOk-weaker}
-use Rattle.pref_sky.specs.ChainOrders.{AreSorted, own_order}
-use Rattle.pref_sky.specs.Layers.{leveled}
+use Rattle.pref_sky.proofs.Common.{◌∙◌, ◌++◌, ap, subst, IfOk-weaker, AreSorted, own_order, leveled}
 use Rattle.pref_sky.proofs.sorted.Pruned.leveled.Goals as goal
 
 pub returns : goal.returns

@@ -1,9 +1,4 @@
-use Rattle.std.proofs.Common.{◌≡◌, ◌∙◌, ◌++◌, ◌<◌, length, get_or, map, sym, ap, subst, append-nil}
-use Rattle.std.specs.Prelude.{All}
-use Rattle.pref_sky.specs.declared.entry.Ranked.{Ranked}
-use Rattle.pref_sky.specs.ChainOrders.{AreInOrder, own_levels}
-use Rattle.pref_sky.specs.Levels.{entry_of}
-use Rattle.pref_sky.specs.Sorted.{AreLeveled, AreLowest}
+use Rattle.pref_sky.proofs.Common.{◌≡◌, ◌∙◌, ◌++◌, ◌<◌, length, get_or, map, sym, ap, subst, append-nil, All, Ranked, AreInOrder, own_levels, entry_of, AreLeveled, AreLowest}
 use Rattle.pref_sky.proofs.Leveled.{found_in_order, found_levels, found_lowest}
 use Rattle.pref_sky.proofs.sorted.Pruned.prune.Goals as goal
 

@@ -1,11 +1,7 @@
-use Rattle.std.proofs.Common.{◌≡◌, ◌++◌, length, map, take, sym, ◌∙◌, ap, subst, arith}
-use Rattle.std.proofs.Math.Seq.{take-append_seam}
-use Rattle.pref_sky.specs.declared.chain_order.ChainOrder.{ChainOrder}
-use Rattle.pref_sky.specs.ChainOrders.{own_levels}
-use Rattle.pref_sky.specs.Levels.{HaveDifferentIds, entry_of}
+use Rattle.pref_sky.proofs.Common.{◌≡◌, ◌++◌, length, map, take, sym, ◌∙◌, ap, subst, arith, take-append_seam, ChainOrder, own_levels, HaveDifferentIds, entry_of}
 use Rattle.pref_sky.proofs.SortedLevels.{upper_differ, upper_levels}
-use Rattle.pref_sky.proofs.sorted.SortedEntries.add.Goals as goal
 use Rattle.pref_sky.proofs.sorted.SortedEntries.add.Goals.{After-prune}
+use Rattle.pref_sky.proofs.sorted.SortedEntries.add.Goals as goal
 
 -- pruned or not, the levels are as they were
 levels_still : (c : After-prune) → own_levels c.prune.new.self.order (c.prune.new.self.entries.items ++ c.prune.new.recent.items) ≡ own_levels c.args.self.now.pruned.order (c.args.self.now.pruned.entries.items ++ c.args.self.now.recent.items)

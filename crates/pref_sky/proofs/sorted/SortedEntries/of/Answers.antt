@@ -1,10 +1,7 @@
-use Rattle.std.proofs.Common.{◌≡◌, ◌++◌, [], map, sym, ◌∙◌, ap, subst, arith, append_assoc}
-use Rattle.pref_sky.specs.declared.chain_order.ChainOrder.{ChainOrder}
-use Rattle.pref_sky.specs.ChainOrders.{own_levels, own_order}
-use Rattle.pref_sky.specs.Levels.{HaveDifferentIds, entry_of}
+use Rattle.pref_sky.proofs.Common.{◌≡◌, ◌++◌, [], map, sym, ◌∙◌, ap, subst, arith, append_assoc, ChainOrder, own_levels, own_order, HaveDifferentIds, entry_of}
 use Rattle.pref_sky.proofs.LevelLaws.{first_differ, held_differ, levels_of_none}
-use Rattle.pref_sky.proofs.sorted.SortedEntries.of.Goals as goal
 use Rattle.pref_sky.proofs.sorted.SortedEntries.of.Goals.{After-split_at}
+use Rattle.pref_sky.proofs.sorted.SortedEntries.of.Goals as goal
 
 -- a piece is the next of the entries
 whole : (c : After-split_at) → c.args.entries.now ≡ (c.each_piece.invariant.levels.0 ++ c.split_at.result.0.now) ++ c.split_at.result.1.now

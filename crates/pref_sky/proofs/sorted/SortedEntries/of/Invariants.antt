@@ -1,6 +1,4 @@
-use Rattle.std.proofs.Common.{◌≡◌, ◌++◌, List, length}
-use Rattle.pref_sky.specs.declared.entry.Entry.{Entry}
-use Rattle.pref_sky.specs.ChainOrders.{own_levels}
+use Rattle.pref_sky.proofs.Common.{◌≡◌, ◌++◌, List, length, Entry, own_levels}
 use Rattle.pref_sky.proofs.sorted.SortedEntries.of.Given as goal
 
 abbrev pub invariant-each_piece : goal.invariant-each_piece

@@ -1,5 +1,4 @@
-use Rattle.std.proofs.Common.{rules, ◌++◌, subst}
-use Rattle.pref_sky.specs.Sorted.{AreLeveled}
+use Rattle.pref_sky.proofs.Common.{rules, ◌++◌, subst, AreLeveled}
 use Rattle.pref_sky.proofs.Leveled.{found_ranked, sorted_by_rank}
 use Rattle.pref_sky.proofs.sorted.SortedEntries.ranked.Goals as goal
 

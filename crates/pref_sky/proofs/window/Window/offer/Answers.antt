@@ -1,8 +1,5 @@
-use Rattle.std.proofs.Common.{rules, ◌≡◌, ◌+◌, ◌∙◌, inr, Bool, true, false, not, [], ◌∷◌, ◌++◌, cond, filter, length, sym, ap, subst, arith, is_ok, length-append}
-use Rattle.std.proofs.lemmas.List.Elements.{filter-append}
-use Rattle.pref_sky.specs.declared.entry.Entry.{Entry}
-use Rattle.pref_sky.specs.Best.{is_beaten}
-use Rattle.pref_sky.specs.Levels.{entry_order}
+use Rattle.pref_sky.proofs.Common.{rules, ◌≡◌, ◌+◌, ◌∙◌, inr, Bool, true, false, not, [], ◌∷◌, ◌++◌, cond, filter, length, sym, ap, subst, arith, is_ok, length-append, filter-append, Entry, is_beaten}
+use Rattle.pref_sky.proofs.Common.{entry_order}
 use Rattle.pref_sky.specs.Windows.{Held, joined, not_below, window_entries}
 use Rattle.pref_sky.proofs.Retained.{filter_from_retain_at}
 use Rattle.pref_sky.proofs.WindowSteps.{unbeaten_both, filtered_whole, held_of, joined_early, joined_late}
