@@ -1,24 +1,14 @@
 -- The table block, line by line.
-use Rattle.std.proofs.Common.{◌≡◌, ◌∙◌, ℕ, zero, suc, ◌+◌, ◌-◌, ◌<◌, ◌≤◌, true, false, List, [], ◌∷◌, ◌++◌, length, take, drop, get_or, ap, refl, sym, subst, arith, append_assoc, Option, Some, None, Ok, Err, inl, inr, ◌⊎◌}
-use Rattle.std.proofs.lemmas.Bool.{cases_lt, eqb-true, lt-ltb, le-ltb}
-use Rattle.std.proofs.lemmas.List.{append-nil, drop-append-le, drop-take, drop_all, get_or_append_left, length-append, length-drop, length-take, take-append-drop, take-append-le, take_all, take_at}
-use Rattle.std.proofs.lemmas.List.Sums.{fails_before_first, passes_at_first, position_or_len_is}
-use Rattle.std.proofs.Math.Seq.{get_or-append_seam}
-use Rattle.memchr.specs.Find.{IsFirstByte, is_byte}
-use Rattle.std.proofs.KnownBytes.{Consumes-trans}
+use Rattle.pref_script.proofs.Common.{◌≡◌, ◌∙◌, ℕ, zero, suc, ◌+◌, ◌-◌, ◌<◌, ◌≤◌, true, false, List, [], ◌∷◌, ◌++◌, length, take, drop, get_or, ap, refl, sym, subst, arith, append_assoc, Option, Some}
+use Rattle.pref_script.proofs.Common.{None, Ok, Err, inl, inr, ◌⊎◌, cases_lt, eqb-true, lt-ltb, le-ltb, append-nil, drop-append-le, drop-take, drop_all, get_or_append_left, length-append, length-drop}
+use Rattle.pref_script.proofs.Common.{length-take, take-append-drop, take-append-le, take_all, take_at, fails_before_first, passes_at_first, position_or_len_is, get_or-append_seam, IsFirstByte}
+use Rattle.pref_script.proofs.Common.{is_byte, Consumes-trans, Consumes, concat, position_or_len, HearsNone, IsBlock, LacksBlock, ReadsBlock, EndsWithLine, HeardNone, IsTooLong, IsLineAt, IsLittle}
+use Rattle.pref_script.proofs.Common.{IsLong, LineFault, NoLineFeed, ReadBehind, ReadSome, between, is_at_end, most_ahead, unread, Source, block_lines, is_end_line, is_table_line, parts_of, raw_lines}
+use Rattle.pref_script.proofs.Common.{RunFault, ReadAhead}
 use borrow.Author.Count.{below_more}
-use Rattle.std.specs.Io.KnownBytes.{Consumes}
-use Rattle.std.specs.List.{concat, position_or_len}
-use Rattle.pref_script.specs.Hearing.{HearsNone, IsBlock, LacksBlock, ReadsBlock}
-use Rattle.pref_script.specs.Live.{EndsWithLine, HeardNone, IsTooLong}
-use Rattle.pref_script.specs.ReadAhead.{IsLineAt, IsLittle, IsLong, LineFault, NoLineFeed, ReadBehind, ReadSome, between, is_at_end, most_ahead, unread}
-use Rattle.pref_script.specs.Run.{Source}
-use Rattle.pref_script.specs.Script.{block_lines, is_end_line, is_table_line, parts_of, raw_lines}
-use Rattle.pref_script.specs.declared.fault.RunFault.{RunFault}
-use Rattle.pref_script.specs.declared.fault.RunFault.TheVariants as fault
-use Rattle.pref_script.specs.declared.read_ahead.ReadAhead.{ReadAhead}
 use Rattle.pref_script.proofs.LineFacts.{behind_more, ends_more, front_is, front_more, line_at, little_left, little_none, none_behind, none_in_front, same_front}
 use Rattle.pref_script.proofs.ScriptFacts.{concat-push, lines_at, lines_last, lines_none, script-none}
+use Rattle.pref_script.specs.declared.fault.RunFault.TheVariants as fault
 
 -- a text is the line `table`, which has this length, and so many lines that are no line `end`
 pub record BlockLines (text : List ℕ) (start count : ℕ) : Type 0 where

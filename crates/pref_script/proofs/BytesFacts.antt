@@ -1,13 +1,7 @@
 -- Bytes that are read and written part by part.
-use Rattle.std.proofs.Common.{◌≡◌, ◌++◌, [], ◌∙◌, ℕ, ◌+◌, ◌-◌, ◌<◌, ◌≤◌, List, length, take, drop, ap, refl, sym, subst, arith, Option, ◌∷◌, ℤ, pos, map, get_or, append_assoc}
-use Rattle.std.specs.Io.KnownBytes.{Appends}
-use Rattle.std.proofs.KnownBytes.{Appends-trans}
-use Rattle.std.specs.Fmt.{signed_decimal}
-use Rattle.std.specs.List.{join_with_byte, range_with_len}
+use Rattle.pref_script.proofs.Common.{◌≡◌, ◌++◌, [], ◌∙◌, ℕ, ◌+◌, ◌-◌, ◌<◌, ◌≤◌, List, length, take, drop, ap, refl, sym, subst, arith, Option, ◌∷◌, ℤ, pos, map, get_or, append_assoc, Appends}
+use Rattle.pref_script.proofs.Common.{Appends-trans, signed_decimal, join_with_byte, range_with_len, row_text, drop-drop, take_all, length-drop, take-add}
 use Rattle.std.proofs.lemmas.List.FromFn.{length-map-range_with_len, map-range_with_len_more}
-use Rattle.pref_script.specs.Text.{row_text}
-use Rattle.std.proofs.lemmas.List.{drop-drop, take_all, length-drop}
-use Rattle.std.proofs.Math.Seq.{take-add}
 
 -- one write more
 pub written_more : (a b c : Option (List ℕ)) (bytes rest : List ℕ) (done count : ℕ) → done ≤ length bytes → rest ≡ drop done bytes → count ≤ length rest

@@ -1,69 +1,121 @@
 -- The commands of a script, one line at a time.
-use Rattle.std.proofs.Common.{◌≡◌, ◌∙◌, ℕ, ◌+◌, true, false, List, [], ◌∷◌, ◌++◌, length, sym, ap, refl, arith, append_assoc, Ok, Err, map}
-use Rattle.std.specs.List.{list_all}
-use Rattle.std.proofs.lemmas.List.{append-nil}
-use Rattle.pref_table.specs.Number.{is_blank}
-use Rattle.pref_core.specs.declared.event.Event.{Event}
-use Rattle.pref_script.specs.Commands.{Command, refused, runs, commands_in, commands_of, event_of, accepted_events}
-use Rattle.pref_script.specs.Reading.{Adds, line_for}
-use Rattle.pref_script.specs.Script.{raw_lines, without_line_end}
-use Rattle.pref_script.specs.declared.command.Refusal.{Refusal}
-use Rattle.pref_script.specs.declared.commands.Line.{Line}
-use Rattle.pref_script.specs.declared.commands.Line.TheVariants.{Refused as LineRefused, Answered as LineAnswered}
-use Rattle.pref_script.specs.declared.commands.Commands.{Commands}
+use Rattle.pref_script.proofs.Common.{◌≡◌, ◌∙◌, ℕ, suc, ◌+◌, ◌<◌, ◌≤◌, Bool, true, false, List, [], ◌∷◌, ◌++◌, length, refl, sym, ap, arith, append_assoc, Result, Ok, Err, ◌==◌, cond, nat_le, nat_lt}
+use Rattle.pref_script.proofs.Common.{if◌then◌else◌, list_all, onto_first, slice_split, and_from, le-leb, lt-ltb, append-nil, length-append, is_blank, Event, Command, refused, runs, accepted_events}
+use Rattle.pref_script.proofs.Common.{commands_in, commands_of, event_of, is_line_feed, raw_lines, with_line_feeds, without_line_end, refused_line, reply_lines, texts, is_client, unowned_line}
+use Rattle.pref_script.proofs.Common.{unowned_lines, Refusal}
+use Rattle.pref_core.specs.declared.event.Reply.TheVariants.{Refused as NotThere}
+use Rattle.pref_core.specs.declared.fault.CoreFault.TheVariants.{NoSuchClient}
 use Rattle.pref_script.proofs.ScriptFacts.{lines_none}
+use Rattle.pref_script.proofs.TextFacts.{texts-append}
 
--- a line of blanks adds nothing
-pub adds-none : (commands : Commands) (names : List (List ℕ)) (number : ℕ) (line : List ℕ) → list_all is_blank line ≡ true → Adds commands commands (commands_in names number line)
-unfolding accepted_events
-adds-none commands names number line blank = rw blank (record { lines = sym (append-nil commands.lines.items); events = sym (append-nil commands.events.items) })
-
--- an event adds itself and its place
-pub adds-event : (old new : Commands) (names : List (List ℕ)) (number : ℕ) (line : List ℕ) (event : Event) → list_all is_blank line ≡ false → event_of names line ≡ Ok event
-    → new.lines.items ≡ old.lines.items ++ LineAnswered event.client ∷ [] → new.events.items ≡ old.events.items ++ event ∷ [] → Adds old new (commands_in names number line)
-unfolding accepted_events
-adds-event old new names number line event some said lines events = rw (some, said) (record { lines = lines; events = events })
-
--- a refused line adds its refusal
-pub adds-refused : (old new : Commands) (names : List (List ℕ)) (number : ℕ) (line : List ℕ) (why : Refusal) → list_all is_blank line ≡ false → event_of names line ≡ Err why
-    → new.lines.items ≡ old.lines.items ++ LineRefused number why ∷ [] → new.events.items ≡ old.events.items → Adds old new (commands_in names number line)
-unfolding accepted_events
-adds-refused old new names number line why some said lines events = rw (some, said) (record { lines = lines; events = events ∙ sym (append-nil old.events.items) })
-
--- what commands and more commands hold
-map-line_for-append : (xs ys : List Command) → map line_for (xs ++ ys) ≡ map line_for xs ++ map line_for ys
-map-line_for-append [] ys = refl
-map-line_for-append (x ∷ xs) ys = ap (λ (t : List Line). line_for x ∷ t) (map-line_for-append xs ys)
-
-accepted_events-append : (xs ys : List Command) → accepted_events (xs ++ ys) ≡ accepted_events xs ++ accepted_events ys
+-- the events of commands and more commands
+pub accepted_events-append : (xs ys : List Command) → accepted_events (xs ++ ys) ≡ accepted_events xs ++ accepted_events ys
 unfolding accepted_events
 accepted_events-append [] ys = refl
 accepted_events-append (refused number why ∷ xs) ys = accepted_events-append xs ys
 accepted_events-append (runs event ∷ xs) ys = ap (λ (t : List Event). event ∷ t) (accepted_events-append xs ys)
 
--- what is kept so far, and the commands of the lines that are left, are these lines and events
-pub record Keeps (names : List (List ℕ)) (kept : Commands) (number : ℕ) (left : List ℕ) (said : List Command) : Type 0 where
-  pub lines : kept.lines.items ++ map line_for (commands_of names number (raw_lines left)) ≡ map line_for said
-  pub events : kept.events.items ++ accepted_events (commands_of names number (raw_lines left)) ≡ accepted_events said
+-- the number of a line is nothing to its event
+events-numbered : (names : List (List ℕ)) (n m : ℕ) (line : List ℕ) → accepted_events (commands_in names n line) ≡ accepted_events (commands_in names m line)
+unfolding accepted_events
+events-numbered names n m line = by (list_all is_blank line) (event_of names line) refl refl
+  where
+    by : (blank : Bool) (said : Result Event Refusal) → list_all is_blank line ≡ blank → event_of names line ≡ said → accepted_events (commands_in names n line) ≡ accepted_events (commands_in names m line)
+    by true said e f = rw e refl
+    by false (Ok event) e f = rw (e, f) refl
+    by false (Err why) e f = rw (e, f) refl
+
+pub events-any_number : (names : List (List ℕ)) (n m : ℕ) (raws : List (List ℕ)) → accepted_events (commands_of names n raws) ≡ accepted_events (commands_of names m raws)
+unfolding commands_of
+events-any_number names n m [] = refl
+events-any_number names n m (raw ∷ more) =
+    accepted_events-append (commands_in names n (without_line_end raw)) (commands_of names (n + 1) more)
+    ∙ ap (λ (t : List Event). t ++ accepted_events (commands_of names (n + 1) more)) (events-numbered names n m (without_line_end raw))
+    ∙ ap (λ (t : List Event). accepted_events (commands_in names m (without_line_end raw)) ++ t) (events-any_number names (n + 1) (m + 1) more)
+    ∙ sym (accepted_events-append (commands_in names m (without_line_end raw)) (commands_of names (m + 1) more))
+
+-- a line has one event at most
+events-of_line : (names : List (List ℕ)) (number : ℕ) (line : List ℕ) → length (accepted_events (commands_in names number line)) ≤ 1
+unfolding accepted_events
+events-of_line names number line = by (list_all is_blank line) (event_of names line) refl refl
+  where
+    by : (blank : Bool) (said : Result Event Refusal) → list_all is_blank line ≡ blank → event_of names line ≡ said → length (accepted_events (commands_in names number line)) ≤ 1
+    by true said e f = rw e (omega arith)
+    by false (Ok event) e f = rw (e, f) (omega arith)
+    by false (Err why) e f = rw (e, f) (omega arith)
+
+events-of_lines : (names : List (List ℕ)) (number : ℕ) (raws : List (List ℕ)) → length (accepted_events (commands_of names number raws)) ≤ length raws
+unfolding commands_of accepted_events
+events-of_lines names number [] = omega arith
+events-of_lines names number (raw ∷ more) =
+    let line = commands_in names number (without_line_end raw) in
+    let rest = commands_of names (number + 1) more in
+    omega (arith, ap length (accepted_events-append line rest), length-append (accepted_events line) (accepted_events rest), events-of_line names number (without_line_end raw), events-of_lines names (number + 1) more)
+
+-- what follows the last line feed is one line at most
+last-few : (part : List ℕ) → length (with_line_feeds (part ∷ [])) ≤ 1
+last-few part = by (length part == 0)
+  where
+    by : (none : Bool) → length (if none then [] else part ∷ []) ≤ 1
+    by true = omega arith
+    by false = omega arith
+
+-- a text has no more lines than bytes
+lines-few : (text : List ℕ) → length (raw_lines text) ≤ length text
+unfolding raw_lines
+lines-few [] = omega arith
+lines-few (byte ∷ rest) = by (is_line_feed byte) (slice_split is_line_feed rest) (lines-few rest)
+  where
+    by : (feed : Bool) (parts : List (List ℕ)) → length (with_line_feeds parts) ≤ length rest → length (with_line_feeds (cond feed ([] ∷ parts) (onto_first byte parts))) ≤ length (byte ∷ rest)
+    by true [] few = omega arith
+    by true (part ∷ parts) few = omega (arith, few)
+    by false [] few = omega arith
+    by false (part ∷ []) few = omega (arith, last-few (byte ∷ part))
+    by false (part ∷ next ∷ parts) few = omega (arith, few)
+
+pub events-few : (names : List (List ℕ)) (number : ℕ) (text : List ℕ) → length (accepted_events (commands_of names number (raw_lines text))) ≤ length text
+events-few names number text = omega (arith, events-of_lines names number (raw_lines text), lines-few text)
+
+-- what is printed for a line that belongs to no client: a line of blanks, an event, and a refused line
+module _ (clients width : ℕ) (names : List (List ℕ)) (number : ℕ) (line : List ℕ) where
+  pub unowned-blank : (out : List ℕ) → list_all is_blank line ≡ true → out ≡ out ++ unowned_lines clients width (commands_in names number line)
+  unfolding texts
+  unowned-blank out blank = rw blank (sym (append-nil out))
+
+  pub unowned-event : (old new : List ℕ) (event : Event) → list_all is_blank line ≡ false → event_of names line ≡ Ok event
+      → new ≡ old ++ (if is_client clients event.client then [] else reply_lines width event.client (NotThere NoSuchClient)) → new ≡ old ++ unowned_lines clients width (commands_in names number line)
+  unfolding texts
+  unowned-event old new event some said wrote = rw (some, said) (wrote ∙ ap (λ (t : List ℕ). old ++ t) (sym (append-nil (unowned_line clients width (runs event)))))
+
+  pub unowned-refused : (old new : List ℕ) (why : Refusal) → list_all is_blank line ≡ false → event_of names line ≡ Err why → new ≡ old ++ refused_line number why
+      → new ≡ old ++ unowned_lines clients width (commands_in names number line)
+  unfolding texts
+  unowned-refused old new why some said wrote = rw (some, said) (wrote ∙ ap (λ (t : List ℕ). old ++ t) (sym (append-nil (refused_line number why))))
+
+  -- an event of one of the clients
+  pub unowned-own : (out : List ℕ) (place : ℕ) (event : Event) → event_of names line ≡ Ok event → event.client ≡ suc place → place < clients → out ≡ out ++ unowned_lines clients width (commands_in names number line)
+  unowned-own out place event said own inside = by (list_all is_blank line) refl
+    where
+      client : is_client clients event.client ≡ true
+      client = rw own (and_from (nat_lt 0 (suc place)) (nat_le (suc place) clients) (lt-ltb 0 (suc place) (omega arith)) (le-leb (suc place) clients (omega (arith, inside))))
+
+      by : (blank : Bool) → list_all is_blank line ≡ blank → out ≡ out ++ unowned_lines clients width (commands_in names number line)
+      by true e = unowned-blank out e
+      by false e = unowned-event out out event e said (rw client (sym (append-nil out)))
 
 -- one line more
-pub keeps-more : (names : List (List ℕ)) (old new : Commands) (number : ℕ) (left raw tail : List ℕ) (said : List Command) → Keeps names old number left said
-    → raw_lines left ≡ raw ∷ raw_lines tail → Adds old new (commands_in names number (without_line_end raw)) → Keeps names new (number + 1) tail said
+pub unowned-more : (clients width : ℕ) (names : List (List ℕ)) (number : ℕ) (left raw tail old new all : List ℕ) → old ++ unowned_lines clients width (commands_of names number (raw_lines left)) ≡ all
+    → raw_lines left ≡ raw ∷ raw_lines tail → new ≡ old ++ unowned_lines clients width (commands_in names number (without_line_end raw))
+    → new ++ unowned_lines clients width (commands_of names (number + 1) (raw_lines tail)) ≡ all
 unfolding commands_of
-keeps-more names old new number left raw tail said kept cut added =
+unowned-more clients width names number left raw tail old new all before cut wrote =
     let first = commands_in names number (without_line_end raw) in
     let rest = commands_of names (number + 1) (raw_lines tail) in
-    let lines = rw (cut, map-line_for-append first rest) at kept.lines in
-    let events = rw (cut, accepted_events-append first rest) at kept.events in
-    record {
-      lines = rw (added.lines, append_assoc old.lines.items (map line_for first) (map line_for rest)) lines;
-      events = rw (added.events, append_assoc old.events.items (accepted_events first) (accepted_events rest)) events;
-    }
+    let whole = rw (cut, texts-append (unowned_line clients width) first rest) at before in
+    rw wrote (append_assoc old (unowned_lines clients width first) (unowned_lines clients width rest) ∙ whole)
 
 -- no line is left
-pub keeps-all : (names : List (List ℕ)) (kept : Commands) (number : ℕ) (left : List ℕ) (said : List Command) → Keeps names kept number left said → length left ≡ 0
-    → (kept.lines.items ≡ map line_for said) × (kept.events.items ≡ accepted_events said)
-unfolding commands_of accepted_events
-keeps-all names kept number [] said h none =
-    (sym (append-nil kept.lines.items) ∙ rw lines_none at h.lines, sym (append-nil kept.events.items) ∙ rw lines_none at h.events)
-keeps-all names kept number (x ∷ xs) said h none = absurd (omega arith)
+pub unowned-all : (clients width : ℕ) (names : List (List ℕ)) (number : ℕ) (left out all : List ℕ) → out ++ unowned_lines clients width (commands_of names number (raw_lines left)) ≡ all → length left ≡ 0 → out ≡ all
+unfolding commands_of texts
+unowned-all clients width names number [] out all before none = sym (append-nil out) ∙ rw lines_none at before
+unowned-all clients width names number (x ∷ xs) out all before none = absurd (omega arith)

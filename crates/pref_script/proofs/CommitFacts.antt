@@ -1,18 +1,12 @@
 -- The changes of a commit line, one piece at a time.
-use Rattle.std.proofs.Common.{◌≡◌, ◌∙◌, ℕ, ◌+◌, ◌<◌, ◌≤◌, true, false, List, [], ◌∷◌, ◌++◌, length, take, drop, get_or, set, sym, ap, refl, arith, inl, inr, nat_lt, Ok, Err}
-use Rattle.std.specs.Prelude.{Bool, ◌&&◌, Option, Some, None, is_some, nat_le}
-use Rattle.std.specs.List.{list_all}
-use Rattle.std.proofs.lemmas.Bool.{and_right, cases_lt, lt-leb, true≢false}
-use Rattle.std.proofs.lemmas.List.{length-drop, length-set, length-take-le, length_push, take-append-le, take_all, take_more_set}
+use Rattle.pref_script.proofs.Common.{◌≡◌, ◌∙◌, ℕ, ◌+◌, ◌<◌, ◌≤◌, true, false, List, [], ◌∷◌, ◌++◌, length, take, drop, get_or, set, sym, ap, refl, arith, inl, inr, nat_lt, Ok, Err, Bool, ◌&&◌}
+use Rattle.pref_script.proofs.Common.{Option, Some, None, is_some, nat_le, list_all, and_right, cases_lt, lt-leb, true≢false, length-drop, length-set, length-take-le, length_push, take-append-le}
+use Rattle.pref_script.proofs.Common.{take_all, take_more_set, all_from, commit_said, of_changes, piece_change, are_changes, piece_said, pieces_of, Reads, first_refusal, pieces_left}
 use Rattle.pref_core.specs.Changes.{commit_of}
 use Rattle.pref_core.specs.declared.changes.Change.{Change}
 use Rattle.pref_core.specs.declared.fault.CoreFault.TheVariants.{ChangeCount}
-use Rattle.pref_table.specs.Numbered.{all_from}
 use Rattle.pref_table.proofs.NumberedFacts.{all_from-all, all_from-fails_at, all_from-more, all_from-none}
 use Rattle.pref_script.proofs.SplitFacts.{drop_here}
-use Rattle.pref_script.specs.Commands.{commit_said, of_changes, piece_change}
-use Rattle.pref_script.specs.Pieces.{are_changes, piece_said, pieces_of}
-use Rattle.pref_script.specs.Reading.{Reads, first_refusal, pieces_left}
 use Rattle.pref_script.specs.declared.command.Refusal.TheVariants.{NotCommand}
 use Rattle.pref_script.specs.declared.command.Stop.{Stop}
 use Rattle.pref_script.specs.declared.command.Stop.TheVariants.{Refused as StopRefused, OutOfMemory as StopMemory}

@@ -1,21 +1,10 @@
 -- Whole runs, worked out by computation: a script's bytes, and the bytes that they are told.
-use Rattle.std.proofs.Common.{◌≡◌, ℕ, [], ◌∷◌, refl}
-use Rattle.std.specs.Prelude.{codes}
-use Rattle.std.specs.Fmt.{digits}
+use Rattle.pref_script.proofs.Common.{◌≡◌, ℕ, [], ◌∷◌, refl, codes, digits, Limits, number_of, all_from, table_of, table_of_records, without_marks, accepted_events, act_of, change_of, commands_of}
+use Rattle.pref_script.proofs.Common.{commit_said, command_lines, output, script_of, raw_lines, said_by, said_in, verb_of, change_said_by, change_verb_of, piece_said, after_word, word_number, word_of}
 use Rattle.csv.specs.Machine.{next_record}
 use Rattle.csv.specs.Reading.{records_from}
-use Rattle.pref_core.specs.Limits.{Limits}
 use Rattle.pref_table.specs.Names.{schema_of}
-use Rattle.pref_table.specs.Number.{number_of}
-use Rattle.pref_table.specs.Numbered.{all_from}
 use Rattle.pref_table.specs.Rows.{row_of}
-use Rattle.pref_table.specs.Tables.{table_of, table_of_records, without_marks}
-use Rattle.pref_script.specs.Commands.{accepted_events, act_of, change_of, commands_of, commit_said}
-use Rattle.pref_script.specs.Output.{command_lines, output, script_of}
-use Rattle.pref_script.specs.Script.{raw_lines}
-use Rattle.pref_script.specs.Forms.{said_by, said_in, verb_of}
-use Rattle.pref_script.specs.Pieces.{change_said_by, change_verb_of, piece_said}
-use Rattle.pref_script.specs.Words.{after_word, word_number, word_of}
 
 -- the limits of a run with so many slots in blocks of this size
 abbrev limits_of : ℕ → ℕ → Limits

@@ -1,14 +1,9 @@
 -- A command line that begins as most do.
-use Rattle.std.proofs.Common.{◌≡◌, ◌∙◌, ℕ, suc, ◌+◌, ◌-◌, ◌≤◌, Bool, cond, not, true, false, List, [], ◌∷◌, length, drop, take, get_or, ap, refl, arith, Some}
-use Rattle.std.specs.List.{position_or_len, prefix_len}
-use Rattle.std.specs.Char.{is_ascii_digit}
+use Rattle.pref_script.proofs.Common.{◌≡◌, ◌∙◌, ℕ, suc, ◌+◌, ◌-◌, ◌≤◌, Bool, cond, not, true, false, List, [], ◌∷◌, length, drop, take, get_or, ap, refl, arith, Option, Some, None, position_or_len}
+use Rattle.pref_script.proofs.Common.{prefix_len, codes, is_ascii_digit, bytes_eq, digits_value, prefix_len_is, after_blanks, is_blank, Said, client_named, said_by, said_in, verb_of, said_by_client}
+use Rattle.pref_script.proofs.Common.{after_word, word_number, word_of}
 use Rattle.std.specs.Int.{IsInRange}
-use Rattle.std.specs.Str.Parse.{digits_value}
-use Rattle.std.proofs.lemmas.List.Sums.{prefix_len_is}
-use Rattle.pref_table.specs.Number.{after_blanks, is_blank}
-use Rattle.pref_script.specs.Forms.{said_in}
-use Rattle.pref_script.specs.Reading.{said_by_client}
-use Rattle.pref_script.specs.Words.{after_word, word_number, word_of}
+use Rattle.pref_script.specs.declared.forms.Verb.{Verb}
 use Rattle.pref_script.proofs.WordsFacts.{digit_not_blank, number-is, value_more}
 
 -- the number of one digit
@@ -49,6 +44,13 @@ client_in digit rest range is =
     let blank = digit_not_blank digit range in
     rw (as_word digit rest blank, as_after digit rest blank, digit_word digit rest blank, digit_after digit rest blank, digit_number digit range is) refl
 
+-- it names the client
+named_in : (digit : ℕ) (rest : List ℕ) → IsInRange 48 57 digit → is_ascii_digit digit ≡ true → client_named (97 ∷ 115 ∷ 32 ∷ digit ∷ 32 ∷ rest) ≡ Some (digit - 48)
+unfolding client_named
+named_in digit rest range is =
+    let blank = digit_not_blank digit range in
+    rw (as_word digit rest blank, as_after digit rest blank, digit_word digit rest blank, digit_number digit range is) refl
+
 pub client_at : (line : List ℕ) → 5 ≤ length line → get_or line 0 0 ≡ 97 → get_or line 1 0 ≡ 115 → get_or line 2 0 ≡ 32 → IsInRange 48 57 (get_or line 3 0) → is_ascii_digit (get_or line 3 0) ≡ true → get_or line 4 0 ≡ 32
     → said_in line ≡ said_by_client (get_or line 3 0 - 48) (after_blanks (drop 5 line))
 client_at [] few = absurd (omega (arith, few))
@@ -57,3 +59,37 @@ client_at (a ∷ s ∷ []) few = absurd (omega (arith, few))
 client_at (a ∷ s ∷ blank ∷ []) few = absurd (omega (arith, few))
 client_at (a ∷ s ∷ blank ∷ digit ∷ []) few = absurd (omega (arith, few))
 client_at (a ∷ s ∷ blank ∷ digit ∷ end ∷ rest) few = λ at0 at1 at2 range is at4. rw (at0, at1, at2, at4) (client_in digit rest range is)
+
+pub named_at : (line : List ℕ) → 5 ≤ length line → get_or line 0 0 ≡ 97 → get_or line 1 0 ≡ 115 → get_or line 2 0 ≡ 32 → IsInRange 48 57 (get_or line 3 0) → is_ascii_digit (get_or line 3 0) ≡ true → get_or line 4 0 ≡ 32
+    → client_named line ≡ Some (get_or line 3 0 - 48)
+named_at [] few = absurd (omega (arith, few))
+named_at (a ∷ []) few = absurd (omega (arith, few))
+named_at (a ∷ s ∷ []) few = absurd (omega (arith, few))
+named_at (a ∷ s ∷ blank ∷ []) few = absurd (omega (arith, few))
+named_at (a ∷ s ∷ blank ∷ digit ∷ []) few = absurd (omega (arith, few))
+named_at (a ∷ s ∷ blank ∷ digit ∷ end ∷ rest) few = λ at0 at1 at2 range is at4. rw (at0, at1, at2, at4) (named_in digit rest range is)
+
+-- a line names the client whose command it is
+pub said_named : (line : List ℕ) (client : ℕ) (what : Said) → said_in line ≡ Some (client, what) → client_named line ≡ Some client
+unfolding said_in client_named
+said_named line client what said = by (bytes_eq (word_of text) (codes "as")) (word_number 255 (word_of rest)) (verb_of (word_of (after_word rest))) refl refl refl
+  where
+    text : List ℕ
+    text = after_blanks line
+
+    rest : List ℕ
+    rest = after_word text
+
+    by : (begins : Bool) (number : Option ℕ) (verb : Option Verb) → bytes_eq (word_of text) (codes "as") ≡ begins → word_number 255 (word_of rest) ≡ number → verb_of (word_of (after_word rest)) ≡ verb → client_named line ≡ Some client
+    by false number verb e f g = cc (rw e at said)
+    by true None verb e f g = cc (rw (e, f) at said)
+    by true (Some number) None e f g = cc (rw (e, f, g) at said)
+    by true (Some number) (Some verb) e f g = form (said_by verb (after_word (after_word rest))) refl
+      where
+        form : (found : Option Said) → said_by verb (after_word (after_word rest)) ≡ found → client_named line ≡ Some client
+        form None h = cc (rw (e, f, g, h) at said)
+        form (Some found) h =
+            let both : Some (number, found) ≡ Some (client, what) = rw (e, f, g, h) at said in
+            let pair : (number, found) ≡ (client, what) = cc both in
+            let same : number ≡ client = ap (λ (p : ℕ × Said). p.0) pair in
+            rw (e, f) (ap Some same)

@@ -1,27 +1,12 @@
 -- A script that is heard line by line.
-use Rattle.std.proofs.Common.{◌≡◌, ◌∙◌, ℕ, suc, ◌+◌, ◌^◌, ◌<◌, true, false, Bool, List, [], ◌∷◌, ◌++◌, length, take, drop, ap, refl, sym, subst, arith, append_assoc, add-zero, Option, Some, None, Result, Ok, inl, inr, nat_lt}
-use Rattle.std.proofs.KnownBytes.{Appends-trans, Consumes-trans, Consumes-whole}
-use Rattle.std.proofs.lemmas.Bool.{ltb-true, lt-ltb}
-use Rattle.std.proofs.lemmas.List.{append-nil, drop-append-le, drop_all, get_or_append_left, length-append, length-drop, take-append-drop, take-append-le}
-use Rattle.std.proofs.Math.Seq.{take-append-add}
-use Rattle.std.proofs.lemmas.List.Sums.{fails_before_first, passes_at_first, position_or_len_is}
-use Rattle.std.specs.Io.KnownBytes.{Appends, Consumes, IsAtEnd}
-use Rattle.std.specs.List.{after_first, before_first, concat, position_or_len}
-use Rattle.std.specs.Prelude.{IfSome, IsOk}
-use Rattle.pref_core.specs.Limits.{Limits}
-use Rattle.pref_core.specs.Step.{opened}
-use Rattle.pref_script.specs.Commands.{Command, accepted_events, commands_in, commands_of}
-use Rattle.pref_script.specs.Hearing.{HeardScript, Hears}
-use Rattle.pref_script.specs.Live.{EndsWithLine, IsHeard, IsTooLong, NoneLeft, RanLive, StopsEarly, StopsInLine, TellsNext}
-use Rattle.pref_script.specs.LiveTable.{TellsLine, names_of, next_number}
-use Rattle.pref_script.specs.Output.{command_lines, output, output_of, script_of}
+use Rattle.pref_script.proofs.Common.{◌≡◌, ◌∙◌, ℕ, suc, ◌+◌, ◌^◌, ◌<◌, true, false, Bool, List, [], ◌∷◌, ◌++◌, length, take, drop, ap, refl, sym, subst, arith, append_assoc, add-zero, Option, Some}
+use Rattle.pref_script.proofs.Common.{None, Result, Ok, inl, inr, nat_lt, Appends-trans, Consumes-trans, Consumes-whole, ltb-true, lt-ltb, append-nil, drop-append-le, drop_all, get_or_append_left}
+use Rattle.pref_script.proofs.Common.{length-append, length-drop, take-append-drop, take-append-le, take-append-add, fails_before_first, passes_at_first, position_or_len_is, Appends, Consumes}
+use Rattle.pref_script.proofs.Common.{IsAtEnd, after_first, before_first, concat, position_or_len, IfSome, IsOk, Limits, opened, Command, accepted_events, commands_in, commands_of, HeardScript, Hears}
+use Rattle.pref_script.proofs.Common.{EndsWithLine, IsHeard, IsTooLong, NoneLeft, RanLive, StopsEarly, StopsInLine, TellsNext, TellsLine, names_of, next_number, command_lines, output, output_of}
+use Rattle.pref_script.proofs.Common.{script_of, IsLittle, IsLong, ReadBehind, ReadSome, between, is_at_end, unread, Sink, Source, WroteAll, WroteBeginning, Parts, is_end_line, is_table_line}
+use Rattle.pref_script.proofs.Common.{parts_of, raw_lines, without_line_end, RunFault, LiveTable, ReadAhead}
 use Rattle.pref_script.specs.Playing.{told_from}
-use Rattle.pref_script.specs.ReadAhead.{IsLittle, IsLong, ReadBehind, ReadSome, between, is_at_end, unread}
-use Rattle.pref_script.specs.Run.{Sink, Source, WroteAll, WroteBeginning}
-use Rattle.pref_script.specs.Script.{Parts, is_end_line, is_table_line, parts_of, raw_lines, without_line_end}
-use Rattle.pref_script.specs.declared.fault.RunFault.{RunFault}
-use Rattle.pref_script.specs.declared.live_table.LiveTable.{LiveTable}
-use Rattle.pref_script.specs.declared.read_ahead.ReadAhead.{ReadAhead}
 use Rattle.pref_script.proofs.BlockFacts.{first_too_long, long_among}
 use Rattle.pref_script.proofs.LineFacts.{ends_more, front_is, line_at, little_later, little_left, some_none}
 use Rattle.pref_script.proofs.OutputFacts.{script-ok}

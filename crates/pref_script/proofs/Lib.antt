@@ -1,3 +1,4 @@
+pub mod Common
 pub mod BytesFacts
 pub mod SplitFacts
 pub mod ScriptFacts
@@ -18,3 +19,4 @@ pub mod HeardFacts
 pub mod LiveRunFacts
 pub mod Examples
 pub mod QuestionExamples
+pub mod PartFacts

@@ -1,19 +1,10 @@
 -- Lines that are read ahead.
-use Rattle.std.proofs.Common.{◌≡◌, ◌∙◌, ℕ, ◌+◌, ◌-◌, ◌<◌, ◌≤◌, true, false, Bool, List, [], ◌∷◌, ◌++◌, length, take, drop, get_or, ap, refl, sym, subst, arith, append_assoc, eq-eqb, Option, Some, None, Result, Ok, Err, inl, inr, ◌⊎◌}
-use Rattle.std.proofs.KnownBytes.{Consumes-nil, Consumes-trans}
-use Rattle.std.proofs.lemmas.List.{append-nil, drop-append-le, drop_all, get_or-drop, get_or-take, get_or_append_left, length-append, length-drop, length-take, take-append-le, take_all}
-use Rattle.std.proofs.Math.Seq.{take-add}
-use Rattle.std.proofs.lemmas.Bool.{cases_lt}
-use Rattle.std.specs.Prelude.{IfErr, IfOk, is_some}
-use Rattle.memchr.specs.Find.{IsFirstByte, is_byte}
-use Rattle.pref_script.specs.Live.{EndsWithLine}
-use Rattle.pref_script.specs.ReadAhead.{IsLineAt, IsLittle, IsWhole, LineFault, NoLineFeed, ReadBehind, ReadOnce, ReadSome, between, is_at_end, unread}
-use Rattle.pref_script.specs.Run.{Source}
-use Rattle.pref_script.specs.Script.{raw_lines}
-use Rattle.pref_script.specs.declared.read_ahead.ReadAhead.{ReadAhead}
-use Rattle.pref_script.specs.declared.fault.RunFault.{RunFault}
-use Rattle.pref_script.specs.declared.fault.RunFault.TheVariants as fault
+use Rattle.pref_script.proofs.Common.{◌≡◌, ◌∙◌, ℕ, ◌+◌, ◌-◌, ◌<◌, ◌≤◌, true, false, Bool, List, [], ◌∷◌, ◌++◌, length, take, drop, get_or, ap, refl, sym, subst, arith, append_assoc, eq-eqb, Option}
+use Rattle.pref_script.proofs.Common.{Some, None, Result, Ok, Err, inl, inr, ◌⊎◌, Consumes-nil, Consumes-trans, append-nil, drop-append-le, drop_all, get_or-drop, get_or-take, get_or_append_left}
+use Rattle.pref_script.proofs.Common.{length-append, length-drop, length-take, take-append-le, take_all, take-add, cases_lt, IfErr, IfOk, is_some, IsFirstByte, is_byte, EndsWithLine, IsLineAt}
+use Rattle.pref_script.proofs.Common.{IsLittle, IsWhole, LineFault, NoLineFeed, ReadBehind, ReadOnce, ReadSome, between, is_at_end, unread, Source, raw_lines, ReadAhead, RunFault}
 use Rattle.pref_script.proofs.ScriptFacts.{lines_at, lines_last, lines_none}
+use Rattle.pref_script.specs.declared.fault.RunFault.TheVariants as fault
 
 -- something was read, and then something more
 pub behind_more : (a b c : Option (List ℕ)) (x y z : ReadAhead) → ReadBehind a b x y → ReadBehind b c y z → ReadBehind a c x z

@@ -1,9 +1,5 @@
 -- Lines that a live table is told, one after the other.
-use Rattle.std.proofs.Common.{◌≡◌, List, ◌∷◌, ℕ, length}
-use Rattle.pref_script.specs.Commands.{Command, commands_of}
-use Rattle.pref_script.specs.LiveTable.{TellsLine, names_of, next_number, running_of}
-use Rattle.pref_script.specs.Script.{raw_lines, without_line_end}
-use Rattle.pref_script.specs.declared.live_table.LiveTable.{LiveTable}
+use Rattle.pref_script.proofs.Common.{◌≡◌, List, ◌∷◌, ℕ, length, Command, commands_of, TellsLine, names_of, next_number, running_of, raw_lines, without_line_end, LiveTable}
 use Rattle.pref_script.proofs.PlayFacts.{Playing, playing_line}
 
 -- a line more

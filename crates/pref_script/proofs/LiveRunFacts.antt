@@ -1,29 +1,16 @@
 -- A run that tells each line as it comes: how it begins, goes on and ends.
-use Rattle.std.proofs.Common.{◌≡◌, ◌∙◌, ◌⊎◌, ℕ, ◌+◌, ◌≤◌, true, false, List, [], ◌∷◌, ◌++◌, length, take, drop, ap, refl, sym, subst, arith, append_assoc, Option, Result, Ok, Err, inl, inr}
-use Rattle.std.proofs.KnownBytes.{Appends-kept, Appends-trans}
-use Rattle.std.proofs.lemmas.List.{drop_all, length-drop, take-append-drop, take_all}
-use Rattle.std.specs.Io.KnownBytes.{Appends, Consumes, IsAtEnd}
-use Rattle.std.specs.List.{position_or_len}
-use Rattle.pref_core.specs.Limits.{Limits}
-use Rattle.pref_core.specs.Step.{opened}
-use Rattle.pref_script.specs.Commands.{commands_of}
-use Rattle.pref_script.specs.Hearing.{Hears, IsBlock, LacksBlock, OpensLive, ReadsBlock}
-use Rattle.pref_script.specs.Live.{EndsWithLine, HeardNone, IsTooLong, RanLive, ShowsFault, StopsEarly, TellsNext, Turns}
-use Rattle.pref_script.specs.LiveTable.{IsOpened, OpeningFault, next_number}
-use Rattle.pref_script.specs.Output.{ScriptFault, fault_text, script_of}
-use Rattle.pref_script.specs.ReadAhead.{IsLittle, ReadBehind, ReadSome, between, is_at_end, unread}
-use Rattle.pref_script.specs.Run.{NothingWritten, Sink, Source, WroteAll, WroteBeginning, Wrote}
-use Rattle.pref_script.specs.Script.{Parts, block_lines, is_end_line, parts_of, raw_lines}
-use Rattle.pref_script.specs.declared.fault.RunFault.{RunFault}
-use Rattle.pref_script.specs.declared.fault.RunFault.TheVariants as fault
+use Rattle.pref_script.proofs.Common.{◌≡◌, ◌∙◌, ◌⊎◌, ℕ, ◌+◌, ◌≤◌, true, false, List, [], ◌∷◌, ◌++◌, length, take, drop, ap, refl, sym, subst, arith, append_assoc, Option, Result, Ok, Err, inl, inr}
+use Rattle.pref_script.proofs.Common.{Appends-kept, Appends-trans, drop_all, length-drop, take-append-drop, take_all, Appends, Consumes, IsAtEnd, position_or_len, Limits, opened, commands_of, Hears}
+use Rattle.pref_script.proofs.Common.{IsBlock, LacksBlock, OpensLive, ReadsBlock, EndsWithLine, HeardNone, IsTooLong, RanLive, ShowsFault, StopsEarly, TellsNext, Turns, IsOpened, OpeningFault}
+use Rattle.pref_script.proofs.Common.{next_number, ScriptFault, fault_text, script_of, IsLittle, ReadBehind, ReadSome, between, is_at_end, unread, NothingWritten, Sink, Source, WroteAll}
+use Rattle.pref_script.proofs.Common.{WroteBeginning, Wrote, Parts, block_lines, is_end_line, parts_of, raw_lines, RunFault, LiveTable, ReadAhead}
 use Rattle.pref_script.specs.declared.live.TableBlock.{TableBlock}
-use Rattle.pref_script.specs.declared.live_table.LiveTable.{LiveTable}
-use Rattle.pref_script.specs.declared.read_ahead.ReadAhead.{ReadAhead}
 use Rattle.pref_script.proofs.BlockFacts.{all_read, hears_part, little_at_first}
 use Rattle.pref_script.proofs.HeardFacts.{cut_of, had_all, heard_too_long, hears_next, parts_more, since, stops_early, stops_writing}
 use Rattle.pref_script.proofs.LineFacts.{little_left}
 use Rattle.pref_script.proofs.OutputFacts.{script-parts}
 use Rattle.pref_script.proofs.RunFacts.{nothing-written}
+use Rattle.pref_script.specs.declared.fault.RunFault.TheVariants as fault
 
 -- the reader has come to its end
 at_end : (had left : Option (List ℕ)) (old new : ReadAhead) → is_at_end old ≡ false → ReadBehind had left old new → is_at_end new ≡ true → IsAtEnd left

@@ -1,19 +1,11 @@
 -- The output of a script, part by part.
-use Rattle.std.proofs.Common.{◌≡◌, ◌∙◌, ℕ, ◌<◌, List, [], ◌∷◌, length, ap, refl, Ok, Err, Bool, true, false, ◌⊎◌, inl, inr, Result}
-use Rattle.std.proofs.lemmas.Bool.{cases_lt, le-ltb, lt-ltb}
-use Rattle.std.specs.Global.{Global}
-use Rattle.std.specs.Prelude.{IfErr, IfOk, String, nat_lt, string_bytes}
-use Rattle.std.specs.List.{position_or_len}
-use Rattle.pref_table.specs.Tables.{Fails, Table, table_of}
-use Rattle.pref_table.specs.declared.fault.TableFault.TheVariants as table
+use Rattle.pref_script.proofs.Common.{◌≡◌, ◌∙◌, ℕ, ◌+◌, ◌<◌, ◌≤◌, List, [], ◌∷◌, length, ap, arith, refl, Ok, Err, Bool, true, false, ◌⊎◌, inl, inr, Result, cases_lt, le-ltb, lt-ltb, Global, IfErr}
+use Rattle.pref_script.proofs.Common.{IfOk, String, nat_lt, string_bytes, position_or_len, Fails, Table, table_of, Limits, Script, ScriptFault, TellsOutput, in_bytes, output_of, script_of}
+use Rattle.pref_script.proofs.Common.{script_with, core_fault, table_fault, Parts, is_end_line, is_table_line, parts_of, raw_lines, RunFault}
 use Rattle.pref_table.specs.declared.fault.TableFault.{TableFault}
-use Rattle.pref_core.specs.Limits.{Limits}
-use Rattle.pref_core.specs.declared.fault.CoreFault.TheVariants as core
 use Rattle.pref_core.specs.declared.fault.CoreFault.{CoreFault}
-use Rattle.pref_script.specs.Output.{Script, ScriptFault, TellsOutput, in_bytes, output_of, script_of, script_with}
-use Rattle.pref_script.specs.Reading.{core_fault, table_fault}
-use Rattle.pref_script.specs.Script.{Parts, is_end_line, is_table_line, parts_of, raw_lines}
-use Rattle.pref_script.specs.declared.fault.RunFault.{RunFault}
+use Rattle.pref_table.specs.declared.fault.TableFault.TheVariants as table
+use Rattle.pref_core.specs.declared.fault.CoreFault.TheVariants as core
 use Rattle.pref_script.specs.declared.fault.RunFault.TheVariants as fault
 
 -- a script's parts fail in two ways
@@ -26,6 +18,19 @@ parts-faults (first ∷ rest) why h = by (is_table_line first) (nat_lt (position
     by false end e f h = inl (cc (rw e at h))
     by true false e f h = inr (cc (rw (e, f) at h))
     by true true e f h = cc (rw (e, f) at h)
+
+-- a script's first command line follows two lines at least
+pub first-least : (raws : List (List ℕ)) (parts : Parts) → parts_of raws ≡ Ok parts → 3 ≤ parts.first
+first-least [] parts h = cc h
+first-least (first ∷ rest) parts h = by (is_table_line first) (nat_lt (position_or_len is_end_line rest) (length rest)) refl refl h
+  where
+    by : (table end : Bool) → is_table_line first ≡ table → nat_lt (position_or_len is_end_line rest) (length rest) ≡ end → parts_of (first ∷ rest) ≡ Ok parts
+        → 3 ≤ parts.first
+    by false end e f h = cc (rw e at h)
+    by true false e f h = cc (rw (e, f) at h)
+    by true true e f h =
+        let number : position_or_len is_end_line rest + 3 ≡ parts.first = cc (rw (e, f) at h) in
+        omega (arith, number)
 
 pub script-parts : (limits : Limits) (bytes : List ℕ) (why : RunFault) → parts_of (raw_lines bytes) ≡ Err why → script_of limits bytes ≡ Err why
 unfolding script_of

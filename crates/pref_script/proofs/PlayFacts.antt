@@ -1,17 +1,9 @@
 -- Commands that are played one after the other.
-use Rattle.std.proofs.Common.{◌≡◌, ◌∙◌, ℕ, ℤ, ◌+◌, List, [], ◌∷◌, ◌++◌, length, Ok, sym, ap, refl, subst, arith, append_assoc}
-use Rattle.std.proofs.lemmas.List.{append-nil}
-use Rattle.pref_core.specs.Limits.{Limits}
-use Rattle.pref_core.specs.Step.{System, opened, replies, step}
+use Rattle.pref_script.proofs.Common.{◌≡◌, ◌∙◌, ℕ, ℤ, ◌+◌, List, [], ◌∷◌, ◌++◌, length, Ok, sym, ap, refl, subst, arith, append_assoc, append-nil, Limits, System, opened, replies, step, Event}
+use Rattle.pref_script.proofs.Common.{Command, refused, runs, commands_in, commands_of, accepted_events, command_lines, raw_lines, without_line_end, refused_line, reply_lines, Refusal}
 use Rattle.pref_core.specs.Systems.{Replies, Running, StandsForSystem}
-use Rattle.pref_core.specs.declared.event.Event.{Event}
 use Rattle.pref_core.specs.declared.event.Reply.{Reply}
-use Rattle.pref_script.specs.Commands.{Command, refused, runs, commands_in, commands_of, accepted_events}
-use Rattle.pref_script.specs.Output.{command_lines}
 use Rattle.pref_script.specs.Playing.{Plays, TellsAll, told_from}
-use Rattle.pref_script.specs.Script.{raw_lines, without_line_end}
-use Rattle.pref_script.specs.Text.{refused_line, reply_lines}
-use Rattle.pref_script.specs.declared.command.Refusal.{Refusal}
 use Rattle.pref_script.proofs.ScriptFacts.{lines_none}
 
 -- no command

@@ -1,11 +1,6 @@
 -- What is written of what was told.
-use Rattle.std.proofs.Common.{◌≡◌, ◌∙◌, ◌≤◌, ℕ, List, [], length, refl, true, Ok, Err, Result, Option, None, Some, take}
-use Rattle.std.proofs.lemmas.List.{append-nil}
-use Rattle.std.specs.Prelude.{IfErr, OnOk}
-use Rattle.std.specs.Io.KnownBytes.{Appends, Keeps}
-use Rattle.pref_script.specs.Output.{fault_text}
-use Rattle.pref_script.specs.Run.{Sink, WroteAll, Wrote}
-use Rattle.pref_script.specs.declared.fault.RunFault.{RunFault}
+use Rattle.pref_script.proofs.Common.{◌≡◌, ◌∙◌, ◌≤◌, ℕ, List, [], length, refl, true, Ok, Err, Result, Option, None, Some, take, append-nil, IfErr, OnOk, Appends, Keeps, fault_text, Sink, WroteAll}
+use Rattle.pref_script.proofs.Common.{Wrote, RunFault}
 use Rattle.pref_script.specs.declared.fault.RunFault.TheVariants as fault
 
 -- a text was written, or a beginning of it

@@ -1,14 +1,9 @@
 -- A script, one line at a time.
-use Rattle.std.proofs.Common.{◌≡◌, ◌∙◌, ℕ, ◌+◌, ◌-◌, ◌<◌, ◌≤◌, true, false, List, [], ◌∷◌, ◌++◌, length, take, drop, get_or, sym, ap, refl, arith, append_assoc, Some, None, Err}
-use Rattle.std.specs.Prelude.{◌==◌}
-use Rattle.std.specs.List.{concat, position_or_len, slice_split}
-use Rattle.std.proofs.lemmas.Bool.{eqb-true, ne_eqb}
-use Rattle.std.proofs.lemmas.List.{append-nil, take-append-le, take_all, length-append, length-drop, take_more}
+use Rattle.pref_script.proofs.Common.{◌≡◌, ◌∙◌, ℕ, ◌+◌, ◌-◌, ◌<◌, ◌≤◌, true, false, List, [], ◌∷◌, ◌++◌, length, take, drop, get_or, sym, ap, refl, arith, append_assoc, Some, None, Err, ◌==◌, concat}
+use Rattle.pref_script.proofs.Common.{position_or_len, slice_split, eqb-true, ne_eqb, append-nil, take-append-le, take_all, length-append, length-drop, take_more, position_or_len_is, IsFirstByte}
+use Rattle.pref_script.proofs.Common.{is_byte, is_end_line, is_line_feed, parts_of, raw_lines, with_line_feeds}
 use borrow.Author.Count.{below_more, below_none}
 use Rattle.std.proofs.lemmas.List.Splits.{length-slice_split}
-use Rattle.std.proofs.lemmas.List.Sums.{position_or_len_is}
-use Rattle.memchr.specs.Find.{IsFirstByte, is_byte}
-use Rattle.pref_script.specs.Script.{is_end_line, is_line_feed, parts_of, raw_lines, with_line_feeds}
 use Rattle.pref_script.specs.declared.fault.RunFault.TheVariants.{NoTable}
 use Rattle.pref_script.proofs.SplitFacts.{drop_here, split_first, split_none}
 

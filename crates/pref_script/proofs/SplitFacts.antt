@@ -1,12 +1,7 @@
 -- A text that is cut at the first of some bytes.
-use Rattle.std.proofs.Common.{◌≡◌, ◌∙◌, ℕ, ◌+◌, ◌-◌, ◌<◌, false, List, [], ◌∷◌, length, take, drop, get_or, sym, ap, arith, suc, Some, None}
-use Rattle.std.specs.Prelude.{◌==◌}
-use Rattle.std.specs.List.{position_or_len, slice_split}
-use Rattle.std.proofs.lemmas.Bool.{eq-eqb, ne_eqb}
-use Rattle.std.proofs.lemmas.List.{drop_more, get_or_default, length-drop}
+use Rattle.pref_script.proofs.Common.{◌≡◌, ◌∙◌, ℕ, ◌+◌, ◌-◌, ◌<◌, false, List, [], ◌∷◌, length, take, drop, get_or, sym, ap, arith, suc, Some, None, ◌==◌, position_or_len, slice_split, eq-eqb, ne_eqb}
+use Rattle.pref_script.proofs.Common.{drop_more, get_or_default, length-drop, position_or_len_is, IsFirstByte, Nowhere, Passes, is_byte}
 use Rattle.std.proofs.lemmas.List.Splits.{slice_split_first, slice_split_none}
-use Rattle.std.proofs.lemmas.List.Sums.{position_or_len_is}
-use Rattle.memchr.specs.Find.{IsFirstByte, Nowhere, Passes, is_byte}
 
 -- the bytes where a search has not met one
 before_byte : (byte : ℕ) (text : List ℕ) (end : ℕ) → Nowhere (Passes (is_byte byte) text) 0 end → (k : ℕ) → k < end → (get_or text k 0 == byte) ≡ false

@@ -1,7 +1,5 @@
 -- Lines that are printed one after the other.
-use Rattle.std.proofs.Common.{◌≡◌, ◌∙◌, ℕ, ◌+◌, ◌<◌, ◌≤◌, List, ◌++◌, length, drop, get_or, sym, append_assoc}
-use Rattle.std.proofs.lemmas.List.{append-nil, drop_more, drop_all}
-use Rattle.pref_script.specs.Text.{texts}
+use Rattle.pref_script.proofs.Common.{◌≡◌, ◌∙◌, ℕ, ◌+◌, ◌<◌, ◌≤◌, List, [], ◌∷◌, ◌++◌, length, drop, get_or, refl, sym, ap, append_assoc, append-nil, drop_more, drop_all, texts}
 
 -- one text more
 pub texts-more : {A : Type 0} (text : A → List ℕ) (out wrote all : List ℕ) (xs : List A) (place : ℕ) (x d : A) → place < length xs → get_or xs place d ≡ x
@@ -15,3 +13,9 @@ texts-more text out wrote all xs place x d inside here before now =
 pub texts-end : {A : Type 0} (text : A → List ℕ) (out all : List ℕ) (xs : List A) (place : ℕ) → length xs ≤ place → out ++ texts text (drop place xs) ≡ all → out ≡ all
 unfolding texts
 texts-end text out all xs place none before = sym (append-nil out) ∙ rw (drop_all place xs none) at before
+
+-- the texts of some things and of others
+pub texts-append : {A : Type 0} (text : A → List ℕ) (xs ys : List A) → texts text (xs ++ ys) ≡ texts text xs ++ texts text ys
+unfolding texts
+texts-append text [] ys = refl
+texts-append text (x ∷ xs) ys = ap (λ (t : List ℕ). text x ++ t) (texts-append text xs ys) ∙ sym (append_assoc (text x) (texts text xs) (texts text ys))

@@ -1,32 +1,22 @@
 -- What a script is told whose clients run on threads.
-use Rattle.std.proofs.Common.{◌≡◌, ◌∙◌, ℕ, ◌<◌, Bool, List, [], ◌++◌, length, refl, sym, subst, Result, Ok, Err, IfErr, ◌⊎◌, inl, inr, ℤ}
-use Rattle.std.specs.Global.{Vec}
+use Rattle.pref_script.proofs.Common.{◌≡◌, ◌∙◌, ℕ, ◌+◌, ◌<◌, ◌≤◌, ◌^◌, arith, map, Bool, List, ◌++◌, length, refl, sym, ap, subst, Result, Ok, Err, IfErr, ◌⊎◌, inl, inr, ℤ, Vec, string_bytes, Limits}
+use Rattle.pref_script.proofs.Common.{AreParts, HasTold, WholeAcceptAll, acts_left, accepted_events, commands_of, Script, ScriptFault, script_of, script_with, IsOpeningOf, share_fault, raw_lines}
+use Rattle.pref_script.proofs.Common.{texts, Sink, Wrote, AreActs, ClosesOrStops, HoldsNobody, TellsOnThreads, StopsClients, WereStopped, always_open, opening_of, unowned_lines, RunFault, Part}
 use Rattle.std.specs.declared.marker.Brand.{Brand}
-use Rattle.pref_core.specs.Limits.{Limits}
 use Rattle.pref_core.specs.declared.event.Act.{Act}
-use Rattle.pref_core.specs.declared.event.Reply.{Reply}
 use Rattle.pref_core.specs.declared.fault.CoreFault.{CoreFault}
-use Rattle.pref_core.specs.declared.fault.CoreFault.TheVariants as core
-use Rattle.pref_share.specs.Interleavings.{IsSequential}
 use Rattle.pref_share.specs.Openings.{Opening}
-use Rattle.pref_share.specs.Runs.{IsJointRun}
+use Rattle.pref_share.specs.Reports.{RanTasks}
 use Rattle.pref_share.specs.Standing.{newcomers}
 use Rattle.pref_share.specs.declared.fault.ShareFault.{ShareFault}
-use Rattle.pref_share.specs.declared.fault.ShareFault.TheVariants as share
 use Rattle.pref_share.proofs.Interleavings.{length-newcomers}
 use Rattle.pref_share.proofs.Reporting.{first_stops}
-use Rattle.pref_script.specs.Commands.{commands_of}
-use Rattle.pref_script.specs.Output.{Script, ScriptFault, script_of, script_with}
-use Rattle.pref_script.specs.Reading.{IsReadOf, share_fault, unowned_text}
-use Rattle.pref_script.specs.Text.{texts}
-use Rattle.pref_script.specs.Run.{Sink, Wrote}
-use Rattle.pref_script.specs.Threads.{AreActs, ClosesOrStops, HoldsNobody, TellsOnThreads, StopsClients, WereStopped, always_open, clients_lines, opening_of, unowned_lines}
-use Rattle.pref_script.specs.declared.commands.Line.{Line}
-use Rattle.pref_script.specs.declared.fault.RunFault.{RunFault}
+use Rattle.pref_script.specs.declared.reading.Opening.{Opening as OpeningRead}
+use Rattle.pref_script.proofs.OutputFacts.{first-least, script-core-fault, script-ok}
+use Rattle.pref_script.proofs.PartFacts.{acts_from, acts-listed, are-acts, parts-shown, whole-accept}
+use Rattle.pref_core.specs.declared.fault.CoreFault.TheVariants as core
+use Rattle.pref_share.specs.declared.fault.ShareFault.TheVariants as share
 use Rattle.pref_script.specs.declared.fault.RunFault.TheVariants as fault
-use Rattle.pref_script.specs.declared.reading.Script.{Script as Read}
-use Rattle.pref_script.proofs.ClientFacts.{told-unowned}
-use Rattle.pref_script.proofs.OutputFacts.{script-core-fault, script-ok}
 
 -- a fault of the script
 pub tells-fault : (limits : Limits) (says : ℕ → ℕ → Bool → Type 0) (bytes : List ℕ) (why : RunFault) → ScriptFault why (script_of limits bytes) → TellsOnThreads limits says bytes (Err why)
@@ -55,8 +45,9 @@ holds-nobody limits bytes sink told (Err (fault.Threads (share.Held client))) te
 holds-nobody limits bytes sink told result tells wrote = tt
 
 -- the clients were stopped
-tells-stopped : (limits : Limits) (says : ℕ → ℕ → Bool → Type 0) (bytes : List ℕ) (r : Read) → IsReadOf bytes r → (limits.capacity < length r.rows.items → ⊥) → (acts : List (Vec Act)) → AreActs limits.clients r.commands.events.items acts
-    → (why : ShareFault) → ClosesOrStops Brand (record { limits = limits; rows = r.rows.items }) says acts why → TellsOnThreads limits says bytes (Err (share_fault why))
+tells-stopped : (limits : Limits) (says : ℕ → ℕ → Bool → Type 0) (bytes : List ℕ) (r : OpeningRead) (read : IsOpeningOf bytes r) → (limits.capacity < length r.rows.items → ⊥) → (acts : List (Vec Act))
+    → AreActs limits.clients (accepted_events (commands_of r.schema read.parts.first read.parts.commands)) acts → (why : ShareFault) → ClosesOrStops Brand (record { limits = limits; rows = r.rows.items }) says acts why
+    → TellsOnThreads limits says bytes (Err (share_fault why))
 tells-stopped limits says bytes r read room acts owned why stops = by why stops
   where
     script : Script
@@ -66,43 +57,62 @@ tells-stopped limits says bytes r read room acts owned why stops = by why stops
     is_script = script-ok limits bytes read.parts (r.schema, r.rows.items) read.cut read.table room
 
     stopped : (why : ShareFault) → StopsClients (opening_of limits script) says acts why → WereStopped limits says script why
-    stopped why stops = record { acts = acts; of_script = rw read.events at owned; stops = stops }
+    stopped why stops = record { acts = acts; of_script = owned; stops = stops }
 
     by : (why : ShareFault) → ClosesOrStops Brand (opening_of limits script) says acts why → TellsOnThreads limits says bytes (Err (share_fault why))
     by (share.Core core) stops = rw (memory-alone (opening_of limits script) says acts core owned.lists stops) tt
     by why stops = (script, is_script, stopped why stops)
 
--- the board was not opened, or the clients were stopped
-pub tells-refused : (limits : Limits) (says : ℕ → ℕ → Bool → Type 0) (bytes : List ℕ) (r : Read) → IsReadOf bytes r → (rows : List (List ℤ)) → rows ≡ r.rows.items → (acts : List (Vec Act)) → AreActs limits.clients r.commands.events.items acts → (why : ShareFault)
-    → ((limits.capacity < length rows) × (why ≡ share.Core (core.Full (length rows)))) ⊎ ((limits.capacity < length rows → ⊥) × ClosesOrStops Brand (record { limits = limits; rows = rows }) says acts why)
-    → TellsOnThreads limits says bytes (Err (share_fault why))
-tells-refused limits says bytes r read rows same acts owned why refused = by (rw same at refused)
-  where
-    by : ((limits.capacity < length r.rows.items) × (why ≡ share.Core (core.Full (length r.rows.items)))) ⊎ ((limits.capacity < length r.rows.items → ⊥) × ClosesOrStops Brand (record { limits = limits; rows = r.rows.items }) says acts why)
-        → TellsOnThreads limits says bytes (Err (share_fault why))
-    by (inl (many, full)) = rw full (script-core-fault limits bytes read.parts (r.schema, r.rows.items) (core.Full (length r.rows.items)) read.cut read.table (λ _. refl) (inr many))
-    by (inr (room, stops)) = tells-stopped limits says bytes r read room acts owned why stops
+-- the command lines of a script have fewer bytes than the script
+pub commands-short : (bytes : List ℕ) (r : OpeningRead) → IsOpeningOf bytes r → r.text.first + length r.text.commands.now ≤ length bytes + 3 → length bytes < 2 ^ 63 → length r.text.commands.now < 2 ^ 63
+commands-short bytes r read few short = omega (arith, few, short, read.first, first-least (raw_lines bytes) read.parts read.cut)
 
--- what is printed before the clients' lines
-unowned-printed : (clients width : ℕ) (bytes : List ℕ) (r : Read) (read : IsReadOf bytes r) (lines : List Line) (start unowned : List ℕ) → width ≡ length r.schema → lines ≡ r.commands.lines.items
-    → start ≡ [] → unowned ≡ start ++ texts (unowned_text clients width) lines → unowned ≡ unowned_lines clients (length r.schema) (commands_of r.schema read.parts.first read.parts.commands)
-unowned-printed clients width bytes r read lines start unowned wide all empty wrote =
-    let printed = rw (empty, wide, all ∙ read.lines) at wrote in
-    printed ∙ told-unowned clients (length r.schema) (commands_of r.schema read.parts.first read.parts.commands)
+-- A script whose clients have these parts, of which the acts are these lists.
+module _ (limits : Limits) (says : ℕ → ℕ → Bool → Type 0) (bytes : List ℕ) (r : OpeningRead) (read : IsOpeningOf bytes r) (parts : Vec Part) (count : length parts.items ≡ limits.clients)
+    (are : AreParts r.schema r.text.commands.now 1 parts.items) (short : length r.text.commands.now < 2 ^ 63) where
+  abbrev acts : List (Vec Act)
+  acts = acts_from parts r.schema r.text.commands.now short 1 parts.items
 
--- the output of a joint run
-pub tells-joint : (limits : Limits) (says : ℕ → ℕ → Bool → Type 0) (bytes : List ℕ) (r : Read) (read : IsReadOf bytes r) (rows : List (List ℤ)) (width : ℕ) (lines : List Line) (acts : List (Vec Act)) (replies : List (Vec Reply))
-    (shown : List (Vec Reply)) (start unowned text : List ℕ) → rows ≡ r.rows.items → (limits.capacity < length rows → ⊥) → width ≡ length r.schema → lines ≡ r.commands.lines.items
-    → start ≡ [] → unowned ≡ start ++ texts (unowned_text limits.clients width) lines → shown ≡ replies → text ≡ unowned ++ clients_lines width 1 shown
-    → AreActs limits.clients r.commands.events.items acts → IsJointRun (record { limits = limits; rows = rows }) (newcomers limits.clients) acts replies
-    → IsSequential (record { limits = limits; rows = rows }) acts replies → TellsOnThreads limits says bytes (Ok text)
-tells-joint limits says bytes r read rows width lines acts replies shown start unowned text same room wide all empty first every wrote owned joint sequential =
-    let space = rw same at room in
-    let run = rw same at joint in
-    let answers = rw same at sequential in
-    let before = unowned-printed limits.clients width bytes r read lines start unowned wide all empty first in
-    let printed = rw (wide, every, before) at wrote in (
-      script_with read.parts (r.schema, r.rows.items),
-      script-ok limits bytes read.parts (r.schema, r.rows.items) read.cut read.table space,
-      record { acts = acts; replies = replies; of_script = rw read.events at owned; joint = run; sequential = answers; told = printed },
-    )
+  listed : map (λ list. list.items) acts ≡ map acts_left parts.items
+  listed = acts-listed parts r.schema r.text.commands.now short 1 parts.items are
+
+  owned : AreActs limits.clients (accepted_events (commands_of r.schema read.parts.first read.parts.commands)) acts
+  owned =
+      subst (λ (raws : List (List ℕ)). AreActs limits.clients (accepted_events (commands_of r.schema read.parts.first raws)) acts) read.commands
+      (are-acts parts r.schema r.text.commands.now short limits.clients read.parts.first parts.items count)
+
+  -- the board was not opened, or the clients were stopped
+  pub tells-refused : (rows : List (List ℤ)) (why : ShareFault) → rows ≡ r.rows.items
+      → ((limits.capacity < length rows) × (why ≡ share.Core (core.Full (length rows)))) ⊎ ((limits.capacity < length rows → ⊥)
+      × ((acts : List (Vec Act)) → map (λ list. list.items) acts ≡ map acts_left parts.items → ClosesOrStops Brand (record { limits = limits; rows = rows }) says acts why))
+      → TellsOnThreads limits says bytes (Err (share_fault why))
+  tells-refused rows why same refused = by (rw same at refused)
+    where
+      by : ((limits.capacity < length r.rows.items) × (why ≡ share.Core (core.Full (length r.rows.items)))) ⊎ ((limits.capacity < length r.rows.items → ⊥)
+          × ((acts : List (Vec Act)) → map (λ list. list.items) acts ≡ map acts_left parts.items → ClosesOrStops Brand (record { limits = limits; rows = r.rows.items }) says acts why))
+          → TellsOnThreads limits says bytes (Err (share_fault why))
+      by (inl (many, full)) = rw full (script-core-fault limits bytes read.parts (r.schema, r.rows.items) (core.Full (length r.rows.items)) read.cut read.table (λ _. refl) (inr many))
+      by (inr (room, stops)) = tells-stopped limits says bytes r read room acts owned why (stops acts listed)
+
+  -- no line of a client whose part is whole was refused
+  pub tells-whole : (o : Opening) (done shown : List Part) → ((acts : List (Vec Act)) → map (λ list. list.items) acts ≡ map acts_left parts.items → RanTasks o HasTold acts parts.items done) → shown ≡ done
+      → WholeAcceptAll r.schema shown (raw_lines r.text.commands.now)
+  tells-whole o done shown ran all =
+      let run = ran acts listed in
+      subst (λ (l : List Part). WholeAcceptAll r.schema l (raw_lines r.text.commands.now)) (sym all) (whole-accept r.schema r.text.commands.now parts.items done run.replies are run.taken)
+
+  -- the output of a joint run
+  pub tells-joint : (rows : List (List ℤ)) (done shown printed : List Part) (unowned text : List ℕ) → rows ≡ r.rows.items → (limits.capacity < length rows → ⊥)
+      → ((acts : List (Vec Act)) → map (λ list. list.items) acts ≡ map acts_left parts.items → RanTasks (record { limits = limits; rows = rows }) HasTold acts parts.items done)
+      → unowned ≡ unowned_lines (length shown) (length r.schema) (commands_of r.schema r.text.first (raw_lines r.text.commands.now)) → shown ≡ done
+      → text ≡ unowned ++ texts (λ part. string_bytes part.text) printed → printed ≡ done → TellsOnThreads limits says bytes (Ok text)
+  tells-joint rows done shown printed unowned text same room ran first all wrote printed_all =
+      let space = rw same at room in
+      let run = rw same at (ran acts listed) in
+      let many : length shown ≡ limits.clients = ap length all ∙ run.taken.tasks_done ∙ count in
+      let before = rw (many, read.first, read.commands) at first in
+      let lines = parts-shown r.schema r.text.commands.now parts.items done run.replies are run.taken in (
+        script_with read.parts (r.schema, r.rows.items),
+        script-ok limits bytes read.parts (r.schema, r.rows.items) read.cut read.table space,
+        record { acts = acts; replies = run.replies; of_script = owned; joint = run.joint; sequential = run.sequential; told = rw (printed_all, before, lines) at wrote },
+      )

@@ -1,23 +1,14 @@
 -- The words of a command line.
-use Rattle.std.proofs.Common.{◌≡◌, ◌∙◌, ℕ, ◌+◌, ◌-◌, ◌*◌, ◌<◌, true, false, List, length, take, drop, get_or, sym, ap, refl, arith, nat_lt, Some, None, inl, inr}
-use Rattle.std.specs.Prelude.{Bool, ◌≤◌, nat_le, not}
-use Rattle.std.specs.Char.{is_ascii_digit}
+use Rattle.pref_script.proofs.Common.{◌≡◌, ◌∙◌, ℕ, ◌+◌, ◌-◌, ◌*◌, ◌<◌, true, false, List, length, take, drop, get_or, sym, ap, refl, arith, nat_lt, Some, None, inl, inr, Bool, ◌≤◌, nat_le, not}
+use Rattle.pref_script.proofs.Common.{is_ascii_digit, list_any, position_or_len, all_ascii_digits, bytes_eq, digits_value, and_left, and_right, cases_lt, le-leb, le-ltb, lt-leb, ne_eqb, true≢false}
+use Rattle.pref_script.proofs.Common.{drop_all, get_or-drop, get_or-take, length-drop, take_all, fails_before_first, passes_at_first, position_or_len_is, digits_next, after_blanks, is_blank}
+use Rattle.pref_script.proofs.Common.{is_numeral, IsDigitsWord, after_word, word_number, word_of}
 use Rattle.std.specs.Int.{IsInRange}
-use Rattle.std.specs.List.{list_any, position_or_len}
 use Rattle.std.specs.Cmp.Lexicographic.{other_text, same_text}
-use Rattle.std.specs.Str.{all_ascii_digits, bytes_eq}
-use Rattle.std.specs.Str.Parse.{digits_value}
-use Rattle.std.proofs.lemmas.Bool.{and_left, and_right, cases_lt, le-leb, le-ltb, lt-leb, ne_eqb, true≢false}
 use Rattle.std.proofs.lemmas.Int.Digits.{digits_value_more}
-use Rattle.std.proofs.lemmas.List.{drop_all, get_or-drop, get_or-take, length-drop, take_all}
 use Rattle.std.proofs.lemmas.List.Folds.{length-prefix_len, list_any_at}
-use Rattle.std.proofs.lemmas.List.Sums.{fails_before_first, passes_at_first, position_or_len_is}
 use Rattle.std.proofs.lemmas.Str.{digit_value_digit}
 use Rattle.std.proofs.lemmas.Str.Parse.{digits_value-take-le}
-use Rattle.pref_table.proofs.NumberFacts.{digits_next}
-use Rattle.pref_table.specs.Number.{after_blanks, is_blank, is_numeral}
-use Rattle.pref_script.specs.Reading.{IsDigitsWord}
-use Rattle.pref_script.specs.Words.{after_word, word_number, word_of}
 
 -- the word that a text begins with, and what follows the blanks after it, by the place of the first blank
 pub word_at : (text : List ℕ) (place : ℕ) → position_or_len is_blank text ≡ place → word_of text ≡ take place text

@@ -74,3 +74,9 @@ unfoldable pub said_in : List ℕ → Option (ℕ × Said)
 said_in line =
     let text = after_blanks line in
     if bytes_eq (word_of text) (codes "as") then said_after_as (after_word text) else None
+
+-- the client that a line names: by the word `as` and a number below 256, whatever follows
+unfoldable pub client_named : List ℕ → Option ℕ
+client_named line =
+    let text = after_blanks line in
+    if bytes_eq (word_of text) (codes "as") then word_number 255 (word_of (after_word text)) else None

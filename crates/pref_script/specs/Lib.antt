@@ -11,6 +11,7 @@ pub mod Run
 pub mod Status
 pub mod Playing
 pub mod Reading
+pub mod ClientParts
 pub mod Threads
 pub mod LiveTable
 pub mod ReadAhead

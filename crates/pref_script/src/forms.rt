@@ -1,6 +1,6 @@
 //! The forms of a command line.
 ghost use Rattle.std.specs.Prelude.{◌≡◌, MatchOption, None, Some, option_map};
-ghost use Rattle.pref_script.specs.Forms.{said, said_by, said_in, verb_of};
+ghost use Rattle.pref_script.specs.Forms.{client_named, said, said_by, said_in, verb_of};
 ghost use Rattle.pref_script.specs.Reading.{said_by_client};
 ghost use Rattle.pref_script.specs.Words.{after_word, alone as alone_of, word_of};
 
@@ -92,9 +92,10 @@ fn verb_form(verb: Verb, rest: &[u8]) -> Option<Form<'_>>
 
 /// The client of a command line that begins with the word `as`, and what follows its number.
 #[inline(never)]
-#[tactic(auto, unfolding(crate::specs::Forms::said_in))]
+#[tactic(auto, unfolding(crate::specs::Forms::said_in, crate::specs::Forms::client_named))]
 fn cut_any_client(line: &[u8]) -> Option<(u8, &[u8])>
-    ensures { MatchOption result (said_in line.now ≡ None) (λ cut. said_in line.now ≡ said_by_client cut.0 cut.1.now) }
+    ensures said { MatchOption result (said_in line.now ≡ None) (λ cut. said_in line.now ≡ said_by_client cut.0 cut.1.now) }
+    ensures named { option_map (λ cut. cut.0) result ≡ client_named line.now }
 {
     let rest = strip_word(skip_blanks(line), b"as".as_slice())?;
     let (client, rest) = cut_number(255, rest)?;
@@ -104,7 +105,8 @@ fn cut_any_client(line: &[u8]) -> Option<(u8, &[u8])>
 /// The client of a command line, and what follows its number. Most lines begin by `as`, one blank, one digit and one blank: that is
 /// tested first.
 fn cut_client(line: &[u8]) -> Option<(u8, &[u8])>
-    ensures { MatchOption result (said_in line.now ≡ None) (λ cut. said_in line.now ≡ said_by_client cut.0 cut.1.now) }
+    ensures said { MatchOption result (said_in line.now ≡ None) (λ cut. said_in line.now ≡ said_by_client cut.0 cut.1.now) }
+    ensures named { option_map (λ cut. cut.0) result ≡ client_named line.now }
 {
     if line.len() >= 5
         && line[0] == b'a'
@@ -116,6 +118,14 @@ fn cut_client(line: &[u8]) -> Option<(u8, &[u8])>
         return Some((line[3] - b'0', skip_blanks(&line[5..])));
     }
     cut_any_client(line)
+}
+
+/// The client that a line names, whether or not the line has the form of a command.
+pub fn client_named(line: &[u8]) -> Option<u8>
+    ensures { result ≡ client_named line.now }
+{
+    let (client, _) = cut_client(line)?;
+    Some(client)
 }
 
 /// The client of a command line and what the line says, where it has the form of one.

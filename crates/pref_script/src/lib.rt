@@ -6,9 +6,7 @@
 //! [`write_output`] are the first and the last step of a run, for programs that do something else in between.
 #![tactic(auto)]
 
-mod acts;
 mod command;
-mod commands;
 mod commits;
 mod fault;
 mod forms;
@@ -17,15 +15,16 @@ mod lines;
 mod live;
 mod live_table;
 mod output;
+mod parts;
 mod pieces;
 mod playing;
 mod read_ahead;
 mod reading;
-mod replies;
 mod run;
 mod script;
 mod text;
 mod threads;
+mod unowned;
 mod watched;
 mod words;
 

@@ -4,8 +4,8 @@ ghost use Rattle.pref_script.specs.Commands.{commands_in, runs};
 ghost use Rattle.pref_script.specs.Playing.{Plays};
 
 use crate::command::{Stop, read_event};
-use crate::commands::is_blank_line;
 use crate::fault::RunFault;
+use crate::script::is_blank_line;
 use crate::text::{push_refused, push_reply};
 use pref_core::{Event, Machine};
 use pref_table::Schema;

@@ -2,9 +2,8 @@
 ghost use Rattle.std.specs.Prelude.{◌≤◌, ◌+◌, ◌<◌, ◌^◌, length, IfOk, IfErr};
 ghost use Rattle.pref_core.specs.Limits.{Limits};
 ghost use Rattle.pref_script.specs.Output.{ScriptFault, script_of};
-ghost use Rattle.pref_script.specs.Reading.{IsOpeningOf, IsReadOf};
+ghost use Rattle.pref_script.specs.Reading.{IsOpeningOf};
 
-use crate::commands::{Commands, read_commands};
 use crate::fault::RunFault;
 use crate::script::{ScriptText, parts};
 use pref_table::{Row, Schema, read_table};
@@ -16,14 +15,6 @@ pub struct Opening<'a> {
     pub schema: Schema,
     pub rows: Vec<Row>,
     pub text: ScriptText<'a>,
-}
-
-/// A script: its columns, its opening rows and its commands.
-#[derive(Drop)]
-pub struct Script {
-    pub schema: Schema,
-    pub rows: Vec<Row>,
-    pub commands: Commands,
 }
 
 /// Reads a script up to its commands. Whether there is room for its opening rows is not tested.
@@ -38,19 +29,4 @@ pub fn read_opening(alloc: Global, bytes: &[u8]) -> Result<Opening<'_>, RunFault
     let text = parts(bytes)?;
     let (schema, rows) = read_table(alloc, text.table)?;
     Ok(Opening { schema, rows, text })
-}
-
-/// Reads a script whole. Refused as [`read_opening`] is.
-pub fn read_script(alloc: Global, bytes: &[u8]) -> Result<Script, RunFault>
-    requires { length bytes.now + 3 < 2 ^ 64 }
-    ensures read { IfOk result (λ script. IsReadOf bytes.now script) }
-    ensures fault { IfErr result (λ fault. (limits : Limits) → ScriptFault fault (script_of limits bytes.now)) }
-{
-    let Opening { schema, rows, text } = read_opening(alloc, bytes)?;
-    let commands = read_commands(alloc, &schema, text)?;
-    Ok(Script {
-        schema,
-        rows,
-        commands,
-    })
 }

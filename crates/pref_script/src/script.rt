@@ -1,6 +1,7 @@
 //! The lines of a script, and its parts.
 ghost use Rattle.std.specs.Prelude.{◌≡◌, ◌≤◌, ◌<◌, ◌+◌, ◌∷◌, ◌++◌, length, take, drop, IfOk, MatchOption, MatchResult, Ok, Err};
-ghost use Rattle.std.specs.List.{concat, position_or_len};
+ghost use Rattle.std.specs.List.{concat, list_all, position_or_len};
+ghost use Rattle.pref_table.specs.Number.{is_blank};
 ghost use Rattle.pref_script.specs.Script.{is_end_line, is_table_line, parts_of, raw_lines, without_last, without_line_end};
 
 use crate::fault::RunFault;
@@ -33,6 +34,13 @@ pub fn line_text(raw: &[u8]) -> &[u8]
     ensures { result.now ≡ without_line_end raw.now }
 {
     drop_last(b'\r', drop_last(b'\n', raw))
+}
+
+/// Whether a line is blank.
+pub fn is_blank_line(line: &[u8]) -> bool
+    ensures { result ≡ list_all is_blank line.now }
+{
+    line.iter().all(|byte| *byte == b' ' || *byte == b'\t')
 }
 
 /// Whether a line is the one that a script begins with.

@@ -1,24 +1,25 @@
 //! A script whose clients run on threads, from its bytes to the bytes of its output.
-ghost use Rattle.std.specs.Prelude.{◌≡◌, ◌<◌, ◌≤◌, ◌⊎◌, ℕ, List, false, length, IfOk, IfErr};
+ghost use Rattle.std.specs.Prelude.{◌≡◌, ◌<◌, ◌≤◌, ◌^◌, ◌⊎◌, ℕ, All, List, false, length, map, IfOk, IfErr};
+ghost use Rattle.std.specs.Global.{Vec as VecValue};
 ghost use Rattle.std.specs.Io.KnownBytes.{Consumes};
 ghost use Rattle.pref_core.specs.declared.fault.CoreFault.TheVariants as core;
-ghost use Rattle.pref_share.specs.Interleavings.{IsSequential};
-ghost use Rattle.pref_share.specs.Runs.{IsJointRun};
-ghost use Rattle.pref_share.specs.Standing.{newcomers};
+ghost use Rattle.pref_core.specs.declared.event.Act.{Act};
+ghost use Rattle.pref_share.specs.Reports.{RanTasks};
+ghost use Rattle.pref_script.specs.ClientParts.{HasTold, acts_left};
 ghost use Rattle.pref_script.specs.Output.{in_bytes};
 ghost use Rattle.pref_script.specs.Run.{Ran, sink_of, source_of};
 ghost use Rattle.pref_script.specs.Threads.{ClosesOrStops, HoldsNobody, TellsOnThreads, always_open};
 ghost use Rattle.pref_script.specs.Watched.{has_failed, inside};
 
-use crate::acts::acts_by_client;
 use crate::fault::RunFault;
 use crate::input::read_input;
 use crate::output::write_told;
-use crate::reading::{Script, read_script};
-use crate::replies::{push_clients, push_unowned};
+use crate::parts::{Part, client_parts, push_parts};
+use crate::reading::{Opening, read_opening};
+use crate::unowned::unowned_text;
 use crate::watched::Watched;
-use pref_core::{Act, Reply, Setup};
-use pref_share::{Gate, Name, Naming, ShareFault, open_board, run_all};
+use pref_core::Setup;
+use pref_share::{Gate, Name, Naming, ShareFault, open_board, run_tasks};
 use pref_table::Row;
 use std::alloc::Global;
 use std::io::{Read, Write};
@@ -41,29 +42,31 @@ impl Gate for OpenGate {
     fn after(&self, _client: u8, _turn: usize) {}
 }
 
-/// The replies to the acts of each client, which run on threads of their own over one new board.
-fn joint_replies<J: Naming + Send + Sync, R: Threads + Wait + Sync, G: Gate + Sync>(
+/// The clients' parts of a script once they are done, on threads of their own over one new board.
+fn joint_parts<'script, J: Naming + Send + Sync, R: Threads + Wait + Sync, G: Gate + Sync>(
     rt: &R,
     alloc: Global,
     name: Name,
     setup: Setup,
     rows: &[Row],
-    acts: Vec<Vec<Act>>,
+    parts: Vec<Part<'script>>,
     gate: &G,
-) -> Result<Vec<Vec<Reply>>, ShareFault>
+) -> Result<Vec<Part<'script>>, ShareFault>
     requires book { name.seen.book ≡ J.book }
     requires opening { J.opening ≡ record { limits = setup; rows = rows.now } }
-    requires lists { length acts.items ≡ setup.clients }
-    ensures joint { IfOk result (λ replies. IsJointRun (record { limits = setup; rows = rows.now }) (newcomers setup.clients) acts.items replies.items) }
-    ensures sequential { IfOk result (λ replies. IsSequential (record { limits = setup; rows = rows.now }) acts.items replies.items) }
-    ensures room { IfOk result (λ replies. setup.capacity < length rows.now → ⊥) }
+    requires lists { length parts.items ≡ setup.clients }
+    requires few { All (λ part. length (acts_left part) < 2 ^ 63) parts.items }
+    ensures ran { IfOk result (λ done. (acts : List (VecValue Act)) → map (λ list. list.items) acts ≡ map acts_left parts.entry.items
+        → RanTasks (record { limits = setup; rows = rows.now }) HasTold acts parts.entry.items done.items) }
+    ensures room { IfOk result (λ _. setup.capacity < length rows.now → ⊥) }
     ensures stops { IfErr result (λ why. (setup.capacity < length rows.now) × (why ≡ ShareFault.Core (core.Full (length rows.now)))
-        ⊎ (setup.capacity < length rows.now → ⊥) × ClosesOrStops J (record { limits = setup; rows = rows.now }) (G.says gate.now) acts.items why) }
+        ⊎ (setup.capacity < length rows.now → ⊥) × ((acts : List (VecValue Act)) → map (λ list. list.items) acts ≡ map acts_left parts.entry.items
+        → ClosesOrStops J (record { limits = setup; rows = rows.now }) (G.says gate.now) acts why)) }
 {
     let (board, clients) = open_board::<J, R>(rt, alloc, name, setup, rows)?;
-    let replies = run_all(rt, alloc, &board, clients, acts, gate);
+    let done = run_tasks(rt, alloc, &board, clients, parts, gate);
     board.close(rt);
-    replies
+    done
 }
 
 /// Runs a script under a setup, each client's events on a thread of its own with the gate's calls round each, and gives the
@@ -86,26 +89,20 @@ pub fn run_threads<R: Threads + Wait + Sync, G: Gate + Sync>(
 ) -> Result<String, RunFault>
     ensures { TellsOnThreads setup (G.says gate.now) bytes.now (in_bytes result) }
 {
-    let Script {
-        schema,
-        rows,
-        commands,
-    } = read_script(alloc, bytes)?;
-    let width = schema.width();
-    let mut text = String::new(alloc);
-    push_unowned(&mut text, width, setup.clients(), commands.lines.as_slice())?;
-    let acts = acts_by_client(alloc, setup.clients(), commands.events)?;
-    let replies = joint_replies::<Brand, R, G>(
+    let Opening { schema, rows, text } = read_opening(alloc, bytes)?;
+    let parts = client_parts(alloc, &schema, setup.clients(), text.commands)?;
+    let done = joint_parts::<Brand, R, G>(
         rt,
         alloc,
         Name::new(),
         setup,
         rows.as_slice(),
-        acts,
+        parts,
         gate,
     )?;
-    push_clients(&mut text, width, replies.as_slice())?;
-    Ok(text)
+    let mut out = unowned_text(alloc, &schema, done.as_slice(), text)?;
+    push_parts(&mut out, done.as_slice())?;
+    Ok(out)
 }
 
 /// Reads a script, runs it under a setup, each client's events on a thread of its own, and writes its output. The gate is open,

@@ -1,8 +1,5 @@
-use Rattle.std.proofs.Common.{◌≡◌, ◌∙◌, true, ap, arith, is_some, option_map, refl, subst, sym, Err, Ok}
+use Rattle.pref_script.proofs.Common.{◌≡◌, ◌∙◌, true, ap, arith, is_some, option_map, refl, subst, sym, Err, Ok, of_changes, piece_change, piece_said, Reads}
 use Rattle.pref_core.specs.declared.changes.Change.{Change}
-use Rattle.pref_script.specs.Commands.{of_changes, piece_change}
-use Rattle.pref_script.specs.Pieces.{piece_said}
-use Rattle.pref_script.specs.Reading.{Reads}
 use Rattle.pref_script.proofs.CommitFacts.{pieces_all, pieces_kept, pieces_none, pieces_past, pieces_refused}
 use Rattle.pref_script.proofs.commits.read_commit.Goals as goal
 

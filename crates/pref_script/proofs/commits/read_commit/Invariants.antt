@@ -1,5 +1,4 @@
-use Rattle.std.proofs.Common.{length, option_map}
-use Rattle.pref_script.specs.Reading.{pieces_left}
+use Rattle.pref_script.proofs.Common.{length, option_map, pieces_left}
 use Rattle.pref_script.proofs.CommitFacts.{ReadsPieces}
 use Rattle.pref_script.proofs.commits.read_commit.Given as goal
 

@@ -1,6 +1,4 @@
-use Rattle.std.proofs.Common.{◌≡◌, ◌++◌, take, length, arith}
-use Rattle.std.proofs.KnownBytes.{Consumes-trans}
-use Rattle.std.proofs.lemmas.List.{length-append, length-take}
+use Rattle.pref_script.proofs.Common.{◌≡◌, ◌++◌, take, length, arith, Consumes-trans, length-append, length-take}
 use Rattle.pref_script.proofs.input.read_input.Goals as goal
 
 -- the bytes so far and those of the last read were read, and no more

@@ -1,5 +1,4 @@
-use Rattle.std.proofs.Common.{◌≤◌, ◌-◌, vec_len}
-use Rattle.std.specs.Io.KnownBytes.{Consumes}
+use Rattle.pref_script.proofs.Common.{◌≤◌, ◌-◌, vec_len, Consumes}
 use Rattle.pref_script.proofs.input.read_input.Given as goal
 
 abbrev pub invariant-loop-chunk : goal.invariant-loop-chunk

@@ -1,8 +1,4 @@
-use Rattle.std.proofs.Common.{List, ℕ, subst}
-use Rattle.std.proofs.lemmas.Result.{err_from_is_err_and}
-use Rattle.pref_script.specs.LiveTable.{IsOpened, OpeningFault}
-use Rattle.pref_script.specs.ReadAhead.{between}
-use Rattle.pref_script.specs.Run.{source_of}
+use Rattle.pref_script.proofs.Common.{List, ℕ, subst, err_from_is_err_and, IsOpened, OpeningFault, between, source_of}
 use Rattle.pref_script.proofs.LiveRunFacts.{opened_live, refused_block, refused_table}
 use Rattle.pref_script.proofs.live.open_live.Goals as goal
 

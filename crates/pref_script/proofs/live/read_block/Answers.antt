@@ -1,7 +1,4 @@
-use Rattle.std.proofs.Common.{ℕ, sym, subst, ◌∙◌}
-use Rattle.std.proofs.lemmas.Result.{err_from_is_err_and}
-use Rattle.pref_script.specs.ReadAhead.{IsLineAt, unread}
-use Rattle.pref_script.specs.Run.{source_of}
+use Rattle.pref_script.proofs.Common.{ℕ, sym, subst, ◌∙◌, err_from_is_err_and, IsLineAt, unread, source_of}
 use Rattle.pref_script.proofs.BlockFacts.{block_end, block_next, block_open, end_missing, first_missing, hears_first, hears_part, input_missing, next_missing, so_far_part, table_missing}
 use Rattle.pref_script.proofs.LineFacts.{behind_more, further, little_later}
 use Rattle.pref_script.proofs.live.read_block.Goals as goal

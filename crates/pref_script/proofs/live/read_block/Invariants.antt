@@ -1,5 +1,4 @@
-use Rattle.std.proofs.Common.{◌-◌}
-use Rattle.pref_script.specs.ReadAhead.{IsLittle, ReadBehind, unread}
+use Rattle.pref_script.proofs.Common.{◌-◌, IsLittle, ReadBehind, unread}
 use Rattle.pref_script.proofs.BlockFacts.{BlockAt}
 use Rattle.pref_script.proofs.live.read_block.Given as goal
 

@@ -1,4 +1,4 @@
-use Rattle.pref_script.specs.Run.{sink_of, source_of}
+use Rattle.pref_script.proofs.Common.{sink_of, source_of}
 use Rattle.pref_script.proofs.LiveRunFacts.{refused_live}
 use Rattle.pref_script.proofs.live.run_live.Goals as goal
 

@@ -1,5 +1,4 @@
-use Rattle.std.proofs.Common.{arith, string_bytes}
-use Rattle.std.proofs.lemmas.Result.{err_from_is_err_and}
+use Rattle.pref_script.proofs.Common.{arith, string_bytes, err_from_is_err_and}
 use Rattle.pref_script.proofs.live.take_turn.Goals as goal
 
 pub returns : goal.returns

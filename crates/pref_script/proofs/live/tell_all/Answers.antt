@@ -1,8 +1,4 @@
-use Rattle.std.proofs.Common.{Ok, [], arith, subst}
-use Rattle.std.proofs.KnownBytes.{Appends-kept, Appends-nil}
-use Rattle.std.proofs.lemmas.Result.{err_from_is_err_and}
-use Rattle.pref_script.specs.Live.{Turns}
-use Rattle.pref_script.specs.Run.{sink_of, source_of}
+use Rattle.pref_script.proofs.Common.{Ok, [], arith, subst, Appends-kept, Appends-nil, err_from_is_err_and, Turns, sink_of, source_of}
 use Rattle.pref_script.specs.declared.live.Turn.{Turn}
 use Rattle.pref_script.proofs.HeardFacts.{heard_number, heard_too_many, ran_whole, stops_early}
 use Rattle.pref_script.proofs.LineFacts.{some_none}

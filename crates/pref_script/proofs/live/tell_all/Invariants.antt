@@ -1,7 +1,4 @@
-use Rattle.std.proofs.Common.{◌≡◌, ℕ, ◌+◌, List, [], Option}
-use Rattle.pref_core.specs.Limits.{Limits}
-use Rattle.pref_script.specs.Hearing.{Hears}
-use Rattle.pref_script.specs.LiveTable.{next_number}
+use Rattle.pref_script.proofs.Common.{◌≡◌, ℕ, ◌+◌, List, [], Option, Limits, Hears, next_number}
 use Rattle.pref_script.proofs.LiveRunFacts.{Telling}
 use Rattle.pref_script.proofs.live.tell_all.Given as goal
 

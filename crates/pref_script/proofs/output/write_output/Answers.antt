@@ -1,4 +1,4 @@
-use Rattle.std.proofs.Common.{◌+◌}
+use Rattle.pref_script.proofs.Common.{◌+◌}
 use Rattle.pref_script.proofs.BytesFacts.{written_more}
 use Rattle.pref_script.proofs.output.write_output.Goals as goal
 

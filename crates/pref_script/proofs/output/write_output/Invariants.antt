@@ -1,5 +1,4 @@
-use Rattle.std.proofs.Common.{◌≡◌, ◌≤◌, ℕ, length, take, drop}
-use Rattle.std.specs.Io.KnownBytes.{Appends}
+use Rattle.pref_script.proofs.Common.{◌≡◌, ◌≤◌, ℕ, length, take, drop, Appends}
 use Rattle.pref_script.proofs.output.write_output.Given as goal
 
 -- a beginning of the bytes was written, and the rest is left

@@ -1,6 +1,4 @@
-use Rattle.std.proofs.Common.{◌∙◌, Err, ap, string_bytes}
-use Rattle.std.proofs.lemmas.Result.{err_from_is_err_and}
-use Rattle.pref_script.specs.Output.{in_bytes}
+use Rattle.pref_script.proofs.Common.{◌∙◌, Err, ap, string_bytes, err_from_is_err_and, in_bytes}
 use Rattle.pref_script.proofs.RunFacts.{wrote-line, wrote-text}
 use Rattle.pref_script.proofs.output.write_told.Goals as goal
 

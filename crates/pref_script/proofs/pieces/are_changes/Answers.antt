@@ -1,8 +1,7 @@
-use Rattle.std.proofs.Common.{is_some, rules}
+use Rattle.pref_script.proofs.Common.{is_some, rules, is_semicolon, piece_said}
 use borrow.Author.Tests.{tests}
 use Rattle.std.proofs.lemmas.Iterator.Search.{all_from_yields_List}
 use Rattle.std.proofs.lemmas.Iterator.Splits.{YieldsList-from_slice_split}
-use Rattle.pref_script.specs.Pieces.{is_semicolon, piece_said}
 use Rattle.pref_script.proofs.pieces.are_changes.Goals as goal
 
 pub returns : goal.returns

@@ -1,6 +1,4 @@
-use Rattle.std.proofs.Common.{◌∙◌, ◌∷◌, ◌+◌, ◌-◌, ap, arith, drop, length, sym, take}
-use Rattle.std.proofs.lemmas.List.{length-drop, take_all}
-use Rattle.pref_script.specs.Pieces.{pieces_of}
+use Rattle.pref_script.proofs.Common.{◌∙◌, ◌∷◌, ◌+◌, ◌-◌, ap, arith, drop, length, sym, take, length-drop, take_all, pieces_of}
 use Rattle.pref_script.proofs.SplitFacts.{split_first, split_none}
 use Rattle.pref_script.proofs.pieces.cut_piece.Goals as goal
 

@@ -1,4 +1,4 @@
-use Rattle.std.proofs.Common.{sym, ◌∙◌}
+use Rattle.pref_script.proofs.Common.{sym, ◌∙◌}
 use Rattle.pref_script.proofs.PlayFacts.{plays_refused}
 use Rattle.pref_script.proofs.playing.play_line.Goals as goal
 

@@ -1,4 +1,4 @@
-use Rattle.std.proofs.lemmas.Result.{err_from_is_err_and}
+use Rattle.pref_script.proofs.Common.{err_from_is_err_and}
 use Rattle.pref_script.proofs.OutputFacts.{script-parts-fault, script-table-fault}
 use Rattle.pref_script.proofs.reading.read_opening.Goals as goal
 

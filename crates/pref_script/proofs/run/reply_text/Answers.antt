@@ -1,6 +1,4 @@
-use Rattle.std.proofs.Common.{refl}
-use Rattle.std.proofs.lemmas.Result.{IfOk-weaker, err_from_is_err_and}
-use Rattle.pref_script.specs.LiveTable.{names_of, running_of}
+use Rattle.pref_script.proofs.Common.{refl, IfOk-weaker, err_from_is_err_and, names_of, running_of}
 use Rattle.pref_script.proofs.OutputFacts.{script-ok, script-parts-fault, tells-played}
 use Rattle.pref_script.proofs.PlayFacts.{tells_output}
 use Rattle.pref_script.proofs.run.reply_text.Goals as goal

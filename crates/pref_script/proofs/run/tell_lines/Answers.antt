@@ -1,6 +1,4 @@
-use Rattle.std.proofs.Common.{◌∙◌, ap, arith, length}
-use Rattle.std.proofs.lemmas.List.{length-append}
-use Rattle.pref_script.specs.LiveTable.{names_of}
+use Rattle.pref_script.proofs.Common.{◌∙◌, ap, arith, length, length-append, names_of}
 use Rattle.pref_script.proofs.LiveFacts.{telling_line}
 use Rattle.pref_script.proofs.PlayFacts.{playing_all}
 use Rattle.pref_script.proofs.run.tell_lines.Goals as goal

@@ -1,7 +1,4 @@
-use Rattle.std.proofs.Common.{◌≡◌, ◌+◌, ◌<◌, ◌^◌, length, string_bytes}
-use Rattle.pref_script.specs.Commands.{commands_of}
-use Rattle.pref_script.specs.LiveTable.{names_of, next_number, running_of}
-use Rattle.pref_script.specs.Script.{raw_lines}
+use Rattle.pref_script.proofs.Common.{◌≡◌, ◌+◌, ◌<◌, ◌^◌, length, string_bytes, commands_of, names_of, next_number, running_of, raw_lines}
 use Rattle.pref_script.proofs.PlayFacts.{Playing}
 use Rattle.pref_script.proofs.run.tell_lines.Given as goal
 

@@ -1,4 +1,4 @@
-use Rattle.std.proofs.Common.{◌∙◌, sym, arith}
+use Rattle.pref_script.proofs.Common.{◌∙◌, sym, arith}
 use Rattle.pref_script.proofs.ScriptFacts.{seen_all, seen_found, seen_more}
 use Rattle.pref_script.proofs.script.cut_at_end.Goals as goal
 

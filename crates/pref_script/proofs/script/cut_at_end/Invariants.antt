@@ -1,4 +1,4 @@
-use Rattle.std.proofs.Common.{length}
+use Rattle.pref_script.proofs.Common.{length}
 use Rattle.pref_script.proofs.ScriptFacts.{Seen}
 use Rattle.pref_script.proofs.script.cut_at_end.Given as goal
 

@@ -1,4 +1,4 @@
-use Rattle.std.proofs.Common.{arith}
+use Rattle.pref_script.proofs.Common.{arith}
 use Rattle.pref_script.proofs.ScriptFacts.{script-none}
 use Rattle.pref_script.proofs.script.parts.Goals as goal
 

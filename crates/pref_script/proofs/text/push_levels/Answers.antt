@@ -1,5 +1,4 @@
-use Rattle.std.proofs.Common.{arith, sym}
-use Rattle.pref_script.specs.Text.{level_line}
+use Rattle.pref_script.proofs.Common.{arith, sym, level_line}
 use Rattle.pref_script.proofs.TextFacts.{texts-end, texts-more}
 use Rattle.pref_script.proofs.text.push_levels.Goals as goal
 

@@ -1,5 +1,4 @@
-use Rattle.std.proofs.Common.{◌≡◌, ◌++◌, drop, string_bytes}
-use Rattle.pref_script.specs.Text.{level_lines}
+use Rattle.pref_script.proofs.Common.{◌≡◌, ◌++◌, drop, string_bytes, level_lines}
 use Rattle.pref_script.proofs.text.push_levels.Given as goal
 
 abbrev pub invariant-loop-ranked : goal.invariant-loop-ranked

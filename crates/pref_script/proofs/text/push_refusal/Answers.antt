@@ -1,5 +1,4 @@
-use Rattle.std.proofs.Common.{append_assoc}
-use Rattle.std.proofs.lemmas.Result.{IfOk-equal}
+use Rattle.pref_script.proofs.Common.{append_assoc, IfOk-equal}
 use Rattle.pref_script.proofs.text.push_refusal.Goals as goal
 
 pub returns-in_ok-write-in-Values : goal.returns-in_ok-write-in-Values

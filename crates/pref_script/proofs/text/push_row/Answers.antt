@@ -1,11 +1,8 @@
-use Rattle.std.proofs.Common.{◌≡◌, ◌∙◌, ◌++◌, [], append_assoc, arith, ap, sym, List, ℕ, get_or, pos, w64}
-use Rattle.std.specs.Fmt.{signed_decimal}
-use Rattle.std.specs.Prelude.{string_bytes}
+use Rattle.pref_script.proofs.Common.{◌≡◌, ◌∙◌, ◌++◌, [], append_assoc, arith, ap, sym, List, ℕ, get_or, pos, w64, signed_decimal, string_bytes, row_text}
 use Rattle.std.proofs.lemmas.Int.{to_z-of_z}
-use Rattle.pref_script.specs.Text.{row_text}
 use Rattle.pref_script.proofs.BytesFacts.{pushed-more, row_text-more}
-use Rattle.pref_script.proofs.text.push_row.Goals as goal
 use Rattle.pref_script.proofs.text.push_row.Goals.{then-col-gt0+in_ok-push, else-col-gt0}
+use Rattle.pref_script.proofs.text.push_row.Goals as goal
 
 pub loop-col-preserved : goal.loop-col-preserved
 unfolding lib.Utf8.encode

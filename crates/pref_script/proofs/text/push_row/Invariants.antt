@@ -1,6 +1,4 @@
-use Rattle.std.proofs.Common.{◌≡◌, ◌++◌}
-use Rattle.std.specs.Prelude.{string_bytes}
-use Rattle.pref_script.specs.Text.{row_text}
+use Rattle.pref_script.proofs.Common.{◌≡◌, ◌++◌, string_bytes, row_text}
 use Rattle.pref_script.proofs.text.push_row.Given as goal
 
 abbrev pub invariant-loop-col : goal.invariant-loop-col

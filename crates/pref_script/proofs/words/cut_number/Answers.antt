@@ -1,12 +1,7 @@
-use Rattle.std.proofs.Common.{◌≡◌, ◌∙◌, ap, arith, length, sym, Some}
-use Rattle.std.specs.List.{position_or_len}
-use Rattle.std.proofs.lemmas.Bool.{ne_eqb}
-use Rattle.pref_table.specs.Number.{is_blank}
-use Rattle.pref_table.proofs.NumberFacts.{is_numeral-some}
-use Rattle.pref_script.specs.Words.{word_of}
+use Rattle.pref_script.proofs.Common.{◌≡◌, ◌∙◌, ap, arith, length, sym, Some, position_or_len, ne_eqb, is_blank, is_numeral-some, word_of}
 use Rattle.pref_script.proofs.WordsFacts.{after_at, number-empty, number-is, number-over, word_size}
-use Rattle.pref_script.proofs.words.cut_number.Goals as goal
 use Rattle.pref_script.proofs.words.cut_number.Goals.{then-size-eq0-via-then-size-eq0, then-size-eq0-via-else-size-eq0+then-number-most}
+use Rattle.pref_script.proofs.words.cut_number.Goals as goal
 
 pub returns-then-size-eq0-clause-cut : goal.returns-then-size-eq0-clause-cut
 returns-then-size-eq0-clause-cut c =

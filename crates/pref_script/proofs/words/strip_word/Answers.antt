@@ -1,9 +1,7 @@
-use Rattle.std.proofs.Common.{◌≡◌, ◌∙◌, ◌<◌, true, ap, arith, get_or, length, rules, sym, None}
-use Rattle.std.proofs.lemmas.Bool.{eqb-false, eqb-true}
-use Rattle.pref_table.specs.Number.{after_blanks, is_blank}
+use Rattle.pref_script.proofs.Common.{◌≡◌, ◌∙◌, ◌<◌, true, ap, arith, get_or, length, rules, sym, None, eqb-false, eqb-true, after_blanks, is_blank}
 use Rattle.pref_script.proofs.WordsFacts.{rest_first, word_longer, word_other, word_stripped}
-use Rattle.pref_script.proofs.words.strip_word.Goals as goal
 use Rattle.pref_script.proofs.words.strip_word.Goals.{else-not-is_empty-via-then-not-is_empty+else-not-is_blank_byte, else-not-is_empty-via-else-not-is_empty}
+use Rattle.pref_script.proofs.words.strip_word.Goals as goal
 
 pub returns-in_err-rest : goal.returns-in_err-rest
 returns-in_err-rest c =

@@ -1,10 +1,4 @@
-use Rattle.std.proofs.Common.{◌≡◌, ◌∙◌, ◌+◌, true, drop, length, get_or, subst, sym, ap, arith, rules, None}
-use Rattle.std.specs.Prelude.{◌&&◌}
-use Rattle.std.specs.Char.{is_ascii_digit}
-use Rattle.std.specs.Str.{all_ascii_digits}
-use Rattle.pref_table.proofs.NumberFacts.{digits_next}
-use Rattle.pref_script.specs.Reading.{IsDigitsWord}
-use Rattle.pref_script.specs.Words.{word_of}
+use Rattle.pref_script.proofs.Common.{◌≡◌, ◌∙◌, ◌+◌, true, drop, length, get_or, subst, sym, ap, arith, rules, None, ◌&&◌, is_ascii_digit, all_ascii_digits, digits_next, IsDigitsWord, word_of}
 use Rattle.pref_script.proofs.WordsFacts.{digit_not_blank, digits_word, number-large, number-others, value_more, word_goes_on}
 use Rattle.pref_script.proofs.words.word_digits.Goals as goal
 

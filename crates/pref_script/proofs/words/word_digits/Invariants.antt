@@ -1,7 +1,4 @@
-use Rattle.std.proofs.Common.{◌≡◌, ◌≤◌, drop, length, take}
-use Rattle.std.specs.Str.{all_ascii_digits}
-use Rattle.std.specs.Str.Parse.{digits_value}
-use Rattle.pref_script.specs.Words.{word_of}
+use Rattle.pref_script.proofs.Common.{◌≡◌, ◌≤◌, drop, length, take, all_ascii_digits, digits_value, word_of}
 use Rattle.pref_script.proofs.words.word_digits.Given as goal
 
 -- the bytes so far are in the word, the number is theirs, and what is left of the word is digits where all is

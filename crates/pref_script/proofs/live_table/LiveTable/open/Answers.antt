@@ -1,6 +1,4 @@
-use Rattle.std.proofs.Common.{◌∙◌, ap, subst, sym, List, ℕ}
-use Rattle.std.proofs.lemmas.Result.{err_from_is_err_and}
-use Rattle.pref_table.specs.Tables.{Fails, table_of}
+use Rattle.pref_script.proofs.Common.{◌∙◌, ap, subst, sym, List, ℕ, err_from_is_err_and, Fails, table_of}
 use Rattle.pref_script.proofs.OutputFacts.{script-core-fault, script-table-fault}
 use Rattle.pref_script.proofs.live_table.LiveTable.open.Goals as goal
 

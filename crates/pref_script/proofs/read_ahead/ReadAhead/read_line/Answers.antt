@@ -1,6 +1,4 @@
-use Rattle.std.proofs.lemmas.List.{take_rest}
-use Rattle.pref_script.specs.ReadAhead.{unread}
-use Rattle.pref_script.specs.Run.{source_of}
+use Rattle.pref_script.proofs.Common.{take_rest, unread, source_of}
 use Rattle.pref_script.proofs.LineFacts.{behind_longer, inside_none, inside_some, line_none, line_some, long_none, long_some}
 use Rattle.pref_script.proofs.read_ahead.ReadAhead.read_line.Goals as goal
 

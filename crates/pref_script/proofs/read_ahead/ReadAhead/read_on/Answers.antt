@@ -1,6 +1,4 @@
-use Rattle.std.proofs.Common.{◌∙◌, ap, arith, length, rules, sym}
-use Rattle.std.proofs.lemmas.List.{take_rest}
-use Rattle.pref_script.specs.ReadAhead.{unread}
+use Rattle.pref_script.proofs.Common.{◌∙◌, ap, arith, length, rules, sym, take_rest, unread}
 use Rattle.pref_script.proofs.LineFacts.{behind_more, behind_some, little_behind, none_found, none_more, once_more}
 use Rattle.pref_script.proofs.read_ahead.ReadAhead.read_on.Goals as goal
 

@@ -1,5 +1,4 @@
-use Rattle.std.proofs.Common.{◌≡◌, ◌-◌, length}
-use Rattle.pref_script.specs.ReadAhead.{IsLittle, NoLineFeed, ReadBehind, unread}
+use Rattle.pref_script.proofs.Common.{◌≡◌, ◌-◌, length, IsLittle, NoLineFeed, ReadBehind, unread}
 use Rattle.pref_script.proofs.read_ahead.ReadAhead.read_on.Given as goal
 
 abbrev pub invariant-loop-seen : goal.invariant-loop-seen
