@@ -14,8 +14,9 @@ use std::alloc::{AllocError, Global};
 /// The fewest entries for which cuts are made: fewer are compared in less time.
 const FEWEST: usize = 16;
 
-/// How many rows a sample has at most: as many as a signature has bits.
-const SAMPLE: usize = 64;
+/// How many rows a sample has at most: twice as many as a signature has bits, so that marks which divide the sample divide the rows
+/// about as evenly.
+const SAMPLE: usize = 128;
 
 /// Cuts that suit the order, for entries like these, of which evenly spread ones are looked at; none where they are few.
 pub(crate) fn cuts_of<D: Dominance>(

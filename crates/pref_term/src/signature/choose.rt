@@ -19,7 +19,7 @@ const HASH_BITS: usize = 7;
 const FIRST_BIT: u64 = 1 << 63;
 
 /// In fewer than twice as many groups, marks on scores are worth all the bits that the group leaves.
-const FEW_GROUPS: usize = 8;
+const FEW_GROUPS: usize = 14;
 
 /// The different numbers of the sample's rows, in order.
 fn numbers_of(alloc: Global, key: &Key, sample: &[Row]) -> Result<Vec<u64>, AllocError>
@@ -48,16 +48,40 @@ fn middles_of(alloc: Global, numbers: &[u64], shares: usize) -> Result<Vec<u64>,
     Ok(middles)
 }
 
-/// A scale with so many marks at most, which divide the sample into equal shares.
-fn scale_of(alloc: Global, key: &Key, sample: &[Row], shares: usize) -> Result<Scale, AllocError>
+/// How many of these keys have different numbers in the sample.
+fn count_varying(alloc: Global, keys: &[Key], sample: &[Row]) -> Result<usize, AllocError>
+    requires { All (λ key. key.col < 16) keys.now }
+{
+    let mut count: usize = 0;
+    for key in keys {
+        if numbers_of(alloc, key, sample)?.len() > 1 {
+            count = count.saturating_add(1);
+        }
+    }
+    Ok(count)
+}
+
+/// Puts a scale with so many marks at most behind these, which divide the sample into equal shares. A key that has one number in the
+/// whole sample has no scale, since its mark would distinguish nothing.
+fn push_key(
+    alloc: Global,
+    scales: &mut Vec<Scale>,
+    key: &Key,
+    sample: &[Row],
+    shares: usize,
+) -> Result<(), AllocError>
     requires column { key.now.col < 16 }
     requires shares { 0 < shares }
-    ensures { IfOk result (λ scale. scale_column scale < 16) }
+    requires within { All (λ scale. scale_column scale < 16) scales.old.items }
+    ensures { OnOk result (All (λ scale. scale_column scale < 16) scales.new.items) }
 {
     let numbers = numbers_of(alloc, key, sample)?;
-    let marks = middles_of(alloc, &numbers, shares)?;
-    let key = key.copy(alloc)?;
-    Ok(Scale::Marks { key, marks })
+    if numbers.len() > 1 {
+        let marks = middles_of(alloc, &numbers, shares)?;
+        let key = key.copy(alloc)?;
+        scales.push(Scale::Marks { key, marks })?;
+    }
+    Ok(())
 }
 
 /// Masks of the first bits of a hash, each of one bit.
@@ -103,7 +127,8 @@ fn groups_in(alloc: Global, group: &[usize], sample: &[Row]) -> Result<usize, Al
 }
 
 /// Cuts for an order within these groups that these keys lead. The bits of a signature that the group leaves are dealt out evenly among the
-/// keys, and a key's marks divide the sample into equal shares. In many groups few pairs are left to these, so they are fewer.
+/// keys that vary in the sample, and a key's marks divide it into equal shares. In many groups few pairs are left to these, so they
+/// are fewer.
 /// Takes memory for a key's numbers and for the scales.
 pub(crate) fn cuts_for(
     alloc: Global,
@@ -117,10 +142,11 @@ pub(crate) fn cuts_for(
     let bits = HASH_BITS.div_ceil(group.len().max(1));
     let hashed = group.len().saturating_mul(2 * bits);
     let thinning = (groups_in(alloc, group, sample)? / FEW_GROUPS).max(1);
-    let shares = BITS.saturating_sub(hashed) / thinning / keys.len().max(1);
+    let varying = count_varying(alloc, keys, sample)?;
+    let shares = BITS.saturating_sub(hashed) / thinning / varying.max(1);
     let mut scales = Vec::new(alloc);
     for key in keys {
-        scales.push(scale_of(alloc, key, sample, shares.max(1))?)?;
+        push_key(alloc, &mut scales, key, sample, shares.max(1))?;
     }
     push_group(alloc, &mut scales, group, bits)?;
     Ok(Cuts::of(scales))
