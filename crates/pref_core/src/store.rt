@@ -4,6 +4,18 @@
 //! new ones in slots that no query needs, so a query that began at a stamp reads that table for as long as it
 //! is open, while others change rows. (The stamps are those of multiversion stores; when a slot may be used
 //! again, and that room is exact, is this project's own.)
+//!
+//! ```text
+//! stamp     1          2          3          4
+//! slot 0    row 1 --------------->|                 ended by commit 3, which updates row 1
+//! slot 1               row 2 ------------------ ..
+//! slot 2                          row 1 ------- ..  its version from commit 3 on
+//!                         ^
+//!                         a query that began here sees slots 0 and 1 for as long as it is open
+//! ```
+//!
+//! Were no query open that sees slot 0, commit 3 would have set row 1 there, in its place. As the last such query
+//! ends, slot 0 is free.
 
 pub(crate) mod applying;
 pub(crate) mod caller;

@@ -1,4 +1,19 @@
 //! What a store holds: versions of rows in slots, and the lists beside them that spare a look at each slot.
+//!
+//! ```text
+//!                             slots                links             places
+//! what it says                the versions         id -> place       what each place is used for
+//!
+//! a row ends                  its version ends     out of its chain  live -> kept for a query, or free
+//! a row begins                a version is put     into its chain    free -> live
+//! a row is set where it is    a version is put     -                 -
+//! a query ends                -                    -                 kept -> kept for another, or free
+//! ```
+//!
+//! A commit first ends all rows that it is to end, and then begins others, so that one change may use the place
+//! that another leaves. A row is found along its chain; all else takes constant time, but that a query's end goes
+//! over the places that were kept for it alone. All lists have their room from the opening on: no change of a store
+//! takes memory.
 
 ghost use Rattle.std.specs.List.{count_by};
 ghost use Rattle.std.specs.Prelude.{ℕ, List, map, length, true, false, is_some, [], ◌∷◌, Some, None, slice_set, IfOk, IfSome, IfNone, ◌≡◌, ◌+◌, ◌^◌, ◌<◌, ◌≤◌};

@@ -1,4 +1,19 @@
 //! Where rows are found: those of one home are chained, from the greatest id to the smallest.
+//!
+//! ```text
+//! Four slots; row 2 is gone, and row 5, whose home is 0 as that of row 1 is, has its slot:
+//!
+//! place    0      1      2      3      home 0   home 1   home 2   home 3
+//! row      1      5      3      4
+//! next     4      0      4      4      1        4        2        3           4 is no place: a chain's end
+//!
+//! home 0 -> place 1 (row 5) -> place 0 (row 1) -> end
+//! ```
+//!
+//! A row goes to its home where that is free, and ids are consecutive: so a chain has hardly more than one row.
+//! Only rows of the table are chained; versions that ended are read by block alone. A search begins at the home,
+//! and so passes the link that leads to a row: this one alone is written where the row is taken out, and links in
+//! one direction are enough. As ids fall along a chain, a search stops at the first smaller one.
 
 ghost use Rattle.std.specs.Prelude.{◌≡◌, ◌<◌, ◌≤◌, ◌^◌, length, IfOk, IfSome, IfNone, Some, None, slice_set};
 ghost use Rattle.pref_core.specs.Indexes.{IsPlaceOf};

@@ -1,4 +1,22 @@
 //! The places of slots, the free ones first, so that each change takes or gives back a place in constant time.
+//!
+//! ```text
+//! Six slots: rows in 0, 3 and 5; slot 2 holds an ended version that the open query of client 1 needs.
+//!
+//! zone         free    live       ended, for client 1    ended, for client 2 ..
+//! order        1  4  | 0  3  5  | 2                    |
+//! bounds             2          5                      6                      6 ..
+//! positions    of slots 0 to 5:   2  0  5  3  1  4
+//!
+//! The row in slot 3 ends, and no query needs it: 3 changes places with 0, the first live one, and then the bound
+//! between free and live goes up.
+//!
+//! order        1  4  3  | 0  5  | 2                    |
+//! bounds                3       5                      6                      6 ..
+//! ```
+//!
+//! So a free slot is the first in the order, how many are free is the first bound, and the slots that a query kept
+//! are side by side.
 
 ghost use Rattle.std.specs.List.{count_by, range_with_len, AllZip};
 ghost use Rattle.std.specs.Prelude.{◌≡◌, ◌-◌, ◌<◌, ◌≤◌, ◌++◌, ℕ, suc, true, false, length, map, replicate, Some, slice_get, slice_set, IfOk, IfSome, IfNone};
