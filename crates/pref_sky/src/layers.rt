@@ -1,5 +1,16 @@
 //! The levels of entries that are in the order of a product of two chains, found by one pass: of each level so far only the last entry is
 //! asked, as in patience sorting.
+//!
+//! ```text
+//! low(price) * low(distance), in order of price:
+//!
+//!            (1, 9)   (2, 7)   (3, 8)   (4, 5)   (5, 6)
+//! level 1    (1, 9)   (2, 7)            (4, 5)
+//! level 2                      (3, 8)            (5, 6)
+//! ```
+//!
+//! Of a level the last one has the least distance: where it does not dominate a row that is no cheaper, none of the
+//! level does. So (5, 6) is compared with (4, 5), which dominates it, and with (3, 8), which does not.
 
 ghost use Rattle.std.specs.Prelude.{◌≡◌, ◌<◌, ◌≤◌, ◌-◌, ◌+◌, true, false, All, IfOk, OnOk, get_or, length};
 ghost use Rattle.pref_sky.specs.ChainOrders.{AreInOrder, own_order};

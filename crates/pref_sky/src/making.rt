@@ -1,4 +1,19 @@
 //! What an addition makes of the levels of a part: they are made anew beside those that there are, as far as something comes to them.
+//!
+//! ```text
+//! Two items come, a to level 1 and b to level 2; a dominates q, and q dominates t.
+//!
+//!            held     comes     best of both    the rest, which goes down
+//! level 1    p q r    a         a p r           q
+//! level 2    s t      q b       q b s           t
+//! level 3    u        t         t u             none
+//! level 4    v        none      v, as it was
+//! ```
+//!
+//! No two items of a level dominate each other, so those that are held are compared with what comes, and never with
+//! each other: they are the window with which the passes begin. The new levels take the place of the old ones when
+//! all of them are there, and that takes no memory: where it is out of memory before, the old levels are as they
+//! were.
 
 ghost use Rattle.std.specs.Prelude.{◌≡◌, ◌≤◌, ◌<◌, ◌++◌, ℕ, List, All, length, map, max, take, drop, vec_len, IfOk, OnOk};
 ghost use Rattle.pref_sky.specs.Arrivals.{AreInOrderOfStart, StartsAt};

@@ -1,5 +1,22 @@
 //! Block-nested-loops over items (Börzsönyi, Kossmann, Stocker 2001): passes by a window of bounded size, which give the best and
 //! the others.
+//!
+//! ```text
+//! A window of two, and the items a b c d, of which d dominates b:
+//!
+//!             early    late    overflow    rest
+//! a and b     a b
+//! c           a b              c                    the window is full
+//! d           a        d       c           b        d joined after c overflowed: these two have not met
+//! end         a is best: it has met all that overflowed
+//!
+//! next pass   d                                     over c
+//! c           d c                          b
+//! end         d and c are best
+//! ```
+//!
+//! The late ones stay in the window, where what overflowed meets them. What is held of a level is in the window
+//! from the beginning of the first pass, and so among the early ones.
 
 ghost use Rattle.std.specs.Prelude.{◌≡◌, ◌≤◌, ◌<◌, [], ◌∷◌, ℕ, Bool, List, get_or, length, IfOk, OnOk};
 ghost use Rattle.pref_sky.specs.Best.{IsApart};

@@ -1,4 +1,15 @@
 //! Entries in one pool, and the cuts by which their items are signed.
+//!
+//! ```text
+//! pool        0    1    2    3    4    5            entries, in the order in which they came
+//!
+//! part 0      level 1: items of 5 and 2             an item is the place of an entry here, and the entry's signature
+//!             level 2: the item of 0
+//! part 1      level 1: items of 1 and 4
+//! ```
+//!
+//! Entry 3 is held no more: as many levels as are asked for are above it. What moves from level to level is an item
+//! of 16 bytes, and most items are compared by their signatures alone, without a look at their entries.
 
 ghost use Rattle.std.specs.Prelude.{◌≡◌, ◌++◌, ◌∷◌, [], true, ℕ, length, IfOk};
 ghost use Rattle.pref_sky.specs.Best.{is_beaten};
