@@ -4,6 +4,15 @@
 //! Who has the pen of the next operation knows the whole history: a pen that has added an entry is home, and no pen can
 //! add two. So under the lock, where the pen lies, a beginning of the history that any client has seen is shown to begin
 //! it, and an operation is added behind it, by proof.
+//!
+//! ```text
+//! pen 2, home       added op A, which names pen 3
+//! pen 3, home       added op B, which names pen 4
+//! pen 4, not home   lies under the lock, and is to add what comes after B
+//! ```
+//!
+//! Each entry names, by its key, the pen that may add the next one, and this pen comes home as it does. So whoever
+//! has seen the entries as far as B, and has pen 4, knows that nothing follows B: else pen 4 would be home.
 
 ghost use Rattle.std.specs.Prelude.{◌≡◌, [], List, MatchBool};
 ghost use mathlib.Core.List.{IsPrefix};

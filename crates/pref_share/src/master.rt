@@ -1,4 +1,16 @@
 //! What lies under the lock of a board: the whole history, an index of the rows that it leaves, and the writer that publishes it.
+//!
+//! ```text
+//!                     readers enter       the other copy      the writer's log
+//! between two calls   X: calls 1 to 7     Y: calls 1 to 6     7
+//! call 8 joins        X: calls 1 to 7     Y: calls 1 to 6     7 8
+//! no one is in Y      X: calls 1 to 7     Y: calls 1 to 8     8
+//! it is published     Y: calls 1 to 8     X: calls 1 to 7     8
+//! ```
+//!
+//! A reader that is in a copy keeps it from the writer until it leaves, and takes no lock: a call waits for those
+//! alone that went in before the last call was published. So each copy does each call, one before it is published
+//! and the other at the next call.
 
 ghost use Rattle.std.specs.Prelude.{◌≡◌, ◌++◌, ◌∷◌, ◌<◌, ◌⊎◌, [], drop, fold, nat_lt, true, Some, IfOk, IfErr};
 ghost use Rattle.std.specs.Option.{unwrap_or};
