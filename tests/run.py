@@ -1,0 +1,281 @@
+#!/usr/bin/env python3
+"""Runs the tests, names what failed, and ends with a count of what passed and what failed.
+
+    python3 tests/run.py quick       for every change: the layout of the files, the list of definitions, each test without its
+                                     proof, the stored run, the scripts, the examples and what the documents show. The tests of the Python
+                                     package run too, where the program is built or PREFQ_PROGRAM names one
+    python3 tests/run.py all         before a merge: every proof from nothing, the must-fail edits and the tests by `rt ci`; then the list,
+                                     and each check over the built programs that takes seconds
+    python3 tests/run.py release     before a release: all that; then the edits of tests/must-fail, and whether each edit turns an answer
+
+tests/quick.sh and tests/all.sh are short names of the first two. Needs the Rattle kit and Python 3.9, and but for `quick` a C compiler, on
+Linux. Tests of the Python package that need pandas, matplotlib, dask or Chromium are skipped, with a line that says so, where these are not
+installed. Leaves nothing behind but the folders out/, which git ignores.
+"""
+import os
+import re
+import shutil
+import signal
+import subprocess
+import sys
+import tempfile
+import time
+import traceback
+from concurrent.futures import ThreadPoolExecutor
+from dataclasses import dataclass
+from pathlib import Path
+from typing import Callable
+
+TOP = Path(__file__).resolve().parent.parent
+PROGRAM = "crates/prefq/out/prefq"
+CHECKS_AT_ONCE = 2
+# More than any check takes. (`rt ci` by itself reckons with twice as much or more.)
+KILOBYTES_A_PROOF = 3_000_000
+BAD_EDIT = re.compile(r"rt: (.*): BAD EDIT")
+PASSED = re.compile(r"(\d+) passed, \d+ failed")
+LEFT_BY_HAND = """\
+left by hand (docs/CONTRIBUTING.md, "A release"):
+- the figures of docs/PERFORMANCE.md and the times of README.md, measured on this commit
+- the number of the version: VERSION in crates/prefq/src/args.rt, docs/GUIDE.md, python, CHANGELOG.md
+- a new kit: its name and its logic in README.md"""
+
+
+@dataclass
+class Check:
+    name: str
+    # gets an empty folder and a file to write to; whether it passed
+    work: Callable
+
+
+@dataclass
+class Result:
+    name: str
+    is_passed: bool
+    said: str
+    seconds: int
+
+
+def run(log, *words, cwd=TOP):
+    """Runs a command that writes to a log; whether it passed."""
+    return subprocess.run(words, cwd=cwd, stdin=subprocess.DEVNULL, stdout=log, stderr=subprocess.STDOUT).returncode == 0
+
+
+def command(*words, name=""):
+    return Check(name or " ".join(words), lambda room, log: run(log, *words))
+
+
+def result(check):
+    begun = time.monotonic()
+    with tempfile.TemporaryDirectory() as room, tempfile.TemporaryFile("w+", errors="replace") as log:
+        try:
+            is_passed = check.work(Path(room), log)
+        except Exception:
+            is_passed = False
+            traceback.print_exc(file=log)
+        log.seek(0)
+        return Result(check.name, is_passed, log.read(), int(time.monotonic() - begun))
+
+
+def results(checks):
+    """The result of each check, in order. Some run at once; none begins any more where this is interrupted."""
+    with ThreadPoolExecutor(CHECKS_AT_ONCE) as pool:
+        begun = [pool.submit(result, check) for check in checks]
+        try:
+            for each in begun:
+                yield each.result()
+        finally:
+            for each in begun:
+                each.cancel()
+
+
+def say(*lines):
+    for line in lines:
+        print(line, flush=True)
+
+
+# ---- quick ----
+
+
+def copy_crates(folder):
+    """Copies the crates, without what was built."""
+    folder.mkdir()
+    shutil.copytree(TOP / "crates", folder / "crates", ignore=shutil.ignore_patterns("out"))
+    for file in ("crates.txt", "HANDLES"):
+        shutil.copy(TOP / file, folder)
+
+
+def layout(room, log):
+    """In a copy, `rt fmt` must change nothing."""
+    copy_crates(room / "copy")
+    crates = sorted((room / "copy/crates").iterdir())
+    return all(run(log, "rt", "fmt", cwd=crate) for crate in crates) and run(log, "diff", "-r", "--exclude=out", "crates", room / "copy/crates")
+
+
+def join_tests(top):
+    """Makes the crates of tests and the program's arguments modules of one crate, `joined`, so that the libraries are compiled once."""
+    source = top / "crates/joined/src"
+    source.mkdir(parents=True)
+    names = [crate.name for crate in sorted((top / "crates").glob("*_tests"))]
+    for name in names:
+        shutil.copytree(top / "crates" / name / "src", source / name)
+        (source / name / "lib.rt").rename(source / f"{name}.rt")
+        for file in [source / f"{name}.rt", *(source / name).rglob("*.rt")]:
+            text = re.sub(r"^#!\[.*\n", "", file.read_text(), flags=re.MULTILINE)
+            file.write_text(re.sub(r"\bcrate::", f"crate::{name}::", text))
+    shutil.copy(top / "crates/prefq/src/args.rt", source)
+    (source / "lib.rt").write_text("".join(f"mod {name};\n" for name in [*names, "args"]))
+    crates = (top / "crates.txt").read_text()
+    libraries = {word for line in re.findall(r"^(?:\w+_tests|prefq): (.*)$", crates, re.MULTILINE) for word in line.split()}
+    (top / "crates.txt").write_text(f"{crates}joined: {' '.join(sorted(libraries))}\n")
+
+
+def tests_unproved(room, log):
+    """All tests, without their proofs."""
+    copy_crates(room / "copy")
+    join_tests(room / "copy")
+    return run(log, "rt", "try", "--test", cwd=room / "copy/crates/joined")
+
+
+def scripts_unproved(room, log):
+    """The program on its stored run, on every script, every example and all that the documents show, and on lists of arguments."""
+    for file in ("tests/scripts.py", "examples/check.py", "tests/arguments.py"):
+        if not run(log, "python3", file, "--cases", room):
+            return False
+    shutil.copy(TOP / "crates/prefq/stdin", room / "stored_run")
+    shutil.copy(TOP / "crates/prefq/stdout", room / "stored_run.stdout")
+    return run(log, "rt", "try", "--cases", room, cwd=TOP / "crates/prefq")
+
+
+def python_package(room, log):
+    """The tests of the Python package, on a program that is there already: none is kept by `rt try`."""
+    if os.environ.get("PREFQ_PROGRAM") or os.access(TOP / PROGRAM, os.X_OK):
+        return run(log, "python/tests/run.sh")
+    print(f"skipped: the tests of the Python package, since {PROGRAM} is not built and PREFQ_PROGRAM names no other", file=log)
+    return True
+
+
+DEFINITIONS = ["python3", "tests/definitions.py"]
+# The longest first.
+QUICK = [
+    Check("stored run, scripts, examples, documents", scripts_unproved),
+    Check("all tests, not proved", tests_unproved),
+    Check("layout of the files", layout),
+    command(*DEFINITIONS, name="list of definitions"),
+    Check("Python package", python_package),
+]
+
+
+def quick():
+    """Shows what each check that failed said, and what one skipped. How many passed, and what failed."""
+    passed, failed = 0, []
+    for found in results(QUICK):
+        if found.is_passed:
+            passed += 1
+            say(f"passed: {found.name}", *(line for line in found.said.splitlines() if line.startswith("skipped: ")))
+        else:
+            failed.append(found.name)
+            say(*found.said.splitlines(), f"FAILED: {found.name}")
+    return passed, failed
+
+
+# ---- all ----
+
+BUILT = [
+    command("python3", "tests/reads_take_no_lock.py"),
+    command(*DEFINITIONS),
+    command("python3", "examples/check.py"),
+    command("python3", "tests/scripts.py"),
+    command("python3", "tests/model/compare.py"),
+    command("python3", "tests/live.py"),
+    command("python/tests/run.sh"),
+    command("python3", "examples/parts/parts.py", PROGRAM, "--check", "120000"),
+    command("python3", "tests/arguments.py"),
+    command("tests/faults_of_the_program.sh"),
+    command("tests/count_begin_and_abandon.sh"),
+    command("tests/refuse_each_allocation.sh"),
+]
+
+
+def proofs_at_once():
+    """One for each processor and three at least, since some wait for the disk, as far as each has its memory."""
+    free = int(re.search(r"^MemAvailable: *(\d+) kB$", Path("/proc/meminfo").read_text(), re.MULTILINE)[1])
+    return min(max(len(os.sched_getaffinity(0)), 3), max(free // KILOBYTES_A_PROOF, 1))
+
+
+def run_and_show(*words, **environment):
+    """Runs a command and shows what it prints as it comes: its lines, and whether it passed."""
+    lines = []
+    with subprocess.Popen(words, cwd=TOP, env={**os.environ, **environment}, stdout=subprocess.PIPE, text=True, errors="replace") as running:
+        for line in running.stdout:
+            print(line, end="", flush=True)
+            lines.append(line.rstrip("\n"))
+    return lines, running.returncode == 0
+
+
+def gate():
+    """How many passed `rt ci`, and what failed there: an edit that does not compile too, which shows nothing, and which `rt ci` passes over."""
+    lines, is_passed = run_and_show("rt", "ci", RT_JOBS=os.environ.get("RT_JOBS") or str(proofs_at_once()))
+    failed = [] if is_passed else ["rt ci"]
+    failed += [f"{found[1]}: no edit, since it does not compile" for found in map(BAD_EDIT.match, lines) if found]
+    count = PASSED.fullmatch(lines[-1]) if lines else None
+    return int(count[1]) if count else 0, failed
+
+
+def whole():
+    """Shows what each check said. How many passed, and what failed."""
+    begun = time.monotonic()
+    passed, failed = gate()
+    say(f"== rt ci took {minutes_since(begun)} minutes")
+    for found in results(BUILT):
+        say(f"== {found.name}", f"{found.said}== {found.seconds} seconds")
+        if found.is_passed:
+            passed += 1
+        else:
+            failed.append(found.name)
+            say(f"FAILED: {found.name}")
+    return passed, failed
+
+
+def minutes_since(begun):
+    return int(time.monotonic() - begun) // 60
+
+
+# ---- release ----
+
+
+def release():
+    """All, then what takes hours, shown as it comes. How many passed, and what failed."""
+    passed, failed = whole()
+    for words in (["tests/wrong_edits.sh"], ["python3", "tests/edits_turn_answers.py"]):
+        say(f"== {' '.join(words)}")
+        if run_and_show(*words)[1]:
+            passed += 1
+        else:
+            failed.append(" ".join(words))
+            say(f"FAILED: {' '.join(words)}")
+    say(LEFT_BY_HAND)
+    return passed, failed
+
+
+def main():
+    kinds = {"quick": quick, "all": whole, "release": release}
+    if len(sys.argv) != 2 or sys.argv[1] not in kinds:
+        sys.exit(f"python3 tests/run.py {' | '.join(kinds)}")
+    if not shutil.which("rt"):
+        sys.exit("the Rattle kit's command rt is not on the PATH")
+    signal.signal(signal.SIGTERM, lambda *_: sys.exit(143))
+    # What is started in the background ignores it, and so would the programs that tests of the Python package interrupt.
+    signal.signal(signal.SIGINT, signal.default_int_handler)
+    sys.stdout.reconfigure(errors="replace")
+    os.environ["PYTHONDONTWRITEBYTECODE"] = "1"
+    begun = time.monotonic()
+    passed, failed = kinds[sys.argv[1]]()
+    say(*(f"failed: {name}" for name in failed))
+    if sys.argv[1] == "quick":
+        say(f"{passed} passed, {len(failed)} failed, in {int(time.monotonic() - begun)} seconds")
+    else:
+        say(f"all tests took {minutes_since(begun)} minutes", f"{passed} passed, {len(failed)} failed")
+    sys.exit(1 if failed else 0)
+
+
+main()
