@@ -1,10 +1,10 @@
 #!/usr/bin/env python3
 """Runs the tests, names what failed, and ends with a count of what passed and what failed.
 
-    python3 tests/run.py quick       for every change: the layout of the files, the list of definitions, each test without its
+    python3 tests/run.py quick       for every change: the layout of the files, the lists of definitions and of edits, each test without its
                                      proof, the stored run, the scripts, the examples and what the documents show. The tests of the Python
                                      package run too, where the program is built or PREFQ_PROGRAM names one
-    python3 tests/run.py all         before a merge: every proof from nothing, the must-fail edits and the tests by `rt ci`; then the list,
+    python3 tests/run.py all         before a merge: every proof from nothing, the must-fail edits and the tests by `rt ci`; then the lists,
                                      and each check over the built programs that takes seconds
     python3 tests/run.py release     before a release: all that; then the edits of tests/must-fail, and whether each edit turns an answer
 
@@ -155,12 +155,14 @@ def python_package(room, log):
 
 
 DEFINITIONS = ["python3", "tests/definitions.py"]
+EDITS = ["python3", "tests/edits.py"]
 # The longest first.
 QUICK = [
     Check("stored run, scripts, examples, documents", scripts_unproved),
     Check("all tests, not proved", tests_unproved),
     Check("layout of the files", layout),
     command(*DEFINITIONS, name="list of definitions"),
+    command(*EDITS, name="list of edits"),
     Check("Python package", python_package),
 ]
 
@@ -183,6 +185,7 @@ def quick():
 BUILT = [
     command("python3", "tests/reads_take_no_lock.py"),
     command(*DEFINITIONS),
+    command(*EDITS),
     command("python3", "examples/check.py"),
     command("python3", "tests/scripts.py"),
     command("python3", "tests/model/compare.py"),
