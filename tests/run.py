@@ -189,6 +189,7 @@ BUILT = [
     command("python3", "examples/check.py"),
     command("python3", "tests/scripts.py"),
     command("python3", "tests/model/compare.py"),
+    command("python3", "tests/model/threads.py"),
     command("python3", "tests/live.py"),
     command("python/tests/run.sh"),
     command("python3", "examples/parts/parts.py", PROGRAM, "--check", "120000"),

@@ -13,7 +13,7 @@ NAME = re.compile(rb"[A-Za-z][A-Za-z0-9_.]{0,31}")
 
 
 class Refused(Exception):
-    """A line is refused with this text behind the word `refused`."""
+    """A line is refused with this text behind the word `refused`, or the whole script with this one."""
 
 
 class NoCommand(Exception):
@@ -233,14 +233,8 @@ def read_command(columns, line):
     return client, kind, *([] if id is None else [id]), *row
 
 
-def told(table, columns, number, line):
-    """The lines that a command line is told."""
-    try:
-        client, act, *values = read_command(columns, line)
-    except NoCommand:
-        return [f"line {number} refused: command"]
-    except Refused as refused:
-        return [f"line {number} refused {refused}"]
+def reply_lines(table, client, act, *values):
+    """The lines of a client's reply."""
     try:
         first, *more = table.reply(client, act, *values)
     except Refused as refused:
@@ -248,28 +242,45 @@ def told(table, columns, number, line):
     return [f"{client} {first}", *more]
 
 
-def play(clients, capacity, block, script):
-    """What the program prints for a script, and its status."""
+def lines_for(table, columns, number, line):
+    """The lines of the reply to a command line."""
+    try:
+        command = read_command(columns, line)
+    except NoCommand:
+        return [f"line {number} refused: command"]
+    except Refused as refused:
+        return [f"line {number} refused {refused}"]
+    return reply_lines(table, *command)
+
+
+def open_script(clients, capacity, block, script):
+    """The table that a script opens, its columns, and the command lines with their numbers. Raises what is printed where all is refused."""
     lines = [line.removesuffix(b"\r") for line in script.split(b"\n")]
     if lines[-1] == b"" and (script.endswith(b"\n") or not script):
         lines.pop()
     if lines[:1] != [b"table"]:
-        return "script refused: no table\n", 2
+        raise Refused("script refused: no table")
     if b"end" not in lines:
-        return "script refused: no end\n", 2
+        raise Refused("script refused: no end")
     end = lines.index(b"end")
     try:
         columns, rows = read_table(lines[1:end])
     except Refused as refused:
         kind, text = str(refused).split(" ", 1)
-        return f"{kind} refused {text}\n", 2
+        raise Refused(f"{kind} refused {text}")
     if len(rows) > capacity:
-        return f"opening refused 8: full needed {len(rows)}\n", 2
+        raise Refused(f"opening refused 8: full needed {len(rows)}")
     table = Table(clients, capacity, block)
     for row in rows:
         table.commit([("insert", None, row)])
-    out = []
-    for number, line in enumerate(lines[end + 1:], end + 2):
-        if line.strip(BLANKS):
-            out += told(table, columns, number, line)
+    return table, columns, [(number, line) for number, line in enumerate(lines[end + 1:], end + 2) if line.strip(BLANKS)]
+
+
+def play(clients, capacity, block, script):
+    """What the program prints for a script, and its status."""
+    try:
+        table, columns, lines = open_script(clients, capacity, block, script)
+    except Refused as refused:
+        return f"{refused}\n", 2
+    out = [text for number, line in lines for text in lines_for(table, columns, number, line)]
     return "".join(line + "\n" for line in out), 0
