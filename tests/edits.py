@@ -6,7 +6,7 @@
 
 An edit of crates/CRATE/must-fail begins with three lines, which are its line of the page: `# promise: ` with what it breaks, `# shows: ` with
 how the mistake shows when the code runs, mostly a test that fails, and `# clause: ` with the clause that refuses it. An edit of tests/must-fail
-may have them too, and then has such a line, marked `release`. In each edit an `old:` has to stand once in its file, and what is named as a test or a script has to be there.
+needs the first alone; its line is marked `release`. In each edit an `old:` has to stand once in its file, and what is named as a test or a script has to be there.
 Needs Python 3.9.
 """
 import re
@@ -20,6 +20,7 @@ CRATES = ["pref_table", "pref_term", "pref_sky", "pref_core", "pref_share", "pre
 # What an edit says of itself, and the heading of its column.
 COLUMNS = {"promise": "promise", "shows": "how the mistake shows", "clause": "clause that refuses it"}
 MOST_IN_A_CELL = 200
+READ = ("# ", "file: ", "old: ", "new:")
 SAID = re.compile(rf"^# ({'|'.join(COLUMNS)}): (.+)$", re.MULTILINE)
 TEST = re.compile(r"`(\w+_tests)::([\w:]+)`")
 SCRIPT = re.compile(r"`tests/scripts/(\w+)`")
@@ -41,7 +42,7 @@ class Edit:
 
     def cells(self):
         """Its line of the page."""
-        return [f"`{self.name}`" + ("" if self.is_of_the_gate else ", *release*"), *(self.said.get(column, "") for column in COLUMNS)]
+        return [f"`{self.name}`{'' if self.is_of_the_gate else ', *release*'}", *(self.said.get(column, "") for column in COLUMNS)]
 
     def texts(self):
         """The text of each file that it changes, after the change."""
@@ -79,16 +80,15 @@ def row(*cells):
     return f"| {' | '.join(cells)} |\n"
 
 
-def section(crate, listed):
+def section(crate, edits):
     head = row("edit", *COLUMNS.values()) + "|---" * (len(COLUMNS) + 1) + "|\n"
-    rows = [row(*edit.cells()) for edit in listed if edit.crate == crate]
+    rows = [row(*edit.cells()) for edit in edits if edit.crate == crate]
     return f"## {crate}\n\n{head}{''.join(rows)}\n"
 
 
 def page(edits):
     """The page with its tables made anew; what stands before and behind them is written by hand."""
-    listed = [edit for edit in edits if edit.is_of_the_gate or edit.said]
-    return TABLES.sub(lambda _: "".join(section(crate, listed) for crate in CRATES), PAGE.read_text())
+    return TABLES.sub(lambda _: "".join(section(crate, edits) for crate in CRATES), PAGE.read_text())
 
 
 def is_test(crate, name):
@@ -106,8 +106,9 @@ def faults(edit):
         yield str(fault)
     if not edit.changes:
         yield "changes nothing"
-    if edit.is_of_the_gate or edit.said:
-        yield from (f"has no line `# {column}: `" for column in COLUMNS if column not in edit.said)
+    yield from (f"has a line that is not read: {line}" for line in edit.path.read_text().splitlines() if not line.startswith(READ))
+    wanted = COLUMNS if edit.is_of_the_gate else ["promise"]
+    yield from (f"has no line `# {column}: `" for column in wanted if column not in edit.said)
     for column, text in edit.said.items():
         if len(text) > MOST_IN_A_CELL:
             yield f"its line `# {column}: ` has more than {MOST_IN_A_CELL} characters"
