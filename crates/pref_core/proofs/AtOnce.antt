@@ -51,9 +51,6 @@ pub record FitsUpTo (contents : Contents) (call : Call) (slots : List ℕ) (at u
   pub taken : (place : ℕ) → among (take used slots) place ≡ true → Was contents (ended_by (take at (changes_of call))) place
   pub long : (next_id : ℕ) → used + length (begun_by next_id (drop at (changes_of call))) ≡ length (begun next_id call)
 
-pub fits_none : (contents : Contents) (call : Call) (slots : List ℕ) → FitsUpTo contents call slots 0 0
-fits_none contents call slots = record { there = refl; free = refl; taken = λ place a. absurd (cc); long = λ next_id. omega arith }
-
 among_left : (xs ys : List ℕ) (id : ℕ) → among xs id ≡ true → among (xs ++ ys) id ≡ true
 among_left [] ys id a = absurd (cc)
 among_left (x ∷ xs) ys id a = ⊎_elim (or_left (eqb x id) (among (xs ++ ys) id)) (λ (e : among xs id ≡ true). or_right (eqb x id) (among (xs ++ ys) id) (among_left xs ys id e)) (or_cases (eqb x id) (among xs id) a)

@@ -1,6 +1,6 @@
 -- The slots of the rows that a call begins, chosen one after the other.
 use Rattle.pref_core.proofs.Common.{◌≡◌, ℕ, suc, ◌+◌, ◌<◌, ◌≤◌, Bool, true, false, ◌&&◌, cond, List, [], ◌∷◌, ◌++◌, map, length, Option, Some, None, Result, Ok, Err, is_some, slice_set, refl, sym, ap}
-use Rattle.pref_core.proofs.Common.{◌∙◌, subst, arith, count_by, length-map, length-append, append-nil, append_assoc, le-ltb, Version, Call, Op, Outcome, NoSuchRow, Entry, Change, Add, Set, Remove}
+use Rattle.pref_core.proofs.Common.{◌∙◌, subst, arith, count_by, length-map, length-append, append-nil, append_assoc, le-ltb, Version, Call, Op, NoSuchRow, Entry, Change, Add, Set, Remove}
 use Rattle.pref_core.proofs.Common.{begun_by, begins_any, among, changes_of, ended, begun, begins_row, is_change, missing, granted, succeeds, Contents, begins, born, visible, close, filled, placed}
 use Rattle.pref_core.proofs.Common.{used, grown, is_free, outcome_at, outcome_of, is_free_zone, IsFreed, FindsFreed, is_open, zones_of}
 use Rattle.pref_core.proofs.Changing.{begun_few}
@@ -113,7 +113,3 @@ pub all_chosen : (contents : Contents) (call : Call) (chosen : List ℕ) → is_
 all_chosen contents call chosen c ok h =
     ap (λ b. is_some (cond b (filled (stamps_next contents) (suc contents.stamp) chosen (begun contents.next_id call) (closed_slots contents (ended call))) (filled (contents.stamp ∷ begins contents.callers) contents.stamp chosen [] contents.slots))) (ap (λ b. b && succeeds (outcome_at contents call)) c ∙ ok)
     ∙ ap (λ rows. is_some (filled (stamps_next contents) (suc contents.stamp) chosen rows (closed_slots contents (ended call)))) (h.all ∙ append-nil h.done) ∙ ap is_some h.fills
-
--- a call that begins none has no slot
-pub none_placed : (contents : Contents) (call : Call) (outcome : Outcome) → (is_change call && succeeds outcome) ≡ false → is_some (placed contents call [] outcome) ≡ true
-none_placed contents call outcome quiet = rw quiet refl

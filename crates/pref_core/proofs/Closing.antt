@@ -3,7 +3,8 @@ use Rattle.pref_core.proofs.Common.{◌≡◌, ℕ, zero, suc, ◌^◌, Bool, tr
 use Rattle.pref_core.proofs.Common.{AllByRecursion, option_map, map-set, slice_get-map, le-leb, and_parts, eqb-true, eq-eqb, cases_eq, true≢false, Version, Caller, Zone, Live, Entry, among}
 use Rattle.pref_core.proofs.Common.{is_visible, born, IsWithin, EndsBy, close, close_at, zone_of, is_row, row_at, IsPlaceOf, shown, ids_of, id_at, AreIds, AreLinks}
 use Rattle.pref_core.proofs.Keys.{eqb_comm}
-use Rattle.pref_core.proofs.Zones.{holds_there, read_written, read_other, live_by, close_idle, has_row_at}
+use Rattle.pref_core.proofs.Stability.{slice_get-set_same, slice_get-set_other}
+use Rattle.pref_core.proofs.Zones.{holds_there, live_by, close_idle, has_row_at}
 use Rattle.pref_core.proofs.Linking.{shows_row, row_shown}
 
 -- lists are equal where they are at each place
@@ -48,10 +49,10 @@ module _ (next made id : ℕ) (slots : List (Option Version)) (within : AllByRec
   one_closed place version known row at = same_at_each _ _ (λ k. ⊎_elim
       (λ (e : k ≡ place).
       ap (slice_get (map (close (id ∷ []) made) slots)) e ∙ slice_get-map (close (id ∷ []) made) slots place ∙ ap (option_map (close (id ∷ []) made)) at ∙ ap Some here
-      ∙ sym (read_written slots place (Some version) (Some (record version { death = close_at made true version.death })) at) ∙ ap (slice_get (set slots place (Some (record version { death = close_at made true version.death })))) (sym e))
+      ∙ sym (slice_get-set_same slots place (Some version) (Some (record version { death = close_at made true version.death })) at) ∙ ap (slice_get (set slots place (Some (record version { death = close_at made true version.death })))) (sym e))
       (λ (n : k ≡ place → ⊥).
       stays k (λ r. n (known.once k place id (row_shown made id slots k r) (row_shown made id slots place row)))
-      ∙ sym (read_other slots k place (Some (record version { death = close_at made true version.death })) n))
+      ∙ sym (slice_get-set_other slots k place (Some (record version { death = close_at made true version.death })) n))
       (cases_eq k place))
     where
       its : version.id ≡ id

@@ -49,9 +49,6 @@ fills_not ns made (place ∷ places) (fresh ∷ rest) slots n = go (is_free ns s
     go true more = more
     go false more = refl
 
-pub fills_none : (ns : List ℕ) (made : ℕ) (places : List ℕ) (slots : List (Option Version)) → places ≡ [] → is_some (filled ns made places [] slots) ≡ true
-fills_none ns made places slots e = ap (λ l. is_some (filled ns made l [] slots)) e
-
 -- A free slot's zone is free, and it shows no row.
 pub free_there : (contents : Contents) (zones : List Zone) (links : List ℕ) (place : ℕ) → IsTracked contents zones links → is_free (stamps contents) contents.slots place ≡ true → slice_get zones place ≡ Some Free
 free_there contents zones links place h f = go (slice_get zones place) refl (ap (λ z. free_at z place) h.listed ∙ sym (free_zone contents.next_id contents.stamp contents.callers contents.slots place h.within) ∙ f)

@@ -9,16 +9,14 @@ use Rattle.pref_core.proofs.Closing.{row_alive}
 use Rattle.pref_core.proofs.Keys.{within-close}
 use Rattle.pref_core.proofs.Linked.{known_ids}
 use Rattle.pref_core.proofs.Linking.{row_shown}
-use Rattle.pref_core.proofs.Zones.{count_by-cons, holds_there, read_other, live, live_by, close_idle, has_row_at, row_version, free_zone, used_zones, spare_zone, one_no}
+use Rattle.pref_core.proofs.Stability.{slice_get-set_other}
+use Rattle.pref_core.proofs.Zones.{count_by-cons, holds_there, live, live_by, close_idle, has_row_at, row_version, free_zone, used_zones, spare_zone, one_no}
 
 -- What was found of the first of these rows.
 pub record FreesUpTo (contents : Contents) (ids done freed : List ℕ) : Type 0 where
   pub olds : List ℕ
   pub stand : AreOldPlaces contents.stamp done contents.slots olds
   pub freed_is : freed ≡ filter (frees_at (begins contents.callers) ids (suc contents.stamp) contents.slots) olds
-
-pub frees_none : (contents : Contents) (ids : List ℕ) → FreesUpTo contents ids [] []
-frees_none contents ids = record { olds = []; stand = tt; freed_is = refl }
 
 olds_snoc : (stamp : ℕ) (done : List ℕ) (slots : List (Option Version)) (olds : List ℕ) (id place : ℕ) → AreOldPlaces stamp done slots olds → row_at stamp id slots place ≡ true → AreOldPlaces stamp (done ++ id ∷ []) slots (olds ++ place ∷ [])
 olds_snoc stamp [] slots [] id place h r = (r, tt)
@@ -108,7 +106,7 @@ free_written (z ∷ zs) zero l = refl
 free_written (z ∷ zs) (suc mark) l = free_written zs mark (omega arith)
 
 free_other : (zones : List Zone) (mark p : ℕ) → (p ≡ mark → ⊥) → free_at (set zones mark Free) p ≡ free_at zones p
-free_other zones mark p n = ap (λ (o : Option Zone). elim o as (λ x. Bool) [ None ↦ false | Some zone ↦ is_free_zone zone ]) (read_other zones p mark Free n)
+free_other zones mark p n = ap (λ (o : Option Zone). elim o as (λ x. Bool) [ None ↦ false | Some zone ↦ is_free_zone zone ]) (slice_get-set_other zones p mark Free n)
 
 count_one : (zones : List Zone) (mark : ℕ) → mark < length zones → free_at zones mark ≡ false → count_by is_free_zone (set zones mark Free) ≡ suc (count_by is_free_zone zones)
 count_one [] mark l f = absurd (omega arith)

@@ -1,7 +1,7 @@
 -- How the ids that a store's slots show go along with a commit.
-use Rattle.pref_core.proofs.Common.{◌≡◌, ℕ, zero, suc, ◌+◌, ◌^◌, ◌<◌, ◌≤◌, Bool, true, false, not, cond, eqb, List, [], ◌∷◌, map, set, Option, Some, None, refl, sym, ap, ap₂, ◌∙◌, subst, arith}
+use Rattle.pref_core.proofs.Common.{◌≡◌, ℕ, zero, suc, ◌+◌, ◌^◌, ◌<◌, ◌≤◌, Bool, true, false, cond, eqb, List, [], ◌∷◌, map, set, Option, Some, None, refl, sym, ap, ap₂, ◌∙◌, subst, arith}
 use Rattle.pref_core.proofs.Common.{⊎_elim, AllByRecursion, map-set, length_permutation, le-leb, cases_lt, true≢false, Version, Zone, Call, Entry, has, State, changes_of, ended, begun, added, missing}
-use Rattle.pref_core.proofs.Common.{is_formed, Contents, StandsFor, IsWithin, EndsBy, is_visible, is_needed, visible, born, close, is_free, IsBounded, row_at, IsPlaceOf, shown, ids_of, id_at, AreIds}
+use Rattle.pref_core.proofs.Common.{is_formed, Contents, StandsFor, IsWithin, EndsBy, is_visible, visible, born, close, IsBounded, row_at, IsPlaceOf, shown, ids_of, id_at, AreIds}
 use Rattle.pref_core.proofs.Common.{AreLinks, IsTracked, AreFresh}
 use Rattle.pref_core.proofs.Bounds.{next_id-small}
 use Rattle.pref_core.proofs.Changing.{begun_fresh, found_all, formed_apart}
@@ -51,17 +51,6 @@ shown_next next now (Some version) h = at_death version.death h.2
 ids_next : (next now : ℕ) (slots : List (Option Version)) → AllByRecursion (IsWithin next now) slots → ids_of (suc now) slots ≡ ids_of now slots
 ids_next next now [] h = refl
 ids_next next now (slot ∷ slots) h = ap₂ ◌∷◌ (shown_next next now slot h.0) (ids_next next now slots h.1)
-
--- A free slot shows no id.
-pub free_shows_none : (made : ℕ) (ns : List ℕ) (slots : List (Option Version)) (place : ℕ) → is_free (made ∷ ns) slots place ≡ true → id_at (ids_of made slots) place ≡ None
-free_shows_none made ns [] place h = refl
-free_shows_none made ns (None ∷ slots) zero h = refl
-free_shows_none made ns (Some version ∷ slots) zero h = go (is_visible made version) refl h
-  where
-    go : (b : Bool) → is_visible made version ≡ b → not (is_needed (made ∷ ns) (Some version)) ≡ true → shown made (Some version) ≡ None
-    go true e f = absurd (let w = rw e at f in cc)
-    go false e f = rw e refl
-free_shows_none made ns (slot ∷ slots) (suc place) h = free_shows_none made ns slots place h
 
 -- .. and they are known as a commit begins: nothing is ahead of it, and the lists beside the slots are as before.
 pub tracked_next : (contents : Contents) (zones : List Zone) (links : List ℕ) (more : ℕ) → IsTracked contents zones links

@@ -10,14 +10,15 @@ use Rattle.pref_core.proofs.Counts.{drop_inside, drop_item}
 use Rattle.pref_core.proofs.Filling.{begun_commit, close_more, commit_filled, end_slots, replace_tracked}
 use Rattle.pref_core.proofs.Linked.{tracked_next}
 use Rattle.pref_core.proofs.Plans.{close_none}
-use Rattle.pref_core.proofs.Zones.{read_written, read_other, row_version}
+use Rattle.pref_core.proofs.Stability.{slice_get-set_same, slice_get-set_other}
+use Rattle.pref_core.proofs.Zones.{row_version}
 
 -- A row that stands in its slot still does once another one was replaced.
 stands_still : (stamp id place : ℕ) (row : Row) (slots : List (Option Version)) (other at : ℕ) → row_at stamp id slots place ≡ true → row_at stamp other slots at ≡ true → row_at stamp other (set slots place (born stamp (record { id = id; row = row }))) at ≡ true
 stands_still stamp id place row slots other at here there = ⊎_elim
     (λ (e : at ≡ place). subst (λ p. row_at stamp other (set slots place (born stamp (record { id = id; row = row }))) p ≡ true) (sym e)
-    (shows (read_written slots place (Some version) (born stamp (record { id = id; row = row })) found.1) ∙ fresh (sym named ∙ eqb-true version.id other (and_parts (eqb version.id other) (is_visible stamp version) (sym (shows found.1) ∙ subst (λ p. row_at stamp other slots p ≡ true) e there)).0)))
-    (λ (n : at ≡ place → ⊥). ap (λ o. elim o as (λ x. Bool) [ None ↦ false | Some slot ↦ is_row stamp other slot ]) (read_other slots at place (born stamp (record { id = id; row = row })) n) ∙ there)
+    (shows (slice_get-set_same slots place (Some version) (born stamp (record { id = id; row = row })) found.1) ∙ fresh (sym named ∙ eqb-true version.id other (and_parts (eqb version.id other) (is_visible stamp version) (sym (shows found.1) ∙ subst (λ p. row_at stamp other slots p ≡ true) e there)).0)))
+    (λ (n : at ≡ place → ⊥). ap (λ o. elim o as (λ x. Bool) [ None ↦ false | Some slot ↦ is_row stamp other slot ]) (slice_get-set_other slots at place (born stamp (record { id = id; row = row })) n) ∙ there)
     (cases_eq at place)
   where
     found : (v : Version) × (slice_get slots place ≡ Some (Some v))

@@ -187,10 +187,6 @@ begin_refused running system client ask fault h plans = refused_tells running sy
     told : refusal (state_of system) client Begin ≡ Some fault
     told = plans (state_of system) h.store
 
-    early_of : (member : Member) (q : Option Open) (early : CoreFault) → refusal_by_query (is_some (option_map snapshot q)) Begin ≡ Some early → (right : Step) → right ≡ refused QueryOpen system → right ≡ refused early system
-    early_of member None early e right is = absurd (cc)
-    early_of member (Some query) early e right is = is ∙ ap (λ f. refused f system) (the_fault QueryOpen early e)
-
     at_query : (member : Member) (q : Option Open) → refusal_of (Some member.calls) (is_some (option_map snapshot q)) Begin ≡ Some fault → step_of running.limits system client member (ActBegin ask) q ≡ refused fault system
     at_query member None e = none (nat_lt member.calls (2 ^ 56)) e _
       where

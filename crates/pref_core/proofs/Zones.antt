@@ -12,18 +12,6 @@ holds_there P [] k x at h = absurd (cc)
 holds_there P (y ∷ xs) zero x at h = let same : y ≡ x = cc in subst P same h.0
 holds_there P (y ∷ xs) (suc k) x at h = holds_there P xs k x at h.1
 
-pub read_written : {X : Type 0} (xs : List X) (k : ℕ) (x y : X) → slice_get xs k ≡ Some x → slice_get (set xs k y) k ≡ Some y
-read_written [] k x y h = absurd (cc)
-read_written (z ∷ xs) zero x y h = refl
-read_written (z ∷ xs) (suc k) x y h = read_written xs k x y h
-
-pub read_other : {X : Type 0} (xs : List X) (k j : ℕ) (y : X) → (k ≡ j → ⊥) → slice_get (set xs j y) k ≡ slice_get xs k
-read_other [] k j y n = refl
-read_other (z ∷ xs) zero zero y n = absurd (n refl)
-read_other (z ∷ xs) zero (suc j) y n = refl
-read_other (z ∷ xs) (suc k) zero y n = refl
-read_other (z ∷ xs) (suc k) (suc j) y n = read_other xs k j y (λ e. n (ap suc e))
-
 -- A slot is needed where the first caller's begin sees it, or another one's.
 pub needed_cons : (caller : Caller) (callers : List Caller) (slot : Option Version) → is_needed (begins (caller ∷ callers)) slot ≡ (is_needed (option_to_list caller.begun) slot || is_needed (begins callers) slot)
 needed_cons caller callers slot = go caller.begun

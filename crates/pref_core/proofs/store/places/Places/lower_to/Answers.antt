@@ -1,6 +1,6 @@
-use Rattle.pref_core.proofs.Common.{◌≡◌, ◌+◌, ◌-◌, suc, set, Some, slice_get, sym, ap, ◌∙◌, arith, numbered}
-use Rattle.pref_core.proofs.Arranging.{set_same, set_twice}
-use Rattle.pref_core.proofs.Zones.{read_written}
+use Rattle.pref_core.proofs.Common.{◌≡◌, ◌+◌, ◌-◌, suc, set, Some, slice_get, sym, ap, ◌∙◌, arith, set-set, numbered}
+use Rattle.pref_core.proofs.Arranging.{set_same}
+use Rattle.pref_core.proofs.Stability.{slice_get-set_same}
 use Rattle.pref_core.proofs.store.places.Places.lower_to.Goals as goal
 
 pub loop-step-init : goal.loop-step-init
@@ -10,11 +10,11 @@ pub lower-requires-clause-there : goal.lower-requires-clause-there
 lower-requires-clause-there c =
     let few = c.loop-step-test.true in
     let next : c.args.from - c.loop-step.step ≡ suc (c.args.from - 1 - c.loop-step.step) = omega arith in
-    ap (λ z. slice_get z c.args.place) c.loop-step.invariant ∙ read_written c.args.self.now c.args.place (numbered c.args.from) (numbered (c.args.from - c.loop-step.step)) c.requires.there ∙ ap (λ n. Some (numbered n)) next
+    ap (λ z. slice_get z c.args.place) c.loop-step.invariant ∙ slice_get-set_same c.args.self.now c.args.place (numbered c.args.from) (numbered (c.args.from - c.loop-step.step)) c.requires.there ∙ ap (λ n. Some (numbered n)) next
 
 pub loop-step-preserved : goal.loop-step-preserved
 loop-step-preserved c =
     let few = c.loop-step-test.true in
     let next : c.args.from - 1 - c.loop-step.step ≡ c.args.from - (c.loop-step.step + 1) = omega arith in
     c.lower.ensures ∙ ap (λ z. set z c.args.place (numbered (c.args.from - 1 - c.loop-step.step))) c.loop-step.invariant
-    ∙ set_twice c.args.self.now c.args.place (numbered (c.args.from - c.loop-step.step)) (numbered (c.args.from - 1 - c.loop-step.step)) ∙ ap (λ n. set c.args.self.now c.args.place (numbered n)) next
+    ∙ set-set c.args.self.now c.args.place (numbered (c.args.from - c.loop-step.step)) (numbered (c.args.from - 1 - c.loop-step.step)) ∙ ap (λ n. set c.args.self.now c.args.place (numbered n)) next
