@@ -1,5 +1,5 @@
 -- The names that the proofs of this crate share, passed on from one place. Declares nothing.
-pub use Rattle.std.proofs.Common.{◌%◌, ◌&&◌, ◌*◌, ◌+◌, ◌++◌, ◌-◌, ◌/◌, ◌<◌, ◌==◌, Bool, Bor, Err, IfErr, IfNone, IfSome, List, MatchResult, None, Ok, OnErr, Option, Result, Some, [], ◌^◌, add-one, ap}
+pub use Rattle.std.proofs.Common.{◌%◌, ◌&&◌, ◌*◌, ◌+◌, ◌++◌, ◌-◌, ◌/◌, ◌<◌, ◌==◌, Bool, Bor, Err, IfErr, IfNone, IfSome, List, MatchResult, None, Ok, OnOk, Option, Result, Some, [], ◌^◌, add-one, ap}
 pub use Rattle.std.proofs.Common.{append_assoc, ap₂, arith, cond, drop, eqb, false, filter, get_or, inl, inr, is_err, is_some, length, map, nat_eq, nat_le, nat_lt, not, pos, refl, replicate, rules}
 pub use Rattle.std.proofs.Common.{set, slice_get, slice_index, slice_set, subst, suc, swap, sym, take, true, unwrap_or, zero, ◌||◌, ℕ, ◌∙◌, ◌∷◌, ◌≡◌, ◌≢◌, ◌≤◌, ◌⊎◌, ⊎_elim}
 pub use Rattle.std.proofs.Math.Seq.{drop-cons, map-set_same, take-append_seam}
@@ -21,7 +21,7 @@ pub use Rattle.std.specs.Option.{option_map, option_to_list}
 pub use Rattle.std.specs.Vec.{vec_capacity, vec_len, with_items}
 pub use Rattle.pref_core.specs.Bounds.{IsBounded}
 pub use Rattle.pref_core.specs.Changes.{added_by, begins_any, begun_by, commit_of, ended_by, is_change_count, is_commit, names_again, twice, twice_from}
-pub use Rattle.pref_core.specs.Indexes.{IsIndexOf, IsPlaceOf, LacksFrom, Points, PointsAll, added_rows, adds, given, is_row, moved_rows, row_at, slot_of}
+pub use Rattle.pref_core.specs.Indexes.{IsIndexOf, IsPlaceOf, Points, PointsAll, adds, given, is_row, placed_rows, row_at, slot_of}
 pub use Rattle.pref_core.specs.Kept.{AreFresh, AreOldPlaces, FindsFreed, FitAtOnce, IsFreed, IsKept, IsTracked, KeepSlots, are_free, frees_at, is_open, replaced, row_in, with_slots, zones_of}
 pub use Rattle.pref_core.specs.Laws.{BlocksAreTheSlots, DeletesNeedNoMore, EndsNeedNoMore, NeededFits, NeededFitsSlots, first_blocks}
 pub use Rattle.pref_core.specs.Lent.{change_of}

@@ -1,9 +1,9 @@
 -- An index follows the store through each op that is done.
-use Rattle.pref_core.proofs.Common.{◌≡◌, ℕ, suc, ◌+◌, ◌<◌, ◌≤◌, Bool, true, false, ◌&&◌, ◌||◌, cond, eqb, nat_le, nat_lt, List, [], ◌∷◌, map, length, set, drop, Option, Some, None, is_some, inl, inr}
-use Rattle.pref_core.proofs.Common.{refl, sym, ap, ◌∙◌, subst, arith, AllByRecursion, eqb-true, ne_eqb, le-leb, lt-ltb, ltb-true, ltb-false, or_right, and_from, and_parts, true≢false, Version, Change}
+use Rattle.pref_core.proofs.Common.{◌≡◌, ℕ, suc, ◌+◌, ◌<◌, Bool, true, false, ◌&&◌, ◌||◌, cond, eqb, nat_lt, List, [], ◌∷◌, map, length, set, Option, Some, None, is_some}
+use Rattle.pref_core.proofs.Common.{refl, sym, ap, ◌∙◌, subst, arith, AllByRecursion, eqb-true, ne_eqb, ltb-true, ltb-false, or_right, true≢false, Version, Change}
 use Rattle.pref_core.proofs.Common.{Add, Set, Remove, Call, Insert, Update, Delete, Commit, Begin, Finish, Abandon, Outcome, Added, Done, NoSuchRow, Full, Op, Entry, Row, ended_by, begun_by, added_by}
 use Rattle.pref_core.proofs.Common.{among, has, missing, granted, is_change, succeeds, added, begins_row, changes_of, ended, begun, outcome_of, Contents, IsWithin, visible, begins, born, close}
-use Rattle.pref_core.proofs.Common.{is_free, filled, used, grown, slots_after, is_next, applied, slot_of, Points, PointsAll, given, added_rows, moved_rows, LacksFrom, adds, IsPlaceOf, IsIndexOf}
+use Rattle.pref_core.proofs.Common.{is_free, filled, used, grown, slots_after, is_next, applied, slot_of, Points, PointsAll, given, placed_rows, adds, IsPlaceOf, IsIndexOf}
 use Rattle.pref_core.proofs.Applied.{IsAllowed-from}
 use Rattle.pref_core.proofs.Changing.{AreApart, formed_apart, found_all}
 use Rattle.pref_core.proofs.Filling.{none_missing, slots_still}
@@ -12,23 +12,6 @@ use Rattle.pref_core.proofs.Tables.{has_visible-new}
 
 abbrev pub Pairs : Type 0
 Pairs = List (ℕ × ℕ)
-
--- what an index gives for ids below those of added rows stays
-given_below : (first : ℕ) (changes : List Change) (slots : List ℕ) (id : ℕ) (found : Option ℕ) → id < first → given (added_rows first changes slots) id found ≡ found
-given_below first [] slots id found low = refl
-given_below first (Add row ∷ rest) [] id found low = refl
-given_below first (Add row ∷ rest) (slot ∷ slots) id found low =
-    ap (λ b. given (added_rows (suc first) rest slots) id (cond b (Some slot) found)) (ne_eqb first id (λ (e : first ≡ id). omega arith))
-    ∙ given_below (suc first) rest slots id found (omega arith)
-given_below first (Set other row ∷ rest) slots id found low = given_below first rest (drop 1 slots) id found low
-given_below first (Remove other ∷ rest) slots id found low = given_below first rest slots id found low
-
--- changes that add no row
-none_added : (first : ℕ) (changes : List Change) (slots : List ℕ) → added_by changes ≡ 0 → added_rows first changes slots ≡ []
-none_added first [] slots e = refl
-none_added first (Add row ∷ rest) slots e = absurd (omega arith)
-none_added first (Set id row ∷ rest) slots e = none_added first rest (drop 1 slots) e
-none_added first (Remove id ∷ rest) slots e = none_added first rest slots e
 
 -- The place of an id once rows began, each in its slot: ..
 module _ (ns : List ℕ) (made id : ℕ) where
@@ -44,7 +27,7 @@ module _ (ns : List ℕ) (made id : ℕ) where
   -- .. and all rows of a commit, where the ids that it names are gone before.
   abbrev ArePlaced : List Change → ℕ → List ℕ → List (Option Version) → List (Option Version) → Option ℕ → Type 0
   ArePlaced changes next places slots after found = filled (made ∷ ns) made places (begun_by next changes) slots ≡ Some after → AreApart (ended_by changes) → (among (ended_by changes) id ≡ true → id < next)
-      → IsPlaceOf made id slots (cond (among (ended_by changes) id) None found) → IsPlaceOf made id after (given (moved_rows changes places) id (given (added_rows next changes places) id found))
+      → IsPlaceOf made id slots (cond (among (ended_by changes) id) None found) → IsPlaceOf made id after (given (placed_rows next changes places) id found)
 
   filled_place : (changes : List Change) (next : ℕ) (places : List ℕ) (slots after : List (Option Version)) (found : Option ℕ) → ArePlaced changes next places slots after found
   filled_place [] next [] slots after found e apart low is = subst (λ l. IsPlaceOf made id l found) (let same : slots ≡ after = cc in same) is
@@ -68,7 +51,7 @@ module _ (ns : List ℕ) (made id : ℕ) where
 
       go : (b : Bool) → is_free (made ∷ ns) slots place ≡ b → ◌≡◌ {A = Option (List (Option Version))} (cond b (filled (made ∷ ns) made places (begun_by (suc next) rest) later) None) (Some after)
           → ArePlaced rest (suc next) places later after (cond (eqb next id) (Some place) found)
-          → IsPlaceOf made id after (given (moved_rows rest places) id (given (added_rows (suc next) rest places) id (cond (eqb next id) (Some place) found)))
+          → IsPlaceOf made id after (given (placed_rows (suc next) rest places) id (cond (eqb next id) (Some place) found))
       go false free h more = absurd (cc)
       go true free h more = more h apart (λ there. let below : id < next = low there in omega arith) (shown free (among (ended_by rest) id) refl is)
   filled_place (Set other row ∷ rest) next (place ∷ places) slots after found e apart low is =
@@ -80,42 +63,34 @@ module _ (ns : List ℕ) (made id : ℕ) where
       later : List (Option Version)
       later = set slots place (born made fresh)
 
-      put : Option ℕ
-      put = given (added_rows next rest places) id found
-
       by : (b : Bool) → eqb other id ≡ b → is_free (made ∷ ns) slots place ≡ true → filled (made ∷ ns) made places (begun_by next rest) later ≡ Some after → ((o : Option ℕ) → ArePlaced rest next places later after o)
-          → IsPlaceOf made id after (given (moved_rows rest places) id (cond b (Some place) put))
+          → IsPlaceOf made id after (given (placed_rows next rest places) id (cond b (Some place) found))
       by true same free h more =
           let is_id : other ≡ id = eqb-true other id same in
           let gone : among (ended_by rest) id ≡ false = subst (λ n. among (ended_by rest) n ≡ false) is_id apart.0 in
           let below : id < next = low (ap (λ b. b || among (ended_by rest) id) same) in
-          subst (λ o. IsPlaceOf made id after (given (moved_rows rest places) id o)) (given_below next rest places id (Some place) below)
-          (more (Some place) h apart.1 (λ there. below)
+          more (Some place) h apart.1 (λ there. below)
           (subst (λ b. IsPlaceOf made id later (cond b None (Some place))) (sym gone)
-          (subst (λ b. IsPlaceOf made id later (cond b (Some place) None)) same (begun_place place fresh slots None free (subst (λ b. IsPlaceOf made id slots (cond (b || among (ended_by rest) id) None found)) same is)))))
+          (subst (λ b. IsPlaceOf made id later (cond b (Some place) None)) same (begun_place place fresh slots None free (subst (λ b. IsPlaceOf made id slots (cond (b || among (ended_by rest) id) None found)) same is))))
       by false differ free h more =
           more found h apart.1 (λ there. low (ap (λ b. b || among (ended_by rest) id) differ ∙ there))
           (other_place made id fresh ns slots place (cond (among (ended_by rest) id) None found) free differ (subst (λ b. IsPlaceOf made id slots (cond (b || among (ended_by rest) id) None found)) differ is))
 
       go : (b : Bool) → is_free (made ∷ ns) slots place ≡ b → ◌≡◌ {A = Option (List (Option Version))} (cond b (filled (made ∷ ns) made places (begun_by next rest) later) None) (Some after)
-          → ((o : Option ℕ) → ArePlaced rest next places later after o) → IsPlaceOf made id after (given (moved_rows rest places) id (cond (eqb other id) (Some place) put))
+          → ((o : Option ℕ) → ArePlaced rest next places later after o) → IsPlaceOf made id after (given (placed_rows next rest places) id (cond (eqb other id) (Some place) found))
       go false free h more = absurd (cc)
       go true free h more = by (eqb other id) refl free h more
   filled_place (Remove other ∷ rest) next places slots after found e apart low is = by (eqb other id) refl (filled_place rest next places slots after)
     where
-      put : Option ℕ
-      put = given (added_rows next rest places) id found
-
       nothing : (b : Bool) → ◌≡◌ {A = Option ℕ} (cond b None None) None
       nothing true = refl
       nothing false = refl
 
-      by : (b : Bool) → eqb other id ≡ b → ((o : Option ℕ) → ArePlaced rest next places slots after o) → IsPlaceOf made id after (given (moved_rows rest places) id (cond b None put))
+      by : (b : Bool) → eqb other id ≡ b → ((o : Option ℕ) → ArePlaced rest next places slots after o) → IsPlaceOf made id after (given (placed_rows next rest places) id (cond b None found))
       by true same more =
           let below : id < next = low (ap (λ b. b || among (ended_by rest) id) same) in
-          subst (λ o. IsPlaceOf made id after (given (moved_rows rest places) id o)) (given_below next rest places id None below)
-          (more None e apart.1 (λ there. below)
-          (subst (IsPlaceOf made id slots) (sym (nothing (among (ended_by rest) id))) (subst (λ b. IsPlaceOf made id slots (cond (b || among (ended_by rest) id) None found)) same is)))
+          more None e apart.1 (λ there. below)
+          (subst (IsPlaceOf made id slots) (sym (nothing (among (ended_by rest) id))) (subst (λ b. IsPlaceOf made id slots (cond (b || among (ended_by rest) id) None found)) same is))
       by false differ more =
           more found e apart.1 (λ there. low (ap (λ b. b || among (ended_by rest) id) differ ∙ there))
           (subst (λ b. IsPlaceOf made id slots (cond (b || among (ended_by rest) id) None found)) differ is)
@@ -139,9 +114,10 @@ no_changes Begin still = refl
 no_changes Finish still = refl
 no_changes Abandon still = refl
 
--- The rows of these ids are there, each named once, and an index gives their places.
-pub record AreThere (contents : Contents) (ids : List ℕ) (index : Pairs) : Type 0 where
+-- The rows of these ids are there, each named once and below the next one, and an index gives their places.
+pub record AreThere (contents : Contents) (next : ℕ) (ids : List ℕ) (index : Pairs) : Type 0 where
   pub apart : AreApart ids
+  pub below : (id : ℕ) → among ids id ≡ true → id < next
   pub there : (id : ℕ) → among ids id ≡ true → has (visible contents.stamp contents.slots) id ≡ true
   pub placed : (id : ℕ) → among ids id ≡ true → IsPlaceOf contents.stamp id contents.slots (slot_of index id)
 
@@ -164,29 +140,17 @@ module _ (contents : Contents) (op : Op) (next : is_next contents op ≡ true) w
       told : Outcome
       told = outcome_of (length contents.slots) (begins_row op.call) (missing (ended op.call) (visible contents.stamp contents.slots)) (used (grown op.call contents)) (granted contents.next_id op.call)
 
-  -- An id that is to be added is the next one, and the call of that op adds a row.
-  pub added_new : (first : ℕ) → op.outcome ≡ Added first → (first ≡ contents.next_id) × (nat_lt 0 (added op.call) ≡ true)
-  added_new first is = go (is_change op.call) refl
+  -- The outcome adds a row just where the call does.
+  pub adds_told : succeeds op.outcome ≡ true → adds op.outcome ≡ nat_lt 0 (added op.call)
+  adds_told done = go (is_change op.call) refl
     where
-      by : (b : Bool) → nat_lt 0 (added op.call) ≡ b → Added first ≡ cond b (Added contents.next_id) Done → (first ≡ contents.next_id) × (b ≡ true)
-      by true e same = (cc, refl)
-      by false e same = absurd (cc)
+      by : (b : Bool) → adds (cond b (Added contents.next_id) Done) ≡ b
+      by true = refl
+      by false = refl
 
-      go : (b : Bool) → is_change op.call ≡ b → (first ≡ contents.next_id) × (nat_lt 0 (added op.call) ≡ true)
-      go true e = by (nat_lt 0 (added op.call)) refl (sym is ∙ outcome_done e (ap succeeds is))
-      go false e = absurd (let same = sym is ∙ outcome_still e in cc)
-
-  -- An op that adds no row: ..
-  pub adds_none : op.outcome ≡ Done → added_rows contents.next_id (changes_of op.call) op.slots ≡ []
-  adds_none done = go (is_change op.call) refl
-    where
-      by : (b : Bool) → nat_lt 0 (added op.call) ≡ b → Done ≡ cond b (Added contents.next_id) Done → added_rows contents.next_id (changes_of op.call) op.slots ≡ []
-      by true e same = absurd (cc)
-      by false e same = none_added contents.next_id (changes_of op.call) op.slots (let few = ltb-false 0 (added op.call) e in omega arith)
-
-      go : (b : Bool) → is_change op.call ≡ b → added_rows contents.next_id (changes_of op.call) op.slots ≡ []
-      go true e = by (nat_lt 0 (added op.call)) refl (sym done ∙ outcome_done e (ap succeeds done))
-      go false e = ap (λ l. added_rows contents.next_id l op.slots) (no_changes op.call e)
+      go : (b : Bool) → is_change op.call ≡ b → adds op.outcome ≡ nat_lt 0 (added op.call)
+      go true e = ap adds (outcome_done e done) ∙ by (nat_lt 0 (added op.call))
+      go false e = ap adds (outcome_still e) ∙ ap (λ l. nat_lt 0 (added_by l)) (sym (no_changes op.call e))
 
   -- the index of what the op leaves, by the stamp and the slots that it leaves
   index_after : (after : List (Option Version)) (b : Bool) (later : Pairs) → slots_after contents op ≡ Some after → (is_change op.call && succeeds op.outcome) ≡ b → IsIndexAt (cond b (suc contents.stamp) contents.stamp) after later → IsIndexOf (applied contents op) later
@@ -214,9 +178,9 @@ module _ (contents : Contents) (within : AllByRecursion (IsWithin contents.next_
       go true e = ended_place contents.next_id contents.stamp id ids contents.slots within e
       go false e = closed_place contents.next_id contents.stamp id ids contents.slots found within e is
 
-  -- The index of a store, once the rows that a legal op adds were put and those that it moves were moved, is that of the store after it.
+  -- The index of a store, once the rows that a legal op begins or removes were placed, is that of the store after it.
   pub indexed : (op : Op) (before later : Pairs) → is_next contents op ≡ true → is_some (slots_after contents op) ≡ true → succeeds op.outcome ≡ true → IsIndexOf contents before
-      → ((id : ℕ) → slot_of later id ≡ given (moved_rows (changes_of op.call) op.slots) id (given (added_rows contents.next_id (changes_of op.call) op.slots) id (slot_of before id))) → IsIndexOf (applied contents op) later
+      → PointsAll before (placed_rows contents.next_id (changes_of op.call) op.slots) later → IsIndexOf (applied contents op) later
   indexed op before later next fits success is found = go (is_change op.call) refl
     where
       done : is_change op.call ≡ true → (after : List (Option Version))
@@ -236,25 +200,15 @@ module _ (contents : Contents) (within : AllByRecursion (IsWithin contents.next_
       go : (b : Bool) → is_change op.call ≡ b → IsIndexOf (applied contents op) later
       go true e = placed (slots_after contents op) refl fits e
       go false e = indexed_still contents op later next fits (ap (λ b. b && succeeds op.outcome) e)
-          (λ id. subst (IsPlaceOf contents.stamp id contents.slots) (sym (found id ∙ ap (λ l. given (moved_rows l op.slots) id (given (added_rows contents.next_id l op.slots) id (slot_of before id))) (no_changes op.call e))) (is id))
+          (λ id. subst (IsPlaceOf contents.stamp id contents.slots) (sym (found id ∙ ap (λ l. given (placed_rows contents.next_id l op.slots) id (slot_of before id)) (no_changes op.call e))) (is id))
 
-  -- An index is the store's still where it lacks ids that the store has not given.
-  pub indexed_again : (old new : Pairs) → IsIndexOf contents old → LacksFrom contents.next_id old new → IsIndexOf contents new
-  indexed_again old new is lacks id = elim (lacks id) [
-    | inl same ↦ subst (IsPlaceOf contents.stamp id contents.slots) (sym same) (is id)
-    | inr out ↦ subst (IsPlaceOf contents.stamp id contents.slots) (sym out.1) (has_visible-new contents.next_id contents.stamp contents.stamp contents.slots id within out.0)
-  ]
-
-  -- The index of a store to which rows were added gives the other rows' places.
-  pub places_below : (changes : List Change) (slots : List ℕ) (old new : Pairs) → IsIndexOf contents old → PointsAll old (added_rows contents.next_id changes slots) new → (id : ℕ) → id < contents.next_id → IsPlaceOf contents.stamp id contents.slots (slot_of new id)
-  places_below changes slots old new is adds id low = subst (IsPlaceOf contents.stamp id contents.slots) (sym (adds id ∙ given_below contents.next_id changes slots id (slot_of old id) low)) (is id)
-
-  -- Before an op is done, such an index gives the places of the rows that it ends.
-  pub ended_there : (op : Op) (index : Pairs) → is_next contents op ≡ true → succeeds op.outcome ≡ true → ((id : ℕ) → id < contents.next_id → IsPlaceOf contents.stamp id contents.slots (slot_of index id)) → AreThere contents (ended op.call) index
+  -- Before an op is done, it gives the places of the rows that the op ends.
+  pub ended_there : (op : Op) (index : Pairs) → is_next contents op ≡ true → succeeds op.outcome ≡ true → IsIndexOf contents index → AreThere contents contents.next_id (ended op.call) index
   ended_there op index next success is = record {
     apart = formed_apart op.call (IsAllowed-from contents op next).formed;
+    below = λ id ends. has_below id (there id ends);
     there = there;
-    placed = λ id ends. is id (has_below id (there id ends));
+    placed = λ id ends. is id;
   }
     where
       there : (id : ℕ) → among (ended op.call) id ≡ true → has (visible contents.stamp contents.slots) id ≡ true
@@ -266,26 +220,46 @@ module _ (contents : Contents) (within : AllByRecursion (IsWithin contents.next_
 
 -- A row is added only by a call that adds one.
 pub adds_planned : (contents : Contents) (op : Op) → is_next contents op ≡ true → adds op.outcome ≡ true → nat_lt 0 (added op.call) ≡ true
-adds_planned contents op next h = go op.outcome refl h
+adds_planned contents op next h = sym (adds_told contents op next (succeeding op.outcome h)) ∙ h
   where
-    go : (o : Outcome) → op.outcome ≡ o → adds o ≡ true → nat_lt 0 (added op.call) ≡ true
-    go (Added id) e a = (added_new contents op next id e).1
-    go Done e a = absurd (cc)
-    go (NoSuchRow n) e a = absurd (cc)
-    go (Full n) e a = absurd (cc)
+    succeeding : (o : Outcome) → adds o ≡ true → succeeds o ≡ true
+    succeeding (Added id) a = refl
+    succeeding Done a = absurd (cc)
+    succeeding (NoSuchRow id) a = absurd (cc)
+    succeeding (Full size) a = absurd (cc)
 
--- What is left of the rows that move: ..
-pub record MovesRest (contents : Contents) (changes : List Change) (slots : List ℕ) (index : Pairs) (all : ℕ → Option ℕ) : Type 0 where
-  pub gives : (id : ℕ) → given (moved_rows changes slots) id (slot_of index id) ≡ all id
-  pub olds : AreThere contents (ended_by changes) index
+-- What is left of the rows that are placed: ..
+pub record PlacesRest (contents : Contents) (next : ℕ) (changes : List Change) (slots : List ℕ) (index : Pairs) (all : ℕ → Option ℕ) : Type 0 where
+  pub gives : (id : ℕ) → given (placed_rows next changes slots) id (slot_of index id) ≡ all id
+  pub olds : AreThere contents next (ended_by changes) index
 
--- .. one more moves.
-pub moves_one : (contents : Contents) (id : ℕ) (slot : Option ℕ) (rest : List Change) (slots : List ℕ) (index new : Pairs) (all : ℕ → Option ℕ) → ((other : ℕ) → given ((id, slot) ∷ moved_rows rest slots) other (slot_of index other) ≡ all other)
-    → AreThere contents (id ∷ ended_by rest) index → Points index id slot new → MovesRest contents rest slots new all
-moves_one contents id slot rest slots index new all gives olds points = record {
-  gives = λ other. ap (given (moved_rows rest slots) other) (points other) ∙ gives other;
+-- .. one more is added, ..
+pub adds_one : (contents : Contents) (next slot : ℕ) (row : Row) (rest : List Change) (slots : List ℕ) (index new : Pairs) (all : ℕ → Option ℕ) → PlacesRest contents next (Add row ∷ rest) (slot ∷ slots) index all → Points index next (Some slot) new
+    → PlacesRest contents (next + 1) rest slots new all
+adds_one contents next slot row rest slots index new all h points = record {
+  gives = λ id. ap (λ n. given (placed_rows n rest slots) id (slot_of new id)) one ∙ ap (given (placed_rows (suc next) rest slots) id) (points id) ∙ h.gives id;
+  olds = record {
+    apart = h.olds.apart;
+    below = λ id ends. let low = h.olds.below id ends in omega arith;
+    there = h.olds.there;
+    placed = λ id ends. subst (IsPlaceOf contents.stamp id contents.slots) (sym (points id ∙ ap (λ b. cond b (Some slot) (slot_of index id)) (differs id ends))) (h.olds.placed id ends);
+  };
+}
+  where
+    one : next + 1 ≡ suc next
+    one = omega arith
+
+    differs : (id : ℕ) → among (ended_by rest) id ≡ true → eqb next id ≡ false
+    differs id ends = ne_eqb next id (λ (same : next ≡ id). let low = h.olds.below id ends in omega arith)
+
+-- .. or another slot is given to a row that is there, or none.
+pub moves_one : (contents : Contents) (next id : ℕ) (slot : Option ℕ) (rest : List Change) (slots : List ℕ) (index new : Pairs) (all : ℕ → Option ℕ) → ((other : ℕ) → given ((id, slot) ∷ placed_rows next rest slots) other (slot_of index other) ≡ all other)
+    → AreThere contents next (id ∷ ended_by rest) index → Points index id slot new → PlacesRest contents next rest slots new all
+moves_one contents next id slot rest slots index new all gives olds points = record {
+  gives = λ other. ap (given (placed_rows next rest slots) other) (points other) ∙ gives other;
   olds = record {
     apart = olds.apart.1;
+    below = λ other ends. olds.below other (or_right (eqb id other) (among (ended_by rest) other) ends);
     there = λ other ends. olds.there other (or_right (eqb id other) (among (ended_by rest) other) ends);
     placed = λ other ends. subst (IsPlaceOf contents.stamp other contents.slots) (sym (points other ∙ ap (λ b. cond b slot (slot_of index other)) (differs other ends))) (olds.placed other (or_right (eqb id other) (among (ended_by rest) other) ends));
   };
@@ -293,36 +267,6 @@ moves_one contents id slot rest slots index new all gives olds points = record {
   where
     differs : (other : ℕ) → among (ended_by rest) other ≡ true → eqb id other ≡ false
     differs other ends = ne_eqb id other (λ (same : id ≡ other). true≢false (sym ends ∙ ap (among (ended_by rest)) (sym same) ∙ olds.apart.0))
-
--- What some of the rows that are added leave: ..
-pub record AddsRest (first next : ℕ) (changes : List Change) (slots : List ℕ) (start now : Pairs) (all : ℕ → Option ℕ) : Type 0 where
-  pub gives : (id : ℕ) → given (added_rows next changes slots) id (slot_of now id) ≡ all id
-  pub others : (id : ℕ) → (nat_le first id && nat_lt id next) ≡ false → slot_of now id ≡ slot_of start id
-  pub above : first ≤ next
-
--- .. one more is added.
-pub adds_one : (first next slot : ℕ) (row : Row) (rest : List Change) (slots : List ℕ) (start now new : Pairs) (all : ℕ → Option ℕ) → AddsRest first next (Add row ∷ rest) (slot ∷ slots) start now all → Points now next (Some slot) new
-    → AddsRest first (next + 1) rest slots start new all
-adds_one first next slot row rest slots start now new all h points = record {
-  gives = λ id. ap (λ n. given (added_rows n rest slots) id (slot_of new id)) one ∙ ap (given (added_rows (suc next) rest slots) id) (points id) ∙ h.gives id;
-  others = others;
-  above = let low = h.above in omega arith;
-}
-  where
-    one : next + 1 ≡ suc next
-    one = omega arith
-
-    others : (id : ℕ) → (nat_le first id && nat_lt id (next + 1)) ≡ false → slot_of new id ≡ slot_of start id
-    others id out = points id ∙ ap (λ b. cond b (Some slot) (slot_of now id)) (ne_eqb next id differs) ∙ h.others id (outside (nat_le first id && nat_lt id next) refl)
-      where
-        differs : next ≡ id → ⊥
-        differs same = true≢false (sym (and_from _ _ (le-leb first id (let low = h.above in omega arith)) (lt-ltb id (next + 1) (omega arith))) ∙ out)
-
-        outside : (b : Bool) → (nat_le first id && nat_lt id next) ≡ b → b ≡ false
-        outside false e = refl
-        outside true e =
-            let parts = and_parts (nat_le first id) (nat_lt id next) e in
-            absurd (true≢false (sym (and_from _ _ parts.0 (lt-ltb id (next + 1) (let low = ltb-true id next parts.1 in omega arith))) ∙ out))
 
 -- what an index has already
 pub points_still : (index : Pairs) (id : ℕ) (slot : Option ℕ) → slot_of index id ≡ slot → Points index id slot index

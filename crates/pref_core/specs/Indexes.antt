@@ -1,5 +1,5 @@
 -- An index from id to slot, beside a store. (this project)
-use Rattle.std.specs.Prelude.{◌≡◌, ◌≤◌, ◌⊎◌, ℕ, suc, List, [], ◌∷◌, drop, Bool, true, false, ◌&&◌, ◌==◌, cond, nat_eq, Option, Some, None, slice_get}
+use Rattle.std.specs.Prelude.{◌≡◌, ℕ, suc, List, [], ◌∷◌, Bool, true, false, ◌&&◌, ◌==◌, cond, nat_eq, Option, Some, None, slice_get}
 use Rattle.std.specs.Map.{lookup}
 use Rattle.pref_core.specs.declared.store.version.Version.{Version}
 use Rattle.pref_core.specs.declared.call.Outcome.{Outcome}
@@ -49,20 +49,9 @@ abbrev pub adds : Outcome → Bool
 adds (Added id) = true
 adds outcome = false
 
--- the rows that these changes add, each with its slot, of the slots of all rows that they begin; they have the ids from this one on
-abbrev pub added_rows : ℕ → List Change → List ℕ → List (ℕ × Option ℕ)
-added_rows id (Add row ∷ rest) (slot ∷ slots) = (id, Some slot) ∷ added_rows (suc id) rest slots
-added_rows id (Set other row ∷ rest) slots = added_rows id rest (drop 1 slots)
-added_rows id (Remove other ∷ rest) slots = added_rows id rest slots
-added_rows id changes slots = []
-
--- the rows that these changes set or remove, each with its new slot, or with none
-abbrev pub moved_rows : List Change → List ℕ → List (ℕ × Option ℕ)
-moved_rows (Add row ∷ rest) slots = moved_rows rest (drop 1 slots)
-moved_rows (Set id row ∷ rest) (slot ∷ slots) = (id, Some slot) ∷ moved_rows rest slots
-moved_rows (Remove id ∷ rest) slots = (id, None) ∷ moved_rows rest slots
-moved_rows changes slots = []
-
--- the index, but that it may lack ids from this one on
-abbrev pub LacksFrom : ℕ → List (ℕ × ℕ) → List (ℕ × ℕ) → Type 0
-LacksFrom first old new = (id : ℕ) → (slot_of new id ≡ slot_of old id) ⊎ ((first ≤ id) × (slot_of new id ≡ None))
+-- the rows that these changes begin or remove, each with its slot of those of all rows that they begin, or with none; added ones have the ids from this one on
+abbrev pub placed_rows : ℕ → List Change → List ℕ → List (ℕ × Option ℕ)
+placed_rows id (Add row ∷ rest) (slot ∷ slots) = (id, Some slot) ∷ placed_rows (suc id) rest slots
+placed_rows id (Set other row ∷ rest) (slot ∷ slots) = (other, Some slot) ∷ placed_rows id rest slots
+placed_rows id (Remove other ∷ rest) slots = (other, None) ∷ placed_rows id rest slots
+placed_rows id changes slots = []

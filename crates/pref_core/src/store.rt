@@ -20,7 +20,6 @@
 pub(crate) mod applying;
 pub(crate) mod caller;
 pub(crate) mod contents;
-pub(crate) mod indexing;
 pub(crate) mod links;
 pub(crate) mod needs;
 pub(crate) mod opening;
@@ -38,7 +37,7 @@ ghost use Rattle.pref_core.specs.Indexes.{adds, IsIndexOf};
 ghost use Rattle.pref_core.specs.Operations.{applied, IsPlan, Plans, PlansIn, AppliesIn};
 ghost use Rattle.pref_core.specs.Planned.{op_of, op_or_fault};
 
-use crate::call::{Call, LentCall, Op, Outcome, Planned};
+use crate::call::{Call, LentCall, Op, Planned};
 use crate::fault::CoreFault;
 use crate::index::Index;
 use crate::setup::Setup;
@@ -248,18 +247,10 @@ impl Store {
         ensures same { OnErr result (IsIndexOf self.now index.new) }
         ensures refused { OnErr result (adds op.now.outcome ≡ true) }
     {
-        match op.outcome {
-            Outcome::Added(first) => {
-                index.add_rows(alloc, first, op)?;
-                self.contents.move_rows(index, op);
-                Ok(())
-            }
-            Outcome::Done => {
-                self.contents.move_rows(index, op);
-                Ok(())
-            }
-            Outcome::NoSuchRow(_) => Ok(()),
-            Outcome::Full(_) => Ok(()),
+        if op.outcome.succeeds() {
+            index.follow(&self.contents, op)
+        } else {
+            Ok(())
         }
     }
 
