@@ -185,10 +185,7 @@ impl Store {
         ensures exact { Plans self.now client call result }
         ensures state { (state : State) → StandsFor self.now state → PlansIn state self.now client call result }
     {
-        match self.plan_by(None, client, &call.lent()) {
-            Ok(planned) => Ok(planned.op()),
-            Err(fault) => Err(fault),
-        }
+        self.op_by(None, client, &call)
     }
 
     /// The same by an index of this store: constant in the slots.
@@ -197,10 +194,7 @@ impl Store {
         ensures exact { Plans self.now client call result }
         ensures state { (state : State) → StandsFor self.now state → PlansIn state self.now client call result }
     {
-        match self.plan_by(Some(index), client, &call.lent()) {
-            Ok(planned) => Ok(planned.op()),
-            Err(fault) => Err(fault),
-        }
+        self.op_by(Some(index), client, &call)
     }
 
     /// The same of a lent call, whose plan borrows it: for [`Store::reindex`] and [`Store::perform`].

@@ -3,11 +3,12 @@
 ghost use Rattle.std.specs.Prelude.{IfSome, true, is_some, ◌≡◌};
 ghost use Rattle.pref_core.specs.Indexes.{IsIndexOf};
 ghost use Rattle.pref_core.specs.Kept.{IsKept, IsFreed, FindsFreed, FitAtOnce};
-ghost use Rattle.pref_core.specs.Operations.{outcome_at, placed, Plans};
+ghost use Rattle.pref_core.specs.Operations.{outcome_at, placed, Plans, PlansIn};
 ghost use Rattle.pref_core.specs.Planned.{op_or_fault};
-ghost use Rattle.pref_core.specs.State.{ended, is_change, is_formed, succeeds, granted};
+ghost use Rattle.pref_core.specs.Slots.{StandsFor};
+ghost use Rattle.pref_core.specs.State.{State, ended, is_change, is_formed, succeeds, granted};
 
-use crate::call::{LentCall, Outcome, Planned, QueryState, SlotList, is_listed};
+use crate::call::{Call, LentCall, Op, Outcome, Planned, QueryState, SlotList, is_listed};
 use crate::changes::LentChange;
 use crate::fault::CoreFault;
 use crate::index::Index;
@@ -18,7 +19,25 @@ use crate::store::links::home_of;
 use crate::store::reads::stands_at;
 
 impl Store {
-    /// What becomes of a call, whose rows are found by an index where there is one, and where its new rows go; or why it gets no number.
+    /// Plans a call, whose rows are found by an index where there is one.
+    pub(crate) fn op_by(
+        &self,
+        index: Option<&Index>,
+        client: u8,
+        call: &Call,
+    ) -> Result<Op, CoreFault>
+        requires { IfSome index (λ index. IsIndexOf self.now index.now) }
+        ensures exact { Plans self.now client call.now result }
+        ensures state { (state : State) → StandsFor self.now state → PlansIn state self.now client call.now result }
+    {
+        match self.plan_by(index, client, &call.lent()) {
+            Ok(planned) => Ok(planned.op()),
+            Err(fault) => Err(fault),
+        }
+    }
+
+    /// What becomes of a call, whose rows are found by an index where there is one, and where its new rows go; or why
+    /// it gets no number.
     #[inline(always)]
     pub(crate) fn plan_by<'a>(
         &self,
