@@ -1,9 +1,8 @@
 //! An open query: it holds the best levels of what the blocks that it has scanned showed at its begin.
 
-ghost use Rattle.std.specs.Prelude.{◌≡◌, ◌<◌, ◌++◌, List, Option, map};
+ghost use Rattle.std.specs.Prelude.{◌≡◌, ◌<◌, ◌++◌, map};
 ghost use Rattle.pref_sky.specs.Levels.{HaveDifferentIds, entry_of};
-ghost use Rattle.pref_core.specs.declared.store.version.Version.{Version};
-ghost use Rattle.pref_core.specs.Scans.{begin, next_block, NextIsNew, Reads, Scans, Answers};
+ghost use Rattle.pref_core.specs.Scans.{begin, NextIsNew, Reads, Scans, Adds, Answers};
 
 use crate::fault::CoreFault;
 use crate::setup::Setup;
@@ -109,13 +108,14 @@ impl Query {
         Ok(store.block(alloc, self.done, self.size, self.stamp)?)
     }
 
-    /// Adds the entries that the next block shows, as [`read`](Query::read) copied it out, and returns how many blocks are left.
+    /// Adds the entries that the next block shows, as [`read`](Query::read) copied it out, and returns how many blocks
+    /// are left.
     ///
     /// Refused `OutOfMemory`; the query is then as it was.
     pub fn add(&mut self, alloc: Global, shown: &[Entry]) -> Result<u32, CoreFault>
         requires some { 0 < self.old.left }
         requires new { HaveDifferentIds (map entry_of self.old.partial ++ shown.now) }
-        ensures { (slots : List (Option Version)) → next_block self.old slots ≡ shown.now → Scans self.old slots result self.new }
+        ensures { Adds self.old shown.now result self.new }
     {
         let cut = self.ask.cut();
         self.partial

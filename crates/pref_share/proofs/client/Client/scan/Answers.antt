@@ -2,7 +2,7 @@ use Rattle.pref_share.proofs.Common.{rules, ◌≡◌, suc, ◌++◌, List, map,
 use Rattle.pref_share.proofs.Common.{calls_at, contents_at, state_at, first_contents, Asking, Standing, IsInUse, Knows, HasMore, Stands}
 use Rattle.pref_sky.specs.declared.entry.Entry.{Entry}
 use Rattle.pref_sky.specs.Levels.{HaveDifferentIds, entry_of}
-use Rattle.pref_core.specs.Scans.{Scan, Reads}
+use Rattle.pref_core.specs.Scans.{Scan, Reads, IsAdded}
 use Rattle.pref_share.proofs.Histories.{left_stands}
 use Rattle.pref_share.proofs.Standings.{ahead, even, next_new, stands_seen, stands_scanned, sees, scanned}
 use Rattle.pref_share.proofs.client.Client.scan.Given.{Over}
@@ -54,21 +54,22 @@ add-requires-clause-new g c =
 pub invariant_of-self-in-Ok-add : goal.invariant_of-self-in-Ok-add
 invariant_of-self-in-Ok-add g c =
     let r = is_read g (goal.at.invariant_of-self-in-Ok-add g c).After-deref in
-    (subst (Knows (first_contents g.J.Naming.opening) g.J.Naming.book) (sym c.read-found.ensures.view) c.self.invariant.0, c.self.invariant.1, stands_scanned g.J.Naming.opening _ _ _ _ _ c.add.new.self r.stands r.further r.legal r.alone (c.in-Ok-add.ensures _ (sym r.is)).1)
+    let added = subst (λ (l : List Entry). IsAdded c.asking.inside.query l c.add.new.self) r.is c.in-Ok-add.ensures.1 in
+    (subst (Knows (first_contents g.J.Naming.opening) g.J.Naming.book) (sym c.read-found.ensures.view) c.self.invariant.0, c.self.invariant.1, stands_scanned g.J.Naming.opening _ _ _ _ _ c.add.new.self r.stands r.further r.legal r.alone added)
 
 pub returns-in-Ok-add-clause-scanned : goal.returns-in-Ok-add-clause-scanned
 returns-in-Ok-add-clause-scanned g c =
     let r = is_read g (goal.at.returns-in-Ok-add-clause-scanned g c).After-deref in
-    let told = c.in-Ok-add.ensures _ (sym r.is) in
+    let added = subst (λ (l : List Entry). IsAdded c.asking.inside.query l c.add.new.self) r.is c.in-Ok-add.ensures.1 in
     rw (← (c.self.view_is))
-    (scanned g.J.Naming.opening _ _ _ c.add.new.self c.in-Ok-add.left r.query refl told.0 told.1 r.further r.legal r.alone refl refl)
+    (scanned g.J.Naming.opening _ _ _ c.add.new.self c.in-Ok-add.left r.query refl c.in-Ok-add.ensures.0 added r.further r.legal r.alone refl refl)
 
 pub invariant_of-self-2 : goal.invariant_of-self-2
 invariant_of-self-2 g c =
     let o = g.J.Naming.opening in
     let s = c.self.inside in
     let r = is_read g (goal.at.invariant_of-self-2 g c).After-deref in
-    let kept : c.add.new.self ≡ c.asking.inside.query = (c.in-Err.ensures _ (sym r.is)).0 in (
+    let kept : c.add.new.self ≡ c.asking.inside.query = c.in-Err.ensures.0 in (
       subst (Knows (first_contents o) g.J.Naming.book) (sym c.read-found.ensures.view) c.self.invariant.0,
       c.self.invariant.1,
       subst (λ (x : Scan). Stands o s.number s.counter c.in-Some-found.now (Some (record { scan = x; begun = c.asking.inside.begun }))) (sym kept) (stands_seen o _ _ _ _ _ r.stands r.further r.legal),
@@ -78,7 +79,7 @@ pub returns-clause-refused : goal.returns-clause-refused
 returns-clause-refused g c =
     let r = is_read g (goal.at.returns-clause-refused g c).After-deref in
     let same = c.self.view_is in
-    let kept : c.add.new.self ≡ c.asking.inside.query = (c.in-Err.ensures _ (sym r.is)).0 in
+    let kept : c.add.new.self ≡ c.asking.inside.query = c.in-Err.ensures.0 in
     rw (← same)
     ((c.left.result, record { asking = _; is_open = r.query; left_is = c.left.ensures; some = search rules }), sees g.J.Naming.opening _ _ r.further r.legal refl refl ((λ i. Some (record { scan = kept i; begun = c.asking.inside.begun })) ∙ sym r.query))
 
