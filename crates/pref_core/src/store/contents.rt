@@ -20,6 +20,7 @@ ghost use Rattle.std.specs.Prelude.{ℕ, List, map, length, true, false, is_some
 ghost use Rattle.pref_core.specs.Indexes.{row_at, slot_of, Points, IsPlaceOf, IsIndexOf};
 ghost use Rattle.pref_core.specs.Kept.{IsKept, IsFreed, AreFresh, KeepSlots, row_in, frees_at, is_open, replaced, with_slots, zones_of};
 ghost use Rattle.pref_core.specs.Operations.{close, is_free, filled, is_next, refusal_at, slots_after, stepped, callers_after, used, grown};
+ghost use Rattle.pref_core.specs.Links.{home_of};
 ghost use Rattle.pref_core.specs.Places.{is_free_zone};
 ghost use Rattle.pref_core.specs.Planned.{op_of};
 ghost use Rattle.pref_core.specs.Slots.{stamps, begins, born, visible, opening_contents};
@@ -156,7 +157,8 @@ impl Contents {
     /// Whether the place of a row is no longer needed once that row, among others, has ended.
     pub(crate) fn frees(&self, place: u32) -> bool
         requires { self.now.stamp < 2 ^ 63 }
-        ensures { (ids : List ℕ) (id : ℕ) → among ids id ≡ true → row_at self.now.stamp id self.now.slots place ≡ true → result ≡ frees_at (begins self.now.callers) ids (self.now.stamp + 1) self.now.slots place }
+        ensures row { (ids : List ℕ) (id : ℕ) → among ids id ≡ true → row_at self.now.stamp id self.now.slots place ≡ true → result ≡ frees_at (begins self.now.callers) ids (self.now.stamp + 1) self.now.slots place }
+        ensures none { row_in self.now.slots (Some place) ≡ None → result ≡ false }
     {
         match self.slots.get(place as usize) {
             Some(Some(version)) => !is_seen(version, Some(self.stamp + 1), &self.callers),
@@ -186,6 +188,7 @@ impl Contents {
         ensures found { IfSome result (λ place. (is_open (zones_of self.now) freed.now place ≡ true) × (among chosen.now place ≡ false)) }
         ensures none { IfNone result ((place : ℕ) → is_open (zones_of self.now) freed.now place ≡ true → among chosen.now place ≡ true) }
     {
+        ensures home { let home = home_of (length self.now.slots) id in 0 < length self.now.slots → is_open (zones_of self.now) freed.now home ≡ true → among chosen.now home ≡ false → result ≡ Some home }
         if !self.slots.is_empty() {
             let home = home_of(&self.slots, id);
             if self.is_open(freed, home) && !chosen.has(home) {

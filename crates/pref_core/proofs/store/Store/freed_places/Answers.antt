@@ -21,11 +21,11 @@ loop-at-preserved c =
       | in-Some+in-Some-place_of+then-frees w ↦
           subst (FreesUpTo now (ended call) (ended_by (take (c.loop-at.at + 1) (changes_of call)))) (sym (w.freed-is ∙ w.push.ensures))
           (subst (λ l. FreesUpTo now (ended call) l (c.loop-at.freed ++ w.in-Some-place_of.place ∷ [])) (sym (more ∙ ap (λ l. done ++ l) (sym c.ended.ensures ∙ ap option_to_list w.in-Some.is)))
-          (frees_one now (ended call) done c.loop-at.freed w.in-Some.id w.in-Some-place_of.place true (ap (λ m. frees_at (begins now.callers) (ended call) m now.slots w.in-Some-place_of.place) next ∙ sym (w.frees.ensures (ended call) w.in-Some.id (named_at (changes_of call) c.loop-at.at (change_of c.change.result) w.in-Some.id c.change.ensures (sym c.ended.ensures ∙ ap option_to_list w.in-Some.is)) w.in-Some-place_of.ensures) ∙ w.if-frees.true) w.in-Some-place_of.ensures c.loop-at.invariant))
+          (frees_one now (ended call) done c.loop-at.freed w.in-Some.id w.in-Some-place_of.place true (ap (λ m. frees_at (begins now.callers) (ended call) m now.slots w.in-Some-place_of.place) next ∙ sym (w.frees.ensures.row (ended call) w.in-Some.id (named_at (changes_of call) c.loop-at.at (change_of c.change.result) w.in-Some.id c.change.ensures (sym c.ended.ensures ∙ ap option_to_list w.in-Some.is)) w.in-Some-place_of.ensures) ∙ w.if-frees.true) w.in-Some-place_of.ensures c.loop-at.invariant))
       | in-Some+in-Some-place_of+else-frees w ↦
           subst (FreesUpTo now (ended call) (ended_by (take (c.loop-at.at + 1) (changes_of call)))) (sym w.freed-is)
           (subst (λ l. FreesUpTo now (ended call) l c.loop-at.freed) (sym (more ∙ ap (λ l. done ++ l) (sym c.ended.ensures ∙ ap option_to_list w.in-Some.is)))
-          (frees_one now (ended call) done c.loop-at.freed w.in-Some.id w.in-Some-place_of.place false (ap (λ m. frees_at (begins now.callers) (ended call) m now.slots w.in-Some-place_of.place) next ∙ sym (w.frees.ensures (ended call) w.in-Some.id (named_at (changes_of call) c.loop-at.at (change_of c.change.result) w.in-Some.id c.change.ensures (sym c.ended.ensures ∙ ap option_to_list w.in-Some.is)) w.in-Some-place_of.ensures) ∙ w.if-frees.false) w.in-Some-place_of.ensures c.loop-at.invariant))
+          (frees_one now (ended call) done c.loop-at.freed w.in-Some.id w.in-Some-place_of.place false (ap (λ m. frees_at (begins now.callers) (ended call) m now.slots w.in-Some-place_of.place) next ∙ sym (w.frees.ensures.row (ended call) w.in-Some.id (named_at (changes_of call) c.loop-at.at (change_of c.change.result) w.in-Some.id c.change.ensures (sym c.ended.ensures ∙ ap option_to_list w.in-Some.is)) w.in-Some-place_of.ensures) ∙ w.if-frees.false) w.in-Some-place_of.ensures c.loop-at.invariant))
       | in_default w ↦
           subst (FreesUpTo now (ended call) (ended_by (take (c.loop-at.at + 1) (changes_of call)))) (sym w.freed-is)
           (subst (λ l. FreesUpTo now (ended call) l c.loop-at.freed) (sym (more ∙ ap (λ l. done ++ l) (sym c.ended.ensures ∙ ap option_to_list w.in_default.is) ∙ append-nil done)) c.loop-at.invariant)

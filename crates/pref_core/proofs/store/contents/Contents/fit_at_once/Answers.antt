@@ -40,7 +40,7 @@ loop-at-preserved c =
           record {
             fits = subst (FitsUpTo now call places (at + 1)) (sym more)
                 (fits_set now call places at used id row place c.requires.kept c.count-at-end.ensures.formed w.in-Set-Some.ensures slot stands
-                (sym (w.frees.ensures (ended call) id (named_at (changes_of call) at (Set id row) id w.in-Set-Some.ensures refl) stands) ∙ w.if-frees.true) c.loop-at.invariant.fits);
+                (sym (w.frees.ensures.row (ended call) id (named_at (changes_of call) at (Set id row) id w.in-Set-Some.ensures refl) stands) ∙ w.if-frees.true) c.loop-at.invariant.fits);
             used = omega arith;
           }
       | in-Remove-default w ↦
