@@ -62,8 +62,8 @@ pub(crate) enum Lent<'a> {
     Abandon,
 }
 
-/// A [`Call`] whose rows are lent: it takes 24 bytes, and a call 1,168, since it has room for a commit of eight rows. Contracts see the
-/// call.
+/// A [`Call`] whose rows are lent: it takes 24 bytes, and a call 1,168, since it has room for a commit of eight rows.
+/// Contracts see the call.
 #[derive(Drop)]
 pub struct LentCall<'a> {
     kind: Lent<'a>,
@@ -150,11 +150,12 @@ impl<'a> LentCall<'a> {
         }
     }
 
-    /// Why the call gets no number, by how many numbered calls its client has made and whether that client has a query open; `None`
-    /// where it gets one.
+    /// Why the call gets no number, by how many numbered calls its client has made and whether that client has a query
+    /// open; `None` where it gets one.
     ///
-    /// `Spent` where the client has made all that it may; else `QueryOpen` for a begin beside an open query, and `NoQuery`
-    /// for the end of a query where none is open. This is the one rule of refusal: a machine and each client of a board ask it.
+    /// `Spent` where the client has made all that it may; else `QueryOpen` for a begin beside an open query, and
+    /// `NoQuery` for the end of a query where none is open. This is the one rule of refusal: a machine and each client
+    /// of a board ask it.
     pub fn refusal(&self, calls: u64, query: QueryState) -> Option<CoreFault>
         ensures { result ≡ refusal_of (Some calls) (is_open query) self.now }
     {
@@ -259,7 +260,8 @@ impl<'a> LentCall<'a> {
         matches!(self.kind, Lent::Finish | Lent::Abandon)
     }
 
-    /// The stamp at the begin of its client's open query after the call, by the stamp then and that of the query before.
+    /// The stamp at the begin of its client's open query after the call, by the stamp then and that of the query
+    /// before.
     pub(crate) fn begun_after(&self, stamp: u64, begun: Option<u64>) -> Option<u64>
         ensures { result ≡ begin_after stamp self.now begun }
     {
@@ -313,7 +315,8 @@ pub enum Outcome {
     Done,
     /// The table has no row of this id. The call is counted, and no row has changed.
     NoSuchRow(u64),
-    /// There are fewer slots than the versions that would be needed, which are this many. The call is counted, and no row has changed.
+    /// There are fewer slots than the versions that would be needed, which are this many. The call is counted, and no
+    /// row has changed.
     Full(u64),
 }
 

@@ -1,5 +1,5 @@
-//! A multiversion table of rows that up to eight clients change and ask. Each open query sees a snapshot: the table as it was when that
-//! query began.
+//! A multiversion table of rows that up to eight clients change and ask. Each open query sees a snapshot: the table as
+//! it was when that query began.
 //!
 //! [`Store`] keeps versions of rows in slots that are used again; [`Query`] reads it block by block, and holds the
 //! best levels of what it has read; [`Machine`] puts both together, a step for each [`Event`]; [`replay`] runs a

@@ -27,12 +27,13 @@ use seats::{answer_at, is_client, no_queries, scan_at, set};
 use std::alloc::{AllocError, Global};
 use std::marker::Model;
 
-/// A table with its clients. It always represents a state of the sequential table, and each call is a step of that: what it returns, a refusal
-/// too, is that table's reply, and what it leaves is that table's next state. Where it is out of memory, nothing has changed.
+/// A table with its clients. It always represents a state of the sequential table, and each call is a step of that:
+/// what it returns, a refusal too, is that table's reply, and what it leaves is that table's next state. Where it is
+/// out of memory, nothing has changed.
 ///
-/// Clients have the numbers from 1 to those of the setup; a call for another is refused `NoSuchClient`. Inserts, updates, deletes, commits, begins,
-/// finishes and abandons that succeed are numbered, and so are some refusals of changes: each client makes 2^56 of these at most, and is refused
-/// `Spent` then.
+/// Clients have the numbers from 1 to those of the setup; a call for another is refused `NoSuchClient`. Inserts,
+/// updates, deletes, commits, begins, finishes and abandons that succeed are numbered, and so are some refusals of
+/// changes: each client makes 2^56 of these at most, and is refused `Spent` then.
 ///
 /// ```text
 /// let mut table = Machine::new(alloc, setup, &rows)?;
@@ -49,7 +50,8 @@ pub struct Machine {
     queries: Vec<Option<Query>>,
 }
 
-// By hand, so that letting one go is a call: a derived `drop` is written out, and proved, at each way out of each function that owns one.
+// By hand, so that letting one go is a call: a derived `drop` is written out, and proved, at each way out of each
+// function that owns one.
 impl Drop for Machine {
     fn drop(self) {
         let Machine {
@@ -104,7 +106,8 @@ impl Machine {
 
     /// Inserts a row, and returns its id. Ids are given from 1 on, without a gap.
     ///
-    /// Refused `Spent`; `Full`, which is numbered; or `OutOfMemory`. No row has changed then, and no id is used. Cost: constant in the slots.
+    /// Refused `Spent`; `Full`, which is numbered; or `OutOfMemory`. No row has changed then, and no id is used. Cost:
+    /// constant in the slots.
     ///
     /// ```text
     /// let id = table.insert(alloc, 2, &Row::of(&schema, &[55, 1])?)?;
@@ -119,7 +122,8 @@ impl Machine {
 
     /// Puts another row in place of the one of this id, in one commit.
     ///
-    /// Refused `Spent`; or `NoSuchRow` or `Full`, which are numbered. No row has changed then. Cost: constant in the slots.
+    /// Refused `Spent`; or `NoSuchRow` or `Full`, which are numbered. No row has changed then. Cost: constant in the
+    /// slots.
     ///
     /// ```text
     /// table.update(alloc, 2, id, &Row::of(&schema, &[45, 1])?)?;
@@ -145,7 +149,8 @@ impl Machine {
 
     /// Makes all changes of a commit at once, and returns how many they are and the id of the first row that they add.
     ///
-    /// Refused `Spent`; `NoSuchRow` or `Full`, which are numbered; or `OutOfMemory` where a row is added. No row has changed then. Cost: constant in the slots.
+    /// Refused `Spent`; `NoSuchRow` or `Full`, which are numbered; or `OutOfMemory` where a row is added. No row has
+    /// changed then. Cost: constant in the slots.
     ///
     /// ```text
     /// let commit = Commit::of(&[Change::Add(hotel), Change::Remove(3)])?;
@@ -164,9 +169,11 @@ impl Machine {
         Ok(done)
     }
 
-    /// Begins a query of the table as it is now, and returns how many blocks it has to scan. Takes no memory, and copies nothing.
+    /// Begins a query of the table as it is now, and returns how many blocks it has to scan. Takes no memory, and
+    /// copies nothing.
     ///
-    /// Refused `Spent` or `QueryOpen`. Nothing has changed then, and the ask is let go: [`Machine::step`] hands it back. Cost: constant in the slots.
+    /// Refused `Spent` or `QueryOpen`. Nothing has changed then, and the ask is let go: [`Machine::step`] hands it
+    /// back. Cost: constant in the slots.
     ///
     /// ```text
     /// let blocks = table.begin(1, read_ask(alloc, &schema, b"best low(price)")?)?;
@@ -184,8 +191,8 @@ impl Machine {
 
     /// Scans the next block for the client's query, and returns how many are left.
     ///
-    /// Refused `NoQuery` or `AllScanned`, or `OutOfMemory`. The query is then as it was. Cost: each slot of the block once, and then that of adding its
-    /// rows to a [`Partial`](pref_sky::Partial).
+    /// Refused `NoQuery` or `AllScanned`, or `OutOfMemory`. The query is then as it was. Cost: each slot of the block
+    /// once, and then that of adding its rows to a [`Partial`](pref_sky::Partial).
     ///
     /// ```text
     /// for _ in 0..blocks {
@@ -200,8 +207,8 @@ impl Machine {
 
     /// Ends the client's query with its answer, by the table at its begin.
     ///
-    /// Refused `Spent`, `NoQuery` or `NotDone`, or `OutOfMemory`. The query stays open then. Cost: the rows that the query holds, and the ended versions
-    /// that are kept for it.
+    /// Refused `Spent`, `NoQuery` or `NotDone`, or `OutOfMemory`. The query stays open then. Cost: the rows that the
+    /// query holds, and the ended versions that are kept for it.
     ///
     /// ```text
     /// for best in table.finish(alloc, 1)?.as_slice() {
@@ -261,7 +268,8 @@ impl Machine {
         }
     }
 
-    /// How many more versions there is room for, 0 to the slots of the setup. Refused `NoSuchClient` alone. Cost: constant in the slots.
+    /// How many more versions there is room for, 0 to the slots of the setup. Refused `NoSuchClient` alone. Cost:
+    /// constant in the slots.
     ///
     /// ```text
     /// let room = table.room(1)?;
@@ -277,9 +285,10 @@ impl Machine {
 
     /// One event: its reply, and the next state, are those of the sequential table. A refused event is handed back.
     ///
-    /// `OutOfMemory` comes for a scan, a finish and a change that adds a row alone, where the sequential table does not refuse it, and
-    /// nothing has changed then; every other refusal is the sequential table's, and so is what it leaves. Cost: a change, a get, a room and a begin are constant in the
-    /// slots, a scan reads its block, a finish and an abandon go over the ended versions that are kept for their query.
+    /// `OutOfMemory` comes for a scan, a finish and a change that adds a row alone, where the sequential table does not
+    /// refuse it, and nothing has changed then; every other refusal is the sequential table's, and so is what it
+    /// leaves. Cost: a change, a get, a room and a begin are constant in the slots, a scan reads its block, a finish
+    /// and an abandon go over the ended versions that are kept for their query.
     ///
     /// ```text
     /// match table.step(alloc, event) {
@@ -298,8 +307,8 @@ impl Machine {
 
     /// The reply to one event, which may be a refusal: what [`Machine::step`] returns, with no event handed back.
     ///
-    /// `Err` is out of memory. It comes for a scan, a finish and a change that adds a row alone, where the sequential table does not
-    /// refuse it, and nothing has changed then.
+    /// `Err` is out of memory. It comes for a scan, a finish and a change that adds a row alone, where the sequential
+    /// table does not refuse it, and nothing has changed then.
     ///
     /// ```text
     /// match table.reply(alloc, event)? {
@@ -411,7 +420,7 @@ fn told(outcome: Outcome) -> Result<(), CoreFault>
     }
 }
 
-/// The reply to an act by what it returns: a refusal is one, and want of memory is none.
+/// The reply to an act by what it returns: a refusal is one, and out of memory is none.
 #[tactic(auto, using(crate::proofs::Replies::replied_refused))]
 fn replied(told: Result<Reply, CoreFault>) -> Result<Reply, AllocError>
     ensures { result ≡ replied told }

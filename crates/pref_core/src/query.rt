@@ -28,7 +28,8 @@ pub struct Query {
     partial: Partial,
 }
 
-// By hand, so that letting one go is a call: a derived `drop` is written out, and proved, at each way out of each function that owns one.
+// By hand, so that letting one go is a call: a derived `drop` is written out, and proved, at each way out of each
+// function that owns one.
 impl Drop for Query {
     fn drop(self) {
         let Query {

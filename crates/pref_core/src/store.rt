@@ -48,7 +48,8 @@ use std::alloc::{AllocError, Global};
 use std::marker::Model;
 
 /// A table's slots, its counters, and what is kept of each client: how many calls it has made, and the stamp
-/// at its open query's begin. Contracts see them as they are, and not the lists beside them that spare a look at each slot.
+/// at its open query's begin. Contracts see them as they are, and not the lists beside them that spare a look at each
+/// slot.
 ///
 /// What a store represents, a state of the sequential table, is said by `StandsFor`. [`Store::plan`] finds what
 /// becomes of a call and [`Store::apply`] does it; [`ops_are_history`](crate::laws::ops_are_history) says that what was
@@ -57,7 +58,8 @@ pub struct Store {
     contents: Contents,
 }
 
-// By hand, so that letting one go is a call: a derived `drop` is written out, and proved, at each way out of each function that owns one.
+// By hand, so that letting one go is a call: a derived `drop` is written out, and proved, at each way out of each
+// function that owns one.
 impl Drop for Store {
     fn drop(self) {
         let Store { contents: _ } = self;
@@ -125,16 +127,16 @@ impl Store {
         caller::calls_of(&self.contents.callers, client)
     }
 
-    /// The row of this id in the table now. Goes along the chain of the rows whose home is that of the id, the slot `id - 1` modulo
-    /// the capacity, as far as the id: one or two slots, since ids are consecutive.
+    /// The row of this id in the table now. Goes along the chain of the rows whose home is that of the id, the slot
+    /// `id - 1` modulo the capacity, as far as the id: one or two slots, since ids are consecutive.
     pub fn get(&self, id: u64) -> Option<Row>
         ensures { (state : State) → StandsFor self.now state → result ≡ option_map (λ line. line.row) (line_of state.table id) }
     {
         self.contents.row_in(self.contents.place_of(None, id))
     }
 
-    /// The row of this id, found by an index of this store: looks at the id's home, and at the index where another row is there. `None` where
-    /// the table has no such row. Constant in the slots; takes no memory.
+    /// The row of this id, found by an index of this store: looks at the id's home, and at the index where another row
+    /// is there. `None` where the table has no such row. Constant in the slots; takes no memory.
     pub fn get_at(&self, index: &Index, id: u64) -> Option<Row>
         requires { IsIndexOf self.now index.now }
         ensures { (state : State) → StandsFor self.now state → result ≡ option_map (λ line. line.row) (line_of state.table id) }
@@ -150,8 +152,8 @@ impl Store {
         reads::index_rows(alloc, &self.contents.slots, self.contents.stamp)
     }
 
-    /// The entries that the slots of a block show at a stamp: those from `block` times `size` up to before the next block's
-    /// or the last slot. Reads these slots alone. `Err` is out of memory.
+    /// The entries that the slots of a block show at a stamp: those from `block` times `size` up to before the next
+    /// block's or the last slot. Reads these slots alone. `Err` is out of memory.
     pub fn block(
         &self,
         alloc: Global,
@@ -188,7 +190,7 @@ impl Store {
         self.op_by(None, client, &call)
     }
 
-    /// The same by an index of this store: constant in the slots.
+    /// Plans a call by an index of this store, as [`Store::plan`] does without one. Constant in the slots.
     pub fn plan_at(&self, index: &Index, client: u8, call: Call) -> Result<Op, CoreFault>
         requires { IsIndexOf self.now index.now }
         ensures exact { Plans self.now client call result }
@@ -197,7 +199,8 @@ impl Store {
         self.op_by(Some(index), client, &call)
     }
 
-    /// The same of a lent call, whose plan borrows it: for [`Store::reindex`] and [`Store::perform`].
+    /// Plans a lent call by an index of this store, as [`Store::plan`] does without one. The plan borrows the call: it
+    /// is for [`Store::reindex`] and [`Store::perform`].
     pub fn look_up<'a>(
         &self,
         index: &Index,
@@ -212,8 +215,9 @@ impl Store {
     }
 
     /// Does a planned call. One that is not legal here changes nothing: so an operation is done once, and in its
-    /// turn. Takes no memory. Sees that it is legal by a look at its slots, or plans again where that does not tell, and then
-    /// writes the slots that end or begin; a finish or an abandon goes over the ended versions that are kept for its query.
+    /// turn. Takes no memory. Sees that it is legal by a look at its slots, or plans again where that does not tell,
+    /// and then writes the slots that end or begin; a finish or an abandon goes over the ended versions that are kept
+    /// for its query.
     pub fn apply(&mut self, op: &Op)
         ensures exact { self.new ≡ applied self.old op.now }
         ensures state { (state : State) → StandsFor self.old state → AppliesIn state self.old op.now self.new }
@@ -225,8 +229,8 @@ impl Store {
         }
     }
 
-    /// Makes the index of this store that of the store after an op which was planned here, and leaves the store as it is: for whoever
-    /// does the op next, or in copies of the store alone. Constant in the slots.
+    /// Makes the index of this store that of the store after an op which was planned here, and leaves the store as it
+    /// is: for whoever does the op next, or in copies of the store alone. Constant in the slots.
     ///
     /// `Err` is out of memory, comes only for an op that adds a row, and leaves the index that of the store.
     pub fn reindex(
@@ -248,8 +252,8 @@ impl Store {
         }
     }
 
-    /// Does an op that was planned here. Takes no memory. Constant in the slots, but that a finish or an abandon goes over the ended
-    /// versions that are kept for its query.
+    /// Does an op that was planned here. Takes no memory. Constant in the slots, but that a finish or an abandon goes
+    /// over the ended versions that are kept for its query.
     pub fn perform(&mut self, op: &Planned<'_>)
         requires { IsPlan self.old op.now.client op.now.call.now (op_of op.now) }
         ensures exact { self.new ≡ applied self.old (op_of op.now) }

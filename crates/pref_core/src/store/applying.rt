@@ -45,7 +45,8 @@ impl Contents {
         op.outcome == outcome
     }
 
-    /// Whether the op's slots fit its call: one for each row that begins, each free once the old rows ended, and none twice.
+    /// Whether the op's slots fit its call: one for each row that begins, each free once the old rows ended, and none
+    /// twice.
     fn fits(&self, freed: &Result<SlotList, u64>, op: &Planned<'_>) -> bool
         requires freed { FindsFreed self.now (ended op.now.call.now) freed.now }
         requires next { is_next self.now (op_of op.now) ≡ true }

@@ -45,8 +45,8 @@ use pref_table::Row;
 use std::alloc::{AllocError, Global};
 use std::marker::Model;
 
-/// A table's slots, its counters, what is kept of each client, and two lists that go along with the slots at each step of
-/// a commit: which places are free, and where rows are found. Contracts see it without the lists.
+/// A table's slots, its counters, what is kept of each client, and two lists that go along with the slots at each step
+/// of a commit: which places are free, and where rows are found. Contracts see it without the lists.
 #[derive(Drop)]
 pub(crate) struct Contents {
     pub(crate) slots: Vec<Option<Version>>,
@@ -119,7 +119,8 @@ impl Contents {
         }
     }
 
-    /// The same by an index. Looks at the id's home, and looks it up in the index where another row is there.
+    /// The place of the row of this id, by an index. Looks at the id's home, and looks it up in the index where another
+    /// row is there.
     fn indexed_place(&self, index: &Index, id: u64) -> Option<u32>
         requires { IsPlaceOf self.now.stamp id self.now.slots (slot_of index.now id) }
         ensures { IsPlaceOf self.now.stamp id self.now.slots result }
@@ -182,13 +183,13 @@ impl Contents {
         self.places.is_free(place) || freed.has(place)
     }
 
-    /// A slot for a row of this id, beside those that were chosen: its home where that can be used, so that a row that had to
-    /// move comes home, else one that an ended row leaves free, else any.
+    /// A slot for a row of this id, beside those that were chosen: its home where that can be used, so that a row that
+    /// had to move comes home, else one that an ended row leaves free, else any.
     pub(crate) fn choose(&self, freed: &SlotList, chosen: &SlotList, id: u64) -> Option<u32>
         ensures found { IfSome result (λ place. (is_open (zones_of self.now) freed.now place ≡ true) × (among chosen.now place ≡ false)) }
         ensures none { IfNone result ((place : ℕ) → is_open (zones_of self.now) freed.now place ≡ true → among chosen.now place ≡ true) }
-    {
         ensures home { let home = home_of (length self.now.slots) id in 0 < length self.now.slots → is_open (zones_of self.now) freed.now home ≡ true → among chosen.now home ≡ false → result ≡ Some home }
+    {
         if !self.slots.is_empty() {
             let home = home_of(&self.slots, id);
             if self.is_open(freed, home) && !chosen.has(home) {
@@ -215,8 +216,8 @@ impl Contents {
         self.count(op.client, op.call);
     }
 
-    /// A commit: where it only sets rows, and these stay in their slots, they are replaced there; else all rows end that are to end,
-    /// and then others begin in the slots that are free.
+    /// A commit: where it only sets rows, and these stay in their slots, they are replaced there; else all rows end
+    /// that are to end, and then others begin in the slots that are free.
     fn commit(&mut self, op: &Planned<'_>)
         requires kept { IsKept self.old }
         requires next { is_next self.old (op_of op.now) ≡ true }
@@ -279,7 +280,8 @@ impl Contents {
         }
     }
 
-    /// A row is replaced where it stands, so nothing else changes: neither what its place is used for nor where it is found.
+    /// A row is replaced where it stands, so nothing else changes: neither what its place is used for nor where it is
+    /// found.
     #[inline(always)]
     fn replace(&mut self, id: u64, row: &Row, place: u32)
         requires { row_at self.old.stamp id self.old.slots place ≡ true }
@@ -346,7 +348,8 @@ impl Contents {
         self.places.put(place, Zone::Free, Zone::Live);
     }
 
-    /// The client has made one call more. Where it ends a query, each ended version that it kept goes to another open query that needs it, or its slot is free.
+    /// The client has made one call more. Where it ends a query, each ended version that it kept goes to another open
+    /// query that needs it, or its slot is free.
     fn count(&mut self, client: u8, call: &LentCall<'_>)
         requires { refusal_at self.old client call.now ≡ None }
         ensures { self.new ≡ record { slots = self.old.slots; stamp = self.old.stamp; next_id = self.old.next_id; callers = callers_after self.old.stamp self.old.callers client call.now } }

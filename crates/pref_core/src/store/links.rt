@@ -54,8 +54,8 @@ fn is_above(slots: &[Option<Version>], stamp: u64, place: u32, id: u64) -> bool
     }
 }
 
-/// A link of each slot, and behind them one of each home: to the place of that row of the home which has the next smaller
-/// id. Where there is none it is the capacity, which is no place. (this project)
+/// A link of each slot, and behind them one of each home: to the place of that row of the home which has the next
+/// smaller id. Where there is none it is the capacity, which is no place. (this project)
 #[derive(Drop)]
 pub(crate) struct Links {
     next: Vec<u32>,

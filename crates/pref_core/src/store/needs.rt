@@ -20,7 +20,8 @@ pub(crate) fn is_seen(version: &Version, death: Option<u64>, callers: &[Caller])
     false
 }
 
-/// What the slot of an ended version is used for: it is kept for the first caller whose open query needs it, if there is one.
+/// What the slot of an ended version is used for: it is kept for the first caller whose open query needs it, if there
+/// is one.
 fn kept_by(version: &Version, callers: &[Caller]) -> Zone
     requires { length callers.now ≤ 8 }
     ensures { result ≡ kept_from 0 callers.now (Some version.now) }

@@ -112,8 +112,8 @@ impl Places {
         })
     }
 
-    /// After the open query of a caller ended: each place that it kept goes to the next caller that needs it, or is free. Goes over these
-    /// places alone.
+    /// After the open query of a caller ended: each place that it kept goes to the next caller that needs it, or is
+    /// free. Goes over these places alone.
     pub(crate) fn sweep(&mut self, keeper: u8, slots: &[Option<Version>], callers: &[Caller])
         requires seats { (keeper < 8) × (length callers.now ≤ 8) }
         requires zones { AllZip (MayBecome keeper) self.old (map (zone_of callers.now) slots.now) }

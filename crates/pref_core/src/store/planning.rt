@@ -64,7 +64,8 @@ impl Store {
         })
     }
 
-    /// The slots of a call's new rows and its outcome: at once where that can be, as where no open query needs what ends.
+    /// The slots of a call's new rows and its outcome: at once where that can be, as where no open query needs what
+    /// ends.
     fn placed(&self, index: Option<&Index>, call: &LentCall<'_>) -> (SlotList, Outcome)
         requires { IfSome index (λ index. IsIndexOf self.now index.now) }
         ensures outcome { result.1 ≡ outcome_at self.now call.now }
@@ -169,8 +170,8 @@ impl Contents {
         }
     }
 
-    /// Whether these are slots for the rows that a call begins, by a look at them alone: an added row may have a free one, and a row
-    /// that is set the one where it stands, if no open query needs what is there.
+    /// Whether these are slots for the rows that a call begins, by a look at them alone: an added row may have a free
+    /// one, and a row that is set the one where it stands, if no open query needs what is there.
     pub(crate) fn fit_at_once(
         &self,
         index: Option<&Index>,
