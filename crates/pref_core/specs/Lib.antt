@@ -21,3 +21,4 @@ pub mod Kept
 pub mod Links
 pub mod Planned
 pub mod Lent
+pub mod Boxed

@@ -3,6 +3,8 @@
 //! Each client counts its calls of these kinds from 1 on, so that histories of many clients can be
 //! compared call by call. A call that is refused before its outcome is planned has no number.
 
+pub(crate) mod boxed;
+
 ghost use Rattle.std.specs.Prelude.{◌≡◌, ◌++◌, ◌∷◌, [], ◌<◌, ◌≤◌, ℕ, Some, IfSome, true, is_some, length, slice_get};
 ghost use Rattle.pref_core.specs.Table.{among};
 

@@ -20,6 +20,7 @@ mod run;
 mod setup;
 mod store;
 
+pub use call::boxed::{BoxedCall, BoxedOp};
 pub use call::{Call, LentCall, Op, Outcome, Planned, QueryState, SlotList};
 pub use changes::{Change, Commit};
 pub use event::{Act, BoxedCommit, Committed, Event, RankedList, Reply, StepFault};

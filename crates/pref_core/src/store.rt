@@ -223,9 +223,16 @@ impl Store {
         ensures state { (state : State) → StandsFor self.old state → AppliesIn state self.old op.now self.new }
     {
         let call = op.call.lent();
-        let planned = op.planned(&call);
-        if self.is_legal(&planned) {
-            self.contents.step(&planned);
+        self.apply_planned(&op.planned(&call));
+    }
+
+    /// The same of an op whose call is lent.
+    pub fn apply_planned(&mut self, op: &Planned<'_>)
+        ensures exact { self.new ≡ applied self.old (op_of op.now) }
+        ensures state { (state : State) → StandsFor self.old state → AppliesIn state self.old (op_of op.now) self.new }
+    {
+        if self.is_legal(op) {
+            self.contents.step(op);
         }
     }
 
