@@ -29,7 +29,6 @@ pub use Rattle.pref_sky.specs.Items.{AreAllItems, AreInPool, AreItems, HasGrown,
 pub use Rattle.pref_sky.specs.Layers.{StandsBehind, count_above, leveled, with_last, with_level}
 pub use Rattle.pref_sky.specs.Levels.{HaveDifferentIds, at_level, entry_of, entry_order, held_after, in_order_of_id, levels, put_by_id}
 pub use Rattle.pref_sky.specs.Made.{AreInOrderOfPart, AreLevelsMade, ArePartsMade, ArePut, Fits, IsPartMade, LeaveAlone, new_levels}
-pub use Rattle.pref_sky.specs.Meetings.{length_of_level}
 pub use Rattle.pref_sky.specs.Members.{Among}
 pub use Rattle.pref_sky.specs.Partials.{IsBehind, IsMade, held_at, ranked_from, replaced}
 pub use Rattle.pref_sky.specs.Parts.{ArePartedBy, all_at, depth, is_in, levels_of, mixed_onto, part_of, parts_by, ranked_parts, ranked_upto}

@@ -16,14 +16,12 @@ pub mod WindowSteps
 pub mod Splits
 pub mod Enough
 pub mod HeldLevels
-pub mod LevelsBehind
 pub mod LevelByLevel
 pub mod Halves
 pub mod StairLaws
 pub mod LineLaws
 pub mod ChainStairs
 pub mod ChainOrders
-pub mod Selections
 pub mod TwinsAmongBest
 pub mod LevelLaws
 pub mod Worked

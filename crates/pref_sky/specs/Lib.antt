@@ -6,7 +6,6 @@ pub mod Stairs
 pub mod StairLaws
 pub mod Windows
 pub mod Answers
-pub mod Meetings
 pub mod Signatures
 pub mod Items
 pub mod Layers

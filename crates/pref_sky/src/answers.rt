@@ -1,12 +1,12 @@
 //! The answer of an ask, from a partial result.
 
-ghost use Rattle.std.specs.Prelude.{◌≡◌, ◌<◌, ◌≤◌, ◌++◌, [], Bool, take, List, length, map, nat_lt, ℕ, count_by, filter, IfOk, OnOk, All};
+ghost use Rattle.std.specs.Prelude.{◌≡◌, ◌<◌, [], Bool, List, map, nat_lt, count_by, filter, IfOk, All};
+ghost use Rattle.std.specs.List.Sorted.{IsNonDecreasingBy};
 ghost use Rattle.pref_term.specs.AskOrder.{order_of};
 ghost use Rattle.pref_term.specs.Better.{in_same_group};
 ghost use Rattle.pref_term.specs.Question.{cut_of};
 ghost use Rattle.pref_sky.specs.Answers.{answer_of, at_least, count_before};
 ghost use Rattle.pref_sky.specs.Levels.{entry_order, levels};
-ghost use Rattle.pref_sky.specs.Meetings.{length_of_level};
 ghost use Rattle.pref_sky.specs.declared.entry.Entry.{Entry};
 ghost use Rattle.pref_sky.specs.declared.entry.Ranked.{Ranked};
 
@@ -28,54 +28,26 @@ fn has_fewer(columns: &[usize], k: usize, before: &[Ranked], entry: &Ranked) -> 
         < k
 }
 
-/// Puts behind others, for each entry of a level, whether it has fewer than `k` of its group before it.
-fn push_fewer(
-    chosen: &mut Vec<bool>,
-    columns: &[usize],
-    k: usize,
-    before: &[Ranked],
-    level: &[Ranked],
-) -> Result<(), AllocError>
-    requires { All (λ column. column < 16) columns.now }
-    ensures { OnOk result (chosen.new.items ≡ chosen.old.items
-        ++ map (λ r. nat_lt (count_by (λ s. in_same_group columns.now s.row r.row) before.now) k) level.now) }
-{
-    for entry in level {
-        chosen.push(has_fewer(columns, k, before, entry))?;
-    }
-    Ok(())
-}
-
-/// How many entries from the front on are of a level.
-fn length_of_level(ranked: &[Ranked], level: u32) -> usize
-    ensures counted { result ≡ length_of_level level ranked.now }
-    ensures within { result ≤ length ranked.now }
-{
-    let mut count = 0;
-    'front: while count < ranked.len() && ranked[count].level == level {
-        count += 1;
-    }
-    count
-}
-
-/// Of each entry, whether it is on the first levels that hold `k` entries of its group together, from the levels 1 to `k`.
+/// Of each entry, which are in order of level, whether fewer than `k` of its group are on the levels before its own.
 fn choose(
     alloc: Global,
     columns: &[usize],
-    k: u32,
+    k: usize,
     ranked: &[Ranked],
 ) -> Result<Vec<bool>, AllocError>
     requires { All (λ column. column < 16) columns.now }
-    ensures { IfOk result (λ chosen. (over : Entry → Entry → Bool) (entries : List Entry) → ranked.now ≡ levels over entries k
+    ensures { IfOk result (λ chosen. IsNonDecreasingBy (λ r. r.level) ranked.now
         → chosen.items ≡ map (λ r. nat_lt (count_before (in_same_group columns.now) ranked.now r) k) ranked.now) }
 {
     let mut chosen = Vec::with_capacity(alloc, ranked.len())?;
-    let mut place = 0;
-    for above in 0..k {
-        let (before, tail) = ranked.split_at(place);
-        let count = length_of_level(tail, above + 1);
-        push_fewer(&mut chosen, columns, k as usize, before, &tail[..count])?;
-        place += count;
+    let mut level = 0;
+    let mut above = 0;
+    for entry in ranked {
+        if level != entry.level {
+            level = entry.level;
+            above = ranked.partition_point(|other| other.level < entry.level);
+        }
+        chosen.push(has_fewer(columns, k, &ranked[..above], entry))?;
     }
     Ok(chosen)
 }
@@ -94,15 +66,15 @@ fn keep(ranked: &mut Vec<Ranked>, chosen: &[bool])
     ranked.truncate(count);
 }
 
-/// In each group the first levels that hold `k` entries together, from the levels 1 to `k`.
+/// In each group the first levels that hold `k` entries together, from entries in order of level.
 fn at_least(
     alloc: Global,
     columns: &[usize],
-    k: u32,
+    k: usize,
     mut ranked: Vec<Ranked>,
 ) -> Result<Vec<Ranked>, AllocError>
     requires { All (λ column. column < 16) columns.now }
-    ensures { IfOk result (λ kept. (over : Entry → Entry → Bool) (entries : List Entry) → ranked.items ≡ levels over entries k
+    ensures { IfOk result (λ kept. IsNonDecreasingBy (λ r. r.level) ranked.items
         → kept.items ≡ at_least (in_same_group columns.now) k ranked.items) }
 {
     let chosen = choose(alloc, columns, k, &ranked)?;
@@ -110,10 +82,9 @@ fn at_least(
     Ok(ranked)
 }
 
-/// Keeps the first levels that hold so many entries together; all where they hold fewer. Takes no memory.
+/// Keeps the first levels that hold so many entries together, of entries in order of level; all where they hold fewer. Takes no memory.
 fn keep_first_levels(ranked: &mut Vec<Ranked>, least: usize)
-    ensures { (over : Entry → Entry → Bool) (entries : List Entry) (cut : ℕ) → ranked.old.items ≡ levels over entries cut
-        → ranked.new.items ≡ at_least (in_same_group []) least ranked.old.items }
+    ensures { IsNonDecreasingBy (λ r. r.level) ranked.old.items → ranked.new.items ≡ at_least (in_same_group []) least ranked.old.items }
 {
     if least == 0 {
         ranked.clear();
@@ -126,21 +97,12 @@ fn keep_first_levels(ranked: &mut Vec<Ranked>, least: usize)
     }
 }
 
-/// The first levels that hold so many entries together.
-fn first_ranked(alloc: Global, partial: &Partial, least: usize) -> Result<Vec<Ranked>, AllocError>
-    ensures { (over : Entry → Entry → Bool) (entries : List Entry) (cut : ℕ) → partial.now ≡ levels over entries cut
-        → IfOk result (λ ranked. ranked.items ≡ at_least (in_same_group []) least partial.now) }
-{
-    let mut ranked = partial.ranked(alloc)?;
-    keep_first_levels(&mut ranked, least);
-    Ok(ranked)
-}
-
 /// The answer of an ask, in order of level, then id, from a partial result at [`Ask::cut`]: where this
 /// holds the levels up to the cut of some entries, it is the ask's selection from all of them.
 ///
 /// Cost: that of [`Partial::ranked`]. For "at least" in groups each held entry is also compared by its group's columns with those on the
-/// levels before, until `k` of its group are found. Memory: the list alone, and for "at least" in groups a byte for each held entry.
+/// levels before, until `k` of its group are found; where these end a search by halves finds once for each level. Memory: the list alone,
+/// and for "at least" in groups a byte for each held entry.
 /// `Err` is out of memory.
 pub fn answer(alloc: Global, ask: &Ask, partial: &Partial) -> Result<Vec<Ranked>, AllocError>
     ensures { (entries : List Entry) → partial.now ≡ levels (entry_order (order_of ask.now)) entries (cut_of ask.now.mode)
@@ -148,7 +110,11 @@ pub fn answer(alloc: Global, ask: &Ask, partial: &Partial) -> Result<Vec<Ranked>
 {
     match ask.mode() {
         Mode::Best | Mode::TopLevel(_) => partial.ranked(alloc),
-        Mode::AtLeast(k) if ask.group().is_empty() => first_ranked(alloc, partial, k as usize),
-        Mode::AtLeast(k) => at_least(alloc, ask.group(), k, partial.ranked(alloc)?),
+        Mode::AtLeast(k) if ask.group().is_empty() => {
+            let mut ranked = partial.ranked(alloc)?;
+            keep_first_levels(&mut ranked, k as usize);
+            Ok(ranked)
+        }
+        Mode::AtLeast(k) => at_least(alloc, ask.group(), k as usize, partial.ranked(alloc)?),
     }
 }

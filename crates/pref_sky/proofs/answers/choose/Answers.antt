@@ -1,40 +1,45 @@
-use Rattle.pref_sky.proofs.Common.{refl, ◌≡◌, ◌+◌, ◌≤◌, ◌++◌, Bool, List, length, take, drop, sym, ◌∙◌, ap, subst, arith, add-one, suc, map, ltb, length-append, count_by, take-append-drop}
-use Rattle.pref_sky.proofs.Common.{length-take-le, in_same_group, Ranked, length_of_level}
-use Rattle.pref_sky.proofs.Selections.{Selecting, selecting_begins, selecting_more}
+use Rattle.pref_sky.proofs.Common.{rules, ◌≡◌, ◌≤◌, length, length-take-le, IsNonDecreasingBy, ◌++◌, ◌∷◌, [], Bool, ℕ, get_or, map, take, sym, ◌∙◌, ap, subst, arith, ltb, le-ltb, false, true, map-append, in_same_group, Ranked, IsPartitionPoint}
+use Rattle.pref_sky.proofs.Common.{IsPartitionPoint-from_clause, count_before}
+use Rattle.std.proofs.lemmas.List.Sorted.{IsPartitionedBy-ltb}
+use Rattle.pref_sky.proofs.FirstRanked.{count_in_front}
+use Rattle.pref_sky.proofs.Loops.{front_more}
+use Rattle.pref_sky.proofs.answers.choose.Goals.{then-level-entry, else-level-entry}
 use Rattle.pref_sky.proofs.answers.choose.Goals as goal
 
-pub loop-above-init : goal.loop-above-init
-loop-above-init c =
-    let same = in_same_group c.args.columns.now in
-    record {
-      within = omega arith;
-      selecting = λ over entries is.
-          subst (Selecting over entries same c.args.k 0 c.args.ranked.now 0) (sym c.in_ok-chosen.ensures.items) (selecting_begins over entries same c.args.k c.args.ranked.now is);
-    }
+pub loop-entry-init : goal.loop-entry-init
+loop-entry-init c = (omega arith, λ sorted. (((λ k d low l. absurd (omega (arith, l))), (λ k d low l. le-ltb (get_or c.args.ranked.now k d).level 0 (omega arith))), c.in_ok-chosen.ensures.items))
 
-pub loop-above-preserved : goal.loop-above-preserved
-loop-above-preserved c =
-    let same = in_same_group c.args.columns.now in
+pub loop-entry-preserved : goal.loop-entry-preserved
+loop-entry-preserved c =
+    let x : Ranked = c.entry-item.result in
     let ranked = c.args.ranked.now in
-    let place = c.loop-above.place in
-    let n = c.loop-above.above in
-    let count = c.length_of_level-count.result in
-    let tail : c.split_at.result.1.now ≡ drop place ranked = c.split_at.ensures.back in
-    let front : c.split_at.result.0.now ≡ take place ranked = c.split_at.ensures.front in
-    let long = ap length tail in
-    let inside : count ≤ length (drop place ranked) = omega (arith, c.length_of_level-count.ensures.within, long) in
-    let whole = ap length (take-append-drop place ranked) in
-    let parts = length-append (take place ranked) (drop place ranked) in
-    let taken : length (take place ranked) ≡ place = length-take-le place ranked c.loop-above.invariant.within in
-    let counted : count ≡ length_of_level (n + 1) c.split_at.result.1.now = c.length_of_level-count.ensures.counted in
-    let few_after : List Ranked → Ranked → Bool = λ before r. ltb (count_by (λ (s : Ranked). same s.row r.row) before) c.args.k in
-    let pushed : c.push_fewer.new.chosen.items ≡ c.loop-above.chosen.items ++ map (few_after c.split_at.result.0.now) (take count c.split_at.result.1.now) = c.in_ok-push_fewer.ensures {u = tt} in
-    record {
-      within = omega (arith, inside, whole, parts, taken);
-      selecting = λ over entries is.
-          subst (λ m. Selecting over entries same c.args.k m ranked (place + count) c.push_fewer.new.chosen.items) (sym (add-one n))
-          (selecting_more over entries same c.args.k n ranked place count c.loop-above.chosen.items c.push_fewer.new.chosen.items (take count (drop place ranked)) c.loop-above-test.true
-          (counted ∙ (ap (λ m. length_of_level m c.split_at.result.1.now) (add-one n) ∙ ap (length_of_level (suc n)) tail)) refl inside c.loop-above.invariant.within
-          (pushed ∙ (ap (λ l. c.loop-above.chosen.items ++ map (few_after l) (take count c.split_at.result.1.now)) front ∙ ap (λ l. c.loop-above.chosen.items ++ map (few_after (take place ranked)) (take count l)) tail))
-          (c.loop-above.invariant.selecting over entries is));
-    }
+    let i = c.loop-entry.entry-index in
+    let few : Ranked → Bool = λ r. ltb (count_before (in_same_group c.args.columns.now) ranked r) c.args.k in
+    let now = c.if-level-entry in
+    let Ends : ℕ → ℕ → Type 0 = λ level n. IsPartitionPoint (λ (r : Ranked). ltb r.level level ≡ true) (λ (r : Ranked). ltb r.level level ≡ false) ranked n in
+    let within : now.above ≤ length ranked = elim now.branch [ then-level-entry w ↦ omega (arith, w.above-is, w.partition_point-above.ensures.bound) | else-level-entry w ↦ omega (arith, w.above-is, c.loop-entry.invariant.0) ] in
+    let level : now.level ≡ x.level = elim now.branch [ then-level-entry w ↦ w.level-is | else-level-entry w ↦ w.level-is ∙ w.if-level-entry.false ] in
+    let ends : IsNonDecreasingBy (λ (r : Ranked). r.level) ranked → Ends x.level now.above =
+    λ sorted.
+    elim now.branch [
+      | then-level-entry w ↦
+          subst (Ends x.level) (sym w.above-is)
+          (IsPartitionPoint-from_clause (λ (r : Ranked). ltb r.level x.level) ranked w.partition_point-above.result w.partition_point-above.ensures.partitioned (IsPartitionedBy-ltb (λ (r : Ranked). r.level) ranked x.level sorted) (λ a r q k. search rules))
+      | else-level-entry w ↦ subst (Ends x.level) (sym w.above-is) (subst (λ n. Ends n c.loop-entry.above) w.if-level-entry.false ((c.loop-entry.invariant.1 sorted).0))
+    ] in (
+      within,
+      λ sorted.
+          let here : c.has_fewer.result ≡ few x = c.has_fewer.ensures ∙ ap (λ n. ltb n c.args.k) (sym (count_in_front (in_same_group c.args.columns.now) ranked x now.above (ends sorted))) in (
+            subst (λ n. Ends n now.above) (sym level) (ends sorted),
+            c.in_ok-push.ensures.items
+                ∙ (ap (λ l. l ++ c.has_fewer.result ∷ []) ((c.loop-entry.invariant.1 sorted).1)
+                ∙ (ap (λ b. map few (take i ranked) ++ b ∷ []) here ∙ (sym (map-append few (take i ranked) (x ∷ [])) ∙ ap (map few) (sym (front_more ranked i x c.loop-entry-test.true c.entry-item.is))))),
+          ),
+    )
+
+pub slice_bounds-has_fewer-end : goal.slice_bounds-has_fewer-end
+slice_bounds-has_fewer-end c =
+    let above = c.if-level-entry.above in
+    let ranked = c.args.ranked.now in
+    let within : above ≤ length ranked = elim c.if-level-entry.branch [ then-level-entry w ↦ omega (arith, w.above-is, w.partition_point-above.ensures.bound) | else-level-entry w ↦ omega (arith, w.above-is, c.loop-entry.invariant.0) ] in
+    sym (length-take-le above ranked within)

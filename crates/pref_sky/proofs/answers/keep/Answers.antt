@@ -1,7 +1,6 @@
-use Rattle.pref_sky.proofs.Common.{◌≡◌, ◌≤◌, ◌<◌, ◌+◌, ◌++◌, [], ◌∷◌, Bool, false, map, length, take, drop, filter, get_or, set, sym, ◌∙◌, ap, arith, drop-set-lt, length-set, get_or-map}
-use Rattle.pref_sky.proofs.Common.{take_more_set, Ranked}
-use Rattle.std.proofs.lemmas.Grind.{drop_more_same}
-use Rattle.pref_sky.proofs.Staying.{leaves, same_there, stays}
+use Rattle.pref_sky.proofs.Common.{◌≡◌, ◌≤◌, ◌<◌, Bool, false, map, length, get_or, sym, ◌∙◌, ap, arith, length-set, get_or-map, get_or_default, [], Ranked}
+use Rattle.std.proofs.lemmas.List.Filters.{FiltersInPlace-more_no, FiltersInPlace-more_set}
+use Rattle.pref_sky.proofs.Staying.{same_there}
 use Rattle.pref_sky.proofs.answers.keep.Goals.{then-chosen-place, else-chosen-place}
 use Rattle.pref_sky.proofs.answers.keep.Goals as goal
 
@@ -13,35 +12,24 @@ loop-place-preserved c =
     let place = c.loop-place.place in
     let count = c.loop-place.count in
     let inv = c.loop-place.invariant in
-    let none : Ranked = record { level = 0; id = 0; row = [] } in
     let few : c.min-place-end.result ≤ c.len.result = grind arith in
-    let inside : place < length xs = omega (arith, c.loop-place-test.true, few, c.len.ensures, c.args.ranked.now.ok.0) in
-    let told : (test : Ranked → Bool) (d : Ranked) → flags ≡ map test xs → get_or flags place false ≡ test (get_or xs place d) =
-    λ test d by. ap (λ l. get_or l place false) by ∙ get_or-map test xs place d false inside in
+    let inside : place < length ys = omega (arith, c.loop-place-test.true, few, c.len.ensures, c.args.ranked.now.ok.0, inv.long) in
+    let told : (test : Ranked → Bool) (x : Ranked) → flags ≡ map test xs → x ≡ get_or ys place x → test x ≡ get_or flags place false =
+    λ test x by at.
+    ap test (at ∙ same_there xs ys place x (inv.moved test by).rest) ∙ sym (ap (λ l. get_or l place false) by ∙ get_or-map test xs place x false (omega (arith, inside, inv.long))) in
     elim c.if-chosen-place.branch [
       | then-chosen-place w ↦
           let x : Ranked = w.index.result.now in
-          let before : count < length ys = omega (arith, inside, inv.long, inv.behind) in
-          let at : x ≡ get_or xs place x = w.index.ensures ∙ same_there xs ys place x inv.to_come in
-          let now : c.if-chosen-place.ranked.items ≡ set ys count x = ap (λ v. v.items) w.ranked-is in
-          record {
-            behind = omega (arith, w.count-is, inv.behind);
-            long = ap length now ∙ (length-set ys count x ∙ inv.long);
-            front = λ test by.
-                ap (take c.if-chosen-place.count) now
-                ∙ (ap (λ n. take n (set ys count x)) w.count-is
-                ∙ (take_more_set ys count x before
-                ∙ (ap (λ l. l ++ x ∷ []) (inv.front test by) ∙ (ap (λ y. filter test (take place xs) ++ y ∷ []) at ∙ sym (stays test xs place x inside (sym (told test x by) ∙ w.if-chosen-place.true))))));
-            to_come = ap (drop (place + 1)) now ∙ (drop-set-lt (place + 1) ys count x (omega (arith, inv.behind)) ∙ drop_more_same ys xs place inv.to_come);
-          }
+          rw (w.ranked-is, w.count-is) (record {
+            behind = omega (arith, inv.behind);
+            long = length-set ys count x ∙ inv.long;
+            moved = λ test by. FiltersInPlace-more_set (inv.moved test by) inside (told test x by w.index.ensures ∙ w.if-chosen-place.true) w.index.ensures;
+          })
       | else-chosen-place w ↦
-          let now : c.if-chosen-place.ranked.items ≡ ys = ap (λ v. v.items) w.ranked-is in
-          record {
-            behind = omega (arith, w.count-is, inv.behind);
-            long = ap length now ∙ inv.long;
-            front = λ test by.
-                ap (take c.if-chosen-place.count) now
-                ∙ (ap (λ n. take n ys) w.count-is ∙ (inv.front test by ∙ sym (leaves test xs place none inside (sym (told test none by) ∙ w.if-chosen-place.false))));
-            to_come = ap (drop (place + 1)) now ∙ drop_more_same ys xs place inv.to_come;
-          }
+          let x : Ranked = get_or ys place (record { level = 0; id = 0; row = [] }) in
+          rw (w.ranked-is, w.count-is) (record {
+            behind = omega (arith, inv.behind);
+            long = inv.long;
+            moved = λ test by. FiltersInPlace-more_no (inv.moved test by) inside (told test x by (get_or_default ys place _ x inside) ∙ w.if-chosen-place.false) (get_or_default ys place _ x inside);
+          })
     ]
