@@ -16,8 +16,8 @@ use std::alloc::{AllocError, Global};
 /// what overflows is the next pass's input. At the end of a pass the entries that were compared with
 /// all that overflowed are returned as best and leave the window. The list doesn't depend on `window`.
 ///
-/// Cost: for each entry of a pass one comparison with each entry of the window at most; one pass where
-/// nothing overflows, and no more passes than entries. Memory: some 60 bytes for each entry, and the answer.
+/// Cost: for each entry of a pass one comparison with each entry of the window at most; one pass where nothing
+/// overflows, none where there is no entry, and no more passes than entries. Memory: some 60 bytes for each entry, and the answer.
 /// `Err` is out of memory.
 pub fn best_rows_passes<D: Dominance>(
     alloc: Global,
@@ -29,6 +29,7 @@ pub fn best_rows_passes<D: Dominance>(
     requires ids { HaveDifferentIds entries.now }
     ensures best { IfOk result (λ found. found.0.items ≡ in_order_of_id (best (entry_order (D.order dominance.now)) entries.now)) }
     ensures passes { IfOk result (λ found. found.1 ≤ length entries.now) }
+    ensures some_pass { IfOk result (λ found. 0 < length entries.now → 0 < found.1) }
 {
     let cuts = cuts_of(alloc, dominance, entries)?;
     let items = items_of(alloc, &cuts, entries)?;

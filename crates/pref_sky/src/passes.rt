@@ -184,6 +184,7 @@ pub(crate) fn best_and_rest<D: Dominance>(
     requires { 0 < window }
     ensures parted { IfOk result (λ found. Parted (item_order (D.order dominance.now) pool.now) held.now items.now found.best.items found.rest.items) }
     ensures passes { IfOk result (λ found. found.passes ≤ length items.now) }
+    ensures some_pass { IfOk result (λ found. 0 < length items.now → 0 < found.passes) }
 {
     let mut best = Vec::new(alloc);
     let mut pass = Pass {

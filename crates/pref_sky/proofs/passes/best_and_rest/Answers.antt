@@ -36,6 +36,7 @@ each_pass-init g c =
       empty = λ h. absurd (omega (arith, h, input, some));
       settled = omega (arith, ap length c.new-3.ensures.items);
       count = omega (arith, best);
+      begins = λ _. input;
       unsettled = omega (arith, best, input, length-append held items);
     }
 
@@ -72,6 +73,7 @@ each_pass-preserved g c =
       empty = λ h. ap length s.early ∙ passed.fresh (ap length (sym s.next) ∙ h);
       settled = omega (arith, rest);
       count = omega (arith, more, found, length-append best end.early.items, inv.count);
+      begins = λ h. absurd (omega (arith, h));
       unsettled = omega (arith, pass_long over held room all c.settle.new.best.items (length end.rest.items) c.in_ok-input-2.input.items now.early.items now.late.items now.overflow.items now.rest.items next, rest);
     }
 
