@@ -1,6 +1,6 @@
 -- What an addition makes of parts: each holds the levels of what it held and of what came to it.
 use Rattle.pref_sky.proofs.Common.{◌≡◌, ℕ, zero, suc, ◌≤◌, ◌+◌, ◌-◌, Bool, true, cond, not, inl, inr, ◌⊎◌, List, [], ◌∷◌, ◌++◌, length, take, drop, filter, map, eqb, refl, sym, ◌∙◌, ap, subst, arith}
-use Rattle.pref_sky.proofs.Common.{append-nil, Vec, Global, All, cases_Bool, cond-true, cond-false, length-map, map-append, take-map, drop-map, All-append, All-drop, All-take, filter-append}
+use Rattle.pref_sky.proofs.Common.{append-nil, Vec, Global, All, cases_Bool, cases_eq, cond-true, cond-false, length-map, map-append, take-map, drop-map, All-append, All-drop, All-take, filter-append}
 use Rattle.pref_sky.proofs.Common.{sum_by-append, IsStrictOrder, Arrival, Entry, Made, KeepsUpper, arrived, coming_to, best, is_beaten, rest, AreAllItems, AreInPool, AreItems, entries_at, levels_at}
 use Rattle.pref_sky.proofs.Common.{levels_in, parts_at, Item, HaveDifferentIds, entry_of, levels, ArePartsMade, ArePut, IsPartMade, LeaveAlone, new_levels, IsBehind, IsMade, held_at, replaced}
 use Rattle.pref_sky.proofs.Common.{ArePartedBy, depth, is_in, levels_of, ranked_parts, ranked_upto, Among}
@@ -8,7 +8,7 @@ use Rattle.pref_sky.proofs.Halves.{beaten_by_rest}
 use Rattle.pref_sky.proofs.LevelLaws.{first_differ}
 use Rattle.pref_sky.proofs.Members.{all_among, among_all, any_from, any_gives, from_filter}
 use Rattle.pref_sky.proofs.Merges.{different_filter}
-use Rattle.pref_sky.proofs.PartItems.{Part, in_pool_if, in_pool_of, levels_of_at, same_or_not}
+use Rattle.pref_sky.proofs.PartItems.{Part, in_pool_if, in_pool_of, levels_of_at}
 use Rattle.pref_sky.proofs.PartLaws.{IsWithin, NoMore, depth_within, hold_apart, hold_together, level_in_part, within_depth}
 use Rattle.pref_sky.proofs.Ranks.{held_there, held_upto, levels_upto_is, within_if_same}
 use Rattle.pref_sky.proofs.Removals.{comes_after}
@@ -34,7 +34,7 @@ nothing_comes over cut held = record { counts = λ p. omega arith; merged = λ b
 made_or_not : (part : ℕ) (all : List Made) → ((made : Made) × Among made all × (made.part ≡ part)) ⊎ LeaveAlone all part
 made_or_not part [] = inr (λ k d inside. absurd (omega (arith, inside)))
 made_or_not part (made ∷ all) =
-    elim (same_or_not made.part part) [
+    elim (cases_eq made.part part) [
       | inl here ↦ inl (made, inl refl, here)
       | inr other ↦
           elim (made_or_not part all) [
@@ -103,7 +103,7 @@ module _ (over : Entry → Entry → Bool) (cut : ℕ) (rule : Entry → ℕ) (p
             let made = w.0 in
             let one = (is_made made w.1).levels in
             subst (λ p. length (levels_of p (parts_at pool new)) ≤ most) w.2
-            (omega (arith, counted new made.part, ap length (is_put made w.1), taken_long made.first made.end made.levels.items (levels_in made.part parts) one.fits.inside one.fits.first one.fits.new, one.no_deeper, before made.part, cut_fits))
+            (omega (arith, counted new made.part, ap length (is_put made w.1), taken_long made.first made.end made.levels.items (levels_in made.part parts) one.fits.inside one.fits.first (omega (arith, one.fits.long)), one.no_deeper, before made.part, cut_fits))
         | inr alone ↦ omega (arith, counted new part, ap length (put.others part alone), before part)
       ])
 

@@ -1,6 +1,6 @@
 -- Levels of items that are made anew: what they stand for are the levels that an addition makes.
 use Rattle.pref_sky.proofs.Common.{◌≡◌, ℕ, suc, ◌≤◌, ◌<◌, ◌+◌, ◌-◌, Bool, ◌⊎◌, inl, inr, List, [], ◌∷◌, ◌++◌, Vec, length, map, take, drop, get_or, refl, sym, ◌∙◌, ap, subst, arith, length-append}
-use Rattle.pref_sky.proofs.Common.{length-drop, Global, All, drop-map, drop-take, get_or-drop, get_or_default, length-map, map-append, nil_from_length, take-append-drop, All-append, All-drop}
+use Rattle.pref_sky.proofs.Common.{length-drop, append-nil, append_assoc, drop_all, drop-append-le, Global, All, drop-take, get_or-drop, get_or_default, length-map, map-append, nil_from_length, take-append-drop, All-append, All-drop}
 use Rattle.pref_sky.proofs.Common.{All-push, All-take, IsNonDecreasingBy-drop, IsStrictOrder, RowOrder, Suit, Arrival, Entry, Item, AreInOrderOfStart, StartsAt, arrived, AreAllItems, AreItems, IsItem}
 use Rattle.pref_sky.proofs.Common.{entries_at, entry_at, item_order, items_at, levels_at, entry_order, IsBehind, IsMade, replaced, Parted, signature_by, Among}
 use Rattle.pref_term.specs.declared.signature.scale.Scale.{Scale}
@@ -46,7 +46,8 @@ arrival_items over rule pool old arrivals starts =
 
 -- levels of items were made, where `down` came down to the next one, and `rest` starts there or behind it
 pub record MakingItems (order : RowOrder) (cuts : List Scale) (pool : List Entry) (cut first : ℕ) (levels : List (Vec Item Global)) (arrivals : List Arrival) (made : List (Vec Item Global)) (down : List Item) (rest : List Arrival) : Type 0 where
-  pub making : Making (entry_order order) cut first (length made) (levels_at pool levels) (levels_at pool made) (map (arrived pool) arrivals) (entries_at pool down) (map (arrived pool) rest)
+  pub from : first ≤ length made
+  pub making : Making (entry_order order) cut (length made) (levels_at pool levels) (take first (levels_at pool levels) ++ levels_at pool (drop first made)) (map (arrived pool) arrivals) (entries_at pool down) (map (arrived pool) rest)
   pub made_items : AreAllItems (signature_by cuts) pool made
   pub down_items : AreItems (signature_by cuts) pool down
   pub starts : All (StartsAt (entry_order order) (signature_by cuts) pool (levels_at pool levels)) rest
@@ -61,11 +62,15 @@ module _ (order : RowOrder) (strict : IsStrictOrder (entry_order order)) (cuts :
   pub making_items_begin : AreInOrderOfStart arrivals → (made : List (Vec Item Global)) → length made ≡ first → AreAllItems (signature_by cuts) pool made → (some : Arrival) → Among some arrivals
       → MakingItems order cuts pool cut first levels arrivals made [] arrivals
   making_items_begin in_order made long are some among =
+      let over = entry_order order in
+      let old = levels_at pool levels in
       let entries = map (arrived pool) arrivals in
+      let inside : first ≤ length old = omega (arith, (all_among (StartsAt over (signature_by cuts) pool old) arrivals starts some among).within, all_among (λ (a : Arrival). first ≤ a.start) arrivals all_behind_first some among) in
+      let front : take first old ++ levels_at pool (drop first made) ≡ take first old = ap (λ l. take first old ++ levels_at pool l) (drop_all first made (omega (arith, long))) ∙ append-nil (take first old) in
       record {
-        making = subst (λ n. Making (entry_order order) cut first n (levels_at pool levels) (levels_at pool made) entries [] entries) (sym long)
-            (making_begins (entry_order order) strict cut first (levels_at pool levels) (levels_at pool made) entries (length-map made (λ (level : Vec Item Global). entries_at pool level.items) ∙ long) all_start (arrived pool some)
-            (in_map (arrived pool) arrivals some among));
+        from = omega (arith, long);
+        making = subst (λ n. Making over cut n old (take first old ++ levels_at pool (drop first made)) entries [] entries) (sym long)
+            (subst (λ l. Making over cut first old l entries [] entries) (sym front) (making_begins over strict cut first old entries inside all_start (arrived pool some) (in_map (arrived pool) arrivals some among)));
         made_items = are;
         down_items = λ k d inside. absurd (omega (arith, inside));
         starts = starts;
@@ -97,18 +102,23 @@ module _ (order : RowOrder) (strict : IsStrictOrder (entry_order order)) (cuts :
       ap (entries_at pool) pushed ∙ (map-append entry down (map (λ (a : Arrival). a.item) here) ∙ ap (λ l. entries_at pool down ++ l) (arrived_items pool here)) in
       let rest_is : map (arrived pool) rest ≡ map (arrived pool) here ++ map (arrived pool) behind = ap (map (arrived pool)) (sym (take-append-drop count rest)) ∙ map-append (arrived pool) here behind in
       let behind_starts = All-drop (StartsAt over rule pool old) count rest so_far.starts in
-      let made_is : levels_at pool (made ++ top ∷ []) ≡ levels_at pool made ++ entries_at pool top.items ∷ [] = map-append (λ (level : Vec Item Global). entries_at pool level.items) made (top ∷ []) in
+      let upto = take first old ++ levels_at pool (drop first made) in
+      let made_is : take first old ++ levels_at pool (drop first (made ++ top ∷ [])) ≡ upto ++ entries_at pool top.items ∷ [] =
+      ap (λ l. take first old ++ levels_at pool l) (drop-append-le first made (top ∷ []) so_far.from)
+      ∙ (ap (λ l. take first old ++ l) (map-append (λ (level : Vec Item Global). entries_at pool level.items) (drop first made) (top ∷ []))
+      ∙ sym (append_assoc (take first old) (levels_at pool (drop first made)) (entries_at pool top.items ∷ []))) in
       let next : suc n ≡ length (made ++ top ∷ []) = omega (arith, length-append made (top ∷ [])) in
-      let level : Making over cut first (suc n) old (levels_at pool made ++ entries_at pool top.items ∷ []) (map (arrived pool) arrivals) (entries_at pool others) (map (arrived pool) behind) =
-      making_more over strict cut first n old (levels_at pool made) (map (arrived pool) arrivals) (entries_at pool down) (map (arrived pool) here) (map (arrived pool) behind) (entries_at pool top.items) (entries_at pool others) below
+      let level : Making over cut (suc n) old (upto ++ entries_at pool top.items ∷ []) (map (arrived pool) arrivals) (entries_at pool others) (map (arrived pool) behind) =
+      making_more over strict cut n old upto (map (arrived pool) arrivals) (entries_at pool down) (map (arrived pool) here) (map (arrived pool) behind) (entries_at pool top.items) (entries_at pool others) below
       (arrivals_behind over rule pool old (suc n) behind behind_starts (λ k d inside. omega (arith, later k d inside)))
       (subst (λ l. Parted over l (entries_at pool down ++ map (arrived pool) here) (entries_at pool top.items) (entries_at pool others)) held_is
       (subst (λ l. Parted over (entries_at pool held) l (entries_at pool top.items) (entries_at pool others)) now_is
       (entries_parted order rule pool held now top.items others (suit_tells order cuts suit) both parted)))
-      (subst (Making over cut first n old (levels_at pool made) (map (arrived pool) arrivals) (entries_at pool down)) rest_is so_far.making) in
+      (subst (Making over cut n old upto (map (arrived pool) arrivals) (entries_at pool down)) rest_is so_far.making) in
       record {
-        making = subst (λ j. Making over cut first j old (levels_at pool (made ++ top ∷ [])) (map (arrived pool) arrivals) (entries_at pool others) (map (arrived pool) behind)) next
-            (subst (λ l. Making over cut first (suc n) old l (map (arrived pool) arrivals) (entries_at pool others) (map (arrived pool) behind)) (sym made_is) level);
+        from = omega (arith, next, so_far.from);
+        making = subst (λ j. Making over cut j old (take first old ++ levels_at pool (drop first (made ++ top ∷ []))) (map (arrived pool) arrivals) (entries_at pool others) (map (arrived pool) behind)) next
+            (subst (λ l. Making over cut (suc n) old l (map (arrived pool) arrivals) (entries_at pool others) (map (arrived pool) behind)) (sym made_is) level);
         made_items = All-push (λ (level : Vec Item Global). AreItems rule pool level.items) made top so_far.made_items each.0;
         down_items = each.1;
         starts = behind_starts;
@@ -117,14 +127,15 @@ module _ (order : RowOrder) (strict : IsStrictOrder (entry_order order)) (cuts :
       }
 
   -- the levels are those that the addition makes, where levels that stand behind those that were made are empty
-  pub making_items_end : (made all : List (Vec Item Global)) (down : List Item) (rest : List Arrival) (end : ℕ) → first ≤ length levels → end ≡ length made → take end all ≡ made → (cut ≤ length made) ⊎ ((length down ≡ 0) × (length rest ≡ 0))
+  pub making_items_end : (made all : List (Vec Item Global)) (down : List Item) (rest : List Arrival) (end : ℕ) → end ≡ length made → take end all ≡ made → (cut ≤ length made) ⊎ ((length down ≡ 0) × (length rest ≡ 0))
       → MakingItems order cuts pool cut first levels arrivals made down rest
       → IsMade (entry_order order) cut (levels_at pool levels) (replaced first (levels_at pool (take (end - first) (drop first all))) (levels_at pool levels)) (map (arrived pool) arrivals)
-  making_items_end made all down rest end inside is front ended so_far =
-      let f : Vec Item Global → List Entry = λ level. entries_at pool level.items in
-      let steps : first + (end - first) ≡ end = omega (arith, is, so_far.making.from) in
+  making_items_end made all down rest end is front ended so_far =
+      let old = levels_at pool levels in
+      let part = levels_at pool (drop first made) in
+      let steps : first + (end - first) ≡ end = omega (arith, is, so_far.from) in
       let new : take (end - first) (drop first all) ≡ drop first made = sym (drop-take first (end - first) all) ∙ (ap (λ n. drop first (take n all)) steps ∙ ap (drop first) front) in
-      subst (λ l. IsMade (entry_order order) cut (levels_at pool levels) (replaced first l (levels_at pool levels)) (map (arrived pool) arrivals)) (drop-map f first made ∙ sym (ap (levels_at pool) new))
-      (making_ends (entry_order order) strict cut first (length made) (levels_at pool levels) (levels_at pool made) (map (arrived pool) arrivals) (entries_at pool down) (map (arrived pool) rest)
-      (omega (arith, inside, length-map levels f)) all_start
+      let reach : length made ≡ first + length part = omega (arith, so_far.from, length-map (drop first made) (λ (level : Vec Item Global). entries_at pool level.items), length-drop first made) in
+      subst (λ l. IsMade (entry_order order) cut old l (map (arrived pool) arrivals)) (ap (λ n. (take first old ++ part) ++ drop n old) reach ∙ ap (λ l. replaced first (levels_at pool l) old) (sym new))
+      (making_ends (entry_order order) strict cut (length made) old (take first old ++ part) (map (arrived pool) arrivals) (entries_at pool down) (map (arrived pool) rest)
       (elim ended [ inl done ↦ inl done | inr none ↦ inr (ap (entries_at pool) (nil_from_length down none.0), ap (map (arrived pool)) (nil_from_length rest none.1)) ]) so_far.making)

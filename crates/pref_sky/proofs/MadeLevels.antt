@@ -1,8 +1,8 @@
 -- What an addition makes of levels: from the first one to which something comes, each new level is the best of the held one and of what comes to it.
-use Rattle.pref_sky.proofs.Common.{◌≡◌, ℕ, zero, suc, ◌≤◌, ◌<◌, ◌+◌, ◌-◌, Bool, true, cond, ◌⊎◌, inl, inr, List, [], ◌∷◌, ◌++◌, length, map, drop, get_or, refl, sym, ◌∙◌, ap, subst, arith, filter}
-use Rattle.pref_sky.proofs.Common.{append_assoc, length-append, length-drop, count_by, sum_by, cases_lt, both_ways, drop_all, drop-append-le, get_or_append_left, get_or-append_right, get_or-drop}
+use Rattle.pref_sky.proofs.Common.{◌≡◌, ℕ, zero, suc, ◌≤◌, ◌<◌, ◌+◌, ◌-◌, Bool, true, cond, ◌⊎◌, inl, inr, List, [], ◌∷◌, ◌++◌, length, map, take, drop, get_or, refl, sym, ◌∙◌, ap, subst, arith, filter}
+use Rattle.pref_sky.proofs.Common.{append_assoc, length-append, length-take-le, count_by, sum_by, cases_lt, both_ways, get_or_append_left, get_or-append_right, get_or-drop, get_or-take}
 use Rattle.pref_sky.proofs.Common.{sum_by-append, sum_by-cons, sum_by_push, sum_by-take-drop, IsStrictOrder, Entry, IsApart, best, is_beaten, rest, without_best, HaveDifferentIds, entry_of, levels}
-use Rattle.pref_sky.proofs.Common.{IsBehind, IsMade, held_at, ranked_from, replaced, ranked_upto, Parted, Among}
+use Rattle.pref_sky.proofs.Common.{IsBehind, IsMade, held_at, ranked_from, ranked_upto, Parted, Among}
 use Rattle.pref_sky.proofs.Members.{any_from, any_gives, in_filter, from_filter, in_left, in_right, in_either}
 use Rattle.pref_sky.proofs.Removals.{beaten_by_best, best_of_rest_is, comes_after, comes_after_among_more, comes_after_upto, rest_is, same_chains}
 use Rattle.pref_sky.proofs.Orders.{SameMembers, among_in_order}
@@ -13,7 +13,6 @@ use Rattle.pref_sky.proofs.Parting.{best_are, others_are}
 use Rattle.pref_sky.proofs.LevelLaws.{held_differ}
 use Rattle.pref_sky.proofs.LevelByLevel.{best_with_top, without_with_top}
 use Rattle.pref_sky.proofs.RankedLevels.{count_joined, count_level, level_differs, one_level}
-use Rattle.pref_sky.proofs.Replacements.{replaced_behind, replaced_front, replaced_middle, sum_by-replaced}
 use Rattle.pref_sky.proofs.Ranks.{held_there, held_upto, levels_upto_is, same_upto, within_if_same}
 
 -- the levels of a list up to a cut are held
@@ -50,14 +49,29 @@ behind_chain over strict before cut held holds (suc n) e behind =
       sym (beaten_by_rest over before n e) ∙ (sym (beaten_by_best over strict (rest over before n) e) ∙ any_from (λ x. over x e) (best over (rest over before n)) w.0 level.1 w.2),
     )
 
+-- the level at a place, of lists that are put together
+held_is : (k : ℕ) (held : List (List Entry)) → held_at k held ≡ get_or held k []
+held_is k [] = refl
+held_is zero (level ∷ behind) = refl
+held_is (suc k) (level ∷ behind) = held_is k behind
+
+held_front : (k : ℕ) (xs ys : List (List Entry)) → k < length xs → held_at k (xs ++ ys) ≡ held_at k xs
+held_front k xs ys inside = held_is k (xs ++ ys) ∙ (get_or_append_left xs ys [] k inside ∙ sym (held_is k xs))
+
+held_behind : (k : ℕ) (xs ys : List (List Entry)) → length xs ≤ k → held_at k (xs ++ ys) ≡ held_at (k - length xs) ys
+held_behind k xs ys past = held_is k (xs ++ ys) ∙ (get_or-append_right xs ys (length xs) k [] refl past ∙ sym (held_is (k - length xs) ys))
+
+held_taken : (n k : ℕ) (held : List (List Entry)) → k < n → held_at k (take n held) ≡ held_at k held
+held_taken n k held below = held_is k (take n held) ∙ (get_or-take n held k [] below ∙ sym (held_is k held))
+
 -- each of these is behind n levels or more
 abbrev pub AreBehind : (Entry → Entry → Bool) → List (List Entry) → ℕ → List Entry → Type 0
 AreBehind over held n later = (e : Entry) → Among e later → (start : ℕ) × (n ≤ start) × IsBehind over held start e
 
--- n levels are told, from the first one that is made on, where `down` came down to the next one, and `later` starts there or behind it
-pub record Merging (over : Entry → Entry → Bool) (before coming : List Entry) (cut first n : ℕ) (made : List (List Entry)) (down later : List Entry) : Type 0 where
+-- n levels are told, where `down` came down to the next one, and `later` starts there or behind it
+pub record Merging (over : Entry → Entry → Bool) (before coming : List Entry) (cut n : ℕ) (made : List (List Entry)) (down later : List Entry) : Type 0 where
   pub upto : n ≤ cut
-  pub told : (k : ℕ) → first ≤ k → k < n → SameMembers (held_at k made) (best over (rest over (before ++ coming) k))
+  pub told : (k : ℕ) → k < n → SameMembers (held_at k made) (best over (rest over (before ++ coming) k))
   pub left : SameMembers (rest over (before ++ coming) n) ((down ++ later) ++ rest over before n)
 
 -- what comes is behind the first levels
@@ -84,13 +98,15 @@ module _ (over : Entry → Entry → Bool) (strict : IsStrictOrder over) (before
       same_then (held_at k old) (best over (rest over before k)) (best over (rest over all k)) mine
       (subst (λ l. SameMembers l (best over (rest over all k))) (sym (best_of_rest_is over before k)) (subst (SameMembers (filter (is_at over before k) before)) (sym (best_of_rest_is over all k)) same))
 
-  merging_begins : (made : List (List Entry)) (some : Entry) → Among some coming → Merging over before coming cut first first made [] coming
-  merging_begins made some among =
+  merging_begins : (some : Entry) → Among some coming → Merging over before coming cut first (take first old) [] coming
+  merging_begins some among =
       let all = before ++ coming in
       let chains = same_chains over strict before all first first_holds.within first_holds.kept first in
+      let s = starts some among in
+      let reach = (behind_chain over strict before cut old holds s.0 some s.2).0 in
       record {
-        upto = let s = starts some among in let reach = (behind_chain over strict before cut old holds s.0 some s.2).0 in omega (arith, s.1, reach);
-        told = λ k from below. absurd (omega (arith, from, below));
+        upto = omega (arith, s.1, reach);
+        told = λ k front. subst (λ l. SameMembers l (best over (rest over all k))) (sym (held_taken first k old front)) (front_stays k front (omega (arith, front, s.1, reach)));
         left = record {
           there = λ x m.
               let w = from_filter (comes_after over all first) all x (subst (Among x) (rest_is over all first) m) in
@@ -124,23 +140,11 @@ second_first xs ys zs =
       ];
     }
 
--- the level at a place, of lists that are put together
-held_is : (k : ℕ) (held : List (List Entry)) → held_at k held ≡ get_or held k []
-held_is k [] = refl
-held_is zero (level ∷ behind) = refl
-held_is (suc k) (level ∷ behind) = held_is k behind
-
-held_front : (k : ℕ) (xs ys : List (List Entry)) → k < length xs → held_at k (xs ++ ys) ≡ held_at k xs
-held_front k xs ys inside = held_is k (xs ++ ys) ∙ (get_or_append_left xs ys [] k inside ∙ sym (held_is k xs))
-
-held_behind : (k : ℕ) (xs ys : List (List Entry)) → length xs ≤ k → held_at k (xs ++ ys) ≡ held_at (k - length xs) ys
-held_behind k xs ys past = held_is k (xs ++ ys) ∙ (get_or-append_right xs ys (length xs) k [] refl past ∙ sym (held_is (k - length xs) ys))
-
 -- one level more is told
-merging_more : (over : Entry → Entry → Bool) → IsStrictOrder over → (before coming : List Entry) (cut first n : ℕ) (old made : List (List Entry)) (down here later top others : List Entry) → n < cut → length made ≡ n → Holds over before cut old
-    → AreBehind over old (suc n) later → Parted over (held_at n old) (down ++ here) top others → Merging over before coming cut first n made down (here ++ later)
-    → Merging over before coming cut first (suc n) (made ++ top ∷ []) others later
-merging_more over strict before coming cut first n old made down here later top others below long holds starts parted m =
+merging_more : (over : Entry → Entry → Bool) → IsStrictOrder over → (before coming : List Entry) (cut n : ℕ) (old made : List (List Entry)) (down here later top others : List Entry) → n < cut → length made ≡ n → Holds over before cut old
+    → AreBehind over old (suc n) later → Parted over (held_at n old) (down ++ here) top others → Merging over before coming cut n made down (here ++ later)
+    → Merging over before coming cut (suc n) (made ++ top ∷ []) others later
+merging_more over strict before coming cut n old made down here later top others below long holds starts parted m =
     let all = before ++ coming in
     let left = rest over before n in
     let held = held_at n old in
@@ -163,8 +167,8 @@ merging_more over strict before coming cut first n old made down here later top 
     let lost = without_best over left in
     record {
       upto = omega (arith, below);
-      told = λ k from inside. elim (cases_lt k n) [
-        | inl before_it ↦ subst (λ l. SameMembers l (best over (rest over all k))) (sym (held_front k made (top ∷ []) (omega (arith, long, before_it)))) (m.told k from before_it)
+      told = λ k inside. elim (cases_lt k n) [
+        | inl before_it ↦ subst (λ l. SameMembers l (best over (rest over all k))) (sym (held_front k made (top ∷ []) (omega (arith, long, before_it)))) (m.told k before_it)
         | inr past ↦
             let same : n ≡ k = omega (arith, inside, past) in
             let none : n - length made ≡ 0 = omega (arith, long) in
@@ -190,26 +194,15 @@ rest_stays over all before n (suc k) past same =
       | inr further ↦ without_of_same over (rest over all k) (rest over before k) (rest_stays over all before n k further same)
     ]
 
--- the levels that were made, in the place of those that there were
-module _ (first n : ℕ) (old made : List (List Entry)) (inside : first ≤ length old) (long : length made ≡ n) (from : first ≤ n) where
-  reach : first + length (drop first made) ≡ n
-  reach = omega (arith, long, from, length-drop first made)
-
-  new_front : (k : ℕ) → k < first → held_at k (replaced first (drop first made) old) ≡ held_at k old
-  new_front k below = held_is k (replaced first (drop first made) old) ∙ (replaced_front first (drop first made) old inside k [] below ∙ sym (held_is k old))
-
-  new_made : (k : ℕ) → first ≤ k → k < n → held_at k (replaced first (drop first made) old) ≡ held_at k made
-  new_made k past below =
-      let place : first + (k - first) ≡ k = omega (arith, past) in
-      held_is k (replaced first (drop first made) old)
-      ∙ (replaced_middle first (drop first made) old inside k [] past (omega (arith, reach, below)) ∙ (get_or-drop first made (k - first) [] ∙ (ap (λ j. get_or made j []) place ∙ sym (held_is k made))))
-
-  new_behind : (k : ℕ) → n ≤ k → held_at k (replaced first (drop first made) old) ≡ held_at k old
-  new_behind k past = held_is k (replaced first (drop first made) old) ∙ (replaced_behind first (drop first made) old inside k [] (omega (arith, reach, past)) ∙ sym (held_is k old))
-
 -- the end: after the last level, or where nothing comes further
-module _ (over : Entry → Entry → Bool) (strict : IsStrictOrder over) (before coming : List Entry) (cut first n : ℕ) (old made : List (List Entry)) (down later : List Entry) (holds : Holds over before cut old) (starts : AreBehind over old first coming)
-    (inside : first ≤ length old) (long : length made ≡ n) (from : first ≤ n) (ended : (cut ≤ n) ⊎ ((down ≡ []) × (later ≡ []))) (m : Merging over before coming cut first n made down later) where
+module _ (over : Entry → Entry → Bool) (strict : IsStrictOrder over) (before coming : List Entry) (cut n : ℕ) (old made : List (List Entry)) (down later : List Entry) (holds : Holds over before cut old) (long : length made ≡ n)
+    (ended : (cut ≤ n) ⊎ ((down ≡ []) × (later ≡ []))) (m : Merging over before coming cut n made down later) where
+  new_behind : (k : ℕ) → n ≤ k → held_at k (made ++ drop n old) ≡ held_at k old
+  new_behind k past =
+      let place : n + (k - n) ≡ k = omega (arith, past) in
+      held_behind k made (drop n old) (omega (arith, past, long))
+      ∙ (ap (λ j. held_at (k - j) (drop n old)) long ∙ (held_is (k - n) (drop n old) ∙ (get_or-drop n old (k - n) [] ∙ (ap (λ j. get_or old j []) place ∙ sym (held_is k old)))))
+
   behind_stays : (k : ℕ) → n ≤ k → k < cut → SameMembers (held_at k old) (best over (rest over (before ++ coming) k))
   behind_stays k past below =
       elim ended [
@@ -221,23 +214,20 @@ module _ (over : Entry → Entry → Bool) (strict : IsStrictOrder over) (before
             (same_sym (best over (rest over all k)) (best over (rest over before k)) (best_of_same over (rest over all k) (rest over before k) (rest_stays over all before n k past same)))
       ]
 
-  new_level : (k : ℕ) → k < cut → SameMembers (held_at k (replaced first (drop first made) old)) (best over (rest over (before ++ coming) k))
+  new_level : (k : ℕ) → k < cut → SameMembers (held_at k (made ++ drop n old)) (best over (rest over (before ++ coming) k))
   new_level k below =
       let P : List Entry → Type 0 = λ l. SameMembers l (best over (rest over (before ++ coming) k)) in
-      elim (cases_lt k first) [
-        | inl front ↦ subst P (sym (new_front first n old made inside long from k front)) (front_stays over strict before coming cut first old holds starts k front below)
-        | inr past ↦ elim (cases_lt k n) [
-          | inl told ↦ subst P (sym (new_made first n old made inside long from k past told)) (m.told k past told)
-          | inr behind ↦ subst P (sym (new_behind first n old made inside long from k behind)) (behind_stays k behind below)
-        ]
+      elim (cases_lt k n) [
+        | inl told ↦ subst P (sym (held_front k made (drop n old) (omega (arith, long, told)))) (m.told k told)
+        | inr behind ↦ subst P (sym (new_behind k behind)) (behind_stays k behind below)
       ]
 
-  merging_ends : Holds over (before ++ coming) cut (replaced first (drop first made) old)
+  merging_ends : Holds over (before ++ coming) cut (made ++ drop n old)
   merging_ends =
       record {
         there = λ k e among. elim (cases_lt k cut) [
           | inl below ↦ (below, (new_level k below).there e among)
-          | inr past ↦ let at = new_behind first n old made inside long from k (omega (arith, past, m.upto)) in let over_cut = (holds.there k e (subst (Among e) at among)).0 in absurd (omega (arith, past, over_cut))
+          | inr past ↦ let over_cut = (holds.there k e (subst (Among e) (new_behind k (omega (arith, past, m.upto))) among)).0 in absurd (omega (arith, past, over_cut))
         ];
         back = λ k e below. (new_level k below).back e;
       }
@@ -254,31 +244,28 @@ count_behind p zero (level ∷ behind) = sum_by-cons (count_by p) level behind
 count_behind p (suc n) [] = refl
 count_behind p (suc n) (level ∷ behind) = count_behind p n behind
 
--- levels up to the n-th were made, where `down` came down to it, and `later` starts there or behind it
-pub record Making (over : Entry → Entry → Bool) (cut first n : ℕ) (old made : List (List Entry)) (coming down later : List Entry) : Type 0 where
+-- levels up to the n-th are there, where `down` came down to it, and `later` starts there or behind it
+pub record Making (over : Entry → Entry → Bool) (cut n : ℕ) (old made : List (List Entry)) (coming down later : List Entry) : Type 0 where
   pub long : length made ≡ n
-  pub from : first ≤ n
-  pub counts : (p : Entry → Bool) → (sum_by (count_by p) (drop first made) + (count_by p down + count_by p later)) + sum_by (count_by p) (drop n old) ≤ sum_by (count_by p) (drop first old) + count_by p coming
-  pub merging : (before : List Entry) → Holds over before cut old → Merging over before coming cut first n made down later
+  pub counts : (p : Entry → Bool) → (sum_by (count_by p) made + (count_by p down + count_by p later)) + sum_by (count_by p) (drop n old) ≤ sum_by (count_by p) old + count_by p coming
+  pub merging : (before : List Entry) → Holds over before cut old → Merging over before coming cut n made down later
 
-pub making_begins : (over : Entry → Entry → Bool) → IsStrictOrder over → (cut first : ℕ) (old made : List (List Entry)) (coming : List Entry) → length made ≡ first → AreBehind over old first coming → (some : Entry) → Among some coming
-    → Making over cut first first old made coming [] coming
-making_begins over strict cut first old made coming long starts some among =
+-- those in front of the first to which something comes stay
+pub making_begins : (over : Entry → Entry → Bool) → IsStrictOrder over → (cut first : ℕ) (old : List (List Entry)) (coming : List Entry) → first ≤ length old → AreBehind over old first coming → (some : Entry) → Among some coming
+    → Making over cut first old (take first old) coming [] coming
+making_begins over strict cut first old coming inside starts some among =
     record {
-      long = long;
-      from = omega arith;
-      counts = λ p. omega (arith, ap (sum_by (count_by p)) (drop_all first made (omega (arith, long))));
-      merging = λ before holds. merging_begins over strict before coming cut first old holds starts made some among;
+      long = length-take-le first old inside;
+      counts = λ p. omega (arith, sum_by-take-drop (count_by p) old first);
+      merging = λ before holds. merging_begins over strict before coming cut first old holds starts some among;
     }
 
-pub making_more : (over : Entry → Entry → Bool) → IsStrictOrder over → (cut first n : ℕ) (old made : List (List Entry)) (coming down here later top others : List Entry) → n < cut → AreBehind over old (suc n) later
-    → Parted over (held_at n old) (down ++ here) top others → Making over cut first n old made coming down (here ++ later) → Making over cut first (suc n) old (made ++ top ∷ []) coming others later
-making_more over strict cut first n old made coming down here later top others below starts parted making =
+pub making_more : (over : Entry → Entry → Bool) → IsStrictOrder over → (cut n : ℕ) (old made : List (List Entry)) (coming down here later top others : List Entry) → n < cut → AreBehind over old (suc n) later
+    → Parted over (held_at n old) (down ++ here) top others → Making over cut n old made coming down (here ++ later) → Making over cut (suc n) old (made ++ top ∷ []) coming others later
+making_more over strict cut n old made coming down here later top others below starts parted making =
     let long = making.long in
-    let from = making.from in
     record {
       long = omega (arith, long, length-append made (top ∷ []));
-      from = omega (arith, from);
       counts = λ p.
           omega (
             arith,
@@ -288,33 +275,22 @@ making_more over strict cut first n old made coming down here later top others b
             sum_by-append (λ (e : Entry). cond (p e) 1 0) down here,
             count_behind p n old,
             sum_by-append (λ (e : Entry). cond (p e) 1 0) here later,
-            ap (sum_by (count_by p)) (drop-append-le first made (top ∷ []) (omega (arith, long, from))),
-            sum_by_push (count_by p) (drop first made) top,
+            sum_by_push (count_by p) made top,
           );
-      merging = λ before holds. merging_more over strict before coming cut first n old made down here later top others below long holds starts parted (making.merging before holds);
+      merging = λ before holds. merging_more over strict before coming cut n old made down here later top others below long holds starts parted (making.merging before holds);
     }
 
-pub making_ends : (over : Entry → Entry → Bool) → IsStrictOrder over → (cut first n : ℕ) (old made : List (List Entry)) (coming down later : List Entry) → first ≤ length old → AreBehind over old first coming
-    → (cut ≤ n) ⊎ ((down ≡ []) × (later ≡ [])) → Making over cut first n old made coming down later → IsMade over cut old (replaced first (drop first made) old) coming
-making_ends over strict cut first n old made coming down later inside starts ended making =
-    let new = replaced first (drop first made) old in
+pub making_ends : (over : Entry → Entry → Bool) → IsStrictOrder over → (cut n : ℕ) (old made : List (List Entry)) (coming down later : List Entry) → (cut ≤ n) ⊎ ((down ≡ []) × (later ≡ [])) → Making over cut n old made coming down later
+    → IsMade over cut old (made ++ drop n old) coming
+making_ends over strict cut n old made coming down later ended making =
+    let new = made ++ drop n old in
     let counts : (p : Entry → Bool) → count_by p (map entry_of (ranked_from 1 new)) ≤ count_by p (map entry_of (ranked_from 1 old)) + count_by p coming =
-    λ p.
-    omega (
-      arith,
-      making.counts p,
-      count_held p 1 new,
-      count_held p 1 old,
-      sum_by-replaced first (drop first made) old inside (count_by p),
-      ap (λ j. sum_by (count_by p) (drop j old)) (reach first n old made inside making.long making.from),
-      sum_by-take-drop (count_by p) old first,
-    ) in
+    λ p. omega (arith, making.counts p, count_held p 1 new, count_held p 1 old, sum_by-append (count_by p) made (drop n old)) in
     record {
       counts = counts;
       merged = λ before different is.
           let holds = holds_if over before cut old is in
           let held_differs = subst (λ l. HaveDifferentIds (map entry_of l ++ coming)) (sym is) (held_differ over before coming cut different) in
           let new_differs = different_by_count (map entry_of (ranked_from 1 old)) coming (map entry_of (ranked_from 1 new)) held_differs counts in
-          levels_if over (before ++ coming) cut new different (λ k. level_differs k new new_differs)
-          (merging_ends over strict before coming cut first n old made down later holds starts inside making.long making.from ended (making.merging before holds));
+          levels_if over (before ++ coming) cut new different (λ k. level_differs k new new_differs) (merging_ends over strict before coming cut n old made down later holds making.long ended (making.merging before holds));
     }

@@ -1,15 +1,11 @@
 -- The levels of one part, where those of one are changed.
-use Rattle.pref_sky.proofs.Common.{◌≡◌, ℕ, zero, suc, ◌<◌, inl, inr, ◌⊎◌, List, [], ◌∷◌, length, get_or, set, refl, sym, ◌∙◌, ap, subst, arith, eqb, eq-eqb, Vec, Global, cases_Bool, eqb-true}
-use Rattle.pref_sky.proofs.Common.{both_ways, Entry, Item, AreAllItems, AreInPool, levels_at, levels_in, parts_at, levels_of}
+use Rattle.pref_sky.proofs.Common.{◌≡◌, ℕ, zero, suc, ◌<◌, List, [], ◌∷◌, length, get_or, set, refl, sym, ◌∙◌, ap, subst, arith, Vec, Global, Entry, Item, AreAllItems, AreInPool, levels_at, levels_in, parts_at, levels_of}
 
 abbrev pub Levels : Type 0
 Levels = List (Vec Item Global)
 
 abbrev pub Part : Type 0
 Part = Vec (Vec Item Global) Global
-
-pub same_or_not : (n m : ℕ) → (n ≡ m) ⊎ (n ≡ m → ⊥)
-same_or_not n m = elim (cases_Bool (eqb n m)) [ inl same ↦ inl (eqb-true n m same) | inr other ↦ inr (λ same. both_ways (eqb n m) other (eq-eqb n m same)) ]
 
 -- a part is at its place
 in_at : (n : ℕ) (parts : List Part) (d : Part) → n < length parts → levels_in n parts ≡ (get_or parts n d).items

@@ -3,6 +3,7 @@ use Rattle.pref_sky.proofs.Common.{◌≡◌, ℕ, zero, suc, ◌≤◌, ◌<◌
 use Rattle.pref_sky.proofs.Common.{filter, eqb, eq-eqb, max, count_by, cases_Bool, cases_lt, eqb-true, not_from_false, and_parts, or_cases, Decides-int_eq, nat_tests, filter_agree, sum_by-append}
 use Rattle.pref_sky.proofs.Common.{length-filter, cell, in_same_group, RowOrder, StaysWithin, mixed, Entry, best, is_beaten, rest, without_best, HaveDifferentIds, at_level, entry_of, entry_order}
 use Rattle.pref_sky.proofs.Common.{levels, held_at, ranked_from, ArePartedBy, all_at, depth, is_in, levels_of, mixed_onto, part_of, parts_by, ranked_parts, ranked_upto, Among}
+use Rattle.std.proofs.Math.Bool.{and_comm}
 use Rattle.std.proofs.Math.Nat.{le-max_left, le-max_right, max-le}
 use Rattle.pref_sky.proofs.Members.{any_from, any_gives, in_filter, from_filter, in_left, in_right, in_either, from_map}
 use Rattle.pref_sky.proofs.Orders.{one_passes}
@@ -36,13 +37,7 @@ is_within order columns within a b above =
     ap (λ word. word / 2 ^ 54) (same_mixed 0 columns a.row b.row same)
 
 swapped : {E : Type 0} (p q : E → Bool) (xs : List E) → filter p (filter q xs) ≡ filter q (filter p xs)
-swapped p q xs = filter_filter q p xs ∙ (filter_agree (λ x. q x && p x) (λ x. p x && q x) (λ x. either (q x) (p x)) xs ∙ sym (filter_filter p q xs))
-  where
-    either : (a b : Bool) → (a && b) ≡ (b && a)
-    either true true = refl
-    either true false = refl
-    either false true = refl
-    either false false = refl
+swapped p q xs = filter_filter q p xs ∙ (filter_agree (λ x. q x && p x) (λ x. p x && q x) (λ x. and_comm (q x) (p x)) xs ∙ sym (filter_filter p q xs))
 
 -- the best of a part's entries, and what is left without them
 module _ (over : Entry → Entry → Bool) (number : Entry → ℕ) (within : IsWithin over number) (part : ℕ) where

@@ -1,14 +1,10 @@
 -- Items of a pool that are signed by a rule which tells of the order: their entries are parted as they are.
-use Rattle.pref_sky.proofs.Common.{◌≡◌, ◌∙◌, ℕ, Bool, true, false, ◌&&◌, ◌||◌, nat_lt, List, ◌++◌, refl, sym, ap, inl, inr, cases_Bool, RowOrder, Suit, is_within, signature, Entry, Item, AreItems}
+use Rattle.pref_sky.proofs.Common.{◌≡◌, ◌∙◌, ℕ, true, ◌&&◌, ◌||◌, nat_lt, List, ◌++◌, sym, ap, and_parts, inl, inr, cases_Bool, RowOrder, Suit, is_within, signature, Entry, Item, AreItems}
 use Rattle.pref_sky.proofs.Common.{IsItem, entries_at, entry_at, item_order, entry_order, Parted}
 use Rattle.pref_term.specs.declared.signature.scale.Scale.{Scale}
 use Rattle.pref_sky.proofs.Items.{item_agrees}
 use Rattle.pref_sky.proofs.Members.{all_among, among_all}
 use Rattle.pref_sky.proofs.Parting.{parted_map}
-
-first_holds : (a b : Bool) → (a && b) ≡ true → a ≡ true
-first_holds true b h = refl
-first_holds false b h = h
 
 -- signatures by cuts that suit an order tell of it
 pub suit_tells : (order : RowOrder) (cuts : List Scale) → Suit order cuts → (a b : Entry) → entry_order order a b ≡ true → is_within (signature cuts a.row) (signature cuts b.row) ≡ true
@@ -16,8 +12,7 @@ suit_tells order cuts suit a b h =
     elim (cases_Bool (order.over a.row b.row)) [
       | inl over ↦ suit.over a.row b.row over
       | inr none ↦
-          suit.twin a.row b.row
-          (first_holds (order.twin a.row b.row) (nat_lt a.id b.id) (ap (λ c. c || (order.twin a.row b.row && nat_lt a.id b.id)) (sym none) ∙ h))
+          suit.twin a.row b.row (and_parts (order.twin a.row b.row) (nat_lt a.id b.id) (ap (λ c. c || (order.twin a.row b.row && nat_lt a.id b.id)) (sym none) ∙ h)).0
     ]
 
 -- what items are parted into are items too

@@ -15,13 +15,11 @@ use Rattle.pref_sky.specs.Stairs.{IsInOrder}
 abbrev pub new_levels : Made → List (Vec Item Global)
 new_levels made = take (made.end - made.first) (drop made.first made.levels.items)
 
--- they fit among levels: there is room for these and for the new ones
+-- they fit among levels: there is room for these and for the new ones, and no more
 pub record Fits (made : Made) (levels : List (Vec Item Global)) : Type 0 where
   pub first : made.first ≤ made.end
   pub inside : made.first ≤ length levels
-  pub new : made.end ≤ length made.levels.items
-  pub old : length levels ≤ length made.levels.items
-  pub no_more : (n : ℕ) → made.end ≤ n → length levels ≤ n → length made.levels.items ≤ n
+  pub long : length made.levels.items ≡ max made.end (length levels)
 
 -- in order of part, each part once at most
 abbrev pub AreInOrderOfPart : List Made → Type 0

@@ -136,7 +136,7 @@ pub(crate) fn made_of<D: Dominance>(
 }
 
 /// Puts the new levels in the place of those that there are. Takes no memory.
-pub(crate) fn put(alloc: Global, levels: &mut Vec<Vec<Item>>, made: Made)
+pub(crate) fn put(levels: &mut Vec<Vec<Item>>, made: Made)
     requires { Fits made levels.old.items }
     ensures { levels.new.items ≡ replaced made.first (new_levels made) levels.old.items }
 {
@@ -146,10 +146,11 @@ pub(crate) fn put(alloc: Global, levels: &mut Vec<Vec<Item>>, made: Made)
         end,
         levels: mut new,
     } = made;
-    for place in 0..levels.len() {
-        if place < first || end <= place {
-            new[place] = std::mem::replace(&mut levels[place], Vec::new(alloc));
-        }
-    }
+    // The levels in front and those behind change places with the empty ones.
+    let behind = end.min(levels.len());
+    let (front, others) = new.split_at_mut(first);
+    let (held, left) = levels.split_at_mut(first);
+    front.swap_with_slice(held);
+    others[end - first..].swap_with_slice(&mut left[behind - first..]);
     *levels = new;
 }

@@ -116,13 +116,13 @@ fn made_all<D: Dominance>(
 }
 
 /// Puts what was made into the parts. Takes no memory.
-fn put_all(alloc: Global, parts: &mut Vec<Vec<Vec<Item>>>, all: Vec<Made>)
+fn put_all(parts: &mut Vec<Vec<Vec<Item>>>, all: Vec<Made>)
     requires { FitIn parts.old.items all.items }
     ensures { ArePut all.items parts.old.items parts.new.items }
 {
     for made in all {
         let part = made.part;
-        put(alloc, &mut parts[part], made);
+        put(&mut parts[part], made);
     }
 }
 
@@ -297,7 +297,7 @@ impl Parts {
             &self.parts,
             &arrivals,
         )?;
-        put_all(alloc, &mut self.parts, all);
+        put_all(&mut self.parts, all);
         Ok(())
     }
 

@@ -93,15 +93,13 @@ returns-clause-made g c =
     let long = c.push_empty-2.new.levels.ok.0 in
     record {
       fits = record {
-        first = omega (arith, end, c.each_level.invariant.so_far.making.from);
+        first = omega (arith, end, c.each_level.invariant.so_far.from);
         inside = inside;
-        new = omega (arith, given.long, long, c.len-end.ensures);
-        old = omega (arith, given.long, long);
-        no_more = λ n past past_all. omega (arith, given.long, long, c.len-end.ensures, past, past_all);
+        long = omega (arith, given.long, long, c.len-end.ensures);
       };
       no_deeper = omega (arith, end, c.each_level.invariant.no_deeper);
       items = given.items (signature_by cuts) pool c.each_level.invariant.so_far.made_items;
       made = making_items_end order strict cuts pool c.args.cut first.start levels arrivals c.requires.start (first_starts arrivals none c.requires.some c.requires.in_order)
           made.items c.push_empty-2.new.levels.items down.items rest c.len-end.result
-          inside end front ended c.each_level.invariant.so_far;
+          end front ended c.each_level.invariant.so_far;
     }
