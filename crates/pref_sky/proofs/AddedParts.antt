@@ -1,18 +1,19 @@
 -- What an addition makes of parts: each holds the levels of what it held and of what came to it.
 use Rattle.pref_sky.proofs.Common.{◌≡◌, ℕ, zero, suc, ◌≤◌, ◌+◌, ◌-◌, Bool, true, cond, not, inl, inr, ◌⊎◌, List, [], ◌∷◌, ◌++◌, length, take, drop, filter, map, eqb, refl, sym, ◌∙◌, ap, subst, arith}
-use Rattle.pref_sky.proofs.Common.{append-nil, Vec, Global, All, cases_Bool, cases_eq, cond-true, cond-false, length-map, map-append, take-map, drop-map, All-append, All-drop, All-take, filter-append}
+use Rattle.pref_sky.proofs.Common.{append-nil, Vec, Global, All, cases_Bool, length-map, map-append, take-map, drop-map, All-append, All-drop, All-take, filter-append}
 use Rattle.pref_sky.proofs.Common.{sum_by-append, IsStrictOrder, Arrival, Entry, Made, KeepsUpper, arrived, coming_to, best, is_beaten, rest, AreAllItems, AreInPool, AreItems, entries_at, levels_at}
-use Rattle.pref_sky.proofs.Common.{levels_in, parts_at, Item, HaveDifferentIds, entry_of, levels, ArePartsMade, ArePut, IsPartMade, LeaveAlone, new_levels, IsBehind, IsMade, held_at, replaced}
-use Rattle.pref_sky.proofs.Common.{ArePartedBy, depth, is_in, levels_of, ranked_parts, ranked_upto, Among}
-use Rattle.pref_sky.proofs.Halves.{beaten_by_rest}
+use Rattle.pref_sky.proofs.Common.{items_at, parts_at, Item, HaveDifferentIds, entry_of, levels, ArePartsMade, ArePut, IsPartMade, LeaveAlone, new_levels, IsBehind, IsMade, held_at, replaced}
+use Rattle.pref_sky.proofs.Common.{ArePartedBy, depth, is_in, ranked_parts, ranked_upto, Among}
 use Rattle.pref_sky.proofs.LevelLaws.{first_differ}
 use Rattle.pref_sky.proofs.Members.{all_among, among_all, any_from, any_gives, from_filter}
 use Rattle.pref_sky.proofs.Merges.{different_filter}
-use Rattle.pref_sky.proofs.PartItems.{Part, in_pool_if, in_pool_of, levels_of_at}
-use Rattle.pref_sky.proofs.PartLaws.{IsWithin, NoMore, depth_within, hold_apart, hold_together, level_in_part, within_depth}
+use Rattle.pref_sky.proofs.PartItems.{Part, all_held, in_pool_if, levels_of_at}
+use Rattle.pref_sky.proofs.PartLaws.{IsWithin, NoMore, depth_within, differ_after, hold_apart, hold_together, level_in_part, part_below, parted_after, within_depth}
 use Rattle.pref_sky.proofs.Ranks.{held_there, held_upto, levels_upto_is, within_if_same}
-use Rattle.pref_sky.proofs.Removals.{comes_after}
-use Rattle.pref_sky.proofs.Replacements.{taken_long}
+use Rattle.pref_sky.proofs.Enough.{filter_agree_among}
+use Rattle.pref_sky.proofs.Common.{◌<◌, both_ways, eq-eqb, eqb-true, false, list_any, AreComing, HaveArrived, IsArrival, StartsAt, part_of, parts_by}
+use Rattle.pref_sky.proofs.Removals.{beaten_by_rest, comes_after}
+use Rattle.pref_sky.proofs.MadeItems.{taken_long}
 use Rattle.pref_sky.proofs.SortedLevels.{kept_levels}
 
 -- what a function makes of others in the place of some
@@ -32,42 +33,36 @@ nothing_comes over cut held = record { counts = λ p. omega arith; merged = λ b
 
 -- a part is made, or left alone
 made_or_not : (part : ℕ) (all : List Made) → ((made : Made) × Among made all × (made.part ≡ part)) ⊎ LeaveAlone all part
-made_or_not part [] = inr (λ k d inside. absurd (omega (arith, inside)))
-made_or_not part (made ∷ all) =
-    elim (cases_eq made.part part) [
-      | inl here ↦ inl (made, inl refl, here)
-      | inr other ↦
-          elim (made_or_not part all) [
-            | inl w ↦ inl (w.0, inr w.1, w.2)
-            | inr alone ↦
-                inr (among_all (λ (m : Made). m.part ≡ part → ⊥) (made ∷ all) (λ m among.
-                elim among [ inl same ↦ subst (λ (x : Made). x.part ≡ part → ⊥) (sym same) other | inr later ↦ all_among (λ (x : Made). x.part ≡ part → ⊥) all alone m later ]))
-          ]
+made_or_not part all =
+    let here : Made → Bool = λ made. eqb made.part part in
+    elim (cases_Bool (list_any here all)) [
+      | inl some ↦ let w = any_gives here all some in inl (w.0, w.1, eqb-true w.0.part part w.2)
+      | inr none ↦ inr (among_all (λ (m : Made). m.part ≡ part → ⊥) all (λ m among same. both_ways (list_any here all) none (any_from here all m among (eq-eqb m.part part same))))
     ]
 
 -- parts in which those that were made are in their places
 module _ (over : Entry → Entry → Bool) (cut : ℕ) (rule : Entry → ℕ) (pool : List Entry) (parts new : List Part) (arrivals : List Arrival) (all : List Made) (are : ArePartsMade over cut rule pool parts arrivals all)
     (put : ArePut all parts new) where
-  is_put : (made : Made) → Among made all → levels_in made.part new ≡ replaced made.first (new_levels made) (levels_in made.part parts)
-  is_put = all_among (λ (m : Made). levels_in m.part new ≡ replaced m.first (new_levels m) (levels_in m.part parts)) all put.made
+  is_put : (made : Made) → Among made all → items_at made.part new ≡ replaced made.first (new_levels made) (items_at made.part parts)
+  is_put = all_among (λ (m : Made). items_at m.part new ≡ replaced m.first (new_levels m) (items_at m.part parts)) all put.made
 
   is_made : (made : Made) → Among made all → IsPartMade over cut rule pool parts arrivals made
   is_made = all_among (IsPartMade over cut rule pool parts arrivals) all are.each
 
-  pub part_after : (part : ℕ) → IsMade over cut (levels_of part (parts_at pool parts)) (levels_of part (parts_at pool new)) (map (arrived pool) (coming_to part arrivals))
+  pub part_after : (part : ℕ) → IsMade over cut (held_at part (parts_at pool parts)) (held_at part (parts_at pool new)) (map (arrived pool) (coming_to part arrivals))
   part_after part =
-      let was = levels_of part (parts_at pool parts) in
+      let was = held_at part (parts_at pool parts) in
       elim (made_or_not part all) [
         | inl w ↦
             let made = w.0 in
-            let held = levels_in made.part parts in
-            let now : levels_of made.part (parts_at pool new) ≡ replaced made.first (levels_at pool (new_levels made)) (levels_at pool held) =
+            let held = items_at made.part parts in
+            let now : held_at made.part (parts_at pool new) ≡ replaced made.first (levels_at pool (new_levels made)) (levels_at pool held) =
             levels_of_at pool made.part new ∙ (ap (levels_at pool) (is_put made w.1) ∙ replaced_map (λ (level : Vec Item Global). entries_at pool level.items) made.first (new_levels made) held) in
-            subst (λ p. IsMade over cut (levels_of p (parts_at pool parts)) (levels_of p (parts_at pool new)) (map (arrived pool) (coming_to p arrivals))) w.2
-            (subst (λ l. IsMade over cut l (levels_of made.part (parts_at pool new)) (map (arrived pool) (coming_to made.part arrivals))) (sym (levels_of_at pool made.part parts))
+            subst (λ p. IsMade over cut (held_at p (parts_at pool parts)) (held_at p (parts_at pool new)) (map (arrived pool) (coming_to p arrivals))) w.2
+            (subst (λ l. IsMade over cut l (held_at made.part (parts_at pool new)) (map (arrived pool) (coming_to made.part arrivals))) (sym (levels_of_at pool made.part parts))
             (subst (λ l. IsMade over cut (levels_at pool held) l (map (arrived pool) (coming_to made.part arrivals))) (sym now) (is_made made w.1).levels.made))
         | inr alone ↦
-            let same : levels_of part (parts_at pool new) ≡ was = levels_of_at pool part new ∙ (ap (levels_at pool) (put.others part alone) ∙ sym (levels_of_at pool part parts)) in
+            let same : held_at part (parts_at pool new) ≡ was = levels_of_at pool part new ∙ (ap (levels_at pool) (put.others part alone) ∙ sym (levels_of_at pool part parts)) in
             subst (λ l. IsMade over cut was l (map (arrived pool) (coming_to part arrivals))) (sym same)
             (subst (λ l. IsMade over cut was was (map (arrived pool) l)) (sym (are.others part alone)) (nothing_comes over cut was))
       ]
@@ -79,57 +74,54 @@ module _ (over : Entry → Entry → Bool) (cut : ℕ) (rule : Entry → ℕ) (p
       elim (made_or_not n all) [
         | inl w ↦
             let made = w.0 in
-            let held = levels_in made.part parts in
+            let held = items_at made.part parts in
             let news = new_levels made in
-            let there : AreAllItems rule pool held = in_pool_of rule pool parts in_pool made.part in
+            let there : AreAllItems rule pool held = all_held IsLevel parts in_pool made.part in
             let back = made.first + length news in
-            subst (λ p. AreAllItems rule pool (levels_in p new)) w.2
+            subst (λ p. AreAllItems rule pool (items_at p new)) w.2
             (subst (AreAllItems rule pool) (sym (is_put made w.1))
             (All-append IsLevel (take made.first held ++ news) (drop back held)
             (All-append IsLevel (take made.first held) news (All-take IsLevel made.first held there)
             (All-take IsLevel (made.end - made.first) (drop made.first made.levels.items) (All-drop IsLevel made.first made.levels.items (is_made made w.1).levels.items)))
             (All-drop IsLevel back held there)))
-        | inr alone ↦ subst (AreAllItems rule pool) (sym (put.others n alone)) (in_pool_of rule pool parts in_pool n)
+        | inr alone ↦ subst (AreAllItems rule pool) (sym (put.others n alone)) (all_held IsLevel parts in_pool n)
       ])
 
   pub depth_after : (most : ℕ) → cut ≤ most → depth (parts_at pool parts) ≤ most → depth (parts_at pool new) ≤ most
   depth_after most cut_fits shallow =
-      let counted : (some : List Part) (part : ℕ) → length (levels_of part (parts_at pool some)) ≡ length (levels_in part some) =
-      λ some part. ap length (levels_of_at pool part some) ∙ length-map (levels_in part some) (λ (level : Vec Item Global). entries_at pool level.items) in
-      let before : (part : ℕ) → length (levels_in part parts) ≤ most = λ part. omega (arith, counted parts part, within_depth (parts_at pool parts) part, shallow) in
+      let counted : (some : List Part) (part : ℕ) → length (held_at part (parts_at pool some)) ≡ length (items_at part some) =
+      λ some part. ap length (levels_of_at pool part some) ∙ length-map (items_at part some) (λ (level : Vec Item Global). entries_at pool level.items) in
+      let before : (part : ℕ) → length (items_at part parts) ≤ most = λ part. omega (arith, counted parts part, within_depth (parts_at pool parts) part, shallow) in
       depth_within (parts_at pool new) most (λ part.
       elim (made_or_not part all) [
         | inl w ↦
             let made = w.0 in
             let one = (is_made made w.1).levels in
-            subst (λ p. length (levels_of p (parts_at pool new)) ≤ most) w.2
-            (omega (arith, counted new made.part, ap length (is_put made w.1), taken_long made.first made.end made.levels.items (levels_in made.part parts) one.fits.inside one.fits.first (omega (arith, one.fits.long)), one.no_deeper, before made.part, cut_fits))
+            subst (λ p. length (held_at p (parts_at pool new)) ≤ most) w.2
+            (omega (arith, counted new made.part, ap length (is_put made w.1), taken_long made.first made.end made.levels.items (items_at made.part parts) one.fits.inside one.fits.first (omega (arith, one.fits.long)), one.no_deeper, before made.part, cut_fits))
         | inr alone ↦ omega (arith, counted new part, ap length (put.others part alone), before part)
       ])
 
 -- those that come to a part are those of its number
-through_map : {E F : Type 0} (f : E → F) (q : F → Bool) (p : E → Bool) (xs : List E) → ((x : E) → Among x xs → q (f x) ≡ p x) → filter q (map f xs) ≡ map f (filter p xs)
-through_map f q p [] agree = refl
-through_map f q p (x ∷ xs) agree =
-    let deeper = through_map f q p xs (λ y m. agree y (inr m)) in
-    let here = agree x (inl refl) in
-    elim (cases_Bool (p x)) [
-      | inl passes ↦
-          cond-true (q (f x)) (f x ∷ filter q (map f xs)) (filter q (map f xs)) (here ∙ passes)
-          ∙ (ap (λ l. f x ∷ l) deeper ∙ ap (map f) (sym (cond-true (p x) (x ∷ filter p xs) (filter p xs) passes)))
-      | inr fails ↦
-          cond-false (q (f x)) (f x ∷ filter q (map f xs)) (filter q (map f xs)) (here ∙ fails)
-          ∙ (deeper ∙ ap (map f) (sym (cond-false (p x) (x ∷ filter p xs) (filter p xs) fails)))
+filter_mapped : {E F : Type 0} (f : E → F) (q : F → Bool) (xs : List E) → filter q (map f xs) ≡ map f (filter (λ x. q (f x)) xs)
+filter_mapped f q [] = refl
+filter_mapped f q (x ∷ xs) =
+    elim (q (f x)) as (λ b. cond b (f x ∷ filter q (map f xs)) (filter q (map f xs)) ≡ map f (cond b (x ∷ filter (λ y. q (f y)) xs) (filter (λ y. q (f y)) xs))) [
+      | true ↦ ap (λ l. f x ∷ l) (filter_mapped f q xs)
+      | false ↦ filter_mapped f q xs
     ]
 
 pub coming_of : (number : Entry → ℕ) (pool : List Entry) (arrivals : List Arrival) → All (λ a. number (arrived pool a) ≡ a.part) arrivals → (part : ℕ)
     → filter (is_in number part) (map (arrived pool) arrivals) ≡ map (arrived pool) (coming_to part arrivals)
 coming_of number pool arrivals of_part part =
-    through_map (arrived pool) (is_in number part) (λ (a : Arrival). eqb a.part part) arrivals (λ a m. ap (λ n. eqb n part) (all_among (λ (b : Arrival). number (arrived pool b) ≡ b.part) arrivals of_part a m))
+    filter_mapped (arrived pool) (is_in number part) arrivals
+    ∙ ap (map (arrived pool))
+    (filter_agree_among (λ (a : Arrival). is_in number part (arrived pool a)) (λ (a : Arrival). eqb a.part part) arrivals
+    (λ a m. ap (λ n. eqb n part) (all_among (λ (b : Arrival). number (arrived pool b) ≡ b.part) arrivals of_part a m)))
 
 -- all parts, of which each is made of what came to it
 module _ (over : Entry → Entry → Bool) (number : Entry → ℕ) (cut : ℕ) (old new : List (List (List Entry))) (coming : List Entry)
-    (after : (part : ℕ) → IsMade over cut (levels_of part old) (levels_of part new) (filter (is_in number part) coming)) where
+    (after : (part : ℕ) → IsMade over cut (held_at part old) (held_at part new) (filter (is_in number part) coming)) where
   pub no_more : NoMore (λ part. filter (is_in number part) coming) old new
   no_more p part = (after part).counts p
 
@@ -145,11 +137,11 @@ module _ (over : Entry → Entry → Bool) (number : Entry → ℕ) (cut : ℕ) 
 
 -- what is below the cut of its part is below that of all
 late : (over : Entry → Entry → Bool) (number : Entry → ℕ) → IsWithin over number → (cut : ℕ) (old : List (List (List Entry))) (before : List Entry) → HaveDifferentIds before → HaveDifferentIds (map entry_of (ranked_parts old)) → ArePartedBy number old
-    → ranked_parts old ≡ levels over before cut → (x : Entry) (n : ℕ) → cut ≤ n → IsBehind over (levels_of (number x) old) n x → comes_after over before cut x ≡ true
+    → ranked_parts old ≡ levels over before cut → (x : Entry) (n : ℕ) → cut ≤ n → IsBehind over (held_at (number x) old) n x → comes_after over before cut x ≡ true
 late over number within zero old before different apart parted is x n low behind = refl
 late over number within (suc c) old before different apart parted is x n low behind =
     let part = number x in
-    let held = levels_of part old in
+    let held = held_at part old in
     let mine = is_in number part in
     let some : ℕ → List Entry = λ j. best over (rest over (filter mine before) j) in
     let k = n - 1 in
@@ -182,3 +174,48 @@ module _ (over : Entry → Entry → Bool) (number : Entry → ℕ) (cut : ℕ) 
         | inr below ↦ inr (late over number within cut old before (first_differ before entries different) (first_differ (map entry_of (ranked_parts old)) entries apart) parted is x below.0 below.1 below.3)
       ])
       upper.counts
+
+-- ---- an addition to parts, from what arrived to what they hold
+
+module _ (over : Entry → Entry → Bool) (rule : Entry → ℕ) (cut : ℕ) (columns : List ℕ) (pool : List Entry) (parts : List Part) (entries : List Entry) (arrivals : List Arrival) (here : HaveArrived over rule cut columns pool parts entries arrivals) where
+  of_part : All (λ a. part_of columns (arrived pool a) ≡ a.part) arrivals
+  of_part = among_all (λ (a : Arrival). part_of columns (arrived pool a) ≡ a.part) arrivals (λ a m. (all_among (IsArrival over rule (part_of columns) pool (parts_at pool parts)) arrivals here.are a m).part)
+
+  -- to parts that there are, and to their levels
+  pub to_coming : length parts ≡ parts_by columns → AreComing over rule pool parts arrivals
+  to_coming long =
+      record {
+        dealt = here.dealt;
+        part = among_all (λ (a : Arrival). a.part < length parts) arrivals
+            (λ a m. omega (arith, long, part_below columns (arrived pool a), all_among (λ (b : Arrival). part_of columns (arrived pool b) ≡ b.part) arrivals of_part a m));
+        start = among_all (λ (a : Arrival). StartsAt over rule pool (levels_at pool (items_at a.part parts)) a) arrivals
+            (λ a m. subst (λ l. StartsAt over rule pool l a) (levels_of_at pool a.part parts) (all_among (IsArrival over rule (part_of columns) pool (parts_at pool parts)) arrivals here.are a m).starts);
+      }
+
+  -- and the parts once they are made and put in their places
+  module _ (new : List Part) (all : List Made) (are : ArePartsMade over cut rule pool parts arrivals all)
+      (put : ArePut all parts new)
+      (different : HaveDifferentIds (map entry_of (ranked_parts (parts_at pool parts)) ++ entries)) (parted : ArePartedBy (part_of columns) (parts_at pool parts)) where
+    after : (part : ℕ) → IsMade over cut (held_at part (parts_at pool parts)) (held_at part (parts_at pool new)) (filter (is_in (part_of columns) part) (map (arrived pool) arrivals))
+    after part =
+        subst (IsMade over cut (held_at part (parts_at pool parts)) (held_at part (parts_at pool new))) (sym (coming_of (part_of columns) pool arrivals of_part part)) (part_after over cut rule pool parts new arrivals all are put part)
+
+    apart : HaveDifferentIds (map entry_of (ranked_parts (parts_at pool parts)) ++ map (arrived pool) arrivals)
+    apart = some_differ over (part_of columns) cut (parts_at pool parts) entries (map (arrived pool) arrivals) here.upper (map entry_of (ranked_parts (parts_at pool parts))) different
+
+    pub added_differ : HaveDifferentIds (map entry_of (ranked_parts (parts_at pool new)))
+    added_differ =
+        differ_after (part_of columns) (parts_at pool parts) (parts_at pool new) (map (arrived pool) arrivals) apart
+        (no_more over (part_of columns) cut (parts_at pool parts) (parts_at pool new) (map (arrived pool) arrivals) after)
+
+    pub added_parted : ArePartedBy (part_of columns) (parts_at pool new)
+    added_parted =
+        parted_after (part_of columns) (parts_at pool parts) (parts_at pool new) (map (arrived pool) arrivals) parted
+        (no_more over (part_of columns) cut (parts_at pool parts) (parts_at pool new) (map (arrived pool) arrivals) after)
+
+    pub added_levels : IsStrictOrder over → IsWithin over (part_of columns) → (before : List Entry) → HaveDifferentIds (before ++ entries) → ranked_parts (parts_at pool parts) ≡ levels over before cut
+        → ranked_parts (parts_at pool new) ≡ levels over (before ++ entries) cut
+    added_levels strict within before differ is =
+        added over (part_of columns) cut (parts_at pool parts) (parts_at pool new) (map (arrived pool) arrivals) after within before
+        (some_differ over (part_of columns) cut (parts_at pool parts) entries (map (arrived pool) arrivals) here.upper before differ) (first_differ (map entry_of (ranked_parts (parts_at pool parts))) entries different) added_differ parted is
+        ∙ upper_levels over (part_of columns) cut (parts_at pool parts) entries (map (arrived pool) arrivals) here.upper strict within before differ different parted is

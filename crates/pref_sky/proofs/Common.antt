@@ -25,13 +25,13 @@ pub use Rattle.pref_sky.specs.Answers.{answer_of, at_least, count_before, count_
 pub use Rattle.pref_sky.specs.Arrivals.{AreComing, AreDealt, AreInOrderOfStart, HaveArrived, IsArrival, KeepsUpper, StartsAt, arrived, coming_to, deals_before}
 pub use Rattle.pref_sky.specs.Best.{IsApart, best, is_beaten, rest, without_best}
 pub use Rattle.pref_sky.specs.ChainOrders.{AreInOrder, AreSorted, comes_before, is_below, own_levels, own_order}
-pub use Rattle.pref_sky.specs.Items.{AreAllItems, AreInPool, AreItems, HasGrown, IsItem, entries_at, entry_at, is_word, item_order, items_at, levels_at, levels_in, parts_at, place_order}
+pub use Rattle.pref_sky.specs.Items.{AreAllItems, AreInPool, AreItems, HasGrown, IsItem, entries_at, entry_at, is_word, item_order, items_at, levels_at, parts_at, place_order}
 pub use Rattle.pref_sky.specs.Layers.{StandsBehind, count_above, leveled, with_last, with_level}
 pub use Rattle.pref_sky.specs.Levels.{HaveDifferentIds, at_level, entry_of, entry_order, held_after, in_order_of_id, levels, put_by_id}
 pub use Rattle.pref_sky.specs.Made.{AreInOrderOfPart, AreLevelsMade, ArePartsMade, ArePut, Fits, IsPartMade, LeaveAlone, new_levels}
 pub use Rattle.pref_sky.specs.Members.{Among}
-pub use Rattle.pref_sky.specs.Partials.{IsBehind, IsMade, held_at, ranked_from, replaced}
-pub use Rattle.pref_sky.specs.Parts.{ArePartedBy, all_at, depth, is_in, levels_of, mixed_onto, part_of, parts_by, ranked_parts, ranked_upto}
+pub use Rattle.pref_sky.specs.Partials.{IsBehind, IsMade, KeepsAllBut, held_at, ranked_from, replaced}
+pub use Rattle.pref_sky.specs.Parts.{ArePartedBy, all_at, depth, is_in, mixed_onto, part_of, parts_by, ranked_parts, ranked_upto}
 pub use Rattle.pref_sky.specs.Passes.{IsClear, IsMet, IsTold, Parted, Passes, Passing, Sifted}
 pub use Rattle.pref_sky.specs.Signatures.{signature_by}
 pub use Rattle.pref_sky.specs.Sorted.{AreLeveled, AreLowest, HoldsUpper}

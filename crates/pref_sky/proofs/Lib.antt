@@ -17,7 +17,6 @@ pub mod Splits
 pub mod Enough
 pub mod HeldLevels
 pub mod LevelByLevel
-pub mod Halves
 pub mod StairLaws
 pub mod LineLaws
 pub mod ChainStairs
@@ -39,8 +38,6 @@ pub mod PartItems
 pub mod PartArrivals
 pub mod PartSteps
 pub mod AddedParts
-pub mod Additions
 pub mod MadeLevels
 pub mod MadeItems
-pub mod Replacements
 pub mod Dealing

@@ -3,9 +3,12 @@ use Rattle.pref_sky.proofs.Common.{◌≡◌, ℕ, suc, ◌≤◌, ◌<◌, ◌+
 use Rattle.pref_sky.proofs.Common.{length-drop, append-nil, append_assoc, drop_all, drop-append-le, Global, All, drop-take, get_or-drop, get_or_default, length-map, map-append, nil_from_length, take-append-drop, All-append, All-drop}
 use Rattle.pref_sky.proofs.Common.{All-push, All-take, IsNonDecreasingBy-drop, IsStrictOrder, RowOrder, Suit, Arrival, Entry, Item, AreInOrderOfStart, StartsAt, arrived, AreAllItems, AreItems, IsItem}
 use Rattle.pref_sky.proofs.Common.{entries_at, entry_at, item_order, items_at, levels_at, entry_order, IsBehind, IsMade, replaced, Parted, signature_by, Among}
+use Rattle.pref_sky.proofs.Common.{cases_lt, drop_of_length-le, length-take-le, max, min}
+use Rattle.std.proofs.Common.{drop-drop}
 use Rattle.pref_term.specs.declared.signature.scale.Scale.{Scale}
 use Rattle.pref_sky.proofs.Members.{all_among, among_all, from_map, in_map}
-use Rattle.pref_sky.proofs.Pools.{entries_held, items_held}
+use Rattle.pref_sky.proofs.PartItems.{all_held}
+use Rattle.pref_sky.proofs.Pools.{entries_held}
 use Rattle.pref_sky.proofs.PooledItems.{entries_parted, parted_items, suit_tells}
 use Rattle.pref_sky.proofs.MadeLevels.{AreBehind, Making, making_begins, making_ends, making_more}
 
@@ -93,7 +96,7 @@ module _ (order : RowOrder) (strict : IsStrictOrder (entry_order order)) (cuts :
       let behind = drop count rest in
       let now_items : AreItems rule pool now =
       subst (AreItems rule pool) (sym pushed) (All-append (IsItem rule pool) down (map (λ (a : Arrival). a.item) here) so_far.down_items (arrival_items over rule pool old here (All-take (StartsAt over rule pool old) count rest so_far.starts))) in
-      let held_items = items_held rule pool n levels are in
+      let held_items = all_held (IsItem rule pool) levels are n in
       let both = All-append (IsItem rule pool) held now held_items now_items in
       let each = parted_items order rule pool held now top.items others parted both in
       let entry : Item → Entry = λ item. entry_at pool item.place in
@@ -139,3 +142,27 @@ module _ (order : RowOrder) (strict : IsStrictOrder (entry_order order)) (cuts :
       subst (λ l. IsMade (entry_order order) cut old l (map (arrived pool) arrivals)) (ap (λ n. (take first old ++ part) ++ drop n old) reach ∙ ap (λ l. replaced first (levels_at pool l) old) (sym new))
       (making_ends (entry_order order) strict cut (length made) old (take first old ++ part) (map (arrived pool) arrivals) (entries_at pool down) (map (arrived pool) rest)
       (elim ended [ inl done ↦ inl done | inr none ↦ inr (ap (entries_at pool) (nil_from_length down none.0), ap (map (arrived pool)) (nil_from_length rest none.1)) ]) so_far.making)
+
+-- those of another list from the first place to the end
+module _ {E : Type 0} (first end : ℕ) (new old : List E) (inside : first ≤ length old) (from : first ≤ end) (upto : end ≤ length new) where
+  part_long : length (take (end - first) (drop first new)) ≡ end - first
+  part_long = length-take-le (end - first) (drop first new) (omega (arith, length-drop first new, upto))
+
+  pub taken_long : length (replaced first (take (end - first) (drop first new)) old) ≡ max end (length old)
+  taken_long =
+      let part = take (end - first) (drop first new) in
+      let back = first + length part in
+      omega (arith, length-append (take first old ++ part) (drop back old), length-append (take first old) part, length-take-le first old inside, length-drop back old, part_long, from)
+
+  -- what is behind the end stays
+  pub traded : (behind : ℕ) → behind ≡ min end (length old)
+      → take first old ++ (take (end - first) (drop first new) ++ drop (behind - first) (drop first old)) ≡ replaced first (take (end - first) (drop first new)) old
+  traded behind at =
+      let front = take first old in
+      let part = take (end - first) (drop first new) in
+      let same : drop (first + (behind - first)) old ≡ drop (first + length part) old =
+      elim (cases_lt end (length old)) [
+        | inl less ↦ let here : first + (behind - first) ≡ first + length part = omega (arith, at, less, part_long, from) in ap (λ n. drop n old) here
+        | inr past ↦ drop_of_length-le old (omega (arith, at, past, inside)) ∙ sym (drop_of_length-le old (omega (arith, past, part_long, from)))
+      ] in
+      sym (append_assoc front part (drop (behind - first) (drop first old))) ∙ ap (λ l. (front ++ part) ++ l) (drop-drop (behind - first) first old ∙ same)

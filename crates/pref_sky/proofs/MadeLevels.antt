@@ -4,11 +4,10 @@ use Rattle.pref_sky.proofs.Common.{append_assoc, length-append, length-take-le, 
 use Rattle.pref_sky.proofs.Common.{sum_by-append, sum_by-cons, sum_by_push, sum_by-take-drop, IsStrictOrder, Entry, IsApart, best, is_beaten, rest, without_best, HaveDifferentIds, entry_of, levels}
 use Rattle.pref_sky.proofs.Common.{IsBehind, IsMade, held_at, ranked_from, ranked_upto, Parted, Among}
 use Rattle.pref_sky.proofs.Members.{any_from, any_gives, in_filter, from_filter, in_left, in_right, in_either}
-use Rattle.pref_sky.proofs.Removals.{beaten_by_best, best_of_rest_is, comes_after, comes_after_among_more, comes_after_upto, rest_is, same_chains}
+use Rattle.pref_sky.proofs.Removals.{beaten_by_best, beaten_by_rest, best_of_rest_is, comes_after, comes_after_among_more, comes_after_upto, rest_is, same_chains}
 use Rattle.pref_sky.proofs.Orders.{SameMembers, among_in_order}
 use Rattle.pref_sky.proofs.Merges.{HoldsLevels, different_best, is_at, same_best}
 use Rattle.pref_sky.proofs.HeldLevels.{beaten_by_more, best_apart, best_of_same, best_without, different_by_count, left_without, same_behind, same_beside, same_sym, same_then, without_of_same}
-use Rattle.pref_sky.proofs.Halves.{beaten_by_rest}
 use Rattle.pref_sky.proofs.Parting.{best_are, others_are}
 use Rattle.pref_sky.proofs.LevelLaws.{held_differ}
 use Rattle.pref_sky.proofs.LevelByLevel.{best_with_top, without_with_top}

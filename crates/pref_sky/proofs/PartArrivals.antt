@@ -1,27 +1,20 @@
 -- Arrivals in order of part, then of start: those that come to one part stand together.
-use Rattle.pref_sky.proofs.Common.{◌≡◌, ℕ, ◌≤◌, ◌<◌, ◌+◌, Bool, false, ◌&&◌, ◌||◌, ltb, eqb, eq-eqb, inl, inr, List, ◌++◌, length, get_or, take, drop, filter, sym, ◌∙◌, ap, subst, arith, append-nil}
-use Rattle.pref_sky.proofs.Common.{length-take, length-drop, get_or-drop, All, IsNonDecreasingBy, and_from, both_ways, cases_lt, eqb-true, false_from_ne_true, lt-ltb, ltb-false, or_left, or_right}
+use Rattle.pref_sky.proofs.Common.{◌≡◌, ℕ, ◌≤◌, ◌<◌, ◌+◌, Bool, false, nat_tests, deals_before, eqb, eq-eqb, inl, inr, List, ◌++◌, length, get_or, take, drop, filter, sym, ◌∙◌, ap, subst, arith, append-nil}
+use Rattle.pref_sky.proofs.Common.{length-take, length-drop, get_or-drop, All, IsNonDecreasingBy, cases_lt, eqb-true, false_from_ne_true}
 use Rattle.pref_sky.proofs.Common.{get_or-take, get_or_default, take-append-drop, filter-append, IsNonDecreasingBy-from_all_adjacent, Arrival, AreDealt, AreInOrderOfStart, coming_to, Among}
 use Rattle.pref_sky.proofs.Members.{all_among, from_filter}
 use Rattle.pref_sky.proofs.Enough.{all_pass, none_pass}
 
 -- the parts do not fall, nor do the starts within one
-parts_stay : (p q s t : ℕ) → (ltb p q || (eqb p q && ltb s t)) ≡ false → q ≤ p
-parts_stay p q s t before =
-    elim (cases_lt p q) [ inl less ↦ absurd (both_ways (ltb p q || (eqb p q && ltb s t)) before (or_left (ltb p q) (eqb p q && ltb s t) (lt-ltb p q less))) | inr le ↦ le ]
+parts_stay : (a b : Arrival) → deals_before b a ≡ false → a.part ≤ b.part
+parts_stay a b before = grind (arith, nat_tests, before)
 
-starts_stay : (p q s t : ℕ) → (ltb p q || (eqb p q && ltb s t)) ≡ false → p ≡ q → ltb s t ≡ false
-starts_stay p q s t before same =
-    false_from_ne_true (ltb s t)
-    (λ early. both_ways (ltb p q || (eqb p q && ltb s t)) before (or_right (ltb p q) (eqb p q && ltb s t) (and_from (eqb p q) (ltb s t) (eq-eqb p q same) early)))
+starts_stay : (a b : Arrival) → deals_before b a ≡ false → b.part ≡ a.part → a.start ≤ b.start
+starts_stay a b before same = grind (arith, nat_tests, before, same)
 
 dealt_by_part : (arrivals : List Arrival) → AreDealt arrivals → IsNonDecreasingBy (λ (a : Arrival). a.part) arrivals
 dealt_by_part arrivals dealt =
-    IsNonDecreasingBy-from_all_adjacent (λ (a : Arrival). a.part) arrivals
-    (λ k d inside.
-    let next = get_or arrivals (k + 1) d in
-    let here = get_or arrivals k d in
-    parts_stay next.part here.part next.start here.start (dealt k d (omega arith) inside))
+    IsNonDecreasingBy-from_all_adjacent (λ (a : Arrival). a.part) arrivals (λ k d inside. parts_stay (get_or arrivals k d) (get_or arrivals (k + 1) d) (dealt k d (omega arith) inside))
 
 -- the first is of the first part
 pub first_part : (arrivals : List Arrival) (d : Arrival) → AreDealt arrivals → All (λ a. (get_or arrivals 0 d).part ≤ a.part) arrivals
@@ -33,11 +26,8 @@ pub dealt_behind : (arrivals : List Arrival) (n : ℕ) → AreDealt arrivals →
 dealt_behind arrivals n dealt k d from inside =
     let there : (n + k) + 1 < length arrivals = omega (arith, inside, length-drop n arrivals) in
     let next : n + (k + 1) ≡ (n + k) + 1 = omega arith in
-    let stays : (a b : Arrival) → a ≡ get_or arrivals ((n + k) + 1) d → b ≡ get_or arrivals (n + k) d → (ltb a.part b.part || (eqb a.part b.part && ltb a.start b.start)) ≡ false =
-    λ a b first second.
-    subst (λ x. (ltb x.part b.part || (eqb x.part b.part && ltb x.start b.start)) ≡ false) (sym first)
-    (let at : Arrival = get_or arrivals ((n + k) + 1) d in subst (λ x. (ltb at.part x.part || (eqb at.part x.part && ltb at.start x.start)) ≡ false) (sym second) (dealt (n + k) d (omega arith) there)) in
-    stays (get_or (drop n arrivals) (k + 1) d) (get_or (drop n arrivals) k d) (get_or-drop n arrivals (k + 1) d ∙ ap (λ j. get_or arrivals j d) next) (get_or-drop n arrivals k d)
+    ap (λ a. deals_before a (get_or (drop n arrivals) k d)) (get_or-drop n arrivals (k + 1) d ∙ ap (λ j. get_or arrivals j d) next)
+    ∙ (ap (deals_before (get_or arrivals ((n + k) + 1) d)) (get_or-drop n arrivals k d) ∙ dealt (n + k) d (omega arith) there)
 
 module _ (part : ℕ) (arrivals : List Arrival) (n : ℕ) (dealt : AreDealt arrivals) where
   -- in order of start within one part
@@ -53,7 +43,7 @@ module _ (part : ℕ) (arrivals : List Arrival) (n : ℕ) (dealt : AreDealt arri
       let this_is : get_or (take n arrivals) k d ≡ this = get_or-take n arrivals k d (omega (arith, short)) in
       let same : next.part ≡ this.part =
       omega (arith, ap (λ (a : Arrival). a.part) next_is, ap (λ (a : Arrival). a.part) this_is, here (k + 1) d inside, here k d (omega (arith, inside))) in
-      let stays : this.start ≤ next.start = ltb-false next.start this.start (starts_stay next.part this.part next.start this.start (dealt k d (omega arith) there) same) in
+      let stays : this.start ≤ next.start = starts_stay this next (dealt k d (omega arith) there) same in
       omega (arith, ap (λ (a : Arrival). a.start) next_is, ap (λ (a : Arrival). a.start) this_is, stays))
 
   -- what is behind those of the first part is of later ones

@@ -2,14 +2,14 @@
 use Rattle.pref_sky.proofs.Common.{◌≡◌, ℕ, zero, suc, ◌≤◌, ◌<◌, ◌+◌, ◌^◌, ◌/◌, Bool, true, false, cond, not, ◌&&◌, ltb, inl, inr, List, ℤ, [], ◌∷◌, ◌++◌, length, map, refl, sym, ◌∙◌, ap, subst, arith}
 use Rattle.pref_sky.proofs.Common.{filter, eqb, eq-eqb, max, count_by, cases_Bool, cases_lt, eqb-true, not_from_false, and_parts, or_cases, Decides-int_eq, nat_tests, filter_agree, sum_by-append}
 use Rattle.pref_sky.proofs.Common.{length-filter, cell, in_same_group, RowOrder, StaysWithin, mixed, Entry, best, is_beaten, rest, without_best, HaveDifferentIds, at_level, entry_of, entry_order}
-use Rattle.pref_sky.proofs.Common.{levels, held_at, ranked_from, ArePartedBy, all_at, depth, is_in, levels_of, mixed_onto, part_of, parts_by, ranked_parts, ranked_upto, Among}
+use Rattle.pref_sky.proofs.Common.{levels, held_at, ranked_from, ArePartedBy, all_at, depth, is_in, mixed_onto, part_of, parts_by, ranked_parts, ranked_upto, Among}
 use Rattle.std.proofs.Math.Bool.{and_comm}
 use Rattle.std.proofs.Math.Nat.{le-max_left, le-max_right, max-le}
-use Rattle.pref_sky.proofs.Members.{any_from, any_gives, in_filter, from_filter, in_left, in_right, in_either, from_map}
+use Rattle.pref_sky.proofs.Members.{any_from, any_gives, in_filter, from_filter, in_left, in_right, in_either, from_map, in_map}
 use Rattle.pref_sky.proofs.Orders.{one_passes}
 use Rattle.pref_sky.proofs.Removals.{filter_filter, same_answer}
 use Rattle.pref_sky.proofs.Merges.{different_best, different_filter}
-use Rattle.pref_sky.proofs.Enough.{among_map, filter_agree_among, none_pass}
+use Rattle.pref_sky.proofs.Enough.{filter_agree_among, none_pass}
 use Rattle.pref_sky.proofs.HeldLevels.{beaten_by_more, different_by_count}
 use Rattle.pref_sky.proofs.LevelLaws.{count_both, count_and, count_filtered}
 use Rattle.pref_sky.proofs.RankedLevels.{count_joined, count_level, level_differs, count_parts, one_level}
@@ -68,12 +68,12 @@ module _ (over : Entry → Entry → Bool) (number : Entry → ℕ) (within : Is
   level_in_part all n = ap (best over) (rest_in_part all n) ∙ best_in_part (rest over all n)
 
 -- what is at a level of a part is at the level
-to_all : (parts : List (List (List Entry))) (part n : ℕ) (e : Entry) → Among e (held_at n (levels_of part parts)) → Among e (all_at parts n)
+to_all : (parts : List (List (List Entry))) (part n : ℕ) (e : Entry) → Among e (held_at n (held_at part parts)) → Among e (all_at parts n)
 to_all [] part n e m = m
 to_all (first ∷ others) zero n e m = in_left (held_at n first) (all_at others n) e m
 to_all (first ∷ others) (suc part) n e m = in_right (held_at n first) (all_at others n) e (to_all others part n e m)
 
-from_all : (parts : List (List (List Entry))) (n : ℕ) (e : Entry) → Among e (all_at parts n) → (part : ℕ) × Among e (held_at n (levels_of part parts))
+from_all : (parts : List (List (List Entry))) (n : ℕ) (e : Entry) → Among e (all_at parts n) → (part : ℕ) × Among e (held_at n (held_at part parts))
 from_all [] n e m = absurd m
 from_all (first ∷ others) n e m =
     elim (in_either (held_at n first) (all_at others n) e m) [
@@ -81,7 +81,7 @@ from_all (first ∷ others) n e m =
       | inr further ↦ let w = from_all others n e further in (suc w.0, w.1)
     ]
 
-pub within_depth : (parts : List (List (List Entry))) (part : ℕ) → length (levels_of part parts) ≤ depth parts
+pub within_depth : (parts : List (List (List Entry))) (part : ℕ) → length (held_at part parts) ≤ depth parts
 within_depth [] part = omega arith
 within_depth (first ∷ others) zero = le-max_left (length first) (depth others)
 within_depth (first ∷ others) (suc part) = omega (arith, within_depth others part, le-max_right (length first) (depth others))
@@ -141,7 +141,7 @@ sum_of_all p (part ∷ others) n le =
 pub count_all : (p : Entry → Bool) (parts : List (List (List Entry))) → count_by p (map entry_of (ranked_parts parts)) ≡ total p parts
 count_all p parts = count_upto p (all_at parts) (depth parts) ∙ sum_of_all p parts (depth parts) (omega arith)
 
-count_part : (p : Entry → Bool) (parts : List (List (List Entry))) (part : ℕ) → count_by p (map entry_of (ranked_from 1 (levels_of part parts))) ≤ total p parts
+count_part : (p : Entry → Bool) (parts : List (List (List Entry))) (part : ℕ) → count_by p (map entry_of (ranked_from 1 (held_at part parts))) ≤ total p parts
 count_part p [] part = omega arith
 count_part p (first ∷ others) zero = omega arith
 count_part p (first ∷ others) (suc part) = omega (arith, count_part p others part)
@@ -152,23 +152,23 @@ count_level_of_all p (part ∷ others) k =
     let held = part in
     omega (arith, count_level_of_all p others k, sum_by-append (λ (e : Entry). cond (p e) 1 0) (held_at k held) (all_at others k), count_parts p k held)
 
-pub part_differs : (parts : List (List (List Entry))) → HaveDifferentIds (map entry_of (ranked_parts parts)) → (part : ℕ) → HaveDifferentIds (map entry_of (ranked_from 1 (levels_of part parts)))
+pub part_differs : (parts : List (List (List Entry))) → HaveDifferentIds (map entry_of (ranked_parts parts)) → (part : ℕ) → HaveDifferentIds (map entry_of (ranked_from 1 (held_at part parts)))
 part_differs parts different part = record { once = λ id. omega (arith, different.once id, count_all (λ e. eqb e.id id) parts, count_part (λ e. eqb e.id id) parts part) }
 
 pub all_differ : (parts : List (List (List Entry))) → HaveDifferentIds (map entry_of (ranked_parts parts)) → (k : ℕ) → HaveDifferentIds (all_at parts k)
 all_differ parts different k = record { once = λ id. omega (arith, different.once id, count_all (λ e. eqb e.id id) parts, count_level_of_all (λ e. eqb e.id id) parts k) }
 
-held_number : (number : Entry → ℕ) (parts : List (List (List Entry))) → ArePartedBy number parts → (part k : ℕ) (e : Entry) → Among e (held_at k (levels_of part parts)) → number e ≡ part
+held_number : (number : Entry → ℕ) (parts : List (List (List Entry))) → ArePartedBy number parts → (part k : ℕ) (e : Entry) → Among e (held_at k (held_at part parts)) → number e ≡ part
 held_number number parts parted part k e m =
-    let held = levels_of part parts in
+    let held = held_at part parts in
     parted part (at_level (suc k) e) (subst (Among (at_level (suc k) e)) (sym (held_upto held)) (to_upto (λ j. held_at j held) (length held) k e (held_there k held e m) m))
 
 -- parts that hold the levels of some entries, and levels of each part's entries
 module _ (over : Entry → Entry → Bool) (number : Entry → ℕ) (within : IsWithin over number) (cut : ℕ) where
   pub hold_apart : (parts : List (List (List Entry))) (all : List Entry) → HaveDifferentIds all → HaveDifferentIds (map entry_of (ranked_parts parts)) → ArePartedBy number parts → ranked_parts parts ≡ levels over all cut
-      → (part : ℕ) → ranked_from 1 (levels_of part parts) ≡ levels over (filter (is_in number part) all) cut
+      → (part : ℕ) → ranked_from 1 (held_at part parts) ≡ levels over (filter (is_in number part) all) cut
   hold_apart parts all different apart parted is part =
-      let held = levels_of part parts in
+      let held = held_at part parts in
       let mine = is_in number part in
       let whole : ℕ → List Entry = λ k. best over (rest over all k) in
       let some : ℕ → List Entry = λ k. best over (rest over (filter mine all) k) in
@@ -184,23 +184,23 @@ module _ (over : Entry → Entry → Bool) (number : Entry → ℕ) (within : Is
       let v = within_if_same whole (all_at parts) cut (depth parts) (sym same) k e below w.0 in
       let u = from_all parts k e v.1 in
       let here : u.0 ≡ part = sym (held_number number parts parted u.0 k e u.1) ∙ eqb-true (number e) part w.1 in
-      let there : Among e (held_at k held) = subst (λ j. Among e (held_at k (levels_of j parts))) here u.1 in
+      let there : Among e (held_at k held) = subst (λ j. Among e (held_at k (held_at j parts))) here u.1 in
       (held_there k held e there, there))
       ∙ sym (levels_upto_is over (filter mine all) cut))
 
   pub hold_together : (parts : List (List (List Entry))) (all : List Entry) → HaveDifferentIds all → HaveDifferentIds (map entry_of (ranked_parts parts))
-      → ((part : ℕ) → ranked_from 1 (levels_of part parts) ≡ levels over (filter (is_in number part) all) cut) → ranked_parts parts ≡ levels over all cut
+      → ((part : ℕ) → ranked_from 1 (held_at part parts) ≡ levels over (filter (is_in number part) all) cut) → ranked_parts parts ≡ levels over all cut
   hold_together parts all different apart each =
       let whole : ℕ → List Entry = λ k. best over (rest over all k) in
-      let held : ℕ → ℕ → List Entry = λ part k. held_at k (levels_of part parts) in
+      let held : ℕ → ℕ → List Entry = λ part k. held_at k (held_at part parts) in
       let some : ℕ → ℕ → List Entry = λ part k. best over (rest over (filter (is_in number part) all) k) in
-      let long : ℕ → ℕ = λ part. length (levels_of part parts) in
+      let long : ℕ → ℕ = λ part. length (held_at part parts) in
       let same : (part : ℕ) → ranked_upto (held part) (long part) ≡ ranked_upto (some part) cut =
-      λ part. sym (held_upto (levels_of part parts)) ∙ (each part ∙ levels_upto_is over (filter (is_in number part) all) cut) in
+      λ part. sym (held_upto (held_at part parts)) ∙ (each part ∙ levels_upto_is over (filter (is_in number part) all) cut) in
       same_upto (all_at parts) whole (depth parts) cut (all_differ parts apart) (λ k. different_best over all k different)
       (λ k e below m.
       let u = from_all parts k e m in
-      let w = within_if_same (held u.0) (some u.0) (long u.0) cut (same u.0) k e (held_there k (levels_of u.0 parts) e u.1) u.1 in
+      let w = within_if_same (held u.0) (some u.0) (long u.0) cut (same u.0) k e (held_there k (held_at u.0 parts) e u.1) u.1 in
       (w.0, (from_filter (is_in number u.0) (whole k) e (subst (Among e) (level_in_part over number within u.0 all k) w.1)).0))
       (λ k e below m.
       let part = number e in
@@ -216,7 +216,7 @@ sum_first f (suc n) = omega (arith, sum_first f n)
 -- no more of a kind are held in a part than were and come to it
 abbrev pub NoMore : (ℕ → List Entry) → List (List (List Entry)) → List (List (List Entry)) → Type 0
 NoMore comes old new = (p : Entry → Bool) (part : ℕ)
-    → count_by p (map entry_of (ranked_from 1 (levels_of part new))) ≤ count_by p (map entry_of (ranked_from 1 (levels_of part old))) + count_by p (comes part)
+    → count_by p (map entry_of (ranked_from 1 (held_at part new))) ≤ count_by p (map entry_of (ranked_from 1 (held_at part old))) + count_by p (comes part)
 
 total_within : (p : Entry → Bool) (comes : ℕ → List Entry) (old new : List (List (List Entry))) → NoMore comes old new → total p new ≤ total p old + sum_upto (λ k. count_by p (comes k)) (length new)
 total_within p comes old [] more = omega arith
@@ -260,11 +260,11 @@ parted_after number old new coming parted more part r m =
       | inl here ↦ eqb-true (number (entry_of r)) part here
       | inr elsewhere ↦
           let other : Entry → Bool = λ e. not (is_in number part e) in
-          let held = map entry_of (ranked_from 1 (levels_of part old)) in
-          let now = map entry_of (ranked_from 1 (levels_of part new)) in
-          let one = one_passes other now (entry_of r) (among_map entry_of (ranked_from 1 (levels_of part new)) r m) (not_from_false (is_in number part (entry_of r)) elsewhere) in
+          let held = map entry_of (ranked_from 1 (held_at part old)) in
+          let now = map entry_of (ranked_from 1 (held_at part new)) in
+          let one = one_passes other now (entry_of r) (in_map entry_of (ranked_from 1 (held_at part new)) r m) (not_from_false (is_in number part (entry_of r)) elsewhere) in
           let none_held = none_counted other held (λ x among.
-          let w = from_map entry_of (ranked_from 1 (levels_of part old)) x among in
+          let w = from_map entry_of (ranked_from 1 (held_at part old)) x among in
           ap not (eq-eqb (number x) part (ap number w.2 ∙ parted part w.0 w.1))) in
           let none_came = none_counted other (filter (is_in number part) coming) (λ x among. ap not (from_filter (is_in number part) coming x among).1) in
           absurd (omega (arith, one, more other part, none_held, none_came))
@@ -280,14 +280,14 @@ part_below [] e = omega arith
 part_below (col ∷ columns) e = omega (arith, mixed_below 0 (col ∷ columns) e.row (omega arith))
 
 -- parts without entries
-pub depth_none : (parts : List (List (List Entry))) → ((part : ℕ) → levels_of part parts ≡ []) → depth parts ≡ 0
+pub depth_none : (parts : List (List (List Entry))) → ((part : ℕ) → held_at part parts ≡ []) → depth parts ≡ 0
 depth_none [] none = refl
 depth_none (first ∷ others) none = ap (λ n. max n (depth others)) (ap length (none 0)) ∙ ap (max 0) (depth_none others (λ part. none (suc part)))
 
-pub nothing_held : (parts : List (List (List Entry))) → ((part : ℕ) → levels_of part parts ≡ []) → ranked_parts parts ≡ []
+pub nothing_held : (parts : List (List (List Entry))) → ((part : ℕ) → held_at part parts ≡ []) → ranked_parts parts ≡ []
 nothing_held parts none = ap (ranked_upto (all_at parts)) (depth_none parts none)
 
 -- no part has more levels than so many
-pub depth_within : (parts : List (List (List Entry))) (most : ℕ) → ((part : ℕ) → length (levels_of part parts) ≤ most) → depth parts ≤ most
+pub depth_within : (parts : List (List (List Entry))) (most : ℕ) → ((part : ℕ) → length (held_at part parts) ≤ most) → depth parts ≤ most
 depth_within [] most each = omega arith
 depth_within (first ∷ others) most each = max-le (each 0) (depth_within others most (λ part. each (suc part)))

@@ -1,6 +1,6 @@
 -- The levels of parts are made anew, part by part, and put into the parts.
 use Rattle.pref_sky.proofs.Common.{◌≡◌, ℕ, ◌<◌, Bool, inl, inr, List, [], ◌∷◌, ◌++◌, length, take, drop, filter, set, ltb, eqb, sym, ◌∙◌, ap, subst, arith, refl, All, eqb-true, false_from_ne_true}
-use Rattle.pref_sky.proofs.Common.{lt-ltb, ltb-true, length-set, take-append-drop, All-drop, All-push, filter-append, Arrival, Entry, Made, AreComing, StartsAt, coming_to, levels_at, levels_in}
+use Rattle.pref_sky.proofs.Common.{lt-ltb, ltb-true, length-set, take-append-drop, All-drop, All-push, filter-append, Arrival, Entry, Made, AreComing, StartsAt, coming_to, levels_at, items_at}
 use Rattle.pref_sky.proofs.Common.{AreInOrderOfPart, AreLevelsMade, ArePut, IsPartMade, LeaveAlone, new_levels, replaced, Among}
 use Rattle.pref_sky.proofs.Enough.{none_pass}
 use Rattle.pref_sky.proofs.Members.{all_among, among_all, in_left, in_right, in_either, from_filter}
@@ -25,7 +25,7 @@ pub record MakingParts (over : Entry → Entry → Bool) (cut : ℕ) (rule : Ent
 
 -- those that come to the first part stand in front
 module _ (over : Entry → Entry → Bool) (cut : ℕ) (rule : Entry → ℕ) (pool : List Entry) (parts : List Part) (arrivals rest : List Arrival) (all : List Made) (making : MakingParts over cut rule pool parts arrivals rest all)
-    (part n : ℕ) (held : Levels) (there : levels_in part parts ≡ held) (coming : take n rest ≡ coming_to part rest) where
+    (part n : ℕ) (held : Levels) (there : items_at part parts ≡ held) (coming : take n rest ≡ coming_to part rest) where
   pub front_of_part : All (λ a. a.part ≡ part) (take n rest)
   front_of_part = among_all (λ (a : Arrival). a.part ≡ part) (take n rest) (λ a m. coming_are part rest a (subst (Among a) coming m))
 
@@ -34,8 +34,8 @@ module _ (over : Entry → Entry → Bool) (cut : ℕ) (rule : Entry → ℕ) (p
       among_all (StartsAt over rule pool (levels_at pool held)) (take n rest)
       (λ a m.
       let of_rest = (from_filter (λ (b : Arrival). eqb b.part part) rest a (subst (Among a) coming m)).0 in
-      let its : levels_in a.part parts ≡ held = ap (λ p. levels_in p parts) (coming_are part rest a (subst (Among a) coming m)) ∙ there in
-      subst (λ l. StartsAt over rule pool (levels_at pool l) a) its (all_among (λ (b : Arrival). StartsAt over rule pool (levels_at pool (levels_in b.part parts)) b) rest making.coming.start a of_rest))
+      let its : items_at a.part parts ≡ held = ap (λ p. items_at p parts) (coming_are part rest a (subst (Among a) coming m)) ∙ there in
+      subst (λ l. StartsAt over rule pool (levels_at pool l) a) its (all_among (λ (b : Arrival). StartsAt over rule pool (levels_at pool (items_at b.part parts)) b) rest making.coming.start a of_rest))
 
   -- and the levels of this part are made
   module _ (behind : All (λ a. part < a.part) (drop n rest)) (first : Arrival) (is_first : Among first rest) (of_part : first.part ≡ part) (made : Made) (is : made.part ≡ part) where
@@ -47,7 +47,7 @@ module _ (over : Entry → Entry → Bool) (cut : ℕ) (rule : Entry → ℕ) (p
 
     pub part_made : AreLevelsMade over cut rule pool held (take n rest) made → IsPartMade over cut rule pool parts arrivals made
     part_made anew =
-        let its : levels_in made.part parts ≡ held = ap (λ p. levels_in p parts) is ∙ there in
+        let its : items_at made.part parts ≡ held = ap (λ p. items_at p parts) is ∙ there in
         let comes : take n rest ≡ coming_to made.part arrivals = coming ∙ (sym (making.others part alone) ∙ ap (λ p. coming_to p arrivals) (sym is)) in
         record {
           part = omega (arith, is, of_part, all_among (λ (a : Arrival). a.part < length parts) rest making.coming.part first is_first);
@@ -79,7 +79,7 @@ module _ (over : Entry → Entry → Bool) (cut : ℕ) (rule : Entry → ℕ) (p
           coming = record {
             dealt = dealt_behind rest n making.coming.dealt;
             part = All-drop (λ (a : Arrival). a.part < length parts) n rest making.coming.part;
-            start = All-drop (λ (a : Arrival). StartsAt over rule pool (levels_at pool (levels_in a.part parts)) a) n rest making.coming.start;
+            start = All-drop (λ (a : Arrival). StartsAt over rule pool (levels_at pool (items_at a.part parts)) a) n rest making.coming.start;
           };
         }
 
@@ -90,17 +90,17 @@ module _ (first now : List Part) (done : List Made) (putting : ArePut done first
       among_all (λ (m : Made). m.part ≡ made.part → ⊥) done
       (λ m among same. omega (arith, same, ltb-true m.part made.part (in_order_across (λ (a b : Made). ltb a.part b.part) done (made ∷ []) once m made among (inl refl))))
 
-  pub still_there : levels_in made.part now ≡ levels_in made.part first
+  pub still_there : items_at made.part now ≡ items_at made.part first
   still_there = putting.others made.part not_yet
 
-  pub putting_more : (new : Part) → made.part < length now → new.items ≡ replaced made.first (new_levels made) (levels_in made.part first) → ArePut (done ++ made ∷ []) first (set now made.part new)
+  pub putting_more : (new : Part) → made.part < length now → new.items ≡ replaced made.first (new_levels made) (items_at made.part first) → ArePut (done ++ made ∷ []) first (set now made.part new)
   putting_more new there is =
-      let IsPut : Made → Type 0 = λ m. levels_in m.part (set now made.part new) ≡ replaced m.first (new_levels m) (levels_in m.part first) in
+      let IsPut : Made → Type 0 = λ m. items_at m.part (set now made.part new) ≡ replaced m.first (new_levels m) (items_at m.part first) in
       record {
         made = All-push IsPut done made
             (among_all IsPut done (λ m among.
             in_set_other made.part m.part now new (all_among (λ (x : Made). x.part ≡ made.part → ⊥) done not_yet m among)
-            ∙ all_among (λ (x : Made). levels_in x.part now ≡ replaced x.first (new_levels x) (levels_in x.part first)) done putting.made m among))
+            ∙ all_among (λ (x : Made). items_at x.part now ≡ replaced x.first (new_levels x) (items_at x.part first)) done putting.made m among))
             (in_set_here made.part now new there ∙ is);
         others = λ part alone. in_set_other made.part part now new (λ same. alone_last done made part alone (sym same)) ∙ putting.others part (alone_before done made part alone);
         long = length-set now made.part new ∙ putting.long;

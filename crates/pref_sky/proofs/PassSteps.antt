@@ -1,14 +1,9 @@
 -- The steps of passes, and what they keep true: nothing is lost, each pass settles more, what goes to the rest is dominated, and what is early at the end of a pass is best.
 use Rattle.pref_sky.proofs.Common.{◌≡◌, ℕ, ◌<◌, ◌≤◌, ◌+◌, Bool, true, false, cond, ◌⊎◌, inl, inr, List, [], ◌∷◌, ◌++◌, length, refl, sym, ◌∙◌, ap, subst, arith, length-append, sum_by, both_ways}
-use Rattle.pref_sky.proofs.Common.{false_from_ne_true, sum_by-append, sum_by-cons, IsStrictOrder, Item, IsApart, is_beaten, IsClear, Parted, Passing, Sifted, Among}
+use Rattle.pref_sky.proofs.Common.{cases_lt, false_from_ne_true, sum_by-append, sum_by-cons, IsStrictOrder, Item, IsApart, is_beaten, IsClear, Parted, Passing, Sifted, Among}
 use Rattle.pref_sky.proofs.Bags.{among_if, among_or, is_item, long_by, none_by, some_of, sum_by-ones}
 use Rattle.pref_sky.proofs.Members.{any_from, any_gives, in_left, in_either}
 use Rattle.pref_sky.proofs.Removals.{unbeaten_over}
-
--- a list is empty, or not
-some_or_none : {E : Type 0} (xs : List E) → (0 < length xs) ⊎ (length xs ≡ 0)
-some_or_none [] = inr refl
-some_or_none (x ∷ xs) = inl (omega arith)
 
 none_of_empty : {E : Type 0} (xs : List E) (x : E) → length xs ≡ 0 → Among x xs → ⊥
 none_of_empty [] x empty m = absurd m
@@ -102,7 +97,7 @@ module _ (over : Item → Item → Bool) (held : List Item) (window : ℕ) (inpu
         fresh = λ h. omega (arith, h, long);
         more = p.more;
         fits = p.fits;
-        falls = λ h. elim (some_or_none overflow) [ inl some ↦ p.falls some | inr none ↦ let early_some = full (p.fresh none) in omega (arith, early_some, p.more) ];
+        falls = λ h. elim (cases_lt 0 (length overflow)) [ inl some ↦ p.falls some | inr none ↦ let early_some = full (p.fresh (omega (arith, none))) in omega (arith, early_some, p.more) ];
         told = λ apart.
             let told = p.told apart in
             record {
@@ -224,9 +219,9 @@ module _ (over : Item → Item → Bool) (held : List Item) (window : ℕ) (inpu
   pub more_settled : (early late overflow rest : List Item) → length best + before < length input → Passing over held window input best [] before early late overflow rest
       → length best + before < length best + length early + length rest
   more_settled early late overflow rest some p =
-      elim (some_or_none overflow) [
+      elim (cases_lt 0 (length overflow)) [
         | inl more ↦ let f = p.falls more in omega (arith, f)
-        | inr none ↦ omega (arith, pass_long [] early late overflow rest p, p.fresh none, none, some)
+        | inr none ↦ omega (arith, pass_long [] early late overflow rest p, p.fresh (omega (arith, none)), none, some)
       ]
 
 -- all passes begin with a window that holds some

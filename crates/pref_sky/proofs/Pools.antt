@@ -1,7 +1,7 @@
 -- Items of a pool stay what they are where entries are put behind its own.
 use Rattle.pref_sky.proofs.Common.{◌≡◌, ◌∙◌, ℕ, zero, suc, ◌≤◌, ◌<◌, ◌+◌, List, [], ◌∷◌, ◌++◌, get_or, length, map, take, refl, sym, ap, subst, arith, append-nil, append_assoc, length-append, Bool}
 use Rattle.pref_sky.proofs.Common.{true, get_or_append_left, map-append, get_or-append_seam, All, Vec, Global, Entry, Item, Pool, AreAllItems, AreInPool, AreItems, HasGrown, IsItem, entries_at}
-use Rattle.pref_sky.proofs.Common.{entry_at, items_at, levels_at, parts_at, is_beaten, IsBehind, held_at, levels_of, signature_by}
+use Rattle.pref_sky.proofs.Common.{entry_at, items_at, levels_at, parts_at, is_beaten, IsBehind, held_at, signature_by}
 use Rattle.pref_sky.proofs.Loops.{front_more}
 use Rattle.pref_sky.proofs.Members.{all_among, map_agree_among}
 use Rattle.pref_sky.proofs.PartItems.{Part, in_here, levels_of_at}
@@ -68,32 +68,22 @@ result_more was now f done next all i x inside is stay before here =
 pub entry_behind : (pool : List Entry) (e : Entry) (item : Item) → item.place ≡ length pool → entry_at (pool ++ e ∷ []) item.place ≡ e
 entry_behind pool e item behind = ap (entry_at (pool ++ e ∷ [])) behind ∙ get_or-append_seam pool e [] (record { id = 0; row = [] })
 
--- the level at a place
-pub level_there : (levels : List (Vec Item Global)) (n : ℕ) (level : Vec Item Global) → n < length levels → level ≡ get_or levels n level → level.items ≡ items_at n levels
-level_there [] n level inside at = absurd (omega (arith, inside))
-level_there (first ∷ behind) zero level inside at = ap (λ (v : Vec Item Global). v.items) at
-level_there (first ∷ behind) (suc n) level inside at = level_there behind n level (omega (arith, inside)) at
-
+-- no level is at a place behind the last
 pub no_level : (levels : List (Vec Item Global)) (n : ℕ) → length levels ≤ n → [] ≡ items_at n levels
 no_level [] n past = refl
 no_level (level ∷ behind) zero past = absurd (omega (arith, past))
 no_level (level ∷ behind) (suc n) past = no_level behind n (omega (arith, past))
 
--- the items of a level are of the pool, and their entries are those of the level
+-- the entries of a level's items are those of the level
 pub entries_held : (pool : List Entry) (n : ℕ) (levels : List (Vec Item Global)) → entries_at pool (items_at n levels) ≡ held_at n (levels_at pool levels)
 entries_held pool n [] = refl
 entries_held pool zero (level ∷ behind) = refl
 entries_held pool (suc n) (level ∷ behind) = entries_held pool n behind
 
-pub items_held : (rule : Entry → ℕ) (pool : List Entry) (n : ℕ) (levels : List (Vec Item Global)) → AreAllItems rule pool levels → AreItems rule pool (items_at n levels)
-items_held rule pool n [] are = λ k d inside. absurd (omega (arith, inside))
-items_held rule pool zero (level ∷ behind) are = are 0 level (omega arith)
-items_held rule pool (suc n) (level ∷ behind) are = items_held rule pool n behind (λ k d inside. are (suc k) d (omega (arith, inside)))
-
 level_here : (pool : List Entry) (levels : List (Vec Item Global)) (k : ℕ) (level : Vec Item Global) → k < length levels → level ≡ get_or levels k level → held_at k (levels_at pool levels) ≡ entries_at pool level.items
-level_here pool levels k level inside is = sym (entries_held pool k levels) ∙ ap (entries_at pool) (sym (level_there levels k level inside is))
+level_here pool levels k level inside is = sym (entries_held pool k levels) ∙ ap (entries_at pool) (in_here k levels level inside is)
 
-pub part_here : (pool : List Entry) (parts : List Part) (k : ℕ) (part : Part) → k < length parts → part ≡ get_or parts k part → levels_of k (parts_at pool parts) ≡ levels_at pool part.items
+pub part_here : (pool : List Entry) (parts : List Part) (k : ℕ) (part : Part) → k < length parts → part ≡ get_or parts k part → held_at k (parts_at pool parts) ≡ levels_at pool part.items
 part_here pool parts k part inside is = levels_of_at pool k parts ∙ ap (levels_at pool) (in_here k parts part inside is)
 
 -- what one of a level dominates is below it
@@ -104,7 +94,7 @@ behind_level over pool levels k n level e inside next is beaten =
     subst (λ m. is_beaten over (held_at m (levels_at pool levels)) e ≡ true) (sym same) (ap (λ l. is_beaten over l e) (level_here pool levels k level inside is) ∙ beaten)
 
 -- parts that hold nothing
-pub none_held : (pool : List Entry) (parts : List (Vec (Vec Item Global) Global)) → All (λ (part : Vec (Vec Item Global) Global). part.items ≡ []) parts → (n : ℕ) → levels_of n (parts_at pool parts) ≡ []
+pub none_held : (pool : List Entry) (parts : List (Vec (Vec Item Global) Global)) → All (λ (part : Vec (Vec Item Global) Global). part.items ≡ []) parts → (n : ℕ) → held_at n (parts_at pool parts) ≡ []
 none_held pool [] none n = refl
 none_held pool (part ∷ others) none zero = ap (levels_at pool) (none 0 part (omega arith))
 none_held pool (part ∷ others) none (suc n) = none_held pool others (λ k d inside. none (suc k) d (omega (arith, inside))) n

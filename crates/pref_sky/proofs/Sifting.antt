@@ -1,6 +1,6 @@
 -- What goes out of a list where an item meets it, and what the item is clear of.
-use Rattle.pref_sky.proofs.Common.{◌≡◌, ℕ, ◌<◌, ◌≤◌, ◌+◌, Bool, true, false, ◌&&◌, inl, inr, List, [], ◌∷◌, ◌++◌, length, sym, ◌∙◌, ap, arith, append-nil, append_assoc, ltb, get_or, swap_remove}
-use Rattle.pref_sky.proofs.Common.{IsPermutation, and_right, cases_lt, both_ways, le-ltb, lt-ltb, get_or_default, sum_by-IsPermutation, sum_by-cons, sum_by-append, sum_by-swap_remove, RowOrder}
+use Rattle.pref_sky.proofs.Common.{◌≡◌, ℕ, ◌<◌, ◌≤◌, ◌+◌, Bool, true, false, ◌&&◌, inl, inr, List, [], ◌∷◌, ◌++◌, length, sym, ◌∙◌, ap, arith, append-nil, append_assoc, get_or, swap_remove}
+use Rattle.pref_sky.proofs.Common.{IsPermutation, and_right, cases_lt, get_or_default, sum_by-IsPermutation, sum_by-cons, sum_by-append, sum_by-swap_remove, RowOrder}
 use Rattle.pref_sky.proofs.Common.{StandAlike, is_within, Entry, Item, IsApart, is_word, item_order, place_order, IsClear, IsTold, Sifted, Among}
 use Rattle.pref_sky.proofs.Members.{in_either, place_of}
 
@@ -31,15 +31,12 @@ sifted_more over e old held start rest i x inside is above s =
       below = λ y m. elim (in_either s.gone (x ∷ []) y m) [ inl a ↦ s.below y a | inr b ↦ elim b [ inl this ↦ ap (over e) this ∙ above | inr void ↦ absurd void ] ];
     }
 
-below_differs : (k n : ℕ) → k < n → k ≡ n → ⊥
-below_differs k n below same = both_ways (ltb k n) (le-ltb k n (omega (arith, same))) (lt-ltb k n below)
-
 -- what was asked place by place stays so where the last one is moved to a later place
 pub clear_after_move : {E : Type 0} (over : E → E → Bool) (xs ys : List E) (e : E) (n long : ℕ) → n < long
     → ((k : ℕ) (d : E) → (k ≡ n → ⊥) → k + 1 < long → get_or ys k d ≡ get_or xs k d)
     → AreClear over xs e n → AreClear over ys e n
 clear_after_move over xs ys e n long inside same each k d below =
-    let is = same k d (below_differs k n below) (omega (arith, below, inside)) in
+    let is = same k d (λ at. omega (arith, below, at)) (omega (arith, below, inside)) in
     let both = each k d below in
     (ap (λ y. over y e) is ∙ both.0, ap (over e) is ∙ both.1)
 

@@ -145,30 +145,6 @@ module _ (order : ChainOrder) (sorted recent entries : List Entry) (different : 
       ∙ (sym (merge own strict order.cut (sorted ++ recent) entries different)
       ∙ (ap (λ l. levels own (map entry_of l ++ entries) order.cut) is ∙ merge own strict order.cut before entries (subst (λ l. HaveDifferentIds (map entry_of l ++ entries)) is different))))
 
--- one more of the new entries is looked at
-module _ (order : ChainOrder) (sorted entries kept : List Entry) (e : Entry) (upper : HoldsUpper order sorted entries kept) where
-  pub upper_keeps : HoldsUpper order sorted (entries ++ e ∷ []) (kept ++ e ∷ [])
-  upper_keeps =
-      record {
-        within = λ x m. elim (in_either kept (e ∷ []) x m) [ inl old ↦ in_left entries (e ∷ []) x (upper.within x old) | inr new ↦ in_right entries (e ∷ []) x new ];
-        covers = λ x m. elim (in_either entries (e ∷ []) x m) [
-          | inl old ↦ elim (upper.covers x old) [ inl stays ↦ inl (in_left kept (e ∷ []) x stays) | inr below ↦ inr below ]
-          | inr new ↦ inl (in_right kept (e ∷ []) x new)
-        ];
-        counts = λ p. omega (arith, upper.counts p, sum_by-append (λ y. cond (p y) 1 0) kept (e ∷ []), sum_by-append (λ y. cond (p y) 1 0) entries (e ∷ []));
-      }
-
-  pub upper_leaves : is_below order sorted e ≡ true → HoldsUpper order sorted (entries ++ e ∷ []) kept
-  upper_leaves low =
-      record {
-        within = λ x m. in_left entries (e ∷ []) x (upper.within x m);
-        covers = λ x m. elim (in_either entries (e ∷ []) x m) [
-          | inl old ↦ upper.covers x old
-          | inr new ↦ elim new [ inl same ↦ inr (ap (is_below order sorted) same ∙ low) | inr none ↦ absurd none ]
-        ];
-        counts = λ p. omega (arith, upper.counts p, sum_by-append (λ y. cond (p y) 1 0) entries (e ∷ []));
-      }
-
 -- where an order is a product of chains, they tell its levels
 pub says_its_levels : (order : RowOrder) (own : ChainOrder) (cut : ℕ) → IsProductOf order own.columns.items own.chains own.distinct × (own.cut ≡ cut) → (all : List Entry) → levels (entry_order order) all cut ≡ own_levels own all
 says_its_levels order own cut says all =

@@ -1,15 +1,15 @@
 -- No public contract cites this.
 -- What comes to parts: entries with their parts, and levels that they are seen to be below.
-use Rattle.std.specs.Prelude.{◌≡◌, ◌≤◌, ◌<◌, ◌==◌, ◌&&◌, ◌||◌, nat_lt, ◌⊎◌, Bool, ℕ, List, All, Vec, length, count_by, filter, map}
+use Rattle.std.specs.Prelude.{◌≡◌, ◌≤◌, ◌<◌, ◌==◌, Bool, ℕ, List, All, Vec, length, filter, map}
 use Rattle.std.specs.Global.{Global}
 use Rattle.std.specs.List.Sorted.{IsNonDecreasingBy, IsSortedBy}
+use Rattle.std.specs.Ordering.{is_lt, nat_cmp, ordering_then}
 use Rattle.pref_sky.specs.declared.entry.Entry.{Entry}
 use Rattle.pref_sky.specs.declared.arrival.Arrival.{Arrival}
 use Rattle.pref_sky.specs.declared.item.Item.{Item}
-use Rattle.pref_sky.specs.Items.{IsItem, entry_at, levels_at, levels_in, parts_at}
-use Rattle.pref_sky.specs.Members.{Among}
-use Rattle.pref_sky.specs.Partials.{IsBehind}
-use Rattle.pref_sky.specs.Parts.{levels_of, part_of}
+use Rattle.pref_sky.specs.Items.{IsItem, entry_at, levels_at, items_at, parts_at}
+use Rattle.pref_sky.specs.Partials.{IsBehind, KeepsAllBut, held_at}
+use Rattle.pref_sky.specs.Parts.{part_of}
 
 -- the entry that arrived
 abbrev pub arrived : List Entry → Arrival → Entry
@@ -24,17 +24,15 @@ pub record StartsAt (over : Entry → Entry → Bool) (rule : Entry → ℕ) (po
 -- the same of the levels of its part
 pub record IsArrival (over : Entry → Entry → Bool) (rule : Entry → ℕ) (number : Entry → ℕ) (pool : List Entry) (parts : List (List (List Entry))) (a : Arrival) : Type 0 where
   pub part : number (arrived pool a) ≡ a.part
-  pub starts : StartsAt over rule pool (levels_of a.part parts) a
+  pub starts : StartsAt over rule pool (held_at a.part parts) a
 
 -- of the entries some are kept: all that are not below the cut
-pub record KeepsUpper (over : Entry → Entry → Bool) (cut : ℕ) (number : Entry → ℕ) (parts : List (List (List Entry))) (entries kept : List Entry) : Type 0 where
-  pub within : (e : Entry) → Among e kept → Among e entries
-  pub covers : (e : Entry) → Among e entries → Among e kept ⊎ ((n : ℕ) × (cut ≤ n) × (n ≤ length (levels_of (number e) parts)) × IsBehind over (levels_of (number e) parts) n e)
-  pub counts : (p : Entry → Bool) → count_by p kept ≤ count_by p entries
+abbrev pub KeepsUpper : (Entry → Entry → Bool) → ℕ → (Entry → ℕ) → List (List (List Entry)) → List Entry → List Entry → Type 0
+KeepsUpper over cut number parts = KeepsAllBut (λ e. (n : ℕ) × (cut ≤ n) × (n ≤ length (held_at (number e) parts)) × IsBehind over (held_at (number e) parts) n e)
 
 -- one comes before another: to an earlier part, or to an earlier level of its part
 abbrev pub deals_before : Arrival → Arrival → Bool
-deals_before a b = nat_lt a.part b.part || (a.part == b.part && nat_lt a.start b.start)
+deals_before a b = is_lt (ordering_then (nat_cmp a.part b.part) (nat_cmp a.start b.start))
 
 abbrev pub AreDealt : List Arrival → Type 0
 AreDealt arrivals = IsSortedBy deals_before arrivals
@@ -49,7 +47,7 @@ pub record HaveArrived (over : Entry → Entry → Bool) (rule : Entry → ℕ) 
 pub record AreComing (over : Entry → Entry → Bool) (rule : Entry → ℕ) (pool : List Entry) (parts : List (Vec (Vec Item Global) Global)) (arrivals : List Arrival) : Type 0 where
   pub dealt : AreDealt arrivals
   pub part : All (λ a. a.part < length parts) arrivals
-  pub start : All (λ a. StartsAt over rule pool (levels_at pool (levels_in a.part parts)) a) arrivals
+  pub start : All (λ a. StartsAt over rule pool (levels_at pool (items_at a.part parts)) a) arrivals
 
 -- in order of start
 abbrev pub AreInOrderOfStart : List Arrival → Type 0

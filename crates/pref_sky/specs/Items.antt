@@ -51,17 +51,11 @@ AreInPool rule pool parts = All (λ (part : Vec (Vec Item Global) Global). AreAl
 abbrev pub parts_at : List Entry → List (Vec (Vec Item Global) Global) → List (List (List Entry))
 parts_at pool parts = map (λ (part : Vec (Vec Item Global) Global). levels_at pool part.items) parts
 
--- the items of the level behind the first n: none where there is no such level
-abbrev pub items_at : ℕ → List (Vec Item Global) → List Item
+-- the items of the level behind the first n, and as well the levels of a part: none where there is no such one
+abbrev pub items_at : {E : Type 0} → ℕ → List (Vec E Global) → List E
 items_at n [] = []
-items_at zero (level ∷ behind) = level.items
-items_at (suc n) (level ∷ behind) = items_at n behind
-
--- the levels of the part behind the first n: none where there is no such part
-abbrev pub levels_in : ℕ → List (Vec (Vec Item Global) Global) → List (Vec Item Global)
-levels_in n [] = []
-levels_in zero (part ∷ others) = part.items
-levels_in (suc n) (part ∷ others) = levels_in n others
+items_at zero (first ∷ behind) = first.items
+items_at (suc n) (first ∷ behind) = items_at n behind
 
 -- a pool with the same cuts that may have further entries behind its own
 pub record HasGrown (old new : Pool) : Type 0 where

@@ -7,7 +7,7 @@ use Rattle.pref_sky.specs.declared.entry.Entry.{Entry}
 use Rattle.pref_sky.specs.declared.item.Item.{Item}
 use Rattle.pref_sky.specs.declared.making.Made.{Made}
 use Rattle.pref_sky.specs.Arrivals.{arrived, coming_to}
-use Rattle.pref_sky.specs.Items.{AreAllItems, levels_at, levels_in}
+use Rattle.pref_sky.specs.Items.{AreAllItems, levels_at, items_at}
 use Rattle.pref_sky.specs.Partials.{IsMade, replaced}
 use Rattle.pref_sky.specs.Stairs.{IsInOrder}
 
@@ -39,7 +39,7 @@ pub record AreLevelsMade (over : Entry → Entry → Bool) (cut : ℕ) (rule : E
 -- and of those of one of these parts
 pub record IsPartMade (over : Entry → Entry → Bool) (cut : ℕ) (rule : Entry → ℕ) (pool : List Entry) (parts : List (Vec (Vec Item Global) Global)) (arrivals : List Arrival) (one : Made) : Type 0 where
   pub part : one.part < length parts
-  pub levels : AreLevelsMade over cut rule pool (levels_in one.part parts) (coming_to one.part arrivals) one
+  pub levels : AreLevelsMade over cut rule pool (items_at one.part parts) (coming_to one.part arrivals) one
 
 -- and of all parts: what is left alone is a part to which nothing comes
 pub record ArePartsMade (over : Entry → Entry → Bool) (cut : ℕ) (rule : Entry → ℕ) (pool : List Entry) (parts : List (Vec (Vec Item Global) Global)) (arrivals : List Arrival) (all : List Made) : Type 0 where
@@ -51,10 +51,10 @@ pub record ArePartsMade (over : Entry → Entry → Bool) (cut : ℕ) (rule : En
 pub record FitIn (parts : List (Vec (Vec Item Global) Global)) (all : List Made) : Type 0 where
   pub once : AreInOrderOfPart all
   pub part : All (λ made. made.part < length parts) all
-  pub fits : All (λ made. Fits made (levels_in made.part parts)) all
+  pub fits : All (λ made. Fits made (items_at made.part parts)) all
 
 -- they are in their places
 pub record ArePut (all : List Made) (old new : List (Vec (Vec Item Global) Global)) : Type 0 where
-  pub made : All (λ made. levels_in made.part new ≡ replaced made.first (new_levels made) (levels_in made.part old)) all
-  pub others : (part : ℕ) → LeaveAlone all part → levels_in part new ≡ levels_in part old
+  pub made : All (λ made. items_at made.part new ≡ replaced made.first (new_levels made) (items_at made.part old)) all
+  pub others : (part : ℕ) → LeaveAlone all part → items_at part new ≡ items_at part old
   pub long : length new ≡ length old

@@ -1,25 +1,32 @@
 -- No public contract cites this.
 -- Levels as lists of their entries, and what an addition makes of them.
-use Rattle.std.specs.Prelude.{◌≡◌, ◌≤◌, ◌+◌, ℕ, zero, suc, List, [], ◌∷◌, ◌++◌, Bool, true, length, map, count_by, take, drop}
+use Rattle.std.specs.Prelude.{◌≡◌, ◌≤◌, ◌+◌, ◌⊎◌, ℕ, zero, suc, List, [], ◌∷◌, ◌++◌, Bool, true, length, map, count_by, take, drop}
 use Rattle.pref_sky.specs.declared.entry.Entry.{Entry}
 use Rattle.pref_sky.specs.declared.entry.Ranked.{Ranked}
 use Rattle.pref_sky.specs.Best.{is_beaten}
 use Rattle.pref_sky.specs.Levels.{HaveDifferentIds, at_level, entry_of, in_order_of_id, levels}
+use Rattle.pref_sky.specs.Members.{Among}
 
 -- the entries of levels of which the first is the n-th, in order of level, then id
 abbrev pub ranked_from : ℕ → List (List Entry) → List Ranked
 ranked_from n [] = []
 ranked_from n (level ∷ behind) = map (at_level n) (in_order_of_id level) ++ ranked_from (suc n) behind
 
--- the level behind the first n: none where there is no such level
-abbrev pub held_at : ℕ → List (List Entry) → List Entry
+-- the level behind the first n, and as well the levels of a part: none where there is no such one
+abbrev pub held_at : {E : Type 0} → ℕ → List (List E) → List E
 held_at n [] = []
-held_at zero (level ∷ behind) = level
-held_at (suc n) (level ∷ behind) = held_at n behind
+held_at zero (first ∷ behind) = first
+held_at (suc n) (first ∷ behind) = held_at n behind
 
 -- others in the place of what a list has behind its first n
 abbrev pub replaced : {E : Type 0} → ℕ → List E → List E → List E
 replaced n others all = take n all ++ others ++ drop (n + length others) all
+
+-- some of these entries are kept, among them all of which this does not hold
+pub record KeepsAllBut (below : Entry → Type 0) (entries kept : List Entry) : Type 0 where
+  pub within : (e : Entry) → Among e kept → Among e entries
+  pub covers : (e : Entry) → Among e entries → Among e kept ⊎ below e
+  pub counts : (p : Entry → Bool) → count_by p kept ≤ count_by p entries
 
 -- an entry is below the first n levels: the last of these dominates it
 abbrev pub IsBehind : (Entry → Entry → Bool) → List (List Entry) → ℕ → Entry → Type 0

@@ -27,12 +27,6 @@ parts_by (col ∷ columns) = 1024
 abbrev pub is_in : (Entry → ℕ) → ℕ → Entry → Bool
 is_in number part e = number e == part
 
--- the levels of a part: none where there is no such part
-abbrev pub levels_of : ℕ → List (List (List Entry)) → List (List Entry)
-levels_of n [] = []
-levels_of zero (part ∷ others) = part
-levels_of (suc n) (part ∷ others) = levels_of n others
-
 -- the entries at the level behind the first n, of all parts
 abbrev pub all_at : List (List (List Entry)) → ℕ → List Entry
 all_at [] n = []
@@ -54,4 +48,4 @@ ranked_parts parts = ranked_upto (all_at parts) (depth parts)
 
 -- each entry is in its part
 abbrev pub ArePartedBy : (Entry → ℕ) → List (List (List Entry)) → Type 0
-ArePartedBy number parts = (part : ℕ) (r : Ranked) → Among r (ranked_from 1 (levels_of part parts)) → number (entry_of r) ≡ part
+ArePartedBy number parts = (part : ℕ) (r : Ranked) → Among r (ranked_from 1 (held_at part parts)) → number (entry_of r) ≡ part

@@ -1,5 +1,5 @@
 use Rattle.pref_sky.proofs.Common.{rules, ◌≡◌, ◌∙◌, ◌≤◌, ◌<◌, ◌+◌, ◌∷◌, ◌++◌, [], Vec, Global, length, map, take, sym, ap, subst, arith, All, length-map, take_all, All-permutation, IsPermutation-map}
-use Rattle.pref_sky.proofs.Common.{Entry, Arrival, Item, Pool, IsArrival, KeepsUpper, arrived, HasGrown, IsItem, entries_at, levels_at, parts_at, entry_order, IsBehind, levels_of, part_of}
+use Rattle.pref_sky.proofs.Common.{Entry, Arrival, Item, Pool, IsArrival, KeepsUpper, arrived, HasGrown, IsItem, entries_at, levels_at, parts_at, entry_order, IsBehind, held_at, part_of}
 use Rattle.pref_sky.proofs.Common.{signature_by}
 use Rattle.pref_sky.proofs.Dealing.{arrival_here, arrivals_push, arrived_push, dealt_by_key, drops_one, keeps_moved, keeps_one, part_stays}
 use Rattle.pref_sky.proofs.Loops.{front_more}
@@ -24,7 +24,7 @@ loop-entry-preserved g c =
     let start = c.start_of-start.result in
     let numbered : n ≡ number e = c.part_of-part.ensures.number in
     let inside : n < length c.args.parts.now = omega (arith, c.part_of-part.ensures.within, c.requires.long) in
-    let here : levels_at pool c.deref.result.now ≡ levels_of n parts =
+    let here : levels_at pool c.deref.result.now ≡ held_at n parts =
     ap (levels_at pool) c.deref.ensures.value ∙ part_stays c.args.pool.now was inv.grown c.args.parts.now n c.index-parts-part.result c.requires.items inside c.index-parts-part.is in
     let within : start ≤ length (levels_at pool c.deref.result.now) = subst (λ k. start ≤ k) (sym (length-map c.deref.result.now (λ (v : Vec Item Global). entries_at pool v.items))) c.start_of-start.ensures.within in
     let behind : IsBehind over (levels_at pool c.deref.result.now) start e = c.start_of-start.ensures.behind in
@@ -47,11 +47,11 @@ loop-entry-preserved g c =
             grown = grown_then c.args.pool.now was inv.grown now grown;
             arrivals = subst (All (IsArrival over (signature_by now.cuts) number now.entries.items parts)) (sym more) (arrivals_push over number parts was now grown arrivals inv.arrivals a one);
             upper = subst (λ l. KeepsUpper over c.args.cut number parts l (map (arrived now.entries.items) arrivals_now)) (sym longer)
-                (subst (KeepsUpper over c.args.cut number parts (take i entries ++ e ∷ [])) (sym all) (keeps_one over c.args.cut number parts (take i entries) kept e inv.upper));
+                (subst (KeepsUpper over c.args.cut number parts (take i entries ++ e ∷ [])) (sym all) (keeps_one (take i entries) kept inv.upper e));
           }
       | else-start-cut w ↦
           let stay : arrivals_now ≡ arrivals = ap (λ (v : Vec Arrival Global). v.items) w.arrivals-is in
-          let at : levels_at pool c.deref.result.now ≡ levels_of (number e) parts = here ∙ ap (λ k. levels_of k parts) numbered in
+          let at : levels_at pool c.deref.result.now ≡ held_at (number e) parts = here ∙ ap (λ k. held_at k parts) numbered in
           let all : map (arrived now.entries.items) arrivals_now ≡ kept = ap (λ (p : Pool). map (arrived p.entries.items) arrivals_now) w.pool-is ∙ ap (map (arrived pool)) stay in
           record {
             grown = subst (HasGrown c.args.pool.now) (sym w.pool-is) inv.grown;
@@ -59,7 +59,7 @@ loop-entry-preserved g c =
                 (subst (All (IsArrival over (signature_by was.cuts) number pool parts)) (sym stay) inv.arrivals);
             upper = subst (λ l. KeepsUpper over c.args.cut number parts l (map (arrived now.entries.items) arrivals_now)) (sym longer)
                 (subst (KeepsUpper over c.args.cut number parts (take i entries ++ e ∷ [])) (sym all)
-                (drops_one over c.args.cut number parts (take i entries) kept e start w.if-start-cut.false (subst (λ l. start ≤ length l) at within) (subst (λ l. IsBehind over l start e) at behind) inv.upper));
+                (drops_one (take i entries) kept inv.upper e (start, w.if-start-cut.false, subst (λ l. start ≤ length l) at within, subst (λ l. IsBehind over l start e) at behind)));
           }
     ]
 
@@ -80,6 +80,6 @@ returns-clause-arrivals g c =
           (All-permutation (IsArrival over (signature_by now.cuts) number now.entries.items (parts_at c.args.pool.now.entries.items c.args.parts.now)) kept moved permuted inv.arrivals);
       upper = subst (λ parts. KeepsUpper over c.args.cut number parts c.args.entries.now (map one moved)) same
           (subst (λ l. KeepsUpper over c.args.cut number (parts_at c.args.pool.now.entries.items c.args.parts.now) l (map one moved)) whole
-          (keeps_moved over c.args.cut number (parts_at c.args.pool.now.entries.items c.args.parts.now) (take c.loop-entry.entry-index c.args.entries.now) (map one kept) (map one moved) (IsPermutation-map one kept moved permuted) inv.upper));
+          (keeps_moved (take c.loop-entry.entry-index c.args.entries.now) (map one kept) inv.upper (map one moved) (IsPermutation-map one kept moved permuted)));
       dealt = dealt_by_key moved c.sort_unstable_by_key.ensures.sorted (λ a r f k. search rules);
     }

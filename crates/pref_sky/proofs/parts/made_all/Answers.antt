@@ -1,4 +1,4 @@
-use Rattle.pref_sky.proofs.Common.{◌≡◌, ◌<◌, length, get_or, drop, arith, subst, sym, ◌∙◌, refl, false, eqb, eqb-false, AreInOrderOfStart, StartsAt, levels_at, levels_in, entry_order, AreLevelsMade}
+use Rattle.pref_sky.proofs.Common.{◌≡◌, ◌<◌, length, get_or, drop, arith, subst, sym, ◌∙◌, refl, false, eqb, eqb-false, AreInOrderOfStart, StartsAt, levels_at, items_at, entry_order, AreLevelsMade}
 use Rattle.pref_sky.proofs.Common.{signature_by, Arrival, All}
 use Rattle.pref_sky.proofs.Members.{among_place}
 use Rattle.pref_sky.proofs.PartArrivals.{by_start, first_part}
@@ -25,7 +25,7 @@ made_of-requires-clause-start g c =
     let part = (get_or rest 0 none).part in
     let filled : eqb (length rest) 0 ≡ false = sym c.is_empty.ensures ∙ c.each_part-test.true in
     let some : 0 < length rest = omega (arith, eqb-false (length rest) 0 filled) in
-    let there : levels_in part parts ≡ c.deref.result.now = in_here part parts c.index-parts-part.result (inv.coming.part 0 none some) c.index-parts-part.is ∙ sym c.deref.ensures.value in
+    let there : items_at part parts ≡ c.deref.result.now = in_here part parts c.index-parts-part.result (inv.coming.part 0 none some) c.index-parts-part.is ∙ sym c.deref.ensures.value in
     subst (All (StartsAt over rule pool (levels_at pool c.deref.result.now))) (sym c.split_at.ensures.front)
     (front_starts over c.args.cut rule pool parts c.args.arrivals.now rest c.each_part.all.items inv part c.count_coming.result c.deref.result.now there c.count_coming.ensures.coming)
 
@@ -38,7 +38,7 @@ made_of-requires-clause-in_order g c =
     subst AreInOrderOfStart (sym c.split_at.ensures.front)
     (by_start part rest c.count_coming.result inv.coming.dealt
     (front_of_part (entry_order (g.D.Dominance.order c.args.dominance.now)) c.args.cut (signature_by c.args.pool.now.cuts) c.args.pool.now.entries.items c.args.parts.now c.args.arrivals.now rest c.each_part.all.items inv part c.count_coming.result
-    (levels_in part c.args.parts.now) refl c.count_coming.ensures.coming))
+    (items_at part c.args.parts.now) refl c.count_coming.ensures.coming))
 
 pub each_part-preserved : goal.each_part-preserved
 unfolding none
@@ -58,7 +58,7 @@ each_part-preserved g c =
     let made = c.in_ok-made.made in
     let filled : eqb (length rest) 0 ≡ false = sym c.is_empty.ensures ∙ c.each_part-test.true in
     let some : 0 < length rest = omega (arith, eqb-false (length rest) 0 filled) in
-    let there : levels_in first.part parts ≡ held = in_here first.part parts c.index-parts-part.result (inv.coming.part 0 none some) c.index-parts-part.is ∙ sym c.deref.ensures.value in
+    let there : items_at first.part parts ≡ held = in_here first.part parts c.index-parts-part.result (inv.coming.part 0 none some) c.index-parts-part.is ∙ sym c.deref.ensures.value in
     let comes = c.count_coming.ensures.coming in
     let is : made.part ≡ first.part = c.in_ok-made.ensures.part in
     let of_part = part_made over cut rule pool parts arrivals rest all inv first.part n held there comes c.count_coming.ensures.behind first (among_place rest 0 none some) refl made is

@@ -1,6 +1,7 @@
-use Rattle.pref_sky.proofs.Common.{◌≡◌, ◌∙◌, ◌+◌, ◌++◌, suc, List, Vec, Global, drop, map, sym, ap, subst, append_assoc, add-one, at_drop_more, map-append, Item, AreAllItems, AreItems, entries_at}
+use Rattle.pref_sky.proofs.Common.{◌≡◌, ◌∙◌, ◌+◌, ◌++◌, suc, List, Vec, Global, drop, map, sym, ap, subst, append_assoc, add-one, at_drop_more, map-append, Item, AreAllItems, AreItems, IsItem, entries_at}
 use Rattle.pref_sky.proofs.Common.{levels_at, parts_at, at_level, held_at, all_at}
-use Rattle.pref_sky.proofs.Pools.{entries_held, items_held}
+use Rattle.pref_sky.proofs.PartItems.{all_held}
+use Rattle.pref_sky.proofs.Pools.{entries_held}
 use Rattle.pref_sky.proofs.parts.push_parts.Goals as goal
 
 pub push_items-requires : goal.push_items-requires
@@ -10,7 +11,7 @@ push_items-requires c =
     let part : Vec (Vec Item Global) Global = c.levels-item.result in
     let all : AreAllItems rule pool part.items =
     subst (λ (p : Vec (Vec Item Global) Global). AreAllItems rule pool p.items) (sym c.levels-item.is) (c.requires.items.1 c.loop-levels.levels-index part c.loop-levels-test.true) in
-    (rule, subst (AreItems rule pool) (sym c.level_at.ensures) (items_held rule pool c.args.place c.deref.result.now (subst (AreAllItems rule pool) (sym c.deref.ensures.value) all)))
+    (rule, subst (AreItems rule pool) (sym c.level_at.ensures) (all_held (IsItem rule pool) c.deref.result.now (subst (AreAllItems rule pool) (sym c.deref.ensures.value) all) c.args.place))
 
 pub loop-levels-preserved : goal.loop-levels-preserved
 loop-levels-preserved c =

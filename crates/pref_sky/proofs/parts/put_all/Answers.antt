@@ -1,4 +1,4 @@
-use Rattle.pref_sky.proofs.Common.{◌≡◌, ◌<◌, ◌++◌, ◌∷◌, [], length, ap, arith, subst, sym, ◌∙◌, append_assoc, inl, refl, ltb, AreInOrderOfPart, Fits, new_levels, replaced, Made, levels_in, Among}
+use Rattle.pref_sky.proofs.Common.{◌≡◌, ◌<◌, ◌++◌, ◌∷◌, [], length, ap, arith, subst, sym, ◌∙◌, append_assoc, inl, refl, ltb, AreInOrderOfPart, Fits, new_levels, replaced, Made, items_at, Among}
 use Rattle.std.specs.Vec.Iter.{into_iter_items}
 use Rattle.pref_sky.proofs.Members.{all_among, in_left, in_right}
 use Rattle.pref_sky.proofs.MergedLists.{in_order_front}
@@ -19,7 +19,7 @@ put-requires c =
     let once : AreInOrderOfPart (done ++ made ∷ []) = in_order_front (λ (a b : Made). ltb a.part b.part) (done ++ made ∷ []) later (subst AreInOrderOfPart (sym whole) c.requires.once) in
     let inside : made.part < length now = omega (arith, inv.put.long, all_among (λ (m : Made). m.part < length first) c.args.all.items c.requires.part made of_all) in
     subst (Fits made) (sym (still_there first now done inv.put made once) ∙ in_here made.part now c.index_mut.result.now inside c.index_mut.ensures.value)
-    (all_among (λ (m : Made). Fits m (levels_in m.part first)) c.args.all.items c.requires.fits made of_all)
+    (all_among (λ (m : Made). Fits m (items_at m.part first)) c.args.all.items c.requires.fits made of_all)
 
 pub loop-made-preserved : goal.loop-made-preserved
 loop-made-preserved c =
@@ -33,7 +33,7 @@ loop-made-preserved c =
     let of_all : Among made c.args.all.items = subst (Among made) whole (in_left (done ++ made ∷ []) later made (in_right done (made ∷ []) made (inl refl))) in
     let once : AreInOrderOfPart (done ++ made ∷ []) = in_order_front (λ (a b : Made). ltb a.part b.part) (done ++ made ∷ []) later (subst AreInOrderOfPart (sym whole) c.requires.once) in
     let inside : made.part < length now = omega (arith, inv.put.long, all_among (λ (m : Made). m.part < length first) c.args.all.items c.requires.part made of_all) in
-    let held : c.index_mut.result.now.items ≡ levels_in made.part first =
+    let held : c.index_mut.result.now.items ≡ items_at made.part first =
     sym (in_here made.part now c.index_mut.result.now inside c.index_mut.ensures.value) ∙ still_there first now done inv.put made once in
     record {
       in_order = whole;

@@ -1,7 +1,6 @@
 use Rattle.pref_sky.proofs.Common.{◌≡◌, ℕ, ◌<◌, ◌≤◌, ◌++◌, ◌-◌, ◌^◌, Bool, List, Vec, Global, map, sym, ◌∙◌, ap, subst, arith, StaysWithin, Arrival, Entry, Made, AreComing, parts_at, HaveDifferentIds}
 use Rattle.pref_sky.proofs.Common.{entry_of, entry_order, ArePartsMade, depth, ranked_parts, signature_by}
-use Rattle.pref_sky.proofs.AddedParts.{depth_after, in_pool_after}
-use Rattle.pref_sky.proofs.Additions.{added_differ, added_levels, added_parted, to_coming}
+use Rattle.pref_sky.proofs.AddedParts.{added_differ, added_levels, added_parted, depth_after, in_pool_after, to_coming}
 use Rattle.pref_sky.proofs.Merges.{entry_order_is_strict}
 use Rattle.pref_sky.proofs.PartItems.{Part}
 use Rattle.pref_sky.proofs.PartLaws.{is_within}

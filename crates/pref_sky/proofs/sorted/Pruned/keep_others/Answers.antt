@@ -1,6 +1,6 @@
 use Rattle.pref_sky.proofs.Common.{◌≡◌, ◌∙◌, ◌+◌, ◌++◌, [], ◌∷◌, true, take, Vec, Global, sym, ap, subst, append_assoc, Entry, is_below, HoldsUpper}
+use Rattle.pref_sky.proofs.Dealing.{drops_one, keeps_one}
 use Rattle.pref_sky.proofs.Loops.{front_more}
-use Rattle.pref_sky.proofs.SortedLevels.{upper_keeps, upper_leaves}
 use Rattle.pref_sky.proofs.sorted.Pruned.keep_others.Goals.{then-not-dominates+then-dominates, then-not-dominates+else-dominates+in_ok-push, else-not-dominates}
 use Rattle.pref_sky.proofs.sorted.Pruned.keep_others.Goals as goal
 
@@ -15,13 +15,13 @@ loop-entry-preserved c =
     let inv = c.loop-entry.invariant in
     let more : take (i + 1) entries ≡ take i entries ++ e ∷ [] = front_more entries i e c.loop-entry-test.true c.entry-item.is in
     let leaves : is_below order sorted e ≡ true → HoldsUpper order sorted (take (i + 1) entries) inv.0 =
-    λ low. subst (λ l. HoldsUpper order sorted l inv.0) (sym more) (upper_leaves order sorted (take i entries) inv.0 e inv.2 low) in
+    λ low. subst (λ l. HoldsUpper order sorted l inv.0) (sym more) (drops_one (take i entries) inv.0 inv.2 e low) in
     elim c.if-not-dominates.branch [
       | then-not-dominates+then-dominates w ↦ (inv.0, ap (λ (v : Vec Entry Global). v.items) w.recent-is ∙ inv.1, leaves (w.dominates-then-not-dominates.ensures w.if-dominates.true))
       | then-not-dominates+else-dominates+in_ok-push w ↦ (
         inv.0 ++ e ∷ [],
         ap (λ (v : Vec Entry Global). v.items) w.recent-is ∙ ((w.in_ok-push.ensures {u = tt}).items ∙ (ap (λ l. l ++ e ∷ []) inv.1 ∙ append_assoc recent inv.0 (e ∷ []))),
-        subst (λ l. HoldsUpper order sorted l (inv.0 ++ e ∷ [])) (sym more) (upper_keeps order sorted (take i entries) inv.0 e inv.2),
+        subst (λ l. HoldsUpper order sorted l (inv.0 ++ e ∷ [])) (sym more) (keeps_one (take i entries) inv.0 inv.2 e),
       )
       | else-not-dominates w ↦ (inv.0, ap (λ (v : Vec Entry Global). v.items) w.recent-is ∙ inv.1, leaves (c.dominates.ensures w.if-not-dominates.false))
     ]
