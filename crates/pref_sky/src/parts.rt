@@ -86,35 +86,6 @@ fn count_coming(arrivals: &[Arrival], part: usize) -> usize
     count
 }
 
-/// Makes the levels of each part anew to which something comes.
-fn made_all<D: Dominance>(
-    alloc: Global,
-    dominance: &D,
-    window: usize,
-    cut: u32,
-    pool: &Pool,
-    parts: &[Vec<Vec<Item>>],
-    arrivals: &[Arrival],
-) -> Result<Vec<Made>, AllocError>
-    requires window { 0 < window }
-    requires suit { Suit (D.order dominance.now) pool.now.cuts }
-    requires items { AreInPool (signature_by pool.now.cuts) pool.now.entries.items parts.now }
-    requires coming { AreComing (entry_order (D.order dominance.now)) (signature_by pool.now.cuts) pool.now.entries.items parts.now arrivals.now }
-    ensures { IfOk result (λ all. ArePartsMade (entry_order (D.order dominance.now)) cut (signature_by pool.now.cuts) pool.now.entries.items parts.now arrivals.now all.items) }
-{
-    let mut all = Vec::new(alloc);
-    let mut rest = arrivals;
-    'each_part: while !rest.is_empty() {
-        let part = rest[0].part;
-        let (coming, others) = rest.split_at(count_coming(rest, part));
-        let levels = &parts[part];
-        let made = made_of(alloc, dominance, window, cut, pool, part, levels, coming)?;
-        all.push(made)?;
-        rest = others;
-    }
-    Ok(all)
-}
-
 /// Puts what was made into the parts. Takes no memory.
 fn put_all(parts: &mut Vec<Vec<Vec<Item>>>, all: Vec<Made>)
     requires { FitIn parts.old.items all.items }
@@ -180,9 +151,10 @@ pub(crate) struct Parts {
 
 impl Parts {
     ghost use Rattle.std.specs.Prelude.{◌≡◌, ◌<◌, ◌++◌, [], List, All, map, IfOk, OnOk, OnErr};
-    ghost use Rattle.pref_sky.specs.Arrivals.{HaveArrived};
+    ghost use Rattle.pref_sky.specs.Arrivals.{AreComing, HaveArrived};
     ghost use Rattle.pref_sky.specs.Items.{parts_at};
     ghost use Rattle.pref_sky.specs.Levels.{HaveDifferentIds, entry_of, entry_order, levels};
+    ghost use Rattle.pref_sky.specs.Made.{ArePartsMade};
     ghost use Rattle.pref_sky.specs.Parts.{ranked_parts};
     ghost use Rattle.pref_sky.specs.Signatures.{signature_by};
     ghost use Rattle.pref_sky.specs.declared.entry.Entry.{Entry};
@@ -268,6 +240,35 @@ impl Parts {
         )
     }
 
+    /// Makes the levels of each part anew to which something comes.
+    fn made<D: Dominance>(
+        &self,
+        alloc: Global,
+        dominance: &D,
+        window: usize,
+        cut: u32,
+        arrivals: &[Arrival],
+    ) -> Result<Vec<Made>, AllocError>
+        requires window { 0 < window }
+        requires suit { Suit (D.order dominance.now) self.now.pool.cuts }
+        requires coming { AreComing (entry_order (D.order dominance.now)) (signature_by self.now.pool.cuts) self.now.pool.entries.items self.now.parts.items arrivals.now }
+        ensures { IfOk result (λ all. ArePartsMade (entry_order (D.order dominance.now)) cut (signature_by self.now.pool.cuts) self.now.pool.entries.items self.now.parts.items arrivals.now all.items) }
+    {
+        let mut all = Vec::new(alloc);
+        let mut rest = arrivals;
+        'each_part: while !rest.is_empty() {
+            let part = rest[0].part;
+            let (coming, others) = rest.split_at(count_coming(rest, part));
+            let levels = &self.parts[part];
+            let made = made_of(
+                alloc, dominance, window, cut, &self.pool, part, levels, coming,
+            )?;
+            all.push(made)?;
+            rest = others;
+        }
+        Ok(all)
+    }
+
     /// Adds entries, each to its part, as [`Partial::add`](crate::Partial::add) does. The order compares rows within
     /// groups of these columns alone.
     pub(crate) fn add<D: Dominance>(
@@ -288,15 +289,7 @@ impl Parts {
         ensures err { OnErr result (ranked_parts (parts_at self.new.pool.entries.items self.new.parts.items) ≡ ranked_parts (parts_at self.old.pool.entries.items self.old.parts.items)) }
     {
         let arrivals = self.admit(alloc, dominance, cut, entries)?;
-        let all = made_all(
-            alloc,
-            dominance,
-            window,
-            cut,
-            &self.pool,
-            &self.parts,
-            &arrivals,
-        )?;
+        let all = self.made(alloc, dominance, window, cut, &arrivals)?;
         put_all(&mut self.parts, all);
         Ok(())
     }

@@ -1,41 +1,27 @@
-use Rattle.pref_sky.proofs.Common.{◌≡◌, ℕ, ◌<◌, ◌≤◌, ◌++◌, ◌-◌, ◌^◌, Bool, List, Vec, Global, map, sym, ◌∙◌, ap, subst, arith, StaysWithin, Arrival, Entry, Made, AreComing, parts_at, HaveDifferentIds}
+use Rattle.pref_sky.proofs.Common.{ℕ, ◌<◌, ◌≤◌, ◌++◌, ◌-◌, ◌^◌, Vec, Global, map, sym, ◌∙◌, ap, subst, arith, StaysWithin, AreComing, parts_at, HaveDifferentIds}
 use Rattle.pref_sky.proofs.Common.{entry_of, entry_order, ArePartsMade, depth, ranked_parts, signature_by}
 use Rattle.pref_sky.proofs.AddedParts.{added_differ, added_levels, added_parted, depth_after, in_pool_after, to_coming}
 use Rattle.pref_sky.proofs.Merges.{entry_order_is_strict}
-use Rattle.pref_sky.proofs.PartItems.{Part}
 use Rattle.pref_sky.proofs.PartLaws.{is_within}
 use Rattle.pref_sky.proofs.parts.Parts.add.Goals as goal
 
-pub made_all-requires-clause-coming : goal.made_all-requires-clause-coming
-made_all-requires-clause-coming g c =
+pub made-requires-clause-coming : goal.made-requires-clause-coming
+made-requires-clause-coming g c =
     let over = entry_order (g.D.Dominance.order c.args.dominance.now) in
     let s = c.admit.new.self in
     let rule = signature_by s.pool.cuts in
     let pool = s.pool.entries.items in
-    let arrivals = c.in_ok-arrivals.arrivals.items in
-    subst (λ l. AreComing over rule pool l c.deref-2.result.now) (sym c.deref.ensures.value)
-    (subst (AreComing over rule pool s.parts.items) (sym c.deref-2.ensures.value)
-    (to_coming over rule c.args.cut s.columns.items pool s.parts.items c.args.entries.now arrivals c.in_ok-arrivals.ensures.arrivals.1 s.long))
-
--- the levels of these parts are made
-made_of_these : (over : Entry → Entry → Bool) (cut : ℕ) (rule : Entry → ℕ) (pool : List Entry) (these parts : List Part) (those arrivals : List Arrival) (all : List Made) → these ≡ parts → those ≡ arrivals → ArePartsMade over cut rule pool these those all
-    → ArePartsMade over cut rule pool parts arrivals all
-made_of_these over cut rule pool these parts those arrivals all same_parts same_arrivals are =
-    subst (λ l. ArePartsMade over cut rule pool parts l all) same_arrivals (subst (λ l. ArePartsMade over cut rule pool l those all) same_parts are)
-
--- nothing is made
-pub invariant_of-self : goal.invariant_of-self
-invariant_of-self g c = let s = c.admit.new.self in record { within = s.within; long = s.long; items = s.items; parted = s.parted; shallow = s.shallow; ids = s.ids }
+    subst (AreComing over rule pool s.parts.items) (sym c.deref.ensures.value) (to_coming over rule c.args.cut s.columns.items pool s.parts.items c.args.entries.now c.in_ok-arrivals.arrivals.items c.in_ok-arrivals.ensures.arrivals.1 s.long)
 
 pub put_all-requires : goal.put_all-requires
 put_all-requires g c =
     let over = entry_order (g.D.Dominance.order c.args.dominance.now) in
     let s = c.admit.new.self in
-    let are = made_of_these over c.args.cut (signature_by s.pool.cuts) s.pool.entries.items c.deref.result.now s.parts.items c.deref-2.result.now c.in_ok-arrivals.arrivals.items c.in_ok-all.all.items c.deref.ensures.value c.deref-2.ensures.value c.in_ok-all.ensures in
+    let are = subst (λ l. ArePartsMade over c.args.cut (signature_by s.pool.cuts) s.pool.entries.items s.parts.items l c.in_ok-all.all.items) c.deref.ensures.value c.in_ok-all.ensures in
     record { once = are.once; part = λ k d inside. (are.each k d inside).part; fits = λ k d inside. (are.each k d inside).levels.fits }
 
-pub invariant_of-self-2 : goal.invariant_of-self-2
-invariant_of-self-2 g c =
+pub invariant_of-self : goal.invariant_of-self
+invariant_of-self g c =
     let over = entry_order (g.D.Dominance.order c.args.dominance.now) in
     let s = c.admit.new.self in
     let rule = signature_by s.pool.cuts in
@@ -48,7 +34,7 @@ invariant_of-self-2 g c =
     let arrivals = c.in_ok-arrivals.arrivals.items in
     let all = c.in_ok-all.all.items in
     let came = c.in_ok-arrivals.ensures.arrivals.1 in
-    let are = made_of_these over cut rule pool c.deref.result.now parts c.deref-2.result.now arrivals all c.deref.ensures.value c.deref-2.ensures.value c.in_ok-all.ensures in
+    let are = subst (λ l. ArePartsMade over cut rule pool parts l all) c.deref.ensures.value c.in_ok-all.ensures in
     let apart = subst (λ l. HaveDifferentIds (map entry_of (ranked_parts l) ++ entries)) (sym c.admit.ensures.same.1) c.requires.ids in
     let put = c.put_all.ensures in
     let fits : cut < 2 ^ 32 = c.ranges.cut.fits in
@@ -73,7 +59,7 @@ returns-clause-ok g c before different is =
     let parts = s.parts.items in
     let arrivals = c.in_ok-arrivals.arrivals.items in
     let all = c.in_ok-all.all.items in
-    let are = made_of_these over c.args.cut rule pool c.deref.result.now parts c.deref-2.result.now arrivals all c.deref.ensures.value c.deref-2.ensures.value c.in_ok-all.ensures in
+    let are = subst (λ l. ArePartsMade over c.args.cut rule pool parts l all) c.deref.ensures.value c.in_ok-all.ensures in
     let apart = subst (λ l. HaveDifferentIds (map entry_of (ranked_parts l) ++ c.args.entries.now)) (sym c.admit.ensures.same.1) c.requires.ids in
     let groups : StaysWithin order columns = subst (StaysWithin order) (ap (λ (v : Vec ℕ Global). v.items) (sym c.admit.ensures.same.0)) c.requires.groups in
     added_levels over rule c.args.cut columns pool parts c.args.entries.now arrivals c.in_ok-arrivals.ensures.arrivals.1 c.put_all.new.parts.items all are c.put_all.ensures apart s.parted
