@@ -2,7 +2,7 @@
 use Rattle.pref_share.proofs.Common.{◌≡◌, ◌≤◌, List, [], ◌∷◌, ◌++◌, map, length, Some, Ok, Err, ℕ, refl, sym, ap, ◌∙◌, subst, IsPrefix, Call, Op, CoreFault, State, after, refusal, Contents, StandsFor}
 use Rattle.pref_share.proofs.Common.{IsLegal, PlansIn, applied, ran, IsLegalHistory, state_after, numbered_of, AreLegalOps, Opening, IsLegalFrom, MayFollow, LegalIsHistory, first_contents}
 use Rattle.pref_share.proofs.Common.{first_state, history_of, contents_at, state_at, AreLetIn}
-use Rattle.pref_core.proofs.Legal.{applied_stands, is_next-from, IsNext-from}
+use Rattle.pref_core.proofs.Legal.{applied_stands, IsNext-from}
 use Rattle.pref_core.proofs.Shown.{length-applied, length-ran}
 use Rattle.pref_core.proofs.Histories.{ops_are_history}
 use Rattle.pref_core.proofs.Openings.{opened_stands}
@@ -28,18 +28,12 @@ legal_append contents state (x ∷ xs) ys stands legal more =
           (subst (λ n. AreLegalOps (state_after n next (map numbered_of xs)) (ran (applied contents x) xs) ys) (sym size) more),
     )
 
--- what the test of each operation lets in is legal, ..
+-- what the test of each operation lets in is legal
 pub legal_from_let_in : (contents : Contents) (state : State) (ops : List Op) → StandsFor contents state → AreLetIn contents ops → AreLegalOps state contents ops
 legal_from_let_in contents state [] stands let_in = tt
 legal_from_let_in contents state (op ∷ ops) stands let_in =
     let legal : IsLegal state contents op = record { next = IsNext-from contents state op stands let_in.0; fits = let_in.1 } in
     (legal, legal_from_let_in (applied contents op) (after (length contents.slots) state op.client op.call) ops (applied_stands contents state op stands legal) let_in.2)
-
--- .. and the other way round
-pub let_in_from_legal : (contents : Contents) (state : State) (ops : List Op) → StandsFor contents state → AreLegalOps state contents ops → AreLetIn contents ops
-let_in_from_legal contents state [] stands legal = tt
-let_in_from_legal contents state (op ∷ ops) stands legal =
-    (is_next-from contents state op stands legal.0.next, legal.0.fits, let_in_from_legal (applied contents op) (after (length contents.slots) state op.client op.call) ops (applied_stands contents state op stands legal.0) legal.1)
 
 -- the opening, over which all histories of a board stand
 pub opens : (o : Opening) → length o.rows ≤ o.limits.capacity → StandsFor (first_contents o) (first_state o) × (length (first_contents o).slots ≡ o.limits.capacity)
