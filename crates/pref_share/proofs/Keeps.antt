@@ -9,6 +9,7 @@ use Rattle.pref_core.proofs.Legal.{is_next-from}
 use Rattle.pref_share.proofs.Histories.{ran-append, legal_stands}
 use Rattle.pref_share.specs.declared.published.Base.{Base}
 use Rattle.pref_share.specs.declared.published.View.{View}
+use Rattle.pref_core.specs.Planned.{boxed_op}
 use Rattle.pref_share.specs.declared.published.Stamp.{Stamp}
 use Rattle.pref_share.specs.Views.{newcomer}
 
@@ -92,20 +93,20 @@ pub published_left : (o : Opening) (book : Book) (x : Published) (history : List
 published_left o book x history stands same = stands.store ∙ ap (contents_at o) same
 
 -- the copy after the stamp of the next operation stands for the history with it
-pub stamped_stands : (opening : Contents) (book : Book) (x : Published) (s : Stamp) → HoldsHistory opening book x → s.seen.log ≡ x.seen.log ++ s.op ∷ [] → is_next (ran opening x.seen.log) s.op ≡ true → is_some (slots_after (ran opening x.seen.log) s.op) ≡ true
+stamped_stands : (opening : Contents) (book : Book) (x : Published) (s : Stamp) (op : Op) → op ≡ boxed_op s.op → HoldsHistory opening book x → s.seen.log ≡ x.seen.log ++ op ∷ [] → is_next (ran opening x.seen.log) op ≡ true → is_some (slots_after (ran opening x.seen.log) op) ≡ true
     → s.len ≡ length s.seen.log → s.seen.book ≡ book → HoldsHistory opening book (stamped x s)
-stamped_stands opening book x s stands ends next fits len in_book = record {
-  legal = subst (AreLetIn opening) (sym ends) (let_in_more opening x.seen.log s.op stands.legal next fits);
-  store = ap (λ (t : Contents). applied t s.op) stands.store ∙ (sym (ran-append opening x.seen.log (s.op ∷ [])) ∙ ap (ran opening) (sym ends));
+stamped_stands opening book x s op is stands ends next fits len in_book = record {
+  legal = subst (AreLetIn opening) (sym ends) (let_in_more opening x.seen.log op stands.legal next fits);
+  store = ap (applied x.store) (sym is) ∙ (ap (λ (t : Contents). applied t op) stands.store ∙ (sym (ran-append opening x.seen.log (op ∷ [])) ∙ ap (ran opening) (sym ends)));
   len = len;
   in_book = in_book;
 }
 
 -- the copy that a planned operation leaves
-pub published_next : (o : Opening) (book : Book) (x : Published) (s : Stamp) (history : List Op) → IsLegalFrom o history → x.seen.log ≡ history → HoldsHistory (first_contents o) book x → MayFollow o history s.op → s.seen.log ≡ history ++ s.op ∷ [] → s.len ≡ length s.seen.log → s.seen.book ≡ book
+pub published_next : (o : Opening) (book : Book) (x : Published) (s : Stamp) (op : Op) (history : List Op) → op ≡ boxed_op s.op → IsLegalFrom o history → x.seen.log ≡ history → HoldsHistory (first_contents o) book x → MayFollow o history op → s.seen.log ≡ history ++ op ∷ [] → s.len ≡ length s.seen.log → s.seen.book ≡ book
     → HoldsHistory (first_contents o) book (stamped x s)
-published_next o book x s history legal same stands may ends len in_book =
-    let next : is_next (contents_at o history) s.op ≡ true = is_next-from (contents_at o history) (state_at o history) s.op (legal_stands o history legal) may.next in
-    stamped_stands (first_contents o) book x s stands (ends ∙ ap (λ (l : List Op). l ++ s.op ∷ []) (sym same))
-    (subst (λ (l : List Op). is_next (ran (first_contents o) l) s.op ≡ true) (sym same) next)
-    (subst (λ (l : List Op). is_some (slots_after (ran (first_contents o) l) s.op) ≡ true) (sym same) may.fits) len in_book
+published_next o book x s op history is legal same stands may ends len in_book =
+    let next : is_next (contents_at o history) op ≡ true = is_next-from (contents_at o history) (state_at o history) op (legal_stands o history legal) may.next in
+    stamped_stands (first_contents o) book x s op is stands (ends ∙ ap (λ (l : List Op). l ++ op ∷ []) (sym same))
+    (subst (λ (l : List Op). is_next (ran (first_contents o) l) op ≡ true) (sym same) next)
+    (subst (λ (l : List Op). is_some (slots_after (ran (first_contents o) l) op) ≡ true) (sym same) may.fits) len in_book

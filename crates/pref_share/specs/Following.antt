@@ -44,6 +44,15 @@ pub record Stands (o : Opening) (number counter : ℕ) (seen : List Op) (query :
   pub count : calls_at o at number ≡ Some counter
   pub follows : AsksOrNone o at number query
 
+-- A client's call was appended to a history, as a legal operation with this outcome.
+pub record IsAppended (o : Opening) (before : List Op) (client : ℕ) (call : Call) (told : Outcome) (whole : List Op) : Type 0 where
+  pub op : Op
+  pub by : op.client ≡ client
+  pub what : op.call ≡ call
+  pub outcome : op.outcome ≡ told
+  pub may : MayFollow o before op
+  pub ends : whole ≡ before ++ op ∷ []
+
 -- A call of the client joined the history, which is this then, with this many commits.
 pub record IsJoined (o : Opening) (old : Standing) (call : Call) (told : Outcome) (seen : List Op) (stamp : ℕ) : Type 0 where
   pub before : List Op

@@ -7,6 +7,7 @@ use Rattle.logbook.specs.Pages.{Book}
 use Rattle.pref_core.specs.declared.call.Op.{Op}
 use Rattle.pref_core.specs.Slots.{Contents}
 use Rattle.pref_core.specs.Operations.{applied, ran, is_next, slots_after}
+use Rattle.pref_core.specs.Planned.{boxed_op}
 use Rattle.pref_share.specs.declared.published.Base.{Base}
 use Rattle.pref_share.specs.declared.published.View.{View}
 use Rattle.pref_share.specs.declared.published.Published.{Published}
@@ -14,7 +15,7 @@ use Rattle.pref_share.specs.declared.published.Stamp.{Stamp}
 
 -- the published store after a stamp
 abbrev pub stamped : Published → Stamp → Published
-stamped x stamp = record { store = applied x.store stamp.op; len = stamp.len; seen = stamp.seen }
+stamped x stamp = record { store = applied x.store (boxed_op stamp.op); len = stamp.len; seen = stamp.seen }
 
 -- each operation is let in by the store that those before it leave
 abbrev pub AreLetIn : Contents → List Op → Type 0

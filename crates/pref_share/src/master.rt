@@ -16,18 +16,20 @@ ghost use Rattle.std.specs.Prelude.{◌≡◌, ◌++◌, ◌∷◌, ◌<◌, ◌
 ghost use Rattle.std.specs.Option.{unwrap_or};
 ghost use mathlib.Core.List.{IsPrefix};
 ghost use Rattle.left_right.specs.Sides.{view};
-ghost use Rattle.pref_core.specs.Planned.{op_of};
+ghost use Rattle.pref_core.specs.declared.fault.CoreFault.TheVariants.{OutOfMemory};
+ghost use Rattle.pref_core.specs.Planned.{boxed_op};
 ghost use Rattle.pref_core.specs.State.{added, refusal};
-ghost use Rattle.pref_share.specs.Openings.{IsLegalFrom, MayFollow, first_contents, contents_at, state_at, calls_at};
+ghost use Rattle.pref_share.specs.Following.{IsAppended};
+ghost use Rattle.pref_share.specs.Openings.{IsLegalFrom, first_contents, contents_at, state_at, calls_at};
 ghost use Rattle.pref_share.specs.Views.{stamped, HoldsHistory, Knows};
 
-use crate::book::{Naming, Token};
+use crate::book::Naming;
 use crate::history::{History, Prefix};
 use crate::published::{
     Hearing, Opening, Published, Stamp, Staying, StoreReader, StoreWriter, Telling,
 };
 use core::mem::replace_with;
-use pref_core::{Call, CoreFault, Index, LentCall, Op, Outcome, Planned, SlotList, Store};
+use pref_core::{BoxedCall, BoxedOp, CoreFault, Index, Outcome, Planned, SlotList, Store};
 use std::alloc::{AllocError, Global};
 use std::marker::Model;
 use std::mem::ManuallyDrop;
@@ -74,15 +76,6 @@ fn open_with<R: Wait>(rt: &R, writer: StoreWriter) -> StoreWriter
 /// This many stamps are kept at most: those that one copy lacks, and the one of a call.
 const KEPT: usize = 3;
 
-/// An operation that no store lets in.
-const NO_CALL: Op = Op {
-    client: 0,
-    number: 0,
-    call: Call::Begin,
-    slots: SlotList::NONE,
-    outcome: Outcome::Done,
-};
-
 /// Makes room for the stamps of later calls, by stamps that change nothing. The room stays, so later calls need not grow it.
 fn with_room(mut writer: StoreWriter) -> Result<StoreWriter, StoreWriter>
     requires empty { writer.desk.shown.value.len ≡ 0 }
@@ -91,8 +84,16 @@ fn with_room(mut writer: StoreWriter) -> Result<StoreWriter, StoreWriter>
     ensures pending { IfOk result (λ w. fold stamped w.desk.shown.value (drop w.behind w.log.items) ≡ w.desk.shown.value) }
 {
     for _ in 0..KEPT {
+        // An operation that no store lets in.
+        let nothing = BoxedOp {
+            client: 0,
+            number: 0,
+            call: BoxedCall::begin(),
+            slots: SlotList::NONE,
+            outcome: Outcome::Done,
+        };
         let blank = Stamp {
-            op: NO_CALL,
+            op: nothing,
             len: 0,
             seen: writer.published().seen.again(),
         };
@@ -124,19 +125,14 @@ fn publish<J: Naming, R: Wait>(rt: &R, writer: StoreWriter) -> StoreWriter
 }
 
 /// Appends the stamp of an operation. Where there is no memory for it, waits until there is: the operation has joined the history.
-fn append<R: Wait>(rt: &R, writer: &mut StoreWriter, op: &Planned<'_>, len: u64, seen: &Token)
+fn append<R: Wait>(rt: &R, writer: &mut StoreWriter, mut stamp: Stamp)
     ensures desk { writer.new.desk ≡ writer.old.desk }
-    ensures pending { drop writer.new.behind writer.new.log.items ≡ drop writer.old.behind writer.old.log.items ++ record { op = op_of op.now; len = len; seen = seen.now } ∷ [] }
+    ensures pending { drop writer.new.behind writer.new.log.items ≡ drop writer.old.behind writer.old.log.items ++ stamp ∷ [] }
 {
     for _ in rt.forever() {
-        // A stamp is large: it is made where it is passed on.
-        let appended = writer.append(Stamp {
-            op: op.op(),
-            len,
-            seen: seen.again(),
-        });
-        if appended.is_ok() {
-            return;
+        match writer.append(stamp) {
+            Ok(()) => return,
+            Err(back) => stamp = back,
         }
     }
     unreachable!()
@@ -231,30 +227,48 @@ impl<J: Naming> Master<J> {
         Ok(reader)
     }
 
-    /// A call joins the history, and is published, planned by the index on the master store. `Err` is why it gets no number, or that
-    /// there is no memory for the places of new rows in the index, which only a call that adds a row meets; nothing has changed then.
-    pub(crate) fn join<'a, R: Wait>(
+    /// A call joins the history, and is published, planned by the index on the master store. It gives the outcome. `Err` is why it gets
+    /// no number, or that there is no memory for the places of new rows in the index, which only a call that adds a row meets; nothing
+    /// has changed then.
+    pub(crate) fn join<R: Wait>(
         &mut self,
         rt: &R,
         alloc: Global,
         client: u8,
-        call: &'a LentCall<'a>,
-    ) -> Result<Planned<'a>, CoreFault>
-        ensures planned { IfOk result (λ op. (op.client ≡ client) × (op.call.now ≡ call.now) × MayFollow J.opening self.old (op_of op)) }
-        ensures joined { IfOk result (λ op. self.new ≡ self.old ++ op_of op ∷ []) }
-        ensures refused { IfErr result (λ fault. (refusal (state_at J.opening self.old) client call.now ≡ Some fault) ⊎ (nat_lt 0 (added call.now) ≡ true)) }
+        call: BoxedCall,
+    ) -> Result<Outcome, CoreFault>
+        ensures joined { IfOk result (λ outcome. IsAppended J.opening self.old client call outcome self.new) }
+        ensures refused { IfErr result (λ fault. (refusal (state_at J.opening self.old) client call ≡ Some fault) ⊎ ((fault ≡ OutOfMemory) × (nat_lt 0 (added call) ≡ true))) }
         ensures same { IfErr result (λ fault. self.new ≡ self.old) }
     {
+        let lent = call.lent();
         let store = published_store(&*self.writer);
-        let op = match store.look_up(&self.index, client, call) {
+        let op = match store.look_up(&self.index, client, &lent) {
             Ok(op) => op,
             Err(fault) => return Err(fault),
         };
         store.reindex(alloc, &mut self.index, &op)?;
         self.history.add(&op);
+        let Planned {
+            client,
+            number,
+            slots,
+            outcome,
+            call: _,
+        } = op;
         let seen = self.history.whole();
-        let token = seen.token();
-        append(rt, &mut *self.writer, &op, seen.len(), &token);
+        let stamp = Stamp {
+            op: BoxedOp {
+                client,
+                number,
+                call,
+                slots,
+                outcome,
+            },
+            len: seen.len(),
+            seen: seen.token(),
+        };
+        append(rt, &mut *self.writer, stamp);
         replace_with(
             &mut *self.writer,
             rt,
@@ -263,7 +277,7 @@ impl<J: Naming> Master<J> {
                 ensures { (view result.0.desk.place ≡ view writer.desk.place) × (result.0.desk.shown.value ≡ fold stamped writer.desk.shown.value (drop writer.behind writer.log.items)) × (drop result.0.behind result.0.log.items ≡ []) }
             { (publish::<J, R>(rt, writer), ()) },
         );
-        Ok(op)
+        Ok(outcome)
     }
 
     /// Readers take nothing from now on. Waits for those that are reading.

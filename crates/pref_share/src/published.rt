@@ -8,7 +8,7 @@ use atomic_table::{Join, Split};
 use crossbeam_utils::rule::{Outcome, Protocol};
 use left_right::writer::Writer;
 use left_right::{Absorb, reader};
-use pref_core::{Op, Store};
+use pref_core::{BoxedOp, Store};
 use std::alloc::AllocError;
 
 /// A store, and the token of the history that made it.
@@ -22,7 +22,7 @@ pub struct Published {
 /// An operation that joined the history, and the token of the history that it ends.
 #[derive(Drop)]
 pub struct Stamp {
-    pub op: Op,
+    pub op: BoxedOp,
     pub len: u64,
     pub seen: Token,
 }
@@ -39,7 +39,8 @@ impl Absorb<Stamp> for Published {
     ghost never_fails = { Unit {0} };
 
     fn absorb_first(&mut self, operation: &Stamp, _other: &Published) -> Result<(), AllocError> {
-        self.store.apply(&operation.op);
+        let call = operation.op.call.lent();
+        self.store.apply_planned(&operation.op.planned(&call));
         self.len = operation.len;
         self.seen = operation.seen.again();
         Ok(())

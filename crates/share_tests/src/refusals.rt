@@ -6,7 +6,7 @@ ghost use Rattle.std.specs.Prelude.{◌≡◌};
 use crate::acts::{Does, answer_text, best_low, lists_of, lists_text, row_of, setup, three_rows};
 use crate::boards::{Open, first_two, replies_of_a_run};
 use crate::same::assert_same;
-use pref_core::{Act, Change, Commit, Committed, CoreFault, Reply, Setup};
+use pref_core::{Act, BoxedCommit, Change, Commit, Committed, CoreFault, Reply, Setup};
 use pref_share::{BeginFault, Board, Client, Name, Naming, ShareFault, open_board};
 use pref_sky::Ranked;
 use pref_table::Row;
@@ -203,6 +203,14 @@ fn removes_of(rounds: u8) -> Result<Commit, CoreFault> {
     Commit::of(&removes)
 }
 
+/// The commit in a box, made again where memory was refused.
+fn boxed(rt: &impl Abort, alloc: Global, commit: Commit) -> BoxedCommit {
+    match BoxedCommit::new(alloc, commit) {
+        Ok(boxed) => boxed,
+        Err(_) => BoxedCommit::new(alloc, commit).expect(rt, "memory"),
+    }
+}
+
 /// A commit that adds eight rows, made again where memory was refused: until then none of them is there, and there is room for
 /// them.
 fn add_in_the_end<J: Naming, R: Wait + Abort>(
@@ -214,14 +222,15 @@ fn add_in_the_end<J: Naming, R: Wait + Abort>(
     first: u64,
 ) -> Committed {
     let before = client.seen();
-    match client.commit(rt, alloc, board, adds) {
+    match client.commit(rt, alloc, board, boxed(rt, alloc, adds)) {
         Ok(told) => told,
         Err(fault) => {
             check_refusal(rt, fault, client, before);
             let missing = ShareFault::Core(CoreFault::NoSuchRow { id: first });
             let wanted = (Err(missing), Ok(8));
             assert_same(rt, first, &(client.get(first), client.room()), &wanted);
-            client.commit(rt, alloc, board, adds).expect(rt, "memory")
+            let again = boxed(rt, alloc, adds);
+            client.commit(rt, alloc, board, again).expect(rt, "memory")
         }
     }
 }
@@ -235,8 +244,9 @@ fn replace_eight_rows<J: Naming, R: Wait + Abort>(
     adds: Commit,
 ) -> Result<(), Fail> {
     for round in 0..ROUNDS {
+        let removes = boxed(rt, alloc, removes_of(round)?);
         client
-            .commit(rt, alloc, board, removes_of(round)?)
+            .commit(rt, alloc, board, removes)
             .expect(rt, "a remove takes no memory");
         let first = 8 * u64::from(round) + 19;
         let added = add_in_the_end(rt, alloc, board, client, adds, first);

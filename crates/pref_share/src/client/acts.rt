@@ -76,7 +76,7 @@ fn answer<J: Naming, R: Wait>(
             Ok(Reply::Deleted(id))
         }
         Act::Commit(commit) => {
-            let told = client.commit(rt, alloc, board, *commit.commit())?;
+            let told = client.commit(rt, alloc, board, commit)?;
             Ok(Reply::Committed(told))
         }
         Act::Begin(ask) => match client.begin(rt, alloc, board, ask) {

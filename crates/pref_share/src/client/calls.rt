@@ -1,6 +1,6 @@
 //! The numbered calls of a client: each joins the history under the lock of the board, and is published once.
 
-ghost use Rattle.std.specs.Prelude.{◌≡◌, ℕ, suc, nat_lt, true, None, IfOk, IfErr, OnOk, OnErr, MatchResult};
+ghost use Rattle.std.specs.Prelude.{◌≡◌, ℕ, suc, nat_lt, List, length, true, None, IfOk, IfErr, OnOk, OnErr, MatchResult};
 ghost use Rattle.pref_core.specs.declared.call.Outcome.TheVariants.{Added, Done};
 ghost use Rattle.pref_core.specs.State.{added, is_change, granted};
 ghost use Rattle.pref_core.specs.Stability.{is_end};
@@ -14,7 +14,10 @@ use crate::book::Naming;
 use crate::client::{Asking, Client};
 use crate::fault::{BeginFault, ShareFault};
 use crate::history::Prefix;
-use pref_core::{Call, Commit, Committed, CoreFault, LentCall, Outcome, Query, QueryState};
+use pref_core::{
+    BoxedCall, BoxedCommit, Call, Change, Commit, Committed, CoreFault, LentCall, Outcome, Query,
+    QueryState,
+};
 use pref_sky::Ranked;
 use pref_table::Row;
 use pref_term::Ask;
@@ -54,7 +57,7 @@ impl<J: Naming> Client<J> {
         ensures inserted { IfOk result (λ id. Changes J.opening self.old (Call.Insert row) (Added id) self.new) }
         ensures refused { IfErr result (λ fault. RefusesChange J.opening self.old (Call.Insert row) fault self.new) }
     {
-        let outcome = self.change(rt, alloc, board, &LentCall::insert(&row))?;
+        let outcome = self.change(rt, alloc, board, BoxedCall::insert(row))?;
         Ok(first_added(outcome))
     }
 
@@ -76,7 +79,7 @@ impl<J: Naming> Client<J> {
         ensures updated { IfOk result (λ _. Changes J.opening self.old (Call.Update id row) Done self.new) }
         ensures refused { IfErr result (λ fault. RefusesChange J.opening self.old (Call.Update id row) fault self.new) }
     {
-        self.change(rt, alloc, board, &LentCall::update(id, &row))?;
+        self.change(rt, alloc, board, BoxedCall::update(id, row))?;
         Ok(())
     }
 
@@ -97,7 +100,7 @@ impl<J: Naming> Client<J> {
         ensures deleted { IfOk result (λ _. Changes J.opening self.old (Call.Delete id) Done self.new) }
         ensures refused { IfErr result (λ fault. RefusesChange J.opening self.old (Call.Delete id) fault self.new) }
     {
-        self.change(rt, alloc, board, &LentCall::delete(id))?;
+        self.change(rt, alloc, board, BoxedCall::delete(id))?;
         Ok(())
     }
 
@@ -108,20 +111,21 @@ impl<J: Naming> Client<J> {
     ///
     /// ```text
     /// let commit = Commit::of(&[Change::Add(hotel), Change::Remove(3)])?;
-    /// let committed = client.commit(rt, alloc, &board, commit)?;
+    /// let committed = client.commit(rt, alloc, &board, BoxedCommit::new(alloc, commit)?)?;
     /// ```
     pub fn commit<R: Wait>(
         &mut self,
         rt: &R,
         alloc: Global,
         board: &Board<J>,
-        commit: Commit,
+        commit: BoxedCommit,
     ) -> Result<Committed, ShareFault>
         ensures committed { IfOk result (λ told. Commits J.opening self.old commit told self.new) }
         ensures refused { IfErr result (λ fault. RefusesChange J.opening self.old (Call.Commit commit) fault self.new) }
     {
-        let outcome = self.change(rt, alloc, board, &LentCall::commit(&commit))?;
-        Ok(told_of_commit(&commit, outcome))
+        let changes = change_count(commit.commit());
+        let outcome = self.change(rt, alloc, board, BoxedCall::commit(commit))?;
+        Ok(told_of_commit(changes, outcome))
     }
 
     /// Begins a query of the table as it is now, and returns how many blocks it has to scan. Waits for the board, and copies
@@ -145,14 +149,13 @@ impl<J: Naming> Client<J> {
         ensures begun { IfOk result (λ left. Begins J.opening self.old ask left self.new) }
         ensures refused { IfErr result (λ fault. RefusesBegin J.opening self.old ask fault self.new) }
     {
-        let call = LentCall::begin();
-        if let Some(fault) = self.refusal(&call) {
+        if let Some(fault) = self.refusal(&LentCall::begin()) {
             return Err(BeginFault {
                 fault: ShareFault::Core(fault),
                 ask,
             });
         }
-        match self.join(rt, alloc, board, &call) {
+        match self.join(rt, alloc, board, BoxedCall::begin()) {
             Ok(Joining::Joined { seen, stamp, .. }) => {
                 let query = Query::begin(ask, stamp, &self.setup);
                 let begun = seen.again();
@@ -194,7 +197,7 @@ impl<J: Naming> Client<J> {
             return Err(ShareFault::Core(fault));
         }
         let ranked = self.answer(alloc)?;
-        self.end(rt, alloc, board, &LentCall::finish())?;
+        self.end(rt, alloc, board, BoxedCall::finish())?;
         Ok(ranked)
     }
 
@@ -217,7 +220,7 @@ impl<J: Naming> Client<J> {
         if let Some(fault) = self.refusal(&LentCall::abandon()) {
             return Err(ShareFault::Core(fault));
         }
-        self.end(rt, alloc, board, &LentCall::abandon())
+        self.end(rt, alloc, board, BoxedCall::abandon())
     }
 
     /// Why a call gets no number, by the client's own counter and query.
@@ -233,14 +236,14 @@ impl<J: Naming> Client<J> {
         rt: &R,
         alloc: Global,
         board: &Board<J>,
-        call: &LentCall<'_>,
+        call: BoxedCall,
     ) -> Result<Outcome, ShareFault>
-        requires change { is_change call.now ≡ true }
-        ensures changed { IfOk result (λ told. Changes J.opening self.old call.now told self.new) }
-        ensures granted { IfOk result (λ told. (next_id : ℕ) × (told ≡ granted next_id call.now)) }
-        ensures refused { IfErr result (λ fault. RefusesChange J.opening self.old call.now fault self.new) }
+        requires change { is_change call ≡ true }
+        ensures changed { IfOk result (λ told. Changes J.opening self.old call told self.new) }
+        ensures granted { IfOk result (λ told. (next_id : ℕ) × (told ≡ granted next_id call)) }
+        ensures refused { IfErr result (λ fault. RefusesChange J.opening self.old call fault self.new) }
     {
-        if let Some(fault) = self.refusal(call) {
+        if let Some(fault) = self.refusal(&call.lent()) {
             return Err(ShareFault::Core(fault));
         }
         match self.join(rt, alloc, board, call)? {
@@ -259,11 +262,11 @@ impl<J: Naming> Client<J> {
         rt: &R,
         alloc: Global,
         board: &Board<J>,
-        call: &LentCall<'_>,
+        call: BoxedCall,
     ) -> Result<(), ShareFault>
-        requires accepted { own_refusal self.old call.now ≡ None }
-        requires ends { is_end call.now ≡ true }
-        ensures ended { OnOk result (Joins J.opening self.old call.now Done self.new × (self.new.query ≡ None)) }
+        requires accepted { own_refusal self.old call ≡ None }
+        requires ends { is_end call ≡ true }
+        ensures ended { OnOk result (Joins J.opening self.old call Done self.new × (self.new.query ≡ None)) }
         ensures refused { IfErr result (λ fault. (fault ≡ ClientInUse (suc self.old.counter)) × IsInUse J.opening self.old (suc self.old.counter) self.new) }
     {
         match self.join(rt, alloc, board, call)? {
@@ -294,11 +297,11 @@ impl<J: Naming> Client<J> {
         rt: &R,
         alloc: Global,
         board: &Board<J>,
-        call: &LentCall<'_>,
+        call: BoxedCall,
     ) -> Result<Joining<Prefix<J>>, AllocError>
-        requires { own_refusal self.now call.now ≡ None }
-        ensures joins { IfOk result (λ joining. MayJoin J.opening self.now call.now joining) }
-        ensures memory { OnErr result (nat_lt 0 (added call.now) ≡ true) }
+        requires { own_refusal self.now call ≡ None }
+        ensures joins { IfOk result (λ joining. MayJoin J.opening self.now call joining) }
+        ensures memory { OnErr result (nat_lt 0 (added call) ≡ true) }
     {
         let mut guard = board.master.lock(rt);
         let master = &mut *guard;
@@ -309,9 +312,9 @@ impl<J: Naming> Client<J> {
             });
         }
         match master.join(rt, alloc, self.number, call) {
-            Ok(op) => Ok(Joining::Joined {
+            Ok(outcome) => Ok(Joining::Joined {
                 seen: master.whole(),
-                outcome: op.outcome,
+                outcome,
                 stamp: master.stamp(),
             }),
             Err(_) => Err(AllocError),
@@ -332,12 +335,19 @@ impl<J: Naming> Client<J> {
     }
 }
 
-/// What is returned of a commit that was done with this outcome.
-fn told_of_commit(commit: &Commit, outcome: Outcome) -> Committed
-    ensures { (next_id : ℕ) → outcome ≡ granted next_id (Call.Commit commit.now) → result ≡ told_of_commit next_id commit.now }
+/// How many changes a commit makes.
+fn change_count(commit: &Commit) -> u32
+    ensures { result ≡ length commit.now }
+{
+    commit.as_slice().len() as u32
+}
+
+/// What is returned of a commit of this many changes that was done with this outcome.
+fn told_of_commit(changes: u32, outcome: Outcome) -> Committed
+    ensures { (next_id : ℕ) (commit : List Change) → changes ≡ length commit → outcome ≡ granted next_id (Call.Commit commit) → result ≡ told_of_commit next_id commit }
 {
     Committed {
-        changes: commit.as_slice().len() as u32,
+        changes,
         first: first_added(outcome),
     }
 }

@@ -9,7 +9,7 @@ invariant_of-self g c =
     let s = c.self.inside in
     let mine : Standing = record { number = s.number; counter = s.counter; seen = s.seen; query = s.asking } in
     let j = c.in-Ok-Joined in
-    let joined : IsJoined o mine Begin j.field-0-1 j.seen j.stamp = subst (λ (x : Standing). IsJoined o x Begin j.field-0-1 j.seen j.stamp) (sym c.self.view_is) (subst (λ call. IsJoined o c.args.self.now call j.field-0-1 j.seen j.stamp) c.begin-call.ensures (subst (MayJoin o c.args.self.now c.begin-call.result) j.field-0-is j.ensures.joins)) in
+    let joined : IsJoined o mine Begin j.field-0-1 j.seen j.stamp = subst (λ (x : Standing). IsJoined o x Begin j.field-0-1 j.seen j.stamp) (sym c.self.view_is) (subst (λ call. IsJoined o c.args.self.now call j.field-0-1 j.seen j.stamp) c.begin-2.ensures (subst (MayJoin o c.args.self.now c.begin-2.result) j.field-0-is j.ensures.joins)) in
     let up : s.counter + 1 ≡ suc s.counter = omega arith in
     let scan : c.begin-query.result ≡ begin c.args.ask j.stamp o.limits = c.begin-query.ensures ∙ ap (begin c.args.ask j.stamp) c.self.invariant.1 in
     let asking : Some (record { scan = c.begin-query.result; begun = c.again-begun.result }) ≡ Some (record { scan = begin c.args.ask j.stamp o.limits; begun = j.seen }) = λ i. Some (record { scan = scan i; begun = c.again-begun.ensures.same i }) in

@@ -1,4 +1,4 @@
-use Rattle.pref_share.proofs.Common.{◌≡◌, suc, ◌+◌, None, refl, sym, subst, ◌∙◌, arith, rules, Standing, own_refusal, IsJoined, MayJoin}
+use Rattle.pref_share.proofs.Common.{◌≡◌, suc, ◌+◌, None, refl, sym, subst, ap, ◌∙◌, arith, rules, Standing, own_refusal, IsJoined, MayJoin}
 use Rattle.pref_share.proofs.Standings.{stands_changed, joins, change_told}
 use Rattle.pref_share.proofs.client.Client.change.Goals as goal
 
@@ -8,9 +8,9 @@ invariant_of-self g c =
     let s = c.self.inside in
     let mine : Standing = record { number = s.number; counter = s.counter; seen = s.seen; query = s.asking } in
     let j = c.in-Joined in
-    let joined : IsJoined o mine c.args.call.now j.outcome j.seen j.stamp = subst (λ (x : Standing). IsJoined o x c.args.call.now j.outcome j.seen j.stamp) (sym c.self.view_is) (subst (MayJoin o c.args.self.now c.args.call.now) j.is c.in_ok-seen.ensures.joins) in
+    let joined : IsJoined o mine c.args.call j.outcome j.seen j.stamp = subst (λ (x : Standing). IsJoined o x c.args.call j.outcome j.seen j.stamp) (sym c.self.view_is) (subst (MayJoin o c.args.self.now c.args.call) j.is c.in_ok-seen.ensures.joins) in
     let up : s.counter + 1 ≡ suc s.counter = omega arith in
-    (c.self.invariant.0, c.self.invariant.1, stands_changed o mine c.args.call.now j.outcome j.seen j.stamp (s.counter + 1) c.self.invariant.2 joined c.requires.change up)
+    (c.self.invariant.0, c.self.invariant.1, stands_changed o mine c.args.call j.outcome j.seen j.stamp (s.counter + 1) c.self.invariant.2 joined c.requires.change up)
 
 pub returns-in-Joined : goal.returns-in-Joined
 returns-in-Joined g c =
@@ -18,8 +18,8 @@ returns-in-Joined g c =
     let s = c.self.inside in
     let mine : Standing = record { number = s.number; counter = s.counter; seen = s.seen; query = s.asking } in
     let j = c.in-Joined in
-    let joined : IsJoined o mine c.args.call.now j.outcome j.seen j.stamp = subst (λ (x : Standing). IsJoined o x c.args.call.now j.outcome j.seen j.stamp) (sym c.self.view_is) (subst (MayJoin o c.args.self.now c.args.call.now) j.is c.in_ok-seen.ensures.joins) in
-    let accepted : own_refusal mine c.args.call.now ≡ None = subst (λ (x : Standing). own_refusal x c.args.call.now ≡ None) (sym c.self.view_is) (sym c.refusal.ensures ∙ c.in_default.is) in
+    let joined : IsJoined o mine c.args.call j.outcome j.seen j.stamp = subst (λ (x : Standing). IsJoined o x c.args.call j.outcome j.seen j.stamp) (sym c.self.view_is) (subst (MayJoin o c.args.self.now c.args.call) j.is c.in_ok-seen.ensures.joins) in
+    let accepted : own_refusal mine c.args.call ≡ None = subst (λ (x : Standing). own_refusal x c.args.call ≡ None) (sym c.self.view_is) (ap (own_refusal c.args.self.now) (sym c.lent.ensures) ∙ sym c.refusal.ensures ∙ c.in_default.is) in
     let up : s.counter + 1 ≡ suc s.counter = omega arith in
-    let told = change_told o mine _ c.args.call.now j.outcome c.done_or_refused.result c.done_or_refused.ensures (joins o mine _ c.args.call.now j.outcome j.seen j.stamp accepted joined refl up refl) refl in
+    let told = change_told o mine _ c.args.call j.outcome c.done_or_refused.result c.done_or_refused.ensures (joins o mine _ c.args.call j.outcome j.seen j.stamp accepted joined refl up refl) refl in
     record { changed = rw (← c.self.view_is) told.0; granted = search rules; refused = rw (← c.self.view_is) told.1 }

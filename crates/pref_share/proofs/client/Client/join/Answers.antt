@@ -1,4 +1,5 @@
-use Rattle.pref_share.proofs.Common.{◌≡◌, ◌++◌, ◌∷◌, [], List, Some, None, ⊎_elim, sym, subst, ◌∙◌, ap, unwrap_or, Op, op_of, refusal, MayFollow, state_at, calls_at, Standing, own_refusal, IsJoined}
+use Rattle.pref_share.proofs.Common.{◌≡◌, List, Some, None, ⊎_elim, sym, subst, ◌∙◌, ap, unwrap_or, Op, refusal, state_at, calls_at, Standing, own_refusal, IsJoined}
+use Rattle.pref_share.specs.Following.{IsAppended}
 use Rattle.pref_share.proofs.Standings.{ahead, even, moved_up, same_refusal, joined}
 use Rattle.pref_share.proofs.client.Client.join.Goals as goal
 
@@ -24,19 +25,19 @@ returns-clause-memory g c =
     let last : c.last.result ≡ unwrap_or (calls_at o history s.number) 0 = c.last.ensures ∙ ap (λ (l : List Op). unwrap_or (calls_at o l s.number) 0) c.check.ensures.same in
     let is = even o s.number s.counter c.last.result s.seen history s.asking c.self.invariant.2 c.check.ensures.begins c.check.ensures.legal last c.if-last-self.false in
     let follows = moved_up o s.number s.counter s.seen history s.asking c.self.invariant.2 c.check.ensures.begins c.check.ensures.legal is in
-    let none : own_refusal mine c.args.call.now ≡ None = subst (λ (x : Standing). own_refusal x c.args.call.now ≡ None) (sym c.self.view_is) c.requires in
-    ⊎_elim (λ told. absurd (let here : refusal (state_at o history) s.number c.args.call.now ≡ Some c.in-Err.field-0 = ap (λ (l : List Op). refusal (state_at o l) s.number c.args.call.now) (sym c.check.ensures.same) ∙ told in cc (here, same_refusal o mine history c.args.call.now is follows, none)))
-    (λ is_one. is_one) c.in-Err.ensures.refused
+    let none : own_refusal mine c.args.call ≡ None = subst (λ (x : Standing). own_refusal x c.args.call ≡ None) (sym c.self.view_is) c.requires in
+    ⊎_elim (λ told. absurd (let here : refusal (state_at o history) s.number c.args.call ≡ Some c.in-Err.field-0 = ap (λ (l : List Op). refusal (state_at o l) s.number c.args.call) (sym c.check.ensures.same) ∙ told in cc (here, same_refusal o mine history c.args.call is follows, none)))
+    (λ memory. memory.1) c.in-Err.ensures.refused
 
 pub returns-in-Ok-clause-joins : goal.returns-in-Ok-clause-joins
 returns-in-Ok-clause-joins g c =
     let o = g.J.Naming.opening in
     let s = c.self.inside in
     let history = c.deref_mut-master.result.now in
-    let op = op_of c.in-Ok.op in
     let last : c.last.result ≡ unwrap_or (calls_at o history s.number) 0 = c.last.ensures ∙ ap (λ (l : List Op). unwrap_or (calls_at o l s.number) 0) c.check.ensures.same in
     let is = even o s.number s.counter c.last.result s.seen history s.asking c.self.invariant.2 c.check.ensures.begins c.check.ensures.legal last c.if-last-self.false in
-    let plan = subst (λ (l : List Op). (op.client ≡ s.number) × (op.call ≡ c.args.call.now) × MayFollow o l op) c.check.ensures.same c.in-Ok.ensures.planned in
-    subst (λ (x : Standing). IsJoined o x c.args.call.now op.outcome c.whole-in-Ok.result c.stamp.result) c.self.view_is
-    (joined o (record { number = s.number; counter = s.counter; seen = s.seen; query = s.asking }) c.args.call.now history c.whole-in-Ok.result op c.stamp.result c.check.ensures.begins c.check.ensures.legal is plan
-    (c.whole-in-Ok.ensures.same ∙ c.in-Ok.ensures.joined ∙ ap (λ (l : List Op). l ++ op ∷ []) c.check.ensures.same) (c.stamp.ensures ∙ ap (λ (l : List Op). (state_at o l).commits) (sym c.whole-in-Ok.ensures.same)))
+    let one = subst (λ (l : List Op). IsAppended o l s.number c.args.call c.in-Ok.outcome c.join.new.self) c.check.ensures.same c.in-Ok.ensures.joined in
+    subst (λ (x : Standing). IsJoined o x c.args.call c.in-Ok.outcome c.whole-in-Ok.result c.stamp.result) c.self.view_is
+    (subst (λ told. IsJoined o (record { number = s.number; counter = s.counter; seen = s.seen; query = s.asking }) c.args.call told c.whole-in-Ok.result c.stamp.result) one.outcome
+    (joined o (record { number = s.number; counter = s.counter; seen = s.seen; query = s.asking }) c.args.call history c.whole-in-Ok.result one.op c.stamp.result c.check.ensures.begins c.check.ensures.legal is (one.by, one.what, one.may)
+    (c.whole-in-Ok.ensures.same ∙ one.ends) (c.stamp.ensures ∙ ap (λ (l : List Op). (state_at o l).commits) (sym c.whole-in-Ok.ensures.same))))

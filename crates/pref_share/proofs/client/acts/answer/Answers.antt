@@ -22,10 +22,10 @@ pub returns-in_err-delete-in-Delete-clause-refused : goal.returns-in_err-delete-
 returns-in_err-delete-in-Delete-clause-refused g c = rw (c.in-Delete.is) (passed_on c.from_residual-in_err-delete-in-Delete.result c.in_err-delete-in-Delete.field-0.0 _ c.from_residual-in_err-delete-in-Delete.ensures.1 (change_refused g.J.Naming.opening c.args.client.now _ (Delete c.in-Delete.id) (CallDelete c.in-Delete.id) c.in_err-delete-in-Delete.field-0.0 c.seen-seen.ensures.legal refl refl c.in_err-delete-in-Delete.ensures.refused))
 
 pub returns-in_ok-told-in-Commit-clause-answered : goal.returns-in_ok-told-in-Commit-clause-answered
-returns-in_ok-told-in-Commit-clause-answered g c = rw (c.in-Commit.is) (commits g.J.Naming.opening c.args.client.now _ c.in-Commit.commit _ (rw c.commit-in-Commit.ensures at c.in_ok-told-in-Commit.ensures.committed))
+returns-in_ok-told-in-Commit-clause-answered g c = rw (c.in-Commit.is) (commits g.J.Naming.opening c.args.client.now _ c.in-Commit.commit _ c.in_ok-told-in-Commit.ensures.committed)
 
 pub returns-in_err-told-in-Commit-clause-refused : goal.returns-in_err-told-in-Commit-clause-refused
-returns-in_err-told-in-Commit-clause-refused g c = rw (c.in-Commit.is) (passed_on c.from_residual-in_err-told-in-Commit.result c.in_err-told-in-Commit.field-0.0 _ c.from_residual-in_err-told-in-Commit.ensures.1 (change_refused g.J.Naming.opening c.args.client.now _ (Commit c.in-Commit.commit) (CallCommit c.in-Commit.commit) c.in_err-told-in-Commit.field-0.0 c.seen-seen.ensures.legal refl refl (rw c.commit-in-Commit.ensures at c.in_err-told-in-Commit.ensures.refused)))
+returns-in_err-told-in-Commit-clause-refused g c = rw (c.in-Commit.is) (passed_on c.from_residual-in_err-told-in-Commit.result c.in_err-told-in-Commit.field-0.0 _ c.from_residual-in_err-told-in-Commit.ensures.1 (change_refused g.J.Naming.opening c.args.client.now _ (Commit c.in-Commit.commit) (CallCommit c.in-Commit.commit) c.in_err-told-in-Commit.field-0.0 c.seen-seen.ensures.legal refl refl c.in_err-told-in-Commit.ensures.refused))
 
 pub returns-in-Ok-clause-answered : goal.returns-in-Ok-clause-answered
 returns-in-Ok-clause-answered g c = rw (c.in-Begin.is) (begun g.J.Naming.opening c.args.client.now _ c.in-Begin.ask c.in-Ok.blocks c.in-Ok.ensures.begun)

@@ -1,6 +1,9 @@
 use Rattle.pref_share.proofs.Common.{nat_lt, Some, true, ◌⊎◌, inl, ◌≡◌, ◌∷◌, List, [], length, drop, fold, sym, subst, ◌∙◌, ap, refl, manually_drop_value, Op, op_of, added, refusal, applied, Contents}
-use Rattle.pref_share.proofs.Common.{MayFollow, first_contents, contents_at, state_at, Published, stamped, HoldsHistory}
+use Rattle.pref_share.proofs.Common.{first_contents, contents_at, state_at, Published, stamped, HoldsHistory}
+use Rattle.pref_share.proofs.Common.{OutOfMemory}
+use Rattle.pref_core.specs.Planned.{boxed_op}
 use Rattle.pref_core.specs.Indexes.{IsIndexOf}
+use Rattle.pref_share.specs.Following.{IsAppended}
 use Rattle.pref_share.specs.declared.published.Stamp.{Stamp}
 use Rattle.pref_share.proofs.Histories.{contents_at-append, planned, unplanned}
 use Rattle.pref_share.proofs.Keeps.{published_left, published_next}
@@ -10,8 +13,8 @@ pub returns-in-Err-clause-refused : goal.returns-in-Err-clause-refused
 returns-in-Err-clause-refused g c =
     let o = g.J.Naming.opening in
     let left : c.published_store-store.result.now ≡ contents_at o c.self.inside.history = rw (c.published_store-store.ensures, c.deref.ensures) (published_left o g.J.Naming.book (manually_drop_value c.self.inside.writer).desk.shown.value c.self.inside.history c.self.invariant.3 c.self.invariant.2) in
-    subst (λ (l : List Op). (refusal (state_at o l) c.args.client c.args.call.now ≡ Some c.in-Err.fault) ⊎ (nat_lt 0 (added c.args.call.now) ≡ true)) c.self.view_is
-    (inl (unplanned o c.self.inside.history c.published_store-store.result.now c.args.client c.args.call.now c.in-Err.fault c.self.invariant.0 left c.in-Err.ensures.state))
+    subst (λ (l : List Op). (refusal (state_at o l) c.args.client c.args.call ≡ Some c.in-Err.fault) ⊎ ((c.in-Err.fault ≡ OutOfMemory) × (nat_lt 0 (added c.args.call) ≡ true))) c.self.view_is
+    (inl (ap (refusal (state_at o c.self.inside.history) c.args.client) (sym c.lent-lent.ensures) ∙ unplanned o c.self.inside.history c.published_store-store.result.now c.args.client c.lent-lent.result c.in-Err.fault c.self.invariant.0 left c.in-Err.ensures.state))
 
 pub look_up-requires : goal.look_up-requires
 look_up-requires g c =
@@ -46,34 +49,41 @@ pub add-requires : goal.add-requires
 add-requires g c =
     let o = g.J.Naming.opening in
     let left : c.published_store-store.result.now ≡ contents_at o c.self.inside.history = rw (c.published_store-store.ensures, c.deref.ensures) (published_left o g.J.Naming.book (manually_drop_value c.self.inside.writer).desk.shown.value c.self.inside.history c.self.invariant.3 c.self.invariant.2) in
-    (planned o c.self.inside.history c.published_store-store.result.now c.args.client c.args.call.now (op_of c.in-Ok.op) c.self.invariant.0 left c.in-Ok.ensures.state).2
+    (planned o c.self.inside.history c.published_store-store.result.now c.args.client c.lent-lent.result (op_of c.in-Ok.op) c.self.invariant.0 left c.in-Ok.ensures.state).2
 
 pub replace_with-requires : goal.replace_with-requires
 replace_with-requires g c =
     let o = g.J.Naming.opening in
     let left : c.published_store-store.result.now ≡ contents_at o c.self.inside.history = rw (c.published_store-store.ensures, c.deref.ensures) (published_left o g.J.Naming.book (manually_drop_value c.self.inside.writer).desk.shown.value c.self.inside.history c.self.invariant.3 c.self.invariant.2) in
     let x = (manually_drop_value c.self.inside.writer).desk.shown.value in
-    let stamp : Stamp = record { op = op_of c.in-Ok.op; len = c.len.result; seen = c.token-token.result } in
-    let log : stamp.seen.log ≡ c.add.new.self = c.token-token.ensures.log ∙ c.whole-seen.ensures.same in
+    let op = c.in-Ok.op in
+    let stamp : Stamp = record { op = record { client = op.client; number = op.number; call = c.args.call; slots = op.slots; outcome = op.outcome }; len = c.len.result; seen = c.token.result } in
+    let plan = planned o c.self.inside.history c.published_store-store.result.now c.args.client c.lent-lent.result (op_of op) c.self.invariant.0 left c.in-Ok.ensures.state in
+    let call : op.call.now ≡ c.args.call = plan.1 ∙ c.lent-lent.ensures in
+    let boxed : op_of op ≡ boxed_op stamp.op = λ i. record { client = op.client; number = op.number; call = call i; slots = op.slots; outcome = op.outcome } in
+    let log : stamp.seen.log ≡ c.add.new.self = c.token.ensures.log ∙ c.whole-seen.ensures.same in
     let stands : HoldsHistory (first_contents o) g.J.Naming.book (stamped x stamp) =
-    published_next o g.J.Naming.book x stamp c.self.inside.history c.self.invariant.0 c.self.invariant.2 c.self.invariant.3 (planned o c.self.inside.history c.published_store-store.result.now c.args.client c.args.call.now (op_of c.in-Ok.op) c.self.invariant.0 left c.in-Ok.ensures.state).2 (log ∙ c.add.ensures) (c.len.ensures.length ∙ ap length (sym c.token-token.ensures.log)) c.token-token.ensures.book in
+    published_next o g.J.Naming.book x stamp (op_of op) c.self.inside.history boxed c.self.invariant.0 c.self.invariant.2 c.self.invariant.3 plan.2 (log ∙ c.add.ensures) (c.len.ensures.length ∙ ap length (sym c.token.ensures.log)) c.token.ensures.book in
     rw (c.deref_mut-2.ensures.value, c.append.ensures.desk, c.append.ensures.pending, c.deref_mut.ensures.value, c.self.invariant.5) (c.self.invariant.4, stands)
 
 pub invariant_of-self-2 : goal.invariant_of-self-2
 invariant_of-self-2 g c =
     let o = g.J.Naming.opening in
-    let op = op_of c.in-Ok.op in
     let left : c.published_store-store.result.now ≡ contents_at o c.self.inside.history = rw (c.published_store-store.ensures, c.deref.ensures) (published_left o g.J.Naming.book (manually_drop_value c.self.inside.writer).desk.shown.value c.self.inside.history c.self.invariant.3 c.self.invariant.2) in
     let x = (manually_drop_value c.self.inside.writer).desk.shown.value in
-    let stamp : Stamp = record { op = op_of c.in-Ok.op; len = c.len.result; seen = c.token-token.result } in
-    let log : stamp.seen.log ≡ c.add.new.self = c.token-token.ensures.log ∙ c.whole-seen.ensures.same in
+    let op = c.in-Ok.op in
+    let stamp : Stamp = record { op = record { client = op.client; number = op.number; call = c.args.call; slots = op.slots; outcome = op.outcome }; len = c.len.result; seen = c.token.result } in
+    let plan = planned o c.self.inside.history c.published_store-store.result.now c.args.client c.lent-lent.result (op_of op) c.self.invariant.0 left c.in-Ok.ensures.state in
+    let call : op.call.now ≡ c.args.call = plan.1 ∙ c.lent-lent.ensures in
+    let boxed : op_of op ≡ boxed_op stamp.op = λ i. record { client = op.client; number = op.number; call = call i; slots = op.slots; outcome = op.outcome } in
+    let log : stamp.seen.log ≡ c.add.new.self = c.token.ensures.log ∙ c.whole-seen.ensures.same in
     let stands : HoldsHistory (first_contents o) g.J.Naming.book (stamped x stamp) =
-    published_next o g.J.Naming.book x stamp c.self.inside.history c.self.invariant.0 c.self.invariant.2 c.self.invariant.3 (planned o c.self.inside.history c.published_store-store.result.now c.args.client c.args.call.now (op_of c.in-Ok.op) c.self.invariant.0 left c.in-Ok.ensures.state).2 (log ∙ c.add.ensures) (c.len.ensures.length ∙ ap length (sym c.token-token.ensures.log)) c.token-token.ensures.book in
+    published_next o g.J.Naming.book x stamp (op_of op) c.self.inside.history boxed c.self.invariant.0 c.self.invariant.2 c.self.invariant.3 plan.2 (log ∙ c.add.ensures) (c.len.ensures.length ∙ ap length (sym c.token.ensures.log)) c.token.ensures.book in
     let folded : fold stamped c.deref_mut-2.result.now.desk.shown.value (drop c.deref_mut-2.result.now.behind c.deref_mut-2.result.now.log.items) ≡ stamped x stamp =
     rw (c.deref_mut-2.ensures.value, c.append.ensures.desk, c.append.ensures.pending, c.deref_mut.ensures.value, c.self.invariant.5) refl in
     let shown : c.replace_with.new.dest.desk.shown.value ≡ stamped x stamp = c.replace_with.ensures.1 ∙ folded in
-    let store : applied c.published_store-store.result.now op ≡ contents_at o c.add.new.self =
-    ap (λ (s : Contents). applied s op) left ∙ sym (contents_at-append o c.self.inside.history (op ∷ [])) ∙ ap (contents_at o) (sym c.add.ensures) in (
+    let store : applied c.published_store-store.result.now (op_of op) ≡ contents_at o c.add.new.self =
+    ap (λ (s : Contents). applied s (op_of op)) left ∙ sym (contents_at-append o c.self.inside.history (op_of op ∷ [])) ∙ ap (contents_at o) (sym c.add.ensures) in (
       c.whole-seen.ensures.legal,
       subst (λ (s : Contents). IsIndexOf s c.reindex.new.index) store c.in_ok-reindex.ensures.after,
       ap (λ (p : Published). p.seen.log) shown ∙ log,
@@ -82,9 +92,10 @@ invariant_of-self-2 g c =
       c.replace_with.ensures.2,
     )
 
-pub returns-clause-planned : goal.returns-clause-planned
-returns-clause-planned g c =
+pub returns-clause-joined : goal.returns-clause-joined
+returns-clause-joined g c =
     let o = g.J.Naming.opening in
     let left : c.published_store-store.result.now ≡ contents_at o c.self.inside.history = rw (c.published_store-store.ensures, c.deref.ensures) (published_left o g.J.Naming.book (manually_drop_value c.self.inside.writer).desk.shown.value c.self.inside.history c.self.invariant.3 c.self.invariant.2) in
-    subst (λ (l : List Op). (c.in-Ok.op.client ≡ c.args.client) × (c.in-Ok.op.call.now ≡ c.args.call.now) × MayFollow o l (op_of c.in-Ok.op)) c.self.view_is
-    (planned o c.self.inside.history c.published_store-store.result.now c.args.client c.args.call.now (op_of c.in-Ok.op) c.self.invariant.0 left c.in-Ok.ensures.state)
+    let plan = planned o c.self.inside.history c.published_store-store.result.now c.args.client c.lent-lent.result (op_of c.in-Ok.op) c.self.invariant.0 left c.in-Ok.ensures.state in
+    subst (λ (l : List Op). IsAppended o l c.args.client c.args.call c.in-Ok.op.outcome c.add.new.self) c.self.view_is
+    (record { op = op_of c.in-Ok.op; by = plan.0; what = plan.1 ∙ c.lent-lent.ensures; outcome = refl; may = plan.2; ends = c.add.ensures })
