@@ -29,9 +29,10 @@ pub(crate) enum Held {
 /// The entries of the levels 1 to a cut among all that were added, in order of level, then id.
 ///
 /// A contract sees the list of them. Each `add` is made with the order and the cut of the first. Each entry is in it once, 136 bytes and 16 for
-/// its signature and place, beside up to as many again, and 2,048, that are held no more. Where the order is a product of two chains, as of a
-/// plain chain, entries have neither, and beside those of the levels it holds up to an eighth as many, and 64, and a block, that may be
-/// below the cut.
+/// its signature and place. Entries that are held no more stay until an `add` counts, beside what is held, as many again and 2,048 of them; it
+/// counts where there are an eighth more entries, and 16, than at the last count. Where the order is a product of two chains, as of a plain
+/// chain, entries have neither, and beside those of the levels it holds up to an eighth as many, and 64, and a block, that may be below the
+/// cut.
 pub struct Partial {
     held: Held,
 }
@@ -122,7 +123,7 @@ impl Partial {
     /// The entries that are held, with their levels, in order of level, then id.
     ///
     /// Cost: one copy of them, and a sort of each level by id; where there are groups, for each level a look at 1,024 parts. Where the order is a product
-    /// of two chains their levels are found only now, by a search by halves among the levels for each entry. Memory: the
+    /// of two chains their levels are found now, by a search by halves among the levels for each entry. Memory: the
     /// list alone, and of two chains a copy of what is held. `Err` is out of memory.
     pub fn ranked(&self, alloc: Global) -> Result<Vec<Ranked>, AllocError>
         ensures { IfOk result (λ ranked. ranked.items ≡ self.now) }

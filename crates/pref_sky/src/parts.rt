@@ -118,7 +118,7 @@ fn push_items(
     Ok(())
 }
 
-/// The same for one level of all parts.
+/// Puts the entries at one level of all parts, unordered, behind those of the levels before it.
 fn push_parts(
     ranked: &mut Vec<Ranked>,
     pool: &[Entry],

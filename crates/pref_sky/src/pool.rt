@@ -191,7 +191,7 @@ fn take_items(
     Ok(taken)
 }
 
-/// The same for the items of levels.
+/// Puts the entries of the items of levels behind those of another pool, and signs them by its cuts. Gives the levels of their items there.
 fn take_levels(
     alloc: Global,
     pool: &mut Pool,
@@ -210,7 +210,7 @@ fn take_levels(
     Ok(taken)
 }
 
-/// The same for the items of parts.
+/// Puts the entries of the items of parts behind those of another pool, and signs them by its cuts. Gives the parts of their items there.
 pub(crate) fn take_parts(
     alloc: Global,
     pool: &mut Pool,

@@ -1,5 +1,5 @@
-//! Entries of an order that is a product of two chains: they are kept in the order of the chains, and their levels are found only when
-//! they are asked for.
+//! Entries of an order that is a product of two chains: they are kept in the order of the chains, and their levels are found when they are
+//! asked for, and when many came, to drop those below the cut.
 
 ghost use Rattle.std.specs.Prelude.{◌≡◌, ◌≤◌, ◌<◌, ◌++◌, true, List, All, get_or, length, map, vec_len, IfOk, OnErr, OnOk};
 ghost use Rattle.pref_sky.specs.ChainOrders.{AreInOrder, is_below, own_levels};
