@@ -1,24 +1,18 @@
 -- How many of a list pass a test.
-use Rattle.pref_sky.proofs.Common.{◌≡◌, ℕ, ◌≤◌, ◌+◌, Bool, true, false, cond, ◌&&◌, List, [], ◌∷◌, refl, sym, ◌∙◌, ap, arith, filter, length, count_by, and_parts, filter_agree, length-filter}
-use Rattle.pref_sky.proofs.Common.{sum_by-cons, sum_by-le-sum_by}
-use Rattle.std.proofs.Math.Bool.{and_comm}
+use Rattle.pref_sky.proofs.Common.{◌≡◌, ℕ, ◌≤◌, ◌+◌, Bool, true, cond, ◌&&◌, List, [], ◌∷◌, sym, ◌∙◌, ap, arith, filter, length, count_by, and_parts, filter_agree, length-filter, sum_by-cons}
+use Rattle.pref_sky.proofs.Common.{sum_by-le-sum_by}
 use Rattle.pref_sky.proofs.Removals.{filter_filter}
-
-passes_less : (a b : Bool) → (a ≡ true → b ≡ true) → cond {A = ℕ} a 1 0 ≤ cond b 1 0
-passes_less true b then = let passes = ap (λ c. cond {A = ℕ} c 1 0) (then refl) in omega (arith, passes)
-passes_less false true then = omega arith
-passes_less false false then = omega arith
 
 -- where each that passes p passes q, no more pass p
 pub count_within : {E : Type 0} (p q : E → Bool) (xs : List E) → ((x : E) → p x ≡ true → q x ≡ true) → count_by p xs ≤ count_by q xs
-count_within p q xs within = sum_by-le-sum_by (λ x. cond (p x) 1 0) (λ x. cond (q x) 1 0) xs (λ x. passes_less (p x) (q x) (within x))
+count_within p q xs within = sum_by-le-sum_by (λ x. cond (p x) 1 0) (λ x. cond (q x) 1 0) xs (λ x. grind (arith, within x))
 
 pub count_and : {E : Type 0} (p q : E → Bool) (xs : List E) → count_by (λ x. p x && q x) xs ≤ count_by p xs
 count_and p q xs = count_within (λ x. p x && q x) p xs (λ x h. (and_parts (p x) (q x) h).0)
 
 pub count_filtered : {E : Type 0} (p q : E → Bool) (xs : List E) → count_by p (filter q xs) ≡ count_by (λ x. p x && q x) xs
 count_filtered p q xs =
-    sym (length-filter p (filter q xs)) ∙ (ap length (filter_filter q p xs ∙ filter_agree (λ x. q x && p x) (λ x. p x && q x) (λ x. and_comm (q x) (p x)) xs) ∙ length-filter (λ x. p x && q x) xs)
+    sym (length-filter p (filter q xs)) ∙ (ap length (filter_filter q p xs ∙ filter_agree (λ x. q x && p x) (λ x. p x && q x) (λ x. grind arith) xs) ∙ length-filter (λ x. p x && q x) xs)
 
 pub count_filter : {E : Type 0} (p q : E → Bool) (xs : List E) → count_by p (filter q xs) ≤ count_by p xs
 count_filter p q xs = omega (arith, count_filtered p q xs, count_and p q xs)

@@ -1,8 +1,7 @@
 -- One entry more comes to parts, and what comes is put in order.
-use Rattle.pref_sky.proofs.Common.{Bor, ◌≡◌, ◌∙◌, ℕ, ◌≤◌, ◌<◌, ◌+◌, Bool, cond, inl, inr, List, [], ◌∷◌, ◌++◌, Vec, Global, get_or, length, map, refl, sym, ap, subst, arith, Called}
-use Rattle.pref_sky.proofs.Common.{IsPermutation, IsSortedByKeyClosure, nat_cmp, ordering_then, All, always_returns_same, map-append, All-push, sum_by-IsPermutation}
-use Rattle.pref_sky.proofs.Common.{sum_by-append, Mut, Entry, Item, Pool, signature_by, Arrival, AreDealt, IsArrival, KeepsAllBut, arrived, AreAllItems, AreInPool, HasGrown, IsItem}
-use Rattle.pref_sky.proofs.Common.{levels_at, parts_at, IsBehind, held_at}
+use Rattle.pref_sky.proofs.Common.{Bor, ◌≡◌, ◌∙◌, ℕ, ◌≤◌, ◌<◌, ◌+◌, Bool, cond, inl, inr, List, [], ◌∷◌, ◌++◌, Vec, Global, get_or, length, map, refl, sym, ap, subst, arith, Called, IsPermutation}
+use Rattle.pref_sky.proofs.Common.{IsSortedByKeyClosure, nat_cmp, ordering_then, All, always_returns_same, map-append, All-push, sum_by-IsPermutation, sum_by-append, Mut, Entry, Item, Pool}
+use Rattle.pref_sky.proofs.Common.{signature_by, Arrival, AreDealt, IsArrival, KeepsAllBut, arrived, AreAllItems, AreInPool, HasGrown, IsItem, levels_at, parts_at, IsBehind, held_at}
 use Rattle.std.specs.Prelude.{count_by}
 use Rattle.pref_sky.proofs.Members.{all_among, in_either, in_left, in_right, map_agree_among}
 use Rattle.pref_sky.proofs.Orders.{same_if_permuted}

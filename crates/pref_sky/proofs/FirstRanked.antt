@@ -1,8 +1,8 @@
 -- Of ranked entries in order of level: those on the levels before one's own stand in front, and the first levels that hold so many together.
-use Rattle.pref_sky.proofs.Common.{◌≡◌, ℕ, zero, suc, ◌<◌, ◌-◌, Bool, true, false, cond, inl, inr, List, [], ◌∷◌, ◌++◌, map, length, get_or, take, filter, leb, ltb, sym, refl, ◌∙◌, ap, arith, cases_lt, nat_tests}
-use Rattle.pref_sky.proofs.Common.{IsNonDecreasingBy, IsPartitionPoint, IsPartitionedBy, le-ltb, lt-ltb, get_or_append_left, get_or-append_right, get_or-map, length-append, length-map, count_by, count_by-le-length, sum_by-cons}
-use Rattle.pref_sky.proofs.Common.{filter_agree, in_same_group, Row, Entry, Ranked, at_least, count_before, best, rest, at_level, in_order_of_id, levels}
-use Rattle.std.proofs.lemmas.List.Sorted.{IsPartitionedBy-ltb}
+use Rattle.pref_sky.proofs.Common.{◌≡◌, ℕ, zero, suc, ◌<◌, ◌-◌, Bool, true, false, cond, inl, inr, List, [], ◌∷◌, ◌++◌, map, length, get_or, take, filter, leb, ltb, sym, refl, ◌∙◌, ap, arith}
+use Rattle.pref_sky.proofs.Common.{cases_lt, nat_tests, IsNonDecreasingBy, IsPartitionPoint, IsPartitionedBy, le-ltb, lt-ltb, get_or_append_left, get_or-append_right, get_or-map, length-append}
+use Rattle.pref_sky.proofs.Common.{length-map, count_by, count_by-le-length, sum_by-cons, filter_agree, in_same_group, Row, Entry, Ranked, at_least, count_before, best, rest, at_level, in_order_of_id}
+use Rattle.pref_sky.proofs.Common.{levels, IsPartitionedBy-ltb}
 use Rattle.pref_sky.proofs.Counts.{count_filtered}
 use Rattle.pref_sky.proofs.Enough.{all_pass, levels_upto, none_pass}
 use Rattle.pref_sky.proofs.Members.{among_place}

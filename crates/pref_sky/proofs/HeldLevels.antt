@@ -1,9 +1,10 @@
 -- Lists with the same members have the same best, and entries that others are over change nothing of the best.
-use Rattle.pref_sky.proofs.Common.{◌≡◌, ◌≤◌, ◌+◌, Bool, true, false, cond, not, inl, inr, List, ◌++◌, sym, ◌∙◌, ap, arith, eqb, count_by, both_ways, not-true, not_from_false, false_from_ne_true}
-use Rattle.pref_sky.proofs.Common.{sum_by-append, IsStrictOrder, Entry, IsApart, best, is_beaten, without_best, HaveDifferentIds, in_order_of_id, Among}
+use Rattle.pref_sky.proofs.Common.{◌≡◌, ◌≤◌, ◌+◌, Bool, true, false, cond, not, inl, inr, List, ◌++◌, sym, ◌∙◌, ap, arith, eqb, count_by, both_ways, not-true, not_from_false, sum_by-append}
+use Rattle.pref_sky.proofs.Common.{IsStrictOrder, Entry, IsApart, best, is_beaten, without_best, HaveDifferentIds, in_order_of_id, Among}
 use Rattle.pref_sky.proofs.Members.{any_from, any_gives, in_filter, from_filter, in_left, in_right, in_either}
 use Rattle.pref_sky.proofs.Removals.{same_answer}
 use Rattle.pref_sky.proofs.Orders.{SameMembers, from_in_order}
+use Rattle.pref_sky.proofs.StairLaws.{best_are_apart}
 
 -- what is beaten by more
 pub beaten_by_more : (over : Entry → Entry → Bool) (some all : List Entry) (e : Entry) → ((x : Entry) → Among x some → Among x all) → is_beaten over some e ≡ true → is_beaten over all e ≡ true
@@ -11,9 +12,6 @@ beaten_by_more over some all e within h = let w = any_gives (λ x. over x e) som
 
 pub same_beaten : (over : Entry → Entry → Bool) (xs ys : List Entry) → SameMembers xs ys → (e : Entry) → is_beaten over xs e ≡ is_beaten over ys e
 same_beaten over xs ys same e = same_answer (is_beaten over xs e) (is_beaten over ys e) (beaten_by_more over xs ys e same.there) (beaten_by_more over ys xs e same.back)
-
-unbeaten : (over : Entry → Entry → Bool) (xs : List Entry) (y e : Entry) → is_beaten over xs e ≡ false → Among y xs → over y e ≡ false
-unbeaten over xs y e none m = false_from_ne_true (over y e) (λ above. both_ways (is_beaten over xs e) none (any_from (λ x. over x e) xs y m above))
 
 -- the best of lists with the same members
 pub best_of_same : (over : Entry → Entry → Bool) (xs ys : List Entry) → SameMembers xs ys → SameMembers (best over xs) (best over ys)
@@ -32,10 +30,7 @@ without_of_same over xs ys same =
 
 -- the best of a list are apart
 pub best_apart : (over : Entry → Entry → Bool) (xs : List Entry) → IsApart over (in_order_of_id (best over xs))
-best_apart over xs x y mx my =
-    let vx = from_filter (λ e. not (is_beaten over xs e)) xs x (from_in_order (best over xs) x mx) in
-    let vy = from_filter (λ e. not (is_beaten over xs e)) xs y (from_in_order (best over xs) y my) in
-    unbeaten over xs x y (not-true (is_beaten over xs y) vy.1) vx.0
+best_apart over xs x y mx my = best_are_apart over xs x y (from_in_order (best over xs) x mx) (from_in_order (best over xs) y my)
 
 pub same_sym : (xs ys : List Entry) → SameMembers xs ys → SameMembers ys xs
 same_sym xs ys same = record { there = same.back; back = same.there }

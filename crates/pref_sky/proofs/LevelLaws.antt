@@ -1,10 +1,11 @@
 -- Laws of the levels, for the crates above: no entries have no levels, the order in which entries stand does not matter, and what is held has different ids.
 use Rattle.pref_sky.proofs.Common.{leb, ◌-◌, ◌≡◌, ℕ, zero, suc, ◌<◌, Bool, cond, not, ◌&&◌, List, [], ◌∷◌, ◌++◌, map, append_assoc, subst, refl, sym, ◌∙◌, ap, arith, append-nil, ◌==◌, ltb, flat_map}
-use Rattle.pref_sky.proofs.Common.{ltb-true, lt-ltb, leb-true, le-leb, and_parts, and_from, sum_by-append, IsStrictOrder, Row, Best, TopLevel, AtLeast, Question, in_same_group, Entry, Ranked, best}
-use Rattle.pref_sky.proofs.Common.{rest, without_best, order_of, order_of_is_row_order, entry_order, HaveDifferentIds, in_order_of_id, at_level, entry_of, held_after, levels, count_before, count_upto}
-use Rattle.pref_sky.proofs.Common.{selected, answer_of, at_least, Among}
+use Rattle.pref_sky.proofs.Common.{ltb-true, lt-ltb, nat_tests, sum_by-append, IsStrictOrder, Row, Best, TopLevel, AtLeast, Question, in_same_group, Entry, Ranked, best, rest, without_best, order_of}
+use Rattle.pref_sky.proofs.Common.{order_of_is_row_order, entry_order, HaveDifferentIds, in_order_of_id, at_level, entry_of, held_after, levels, count_before, count_upto, selected, answer_of}
+use Rattle.pref_sky.proofs.Common.{at_least, Among}
 use Rattle.pref_term.specs.declared.ask.Mode.{Mode}
 use Rattle.pref_sky.proofs.Removals.{comes_after}
+use Rattle.pref_sky.proofs.HeldLevels.{different_by_count}
 use Rattle.pref_sky.proofs.Members.{in_filter, from_filter}
 use Rattle.pref_sky.proofs.Orders.{SameMembers}
 use Rattle.pref_sky.proofs.Merges.{different_best, entry_order_is_strict, entry_order_stays_in_groups, same_by_level}
@@ -41,18 +42,9 @@ answer_of_same ask xs ys dx dy same =
 -- what is held of entries has different ids
 pub held_differ : (over : Entry → Entry → Bool) (before new : List Entry) (n : ℕ) → HaveDifferentIds (before ++ new) → HaveDifferentIds (map entry_of (levels over before n) ++ new)
 held_differ over before new n different =
-    record {
-      once = λ id.
-          let p : Entry → Bool = λ e. e.id == id in
-          omega (
-            arith,
-            different.once id,
-            sum_by-append (λ e. cond (p e) 1 0) before new,
-            sum_by-append (λ e. cond (p e) 1 0) (map entry_of (levels over before n)) new,
-            count_levels over p before n,
-            count_and p (λ e. not (comes_after over before n e)) before,
-          );
-    }
+    let top = map entry_of (levels over before n) in
+    different_by_count before new (top ++ new) different
+    (λ p. omega (arith, sum_by-append (λ e. cond (p e) 1 0) top new, count_levels over p before n, count_and p (λ e. not (comes_after over before n e)) before))
 
 -- the first part of a list has different ids where all have
 pub first_differ : (xs ys : List Entry) → HaveDifferentIds (xs ++ ys) → HaveDifferentIds xs
@@ -80,13 +72,11 @@ held_after_pieces over strict cut pieces different = cut_into over strict cut []
 pub kept_before_k : (same : Row → Row → Bool) (k : ℕ) (all : List Ranked) (r : Ranked) → Among r (at_least same k all) → (m : ℕ) → m < r.level → count_upto same all r.row m < k
 kept_before_k same k all r kept m below =
     let few = ltb-true (count_before same all r) k (from_filter (λ s. ltb (count_before same all s) k) all r kept).1 in
-    let fewer = count_within (λ (s : Ranked). same s.row r.row && leb s.level m) (λ (s : Ranked). same s.row r.row && ltb s.level r.level) all
-    (λ s h. let both = and_parts (same s.row r.row) (leb s.level m) h in and_from (same s.row r.row) (ltb s.level r.level) both.0 (lt-ltb s.level r.level (omega (arith, leb-true s.level m both.1, below)))) in
+    let fewer = count_within (λ (s : Ranked). same s.row r.row && leb s.level m) (λ (s : Ranked). same s.row r.row && ltb s.level r.level) all (λ s h. grind (arith, nat_tests, h, below)) in
     omega (arith, few, fewer)
 
 pub kept_if_before_k : (same : Row → Row → Bool) (k : ℕ) (all : List Ranked) (r : Ranked) → Among r all → 0 < r.level → ((m : ℕ) → m < r.level → count_upto same all r.row m < k) → Among r (at_least same k all)
 kept_if_before_k same k all r m some before =
     let few = before (r.level - 1) (omega arith) in
-    let fewer = count_within (λ (s : Ranked). same s.row r.row && ltb s.level r.level) (λ (s : Ranked). same s.row r.row && leb s.level (r.level - 1)) all
-    (λ s h. let both = and_parts (same s.row r.row) (ltb s.level r.level) h in and_from (same s.row r.row) (leb s.level (r.level - 1)) both.0 (le-leb s.level (r.level - 1) (omega (arith, ltb-true s.level r.level both.1)))) in
+    let fewer = count_within (λ (s : Ranked). same s.row r.row && ltb s.level r.level) (λ (s : Ranked). same s.row r.row && leb s.level (r.level - 1)) all (λ s h. grind (arith, nat_tests, h)) in
     in_filter (λ s. ltb (count_before same all s) k) all r m (lt-ltb (count_before same all r) k (omega (arith, few, fewer)))

@@ -11,7 +11,7 @@ use Rattle.pref_sky.proofs.Counts.{count_filter, count_filtered}
 use Rattle.pref_sky.proofs.LineLaws.{on_level}
 use Rattle.pref_sky.proofs.Members.{among_place, any_from, from_filter, from_map, in_filter, in_map, place_of}
 use Rattle.pref_sky.proofs.Merges.{HoldsLevels, held_all, held_within}
-use Rattle.pref_sky.proofs.Orders.{RisesBy, SameMembers, different_later, different_tail, same_if_permuted, same_if_rise}
+use Rattle.pref_sky.proofs.Orders.{RisesBy, SameMembers, differ_if_permuted, different_later, different_tail, same_if_permuted, same_if_rise}
 use Rattle.pref_sky.proofs.Ranks.{ComesBefore, from_upto, levels_upto_is, one_way, upto_rises}
 use Rattle.pref_sky.proofs.Removals.{comes_after, early_stays, same_chains}
 use Rattle.pref_sky.proofs.SortedLevels.{bests_differ, count_levels, some_differ, some_levels}
@@ -134,18 +134,9 @@ module _ (over : Entry → Entry → Bool) (strict : IsStrictOrder over) (all : 
       let level : ℕ → List Entry = λ k. best over (rest over all k) in
       let told : IsPermutation (leveled over all cut all) after = subst (λ l. IsPermutation l after) is moved in
       let same = same_if_permuted (leveled over all cut all) after told in
-      let differ : HaveDifferentIds (map entry_of after) =
-      record {
-        once = λ id.
-            let p : Entry → Bool = λ e. e.id == id in
-            omega (
-              arith,
-              different.once id,
-              count_upper p,
-              ap (count_by p) (entries_again over all cut upper),
-              sum_by-IsPermutation (λ e. cond (p e) 1 0) (map entry_of (leveled over all cut all)) (map entry_of after) (IsPermutation-map entry_of (leveled over all cut all) after told),
-            );
-      } in
+      let some : HaveDifferentIds upper = record { once = λ id. omega (arith, different.once id, count_upper (λ e. e.id == id)) } in
+      let listed = map entry_of (leveled over all cut all) in
+      let differ = differ_if_permuted listed (map entry_of after) (IsPermutation-map entry_of (leveled over all cut all) after told) (subst HaveDifferentIds (sym (entries_again over all cut upper)) some) in
       same_if_rise ComesBefore one_way after (ranked_upto level cut) (rises_by_rank after differ (sorted_far ranks_before ranks_are_ordered after sorted)) (upto_rises level cut (bests_differ over all cut different))
       (record { there = λ r m. subst (Among r) (levels_upto_is over all cut) (same_members.there r (same.back r m)); back = λ r m. same.there r (same_members.back r (subst (Among r) (sym (levels_upto_is over all cut)) m)) })
       ∙ sym (levels_upto_is over all cut)

@@ -1,6 +1,6 @@
 -- What an addition makes of levels: from the first one to which something comes, each new level is the best of the held one and of what comes to it.
-use Rattle.pref_sky.proofs.Common.{◌≡◌, ℕ, zero, suc, ◌≤◌, ◌<◌, ◌+◌, ◌-◌, Bool, true, cond, ◌⊎◌, inl, inr, List, [], ◌∷◌, ◌++◌, length, map, take, drop, get_or, refl, sym, ◌∙◌, ap, subst, arith, filter}
-use Rattle.pref_sky.proofs.Common.{append_assoc, length-append, length-take-le, count_by, sum_by, cases_lt, both_ways, get_or_append_left, get_or-append_right, get_or-drop, get_or-take}
+use Rattle.pref_sky.proofs.Common.{◌≡◌, ℕ, zero, suc, ◌≤◌, ◌<◌, ◌+◌, ◌-◌, Bool, true, cond, ◌⊎◌, inl, inr, List, [], ◌∷◌, ◌++◌, length, map, take, drop, get_or, refl, sym, ◌∙◌, ap, subst, arith}
+use Rattle.pref_sky.proofs.Common.{filter, append_assoc, length-append, length-take-le, count_by, sum_by, cases_lt, both_ways, get_or_append_left, get_or-append_right, get_or-drop, get_or-take}
 use Rattle.pref_sky.proofs.Common.{sum_by-append, sum_by-cons, sum_by_push, sum_by-take-drop, IsStrictOrder, Entry, IsApart, best, is_beaten, rest, without_best, HaveDifferentIds, entry_of, levels}
 use Rattle.pref_sky.proofs.Common.{IsBehind, IsMade, held_at, ranked_from, ranked_upto, Parted, Among}
 use Rattle.pref_sky.proofs.Members.{any_from, any_gives, in_filter, from_filter, in_left, in_right, in_either}

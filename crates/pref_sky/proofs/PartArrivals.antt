@@ -1,7 +1,7 @@
 -- Arrivals in order of part, then of start: those that come to one part stand together.
-use Rattle.pref_sky.proofs.Common.{◌≡◌, ℕ, ◌≤◌, ◌<◌, ◌+◌, Bool, false, nat_tests, deals_before, eqb, eq-eqb, inl, inr, List, ◌++◌, length, get_or, take, drop, filter, sym, ◌∙◌, ap, subst, arith, append-nil}
-use Rattle.pref_sky.proofs.Common.{length-take, length-drop, get_or-drop, All, IsNonDecreasingBy, cases_lt, eqb-true, false_from_ne_true}
-use Rattle.pref_sky.proofs.Common.{get_or-take, get_or_default, take-append-drop, filter-append, IsNonDecreasingBy-from_all_adjacent, Arrival, AreDealt, AreInOrderOfStart, coming_to, Among}
+use Rattle.pref_sky.proofs.Common.{◌≡◌, ℕ, ◌≤◌, ◌<◌, ◌+◌, Bool, false, nat_tests, deals_before, eqb, eq-eqb, inl, inr, List, ◌++◌, length, get_or, take, drop, filter, sym, ◌∙◌, ap, subst, arith}
+use Rattle.pref_sky.proofs.Common.{append-nil, length-take, length-drop, get_or-drop, All, IsNonDecreasingBy, cases_lt, eqb-true, false_from_ne_true, get_or-take, get_or_default, take-append-drop}
+use Rattle.pref_sky.proofs.Common.{filter-append, IsNonDecreasingBy-from_all_adjacent, Arrival, AreDealt, AreInOrderOfStart, coming_to, Among}
 use Rattle.pref_sky.proofs.Members.{all_among, from_filter}
 use Rattle.pref_sky.proofs.Enough.{all_pass, none_pass}
 

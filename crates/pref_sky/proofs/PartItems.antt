@@ -1,5 +1,6 @@
 -- The levels of one part, where those of one are changed.
-use Rattle.pref_sky.proofs.Common.{◌≡◌, ℕ, zero, suc, ◌<◌, List, [], ◌∷◌, length, get_or, set, refl, sym, ◌∙◌, ap, subst, arith, All, Vec, Global, Entry, Item, AreAllItems, AreInPool, levels_at, items_at, parts_at, held_at}
+use Rattle.pref_sky.proofs.Common.{◌≡◌, ℕ, zero, suc, ◌<◌, List, [], ◌∷◌, length, get_or, set, refl, sym, ◌∙◌, ap, subst, arith, All, Vec, Global, Entry, Item, AreAllItems, AreInPool, levels_at}
+use Rattle.pref_sky.proofs.Common.{items_at, parts_at, held_at}
 
 abbrev pub Levels : Type 0
 Levels = List (Vec Item Global)

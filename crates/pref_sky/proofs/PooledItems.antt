@@ -1,6 +1,6 @@
 -- Items of a pool that are signed by a rule which tells of the order: their entries are parted as they are.
-use Rattle.pref_sky.proofs.Common.{◌≡◌, ◌∙◌, ℕ, true, ◌&&◌, ◌||◌, nat_lt, List, ◌++◌, sym, ap, and_parts, inl, inr, cases_Bool, RowOrder, Suit, is_within, signature, Entry, Item, AreItems}
-use Rattle.pref_sky.proofs.Common.{IsItem, entries_at, entry_at, item_order, entry_order, Parted}
+use Rattle.pref_sky.proofs.Common.{◌≡◌, ◌∙◌, ℕ, true, ◌&&◌, ◌||◌, nat_lt, List, ◌++◌, sym, ap, and_parts, inl, inr, cases_Bool, RowOrder, Suit, is_within, signature, Entry, Item, AreItems, IsItem}
+use Rattle.pref_sky.proofs.Common.{entries_at, entry_at, item_order, entry_order, Parted}
 use Rattle.pref_term.specs.declared.signature.scale.Scale.{Scale}
 use Rattle.pref_sky.proofs.Items.{item_agrees}
 use Rattle.pref_sky.proofs.Members.{all_among, among_all}

@@ -1,7 +1,7 @@
 -- What goes out of a list where an item meets it, and what the item is clear of.
 use Rattle.pref_sky.proofs.Common.{◌≡◌, ℕ, ◌<◌, ◌≤◌, ◌+◌, Bool, true, false, ◌&&◌, inl, inr, List, [], ◌∷◌, ◌++◌, length, sym, ◌∙◌, ap, arith, append-nil, append_assoc, get_or, swap_remove}
-use Rattle.pref_sky.proofs.Common.{IsPermutation, and_right, cases_lt, get_or_default, sum_by-IsPermutation, sum_by-cons, sum_by-append, sum_by-swap_remove, RowOrder}
-use Rattle.pref_sky.proofs.Common.{StandAlike, is_within, Entry, Item, IsApart, is_word, item_order, place_order, IsClear, IsTold, Sifted, Among}
+use Rattle.pref_sky.proofs.Common.{IsPermutation, and_right, cases_lt, get_or_default, sum_by-IsPermutation, sum_by-cons, sum_by-append, sum_by-swap_remove, RowOrder, StandAlike, is_within, Entry}
+use Rattle.pref_sky.proofs.Common.{Item, IsApart, is_word, item_order, place_order, IsClear, IsTold, Sifted, Among}
 use Rattle.pref_sky.proofs.Members.{in_either, place_of}
 
 -- the first so many of a list are clear

@@ -1,8 +1,9 @@
 -- Lists with the same levels up to a cut, where the ids differ of what is of these: what is below may be left out, and may be there twice. So the levels up to a cut of a list are those of what is of these levels, with the others.
-use Rattle.pref_sky.proofs.Common.{◌≡◌, ℕ, zero, suc, ◌≤◌, ◌+◌, Bool, true, false, cond, not, ltb, ◌&&◌, ◌||◌, ◌⊎◌, inl, inr, List, [], ◌∷◌, ◌++◌, map, refl, sym, ◌∙◌, ap, subst, arith, append_assoc}
-use Rattle.pref_sky.proofs.Common.{filter, ◌==◌, count_by, and_parts, and_from, both_ways, not-true, not_from_false, false_from_ne_true, sum_by-append, sum_by-cons, IsProductOf, IsStrictOrder}
-use Rattle.pref_sky.proofs.Common.{RowOrder, ChainOrder, Entry, best, rest, is_below, own_levels, own_order, HaveDifferentIds, entry_of, entry_order, in_order_of_id, levels, HoldsUpper, Among}
+use Rattle.pref_sky.proofs.Common.{◌≡◌, ℕ, zero, suc, ◌≤◌, Bool, true, false, cond, not, ltb, ◌&&◌, ◌||◌, ◌⊎◌, inl, inr, List, [], ◌∷◌, ◌++◌, map, refl, sym, ◌∙◌, ap, subst, arith, append_assoc}
+use Rattle.pref_sky.proofs.Common.{filter, ◌==◌, count_by, both_ways, false_from_ne_true, sum_by-append, sum_by-cons, IsProductOf, IsStrictOrder, RowOrder, ChainOrder, Entry, best, rest, is_below}
+use Rattle.pref_sky.proofs.Common.{own_levels, own_order, HaveDifferentIds, entry_of, entry_order, in_order_of_id, levels, HoldsUpper, Among}
 use Rattle.pref_sky.proofs.ChainOrders.{own_is_strict}
+use Rattle.pref_sky.proofs.HeldLevels.{different_by_count}
 use Rattle.pref_sky.proofs.Members.{in_left, in_right, in_either}
 use Rattle.pref_sky.proofs.Orders.{count_in_order}
 use Rattle.pref_sky.proofs.Removals.{comes_after, comes_after_less, comes_after_among_more, best_of_rest_is, early_stays, same_chains}
@@ -11,12 +12,7 @@ use Rattle.pref_sky.proofs.Counts.{count_and, count_filtered, count_split, count
 
 count_never : {E : Type 0} (p : E → Bool) (xs : List E) → count_by (λ x. p x && false) xs ≡ 0
 count_never p [] = refl
-count_never p (x ∷ xs) =
-    let here = elim (p x) as (λ b. cond {A = ℕ} (b && false) 1 0 ≡ 0) [ true ↦ refl | false ↦ refl ] in
-    omega (arith, here, count_never p xs, sum_by-cons (λ y. cond (p y && false) 1 0) x xs)
-
-here_or_earlier : (p a b : Bool) → (b ≡ true → a ≡ true) → cond (p && not a) 1 0 + cond (p && (a && not b)) 1 0 ≡ cond (p && not b) 1 0
-here_or_earlier p a b h = grind (arith, h)
+count_never p (x ∷ xs) = grind (arith, count_never p xs, sum_by-cons (λ y. cond {A = ℕ} (p y && false) 1 0) x xs)
 
 -- the entries of the levels up to n are those that no chain of n stands over
 pub count_levels : (over : Entry → Entry → Bool) (p : Entry → Bool) (all : List Entry) (n : ℕ) → count_by p (map entry_of (levels over all n)) ≡ count_by (λ e. p e && not (comes_after over all n e)) all
@@ -27,7 +23,7 @@ count_levels over p all (suc n) =
     let level = count_in_order p (filter (is_at over all n) all) in
     let filtered = count_filtered p (is_at over all n) all in
     let both = count_split (λ e. p e && not (comes_after over all n e)) (λ e. p e && is_at over all n e) (λ e. p e && not (comes_after over all (suc n) e)) all
-    (λ e. here_or_earlier (p e) (comes_after over all n e) (comes_after over all (suc n) e) (comes_after_less over all n e)) in
+    (λ e. grind (arith, comes_after_less over all n e)) in
     omega (arith, more, joined, level, filtered, both, count_levels over p all n)
 
 -- the ids of one of the levels differ
@@ -36,10 +32,7 @@ bests_differ over all cut different n le =
     subst HaveDifferentIds (sym (best_of_rest_is over all n)) (record {
       once = λ id.
           let p : Entry → Bool = λ e. e.id == id in
-          let early = count_within (λ e. p e && is_at over all n e) (λ e. p e && not (comes_after over all cut e)) all (λ e h.
-          let both = and_parts (p e) (is_at over all n e) h in
-          let ended = not-true (comes_after over all (suc n) e) (and_parts (comes_after over all n e) (not (comes_after over all (suc n) e)) both.1).1 in
-          and_from (p e) (not (comes_after over all cut e)) both.0 (ap not (early_stays over all (suc n) cut e le ended))) in
+          let early = count_within (λ e. p e && is_at over all n e) (λ e. p e && not (comes_after over all cut e)) all (λ e h. grind (arith, h, early_stays over all (suc n) cut e le)) in
           omega (arith, different.once id, count_levels over p all cut, count_filtered p (is_at over all n) all, early);
     })
 
@@ -68,24 +61,11 @@ module _ (over : Entry → Entry → Bool) (strict : IsStrictOrder over) (cut : 
 
   all_differ : HaveDifferentIds (map entry_of (levels over (held ++ entries) cut))
   all_differ =
-      record {
-        once = λ id.
-            let p : Entry → Bool = λ e. e.id == id in
-            let early : Entry → Bool = λ e. not (comes_after over (held ++ entries) cut e) in
-            let old = count_within (λ e. p e && early e) (λ e. p e && not (comes_after over held cut e)) held (λ e h.
-            let both = and_parts (p e) (early e) h in
-            and_from (p e) (not (comes_after over held cut e)) both.0 (not_from_false (comes_after over held cut e) (later_still e (not-true (comes_after over (held ++ entries) cut e) both.1)))) in
-            omega (
-              arith,
-              different.once id,
-              sum_by-append (λ e. cond (p e) 1 0) (map entry_of (levels over held cut)) entries,
-              count_levels over p (held ++ entries) cut,
-              sum_by-append (λ e. cond (p e && early e) 1 0) held entries,
-              old,
-              count_levels over p held cut,
-              count_and p early entries,
-            );
-      }
+      let top = map entry_of (levels over held cut) in
+      let early : Entry → Bool = λ e. not (comes_after over (held ++ entries) cut e) in
+      different_by_count top entries (map entry_of (levels over (held ++ entries) cut)) different (λ p.
+      let old = count_within (λ e. p e && early e) (λ e. p e && not (comes_after over held cut e)) held (λ e h. grind (arith, h, later_still e)) in
+      omega (arith, count_levels over p (held ++ entries) cut, sum_by-append (λ e. cond (p e && early e) 1 0) held entries, old, count_levels over p held cut, count_and p early entries))
 
   -- the merge law: those of the levels stand for all that are held
   pub merge : levels over (map entry_of (levels over held cut) ++ entries) cut ≡ levels over (held ++ entries) cut

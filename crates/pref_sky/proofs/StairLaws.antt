@@ -1,9 +1,10 @@
 -- Chains, and stairs: in the order of the first chain one entry stands for all before it.
 use Rattle.pref_sky.proofs.Common.{◌≡◌, Bool, true, false, not, ◌||◌, inl, inr, List, [], ◌∷◌, ◌++◌, refl, sym, ◌∙◌, ap, subst, filter, arith, both_ways, false_from_ne_true, cond_both, IsStrictOrder}
 use Rattle.pref_sky.proofs.Common.{IsApart, best, is_beaten, IsChain, AreStairs, IsLine, IsInOrder, are_level, comes_first, in_turn, HasOneCandidate, IsSwept, ServesGroups, Among}
+use Rattle.std.proofs.lemmas.List.Folds.{list_any-append}
 use Rattle.pref_sky.proofs.Members.{any_from, any_gives, from_filter, in_left, in_right, in_either}
 use Rattle.pref_sky.proofs.MergedLists.{in_order_across, in_order_back, in_order_front}
-use Rattle.pref_sky.proofs.Removals.{beaten_by_best, same_answer}
+use Rattle.pref_sky.proofs.Removals.{beaten_by_best}
 
 -- one chain, and where that sees no difference another one
 pub chain_in_turn : {E : Type 0} (f g : E → E → Bool) → IsChain f → IsChain g → IsChain (in_turn f g)
@@ -40,7 +41,7 @@ in_weaker_order : {E : Type 0} (before weaker : E → E → Bool) → ((a b : E)
 in_weaker_order before weaker then [] h = h
 in_weaker_order before weaker then (e ∷ others) h = ((λ x m. then e x (h.0 x m)), in_weaker_order before weaker then others h.1)
 
-best_are_apart : {E : Type 0} (over : E → E → Bool) (all : List E) → IsApart over (best over all)
+pub best_are_apart : {E : Type 0} (over : E → E → Bool) (all : List E) → IsApart over (best over all)
 best_are_apart over all x y mx my =
     let other = from_filter (λ e. not (is_beaten over all e)) all x mx in
     let free = (from_filter (λ e. not (is_beaten over all e)) all y my).1 in
@@ -106,23 +107,24 @@ module _ {E : Type 0} (over f s t : E → E → Bool) (stairs : AreStairs over f
   pub later : (a b : E) → comes_first f s t b a ≡ false → over b a ≡ false
   later a b h = grind (arith, stairs.is b a)
 
+  -- where all are worse in the first chain, none dominates
+  none_beyond : (level : List E) (x : E) → ((z : E) → Among z level → f x z ≡ true) → is_beaten over level x ≡ false
+  none_beyond level x beyond =
+      false_from_ne_true (is_beaten over level x) (λ h. let w = any_gives (λ z. over z x) level h in both_ways (over w.0 x) (grind (arith, stairs.is w.0 x, beyond w.0 w.1)) w.2)
+
   -- one candidate
   pub one_candidate : HasOneCandidate over f s t
   one_candidate =
       record {
         candidate = λ front y back x ordered apart reach beyond.
             let level = front ++ y ∷ back in
+            let front_then : is_beaten over front x ≡ true → over y x ≡ true =
+            λ h. let w = any_gives (λ z. over z x) front h in
+            let before = in_order_across (λ a b. not (f b a)) front (y ∷ back) ordered w.0 y w.1 (inl refl) in
+            let there = in_left front (y ∷ back) w.0 w.1 in
             let here = in_right front (y ∷ back) y (inl refl) in
-            same_answer (is_beaten over level x) (over y x)
-            (λ h.
-            let w = any_gives (λ z. over z x) level h in
-            elim (in_either front (y ∷ back) w.0 w.1) [
-              | inl m ↦
-                  let before = in_order_across (λ a b. not (f b a)) front (y ∷ back) ordered w.0 y m (inl refl) in
-                  stands_for y w.0 x (grind (arith, before)) reach (apart y w.0 here w.1) (apart w.0 y w.1 here) w.2
-              | inr m ↦ elim m [ inl same ↦ ap (λ v. over v x) (sym same) ∙ w.2 | inr n ↦ grind (arith, stairs.is w.0 x, beyond w.0 n, w.2) ]
-            ])
-            (λ h. any_from (λ z. over z x) level y here h);
+            stands_for y w.0 x (grind (arith, before)) reach (apart y w.0 here there) (apart w.0 y there here) w.2 in
+            grind (arith, list_any-append (λ z. over z x) front (y ∷ back), front_then, none_beyond back x beyond);
         alike = λ front y back x z ordered apart reach beyond m level.
             let here = in_right front (y ∷ back) y (inl refl) in
             elim (in_either front (y ∷ back) z m) [
@@ -131,27 +133,17 @@ module _ {E : Type 0} (over f s t : E → E → Bool) (stairs : AreStairs over f
                   alike_for y z x (grind (arith, before)) reach (apart y z here m) (apart z y m here) level
               | inr n ↦ elim n [ inl same ↦ ap (λ v. are_level (comes_first f s t) v x) (sym same) ∙ level | inr k ↦ grind (arith, beyond z k, level) ]
             ];
-        none = λ level x beyond.
-            false_from_ne_true (is_beaten over level x) (λ h. let w = any_gives (λ z. over z x) level h in both_ways (over w.0 x) (grind (arith, stairs.is w.0 x, beyond w.0 w.1)) w.2);
+        none = none_beyond;
         halves = λ a b x ba xb. grind (arith, ba, xb, stairs.first_is_chain.between x b a);
       }
 
   -- of entries in order only those before one dominate it
   beaten_by_those_before : (front : List E) (x : E) (back : List E) → IsInOrder (comes_no_earlier f s t) (front ++ x ∷ back) → is_beaten over (front ++ x ∷ back) x ≡ is_beaten over front x
   beaten_by_those_before front x back ordered =
-      let all = front ++ x ∷ back in
       let those = in_order_back (comes_no_earlier f s t) front (x ∷ back) ordered in
-      same_answer (is_beaten over all x) (is_beaten over front x)
-      (λ h.
-      let w = any_gives (λ z. over z x) all h in
-      elim (in_either front (x ∷ back) w.0 w.1) [
-        | inl m ↦ any_from (λ z. over z x) front w.0 m w.2
-        | inr m ↦ absurd (elim m [
-          | inl same ↦ both_ways (over x x) (strict_stairs.irreflexive x) (ap (λ v. over v x) (sym same) ∙ w.2)
-          | inr n ↦ both_ways (over w.0 x) (later x w.0 (grind (arith, those.0 w.0 n))) w.2
-        ])
-      ])
-      (λ h. let w = any_gives (λ z. over z x) front h in any_from (λ z. over z x) all w.0 (in_left front (x ∷ back) w.0 w.1) w.2)
+      let none : is_beaten over back x ≡ false =
+      false_from_ne_true (is_beaten over back x) (λ h. let w = any_gives (λ z. over z x) back h in both_ways (over w.0 x) (later x w.0 (grind (arith, those.0 w.0 w.1))) w.2) in
+      grind (arith, list_any-append (λ z. over z x) front (x ∷ back), none, strict_stairs.irreflexive x)
 
   -- so the last best one of those before x dominates it, or none of all does
   last_best_stands_for_all : (front : List E) (x : E) (back : List E) → IsInOrder (comes_no_earlier f s t) (front ++ x ∷ back)

@@ -1,6 +1,5 @@
 -- Worked examples: the definitions compute.
-use Rattle.pref_sky.proofs.Common.{false, true, ◌≡◌, ℕ, List, [], ◌∷◌, map, refl, pos, order_of, in_same_group, Question, Best, TopLevel, AtLeast, Entry, Ranked, entry_order, levels, answer_of}
-use Rattle.pref_sky.proofs.Common.{at_least}
+use Rattle.pref_sky.proofs.Common.{false, true, ◌≡◌, ℕ, List, [], ◌∷◌, map, refl, pos, Question, Best, TopLevel, AtLeast, Entry, Ranked, answer_of}
 use Rattle.pref_term.specs.Preference.{Preference, low, scored, pareto, prior}
 use Rattle.pref_term.specs.declared.ask.Mode.{Mode}
 
@@ -46,10 +45,6 @@ pairs =
 
 pub at_least_five : places (answer_of (ask_for (AtLeast 5) both_low []) pairs) ≡ (1, 1) ∷ (1, 7) ∷ (2, 6) ∷ (2, 8) ∷ (3, 9) ∷ []
 at_least_five = refl
-
--- the same from the five levels that a partial result keeps
-pub at_least_five_of_five_levels : places (at_least (in_same_group []) 5 (levels (entry_order (order_of (ask_for (AtLeast 5) both_low []))) pairs 5)) ≡ (1, 1) ∷ (1, 7) ∷ (2, 6) ∷ (2, 8) ∷ (3, 9) ∷ []
-at_least_five_of_five_levels = refl
 
 -- at least two of each group: in the second group there is one
 abbrev grouped : List Entry

@@ -1,5 +1,5 @@
-use Rattle.pref_sky.proofs.Common.{◌≡◌, ℕ, eqb-true, nil_from_length, List, [], length, sym, ◌∙◌, ap, subst, IfOk-weaker, IsNonDecreasingBy, order_of, order_of_is_row_order, in_same_group, AtLeast, Question, cut_of, Entry}
-use Rattle.pref_sky.proofs.Common.{Ranked, at_least, answer_of, selected, entry_order, levels}
+use Rattle.pref_sky.proofs.Common.{◌≡◌, ℕ, eqb-true, nil_from_length, List, [], length, sym, ◌∙◌, ap, subst, IfOk-weaker, IsNonDecreasingBy, order_of, order_of_is_row_order, in_same_group, AtLeast}
+use Rattle.pref_sky.proofs.Common.{Question, cut_of, Entry, Ranked, at_least, answer_of, selected, entry_order, levels}
 use Rattle.pref_sky.proofs.Enough.{enough}
 use Rattle.pref_sky.proofs.FirstRanked.{levels_sorted}
 use Rattle.pref_sky.proofs.Merges.{entry_order_is_strict, entry_order_stays_in_groups}

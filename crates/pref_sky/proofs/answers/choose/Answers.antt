@@ -1,6 +1,5 @@
-use Rattle.pref_sky.proofs.Common.{rules, ◌≡◌, ◌≤◌, length, length-take-le, IsNonDecreasingBy, ◌++◌, ◌∷◌, [], Bool, ℕ, get_or, map, take, sym, ◌∙◌, ap, subst, arith, ltb, le-ltb, false, true, map-append, in_same_group, Ranked, IsPartitionPoint}
-use Rattle.pref_sky.proofs.Common.{IsPartitionPoint-from_clause, count_before}
-use Rattle.std.proofs.lemmas.List.Sorted.{IsPartitionedBy-ltb}
+use Rattle.pref_sky.proofs.Common.{rules, ◌≡◌, ◌≤◌, length, length-take-le, IsNonDecreasingBy, ◌++◌, ◌∷◌, [], Bool, ℕ, get_or, map, take, sym, ◌∙◌, ap, subst, arith, ltb, le-ltb, false, true}
+use Rattle.pref_sky.proofs.Common.{map-append, in_same_group, Ranked, IsPartitionPoint, IsPartitionPoint-from_clause, count_before, IsPartitionedBy-ltb}
 use Rattle.pref_sky.proofs.FirstRanked.{count_in_front}
 use Rattle.pref_sky.proofs.Loops.{front_more}
 use Rattle.pref_sky.proofs.answers.choose.Goals.{then-level-entry, else-level-entry}

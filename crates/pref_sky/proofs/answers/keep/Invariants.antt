@@ -1,5 +1,4 @@
-use Rattle.pref_sky.proofs.Common.{◌≡◌, ◌≤◌, Bool, map, length, Ranked}
-use Rattle.std.proofs.lemmas.List.Filters.{FiltersInPlace}
+use Rattle.pref_sky.proofs.Common.{◌≡◌, ◌≤◌, Bool, map, length, Ranked, FiltersInPlace}
 use Rattle.pref_sky.proofs.answers.keep.Given as goal
 
 -- what is chosen of those so far is in front, and those to come are where they were

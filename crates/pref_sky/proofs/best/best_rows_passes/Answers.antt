@@ -1,42 +1,40 @@
-use Rattle.pref_sky.proofs.Common.{rules, ◌≡◌, ◌==◌, ◌<◌, ◌++◌, ℕ, [], ◌∷◌, List, get_or, length, take, take_all, sym, ◌∙◌, ap, subst, arith, get_or_default, map-append, take_more}
-use Rattle.pref_sky.proofs.Common.{IsNonDecreasingBy-from_sort_by_key, RowOrder, Entry, Item, best, AreItems, entries_at, entry_at, item_order, HaveDifferentIds, entry_order, Parted, signature_by}
+use Rattle.pref_sky.proofs.Common.{rules, ◌≡◌, ◌==◌, ◌++◌, [], ◌∷◌, get_or, take, take_all, sym, ◌∙◌, ap, subst, arith, get_or_default, map-append, take_more, IsNonDecreasingBy-from_sort_by_key}
+use Rattle.pref_sky.proofs.Common.{Entry, Item, best, AreItems, entries_at, entry_at, HaveDifferentIds, entry_order, Parted, signature_by}
 use Rattle.pref_sky.proofs.Merges.{different_best}
 use Rattle.pref_sky.proofs.Orders.{same_in_order, sorted_is}
 use Rattle.pref_sky.proofs.Parting.{best_are}
 use Rattle.pref_sky.proofs.PooledItems.{entries_parted, parted_items, suit_tells}
+use Rattle.pref_sky.proofs.best.best_rows_passes.Given.{Over}
+use Rattle.pref_sky.proofs.best.best_rows_passes.Goals.{After-deref-item-items}
 use Rattle.pref_sky.proofs.best.best_rows_passes.Goals as goal
 
--- each best item has a place among the entries
-best_inside : (order : RowOrder) (rule : Entry → ℕ) (entries : List Entry) (made items top others slice : List Item) → items ≡ made → AreItems rule entries made → Parted (item_order order entries) [] items top others → slice ≡ top
-    → (k : ℕ) (d : Item) → k < length slice → (get_or slice k d).place < length entries
-best_inside order rule entries made items top others slice given are parted whole k d inside =
-    subst (λ l. (get_or l k d).place < length entries) (sym whole)
-    ((parted_items order rule entries [] items top others parted (subst (AreItems rule entries) (sym given) are)).0 k d (omega (arith, inside, ap length whole))).within
+-- the best items are some of the entries
+best_are_items : (g : Over) (c : After-deref-item-items g) → AreItems (signature_by c.in_ok-cuts.cuts) c.args.entries.now c.deref-item-items.result.now
+best_are_items g c =
+    let entries = c.args.entries.now in
+    let rule = signature_by c.in_ok-cuts.cuts in
+    let found = c.in_ok-found.found in
+    let made : AreItems rule entries c.deref.result.now = subst (AreItems rule entries) (sym c.deref.ensures.value) (c.in_ok-items.ensures {u = tt}).items in
+    subst (AreItems rule entries) (sym c.deref-item-items.ensures.value)
+    (parted_items (g.D.Dominance.order c.args.dominance.now) rule entries [] c.deref.result.now found.best.items found.rest.items (c.in_ok-found.ensures {u = tt}).parted made).0
 
 pub bounds-entries-item : goal.bounds-entries-item
-bounds-entries-item g c =
-    let found = c.in_ok-found.found in
-    best_inside (g.D.Dominance.order c.args.dominance.now) (signature_by c.in_ok-cuts.cuts) c.args.entries.now c.in_ok-items.items.items c.deref.result.now found.best.items found.rest.items c.deref-item-items.result.now
-    c.deref.ensures.value (c.in_ok-items.ensures {u = tt}).items (c.in_ok-found.ensures {u = tt}).parted c.deref-item-items.ensures.value c.loop-item.item-index (record { signature = 0; place = 0 }) c.loop-item-test.true
+bounds-entries-item g c = (best_are_items g (goal.at.bounds-entries-item g c).After-deref-item-items c.loop-item.item-index (record { signature = 0; place = 0 }) c.loop-item-test.true).within
 
 pub offset_bounds-entries-item : goal.offset_bounds-entries-item
 offset_bounds-entries-item g c =
-    let found = c.in_ok-found.found in
-    let inside = best_inside (g.D.Dominance.order c.args.dominance.now) (signature_by c.in_ok-cuts.cuts) c.args.entries.now c.in_ok-items.items.items c.deref.result.now found.best.items found.rest.items c.deref-item-items.result.now
-    c.deref.ensures.value (c.in_ok-items.ensures {u = tt}).items (c.in_ok-found.ensures {u = tt}).parted c.deref-item-items.ensures.value c.loop-item.item-index (record { signature = 0; place = 0 }) c.loop-item-test.true in
+    let inside = (best_are_items g (goal.at.offset_bounds-entries-item g c).After-deref-item-items c.loop-item.item-index (record { signature = 0; place = 0 }) c.loop-item-test.true).within in
     omega (arith, inside)
 
 -- one more entry is taken
 pub loop-item-preserved : goal.loop-item-preserved
 loop-item-preserved g c =
     let entries = c.args.entries.now in
-    let found = c.in_ok-found.found in
     let top = c.deref-item-items.result.now in
     let i = c.loop-item.item-index in
     let d : Item = record { signature = 0; place = 0 } in
     let x = c.index-entries-item.result in
-    let inside = best_inside (g.D.Dominance.order c.args.dominance.now) (signature_by c.in_ok-cuts.cuts) entries c.in_ok-items.items.items c.deref.result.now found.best.items found.rest.items top
-    c.deref.ensures.value (c.in_ok-items.ensures {u = tt}).items (c.in_ok-found.ensures {u = tt}).parted c.deref-item-items.ensures.value i d c.loop-item-test.true in
+    let inside = (best_are_items g (goal.at.loop-item-preserved g c).After-deref-item-items i d c.loop-item-test.true).within in
     let item = get_or top i d in
     let is : x ≡ entry_at entries item.place = c.index-entries-item.is ∙ get_or_default entries item.place x (record { id = 0; row = [] }) inside in
     (c.in_ok-push.ensures {u = tt}).items

@@ -1,5 +1,5 @@
-use Rattle.pref_sky.proofs.Common.{◌≡◌, ◌++◌, ◌-◌, [], length, max, take, drop, sym, ◌∙◌, ap, arith, append-nil, length-append, length-drop, length-take-le, take-length, drop_of_length-le, with_items_is}
-use borrow.Rule.Slice.PartMut.{post_of, put_mid}
+use Rattle.pref_sky.proofs.Common.{◌≡◌, ◌++◌, ◌-◌, [], length, max, take, drop, sym, ◌∙◌, ap, arith, append-nil, length-append, length-drop, length-take-le, take-length, drop_of_length-le}
+use Rattle.pref_sky.proofs.Common.{with_items_is, post_of, put_mid}
 use Rattle.pref_sky.proofs.MadeItems.{traded}
 use Rattle.pref_sky.proofs.making.put.Goals as goal
 

@@ -1,5 +1,5 @@
-use Rattle.pref_sky.proofs.Common.{◌≡◌, ◌∙◌, ◌+◌, ◌++◌, suc, List, Vec, Global, drop, map, sym, ap, subst, append_assoc, add-one, at_drop_more, map-append, Item, AreAllItems, AreItems, IsItem, entries_at}
-use Rattle.pref_sky.proofs.Common.{levels_at, parts_at, at_level, held_at, all_at}
+use Rattle.pref_sky.proofs.Common.{◌≡◌, ◌∙◌, ◌+◌, ◌++◌, suc, List, Vec, Global, drop, map, sym, ap, subst, append_assoc, add-one, at_drop_more, map-append, Item, AreAllItems, AreItems, IsItem}
+use Rattle.pref_sky.proofs.Common.{entries_at, levels_at, parts_at, at_level, held_at, all_at}
 use Rattle.pref_sky.proofs.PartItems.{all_held}
 use Rattle.pref_sky.proofs.Pools.{entries_held}
 use Rattle.pref_sky.proofs.parts.push_parts.Goals as goal

@@ -1,5 +1,5 @@
-use Rattle.pref_sky.proofs.Common.{ℕ, ◌<◌, ◌≤◌, ◌++◌, ◌-◌, ◌^◌, Vec, Global, map, sym, ◌∙◌, ap, subst, arith, StaysWithin, AreComing, parts_at, HaveDifferentIds}
-use Rattle.pref_sky.proofs.Common.{entry_of, entry_order, ArePartsMade, depth, ranked_parts, signature_by}
+use Rattle.pref_sky.proofs.Common.{ℕ, ◌<◌, ◌≤◌, ◌++◌, ◌-◌, ◌^◌, Vec, Global, map, sym, ◌∙◌, ap, subst, arith, StaysWithin, AreComing, parts_at, HaveDifferentIds, entry_of, entry_order, ArePartsMade}
+use Rattle.pref_sky.proofs.Common.{depth, ranked_parts, signature_by}
 use Rattle.pref_sky.proofs.AddedParts.{added_differ, added_levels, added_parted, depth_after, in_pool_after, to_coming}
 use Rattle.pref_sky.proofs.Merges.{entry_order_is_strict}
 use Rattle.pref_sky.proofs.PartLaws.{is_within}
