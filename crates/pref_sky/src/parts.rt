@@ -29,20 +29,13 @@ const PIECE: usize = 1024;
 /// How many entries the first piece has, at most.
 const FIRST: usize = 128;
 
-/// How many items levels have together.
-fn count_of(levels: &[Vec<Item>]) -> usize {
-    let mut count: usize = 0;
-    for level in levels {
-        count = count.saturating_add(level.len());
-    }
-    count
-}
-
 /// How many items parts have together.
 fn count_in(parts: &[Vec<Vec<Item>>]) -> usize {
     let mut count: usize = 0;
     for levels in parts {
-        count = count.saturating_add(count_of(levels));
+        for level in levels {
+            count = count.saturating_add(level.len());
+        }
     }
     count
 }
