@@ -82,7 +82,7 @@ module _ (over : Entry → Entry → Bool) (cut : ℕ) (rule : Entry → ℕ) (p
             (subst (AreAllItems rule pool) (sym (is_put made w.1))
             (All-append IsLevel (take made.first held ++ news) (drop back held)
             (All-append IsLevel (take made.first held) news (All-take IsLevel made.first held there)
-            (All-take IsLevel (made.end - made.first) (drop made.first made.levels.items) (All-drop IsLevel made.first made.levels.items (is_made made w.1).levels.items)))
+            (All-drop IsLevel made.first made.levels.items (is_made made w.1).levels.items))
             (All-drop IsLevel back held there)))
         | inr alone ↦ subst (AreAllItems rule pool) (sym (put.others n alone)) (all_held IsLevel parts in_pool n)
       ])
@@ -98,7 +98,7 @@ module _ (over : Entry → Entry → Bool) (cut : ℕ) (rule : Entry → ℕ) (p
             let made = w.0 in
             let one = (is_made made w.1).levels in
             subst (λ p. length (held_at p (parts_at pool new)) ≤ most) w.2
-            (omega (arith, counted new made.part, ap length (is_put made w.1), taken_long made.first made.end made.levels.items (items_at made.part parts) one.fits.inside one.fits.first (omega (arith, one.fits.long)), one.no_deeper, before made.part, cut_fits))
+            (omega (arith, counted new made.part, ap length (is_put made w.1), taken_long made.first made.levels.items (items_at made.part parts) one.fits.inside one.fits.first, one.no_deeper, before made.part, cut_fits))
         | inr alone ↦ omega (arith, counted new part, ap length (put.others part alone), before part)
       ])
 

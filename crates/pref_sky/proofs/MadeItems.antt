@@ -1,9 +1,9 @@
 -- Levels of items that are made anew: what they stand for are the levels that an addition makes.
-use Rattle.pref_sky.proofs.Common.{◌≡◌, ℕ, suc, ◌≤◌, ◌<◌, ◌+◌, ◌-◌, Bool, ◌⊎◌, inl, inr, List, [], ◌∷◌, ◌++◌, Vec, length, map, take, drop, get_or, refl, sym, ◌∙◌, ap, subst, arith, length-append}
-use Rattle.pref_sky.proofs.Common.{length-drop, append-nil, append_assoc, drop_all, drop-append-le, Global, All, drop-take, get_or-drop, get_or_default, length-map, map-append, nil_from_length}
-use Rattle.pref_sky.proofs.Common.{take-append-drop, All-append, All-drop, All-push, All-take, IsNonDecreasingBy-drop, IsStrictOrder, RowOrder, Suit, Arrival, Entry, Item, AreInOrderOfStart, StartsAt}
-use Rattle.pref_sky.proofs.Common.{arrived, AreAllItems, AreItems, IsItem, entries_at, entry_at, item_order, items_at, levels_at, entry_order, IsBehind, IsMade, replaced, Parted, signature_by, Among}
-use Rattle.pref_sky.proofs.Common.{cases_lt, drop_of_length-le, length-take-le, max, min, drop-drop}
+use Rattle.pref_sky.proofs.Common.{◌≡◌, ℕ, suc, ◌≤◌, ◌<◌, ◌+◌, Bool, ◌⊎◌, inl, inr, List, [], ◌∷◌, ◌++◌, Vec, length, map, take, drop, get_or, refl, sym, ◌∙◌, ap, subst, arith, length-append}
+use Rattle.pref_sky.proofs.Common.{length-drop, append-nil, append_assoc, drop_all, drop-append-le, Global, All, get_or-drop, get_or_default, length-map, map-append, nil_from_length, take-append-drop, All-append, All-drop}
+use Rattle.pref_sky.proofs.Common.{All-push, All-take, IsNonDecreasingBy-drop, IsStrictOrder, RowOrder, Suit, Arrival, Entry, Item, AreInOrderOfStart, StartsAt, arrived, AreAllItems, AreItems, IsItem}
+use Rattle.pref_sky.proofs.Common.{entries_at, entry_at, item_order, items_at, levels_at, entry_order, IsBehind, IsMade, replaced, Parted, signature_by, Among}
+use Rattle.pref_sky.proofs.Common.{length-take-le, max}
 use Rattle.pref_term.specs.declared.signature.scale.Scale.{Scale}
 use Rattle.pref_sky.proofs.Members.{all_among, among_all, from_map, in_map}
 use Rattle.pref_sky.proofs.PartItems.{all_held}
@@ -128,40 +128,20 @@ module _ (order : RowOrder) (strict : IsStrictOrder (entry_order order)) (cuts :
         behind = λ k d inside. omega (arith, next, later k d inside);
       }
 
-  -- the levels are those that the addition makes, where levels that stand behind those that were made are empty
-  pub making_items_end : (made all : List (Vec Item Global)) (down : List Item) (rest : List Arrival) (end : ℕ) → end ≡ length made → take end all ≡ made → (cut ≤ length made) ⊎ ((length down ≡ 0) × (length rest ≡ 0))
-      → MakingItems order cuts pool cut first levels arrivals made down rest
-      → IsMade (entry_order order) cut (levels_at pool levels) (replaced first (levels_at pool (take (end - first) (drop first all))) (levels_at pool levels)) (map (arrived pool) arrivals)
-  making_items_end made all down rest end is front ended so_far =
+  -- the levels are those that the addition makes
+  pub making_items_end : (made : List (Vec Item Global)) (down : List Item) (rest : List Arrival) → (cut ≤ length made) ⊎ ((length down ≡ 0) × (length rest ≡ 0)) → MakingItems order cuts pool cut first levels arrivals made down rest
+      → IsMade (entry_order order) cut (levels_at pool levels) (replaced first (levels_at pool (drop first made)) (levels_at pool levels)) (map (arrived pool) arrivals)
+  making_items_end made down rest ended so_far =
       let old = levels_at pool levels in
       let part = levels_at pool (drop first made) in
-      let steps : first + (end - first) ≡ end = omega (arith, is, so_far.from) in
-      let new : take (end - first) (drop first all) ≡ drop first made = sym (drop-take first (end - first) all) ∙ (ap (λ n. drop first (take n all)) steps ∙ ap (drop first) front) in
       let reach : length made ≡ first + length part = omega (arith, so_far.from, length-map (drop first made) (λ (level : Vec Item Global). entries_at pool level.items), length-drop first made) in
-      subst (λ l. IsMade (entry_order order) cut old l (map (arrived pool) arrivals)) (ap (λ n. (take first old ++ part) ++ drop n old) reach ∙ ap (λ l. replaced first (levels_at pool l) old) (sym new))
+      subst (λ l. IsMade (entry_order order) cut old l (map (arrived pool) arrivals)) (ap (λ n. (take first old ++ part) ++ drop n old) reach)
       (making_ends (entry_order order) strict cut (length made) old (take first old ++ part) (map (arrived pool) arrivals) (entries_at pool down) (map (arrived pool) rest)
       (elim ended [ inl done ↦ inl done | inr none ↦ inr (ap (entries_at pool) (nil_from_length down none.0), ap (map (arrived pool)) (nil_from_length rest none.1)) ]) so_far.making)
 
--- those of another list from the first place to the end
-module _ {E : Type 0} (first end : ℕ) (new old : List E) (inside : first ≤ length old) (from : first ≤ end) (upto : end ≤ length new) where
-  part_long : length (take (end - first) (drop first new)) ≡ end - first
-  part_long = length-take-le (end - first) (drop first new) (omega (arith, length-drop first new, upto))
-
-  pub taken_long : length (replaced first (take (end - first) (drop first new)) old) ≡ max end (length old)
-  taken_long =
-      let part = take (end - first) (drop first new) in
-      let back = first + length part in
-      omega (arith, length-append (take first old ++ part) (drop back old), length-append (take first old) part, length-take-le first old inside, length-drop back old, part_long, from)
-
-  -- what is behind the end stays
-  pub traded : (behind : ℕ) → behind ≡ min end (length old)
-      → take first old ++ (take (end - first) (drop first new) ++ drop (behind - first) (drop first old)) ≡ replaced first (take (end - first) (drop first new)) old
-  traded behind at =
-      let front = take first old in
-      let part = take (end - first) (drop first new) in
-      let same : drop (first + (behind - first)) old ≡ drop (first + length part) old =
-      elim (cases_lt end (length old)) [
-        | inl less ↦ let here : first + (behind - first) ≡ first + length part = omega (arith, at, less, part_long, from) in ap (λ n. drop n old) here
-        | inr past ↦ drop_of_length-le old (omega (arith, at, past, inside)) ∙ sym (drop_of_length-le old (omega (arith, past, part_long, from)))
-      ] in
-      sym (append_assoc front part (drop (behind - first) (drop first old))) ∙ ap (λ l. (front ++ part) ++ l) (drop-drop (behind - first) first old ∙ same)
+-- a list with those of another from a place on in the place of its own
+pub taken_long : {E : Type 0} (first : ℕ) (new old : List E) → first ≤ length old → first ≤ length new → length (replaced first (drop first new) old) ≡ max (length new) (length old)
+taken_long first new old inside from =
+    let part = drop first new in
+    let back = first + length part in
+    omega (arith, length-append (take first old ++ part) (drop back old), length-append (take first old) part, length-take-le first old inside, length-drop back old, length-drop first new, from)

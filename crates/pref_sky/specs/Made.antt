@@ -1,6 +1,6 @@
 -- No public contract cites this.
 -- Levels that are made anew beside those that there are, and parts whose levels are.
-use Rattle.std.specs.Prelude.{◌≡◌, ◌≢◌, ◌≤◌, ◌<◌, ◌-◌, nat_lt, Bool, ℕ, List, [], All, length, map, max, take, drop, Vec}
+use Rattle.std.specs.Prelude.{◌≡◌, ◌≢◌, ◌≤◌, ◌<◌, nat_lt, Bool, ℕ, List, [], All, length, map, max, drop, Vec}
 use Rattle.std.specs.Global.{Global}
 use Rattle.pref_sky.specs.declared.arrival.Arrival.{Arrival}
 use Rattle.pref_sky.specs.declared.entry.Entry.{Entry}
@@ -13,13 +13,12 @@ use Rattle.pref_sky.specs.Stairs.{IsInOrder}
 
 -- the levels that are new
 abbrev pub new_levels : Made → List (Vec Item Global)
-new_levels made = take (made.end - made.first) (drop made.first made.levels.items)
+new_levels made = drop made.first made.levels.items
 
--- they fit among levels: there is room for these and for the new ones, and no more
+-- they fit among levels: those that stand in front of the new ones are there
 pub record Fits (made : Made) (levels : List (Vec Item Global)) : Type 0 where
-  pub first : made.first ≤ made.end
+  pub first : made.first ≤ length made.levels.items
   pub inside : made.first ≤ length levels
-  pub long : length made.levels.items ≡ max made.end (length levels)
 
 -- in order of part, each part once at most
 abbrev pub AreInOrderOfPart : List Made → Type 0
@@ -32,7 +31,7 @@ LeaveAlone all part = All (λ made. made.part ≢ part) all
 -- what these arrivals make of levels
 pub record AreLevelsMade (over : Entry → Entry → Bool) (cut : ℕ) (rule : Entry → ℕ) (pool : List Entry) (levels : List (Vec Item Global)) (arrivals : List Arrival) (one : Made) : Type 0 where
   pub fits : Fits one levels
-  pub no_deeper : one.end ≤ max cut (length levels)
+  pub no_deeper : length one.levels.items ≤ max cut (length levels)
   pub items : AreAllItems rule pool one.levels.items
   pub made : IsMade over cut (levels_at pool levels) (replaced one.first (levels_at pool (new_levels one)) (levels_at pool levels)) (map (arrived pool) arrivals)
 

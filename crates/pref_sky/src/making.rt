@@ -33,13 +33,12 @@ use crate::pool::Pool;
 use pref_term::Dominance;
 use std::alloc::{AllocError, Global};
 
-/// The levels of a part as they are to be: those from the place `first` on, up to `end`, are new, and the others stand empty for those
-/// that there are.
+/// The first levels of a part as they are to be: those from the place `first` on are new, and the others stand empty for those that
+/// there are.
 #[derive(Drop)]
 pub(crate) struct Made {
     pub(crate) part: usize,
     pub(crate) first: usize,
-    pub(crate) end: usize,
     pub(crate) levels: Vec<Vec<Item>>,
 }
 
@@ -77,16 +76,16 @@ fn push_items(items: &mut Vec<Item>, arrivals: &[Arrival]) -> Result<(), AllocEr
     Ok(())
 }
 
-/// Puts empty levels behind others, so that there are at least so many.
-fn push_empty(alloc: Global, levels: &mut Vec<Vec<Item>>, count: usize) -> Result<(), AllocError>
-    ensures front { OnOk result (take (vec_len levels.old) levels.new.items ≡ levels.old.items) }
-    ensures long { OnOk result (vec_len levels.new ≡ max (vec_len levels.old) count) }
-    ensures items { (rule : Entry → ℕ) (pool : List Entry) → AreAllItems rule pool levels.old.items → OnOk result (AreAllItems rule pool levels.new.items) }
+/// So many empty levels.
+fn empty_levels(alloc: Global, count: usize) -> Result<Vec<Vec<Item>>, AllocError>
+    ensures long { IfOk result (λ levels. length levels.items ≡ count) }
+    ensures items { IfOk result (λ levels. (rule : Entry → ℕ) (pool : List Entry) → AreAllItems rule pool levels.items) }
 {
+    let mut levels = Vec::new(alloc);
     'each: while levels.len() < count {
         levels.push(Vec::new(alloc))?;
     }
-    Ok(())
+    Ok(levels)
 }
 
 /// Makes the levels of a part anew as these come to it: from the one at which the first starts, as far down as something comes. Of what
@@ -111,8 +110,7 @@ pub(crate) fn made_of<D: Dominance>(
     ensures made { IfOk result (λ made. AreLevelsMade (entry_order (D.order dominance.now)) cut (signature_by pool.now.cuts) pool.now.entries.items levels.now arrivals.now made) }
 {
     let first = arrivals[0].start;
-    let mut made = Vec::new(alloc);
-    push_empty(alloc, &mut made, first)?;
+    let mut made = empty_levels(alloc, first)?;
     let mut down = Vec::new(alloc);
     let mut rest = arrivals;
     'each_level: while made.len() < cut as usize && !(down.is_empty() && rest.is_empty()) {
@@ -125,12 +123,9 @@ pub(crate) fn made_of<D: Dominance>(
         made.push(found.best)?;
         down = found.rest;
     }
-    let end = made.len();
-    push_empty(alloc, &mut made, levels.len())?;
     Ok(Made {
         part,
         first,
-        end,
         levels: made,
     })
 }
@@ -143,14 +138,15 @@ pub(crate) fn put(levels: &mut Vec<Vec<Item>>, made: Made)
     let Made {
         part: _,
         first,
-        end,
         levels: mut new,
     } = made;
-    // The levels in front and those behind change places with the empty ones.
-    let behind = end.min(levels.len());
-    let (front, others) = new.split_at_mut(first);
-    let (held, left) = levels.split_at_mut(first);
-    front.swap_with_slice(held);
-    others[end - first..].swap_with_slice(&mut left[behind - first..]);
-    *levels = new;
+    let end = new.len();
+    if end > levels.len() {
+        let (front, _) = new.split_at_mut(first);
+        let (held, _) = levels.split_at_mut(first);
+        front.swap_with_slice(held);
+        *levels = new;
+    } else {
+        levels[first..end].swap_with_slice(&mut new[first..]);
+    }
 }

@@ -1,4 +1,4 @@
-use Rattle.pref_sky.proofs.Common.{◌≡◌, ◌≤◌, ◌<◌, ◌⊎◌, inl, inr, ◌++◌, map, get_or, length, take, drop, vec_len, sym, ◌∙◌, ap, subst, arith, both_ways, eqb-true, All, Arrival, AreAllItems, item_order}
+use Rattle.pref_sky.proofs.Common.{◌≡◌, ◌≤◌, ◌<◌, ◌⊎◌, inl, inr, ◌++◌, map, get_or, length, drop, vec_len, sym, ◌∙◌, ap, subst, arith, both_ways, eqb-true, All, Arrival, AreAllItems, item_order}
 use Rattle.pref_sky.proofs.Common.{items_at, entry_order, Parted, signature_by}
 use Rattle.pref_sky.proofs.Members.{among_place}
 use Rattle.pref_sky.proofs.Merges.{entry_order_is_strict}
@@ -16,10 +16,9 @@ each_level-init g c =
     let levels = c.args.levels.now in
     let none : Arrival = record { part = 0; start = 0; item = record { signature = 0; place = 0 } } in
     let first : Arrival = get_or arrivals 0 none in
-    let made = c.push_empty.new.levels in
-    let given = c.in_ok-push_empty.ensures {u = tt} in
-    let long : length made.items ≡ first.start = omega (arith, given.long, c.new-made.ensures.len, made.ok.0) in
-    let are : AreAllItems (signature_by cuts) pool made.items = given.items (signature_by cuts) pool (λ k d inside. absurd (omega (arith, inside, ap length c.new-made.ensures.items))) in
+    let made = c.in_ok-made.made in
+    let long : length made.items ≡ first.start = c.in_ok-made.ensures.long in
+    let are : AreAllItems (signature_by cuts) pool made.items = c.in_ok-made.ensures.items (signature_by cuts) pool in
     record {
       so_far = subst (λ l. MakingItems order cuts pool c.args.cut first.start levels arrivals made.items l arrivals) (sym c.new-down.ensures.items)
           (making_items_begin order strict cuts pool c.args.cut first.start levels arrivals c.requires.start (first_starts arrivals none c.requires.some c.requires.in_order) c.requires.in_order made.items long are first (among_place arrivals 0 none c.requires.some));
@@ -74,9 +73,6 @@ returns-clause-made g c =
     let made = c.each_level.made in
     let down = c.each_level.down in
     let rest = c.each_level.rest.now in
-    let end : c.len-end.result ≡ length made.items = omega (arith, c.len-end.ensures, made.ok.0) in
-    let front : take c.len-end.result c.push_empty-2.new.levels.items ≡ made.items =
-    ap (λ n. take n c.push_empty-2.new.levels.items) c.len-end.ensures ∙ (c.in_ok-push_empty-2.ensures {u = tt}).front in
     let ended : (c.args.cut ≤ length made.items) ⊎ ((length down.items ≡ 0) × (length rest ≡ 0)) =
     elim c.each_level-test.branch [
       | then-each_level-test+else-not-is_empty w ↦ elim w.if-is_empty.branch [
@@ -89,17 +85,9 @@ returns-clause-made g c =
       | else-each_level-test w ↦ inl (omega (arith, w.each_level-test.false, c.len.ensures, made.ok.0))
     ] in
     let inside = first_inside (entry_order order) (signature_by cuts) pool levels arrivals none c.requires.some c.requires.start in
-    let given = c.in_ok-push_empty-2.ensures {u = tt} in
-    let long = c.push_empty-2.new.levels.ok.0 in
     record {
-      fits = record {
-        first = omega (arith, end, c.each_level.invariant.so_far.from);
-        inside = inside;
-        long = omega (arith, given.long, long, c.len-end.ensures);
-      };
-      no_deeper = omega (arith, end, c.each_level.invariant.no_deeper);
-      items = given.items (signature_by cuts) pool c.each_level.invariant.so_far.made_items;
-      made = making_items_end order strict cuts pool c.args.cut first.start levels arrivals c.requires.start (first_starts arrivals none c.requires.some c.requires.in_order)
-          made.items c.push_empty-2.new.levels.items down.items rest c.len-end.result
-          end front ended c.each_level.invariant.so_far;
+      fits = record { first = c.each_level.invariant.so_far.from; inside = inside };
+      no_deeper = omega (arith, made.ok.0, c.each_level.invariant.no_deeper);
+      items = c.each_level.invariant.so_far.made_items;
+      made = making_items_end order strict cuts pool c.args.cut first.start levels arrivals c.requires.start (first_starts arrivals none c.requires.some c.requires.in_order) made.items down.items rest ended c.each_level.invariant.so_far;
     }
