@@ -8,7 +8,7 @@ use Rattle.pref_sky.proofs.LevelLaws.{first_differ}
 use Rattle.pref_sky.proofs.Members.{all_among, among_all, any_from, any_gives, from_filter}
 use Rattle.pref_sky.proofs.Merges.{different_filter}
 use Rattle.pref_sky.proofs.PartItems.{Part, all_held, in_pool_if, levels_of_at}
-use Rattle.pref_sky.proofs.PartLaws.{IsWithin, NoMore, depth_within, differ_after, hold_apart, hold_together, level_in_part, part_below, parted_after, within_depth}
+use Rattle.pref_sky.proofs.PartLaws.{IsWithin, depth_within, differ_after, hold_apart, hold_together, level_in_part, part_below, parted_after, within_depth}
 use Rattle.pref_sky.proofs.Ranks.{held_there, held_upto, levels_upto_is, within_if_same}
 use Rattle.pref_sky.proofs.Enough.{filter_agree_among}
 use Rattle.pref_sky.proofs.Removals.{beaten_by_rest, comes_after}
@@ -122,9 +122,6 @@ coming_of number pool arrivals of_part part =
 -- all parts, of which each is made of what came to it
 module _ (over : Entry → Entry → Bool) (number : Entry → ℕ) (cut : ℕ) (old new : List (List (List Entry))) (coming : List Entry)
     (after : (part : ℕ) → IsMade over cut (held_at part old) (held_at part new) (filter (is_in number part) coming)) where
-  pub no_more : NoMore (λ part. filter (is_in number part) coming) old new
-  no_more p part = (after part).counts p
-
   pub added : IsWithin over number → (before : List Entry) → HaveDifferentIds (before ++ coming) → HaveDifferentIds (map entry_of (ranked_parts old)) → HaveDifferentIds (map entry_of (ranked_parts new))
       → ArePartedBy number old → ranked_parts old ≡ levels over before cut → ranked_parts new ≡ levels over (before ++ coming) cut
   added within before different apart new_apart parted is =
@@ -202,12 +199,12 @@ module _ (over : Entry → Entry → Bool) (rule : Entry → ℕ) (cut : ℕ) (c
     pub added_differ : HaveDifferentIds (map entry_of (ranked_parts (parts_at pool new)))
     added_differ =
         differ_after (part_of columns) (parts_at pool parts) (parts_at pool new) (map (arrived pool) arrivals) apart
-        (no_more over (part_of columns) cut (parts_at pool parts) (parts_at pool new) (map (arrived pool) arrivals) after)
+        (λ p part. (after part).counts p)
 
     pub added_parted : ArePartedBy (part_of columns) (parts_at pool new)
     added_parted =
         parted_after (part_of columns) (parts_at pool parts) (parts_at pool new) (map (arrived pool) arrivals) parted
-        (no_more over (part_of columns) cut (parts_at pool parts) (parts_at pool new) (map (arrived pool) arrivals) after)
+        (λ p part. (after part).counts p)
 
     pub added_levels : IsStrictOrder over → IsWithin over (part_of columns) → (before : List Entry) → HaveDifferentIds (before ++ entries) → ranked_parts (parts_at pool parts) ≡ levels over before cut
         → ranked_parts (parts_at pool new) ≡ levels over (before ++ entries) cut

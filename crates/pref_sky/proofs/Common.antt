@@ -1,15 +1,15 @@
 -- The names that the proofs of this crate share, passed on from one place. Declares nothing.
 pub use Rattle.std.proofs.Common.{◌&&◌, ◌+◌, ◌++◌, ◌-◌, ◌/◌, ◌<◌, ◌==◌, Bool, Bor, Err, Global, List, Ok, Ordering, Result, Vec, [], ◌^◌, add-one, ap, append-nil, append_assoc, arith, cond, drop}
-pub use Rattle.std.proofs.Common.{drop-drop, drop_of_length-le, eq-eqb, eqb, false, filter, get_or, get_or-set_other, get_or-set_same, inl, inr, is_ok, leb, length, length-append, length-drop}
-pub use Rattle.std.proofs.Common.{length-take, ltb, map, max, nat_lt, not, pos, refl, rules, set, subst, suc, sym, take, true, vec_len, w64, zero, ◌||◌, ℕ, ℤ, ◌∙◌, ◌∷◌, ◌≡◌, ◌≤◌, ◌⊎◌}
+pub use Rattle.std.proofs.Common.{drop_of_length-le, eq-eqb, eqb, false, filter, get_or, get_or-set_other, get_or-set_same, inl, inr, is_ok, leb, length, length-append, length-drop, length-take, ltb}
+pub use Rattle.std.proofs.Common.{map, max, nat_lt, not, pos, refl, rules, set, subst, suc, sym, take, true, vec_len, w64, zero, ◌||◌, ℕ, ℤ, ◌∙◌, ◌∷◌, ◌≡◌, ◌≤◌, ◌⊎◌}
 pub use Rattle.std.proofs.Math.Seq.{drop-append_seam, drop-cons, get_or-append_seam, take-append_seam, take-length}
 pub use Rattle.std.proofs.lemmas.Bool.{and_from, and_parts, and_right, both_ways, cases_Bool, cases_eq, cases_lt, cond-false, cond-true, cond_both, eqb-false, eqb-true, false_from_ne_true, false≢true}
 pub use Rattle.std.proofs.lemmas.Bool.{le-ltb, lt-ltb, ltb-false, ltb-true, not-true, not_from_false, or_cases, or_from, or_left, or_right}
 pub use Rattle.std.proofs.lemmas.Bool.Decides.{Decides-int_eq, nat_tests}
 pub use Rattle.std.proofs.lemmas.Fn.{always_returns_same}
-pub use Rattle.std.proofs.lemmas.List.{at_drop_more, drop-append-le, drop-map, drop-take, drop_all, drop_more, get_or-append_right, get_or-drop, get_or-map, get_or-take, get_or_append_left}
-pub use Rattle.std.proofs.lemmas.List.{get_or_default, get_or_push, get_or_read, length-map, length-set, length-take-le, length_push, map-append, nil_from_length, take-append-drop, take-append-le}
-pub use Rattle.std.proofs.lemmas.List.{take-map, take_all, take_more, with_items_is}
+pub use Rattle.std.proofs.lemmas.List.{at_drop_more, drop-append-le, drop-map, drop_all, drop_more, get_or-append_right, get_or-drop, get_or-map, get_or-take, get_or_append_left, get_or_default}
+pub use Rattle.std.proofs.lemmas.List.{get_or_push, get_or_read, length-map, length-set, length-take-le, length_push, map-append, nil_from_length, take-append-drop, take-map, take_all, take_more}
+pub use Rattle.std.proofs.lemmas.List.{with_items_is}
 pub use Rattle.std.proofs.lemmas.List.Elements.{All-append, All-drop, All-more, All-push, All-take, filter-append, filter_agree, filter_more}
 pub use Rattle.std.proofs.lemmas.List.Filters.{FiltersInPlace, FiltersInPlace-more_no, FiltersInPlace-more_set, length-filter_both}
 pub use Rattle.std.proofs.lemmas.List.Sorted.{All-permutation, Contains-permutation, IsNonDecreasingBy-drop, IsNonDecreasingBy-from_all_adjacent, IsNonDecreasingBy-from_sort_by_key}
@@ -55,5 +55,4 @@ pub use Rattle.pref_term.specs.Order.{IsRowOrder, IsStrictOrder, RowOrder, Stand
 pub use Rattle.pref_term.specs.Question.{Question, cut_of}
 pub use Rattle.pref_term.specs.Signatures.{Suit, is_within, mixed, signature}
 pub use Rattle.pref_term.specs.declared.ask.Mode.TheVariants.{AtLeast, Best, TopLevel}
-pub use borrow.Rule.Slice.PartMut.{mid_of, post_of, put_mid}
 pub use denote.Param.Members.{Mut}

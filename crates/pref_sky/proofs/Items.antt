@@ -1,10 +1,14 @@
 -- The order of items is strict, whatever their signatures are.
 use Rattle.pref_sky.proofs.Common.{◌≡◌, ◌<◌, ◌≤◌, ◌^◌, ℕ, true, ◌&&◌, List, length, ◌∙◌, ap, arith, ltb, eq-eqb, w64, and_parts, and_from, and_right, ltb-true, eqb-true, lt-ltb, bit_and, min}
-use Rattle.pref_sky.proofs.Common.{IsStrictOrder, RowOrder, is_within, Entry, Item, IsItem, entry_at, is_word, item_order, place_order, entry_order}
+use Rattle.pref_sky.proofs.Common.{IsStrictOrder, RowOrder, is_within, Entry, Item, IsItem, entry_at, is_word, item_order, place_order, entry_order, AreItems, Parted, Suit, cases_Bool, entries_at}
+use Rattle.pref_sky.proofs.Common.{inl, inr, nat_lt, signature, sym, ◌++◌, ◌||◌}
+use Rattle.pref_term.specs.declared.signature.scale.Scale.{Scale}
 use Rattle.std.specs.Int.{bit_at, bit_not}
 use Rattle.std.proofs.lemmas.Nat.{and_le_l}
 use Rattle.std.proofs.lemmas.Nat.Bits.{bit_at_and, bit_at_not, bit_at-zero, bit_at-lt, same_from_bits_below}
 use Rattle.pref_sky.proofs.Removals.{same_answer}
+use Rattle.pref_sky.proofs.Parting.{parted_map}
+use Rattle.pref_sky.proofs.Members.{all_among, among_all}
 
 pub place_order_is_strict : (order : RowOrder) (pool : List Entry) → IsStrictOrder (entry_order order) → IsStrictOrder (place_order order pool)
 place_order_is_strict order pool strict =
@@ -80,3 +84,28 @@ item_agrees order rule pool tells x y first second =
     (and_from (is_within x.signature y.signature) places
     (ap (λ s. is_within s y.signature) first.signed ∙ (ap (is_within (rule a)) second.signed ∙ tells a b h))
     (and_from (ltb x.place n) (ltb y.place n && over) (lt-ltb x.place n first.within) (and_from (ltb y.place n) over (lt-ltb y.place n second.within) h)))))
+
+-- ---- items of a pool that are signed by a rule which tells of the order: their entries are parted as they are
+
+-- signatures by cuts that suit an order tell of it
+pub suit_tells : (order : RowOrder) (cuts : List Scale) → Suit order cuts → (a b : Entry) → entry_order order a b ≡ true → is_within (signature cuts a.row) (signature cuts b.row) ≡ true
+suit_tells order cuts suit a b h =
+    elim (cases_Bool (order.over a.row b.row)) [
+      | inl over ↦ suit.over a.row b.row over
+      | inr none ↦
+          suit.twin a.row b.row (and_parts (order.twin a.row b.row) (nat_lt a.id b.id) (ap (λ c. c || (order.twin a.row b.row && nat_lt a.id b.id)) (sym none) ∙ h)).0
+    ]
+
+-- what items are parted into are items too
+pub parted_items : (order : RowOrder) (rule : Entry → ℕ) (pool : List Entry) (held items top others : List Item) → Parted (item_order order pool) held items top others → AreItems rule pool (held ++ items)
+    → AreItems rule pool top × AreItems rule pool others
+parted_items order rule pool held items top others parted are =
+    let valid = all_among (IsItem rule pool) (held ++ items) are in
+    (among_all (IsItem rule pool) top (λ x m. valid x (parted.within x (inl m))), among_all (IsItem rule pool) others (λ x m. valid x (parted.within x (inr m))))
+
+-- and their entries are parted as they are
+pub entries_parted : (order : RowOrder) (rule : Entry → ℕ) (pool : List Entry) (held items top others : List Item) → ((a b : Entry) → entry_order order a b ≡ true → is_within (rule a) (rule b) ≡ true) → AreItems rule pool (held ++ items)
+    → Parted (item_order order pool) held items top others → Parted (entry_order order) (entries_at pool held) (entries_at pool items) (entries_at pool top) (entries_at pool others)
+entries_parted order rule pool held items top others tells are parted =
+    let valid = all_among (IsItem rule pool) (held ++ items) are in
+    parted_map (λ (item : Item). entry_at pool item.place) (item_order order pool) (entry_order order) held items top others (λ x y mx my. item_agrees order rule pool tells x y (valid x mx) (valid y my)) parted

@@ -11,7 +11,6 @@ pub mod Bags
 pub mod PassSteps
 pub mod Items
 pub mod Parting
-pub mod PooledItems
 pub mod WindowSteps
 pub mod Splits
 pub mod Enough

@@ -1,14 +1,14 @@
 -- Levels of items that are made anew: what they stand for are the levels that an addition makes.
 use Rattle.pref_sky.proofs.Common.{◌≡◌, ℕ, suc, ◌≤◌, ◌<◌, ◌+◌, Bool, ◌⊎◌, inl, inr, List, [], ◌∷◌, ◌++◌, Vec, length, map, take, drop, get_or, refl, sym, ◌∙◌, ap, subst, arith, length-append}
-use Rattle.pref_sky.proofs.Common.{length-drop, append-nil, append_assoc, drop_all, drop-append-le, Global, All, get_or-drop, get_or_default, length-map, map-append, nil_from_length, take-append-drop, All-append, All-drop}
-use Rattle.pref_sky.proofs.Common.{All-push, All-take, IsNonDecreasingBy-drop, IsStrictOrder, RowOrder, Suit, Arrival, Entry, Item, AreInOrderOfStart, StartsAt, arrived, AreAllItems, AreItems, IsItem}
-use Rattle.pref_sky.proofs.Common.{entries_at, entry_at, item_order, items_at, levels_at, entry_order, IsBehind, IsMade, replaced, Parted, signature_by, Among}
+use Rattle.pref_sky.proofs.Common.{length-drop, append-nil, append_assoc, drop_all, drop-append-le, Global, All, get_or-drop, get_or_default, length-map, map-append, nil_from_length, take-append-drop}
+use Rattle.pref_sky.proofs.Common.{All-append, All-drop, All-push, All-take, IsNonDecreasingBy-drop, IsStrictOrder, RowOrder, Suit, Arrival, Entry, Item, AreInOrderOfStart, StartsAt, arrived}
+use Rattle.pref_sky.proofs.Common.{AreAllItems, AreItems, IsItem, entries_at, entry_at, item_order, items_at, levels_at, entry_order, IsBehind, IsMade, replaced, Parted, signature_by, Among}
 use Rattle.pref_sky.proofs.Common.{length-take-le, max}
 use Rattle.pref_term.specs.declared.signature.scale.Scale.{Scale}
 use Rattle.pref_sky.proofs.Members.{all_among, among_all, from_map, in_map}
 use Rattle.pref_sky.proofs.PartItems.{all_held}
 use Rattle.pref_sky.proofs.Pools.{entries_held}
-use Rattle.pref_sky.proofs.PooledItems.{entries_parted, parted_items, suit_tells}
+use Rattle.pref_sky.proofs.Items.{entries_parted, parted_items, suit_tells}
 use Rattle.pref_sky.proofs.MadeLevels.{AreBehind, Making, making_begins, making_ends, making_more}
 
 -- arrivals in order start no earlier than the first

@@ -1,7 +1,8 @@
 -- The entries of some levels, each level in order of id: one list for each set of them.
 use Rattle.pref_sky.proofs.Common.{◌≡◌, ℕ, zero, suc, ◌<◌, ◌≤◌, ◌+◌, Bool, ◌⊎◌, inl, inr, List, [], ◌∷◌, ◌++◌, length, map, take, drop, ◌-◌, refl, sym, ◌∙◌, ap, subst, arith, append-nil, append_assoc}
 use Rattle.pref_sky.proofs.Common.{length-append, drop_of_length-le, cases_lt, IsNonDecreasingBy, IsPermutation, get_or-map, length-map, IsPermutation-map, take-length, Entry, Ranked, best, rest}
-use Rattle.pref_sky.proofs.Common.{HaveDifferentIds, in_order_of_id, at_level, entry_of, levels, ranked_from, held_at, ranked_upto, Among, mid_of, post_of, put_mid}
+use Rattle.pref_sky.proofs.Common.{HaveDifferentIds, in_order_of_id, at_level, entry_of, levels, ranked_from, held_at, ranked_upto, Among}
+use borrow.Rule.Slice.PartMut.{mid_of, post_of, put_mid}
 use Rattle.pref_sky.proofs.Members.{in_left, in_right, in_either, from_map, in_map}
 use Rattle.pref_sky.proofs.Orders.{Rises, RisesBy, rises_in_order, same_if_rise, same_if_permuted, sorted_is, among_in_order, from_in_order}
 use Rattle.pref_sky.proofs.Merges.{entries_at_level}

@@ -43,6 +43,7 @@ pub(crate) struct Made {
 }
 
 /// The items at the level behind the first `place`: none where there is no such level.
+#[tactic(auto, using(crate::proofs::PartItems::in_here, crate::proofs::Pools::no_level))]
 pub(crate) fn level_at(levels: &[Vec<Item>], place: usize) -> &[Item]
     ensures { result.now ≡ items_at place levels.now }
 {

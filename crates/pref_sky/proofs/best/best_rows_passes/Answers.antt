@@ -3,9 +3,9 @@ use Rattle.pref_sky.proofs.Common.{Entry, Item, best, AreItems, entries_at, entr
 use Rattle.pref_sky.proofs.Merges.{different_best}
 use Rattle.pref_sky.proofs.Orders.{same_in_order, sorted_is}
 use Rattle.pref_sky.proofs.Parting.{best_are}
-use Rattle.pref_sky.proofs.PooledItems.{entries_parted, parted_items, suit_tells}
 use Rattle.pref_sky.proofs.best.best_rows_passes.Given.{Over}
 use Rattle.pref_sky.proofs.best.best_rows_passes.Goals.{After-deref-item-items}
+use Rattle.pref_sky.proofs.Items.{entries_parted, parted_items, suit_tells}
 use Rattle.pref_sky.proofs.best.best_rows_passes.Goals as goal
 
 -- the best items are some of the entries

@@ -1,5 +1,6 @@
 use Rattle.pref_sky.proofs.Common.{rules, ◌≡◌, ◌++◌, ◌-◌, length, vec_len, map, take, drop, ◌∙◌, arith, length-append, length-take, length-drop, with_items_is, IsNonDecreasingBy-from_sort_by_key}
-use Rattle.pref_sky.proofs.Common.{Ranked, at_level, post_of, put_mid}
+use Rattle.pref_sky.proofs.Common.{Ranked, at_level}
+use borrow.Rule.Slice.PartMut.{post_of, put_mid}
 use Rattle.pref_sky.proofs.Ranks.{sorted_behind}
 use Rattle.pref_sky.proofs.ranking.sort_behind.Goals as goal
 
