@@ -36,7 +36,7 @@ pub enum ArgsFault {
 }
 
 /// What `--version` prints after the name.
-const VERSION: &str = "0.1.0";
+const VERSION: &str = "0.2.0";
 
 /// What follows the help of the program: the options, an example, and where more is said.
 const AFTER_HELP: &str = "\

@@ -20,6 +20,6 @@ from .rows import Row
 from .select import psel
 from .table import Table
 
-__version__ = "0.1.0"
+__version__ = "0.2.0"
 __all__ = ["Answer", "AsyncQuery", "AsyncTable", "Column", "Ended", "Error", "Frame", "ProgramNotFound", "Query", "Record", "Refused", "Row", "Table",
            "UnknownValue", "find_program", "parts", "psel"]
