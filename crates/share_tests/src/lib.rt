@@ -24,6 +24,8 @@ mod rounds;
 #[cfg(test)]
 mod same;
 #[cfg(test)]
+mod tasks;
+#[cfg(test)]
 mod threads;
 #[cfg(test)]
 mod words;
