@@ -88,7 +88,16 @@ def section(crate, edits):
 
 def page(edits):
     """The page with its tables made anew; what stands before and behind them is written by hand."""
-    return TABLES.sub(lambda _: "".join(section(crate, edits) for crate in CRATES), PAGE.read_text())
+    made, count = TABLES.subn(lambda _: "".join(section(crate, edits) for crate in CRATES), PAGE.read_text())
+    if count != 1:
+        sys.exit("docs/EDITS.md has no place for its tables: a heading for each crate, one after the other")
+    return made
+
+
+def strays():
+    """Edits that this doesn't read, since their crate is none of CRATES."""
+    paths = [*TOP.glob("crates/*/must-fail/*.edit"), *TOP.glob("tests/must-fail/*/*.edit")]
+    return sorted(path.relative_to(TOP) for path in paths if not {*CRATES} & {*path.parts})
 
 
 def is_test(crate, name):
@@ -124,6 +133,7 @@ def main():
     if sys.argv[1:] == ["--write"]:
         PAGE.write_text(page(edits))
     wrong = [f"{edit.path.relative_to(TOP)}: {fault}" for edit in edits for fault in faults(edit)]
+    wrong += [f"{path}: its crate is not known here" for path in strays()]
     names = [f"{edit.crate}/{edit.name}" for edit in edits]
     wrong += [f"two edits are called {name}" for name in sorted({name for name in names if names.count(name) > 1})]
     if page(edits) != PAGE.read_text():

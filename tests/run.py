@@ -222,6 +222,8 @@ def gate():
     failed = [] if is_passed else ["rt ci"]
     failed += [f"{found[1]}: no edit, since it does not compile" for found in map(BAD_EDIT.match, lines) if found]
     count = PASSED.fullmatch(lines[-1]) if lines else None
+    if is_passed and not count:
+        failed.append("rt ci does not say how many passed")
     return int(count[1]) if count else 0, failed
 
 
