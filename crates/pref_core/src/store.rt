@@ -226,7 +226,8 @@ impl Store {
         self.apply_planned(&op.planned(&call));
     }
 
-    /// The same of an op whose call is lent.
+    /// Does a planned op, whose call is lent, as [`Store::apply`] does an op: one that is not legal here changes nothing.
+    /// Takes no memory.
     pub fn apply_planned(&mut self, op: &Planned<'_>)
         ensures exact { self.new ≡ applied self.old (op_of op.now) }
         ensures state { (state : State) → StandsFor self.old state → AppliesIn state self.old (op_of op.now) self.new }

@@ -57,7 +57,7 @@ impl Task for Part<'_> {
     }
 }
 
-/// What a line is to a client.
+/// What a line of a script is to one client.
 #[derive(Drop)]
 pub enum Found {
     /// Blank, or it doesn't name the client.
@@ -68,7 +68,7 @@ pub enum Found {
     Act(Act),
 }
 
-/// What a line is to a client.
+/// Reads a line for a client, where it names that client.
 fn read_line(alloc: Global, schema: &Schema, client: u8, line: &[u8]) -> Result<Found, AllocError>
     ensures { IfOk result (IsFound schema.now client line.now) }
 {

@@ -75,7 +75,8 @@ fn is_read(parts: &[Part<'_>], line: &[u8]) -> bool
     0 < number && number <= parts.len() && parts[number - 1].is_whole()
 }
 
-/// The same, where these are the clients' parts: a line of a client whose part is whole is not read again.
+/// Appends what is printed for a line that belongs to no client, where these are the clients' parts. A line that names a client whose
+/// part is whole is not read again.
 fn push_if_unowned(
     alloc: Global,
     schema: &Schema,

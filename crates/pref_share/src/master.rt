@@ -73,7 +73,7 @@ fn open_with<R: Wait>(rt: &R, writer: StoreWriter) -> StoreWriter
     writer
 }
 
-/// This many stamps are kept at most: those that one copy lacks, and the one of a call.
+/// How many stamps that change nothing make the room.
 const KEPT: usize = 3;
 
 /// Makes room for the stamps of later calls, by stamps that change nothing. The room stays, so later calls need not grow it.

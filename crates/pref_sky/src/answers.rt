@@ -101,7 +101,7 @@ fn keep_first_levels(ranked: &mut Vec<Ranked>, least: usize)
 /// holds the levels up to the cut of some entries, it is the ask's selection from all of them.
 ///
 /// Cost: that of [`Partial::ranked`]. For "at least" in groups each held entry is also compared by its group's columns with those on the
-/// levels before, until `k` of its group are found; where these end a search by halves finds once for each level. Memory: the list alone,
+/// levels before, until `k` of its group are found; where a level begins is found by one binary search. Memory: the list alone,
 /// and for "at least" in groups a byte for each held entry.
 /// `Err` is out of memory.
 pub fn answer(alloc: Global, ask: &Ask, partial: &Partial) -> Result<Vec<Ranked>, AllocError>

@@ -33,8 +33,8 @@ use crate::pool::Pool;
 use pref_term::Dominance;
 use std::alloc::{AllocError, Global};
 
-/// The first levels of a part as they are to be: those from the place `first` on are new, and the others stand empty for those that
-/// there are.
+/// The first levels of a part as they are to be: those from the place `first` on are new, and those before it stand empty in place of
+/// levels that stay as they are.
 #[derive(Drop)]
 pub(crate) struct Made {
     pub(crate) part: usize,

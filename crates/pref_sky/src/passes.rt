@@ -10,7 +10,7 @@
 //! d           a        d       c           b        d joined after c overflowed: these two have not met
 //! end         a is best: it has met all that overflowed
 //!
-//! next pass   d                                     over c
+//! next pass   d                                     its input is c
 //! c           d c                          b
 //! end         d and c are best
 //! ```

@@ -1,7 +1,7 @@
 //! Entries in one pool, and the cuts by which their items are signed.
 //!
 //! ```text
-//! pool        0    1    2    3    4    5            entries, in the order in which they came
+//! pool        0    1    2    3    4    5            entries, as they came, or as they were held when the pool was made anew
 //!
 //! part 0      level 1: items of 5 and 2             an item is the place of an entry here, and the entry's signature
 //!             level 2: the item of 0

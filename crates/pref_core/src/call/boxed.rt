@@ -25,7 +25,8 @@ pub struct BoxedCall {
     kind: Boxed,
 }
 
-// By hand, so that letting one go is a call: a derived `drop` is written out, and proved, at each way out of each function that owns one.
+// By hand, so that letting one go is a call: a derived `drop` is written out, and proved, at each way out of each
+// function that owns one.
 impl Drop for BoxedCall {
     fn drop(self) {
         let BoxedCall { kind: _ } = self;

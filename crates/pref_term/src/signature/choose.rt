@@ -61,8 +61,8 @@ fn count_varying(alloc: Global, keys: &[Key], sample: &[Row]) -> Result<usize, A
     Ok(count)
 }
 
-/// Puts a scale with so many marks at most behind these, which divide the sample into equal shares. A key that has one number in the
-/// whole sample has no scale, since its mark would distinguish nothing.
+/// Puts a key's scale behind these: so many marks at most, which divide the sample into equal shares. A key that has one number in
+/// the whole sample has no scale, since its mark would distinguish nothing.
 fn push_key(
     alloc: Global,
     scales: &mut Vec<Scale>,
