@@ -1,9 +1,13 @@
 -- A client's part of a script, one line at a time.
 use Rattle.pref_script.proofs.Common.{◌≡◌, ◌≢◌, ◌∙◌, ℕ, suc, zero, ◌+◌, ◌<◌, ◌≤◌, ◌^◌, Bool, true, false, List, [], ◌∷◌, ◌++◌, length, map, slice_get, Option, Some, None, Result, Ok, Err, refl, sym}
-use Rattle.pref_script.proofs.Common.{ap, arith, append_assoc, subst, inl, inr, string_bytes, All, list_all, Vec, append-nil, length-append, is_blank, Event, AcceptsLeft, AllAccepted, AreParts}
-use Rattle.pref_script.proofs.Common.{FirstAct, HasTold, IsAccepted, IsFound, IsPart, IsRead, WholeAccept, WholeAcceptAll, acts_in, acts_left, accepted_events, act_of, commands_in, commands_of}
-use Rattle.pref_script.proofs.Common.{event_of, Said, client_named, said_in, raw_lines, without_line_end, reply_lines, texts, AreActs, clients_lines, unowned_lines, Refusal, Part}
-use Rattle.std.proofs.lemmas.Option.{slice_get_within}
+use Rattle.pref_script.proofs.Common.{ap, arith, append_assoc, subst, inl, inr, string_bytes, All, list_all, Vec, append-nil, length-append, is_blank, Event, AcceptsLeft, AllAccepted, AreParts, ArePartsUpTo}
+use Rattle.pref_script.proofs.Common.{FirstAct, HasTold, IsAccepted, IsFound, IsPart, IsRead, WholeAccept, WholeAcceptAll, AreActs, acts_in, acts_left, accepted_events, act_of, commands_in, commands_of}
+use Rattle.pref_script.proofs.Common.{event_of, Said, client_named, said_in, raw_lines, without_line_end, reply_lines, texts, clients_lines, unowned_lines, Refusal, Part}
+use Rattle.pref_script.proofs.Common.{◌==◌, NamesNone, cases_lt, cond, drop, drop_all, drop_more, eq-eqb, eqb-false, eqb-true, get_or, get_or_append_left, is_number, length-set, lines_in, lines_left, lines_of, map-append, ne_eqb, set, vec_len}
+use Rattle.std.proofs.Common.{Bor}
+use Rattle.std.proofs.lemmas.Grind.{get_or-set_at}
+use Rattle.std.proofs.lemmas.List.{get_or-set_other, get_or_push}
+use Rattle.std.proofs.lemmas.Option.{get_or_from_slice_get, slice_get-get_or, slice_get_read, slice_get_within}
 use Rattle.pref_core.specs.declared.event.Act.{Act}
 use Rattle.pref_core.specs.declared.event.Reply.{Reply}
 use Rattle.pref_share.specs.Interleavings.{acts_of}
@@ -55,10 +59,7 @@ first-unnamed names client line other = by (said_in line) refl
         acted (Ok act) f = first-other names client line (record { client = number; act = act }) (rw (e, f) refl) (λ same. other (said_named line number what e ∙ ap Some same))
         acted (Err why) f = first-refused names client line why (rw (e, f) refl)
 
--- what a line is to a client: one that names no client or another one, one of blanks, and a refused one
-pub found-unnamed : (names : List (List ℕ)) (client : ℕ) (line : List ℕ) → client_named line ≢ Some client → IsFound names client line found.Nothing
-found-unnamed names client line other = (first-unnamed names client line other, λ named. absurd (other named))
-
+-- what a line is to a client: one of blanks, a refused one, another client's event and its own
 pub found-blank : (names : List (List ℕ)) (client : ℕ) (line : List ℕ) → list_all is_blank line ≡ true → IsFound names client line found.Nothing
 found-blank names client line blank = (first-blank names client line blank, λ _. inl blank)
 
@@ -80,26 +81,80 @@ event-named names line event is = by (said_in line) refl
             said_named line number what e ∙ ap (λ (x : Event). Some x.client) same
         acted (Err why) f = cc (rw (e, f) at is)
 
-pub found-act : (names : List (List ℕ)) (client : ℕ) (line : List ℕ) (event : Event) → list_all is_blank line ≡ false → event_of names line ≡ Ok event → client_named line ≡ Some client → IsFound names client line (found.Act event.act)
-found-act names client line event some said named =
-    let both : Some event.client ≡ Some client = sym (event-named names line event said) ∙ named in
-    let own : event.client ≡ client = cc both in
-    (first-own names client line event some said own, λ _. inr (event, said, own))
+pub found-other : (names : List (List ℕ)) (client : ℕ) (line : List ℕ) (event : Event) → event_of names line ≡ Ok event → event.client ≢ client → IsFound names client line found.Nothing
+found-other names client line event said other = (
+  first-other names client line event said other,
+  λ named.
+      let both : Some event.client ≡ Some client = sym (event-named names line event said) ∙ named in
+      let own : event.client ≡ client = cc both in
+      absurd (other own),
+)
+
+pub found-act : (names : List (List ℕ)) (client : ℕ) (line : List ℕ) (event : Event) → list_all is_blank line ≡ false → event_of names line ≡ Ok event → event.client ≡ client → IsFound names client line (found.Act event.act)
+found-act names client line event some said own = (first-own names client line event some said own, λ _. inr (event, said, own))
 
 -- the act of the first line comes before those of the lines behind it
-acts-line : (names : List (List ℕ)) (client : ℕ) (left raw tail : List ℕ) → raw_lines left ≡ raw ∷ raw_lines tail
-    → acts_in names client left ≡ acts_of client (accepted_events (commands_in names 0 (without_line_end raw))) ++ acts_in names client tail
+acts-line : (names : List (List ℕ)) (client : ℕ) (raw : List ℕ) (more : List (List ℕ))
+    → acts_in names client (raw ∷ more) ≡ acts_of client (accepted_events (commands_in names 0 (without_line_end raw))) ++ acts_in names client more
 unfolding commands_of
-acts-line names client left raw tail cut =
+acts-line names client raw more =
     let first = commands_in names 0 (without_line_end raw) in
-    let rest = commands_of names 1 (raw_lines tail) in
-    let events = accepted_events-append first rest ∙ ap (λ (t : List Event). accepted_events first ++ t) (events-any_number names 1 0 (raw_lines tail)) in
-    rw cut (ap (acts_of client) events ∙ acts-append client (accepted_events first) (accepted_events (commands_of names 0 (raw_lines tail))))
+    let rest = commands_of names 1 more in
+    let events = accepted_events-append first rest ∙ ap (λ (t : List Event). accepted_events first ++ t) (events-any_number names 1 0 more) in
+    ap (acts_of client) events ∙ acts-append client (accepted_events first) (accepted_events (commands_of names 0 more))
 
-pub acts-none_left : (names : List (List ℕ)) (client : ℕ) (left : List ℕ) → length left ≡ 0 → acts_in names client left ≡ []
-unfolding commands_of accepted_events
-acts-none_left names client [] none = rw lines_none refl
-acts-none_left names client (x ∷ xs) none = absurd (omega arith)
+-- a client's number
+number-is : (client : ℕ) (number : Option ℕ) → is_number client number ≡ true → number ≡ Some client
+number-is client None is = cc is
+number-is client (Some number) is = ap Some (eqb-true number client is)
+
+number-none : (client : ℕ) (number : Option ℕ) → is_number client number ≡ false → number ≢ Some client
+number-none client None isnt same = cc same
+number-none client (Some number) isnt same =
+    let own : number ≡ client = cc same in
+    eqb-false number client isnt own
+
+number-isnt : (client : ℕ) (number : Option ℕ) → (number ≡ Some client → ⊥) → is_number client number ≡ false
+number-isnt client None other = refl
+number-isnt client (Some number) other = ne_eqb number client (λ same. other (ap Some same))
+
+-- a line is one of those that name a client, or is none of them
+lines-own : (client : ℕ) (raw : List ℕ) (more : List (List ℕ)) → client_named (without_line_end raw) ≡ Some client → lines_of client (raw ∷ more) ≡ raw ∷ lines_of client more
+lines-own client raw more named = ap (λ (own : Bool). cond own (raw ∷ lines_of client more) (lines_of client more)) (ap (is_number client) named ∙ eq-eqb client client refl)
+
+lines-other : (client : ℕ) (raw : List ℕ) (more : List (List ℕ)) → (client_named (without_line_end raw) ≡ Some client → ⊥) → lines_of client (raw ∷ more) ≡ lines_of client more
+lines-other client raw more other = ap (λ (own : Bool). cond own (raw ∷ lines_of client more) (lines_of client more)) (number-isnt client (client_named (without_line_end raw)) other)
+
+-- a client's acts come from the lines that name it
+acts-of_named : (names : List (List ℕ)) (client : ℕ) (raws : List (List ℕ)) → acts_in names client (lines_of client raws) ≡ acts_in names client raws
+acts-of_named names client [] = refl
+acts-of_named names client (raw ∷ more) = by (is_number client (client_named (without_line_end raw))) refl (acts-of_named names client more)
+  where
+    line : List Act
+    line = acts_of client (accepted_events (commands_in names 0 (without_line_end raw)))
+
+    by : (own : Bool) → is_number client (client_named (without_line_end raw)) ≡ own → acts_in names client (lines_of client more) ≡ acts_in names client more
+        → acts_in names client (lines_of client (raw ∷ more)) ≡ acts_in names client (raw ∷ more)
+    by true is rest =
+        ap (acts_in names client) (lines-own client raw more (number-is client (client_named (without_line_end raw)) is))
+        ∙ acts-line names client raw (lines_of client more) ∙ ap (λ (acts : List Act). line ++ acts) rest ∙ sym (acts-line names client raw more)
+    by false is rest =
+        let other : client_named (without_line_end raw) ≢ Some client = number-none client (client_named (without_line_end raw)) is in
+        ap (acts_in names client) (lines-other client raw more other) ∙ rest
+        ∙ ap (λ (acts : List Act). acts ++ acts_in names client more) (sym (first-unnamed names client (without_line_end raw) other)) ∙ sym (acts-line names client raw more)
+
+-- and no other line of its can be refused
+accepted-of_named : (names : List (List ℕ)) (client : ℕ) (raws : List (List ℕ)) → AllAccepted names client (lines_of client raws) → AllAccepted names client raws
+accepted-of_named names client [] all = tt
+accepted-of_named names client (raw ∷ more) all = by (is_number client (client_named (without_line_end raw))) refl (accepted-of_named names client more)
+  where
+    by : (own : Bool) → is_number client (client_named (without_line_end raw)) ≡ own → (AllAccepted names client (lines_of client more) → AllAccepted names client more) → AllAccepted names client (raw ∷ more)
+    by true is rest =
+        let both = subst (AllAccepted names client) (lines-own client raw more (number-is client (client_named (without_line_end raw)) is)) all in
+        (both.0, rest both.1)
+    by false is rest =
+        let other : client_named (without_line_end raw) ≢ Some client = number-none client (client_named (without_line_end raw)) is in
+        (λ named. absurd (other named), rest (subst (AllAccepted names client) (lines-other client raw more other) all))
 
 -- the acts that a line is found to be
 abbrev acts_found : Found → List Act
@@ -130,13 +185,14 @@ pub gone-nowhere : (part : Part) → HasGone part part []
 gone-nowhere part = record { client = refl; schema = refl; text = refl; acts = refl; refused = λ h. h; accepted = λ _ h. h }
 
 -- one line more
-pub gone-line : (old now new : Part) (raw line : List ℕ) (what : Found) → HasGone old now [] → raw_lines now.left.now ≡ raw ∷ raw_lines new.left.now → line ≡ without_line_end raw → IsFound now.schema.now now.client line what
+pub gone-line : (old now new : Part) (raw line : List ℕ) (what : Found) → HasGone old now [] → lines_left now ≡ raw ∷ lines_left new → line ≡ without_line_end raw → IsFound now.schema.now now.client line what
     → new.client ≡ now.client → new.schema.now ≡ now.schema.now → string_bytes new.text ≡ string_bytes now.text → (new.refused ≡ false → (now.refused ≡ false) × (what ≡ found.Refused → ⊥)) → HasGone old new (acts_found what)
 gone-line old now new raw line what gone cut is found client schema text clean =
     let names = now.schema.now in
     let found_here : IsFound names now.client (without_line_end raw) what = rw is at found in
     let acts : acts_left now ≡ acts_found what ++ acts_left new =
-    acts-line names now.client now.left.now raw new.left.now cut ∙ ap (λ (acts : List Act). acts ++ acts_in names now.client new.left.now) (first-found names now.client (without_line_end raw) what found_here)
+    ap (acts_in names now.client) cut ∙ acts-line names now.client raw (lines_left new)
+    ∙ ap (λ (acts : List Act). acts ++ acts_in names now.client (lines_left new)) (first-found names now.client (without_line_end raw) what found_here)
     ∙ rw (schema, client) refl in record {
       client = client ∙ gone.client;
       schema = schema ∙ gone.schema;
@@ -145,8 +201,8 @@ gone-line old now new raw line what gone cut is found client schema text clean =
       refused = λ none. gone.refused (clean none).0;
       accepted = λ none rest.
           let here = accepted-found names now.client (without_line_end raw) what found_here (clean none).1 in
-          let behind : AllAccepted names now.client (raw_lines new.left.now) = rw (schema, client) at rest in
-          gone.accepted (clean none).0 (rw cut (here, behind));
+          let behind : AllAccepted names now.client (lines_left new) = rw (schema, client) at rest in
+          gone.accepted (clean none).0 (subst (AllAccepted names now.client) (sym cut) (here, behind));
     }
 
 -- what a part was told stays so
@@ -158,12 +214,25 @@ told-on first old new acts replies told gone = record {
   accepted = λ none rest. told.accepted (gone.refused none) (gone.accepted none rest);
 }
 
+-- the next line of a part, and no line
+pub line-next : (part : Part) (raw : Bor (List ℕ)) → part.read < vec_len part.lines → raw ≡ get_or part.lines.items part.read raw → lines_left part ≡ raw.now ∷ map (λ (r : Bor (List ℕ)). r.now) (drop (part.read + 1) part.lines.items)
+line-next part raw some is =
+    let cut = drop_more part.lines.items part.read raw (omega (arith, some, part.lines.ok.0)) in
+    ap (map (λ (r : Bor (List ℕ)). r.now)) cut ∙ ap (λ (first : List ℕ). first ∷ map (λ (r : Bor (List ℕ)). r.now) (drop (part.read + 1) part.lines.items)) (ap (λ (r : Bor (List ℕ)). r.now) (sym is))
+
+pub lines-none : (part : Part) → vec_len part.lines ≤ part.read → lines_left part ≡ []
+lines-none part none = ap (map (λ (r : Bor (List ℕ)). r.now)) (drop_all part.read part.lines.items (omega (arith, none, part.lines.ok.0)))
+
+pub acts-none : (part : Part) → vec_len part.lines ≤ part.read → acts_left part ≡ []
+unfolding commands_of accepted_events
+acts-none part none = ap (acts_in part.schema.now part.client) (lines-none part none)
+
 -- a client has no more acts than its lines have bytes
-pub acts-short : (names : List (List ℕ)) (client : ℕ) (text : List ℕ) → length (acts_in names client text) ≤ length text
+pub acts-short : (names : List (List ℕ)) (client : ℕ) (text : List ℕ) → length (acts_in names client (raw_lines text)) ≤ length text
 acts-short names client text = omega (arith, acts-few client (accepted_events (commands_of names 0 (raw_lines text))), events-few names 0 text)
 
 -- a reply more
-pub told-more : (first old new : Part) (replies : List Reply) (reply : Reply) → HasTold first old replies → new.client ≡ old.client → new.schema.now ≡ old.schema.now → new.left.now ≡ old.left.now → new.refused ≡ old.refused
+pub told-more : (first old new : Part) (replies : List Reply) (reply : Reply) → HasTold first old replies → new.client ≡ old.client → new.schema.now ≡ old.schema.now → lines_left new ≡ lines_left old → new.refused ≡ old.refused
     → string_bytes new.text ≡ string_bytes old.text ++ reply_lines (length old.schema.now) old.client reply → HasTold first new (replies ++ reply ∷ [])
 unfolding texts
 told-more first old new replies reply told client schema left refused wrote =
@@ -173,79 +242,147 @@ told-more first old new replies reply told client schema left refused wrote =
       schema = schema ∙ told.schema;
       text = wrote ∙ ap (λ (t : List ℕ). string_bytes old.text ++ t) line ∙ ap (λ (t : List ℕ). t ++ text reply) told.text ∙ append_assoc (string_bytes first.text) (texts text replies) (text reply)
           ∙ ap (λ (t : List ℕ). string_bytes first.text ++ (texts text replies ++ t)) (sym (append-nil (text reply))) ∙ ap (λ (t : List ℕ). string_bytes first.text ++ t) (sym (texts-append text replies (reply ∷ [])));
-      accepted = λ none rest. told.accepted (sym refused ∙ none) (rw (client, schema, left) at rest);
+      accepted = λ none rest. told.accepted (sym refused ∙ none) (subst (AllAccepted old.schema.now old.client) left (rw (client, schema) at rest));
     }
-
-accepts-none : (names : List (List ℕ)) (client : ℕ) (left : List ℕ) → length left ≡ 0 → AllAccepted names client (raw_lines left)
-accepts-none names client [] none = rw lines_none tt
-accepts-none names client (x ∷ xs) none = absurd (omega arith)
 
 -- nothing was told yet
 pub told-nothing : (part : Part) → HasTold part part []
 unfolding texts
 told-nothing part = record { client = refl; schema = refl; text = sym (append-nil (string_bytes part.text)); accepted = λ _ rest. rest }
 
--- one part more
-pub parts-more : (names : List (List ℕ)) (text : List ℕ) (client : ℕ) (parts : List Part) (part : Part) → AreParts names text client parts → IsPart names text (client + length parts) part → AreParts names text client (parts ++ part ∷ [])
-parts-more names text client [] part all one =
-    let here : client + 0 ≡ client = omega arith in
-    (record { schema = one.schema; number = one.number ∙ here; left = one.left; told = one.told }, tt)
-parts-more names text client (x ∷ xs) part all one =
-    let here : client + length (x ∷ xs) ≡ (client + 1) + length xs = omega arith in
-    (all.0, parts-more names text (client + 1) xs part all.1 (record { schema = one.schema; number = one.number ∙ here; left = one.left; told = one.told }))
+-- the parts of clients before they have lines: none, and one part more
+pub none-are : (names raws : List (List ℕ)) → ArePartsUpTo names raws raws []
+none-are names raws place part here = cc here
 
-pub are-more : (names : List (List ℕ)) (text : List ℕ) (count : ℕ) (parts : List Part) (part : Part) (new : List Part) → (length parts ≡ count) × AreParts names text 1 parts → new ≡ parts ++ part ∷ [] → part.schema.now ≡ names
-    → part.client ≡ count + 1 → part.left.now ≡ text → string_bytes part.text ≡ [] → (length new ≡ count + 1) × AreParts names text 1 new
-are-more names text count parts part new are pushed schema client left told =
-    let number : count + 1 ≡ 1 + length parts = omega (arith, are.0) in
-    let size : length (parts ++ part ∷ []) ≡ count + 1 = omega (arith, length-append parts (part ∷ []), are.0) in
-    rw pushed (size, parts-more names text 1 parts part are.1 (record { schema = schema; number = client ∙ number; left = left; told = told }))
+pub are-more : (names raws : List (List ℕ)) (parts : List Part) (part : Part) → ArePartsUpTo names raws raws parts → part.schema.now ≡ names → part.client ≡ suc (length parts) → lines_in part ≡ [] → part.read ≡ 0
+    → string_bytes part.text ≡ [] → ArePartsUpTo names raws raws (parts ++ part ∷ [])
+are-more names raws parts part are schema client lines read told place other here = elim (cases_lt place (length parts)) [
+  | inl inside ↦
+      let stays : other ≡ get_or parts place other = sym (get_or_from_slice_get (parts ++ part ∷ []) place other other here) ∙ get_or_append_left parts (part ∷ []) other place inside in
+      are place other (slice_get_read parts (length parts) place other refl inside stays)
+  | inr past ↦
+      let last : length parts ≡ place = omega (arith, past, slice_get_within (parts ++ part ∷ []) place other here, length-append parts (part ∷ [])) in
+      let same : part ≡ other = sym (get_or_push parts part part place last) ∙ get_or_from_slice_get (parts ++ part ∷ []) place other part here in
+      subst (IsPart names raws raws (suc place)) same (record { schema = schema; number = client ∙ ap suc last; lines = ap (λ (l : List (List ℕ)). l ++ lines_of (suc place) raws) lines; unread = read; told = told })
+]
 
-pub parts-few : (names : List (List ℕ)) (text : List ℕ) (client : ℕ) (parts : List Part) → length text < 2 ^ 63 → AreParts names text client parts → All (λ part. length (acts_left part) < 2 ^ 63) parts
-parts-few names text client [] short all i d within = absurd (omega (arith, within))
-parts-few names text client (x ∷ xs) short all zero d within =
-    let size : length x.left.now ≡ length text = ap length all.0.left in
-    omega (arith, acts-short x.schema.now x.client x.left.now, size, short)
-parts-few names text client (x ∷ xs) short all (suc i) d within = parts-few names text (client + 1) xs short all.1 i d (omega (arith, within))
+-- a line more
+pub lines-push : (old new : List (Bor (List ℕ))) (raw : Bor (List ℕ)) → new ≡ old ++ raw ∷ [] → map (λ (r : Bor (List ℕ)). r.now) new ≡ map (λ (r : Bor (List ℕ)). r.now) old ++ raw.now ∷ []
+lines-push old new raw pushed = ap (map (λ (r : Bor (List ℕ)). r.now)) pushed ∙ map-append (λ (r : Bor (List ℕ)). r.now) old (raw ∷ [])
+
+-- no line is left
+pub parts-all : (names raws : List (List ℕ)) (left : List ℕ) (parts : List Part) → ArePartsUpTo names raws (raw_lines left) parts → length left ≡ 0 → AreParts names raws parts
+parts-all names raws [] parts are none = subst (λ (lines : List (List ℕ)). ArePartsUpTo names raws lines parts) lines_none are
+parts-all names raws (x ∷ xs) parts are none = absurd (omega arith)
+
+-- a line is given to the part of the client that it names
+part-next : (names raws left : List (List ℕ)) (raw : List ℕ) (client : ℕ) (part : Part) → IsPart names raws (raw ∷ left) client part → (client_named (without_line_end raw) ≡ Some client → ⊥) → IsPart names raws left client part
+part-next names raws left raw client part is other = record {
+  schema = is.schema;
+  number = is.number;
+  lines = ap (λ (l : List (List ℕ)). lines_in part ++ l) (sym (lines-other client raw left other)) ∙ is.lines;
+  unread = is.unread;
+  told = is.told;
+}
+
+pub given-nobody : (names raws left : List (List ℕ)) (raw : List ℕ) (parts : List Part) → NamesNone (length parts) (without_line_end raw) → ArePartsUpTo names raws (raw ∷ left) parts → ArePartsUpTo names raws left parts
+given-nobody names raws left raw parts nobody are place part here = part-next names raws left raw (suc place) part (are place part here) (nobody place (slice_get_within parts place part here))
+
+same-place : (spot place : ℕ) → Some (suc spot) ≡ Some (suc place) → spot ≡ place
+same-place spot place same =
+    let numbers : suc spot ≡ suc place = cc same in
+    omega (arith, numbers)
+
+pub given-here : (names raws left : List (List ℕ)) (raw : List ℕ) (parts : List Part) (place : ℕ) (old new : Part) → place < length parts → old ≡ get_or parts place old → client_named (without_line_end raw) ≡ Some (suc place)
+    → new.schema.now ≡ old.schema.now → new.client ≡ old.client → lines_in new ≡ lines_in old ++ raw ∷ [] → new.read ≡ old.read → string_bytes new.text ≡ string_bytes old.text
+    → ArePartsUpTo names raws (raw ∷ left) parts → ArePartsUpTo names raws left (set parts place new)
+given-here names raws left raw parts place old new inside held named schema client lines read text are spot part here = by (spot == place) refl
+  where
+    within : spot < length parts
+    within = omega (arith, slice_get_within (set parts place new) spot part here, length-set parts place new)
+
+    was : IsPart names raws (raw ∷ left) (suc place) old
+    was = are place old (slice_get_read parts (length parts) place old refl inside held)
+
+    more : IsPart names raws left (suc place) new
+    more = record {
+      schema = schema ∙ was.schema;
+      number = client ∙ was.number;
+      lines = ap (λ (l : List (List ℕ)). l ++ lines_of (suc place) left) lines ∙ append_assoc (lines_in old) (raw ∷ []) (lines_of (suc place) left)
+          ∙ ap (λ (l : List (List ℕ)). lines_in old ++ l) (sym (lines-own (suc place) raw left named)) ∙ was.lines;
+      unread = read ∙ was.unread;
+      told = text ∙ was.told;
+    }
+
+    by : (same : Bool) → (spot == place) ≡ same → IsPart names raws left (suc spot) part
+    by true e =
+        let is = eqb-true spot place e in
+        let given : new ≡ part = sym (get_or-set_at parts place spot new new is inside) ∙ get_or_from_slice_get (set parts place new) spot part new here in
+        let number : suc place ≡ suc spot = ap suc (sym is) in
+        subst (λ (client : ℕ). IsPart names raws left client part) number (subst (IsPart names raws left (suc place)) given more)
+    by false e =
+        let isnt = eqb-false spot place e in
+        let stays : part ≡ get_or parts spot part = sym (get_or_from_slice_get (set parts place new) spot part part here) ∙ get_or-set_other parts place spot new part isnt in
+        let other : client_named (without_line_end raw) ≢ Some (suc spot) = λ its. isnt (same-place spot place (sym its ∙ named)) in
+        part-next names raws left raw (suc spot) part (are spot part (slice_get_read parts (length parts) spot part refl within stays)) other
+
+-- all lines were given to the parts: these are the acts of each
+pub part-acts : (names raws : List (List ℕ)) (client : ℕ) (part : Part) → IsPart names raws [] client part → acts_left part ≡ acts_in names client raws
+part-acts names raws client part is = rw (is.schema, is.number, is.unread) (ap (acts_in names client) (sym (append-nil (lines_in part)) ∙ is.lines) ∙ acts-of_named names client raws)
+
+pub parts-few : (names : List (List ℕ)) (text : List ℕ) (parts : List Part) → length text < 2 ^ 63 → AreParts names (raw_lines text) parts → All (λ part. length (acts_left part) < 2 ^ 63) parts
+parts-few names text parts short are i d within =
+    let same = part-acts names (raw_lines text) (suc i) (get_or parts i d) (are i (get_or parts i d) (slice_get-get_or parts i d within)) in
+    omega (arith, ap length same, acts-short names (suc i) text, short)
 
 -- The acts of clients whose lines are this text, as lists.
 module _ {X : Type 0} (given : Vec X) (names : List (List ℕ)) (text : List ℕ) (short : length text < 2 ^ 63) where
   abbrev held : (client : ℕ) → Vec Act
   held client =
-      let acts = acts_in names client text in
+      let acts = acts_in names client (raw_lines text) in
       record { ptr = given.ptr; len = length acts; cap = length acts; alloc = given.alloc; items = acts; ok = (refl, omega arith); small = omega (arith, acts-short names client text, short) }
 
   abbrev pub acts_from : ℕ → List Part → List (Vec Act)
   acts_from client [] = []
   acts_from client (part ∷ more) = held client ∷ acts_from (client + 1) more
 
+  listed-from : (client : ℕ) (parts : List Part) → ((place : ℕ) (part : Part) → slice_get parts place ≡ Some part → acts_left part ≡ acts_in names (client + place) (raw_lines text))
+      → map (λ (list : Vec Act). list.items) (acts_from client parts) ≡ map acts_left parts
+  listed-from client [] each = refl
+  listed-from client (part ∷ more) each =
+      let number : client + 0 ≡ client = omega arith in
+      let same : acts_left part ≡ acts_in names client (raw_lines text) = each 0 part refl ∙ ap (λ (n : ℕ). acts_in names n (raw_lines text)) number in
+      ap (λ (acts : List Act). acts ∷ map (λ (list : Vec Act). list.items) (acts_from (client + 1) more)) (sym same) ∙ ap (λ (lists : List (List Act)). acts_left part ∷ lists)
+      (listed-from (client + 1) more (λ place p here.
+      let next : client + suc place ≡ (client + 1) + place = omega arith in
+      each (suc place) p here ∙ ap (λ (n : ℕ). acts_in names n (raw_lines text)) next))
+
   -- these are the acts of the parts
-  pub acts-listed : (client : ℕ) (parts : List Part) → AreParts names text client parts → map (λ (list : Vec Act). list.items) (acts_from client parts) ≡ map acts_left parts
-  acts-listed client [] all = refl
-  acts-listed client (part ∷ more) all =
-      let same : acts_left part ≡ acts_in names client text = rw (all.0.schema, all.0.number, all.0.left) refl in
-      ap (λ (acts : List Act). acts ∷ map (λ (list : Vec Act). list.items) (acts_from (client + 1) more)) (sym same) ∙ ap (λ (lists : List (List Act)). acts_left part ∷ lists) (acts-listed (client + 1) more all.1)
+  pub acts-listed : (parts : List Part) → AreParts names (raw_lines text) parts → map (λ (list : Vec Act). list.items) (acts_from 1 parts) ≡ map acts_left parts
+  acts-listed parts are = listed-from 1 parts (λ place part here.
+      let number : suc place ≡ 1 + place = omega arith in
+      part-acts names (raw_lines text) (suc place) part (are place part here) ∙ ap (λ (n : ℕ). acts_in names n (raw_lines text)) number)
 
   acts_from-length : (client : ℕ) (parts : List Part) → length (acts_from client parts) ≡ length parts
   acts_from-length client [] = refl
   acts_from-length client (part ∷ more) = ap suc (acts_from-length (client + 1) more)
 
-  acts_from-at : (client : ℕ) (parts : List Part) (place : ℕ) (list : Vec Act) → slice_get (acts_from client parts) place ≡ Some list → list.items ≡ acts_in names (client + place) text
+  acts_from-at : (client : ℕ) (parts : List Part) (place : ℕ) (list : Vec Act) → slice_get (acts_from client parts) place ≡ Some list → list.items ≡ acts_in names (client + place) (raw_lines text)
   acts_from-at client [] place list here = cc here
   acts_from-at client (part ∷ more) zero list here =
       let same : held client ≡ list = cc here in
       let number : client ≡ client + 0 = omega arith in
-      ap (λ (l : Vec Act). l.items) (sym same) ∙ ap (λ (n : ℕ). acts_in names n text) number
+      ap (λ (l : Vec Act). l.items) (sym same) ∙ ap (λ (n : ℕ). acts_in names n (raw_lines text)) number
   acts_from-at client (part ∷ more) (suc place) list here =
       let number : (client + 1) + place ≡ client + suc place = omega arith in
-      acts_from-at (client + 1) more place list here ∙ ap (λ (n : ℕ). acts_in names n text) number
+      acts_from-at (client + 1) more place list here ∙ ap (λ (n : ℕ). acts_in names n (raw_lines text)) number
 
   pub are-acts : (clients first : ℕ) (parts : List Part) → length parts ≡ clients → AreActs clients (accepted_events (commands_of names first (raw_lines text))) (acts_from 1 parts)
   are-acts clients first parts many = record {
     lists = acts_from-length 1 parts ∙ many;
     each = λ place list here.
         let number : 1 + place ≡ suc place = omega arith in
-        acts_from-at 1 parts place list here ∙ ap (λ (n : ℕ). acts_in names n text) number ∙ ap (acts_of (suc place)) (events-any_number names 0 first (raw_lines text));
+        acts_from-at 1 parts place list here ∙ ap (λ (n : ℕ). acts_in names n (raw_lines text)) number ∙ ap (acts_of (suc place)) (events-any_number names 0 first (raw_lines text));
   }
 
 -- what the parts were told, one after the other
@@ -264,19 +401,8 @@ parts-told names client (part ∷ more) (list ∷ lists) same each =
     each (suc place) p l p_at l_at ∙ ap (λ (n : ℕ). texts (reply_lines (length names) n) l.items) next) in
     ap (λ (t : List ℕ). t ++ texts (λ (x : Part). string_bytes x.text) more) here ∙ ap (λ (t : List ℕ). texts (reply_lines (length names) client) list.items ++ t) rest
 
-part-at : (names : List (List ℕ)) (text : List ℕ) (client : ℕ) (parts : List Part) (place : ℕ) (part : Part) → AreParts names text client parts → slice_get parts place ≡ Some part → IsPart names text (client + place) part
-part-at names text client [] place part all here = cc here
-part-at names text client (x ∷ xs) zero part all here =
-    let same : x ≡ part = cc here in
-    let number : client ≡ client + 0 = omega arith in
-    subst (λ (p : Part). IsPart names text (client + 0) p) same (record { schema = all.0.schema; number = all.0.number ∙ number; left = all.0.left; told = all.0.told })
-part-at names text client (x ∷ xs) (suc place) part all here =
-    let number : (client + 1) + place ≡ client + suc place = omega arith in
-    let rest = part-at names text (client + 1) xs place part all.1 here in
-    record { schema = rest.schema; number = rest.number ∙ number; left = rest.left; told = rest.told }
-
 -- what done parts were told is printed as the replies that they took
-pub parts-shown : (names : List (List ℕ)) (text : List ℕ) (parts done : List Part) (replies : List (Vec Reply)) → AreParts names text 1 parts → AreTaken HasTold parts done replies
+pub parts-shown : (names : List (List ℕ)) (text : List ℕ) (parts done : List Part) (replies : List (Vec Reply)) → AreParts names (raw_lines text) parts → AreTaken HasTold parts done replies
     → texts (λ part. string_bytes part.text) done ≡ clients_lines (length names) 1 replies
 parts-shown names text parts done replies are taken = parts-told names 1 done replies (taken.tasks_done ∙ sym taken.lists) (λ place part list part_at list_at.
     let inside : place < length parts = omega (arith, slice_get_within done place part part_at, taken.tasks_done) in
@@ -284,20 +410,22 @@ parts-shown names text parts done replies are taken = parts-told names 1 done re
     let (told, told_at, has) = taken.each place first part first_at part_at in
     let both : Some told ≡ Some list = sym told_at ∙ list_at in
     let same : told ≡ list = cc both in
-    let is = part-at names text 1 parts place first are first_at in
+    let is = are place first first_at in
+    let number : suc place ≡ 1 + place = omega arith in
     let wrote : string_bytes part.text ≡ string_bytes first.text ++ texts (reply_lines (length first.schema.now) first.client) told.items = has.text in
-    rw (is.told, is.schema, is.number, same) at wrote)
+    rw (is.told, is.schema, is.number ∙ number, same) at wrote)
 
 -- no line of a client whose part is whole was refused
-pub whole-accept : (names : List (List ℕ)) (text : List ℕ) (parts done : List Part) (replies : List (Vec Reply)) → AreParts names text 1 parts → AreTaken HasTold parts done replies → WholeAcceptAll names done (raw_lines text)
+pub whole-accept : (names : List (List ℕ)) (text : List ℕ) (parts done : List Part) (replies : List (Vec Reply)) → AreParts names (raw_lines text) parts → AreTaken HasTold parts done replies → WholeAcceptAll names done (raw_lines text)
 whole-accept names text parts done replies are taken place part part_at whole =
     let inside : place < length parts = omega (arith, slice_get_within done place part part_at, taken.tasks_done) in
     let (first, first_at) = there parts place inside in
     let (told, told_at, has) = taken.each place first part first_at part_at in
-    let is = part-at names text 1 parts place first are first_at in
-    let number : 1 + place ≡ suc place = omega arith in
-    let accepts = rw (is.schema, is.number, is.left) at (has.accepted whole.accepted (accepts-none part.schema.now part.client part.left.now whole.through)) in
-    subst (λ (n : ℕ). AllAccepted names n (raw_lines text)) number accepts
+    let is = are place first first_at in
+    let none : lines_left part ≡ [] = lines-none part (omega (arith, whole.through)) in
+    let accepts : AllAccepted first.schema.now first.client (lines_left first) = has.accepted whole.accepted (subst (AllAccepted part.schema.now part.client) (sym none) tt) in
+    let named : AllAccepted names (suc place) (lines_in first) = rw (is.schema, is.number, is.unread) at accepts in
+    accepted-of_named names (suc place) (raw_lines text) (subst (AllAccepted names (suc place)) (sym (append-nil (lines_in first)) ∙ is.lines) named)
 
 -- the first line of some, and those behind it
 pub accept-first : (names : List (List ℕ)) (parts : List Part) (left raw tail : List ℕ) → WholeAcceptAll names parts (raw_lines left) → raw_lines left ≡ raw ∷ raw_lines tail → WholeAccept names parts (without_line_end raw)

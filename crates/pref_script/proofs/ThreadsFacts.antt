@@ -69,12 +69,12 @@ commands-short bytes r read few short = omega (arith, few, short, read.first, fi
 
 -- A script whose clients have these parts, of which the acts are these lists.
 module _ (limits : Limits) (says : ℕ → ℕ → Bool → Type 0) (bytes : List ℕ) (r : OpeningRead) (read : IsOpeningOf bytes r) (parts : Vec Part) (count : length parts.items ≡ limits.clients)
-    (are : AreParts r.schema r.text.commands.now 1 parts.items) (short : length r.text.commands.now < 2 ^ 63) where
+    (are : AreParts r.schema (raw_lines r.text.commands.now) parts.items) (short : length r.text.commands.now < 2 ^ 63) where
   abbrev acts : List (Vec Act)
   acts = acts_from parts r.schema r.text.commands.now short 1 parts.items
 
   listed : map (λ list. list.items) acts ≡ map acts_left parts.items
-  listed = acts-listed parts r.schema r.text.commands.now short 1 parts.items are
+  listed = acts-listed parts r.schema r.text.commands.now short parts.items are
 
   owned : AreActs limits.clients (accepted_events (commands_of r.schema read.parts.first read.parts.commands)) acts
   owned =

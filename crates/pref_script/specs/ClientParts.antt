@@ -1,6 +1,7 @@
 -- No public contract cites this.
 -- A client's part of a script: its acts, which come line by line, and the lines of the replies. (this project)
-use Rattle.std.specs.Prelude.{ℕ, suc, ◌≡◌, ◌+◌, ◌⊎◌, true, false, List, [], ◌∷◌, ◌++◌, length, Option, Some, None, Ok, slice_get, string_bytes}
+use Rattle.std.specs.Prelude.{ℕ, suc, ◌≡◌, ◌==◌, ◌<◌, ◌⊎◌, Bool, true, false, List, [], ◌∷◌, ◌++◌, length, map, drop, filter, Option, Some, None, Ok, slice_get, string_bytes, vec_len}
+use Rattle.std.specs.Borrow.{Bor}
 use Rattle.std.specs.List.{list_all}
 use Rattle.pref_table.specs.Number.{is_blank}
 use Rattle.pref_core.specs.declared.event.Act.{Act}
@@ -9,15 +10,24 @@ use Rattle.pref_core.specs.declared.event.Reply.{Reply}
 use Rattle.pref_share.specs.Interleavings.{acts_of}
 use Rattle.pref_script.specs.Commands.{accepted_events, commands_in, commands_of, event_of}
 use Rattle.pref_script.specs.Forms.{client_named}
-use Rattle.pref_script.specs.Script.{raw_lines, without_line_end}
+use Rattle.pref_script.specs.Script.{without_line_end}
 use Rattle.pref_script.specs.Text.{reply_lines, texts}
 use Rattle.pref_script.specs.declared.parts.Found.{Found}
 use Rattle.pref_script.specs.declared.parts.Found.TheVariants as found
 use Rattle.pref_script.specs.declared.parts.Part.{Part}
 
 -- the acts of a client in lines
-abbrev pub acts_in : List (List ℕ) → ℕ → List ℕ → List Act
-acts_in names client text = acts_of client (accepted_events (commands_of names 0 (raw_lines text)))
+abbrev pub acts_in : List (List ℕ) → ℕ → List (List ℕ) → List Act
+acts_in names client raws = acts_of client (accepted_events (commands_of names 0 raws))
+
+-- whether this is the client's number
+abbrev pub is_number : ℕ → Option ℕ → Bool
+is_number client None = false
+is_number client (Some number) = number == client
+
+-- the lines that name a client
+abbrev pub lines_of : ℕ → List (List ℕ) → List (List ℕ)
+lines_of client raws = filter (λ raw. is_number client (client_named (without_line_end raw))) raws
 
 -- the act of a client in a line, where it has one
 abbrev pub FirstAct : List (List ℕ) → ℕ → List ℕ → Option Act → Type 0
@@ -39,38 +49,54 @@ IsFound names client line found.Nothing = FirstAct names client line None × IsA
 IsFound names client line found.Refused = FirstAct names client line None
 IsFound names client line (found.Act act) = FirstAct names client line (Some act) × IsAccepted names client line
 
+-- the lines of a part
+abbrev pub lines_in : Part → List (List ℕ)
+lines_in part = map (λ (raw : Bor (List ℕ)). raw.now) part.lines.items
+
+-- those that were not read
+abbrev pub lines_left : Part → List (List ℕ)
+lines_left part = map (λ (raw : Bor (List ℕ)). raw.now) (drop part.read part.lines.items)
+
 -- the acts of a part that have not come
 abbrev pub acts_left : Part → List Act
-acts_left part = acts_in part.schema.now part.client part.left.now
+acts_left part = acts_in part.schema.now part.client (lines_left part)
 
 -- no line that is left of the part is refused and names the client
 abbrev pub AcceptsLeft : Part → Type 0
-AcceptsLeft part = AllAccepted part.schema.now part.client (raw_lines part.left.now)
+AcceptsLeft part = AllAccepted part.schema.now part.client (lines_left part)
 
 -- The part as it is now, which was this at first, has the lines of these replies behind those that it had. Unless it says that a line was
--- refused, it has gone through no line that was, of those that name the client.
+-- refused, it has read no line that was, of those that name the client.
 pub record HasTold (first part : Part) (replies : List Reply) : Type 0 where
   pub client : part.client ≡ first.client
   pub schema : part.schema.now ≡ first.schema.now
   pub text : string_bytes part.text ≡ string_bytes first.text ++ texts (reply_lines (length first.schema.now) first.client) replies
   pub accepted : part.refused ≡ false → AcceptsLeft part → AcceptsLeft first
 
--- the part has gone through all lines, and none of them was refused that names the client
+-- the part has read all its lines, and none of them was refused
 pub record IsWhole (part : Part) : Type 0 where
-  pub through : length part.left.now ≡ 0
+  pub through : part.read ≡ vec_len part.lines
   pub accepted : part.refused ≡ false
 
--- a client's part before its first line
-pub record IsPart (names : List (List ℕ)) (text : List ℕ) (client : ℕ) (part : Part) : Type 0 where
+-- a client's part before its first line is read, where it has the lines that name the client but for those that are left
+pub record IsPart (names raws left : List (List ℕ)) (client : ℕ) (part : Part) : Type 0 where
   pub schema : part.schema.now ≡ names
   pub number : part.client ≡ client
-  pub left : part.left.now ≡ text
+  pub lines : lines_in part ++ lines_of client left ≡ lines_of client raws
+  pub unread : part.read ≡ 0
   pub told : string_bytes part.text ≡ []
 
--- the parts of clients, of which the first has this number
-abbrev pub AreParts : List (List ℕ) → List ℕ → ℕ → List Part → Type 0
-AreParts names text client [] = Unit {0}
-AreParts names text client (part ∷ more) = IsPart names text client part × AreParts names text (client + 1) more
+-- the parts of the clients, from client 1 on
+abbrev pub ArePartsUpTo : List (List ℕ) → List (List ℕ) → List (List ℕ) → List Part → Type 0
+ArePartsUpTo names raws left parts = (place : ℕ) (part : Part) → slice_get parts place ≡ Some part → IsPart names raws left (suc place) part
+
+-- the same with all their lines
+abbrev pub AreParts : List (List ℕ) → List (List ℕ) → List Part → Type 0
+AreParts names raws parts = ArePartsUpTo names raws [] parts
+
+-- a line names none of this many clients
+abbrev pub NamesNone : ℕ → List ℕ → Type 0
+NamesNone clients line = (place : ℕ) → place < clients → client_named line ≡ Some (suc place) → ⊥
 
 -- a line of each client whose part is whole is not refused
 abbrev pub WholeAccept : List (List ℕ) → List Part → List ℕ → Type 0

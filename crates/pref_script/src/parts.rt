@@ -1,6 +1,8 @@
 //! What each client of a script does on a thread of its own: its lines, one after the other.
-ghost use Rattle.std.specs.Prelude.{◌≡◌, ◌++◌, true, length, string_bytes, IfOk, OnOk};
-ghost use Rattle.pref_script.specs.ClientParts.{AreParts, IsFound, IsWhole};
+ghost use Rattle.std.specs.Prelude.{◌≡◌, ◌<◌, ◌++◌, ◌∷◌, [], true, length, string_bytes, suc, IfOk, MatchOption, OnOk, Some};
+ghost use Rattle.pref_script.specs.ClientParts.{ArePartsUpTo, AreParts, IsFound, IsWhole, NamesNone};
+ghost use Rattle.pref_script.specs.Forms.{client_named};
+ghost use Rattle.pref_script.specs.Script.{raw_lines};
 ghost use Rattle.pref_script.specs.Text.{texts};
 
 use crate::command::{Stop, read_event};
@@ -12,13 +14,14 @@ use pref_share::Task;
 use pref_table::Schema;
 use std::alloc::{AllocError, Global};
 
-/// A client's part of a script: the command lines that were not gone through, the lines of the replies so far, and whether a line
-/// that names the client was refused.
+/// A client's part of a script: the command lines that name the client, how many of them were read, the lines of the replies so far,
+/// and whether a line that was read is refused.
 #[derive(Drop)]
 pub struct Part<'script> {
     schema: &'script Schema,
     client: u8,
-    left: &'script [u8],
+    lines: Vec<&'script [u8]>,
+    read: usize,
     text: String,
     refused: bool,
 }
@@ -28,7 +31,7 @@ impl Part<'_> {
     pub fn is_whole(&self) -> bool
         ensures { result ≡ true → IsWhole self.now }
     {
-        self.left.is_empty() && !self.refused
+        self.read == self.lines.len() && !self.refused
     }
 }
 
@@ -40,9 +43,9 @@ impl Task for Part<'_> {
     ghost took = { HasTold };
 
     fn next(&mut self, alloc: Global) -> Result<Option<Act>, AllocError> {
-        while !self.left.is_empty() {
-            let (raw, tail) = cut_line(self.left);
-            self.left = tail;
+        while self.read < self.lines.len() {
+            let raw = self.lines[self.read];
+            self.read += 1;
             match read_line(alloc, self.schema, self.client, line_text(raw))? {
                 Found::Nothing => {}
                 Found::Refused => self.refused = true,
@@ -60,9 +63,9 @@ impl Task for Part<'_> {
 /// What a line of a script is to one client.
 #[derive(Drop)]
 pub enum Found {
-    /// Blank, or it doesn't name the client.
+    /// Blank, or another client's event.
     Nothing,
-    /// It names the client, and is refused.
+    /// It is refused.
     Refused,
     /// The client's act.
     Act(Act),
@@ -72,20 +75,60 @@ pub enum Found {
 fn read_line(alloc: Global, schema: &Schema, client: u8, line: &[u8]) -> Result<Found, AllocError>
     ensures { IfOk result (IsFound schema.now client line.now) }
 {
-    let Some(number) = client_named(line) else {
-        return Ok(Found::Nothing);
-    };
-    if number != client || is_blank_line(line) {
+    if is_blank_line(line) {
         return Ok(Found::Nothing);
     }
     match read_event(alloc, schema, line) {
+        Ok(event) if event.client != client => Ok(Found::Nothing),
         Ok(event) => Ok(Found::Act(event.act)),
         Err(Stop::Refused(_)) => Ok(Found::Refused),
         Err(Stop::OutOfMemory) => Err(AllocError),
     }
 }
 
-/// The part of each of this many clients, before its first line.
+/// The part of each of this many clients, before it has lines.
+fn empty_parts(alloc: Global, schema: &Schema, clients: u8) -> Result<Vec<Part<'_>>, AllocError>
+    ensures count { IfOk result (λ parts. length parts.items ≡ clients) }
+    ensures parts { IfOk result (λ parts. (raws : _) → ArePartsUpTo schema.now raws raws parts.items) }
+{
+    let mut parts = Vec::new(alloc);
+    for client in 0..clients {
+        parts.push(Part {
+            schema,
+            client: client + 1,
+            lines: Vec::new(alloc),
+            read: 0,
+            text: String::new(alloc),
+            refused: false,
+        })?;
+    }
+    Ok(parts)
+}
+
+/// The place of the client that a line names among this many clients, where it is one of them.
+pub fn place_named(clients: usize, line: &[u8]) -> Option<usize>
+    ensures { MatchOption result (NamesNone clients line.now) (λ place. (place < clients) × (client_named line.now ≡ Some (suc place))) }
+{
+    let number = usize::from(client_named(line)?);
+    if 0 < number && number <= clients {
+        Some(number - 1)
+    } else {
+        None
+    }
+}
+
+/// Gives a line to the part of the client that it names, where it is one of these.
+fn give_line<'script>(parts: &mut Vec<Part<'script>>, raw: &'script [u8]) -> Result<(), AllocError>
+    ensures count { OnOk result (length parts.new.items ≡ length parts.old.items) }
+    ensures parts { OnOk result ((names : _) (raws : _) (left : _) → ArePartsUpTo names raws (raw.now ∷ left) parts.old.items → ArePartsUpTo names raws left parts.new.items) }
+{
+    if let Some(place) = place_named(parts.len(), line_text(raw)) {
+        parts[place].lines.push(raw)?;
+    }
+    Ok(())
+}
+
+/// The part of each of this many clients, before its first line is read.
 pub fn client_parts<'script>(
     alloc: Global,
     schema: &'script Schema,
@@ -93,17 +136,14 @@ pub fn client_parts<'script>(
     lines: &'script [u8],
 ) -> Result<Vec<Part<'script>>, AllocError>
     ensures count { IfOk result (λ parts. length parts.items ≡ clients) }
-    ensures parts { IfOk result (λ parts. AreParts schema.now lines.now 1 parts.items) }
+    ensures parts { IfOk result (λ parts. AreParts schema.now (raw_lines lines.now) parts.items) }
 {
-    let mut parts = Vec::new(alloc);
-    for client in 0..clients {
-        parts.push(Part {
-            schema,
-            client: client + 1,
-            left: lines,
-            text: String::new(alloc),
-            refused: false,
-        })?;
+    let mut parts = empty_parts(alloc, schema, clients)?;
+    let mut left = lines;
+    while !left.is_empty() {
+        let (raw, tail) = cut_line(left);
+        give_line(&mut parts, raw)?;
+        left = tail;
     }
     Ok(parts)
 }

@@ -10,8 +10,7 @@ ghost use Rattle.pref_script.specs.Threads.{is_client, unowned_lines};
 
 use crate::command::{Stop, read_event};
 use crate::fault::RunFault;
-use crate::forms::client_named;
-use crate::parts::Part;
+use crate::parts::{Part, place_named};
 use crate::script::{ScriptText, cut_line, is_blank_line, line_text};
 use crate::text::{push_refused, push_reply};
 use pref_core::{CoreFault, Reply};
@@ -68,11 +67,10 @@ fn push_unowned(
 fn is_read(parts: &[Part<'_>], line: &[u8]) -> bool
     ensures { result ≡ true → IsRead parts.now line.now }
 {
-    let Some(client) = client_named(line) else {
-        return false;
-    };
-    let number = usize::from(client);
-    0 < number && number <= parts.len() && parts[number - 1].is_whole()
+    match place_named(parts.len(), line) {
+        Some(place) => parts[place].is_whole(),
+        None => false,
+    }
 }
 
 /// Appends what is printed for a line that belongs to no client, where these are the clients' parts. A line that names a client whose

@@ -1,5 +1,11 @@
-use Rattle.pref_script.proofs.Common.{◌≡◌, length, AreParts}
+use Rattle.pref_script.proofs.Common.{◌≡◌, length, ArePartsUpTo, raw_lines}
 use Rattle.pref_script.proofs.parts.client_parts.Given as goal
 
-abbrev pub invariant-loop-client : goal.invariant-loop-client
-invariant-loop-client l = (length l.parts.items ≡ l.client) × AreParts l.schema l.lines 1 l.parts.items
+abbrev pub invariant-loop-left : goal.invariant-loop-left
+invariant-loop-left l = record {
+  count : length l.parts.items ≡ l.clients;
+  parts : ArePartsUpTo l.schema (raw_lines l.lines) (raw_lines l.left) l.parts.items;
+}
+
+abbrev pub decreases-loop-left : goal.decreases-loop-left
+decreases-loop-left l = length l.left

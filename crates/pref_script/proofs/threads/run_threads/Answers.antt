@@ -10,7 +10,7 @@ returns-in_err-schema g c =
 
 pub joint_parts-requires-clause-few : goal.joint_parts-requires-clause-few
 joint_parts-requires-clause-few g c κs within =
-    let short = commands-short c.args.bytes.now c.in_ok-schema.field-0 c.in_ok-schema.ensures.read c.in_ok-schema.ensures.few (omega arith) in parts-few _ _ 1 _ short c.in_ok-parts.ensures.parts
+    let short = commands-short c.args.bytes.now c.in_ok-schema.field-0 c.in_ok-schema.ensures.read c.in_ok-schema.ensures.few (omega arith) in parts-few _ _ _ short c.in_ok-parts.ensures.parts
 
 pub unowned_text-requires-clause-whole : goal.unowned_text-requires-clause-whole
 unowned_text-requires-clause-whole g c =

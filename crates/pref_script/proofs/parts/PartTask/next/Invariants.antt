@@ -1,9 +1,9 @@
-use Rattle.pref_script.proofs.Common.{[], length}
+use Rattle.pref_script.proofs.Common.{◌-◌, [], vec_len}
 use Rattle.pref_script.proofs.PartFacts.{HasGone}
 use Rattle.pref_script.proofs.parts.PartTask.next.Given as goal
 
-abbrev pub invariant-loop-alloc : goal.invariant-loop-alloc
-invariant-loop-alloc l = HasGone l.initial.self l.self []
+abbrev pub invariant-loop-self : goal.invariant-loop-self
+invariant-loop-self l = HasGone l.initial.self l.self []
 
-abbrev pub decreases-loop-alloc : goal.decreases-loop-alloc
-decreases-loop-alloc l = length l.self.left.now
+abbrev pub decreases-loop-self : goal.decreases-loop-self
+decreases-loop-self l = vec_len l.self.lines - l.self.read
