@@ -14,7 +14,7 @@ import os, re, shutil, subprocess, sys, tempfile
 HELD = {
     "pref_share/src/board.rt": [("pub(crate) master: Mutex<Master<J>>", "pub master: Mutex<Master<J>>")],
     "pref_share/src/lib.rt": [("\nmod master;", "\npub mod master;")],
-    "pref_share/src/master.rt": [("pub(crate) struct Master<J: Naming>", "pub struct Master<J: Naming>")],
+    "pref_share/src/publisher.rt": [("pub(crate) struct Master<J: Naming>", "pub struct Master<J: Naming>")],
     "share_tests/src/reads.rt": [
         ("Ok(read(alloc, client))", "let taken = board.master.lock(rt); let told = read(alloc, client); drop(taken); Ok(told)"),
     ],

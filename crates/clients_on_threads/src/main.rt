@@ -6,7 +6,7 @@ ghost use Rattle.std.specs.Prelude.{◌≡◌};
 
 use anyhow::{Context, Result, anyhow};
 use pref_core::Setup;
-use pref_share::{Board, Client, Name, Naming, ShareFault, Word, open_board};
+use pref_share::{Board, BoardBrand, BoardName, Client, ShareFault, Word, open_board};
 use pref_sky::Ranked;
 use pref_table::{Row, Schema, read_table};
 use pref_term::read_ask;
@@ -20,7 +20,7 @@ const HOTELS: &[u8] = b"price,dist\n50,8\n60,5\n80,2\n70,6\n90,2\n100,1\n110,9\n
 const QUESTION: &[u8] = b"best low(price) * low(dist)";
 
 /// Inserts a hotel, and gives the word of what the desk has seen then.
-fn insert<J: Naming, R: Wait + AllocGlobal>(
+fn insert<J: BoardBrand, R: Wait + AllocGlobal>(
     rt: &R,
     board: &Board<J>,
     desk: &mut Client<J>,
@@ -31,7 +31,7 @@ fn insert<J: Naming, R: Wait + AllocGlobal>(
 }
 
 /// Begins the guest's query, and gives the number of blocks to scan.
-fn begin<J: Naming, R: Wait + AllocGlobal>(
+fn begin<J: BoardBrand, R: Wait + AllocGlobal>(
     rt: &R,
     board: &Board<J>,
     guest: &mut Client<J>,
@@ -45,7 +45,7 @@ fn begin<J: Naming, R: Wait + AllocGlobal>(
 }
 
 /// Scans the blocks of the guest's query, and gives its answer.
-fn answer<J: Naming, R: Wait + AllocGlobal>(
+fn answer<J: BoardBrand, R: Wait + AllocGlobal>(
     rt: &R,
     board: &Board<J>,
     guest: &mut Client<J>,
@@ -68,7 +68,7 @@ fn print_answer(rt: &impl Print, title: &str, answer: &[Ranked]) -> io::Result<(
 
 /// Inserts a hotel on one thread while the guest's query is scanned on another, and gives the query's answer. The guest has heard the
 /// desk's word then.
-fn meet<J: Naming + Send + Sync, R: Threads + Wait + AllocGlobal + Sync>(
+fn meet<J: BoardBrand + Send + Sync, R: Threads + Wait + AllocGlobal + Sync>(
     rt: &R,
     board: &Board<J>,
     desk: &mut Client<J>,
@@ -87,7 +87,7 @@ fn meet<J: Naming + Send + Sync, R: Threads + Wait + AllocGlobal + Sync>(
 
 /// What the clients do. The first query began before the insert, and the guest has heard of it when the second begins: so both answers are
 /// the same in each run.
-fn run_clients<J: Naming + Send + Sync, R: Threads + Wait + Print + AllocGlobal + Sync>(
+fn run_clients<J: BoardBrand + Send + Sync, R: Threads + Wait + Print + AllocGlobal + Sync>(
     rt: &R,
     board: &Board<J>,
     desk: &mut Client<J>,
@@ -105,9 +105,9 @@ fn run_clients<J: Naming + Send + Sync, R: Threads + Wait + Print + AllocGlobal 
 }
 
 /// Runs the clients of a new board. A board is closed and never dropped, so no `?` may come between.
-fn run_board<J: Naming + Send + Sync, R: Threads + Wait + Print + AllocGlobal + Sync>(
+fn run_board<J: BoardBrand + Send + Sync, R: Threads + Wait + Print + AllocGlobal + Sync>(
     rt: &R,
-    name: Name,
+    name: BoardName,
     setup: Setup,
     schema: &Schema,
     hotels: &[Row],
@@ -127,5 +127,5 @@ fn run_board<J: Naming + Send + Sync, R: Threads + Wait + Print + AllocGlobal + 
 fn main(rt: HostRuntime) -> Result<()> {
     let (schema, hotels) = read_table(rt.alloc(), HOTELS)?;
     let setup = Setup::new(2, 1024, 256, 64).context("a number outside the limits")?;
-    run_board::<Brand, _>(&rt, Name::new(), setup, &schema, &hotels)
+    run_board::<Brand, _>(&rt, BoardName::new(), setup, &schema, &hotels)
 }

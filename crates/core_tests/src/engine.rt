@@ -180,11 +180,11 @@ fn run_at_eight_stamps(alloc: Global) -> Result<Vec<(u8, Does)>, Fail> {
 
 /// The replies to that run.
 fn told_at_eight_stamps(alloc: Global) -> Result<String, AllocError> {
-    let mut told = "begun 1 / updated 1 / ".repeat(alloc, 8)?;
+    let mut returned = "begun 1 / updated 1 / ".repeat(alloc, 8)?;
     let finished =
         "left 0 / answer level 1 id 1: 0 / left 0 / answer level 1 id 1: 1 / left 0 / answer level 1 id 1: 2 / left 0 / answer level 1 id 1: 3 / left 0 / answer level 1 id 1: 4 / left 0 / answer level 1 id 1: 5 / left 0 / answer level 1 id 1: 6 / left 0 / answer level 1 id 1: 7 / room 8 / ";
-    told.push_str(finished)?;
-    Ok(told)
+    returned.push_str(finished)?;
+    Ok(returned)
 }
 
 /// Client K begins after K - 1 updates of the one row, and is answered with the row as it was then, while the slots of
@@ -192,9 +192,9 @@ fn told_at_eight_stamps(alloc: Global) -> Result<String, AllocError> {
 #[test]
 fn eight_clients_ask_at_eight_stamps(rt: HostRuntime) -> Result<(), Fail> {
     let alloc = rt.alloc();
-    let told = told_at_eight_stamps(alloc)?;
+    let returned = told_at_eight_stamps(alloc)?;
     let run = run_at_eight_stamps(alloc)?;
-    check_told(&rt, alloc, 9, 9, &[0], run.as_slice(), told.as_str())
+    check_told(&rt, alloc, 9, 9, &[0], run.as_slice(), returned.as_str())
 }
 
 /// This many events in which client 1 asks for room.
@@ -238,10 +238,10 @@ fn a_part_is_the_whole_where_memory_is_there(rt: HostRuntime) -> Result<(), Fail
 
 /// These three rows are refused for want of room.
 fn check_too_many(rt: &impl Abort, alloc: Global, setup: Setup, opening: &[Row]) {
-    let told = replay(alloc, setup, opening, Vec::new(alloc)).err();
-    assert_same(rt, "whole", &told, &Some(CoreFault::Full { needed: 3 }));
-    let told = replay_part(alloc, setup, opening, Vec::new(alloc)).err();
-    assert_same(rt, "part", &told, &Some(CoreFault::Full { needed: 3 }));
+    let returned = replay(alloc, setup, opening, Vec::new(alloc)).err();
+    assert_same(rt, "whole", &returned, &Some(CoreFault::Full { needed: 3 }));
+    let returned = replay_part(alloc, setup, opening, Vec::new(alloc)).err();
+    assert_same(rt, "part", &returned, &Some(CoreFault::Full { needed: 3 }));
 }
 
 #[test]

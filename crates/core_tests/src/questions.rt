@@ -175,8 +175,8 @@ const NESTINGS: [(&str, usize, Option<TermFault>); 2] = [
 #[test]
 fn the_65th_nesting_is_too_deep(rt: HostRuntime) -> Result<(), Fail> {
     for (case, times, wanted) in &NESTINGS {
-        let told = fault_of_negated(rt.alloc(), *times)?;
-        assert_same(&rt, *case, &told, wanted);
+        let returned = fault_of_negated(rt.alloc(), *times)?;
+        assert_same(&rt, *case, &returned, wanted);
     }
     let relation = standing_of_negated(rt.alloc(), 64)?;
     assert_same(&rt, "rows", &relation, &Relation::Better);
@@ -191,11 +191,11 @@ fn fault_of_plus_signs(alloc: Global, count: usize) -> Result<Option<TermFault>,
 
 #[test]
 fn a_longer_text_is_too_long_whatever_it_holds(rt: HostRuntime) -> Result<(), Fail> {
-    let told = fault_of_plus_signs(rt.alloc(), 4_096)?;
+    let returned = fault_of_plus_signs(rt.alloc(), 4_096)?;
     let wanted = Some(TermFault::Unexpected { at: 0 });
-    assert_same(&rt, "4096 bytes", &told, &wanted);
-    let told = fault_of_plus_signs(rt.alloc(), 4_097)?;
-    assert_same(&rt, "4097 bytes", &told, &Some(TermFault::TooLong));
+    assert_same(&rt, "4096 bytes", &returned, &wanted);
+    let returned = fault_of_plus_signs(rt.alloc(), 4_097)?;
+    assert_same(&rt, "4097 bytes", &returned, &Some(TermFault::TooLong));
     Ok(())
 }
 

@@ -251,9 +251,9 @@ fn check_names(rt: &impl Abort, schema: &Schema, longest: &[u8]) {
 #[test]
 fn names_of_a_schema(rt: HostRuntime) -> Result<(), Fail> {
     let too_long = [b"abcdefghijklmnopqrstuvwxyz_.01234".as_slice()];
-    let told = Schema::new(rt.alloc(), too_long.as_slice()).err();
+    let returned = Schema::new(rt.alloc(), too_long.as_slice()).err();
     let wanted = Some(TableFault::BadName { col: 1 });
-    assert_same(&rt, "too long", &told, &wanted);
+    assert_same(&rt, "too long", &returned, &wanted);
     let longest = b"abcdefghijklmnopqrstuvwxyz_.0123";
     let names = [longest.as_slice(), b"y_1".as_slice()];
     let schema = Schema::new(rt.alloc(), names.as_slice())?;

@@ -22,28 +22,28 @@ pub use Rattle.std.specs.Vec.{vec_capacity, vec_len, with_items}
 pub use Rattle.pref_core.specs.Bounds.{IsBounded}
 pub use Rattle.pref_core.specs.Changes.{added_by, begins_any, begun_by, commit_of, ended_by, is_change_count, is_commit, names_again, twice, twice_from}
 pub use Rattle.pref_core.specs.Indexes.{IsIndexOf, IsPlaceOf, Points, PointsAll, adds, given, is_row, placed_rows, row_at, slot_of}
-pub use Rattle.pref_core.specs.Kept.{AreFresh, AreOldPlaces, FindsFreed, FitAtOnce, IsFreed, IsKept, IsTracked, KeepSlots, are_free, frees_at, is_open, replaced, row_in, with_slots, zones_of}
+pub use Rattle.pref_core.specs.ContentsInvariant.{AreFresh, AreOldPlaces, FindsFreed, FitAtOnce, IsFreed, IsKept, IsTracked, KeepSlots, are_free, frees_at, is_open, replaced, row_in, with_slots, uses_of}
 pub use Rattle.pref_core.specs.Laws.{BlocksAreTheSlots, DeletesNeedNoMore, EndsNeedNoMore, NeededFits, NeededFitsSlots, first_blocks}
-pub use Rattle.pref_core.specs.Lent.{change_of}
+pub use Rattle.pref_core.specs.LentCalls.{change_of}
 pub use Rattle.pref_core.specs.Limits.{AreAllowed, Limits, blocks}
-pub use Rattle.pref_core.specs.Links.{AreIds, AreLinked, AreLinks, IsBefore, IsNode, IsOnWay, LeadsTo, home_of, id_at, ids_of, is_above, opening_ids, opening_link, rank, shown}
+pub use Rattle.pref_core.specs.IdChains.{AreIds, AreLinked, AreLinks, IsBefore, IsNode, IsOnWay, LeadsTo, home_of, id_at, ids_of, is_above, opening_ids, opening_link, rank, shown}
 pub use Rattle.pref_core.specs.Operations.{AppliesIn, IsLegal, IsNext, IsPlan, Plans, PlansIn, applied, begin_after, callers_after, close, close_at, filled, grown, is_free, is_next, outcome_at}
 pub use Rattle.pref_core.specs.Operations.{placed, ran, refusal_at, same_number, same_outcome, slots_after, stepped, used}
-pub use Rattle.pref_core.specs.Parts.{AddedReply, AddsReply, AnswersAt, Changes, IsInOrder, NextIsNewAt, ScansAt, ScansOne, is_begin, outcome_of, replied, step_of, told_of}
-pub use Rattle.pref_core.specs.Places.{IsArranged, IsInverse, MayBecome, free_at, is_free_zone, is_kept_by, is_spare, kept_from, moved_order, moved_positions, number_at, number_of, numbered, turned}
-pub use Rattle.pref_core.specs.Places.{zone_at, zone_of}
+pub use Rattle.pref_core.specs.MachineParts.{AddedReply, AddsReply, AnswersAt, Changes, IsInOrder, NextIsNewAt, ScansAt, ScansOne, is_begin, outcome_of, reply_of, step_of, reply_for}
+pub use Rattle.pref_core.specs.SlotSets.{IsArranged, IsInverse, MayBecome, free_at, is_free_use, is_kept_by, is_spare, kept_from, moved_order, moved_positions, number_at, number_of, numbered, rotated}
+pub use Rattle.pref_core.specs.SlotSets.{use_at, use_of}
 pub use Rattle.pref_core.specs.Planned.{op_of, op_or_fault}
 pub use Rattle.pref_core.specs.Rows.{Row}
 pub use Rattle.pref_core.specs.Scans.{IsScanned, NextIsNew, Scan, Scans, begin, levels_for, next_block}
-pub use Rattle.pref_core.specs.Slots.{AreDifferent, Contents, EndsBy, IsWithin, Shows, ShowsBegin, StandsFor, StandsForClient, begins, block_of, born, caller_begun, caller_calls, is_needed}
+pub use Rattle.pref_core.specs.Slots.{AreDifferent, Contents, EndsBy, IsWithin, Shows, ShowsBegin, StandsFor, StandsForClient, begins, block_of, new_version, caller_begun, caller_calls, is_needed}
 pub use Rattle.pref_core.specs.Slots.{is_visible, line, opening_contents, opening_slots, seen, slot_key, stamps, visible}
 pub use Rattle.pref_core.specs.Stability.{IsStable, ends_query, is_end}
-pub use Rattle.pref_core.specs.State.{Client, Snapshot, State, added, after, begins_row, begun, begun_after, begun_of, calls_of, changes_of, committed, counted, ended, found_tables, granted}
+pub use Rattle.pref_core.specs.State.{Client, Snapshot, State, added, after, begins_row, begun, begun_after, begun_of, calls_of, changes_of, committed, counted, ended, found_tables, success_outcome}
 pub use Rattle.pref_core.specs.State.{idle_clients, is_change, is_formed, missing, needed, needed_after, opening, opening_table, outcome, refusal, refusal_by_query, refusal_of, seat, succeeds}
 pub use Rattle.pref_core.specs.State.{with_seat}
 pub use Rattle.pref_core.specs.Step.{Member, Open, Step, System, change, changed, client_of, counted_with, finish, one_less, opened, refused, replies, replies_from, scan, scanned_with, snapshot}
-pub use Rattle.pref_core.specs.Step.{state_of, step, told_of_commit}
-pub use Rattle.pref_core.specs.Systems.{Does, Follows, Replies, Running, StandsForMember, StandsForQuery, StandsForSystem, Steps, Tells, as_reply, is_refusal, may_want_memory, without_event}
+pub use Rattle.pref_core.specs.Step.{state_of, step, committed_of}
+pub use Rattle.pref_core.specs.Systems.{Does, Follows, Replies, Running, StandsForMember, StandsForQuery, StandsForSystem, Steps, Returns, as_reply, is_refusal, may_want_memory, without_event}
 pub use Rattle.pref_core.specs.Table.{IsOrdered, Key, Line, among, different, entries, has, holds_key, keys, line_of, put, same_key, with_rows, without}
 pub use Rattle.pref_core.specs.declared.call.Call.{Call}
 pub use Rattle.pref_core.specs.declared.call.Call.TheVariants.{Abandon, Begin, Commit, Commit as CallCommit, Delete, Delete as CallDelete, Finish, Insert, Insert as CallInsert, Update}
@@ -63,8 +63,8 @@ pub use Rattle.pref_core.specs.declared.fault.CoreFault.{CoreFault}
 pub use Rattle.pref_core.specs.declared.fault.CoreFault.TheVariants.{AllScanned, ChangeCount, NoQuery, NoSuchClient, NoSuchRow as MissingRow, NotDone, OutOfMemory, QueryOpen, Spent, Twice}
 pub use Rattle.pref_core.specs.declared.store.Store.TheInside.{Inside}
 pub use Rattle.pref_core.specs.declared.store.caller.Caller.{Caller}
-pub use Rattle.pref_core.specs.declared.store.places.Zone.{Zone}
-pub use Rattle.pref_core.specs.declared.store.places.Zone.TheVariants.{Ended, Free, Live}
+pub use Rattle.pref_core.specs.declared.store.slot_sets.SlotUse.{SlotUse}
+pub use Rattle.pref_core.specs.declared.store.slot_sets.SlotUse.TheVariants.{Ended, Free, Live}
 pub use Rattle.pref_core.specs.declared.store.version.Version.{Version}
 pub use Rattle.pref_sky.specs.Answers.{answer_of}
 pub use Rattle.pref_sky.specs.declared.entry.Entry.{Entry}

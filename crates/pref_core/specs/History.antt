@@ -18,7 +18,7 @@ pub record Numbered : Type 0 where
 pub record IsLegalCall (capacity : ℕ) (state : State) (numbered : Numbered) : Type 0 where
   pub accepted : refusal state numbered.client numbered.call ≡ None
   pub next : same_number (calls_of state numbered.client) numbered.number ≡ true
-  pub told : numbered.outcome ≡ outcome capacity state numbered.call
+  pub returned : numbered.outcome ≡ outcome capacity state numbered.call
   pub formed : is_formed numbered.call ≡ true
 
 -- each call is legal in the state that those before it leave

@@ -2,7 +2,7 @@ pub mod Rows
 pub mod Limits
 pub mod Table
 pub mod Changes
-pub mod Filled
+pub mod PaddedArrays
 pub mod State
 pub mod Step
 pub mod History
@@ -15,10 +15,10 @@ pub mod Queries
 pub mod Systems
 pub mod Laws
 pub mod Bounds
-pub mod Parts
-pub mod Places
-pub mod Kept
-pub mod Links
+pub mod MachineParts
+pub mod SlotSets
+pub mod ContentsInvariant
+pub mod IdChains
 pub mod Planned
-pub mod Lent
+pub mod LentCalls
 pub mod Boxed

@@ -11,8 +11,8 @@ use Rattle.pref_core.specs.declared.fault.CoreFault.{CoreFault}
 use Rattle.pref_core.specs.declared.call.Op.{Op}
 use Rattle.pref_sky.specs.declared.entry.Entry.{Entry}
 use Rattle.pref_core.specs.Table.{among}
-use Rattle.pref_core.specs.State.{State, seat, with_seat, refusal_of, refusal, calls_of, ended, begun, begins_row, added, is_change, missing, granted, outcome, succeeds, after, is_formed}
-use Rattle.pref_core.specs.Slots.{Contents, StandsFor, visible, is_needed, stamps, born, caller_calls, caller_begun}
+use Rattle.pref_core.specs.State.{State, seat, with_seat, refusal_of, refusal, calls_of, ended, begun, begins_row, added, is_change, missing, success_outcome, outcome, succeeds, after, is_formed}
+use Rattle.pref_core.specs.Slots.{Contents, StandsFor, visible, is_needed, stamps, new_version, caller_calls, caller_begun}
 
 -- how many slots can't be used again
 abbrev pub used : Contents → ℕ
@@ -32,7 +32,7 @@ close ids stamp (Some version) = Some (record { id = version.id; row = version.r
 -- the store after a change, if there were always room: the new versions are put before the slots
 abbrev pub grown : Call → Contents → Contents
 grown call contents = record {
-  slots = map (born (suc contents.stamp)) (begun contents.next_id call) ++ map (close (ended call) (suc contents.stamp)) contents.slots;
+  slots = map (new_version (suc contents.stamp)) (begun contents.next_id call) ++ map (close (ended call) (suc contents.stamp)) contents.slots;
   stamp = suc contents.stamp;
   next_id = contents.next_id + added call;
   callers = contents.callers;
@@ -46,7 +46,7 @@ is_free stamps slots place = elim (slice_get slots place) [ None ↦ false | Som
 abbrev pub filled : List ℕ → ℕ → List ℕ → List Entry → List (Option Version) → Option (List (Option Version))
 filled stamps made [] [] slots = Some slots
 filled stamps made (place ∷ places) (fresh ∷ rest) slots =
-    if is_free stamps slots place then filled stamps made places rest (slice_set slots place (born made fresh)) else None
+    if is_free stamps slots place then filled stamps made places rest (slice_set slots place (new_version made fresh)) else None
 filled stamps made [] (fresh ∷ rest) slots = None
 filled stamps made (place ∷ places) [] slots = None
 
@@ -59,7 +59,7 @@ abbrev pub outcome_at : Contents → Call → Outcome
 outcome_at contents call = if is_change call
     then elim (missing (ended call) (visible contents.stamp contents.slots)) [
       | Some id ↦ NoSuchRow id
-      | None ↦ if begins_row call && nat_lt (length contents.slots) (used (grown call contents)) then Full (used (grown call contents)) else granted contents.next_id call
+      | None ↦ if begins_row call && nat_lt (length contents.slots) (used (grown call contents)) then Full (used (grown call contents)) else success_outcome contents.next_id call
     ]
     else Done
 
@@ -101,7 +101,7 @@ begin_after stamp call found = found
 abbrev pub callers_after : ℕ → List Caller → ℕ → Call → List Caller
 callers_after stamp callers client call = elim (seat client callers) [
   | None ↦ callers
-  | Some found ↦ with_seat client (record { calls = suc found.calls; begun = begin_after stamp call found.begun }) callers
+  | Some found ↦ with_seat client (record { calls = suc found.calls; at_begin = begin_after stamp call found.at_begin }) callers
 ]
 
 -- the store after a legal operation that leaves these slots

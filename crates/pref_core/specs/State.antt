@@ -24,7 +24,7 @@ pub record Snapshot : Type 0 where
 -- a client: how many numbered calls it has made, and what its open query found
 pub record Client : Type 0 where
   pub calls : ℕ
-  pub begun : Option Snapshot
+  pub at_begin : Option Snapshot
 
 -- the table, the id of the next row, how many commits there were, and the clients in order of number
 pub record State : Type 0 where
@@ -41,7 +41,7 @@ opening_table before (row ∷ rows) = record { id = suc before; made = suc befor
 -- clients without a call
 abbrev pub idle_clients : ℕ → List Client
 idle_clients zero = []
-idle_clients (suc n) = record { calls = 0; begun = None } ∷ idle_clients n
+idle_clients (suc n) = record { calls = 0; at_begin = None } ∷ idle_clients n
 
 -- the state of a table that begins with these rows
 abbrev pub opening : ℕ → List Row → State
@@ -80,7 +80,7 @@ calls_of state client = elim (seat client state.clients) [ None ↦ None | Some 
 
 -- what its open query found
 abbrev pub begun_of : State → ℕ → Option Snapshot
-begun_of state client = elim (seat client state.clients) [ None ↦ None | Some found ↦ found.begun ]
+begun_of state client = elim (seat client state.clients) [ None ↦ None | Some found ↦ found.at_begin ]
 
 -- why a call gets no number, if so
 abbrev pub refusal : State → ℕ → Call → Option CoreFault
@@ -131,7 +131,7 @@ committed call state = record {
 -- the tables that open queries found
 abbrev pub found_tables : List Client → List Line
 found_tables [] = []
-found_tables (client ∷ clients) = elim client.begun [ None ↦ found_tables clients | Some snapshot ↦ snapshot.table ++ found_tables clients ]
+found_tables (client ∷ clients) = elim client.at_begin [ None ↦ found_tables clients | Some snapshot ↦ snapshot.table ++ found_tables clients ]
 
 -- the versions that are in the table or that an open query needs
 abbrev pub needed : State → List Key
@@ -142,8 +142,8 @@ abbrev pub missing : List ℕ → List Line → Option ℕ
 missing ids table = find (λ id. not (has table id)) ids
 
 -- the outcome of a change that succeeds: the id of the first row that it adds, if it adds one
-abbrev pub granted : ℕ → Call → Outcome
-granted next_id call = if nat_lt 0 (added call) then Added next_id else Done
+abbrev pub success_outcome : ℕ → Call → Outcome
+success_outcome next_id call = if nat_lt 0 (added call) then Added next_id else Done
 
 -- whether the call begins a row, so that there must be room
 abbrev pub begins_row : Call → Bool
@@ -159,7 +159,7 @@ abbrev pub outcome : (capacity : ℕ) → State → Call → Outcome
 outcome capacity state call = if is_change call
     then elim (missing (ended call) state.table) [
       | Some id ↦ NoSuchRow id
-      | None ↦ if begins_row call && nat_lt capacity (needed_after state call) then Full (needed_after state call) else granted state.next_id call
+      | None ↦ if begins_row call && nat_lt capacity (needed_after state call) then Full (needed_after state call) else success_outcome state.next_id call
     ]
     else Done
 
@@ -188,7 +188,7 @@ begun_after state call found = found
 abbrev pub counted : State → ℕ → Call → List Client
 counted state client call = elim (seat client state.clients) [
   | None ↦ state.clients
-  | Some found ↦ with_seat client (record { calls = suc found.calls; begun = begun_after state call found.begun }) state.clients
+  | Some found ↦ with_seat client (record { calls = suc found.calls; at_begin = begun_after state call found.at_begin }) state.clients
 ]
 
 -- the state after a numbered call, one that isn't refused 1 to 4

@@ -47,7 +47,7 @@ snapshot query = record { table = query.table; commits = query.commits }
 
 -- a client with its ask and blocks left out
 abbrev pub client_of : Member → Client
-client_of member = record { calls = member.calls; begun = option_map snapshot member.query }
+client_of member = record { calls = member.calls; at_begin = option_map snapshot member.query }
 
 -- and the state that way
 abbrev pub state_of : System → State
@@ -90,8 +90,8 @@ abbrev pub change : Limits → System → ℕ → Member → Call → Reply → 
 change limits system client member call done = changed (outcome limits.capacity (state_of system) call) done call (counted_with member.query client member system)
 
 -- what a commit that succeeds returns: how many changes it made, and the id of the first row that it added, 0 where it added none
-abbrev pub told_of_commit : ℕ → List Change → Committed
-told_of_commit next_id changes = record { changes = length changes; first = if nat_lt 0 (added_by changes) then next_id else 0 }
+abbrev pub committed_of : ℕ → List Change → Committed
+committed_of next_id changes = record { changes = length changes; first = if nat_lt 0 (added_by changes) then next_id else 0 }
 
 -- a query ends with its answer once no block is left
 abbrev pub finish : ℕ → Member → System → Open → Step
@@ -114,7 +114,7 @@ abbrev pub acted : Limits → System → ℕ → Member → Act → Option Open 
 acted limits system client member (Insert row) query = change limits system client member (CallInsert row) (Inserted system.next_id)
 acted limits system client member (Update id row) query = change limits system client member (CallUpdate id row) (Updated id)
 acted limits system client member (Delete id) query = change limits system client member (CallDelete id) (Deleted id)
-acted limits system client member (Commit changes) query = change limits system client member (CallCommit changes) (CommittedIs (told_of_commit system.next_id changes))
+acted limits system client member (Commit changes) query = change limits system client member (CallCommit changes) (CommittedIs (committed_of system.next_id changes))
 acted limits system client member (Begin ask) None = record { reply = Begun (blocks limits); next = counted_with (Some (query_of ask limits system)) client member system }
 acted limits system client member (Begin ask) (Some query) = refused QueryOpen system
 acted limits system client member Scan None = refused NoQuery system

@@ -65,9 +65,9 @@ is_refusal (Refused fault) = true
 is_refusal reply = false
 
 -- What is returned is the system's reply, and what runs represents the next system; or it is out of memory where that reply is no refusal, and nothing has changed.
-abbrev pub Tells : Running → Step → Act → Result Reply CoreFault → Running → Type 0
-Tells before right act result after = MatchResult result
-    (λ told. (told ≡ right.reply) × (is_refusal told ≡ false) × StandsForSystem after right.next)
+abbrev pub Returns : Running → Step → Act → Result Reply CoreFault → Running → Type 0
+Returns before right act result after = MatchResult result
+    (λ returned. (returned ≡ right.reply) × (is_refusal returned ≡ false) × StandsForSystem after right.next)
     (λ fault. ((Refused fault ≡ right.reply) × StandsForSystem after right.next)
     ⊎ ((fault ≡ OutOfMemory) × (may_want_memory act ≡ true) × (is_refusal right.reply ≡ false) × (after ≡ before)))
 
@@ -79,17 +79,17 @@ as_reply kind (Err fault) = Err fault
 -- A client's act, done: what is returned is the system's reply, in each system that what runs represents.
 pub record Does (before : Running) (client : ℕ) (act : Act) (result : Result Reply CoreFault) (after : Running) : Type 0 where
   pub limits : after.limits ≡ before.limits
-  pub tells : (system : System) → StandsForSystem before system → Tells before (step before.limits system (record { client = client; act = act })) act result after
+  pub tells : (system : System) → StandsForSystem before system → Returns before (step before.limits system (record { client = client; act = act })) act result after
 
 -- the fault alone
 abbrev pub without_event : Result Reply StepFault → Result Reply CoreFault
-without_event result = elim result [ Ok told ↦ Ok told | Err fault ↦ Err fault.fault ]
+without_event result = elim result [ Ok returned ↦ Ok returned | Err fault ↦ Err fault.fault ]
 
 -- A step is the system's, in each system that what runs represents, and a refusal hands the event back.
 pub record Steps (before : Running) (event : Event) (result : Result Reply StepFault) (after : Running) : Type 0 where
   pub limits : after.limits ≡ before.limits
-  pub tells : (system : System) → StandsForSystem before system → Tells before (step before.limits system event) event.act (without_event result) after
-  pub handed_back : MatchResult result (λ told. Unit {0}) (λ fault. fault.event ≡ event)
+  pub tells : (system : System) → StandsForSystem before system → Returns before (step before.limits system event) event.act (without_event result) after
+  pub handed_back : MatchResult result (λ returned. Unit {0}) (λ fault. fault.event ≡ event)
 
 -- A reply is the system's, in each system that what runs represents, refusals too; or it is out of memory where that reply is no refusal, and nothing has changed.
 pub record Replies (before : Running) (event : Event) (result : Result Reply AllocError) (after : Running) : Type 0 where

@@ -37,7 +37,7 @@ pub enum Call {
 
 impl Call {
     /// This call with its rows lent: none is copied.
-    pub fn lent(&self) -> LentCall<'_>
+    pub fn lend(&self) -> LentCall<'_>
         ensures { result ≡ self.now }
     {
         match self {
@@ -73,7 +73,7 @@ pub struct LentCall<'a> {
 
 impl<'a> Model for LentCall<'a> {
     ghost use Rattle.pref_core.specs.declared.call.Call.{Call};
-    ghost use Rattle.pref_core.specs.Lent.{call_of};
+    ghost use Rattle.pref_core.specs.LentCalls.{call_of};
 
     ghost Value = { Call };
 
@@ -81,7 +81,7 @@ impl<'a> Model for LentCall<'a> {
 }
 
 impl<'a> LentCall<'a> {
-    ghost use Rattle.pref_core.specs.Lent.{change_of};
+    ghost use Rattle.pref_core.specs.LentCalls.{change_of};
     ghost use Rattle.pref_core.specs.Operations.{begin_after};
     ghost use Rattle.pref_core.specs.Stability.{is_end};
     ghost use Rattle.pref_core.specs.State.{refusal_of, is_open, changes_of, begun, begins_row, added, is_change, is_formed};
@@ -209,7 +209,7 @@ impl<'a> LentCall<'a> {
             Lent::Insert(row) => LentChange::Add(row),
             Lent::Update(id, row) => LentChange::Set(id, row),
             Lent::Delete(id) => LentChange::Remove(id),
-            Lent::Commit(commit) => commit.as_slice()[at].lent(),
+            Lent::Commit(commit) => commit.as_slice()[at].lend(),
             Lent::Begin | Lent::Finish | Lent::Abandon => unreachable!(),
         }
     }
@@ -217,7 +217,7 @@ impl<'a> LentCall<'a> {
     /// The id and the row of an update.
     #[inline(always)]
     pub(crate) fn updated(&self) -> Option<(u64, &'a Row)>
-        ensures { IfSome result (λ told. self.now ≡ Call.Update told.0 told.1.now) }
+        ensures { IfSome result (λ returned. self.now ≡ Call.Update returned.0 returned.1.now) }
     {
         match self.kind {
             Lent::Update(id, row) => Some((id, row)),
@@ -353,7 +353,7 @@ pub struct SlotList {
 
 impl Model for SlotList {
     ghost use Rattle.std.specs.Prelude.{ℕ, List, take, length, ◌-◌, ◌++◌, replicate};
-    ghost use Rattle.pref_core.specs.Filled.{AreFilled};
+    ghost use Rattle.pref_core.specs.PaddedArrays.{AreFilled};
 
     ghost Value = { List ℕ };
 

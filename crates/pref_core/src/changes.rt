@@ -3,7 +3,7 @@
 ghost use Rattle.std.specs.Prelude.{◌≡◌, ◌<◌, ◌≤◌, ◌++◌, ◌-◌, [], ◌∷◌, ℕ, true, length, take, replicate, slice_index_or, IfSome, IfNone};
 ghost use Rattle.std.specs.Option.{option_to_list};
 ghost use Rattle.pref_core.specs.Table.{among};
-ghost use Rattle.pref_core.specs.Lent.{change_of};
+ghost use Rattle.pref_core.specs.LentCalls.{change_of};
 ghost use Rattle.pref_core.specs.Changes.{ended_by, begun_by, added_by, begins_any, names_again, twice, commit_of, is_commit};
 
 use crate::fault::CoreFault;
@@ -31,7 +31,7 @@ pub enum Change {
 impl Change {
     /// This change with its row lent.
     #[inline(always)]
-    pub(crate) fn lent(&self) -> LentChange<'_>
+    pub(crate) fn lend(&self) -> LentChange<'_>
         ensures { change_of result ≡ self.now }
     {
         match self {
@@ -72,7 +72,7 @@ impl<'a> LentChange<'a> {
     /// The id and the row that it begins, by the next id.
     #[inline(always)]
     pub(crate) fn begun(&self, next_id: u64) -> Option<(u64, &'a Row)>
-        ensures some { IfSome result (λ told. begun_by next_id (change_of self.now ∷ []) ≡ record { id = told.0; row = told.1.now } ∷ []) }
+        ensures some { IfSome result (λ returned. begun_by next_id (change_of self.now ∷ []) ≡ record { id = returned.0; row = returned.1.now } ∷ []) }
         ensures none { IfNone result (begun_by next_id (change_of self.now ∷ []) ≡ []) }
     {
         match *self {
@@ -106,7 +106,7 @@ impl Model for Commit {
     ghost use Rattle.std.specs.Prelude.{List, take, length, ◌-◌, ◌++◌, replicate};
     ghost use Rattle.pref_core.specs.declared.changes.Change.{Change};
     ghost use Rattle.pref_core.specs.declared.changes.Change.TheVariants.{Remove};
-    ghost use Rattle.pref_core.specs.Filled.{IsFilled};
+    ghost use Rattle.pref_core.specs.PaddedArrays.{IsFilled};
 
     ghost Value = { List Change };
 
@@ -138,7 +138,7 @@ impl Commit {
             return Err(CoreFault::Twice { place });
         }
         Ok(Commit {
-            changes: filled(changes),
+            changes: array_of(changes),
             count: changes.len(),
         })
     }
@@ -157,7 +157,7 @@ fn is_named(changes: &[Change], id: u64) -> bool
     ensures { result ≡ among (ended_by changes.now) id }
 {
     for change in changes {
-        if change.lent().ended() == Some(id) {
+        if change.lend().ended() == Some(id) {
             return true;
         }
     }
@@ -165,11 +165,11 @@ fn is_named(changes: &[Change], id: u64) -> bool
 }
 
 /// Whether the change at this place names an id that one before it names.
-fn is_again(changes: &[Change], at: usize) -> bool
+fn is_named_before(changes: &[Change], at: usize) -> bool
     requires { at < length changes.now }
     ensures { (d : Change) → result ≡ names_again (take at changes.now) (slice_index_or changes.now at d) }
 {
-    match changes[at].lent().ended() {
+    match changes[at].lend().ended() {
         Some(id) => is_named(&changes[..at], id),
         None => false,
     }
@@ -181,7 +181,7 @@ fn twice(changes: &[Change]) -> Option<u64>
     ensures { result ≡ twice changes.now }
 {
     for at in 0..changes.len() {
-        if is_again(changes, at) {
+        if is_named_before(changes, at) {
             return Some(at as u64 + 1);
         }
     }
@@ -208,13 +208,13 @@ pub(crate) fn added_by(changes: &[Change]) -> u64
 {
     let mut added = 0;
     for change in changes {
-        added += change.lent().added();
+        added += change.lend().added();
     }
     added
 }
 
 /// The changes with removes of no row behind them.
-fn filled(changes: &[Change]) -> [Change; MOST_CHANGES]
+fn array_of(changes: &[Change]) -> [Change; MOST_CHANGES]
     requires { length changes.now ≤ 8 }
     ensures { result ≡ changes.now ++ replicate (8 - length changes.now) (Change.Remove 0) }
 {

@@ -3,7 +3,7 @@
 ghost use Rattle.std.specs.Prelude.{◌≡◌, ◌+◌, ◌<◌, ◌≤◌, [], nat_lt, true, is_some, None, Some, IfOk, OnOk, OnErr};
 ghost use Rattle.indexmap.specs.IndexMap.{spare};
 ghost use Rattle.pref_core.specs.Indexes.{slot_of, Points, PointsAll, placed_rows, IsPlaceOf, IsIndexOf};
-ghost use Rattle.pref_core.specs.Kept.{IsKept};
+ghost use Rattle.pref_core.specs.ContentsInvariant.{IsKept};
 ghost use Rattle.pref_core.specs.Operations.{is_next};
 ghost use Rattle.pref_core.specs.Planned.{op_of};
 ghost use Rattle.pref_core.specs.Slots.{visible};

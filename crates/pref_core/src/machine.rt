@@ -5,11 +5,11 @@ mod seats;
 
 ghost use Rattle.std.specs.Prelude.{true, false, ◌≡◌, ◌<◌, length, Ok, Err, IfOk, IfErr, MatchResult, ◌⊎◌, ◌↔◌};
 ghost use Rattle.pref_core.specs.State.{is_change};
-ghost use Rattle.pref_core.specs.Step.{opened, told_of_commit};
+ghost use Rattle.pref_core.specs.Step.{opened, committed_of};
 ghost use Rattle.pref_core.specs.Operations.{IsPlan};
 ghost use Rattle.pref_core.specs.Planned.{op_of};
 ghost use Rattle.pref_core.specs.Systems.{Does, Replies, Running, StandsForSystem, Steps, as_reply, is_refusal, without_event};
-ghost use Rattle.pref_core.specs.Parts.{Changes, is_begin, replied, told_of};
+ghost use Rattle.pref_core.specs.MachineParts.{Changes, is_begin, reply_of, reply_for};
 ghost use Rattle.pref_core.specs.declared.call.Call.{Call};
 ghost use Rattle.pref_core.specs.declared.event.Reply.{Reply};
 
@@ -65,7 +65,7 @@ impl Drop for Machine {
 
 impl Model for Machine {
     ghost use Rattle.pref_core.specs.Systems.{Running};
-    ghost use Rattle.pref_core.specs.Parts.{IsInOrder};
+    ghost use Rattle.pref_core.specs.MachineParts.{IsInOrder};
     ghost use Rattle.pref_term.specs.PreferenceCode.{coded_question};
     ghost use Rattle.std.specs.Coded.{codes};
 
@@ -164,7 +164,7 @@ impl Machine {
     ) -> Result<Committed, CoreFault>
         ensures { Does self.old client (Act.Commit commit.now) (as_reply Reply.Committed result) self.new }
     {
-        let done = told_of_commit(self.store.next_id(), commit);
+        let done = committed_of(self.store.next_id(), commit);
         self.change(alloc, client, &LentCall::commit(commit))?;
         Ok(done)
     }
@@ -316,13 +316,13 @@ impl Machine {
     ///     reply => Ok(reply),
     /// }
     /// ```
-    #[tactic(auto, using(crate::proofs::Replies::does_replies, crate::proofs::Replies::steps_replies))]
+    #[tactic(auto, using(crate::proofs::RepliesLaws::does_replies, crate::proofs::RepliesLaws::steps_replies))]
     pub fn reply(&mut self, alloc: Global, event: Event) -> Result<Reply, AllocError>
         ensures { Replies self.old event result self.new }
     {
         match &event.act {
-            Act::Begin(_) => replied(without_event(self.begin_event(event))),
-            act => replied(self.act(alloc, event.client, act)),
+            Act::Begin(_) => reply_of(without_event(self.begin_event(event))),
+            act => reply_of(self.act(alloc, event.client, act)),
         }
     }
 
@@ -368,7 +368,7 @@ impl Machine {
         };
         self.store.reindex(alloc, &mut self.index, &op)?;
         self.store.perform(&op);
-        told(op.outcome)
+        result_of(op.outcome)
     }
 
     /// A begin by its event, which a refusal hands back.
@@ -399,8 +399,8 @@ impl Machine {
 }
 
 /// The reply to a commit that succeeds, by the id of the next row.
-fn told_of_commit(next_id: u64, commit: &Commit) -> Committed
-    ensures { result ≡ told_of_commit next_id commit.now }
+fn committed_of(next_id: u64, commit: &Commit) -> Committed
+    ensures { result ≡ committed_of next_id commit.now }
 {
     let changes = commit.as_slice();
     let first = if added_by(changes) > 0 { next_id } else { 0 };
@@ -411,8 +411,8 @@ fn told_of_commit(next_id: u64, commit: &Commit) -> Committed
 }
 
 /// What a change returns by its outcome.
-fn told(outcome: Outcome) -> Result<(), CoreFault>
-    ensures { (done : Reply) → as_reply (λ _. done) result ≡ told_of outcome done }
+fn result_of(outcome: Outcome) -> Result<(), CoreFault>
+    ensures { (done : Reply) → as_reply (λ _. done) result ≡ reply_for outcome done }
 {
     match outcome.refusal() {
         Some(fault) => Err(fault),
@@ -421,11 +421,11 @@ fn told(outcome: Outcome) -> Result<(), CoreFault>
 }
 
 /// The reply to an act by what it returns: a refusal is one, and out of memory is none.
-#[tactic(auto, using(crate::proofs::Replies::replied_refused))]
-fn replied(told: Result<Reply, CoreFault>) -> Result<Reply, AllocError>
-    ensures { result ≡ replied told }
+#[tactic(auto, using(crate::proofs::RepliesLaws::replied_refused))]
+fn reply_of(returned: Result<Reply, CoreFault>) -> Result<Reply, AllocError>
+    ensures { result ≡ reply_of returned }
 {
-    match told {
+    match returned {
         Ok(reply) => Ok(reply),
         Err(CoreFault::OutOfMemory) => Err(AllocError),
         Err(fault) => Ok(Reply::Refused(fault)),
@@ -433,21 +433,21 @@ fn replied(told: Result<Reply, CoreFault>) -> Result<Reply, AllocError>
 }
 
 /// A refusal without its event.
-fn without_event(told: Result<Reply, StepFault>) -> Result<Reply, CoreFault>
-    ensures { result ≡ without_event told }
+fn without_event(returned: Result<Reply, StepFault>) -> Result<Reply, CoreFault>
+    ensures { result ≡ without_event returned }
 {
-    match told {
+    match returned {
         Ok(reply) => Ok(reply),
         Err(refused) => Err(refused.fault),
     }
 }
 
 /// A refusal, with the event that it hands back.
-fn handed_back(told: Result<Reply, CoreFault>, event: Event) -> Result<Reply, StepFault>
-    ensures alike { without_event result ≡ told }
+fn handed_back(returned: Result<Reply, CoreFault>, event: Event) -> Result<Reply, StepFault>
+    ensures alike { without_event result ≡ returned }
     ensures event { IfErr result (λ fault. fault.event ≡ event) }
 {
-    match told {
+    match returned {
         Ok(reply) => Ok(reply),
         Err(fault) => Err(StepFault { fault, event }),
     }

@@ -2,7 +2,7 @@
 
 ghost use Rattle.std.specs.Prelude.{[], ◌≡◌, ◌<◌, nat_lt, length, take, Err, IfOk, IfErr, ◌⊎◌, ◌↔◌};
 ghost use Rattle.pref_core.specs.Step.{replies};
-ghost use Rattle.pref_core.specs.Parts.{AddsReply};
+ghost use Rattle.pref_core.specs.MachineParts.{AddsReply};
 
 use crate::event::{Event, Reply};
 use crate::fault::CoreFault;
@@ -48,18 +48,18 @@ pub fn replay_part(
         Err(CoreFault::OutOfMemory) => return Ok(no_replies(alloc, &events)),
         Err(fault) => return Err(fault),
     };
-    let mut told = Vec::new(alloc);
+    let mut returned = Vec::new(alloc);
     for event in events {
         let reply = machine.reply(alloc, event);
-        if push_reply(&mut told, reply).is_err() {
+        if push_reply(&mut returned, reply).is_err() {
             return Ok(Part {
-                replies: told,
+                replies: returned,
                 stopped: true,
             });
         }
     }
     Ok(Part {
-        replies: told,
+        replies: returned,
         stopped: false,
     })
 }
@@ -102,9 +102,9 @@ fn no_replies(alloc: Global, events: &[Event]) -> Part
 }
 
 /// Adds a reply. Out of memory, for the reply or for the list, adds none.
-fn push_reply(told: &mut Vec<Reply>, reply: Result<Reply, AllocError>) -> Result<(), AllocError>
-    ensures { AddsReply told.old.items reply result told.new.items }
+fn push_reply(returned: &mut Vec<Reply>, reply: Result<Reply, AllocError>) -> Result<(), AllocError>
+    ensures { AddsReply returned.old.items reply result returned.new.items }
 {
-    told.push(reply?)?;
+    returned.push(reply?)?;
     Ok(())
 }

@@ -20,12 +20,12 @@
 pub(crate) mod applying;
 pub(crate) mod caller;
 pub(crate) mod contents;
-pub(crate) mod links;
+pub(crate) mod id_chains;
 pub(crate) mod needs;
 pub(crate) mod opening;
-pub(crate) mod places;
 pub(crate) mod planning;
 pub(crate) mod reads;
+pub(crate) mod slot_sets;
 pub mod version;
 
 ghost use Rattle.std.specs.Prelude.{◌≡◌, ◌-◌, ◌<◌, length, true, Err, IfOk, IfErr, OnOk, OnErr, option_map, ◌↔◌, ◌⊎◌};
@@ -68,7 +68,7 @@ impl Drop for Store {
 
 impl Model for Store {
     ghost use Rattle.pref_core.specs.Slots as specs;
-    ghost use Rattle.pref_core.specs.Kept.{IsKept};
+    ghost use Rattle.pref_core.specs.ContentsInvariant.{IsKept};
 
     ghost Value = { specs.Contents };
 
@@ -222,7 +222,7 @@ impl Store {
         ensures exact { self.new ≡ applied self.old op.now }
         ensures state { (state : State) → StandsFor self.old state → AppliesIn state self.old op.now self.new }
     {
-        let call = op.call.lent();
+        let call = op.call.lend();
         self.apply_planned(&op.planned(&call));
     }
 

@@ -20,20 +20,20 @@ pub use Rattle.memchr.specs.Find.{IsFirstByte, Nowhere, Passes, is_byte}
 pub use Rattle.pref_core.specs.Limits.{Limits}
 pub use Rattle.pref_core.specs.Step.{System, opened, replies, step}
 pub use Rattle.pref_core.specs.declared.event.Event.{Event}
-pub use Rattle.pref_script.specs.ClientParts.{AcceptsLeft, AllAccepted, AreParts, ArePartsUpTo, FirstAct, HasTold, IsAccepted, IsFound, IsPart, IsRead, NamesNone, WholeAccept, WholeAcceptAll, acts_in, acts_left, is_number, lines_in, lines_left, lines_of}
+pub use Rattle.pref_script.specs.ClientParts.{AcceptsLeft, AllAccepted, AreParts, ArePartsUpTo, FirstAct, HasReplied, IsAccepted, IsFound, IsPart, IsRead, NamesNone, WholeAccept, WholeAcceptAll, acts_in, acts_left, is_number, lines_in, lines_left, lines_of}
 pub use Rattle.pref_script.specs.Commands.{Command, commands_in, event_of, of_changes, piece_change, refused, runs}
 pub use Rattle.pref_script.specs.Forms.{Said}
-pub use Rattle.pref_script.specs.Hearing.{HeardScript, Hears, HearsNone, IsBlock, LacksBlock, OpensLive, ReadsBlock}
-pub use Rattle.pref_script.specs.Live.{EndsWithLine, HeardNone, IsHeard, IsTooLong, NoneLeft, RanLive, ShowsFault, StopsEarly, StopsInLine, TellsNext, Turns}
-pub use Rattle.pref_script.specs.LiveTable.{IsOpened, OpeningFault, TellsLine, names_of, next_number, running_of}
-pub use Rattle.pref_script.specs.Output.{Script, ScriptFault, TellsOutput, fault_text, in_bytes, output, output_of, script_with}
+pub use Rattle.pref_script.specs.HeardScript.{HeardScript, Hears, HearsNone, IsBlock, LacksBlock, OpensLive, ReadsBlock}
+pub use Rattle.pref_script.specs.Live.{EndsWithLine, HeardNone, IsHeard, IsTooLong, NoneLeft, RanLive, ShowsFault, StopsEarly, StopsInLine, PrintsNext, Turns}
+pub use Rattle.pref_script.specs.LiveTable.{IsOpened, OpeningFault, PrintsLine, names_of, next_number, running_of}
+pub use Rattle.pref_script.specs.Output.{Script, ScriptFault, PrintsOutput, fault_text, in_bytes, output, output_of, script_with}
 pub use Rattle.pref_script.specs.Pieces.{are_changes, is_semicolon, pieces_of}
 pub use Rattle.pref_script.specs.ReadAhead.{IsLineAt, IsLittle, IsLong, IsWhole, LineFault, NoLineFeed, ReadBehind, ReadOnce, ReadSome, between, is_at_end, most_ahead, unread}
 pub use Rattle.pref_script.specs.Reading.{IsDigitsWord, IsOpeningOf, Reads, core_fault, first_refusal, pieces_left, said_by_client, share_fault, table_fault}
 pub use Rattle.pref_script.specs.Run.{NothingWritten, Sink, Source, Wrote, WroteAll, WroteBeginning, sink_of, source_of}
 pub use Rattle.pref_script.specs.Script.{Parts, block_lines, is_end_line, is_line_feed, is_table_line, parts_of, with_line_feeds, without_line_end}
 pub use Rattle.pref_script.specs.Text.{level_line, level_lines, refused_line, reply_lines, row_text}
-pub use Rattle.pref_script.specs.Threads.{AreActs, ClosesOrStops, HoldsNobody, StopsClients, TellsOnThreads, WereStopped, always_open, is_client, opening_of, unowned_line, unowned_lines}
+pub use Rattle.pref_script.specs.Threads.{AreActs, ClosesOrStops, HoldsNobody, StopsClients, PrintsOnThreads, WereStopped, always_open, is_client, opening_of, unowned_line, unowned_lines}
 pub use Rattle.pref_script.specs.declared.command.Refusal.{Refusal}
 pub use Rattle.pref_script.specs.declared.fault.RunFault.{RunFault}
 pub use Rattle.pref_script.specs.declared.live_table.LiveTable.{LiveTable}

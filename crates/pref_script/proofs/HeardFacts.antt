@@ -3,10 +3,10 @@ use Rattle.pref_script.proofs.Common.{◌≡◌, ◌∙◌, ℕ, suc, ◌+◌, �
 use Rattle.pref_script.proofs.Common.{None, Result, Ok, inl, inr, nat_lt, Appends-trans, Consumes-trans, Consumes-whole, ltb-true, lt-ltb, append-nil, drop-append-le, drop_all, get_or_append_left}
 use Rattle.pref_script.proofs.Common.{length-append, length-drop, take-append-drop, take-append-le, take-append-add, fails_before_first, passes_at_first, position_or_len_is, Appends, Consumes}
 use Rattle.pref_script.proofs.Common.{IsAtEnd, after_first, before_first, concat, position_or_len, IfSome, IsOk, Limits, opened, Command, accepted_events, commands_in, commands_of, HeardScript, Hears}
-use Rattle.pref_script.proofs.Common.{EndsWithLine, IsHeard, IsTooLong, NoneLeft, RanLive, StopsEarly, StopsInLine, TellsNext, TellsLine, names_of, next_number, command_lines, output, output_of}
+use Rattle.pref_script.proofs.Common.{EndsWithLine, IsHeard, IsTooLong, NoneLeft, RanLive, StopsEarly, StopsInLine, PrintsNext, PrintsLine, names_of, next_number, command_lines, output, output_of}
 use Rattle.pref_script.proofs.Common.{script_of, IsLittle, IsLong, ReadBehind, ReadSome, between, is_at_end, unread, Sink, Source, WroteAll, WroteBeginning, Parts, is_end_line, is_table_line}
 use Rattle.pref_script.proofs.Common.{parts_of, raw_lines, without_line_end, RunFault, LiveTable, ReadAhead}
-use Rattle.pref_script.specs.Playing.{told_from}
+use Rattle.pref_script.specs.Playing.{printed_from}
 use Rattle.pref_script.proofs.BlockFacts.{first_too_long, long_among}
 use Rattle.pref_script.proofs.LineFacts.{ends_more, front_is, line_at, little_later, little_left, some_none}
 use Rattle.pref_script.proofs.OutputFacts.{script-ok}
@@ -62,7 +62,7 @@ commands_more names number (x ∷ xs) line =
 
 -- one line more was told
 pub heard_more : (limits : Limits) (heard line : List ℕ) (live after : LiveTable) (text new : List ℕ) → HeardScript limits heard live text → raw_lines (heard ++ line) ≡ raw_lines heard ++ line ∷ []
-    → TellsLine live (without_line_end line) [] new after → HeardScript limits (heard ++ line) after (text ++ new)
+    → PrintsLine live (without_line_end line) [] new after → HeardScript limits (heard ++ line) after (text ++ new)
 heard_more limits heard line live after text new so_far lines tells =
     let names = names_of live in
     let width = length names in
@@ -73,10 +73,10 @@ heard_more limits heard line live after text new so_far lines tells =
     let one = tells.plays.plays so_far.next so_far.stands in
     let all : commands_of names first (table ++ line ∷ []) ≡ commands ++ said =
     commands_more names first table line ∙ ap (λ (n : ℕ). commands ++ commands_in names n (without_line_end line)) (sym so_far.number) in
-    let goes_on : (more : List Command) → (text ++ new) ++ told_from limits width one.next more ≡ told_from limits width (opened limits so_far.rows) (commands_of names first (table ++ line ∷ []) ++ more) = λ more.
-    let step = subst (λ (l : Limits). new ++ told_from l width one.next more ≡ told_from l width so_far.next (said ++ more)) so_far.bounds (one.goes_on more) in
-    append_assoc text new (told_from limits width one.next more) ∙ ap (λ (t : List ℕ). text ++ t) step ∙ so_far.goes_on (said ++ more)
-    ∙ ap (λ (t : List Command). told_from limits width (opened limits so_far.rows) t) (sym (append_assoc commands said more) ∙ ap (λ (t : List Command). t ++ more) (sym all)) in
+    let goes_on : (more : List Command) → (text ++ new) ++ printed_from limits width one.next more ≡ printed_from limits width (opened limits so_far.rows) (commands_of names first (table ++ line ∷ []) ++ more) = λ more.
+    let step = subst (λ (l : Limits). new ++ printed_from l width one.next more ≡ printed_from l width so_far.next (said ++ more)) so_far.bounds (one.goes_on more) in
+    append_assoc text new (printed_from limits width one.next more) ∙ ap (λ (t : List ℕ). text ++ t) step ∙ so_far.goes_on (said ++ more)
+    ∙ ap (λ (t : List Command). printed_from limits width (opened limits so_far.rows) t) (sym (append_assoc commands said more) ∙ ap (λ (t : List Command). t ++ more) (sym all)) in
     record {
       parts = record { table = so_far.parts.table; commands = table ++ line ∷ []; first = first };
       rows = so_far.rows;
@@ -87,7 +87,7 @@ heard_more limits heard line live after text new so_far lines tells =
       bounds = tells.plays.limits ∙ so_far.bounds;
       next = one.next;
       stands = one.stands;
-      goes_on = λ more. subst (λ (n : List (List ℕ)). (text ++ new) ++ told_from limits (length n) one.next more ≡ told_from limits (length n) (opened limits so_far.rows) (commands_of n first (table ++ line ∷ []) ++ more)) (sym tells.names) (goes_on more);
+      goes_on = λ more. subst (λ (n : List (List ℕ)). (text ++ new) ++ printed_from limits (length n) one.next more ≡ printed_from limits (length n) (opened limits so_far.rows) (commands_of n first (table ++ line ∷ []) ++ more)) (sym tells.names) (goes_on more);
     }
 
 -- what was told is the output of what was heard
@@ -96,7 +96,7 @@ unfolding command_lines accepted_events
 heard_output limits heard live text so_far =
     let said = script-ok limits heard so_far.parts (names_of live, so_far.rows) so_far.cut so_far.table so_far.room in
     let commands = commands_of (names_of live) so_far.parts.first so_far.parts.commands in
-    (rw said refl, ap (output_of limits) said ∙ ap (λ (t : List Command). told_from limits (length (names_of live)) (opened limits so_far.rows) t) (sym (append-nil commands)) ∙ sym (so_far.goes_on []) ∙ append-nil text)
+    (rw said refl, ap (output_of limits) said ∙ ap (λ (t : List Command). printed_from limits (length (names_of live)) (opened limits so_far.rows) t) (sym (append-nil commands)) ∙ sym (so_far.goes_on []) ∙ append-nil text)
 
 -- where something is ahead, the lines so far end with a line
 heard_ends : (limits : Limits) (had left : Option (List ℕ)) (mid : Option (List ℕ)) (old new : ReadAhead) (live : LiveTable) (text : List ℕ) (so_far : Hears limits had mid old live text) → ReadBehind mid left old new → 0 < length (unread new) → EndsWithLine so_far.heard
@@ -116,7 +116,7 @@ pub record HearsNext (limits : Limits) (had left : Option (List ℕ)) (heard : L
   pub same : hears.heard ≡ heard ++ line
 
 -- one turn more
-pub hears_next : (limits : Limits) (had : Option (List ℕ)) (source : Source) (old new : ReadAhead) (before after : LiveTable) (text more : List ℕ) (so_far : Hears limits had source.had old before text) → TellsNext source old new before after more
+pub hears_next : (limits : Limits) (had : Option (List ℕ)) (source : Source) (old new : ReadAhead) (before after : LiveTable) (text more : List ℕ) (so_far : Hears limits had source.had old before text) → PrintsNext source old new before after more
     → HearsNext limits had source.left so_far.heard new after (text ++ more)
 hears_next limits had source old new before after text more so_far next =
     let all = unread next.mid in
@@ -182,7 +182,7 @@ stops_early limits had source sink ahead live text so_far some wrote =
 
 -- of what the last line was told a beginning was written
 pub stops_writing : (limits : Limits) (had : Option (List ℕ)) (source : Source) (held : Option (List ℕ)) (sink : Sink) (old new : ReadAhead) (before after : LiveTable) (text more : List ℕ) → Hears limits had source.had old before text
-    → TellsNext source old new before after more → Appends held sink.held text → WroteBeginning sink more → StopsInLine limits (since had source) (record { held = held; holds = sink.holds; failed = sink.failed })
+    → PrintsNext source old new before after more → Appends held sink.held text → WroteBeginning sink more → StopsInLine limits (since had source) (record { held = held; holds = sink.holds; failed = sink.failed })
 stops_writing limits had source held sink old new before after text more so_far next first (count, wrote) =
     let now = hears_next limits had source old new before after text more so_far next in
     let here = is_heard limits had (record { had = source.left; left = source.left; failed = source.failed }) new after (text ++ more) now.hears (some_none source.left new 0) in

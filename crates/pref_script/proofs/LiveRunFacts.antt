@@ -1,7 +1,7 @@
 -- A run that tells each line as it comes: how it begins, goes on and ends.
 use Rattle.pref_script.proofs.Common.{◌≡◌, ◌∙◌, ◌⊎◌, ℕ, ◌+◌, ◌≤◌, true, false, List, [], ◌∷◌, ◌++◌, length, take, drop, ap, refl, sym, subst, arith, append_assoc, Option, Result, Ok, Err, inl, inr}
 use Rattle.pref_script.proofs.Common.{Appends-kept, Appends-trans, drop_all, length-drop, take-append-drop, take_all, Appends, Consumes, IsAtEnd, position_or_len, Limits, opened, commands_of, Hears}
-use Rattle.pref_script.proofs.Common.{IsBlock, LacksBlock, OpensLive, ReadsBlock, EndsWithLine, HeardNone, IsTooLong, RanLive, ShowsFault, StopsEarly, TellsNext, Turns, IsOpened, OpeningFault}
+use Rattle.pref_script.proofs.Common.{IsBlock, LacksBlock, OpensLive, ReadsBlock, EndsWithLine, HeardNone, IsTooLong, RanLive, ShowsFault, StopsEarly, PrintsNext, Turns, IsOpened, OpeningFault}
 use Rattle.pref_script.proofs.Common.{next_number, ScriptFault, fault_text, script_of, IsLittle, ReadBehind, ReadSome, between, is_at_end, unread, NothingWritten, Sink, Source, WroteAll}
 use Rattle.pref_script.proofs.Common.{WroteBeginning, Wrote, Parts, block_lines, is_end_line, parts_of, raw_lines, RunFault, LiveTable, ReadAhead}
 use Rattle.pref_script.specs.declared.live.TableBlock.{TableBlock}
@@ -122,7 +122,7 @@ pub record Telling (limits : Limits) (had left held holds : Option (List ℕ)) (
   pub wrote : Appends held holds text
 
 -- a turn more
-pub telling_more : (limits : Limits) (had held : Option (List ℕ)) (source : Source) (sink : Sink) (old new : ReadAhead) (before after : LiveTable) (text : List ℕ) → Telling limits had source.had held sink.held old before → TellsNext source old new before after text
+pub telling_more : (limits : Limits) (had held : Option (List ℕ)) (source : Source) (sink : Sink) (old new : ReadAhead) (before after : LiveTable) (text : List ℕ) → Telling limits had source.had held sink.held old before → PrintsNext source old new before after text
     → WroteAll sink text → Telling limits had source.left held sink.holds new after
 telling_more limits had held source sink old new before after text so_far next wrote = record {
   text = so_far.text ++ text;

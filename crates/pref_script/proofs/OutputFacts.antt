@@ -1,6 +1,6 @@
 -- The output of a script, part by part.
 use Rattle.pref_script.proofs.Common.{◌≡◌, ◌∙◌, ℕ, ◌+◌, ◌<◌, ◌≤◌, List, [], ◌∷◌, length, ap, arith, refl, Ok, Err, Bool, true, false, ◌⊎◌, inl, inr, Result, cases_lt, le-ltb, lt-ltb, Global, IfErr}
-use Rattle.pref_script.proofs.Common.{IfOk, String, nat_lt, string_bytes, position_or_len, Fails, Table, table_of, Limits, Script, ScriptFault, TellsOutput, in_bytes, output_of, script_of}
+use Rattle.pref_script.proofs.Common.{IfOk, String, nat_lt, string_bytes, position_or_len, Fails, Table, table_of, Limits, Script, ScriptFault, PrintsOutput, in_bytes, output_of, script_of}
 use Rattle.pref_script.proofs.Common.{script_with, core_fault, table_fault, Parts, is_end_line, is_table_line, parts_of, raw_lines, RunFault}
 use Rattle.pref_table.specs.declared.fault.TableFault.{TableFault}
 use Rattle.pref_core.specs.declared.fault.CoreFault.{CoreFault}
@@ -76,6 +76,6 @@ script-ok limits bytes parts table h t room = elim (cases_lt limits.capacity (le
 
 -- what a script without a fault is told, unless memory ran out
 pub tells-played : (limits : Limits) (bytes : List ℕ) (script : Script) (result : Result (String Global) RunFault) → script_of limits bytes ≡ Ok script
-    → IfOk result (λ text. string_bytes text ≡ output_of limits (Ok script)) → IfErr result (λ why. why ≡ fault.Memory) → TellsOutput limits bytes (in_bytes result)
-tells-played limits bytes script (Ok text) said told memory = rw said (refl, told)
-tells-played limits bytes script (Err why) said told memory = rw memory tt
+    → IfOk result (λ text. string_bytes text ≡ output_of limits (Ok script)) → IfErr result (λ why. why ≡ fault.Memory) → PrintsOutput limits bytes (in_bytes result)
+tells-played limits bytes script (Ok text) said returned memory = rw said (refl, returned)
+tells-played limits bytes script (Err why) said returned memory = rw memory tt

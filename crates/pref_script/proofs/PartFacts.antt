@@ -1,7 +1,7 @@
 -- A client's part of a script, one line at a time.
 use Rattle.pref_script.proofs.Common.{◌≡◌, ◌≢◌, ◌∙◌, ℕ, suc, zero, ◌+◌, ◌<◌, ◌≤◌, ◌^◌, Bool, true, false, List, [], ◌∷◌, ◌++◌, length, map, slice_get, Option, Some, None, Result, Ok, Err, refl, sym}
 use Rattle.pref_script.proofs.Common.{ap, arith, append_assoc, subst, inl, inr, string_bytes, All, list_all, Vec, append-nil, length-append, is_blank, Event, AcceptsLeft, AllAccepted, AreParts, ArePartsUpTo}
-use Rattle.pref_script.proofs.Common.{FirstAct, HasTold, IsAccepted, IsFound, IsPart, IsRead, WholeAccept, WholeAcceptAll, AreActs, acts_in, acts_left, accepted_events, act_of, commands_in, commands_of}
+use Rattle.pref_script.proofs.Common.{FirstAct, HasReplied, IsAccepted, IsFound, IsPart, IsRead, WholeAccept, WholeAcceptAll, AreActs, acts_in, acts_left, accepted_events, act_of, commands_in, commands_of}
 use Rattle.pref_script.proofs.Common.{event_of, Said, client_named, said_in, raw_lines, without_line_end, reply_lines, texts, clients_lines, unowned_lines, Refusal, Part}
 use Rattle.pref_script.proofs.Common.{◌==◌, NamesNone, cases_lt, cond, drop, drop_all, drop_more, eq-eqb, eqb-false, eqb-true, get_or, get_or_append_left, is_number, length-set, lines_in, lines_left, lines_of, map-append, ne_eqb, set, vec_len}
 use Rattle.std.proofs.Common.{Bor}
@@ -12,7 +12,7 @@ use Rattle.pref_core.specs.declared.event.Act.{Act}
 use Rattle.pref_core.specs.declared.event.Reply.{Reply}
 use Rattle.pref_share.specs.Interleavings.{acts_of}
 use Rattle.pref_share.specs.Reports.{AreTaken}
-use Rattle.pref_share.proofs.Running.{there}
+use Rattle.pref_share.proofs.RunsLaws.{there}
 use Rattle.pref_script.specs.declared.command.Refusal.TheVariants.{NotCommand}
 use Rattle.pref_script.specs.declared.parts.Found.{Found}
 use Rattle.pref_script.proofs.ClientFacts.{acts-append, acts-few, acts-other, acts-own}
@@ -206,12 +206,12 @@ gone-line old now new raw line what gone cut is found client schema text clean =
     }
 
 -- what a part was told stays so
-pub told-on : (first old new : Part) (acts : List Act) (replies : List Reply) → HasTold first old replies → HasGone old new acts → HasTold first new replies
-told-on first old new acts replies told gone = record {
-  client = gone.client ∙ told.client;
-  schema = gone.schema ∙ told.schema;
-  text = gone.text ∙ told.text;
-  accepted = λ none rest. told.accepted (gone.refused none) (gone.accepted none rest);
+pub returned-on : (first old new : Part) (acts : List Act) (replies : List Reply) → HasReplied first old replies → HasGone old new acts → HasReplied first new replies
+returned-on first old new acts replies returned gone = record {
+  client = gone.client ∙ returned.client;
+  schema = gone.schema ∙ returned.schema;
+  text = gone.text ∙ returned.text;
+  accepted = λ none rest. returned.accepted (gone.refused none) (gone.accepted none rest);
 }
 
 -- the next line of a part, and no line
@@ -232,23 +232,23 @@ pub acts-short : (names : List (List ℕ)) (client : ℕ) (text : List ℕ) → 
 acts-short names client text = omega (arith, acts-few client (accepted_events (commands_of names 0 (raw_lines text))), events-few names 0 text)
 
 -- a reply more
-pub told-more : (first old new : Part) (replies : List Reply) (reply : Reply) → HasTold first old replies → new.client ≡ old.client → new.schema.now ≡ old.schema.now → lines_left new ≡ lines_left old → new.refused ≡ old.refused
-    → string_bytes new.text ≡ string_bytes old.text ++ reply_lines (length old.schema.now) old.client reply → HasTold first new (replies ++ reply ∷ [])
+pub returned-more : (first old new : Part) (replies : List Reply) (reply : Reply) → HasReplied first old replies → new.client ≡ old.client → new.schema.now ≡ old.schema.now → lines_left new ≡ lines_left old → new.refused ≡ old.refused
+    → string_bytes new.text ≡ string_bytes old.text ++ reply_lines (length old.schema.now) old.client reply → HasReplied first new (replies ++ reply ∷ [])
 unfolding texts
-told-more first old new replies reply told client schema left refused wrote =
+returned-more first old new replies reply returned client schema left refused wrote =
     let text = reply_lines (length first.schema.now) first.client in
-    let line : reply_lines (length old.schema.now) old.client reply ≡ text reply = rw (told.schema, told.client) refl in record {
-      client = client ∙ told.client;
-      schema = schema ∙ told.schema;
-      text = wrote ∙ ap (λ (t : List ℕ). string_bytes old.text ++ t) line ∙ ap (λ (t : List ℕ). t ++ text reply) told.text ∙ append_assoc (string_bytes first.text) (texts text replies) (text reply)
+    let line : reply_lines (length old.schema.now) old.client reply ≡ text reply = rw (returned.schema, returned.client) refl in record {
+      client = client ∙ returned.client;
+      schema = schema ∙ returned.schema;
+      text = wrote ∙ ap (λ (t : List ℕ). string_bytes old.text ++ t) line ∙ ap (λ (t : List ℕ). t ++ text reply) returned.text ∙ append_assoc (string_bytes first.text) (texts text replies) (text reply)
           ∙ ap (λ (t : List ℕ). string_bytes first.text ++ (texts text replies ++ t)) (sym (append-nil (text reply))) ∙ ap (λ (t : List ℕ). string_bytes first.text ++ t) (sym (texts-append text replies (reply ∷ [])));
-      accepted = λ none rest. told.accepted (sym refused ∙ none) (subst (AllAccepted old.schema.now old.client) left (rw (client, schema) at rest));
+      accepted = λ none rest. returned.accepted (sym refused ∙ none) (subst (AllAccepted old.schema.now old.client) left (rw (client, schema) at rest));
     }
 
 -- nothing was told yet
-pub told-nothing : (part : Part) → HasTold part part []
+pub returned-nothing : (part : Part) → HasReplied part part []
 unfolding texts
-told-nothing part = record { client = refl; schema = refl; text = sym (append-nil (string_bytes part.text)); accepted = λ _ rest. rest }
+returned-nothing part = record { client = refl; schema = refl; text = sym (append-nil (string_bytes part.text)); accepted = λ _ rest. rest }
 
 -- the parts of clients before they have lines: none, and one part more
 pub none-are : (names raws : List (List ℕ)) → ArePartsUpTo names raws raws []
@@ -256,14 +256,14 @@ none-are names raws place part here = cc here
 
 pub are-more : (names raws : List (List ℕ)) (parts : List Part) (part : Part) → ArePartsUpTo names raws raws parts → part.schema.now ≡ names → part.client ≡ suc (length parts) → lines_in part ≡ [] → part.read ≡ 0
     → string_bytes part.text ≡ [] → ArePartsUpTo names raws raws (parts ++ part ∷ [])
-are-more names raws parts part are schema client lines read told place other here = elim (cases_lt place (length parts)) [
+are-more names raws parts part are schema client lines read returned place other here = elim (cases_lt place (length parts)) [
   | inl inside ↦
       let stays : other ≡ get_or parts place other = sym (get_or_from_slice_get (parts ++ part ∷ []) place other other here) ∙ get_or_append_left parts (part ∷ []) other place inside in
       are place other (slice_get_read parts (length parts) place other refl inside stays)
   | inr past ↦
       let last : length parts ≡ place = omega (arith, past, slice_get_within (parts ++ part ∷ []) place other here, length-append parts (part ∷ [])) in
       let same : part ≡ other = sym (get_or_push parts part part place last) ∙ get_or_from_slice_get (parts ++ part ∷ []) place other part here in
-      subst (IsPart names raws raws (suc place)) same (record { schema = schema; number = client ∙ ap suc last; lines = ap (λ (l : List (List ℕ)). l ++ lines_of (suc place) raws) lines; unread = read; told = told })
+      subst (IsPart names raws raws (suc place)) same (record { schema = schema; number = client ∙ ap suc last; lines = ap (λ (l : List (List ℕ)). l ++ lines_of (suc place) raws) lines; unread = read; returned = returned })
 ]
 
 -- a line more
@@ -282,7 +282,7 @@ part-next names raws left raw client part is other = record {
   number = is.number;
   lines = ap (λ (l : List (List ℕ)). lines_in part ++ l) (sym (lines-other client raw left other)) ∙ is.lines;
   unread = is.unread;
-  told = is.told;
+  returned = is.returned;
 }
 
 pub given-nobody : (names raws left : List (List ℕ)) (raw : List ℕ) (parts : List Part) → NamesNone (length parts) (without_line_end raw) → ArePartsUpTo names raws (raw ∷ left) parts → ArePartsUpTo names raws left parts
@@ -311,7 +311,7 @@ given-here names raws left raw parts place old new inside held named schema clie
       lines = ap (λ (l : List (List ℕ)). l ++ lines_of (suc place) left) lines ∙ append_assoc (lines_in old) (raw ∷ []) (lines_of (suc place) left)
           ∙ ap (λ (l : List (List ℕ)). lines_in old ++ l) (sym (lines-own (suc place) raw left named)) ∙ was.lines;
       unread = read ∙ was.unread;
-      told = text ∙ was.told;
+      returned = text ∙ was.returned;
     }
 
     by : (same : Bool) → (spot == place) ≡ same → IsPart names raws left (suc spot) part
@@ -386,41 +386,41 @@ module _ {X : Type 0} (given : Vec X) (names : List (List ℕ)) (text : List ℕ
   }
 
 -- what the parts were told, one after the other
-parts-told : (names : List (List ℕ)) (client : ℕ) (done : List Part) (replies : List (Vec Reply)) → length done ≡ length replies
+parts-returned : (names : List (List ℕ)) (client : ℕ) (done : List Part) (replies : List (Vec Reply)) → length done ≡ length replies
     → ((place : ℕ) (part : Part) (list : Vec Reply) → slice_get done place ≡ Some part → slice_get replies place ≡ Some list → string_bytes part.text ≡ texts (reply_lines (length names) (client + place)) list.items)
     → texts (λ part. string_bytes part.text) done ≡ clients_lines (length names) client replies
 unfolding texts clients_lines
-parts-told names client [] [] same each = refl
-parts-told names client [] (list ∷ lists) same each = absurd (omega (arith, same))
-parts-told names client (part ∷ more) [] same each = absurd (omega (arith, same))
-parts-told names client (part ∷ more) (list ∷ lists) same each =
+parts-returned names client [] [] same each = refl
+parts-returned names client [] (list ∷ lists) same each = absurd (omega (arith, same))
+parts-returned names client (part ∷ more) [] same each = absurd (omega (arith, same))
+parts-returned names client (part ∷ more) (list ∷ lists) same each =
     let number : client + 0 ≡ client = omega arith in
     let here = each 0 part list refl refl ∙ ap (λ (n : ℕ). texts (reply_lines (length names) n) list.items) number in
-    let rest = parts-told names (client + 1) more lists (omega (arith, same)) (λ place p l p_at l_at.
+    let rest = parts-returned names (client + 1) more lists (omega (arith, same)) (λ place p l p_at l_at.
     let next : client + suc place ≡ (client + 1) + place = omega arith in
     each (suc place) p l p_at l_at ∙ ap (λ (n : ℕ). texts (reply_lines (length names) n) l.items) next) in
     ap (λ (t : List ℕ). t ++ texts (λ (x : Part). string_bytes x.text) more) here ∙ ap (λ (t : List ℕ). texts (reply_lines (length names) client) list.items ++ t) rest
 
 -- what done parts were told is printed as the replies that they took
-pub parts-shown : (names : List (List ℕ)) (text : List ℕ) (parts done : List Part) (replies : List (Vec Reply)) → AreParts names (raw_lines text) parts → AreTaken HasTold parts done replies
+pub parts-shown : (names : List (List ℕ)) (text : List ℕ) (parts done : List Part) (replies : List (Vec Reply)) → AreParts names (raw_lines text) parts → AreTaken HasReplied parts done replies
     → texts (λ part. string_bytes part.text) done ≡ clients_lines (length names) 1 replies
-parts-shown names text parts done replies are taken = parts-told names 1 done replies (taken.tasks_done ∙ sym taken.lists) (λ place part list part_at list_at.
+parts-shown names text parts done replies are taken = parts-returned names 1 done replies (taken.tasks_done ∙ sym taken.lists) (λ place part list part_at list_at.
     let inside : place < length parts = omega (arith, slice_get_within done place part part_at, taken.tasks_done) in
     let (first, first_at) = there parts place inside in
-    let (told, told_at, has) = taken.each place first part first_at part_at in
-    let both : Some told ≡ Some list = sym told_at ∙ list_at in
-    let same : told ≡ list = cc both in
+    let (returned, told_at, has) = taken.each place first part first_at part_at in
+    let both : Some returned ≡ Some list = sym told_at ∙ list_at in
+    let same : returned ≡ list = cc both in
     let is = are place first first_at in
     let number : suc place ≡ 1 + place = omega arith in
-    let wrote : string_bytes part.text ≡ string_bytes first.text ++ texts (reply_lines (length first.schema.now) first.client) told.items = has.text in
-    rw (is.told, is.schema, is.number ∙ number, same) at wrote)
+    let wrote : string_bytes part.text ≡ string_bytes first.text ++ texts (reply_lines (length first.schema.now) first.client) returned.items = has.text in
+    rw (is.returned, is.schema, is.number ∙ number, same) at wrote)
 
 -- no line of a client whose part is whole was refused
-pub whole-accept : (names : List (List ℕ)) (text : List ℕ) (parts done : List Part) (replies : List (Vec Reply)) → AreParts names (raw_lines text) parts → AreTaken HasTold parts done replies → WholeAcceptAll names done (raw_lines text)
+pub whole-accept : (names : List (List ℕ)) (text : List ℕ) (parts done : List Part) (replies : List (Vec Reply)) → AreParts names (raw_lines text) parts → AreTaken HasReplied parts done replies → WholeAcceptAll names done (raw_lines text)
 whole-accept names text parts done replies are taken place part part_at whole =
     let inside : place < length parts = omega (arith, slice_get_within done place part part_at, taken.tasks_done) in
     let (first, first_at) = there parts place inside in
-    let (told, told_at, has) = taken.each place first part first_at part_at in
+    let (returned, told_at, has) = taken.each place first part first_at part_at in
     let is = are place first first_at in
     let none : lines_left part ≡ [] = lines-none part (omega (arith, whole.through)) in
     let accepts : AllAccepted first.schema.now first.client (lines_left first) = has.accepted whole.accepted (subst (AllAccepted part.schema.now part.client) (sym none) tt) in

@@ -3,7 +3,7 @@ use Rattle.pref_script.proofs.Common.{◌≡◌, ◌∙◌, ℕ, ℤ, ◌+◌, L
 use Rattle.pref_script.proofs.Common.{Command, refused, runs, commands_in, commands_of, accepted_events, command_lines, raw_lines, without_line_end, refused_line, reply_lines, Refusal}
 use Rattle.pref_core.specs.Systems.{Replies, Running, StandsForSystem}
 use Rattle.pref_core.specs.declared.event.Reply.{Reply}
-use Rattle.pref_script.specs.Playing.{Plays, TellsAll, told_from}
+use Rattle.pref_script.specs.Playing.{Plays, PrintsAll, printed_from}
 use Rattle.pref_script.proofs.ScriptFacts.{lines_none}
 
 -- no command
@@ -18,7 +18,7 @@ pub plays_refused : (width : ℕ) (running : Running) (number : ℕ) (why : Refu
 unfolding command_lines accepted_events
 plays_refused width running number why old new added = record {
   limits = refl;
-  plays = λ system h. record { next = system; stands = h; goes_on = λ more. rw added (append_assoc old (refused_line number why) (told_from running.limits width system more)) };
+  plays = λ system h. record { next = system; stands = h; goes_on = λ more. rw added (append_assoc old (refused_line number why) (printed_from running.limits width system more)) };
 }
 
 -- an event
@@ -33,7 +33,7 @@ plays_event width before after event reply old new answers added = record {
         next = right.next;
         stands = says.1;
         goes_on = λ more.
-            let rest = told_from before.limits width right.next more in
+            let rest = printed_from before.limits width right.next more in
             rw added (append_assoc old (reply_lines width event.client reply) rest ∙ ap (λ (r : Reply). old ++ (reply_lines width event.client r ++ rest)) says.0);
       };
 }
@@ -42,7 +42,7 @@ plays_event width before after event reply old new answers added = record {
 pub record PlayingFrom (width : ℕ) (limits : Limits) (system : System) (all : List Command) (text : List ℕ) (now : Running) (rest : List Command) : Type 0 where
   pub next : System
   pub stands : StandsForSystem now next
-  pub whole : text ++ told_from limits width next rest ≡ told_from limits width system all
+  pub whole : text ++ printed_from limits width next rest ≡ printed_from limits width system all
 
 pub record Playing (width : ℕ) (first : Running) (all : List Command) (text : List ℕ) (now : Running) (rest : List Command) : Type 0 where
   pub limits : now.limits ≡ first.limits
@@ -59,8 +59,8 @@ playing_more width first now after all commands rest text new playing plays = re
   from = λ system h.
       let so_far = playing.from system h in
       let one = plays.plays so_far.next so_far.stands in
-      let on : new ++ told_from first.limits width one.next rest ≡ text ++ told_from first.limits width so_far.next (commands ++ rest)
-      = subst (λ (l : Limits). new ++ told_from l width one.next rest ≡ text ++ told_from l width so_far.next (commands ++ rest)) playing.limits (one.goes_on rest) in
+      let on : new ++ printed_from first.limits width one.next rest ≡ text ++ printed_from first.limits width so_far.next (commands ++ rest)
+      = subst (λ (l : Limits). new ++ printed_from l width one.next rest ≡ text ++ printed_from l width so_far.next (commands ++ rest)) playing.limits (one.goes_on rest) in
       record { next = one.next; stands = one.stands; whole = on ∙ so_far.whole };
 }
 
@@ -74,15 +74,15 @@ playing_line width names first now after all number left raw tail text new playi
 
 -- no line is left
 pub playing_all : (width : ℕ) (names : List (List ℕ)) (first now : Running) (all : List Command) (number : ℕ) (left text : List ℕ)
-    → Playing width first all text now (commands_of names number (raw_lines left)) → length left ≡ 0 → TellsAll width first all text
+    → Playing width first all text now (commands_of names number (raw_lines left)) → length left ≡ 0 → PrintsAll width first all text
 unfolding commands_of command_lines
 playing_all width names first now all number [] text playing none = λ system h. sym (append-nil text) ∙ (rw lines_none at (playing.from system h).whole)
 playing_all width names first now all number (x ∷ xs) text playing none = absurd (omega arith)
 
 -- all that the commands of a script are told
 pub tells_output : (limits : Limits) (rows : List (List ℤ)) (names : List (List ℕ)) (number first : ℕ) (lines : List (List ℕ)) (running : Running) (text : List ℕ)
-    → running.limits ≡ limits → StandsForSystem running (opened limits rows) → TellsAll (length names) running (commands_of names number lines) text → number ≡ first
+    → running.limits ≡ limits → StandsForSystem running (opened limits rows) → PrintsAll (length names) running (commands_of names number lines) text → number ≡ first
     → text ≡ command_lines (length names) (commands_of names first lines) (replies limits rows (accepted_events (commands_of names first lines)))
 tells_output limits rows names number first lines running text same stands tells is =
-    subst (λ (l : Limits). text ≡ told_from l (length names) (opened limits rows) (commands_of names first lines)) same
-    (subst (λ (n : ℕ). text ≡ told_from running.limits (length names) (opened limits rows) (commands_of names n lines)) is (tells (opened limits rows) stands))
+    subst (λ (l : Limits). text ≡ printed_from l (length names) (opened limits rows) (commands_of names first lines)) same
+    (subst (λ (n : ℕ). text ≡ printed_from running.limits (length names) (opened limits rows) (commands_of names n lines)) is (tells (opened limits rows) stands))

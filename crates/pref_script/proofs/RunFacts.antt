@@ -15,7 +15,7 @@ nothing-written (Some xs) None h = h
 nothing-written (Some xs) (Some ys) h = h ∙ append-nil xs
 
 -- a fault's line was written
-pub wrote-line : (sink : Sink) (told : Result (List ℕ) RunFault) (why : RunFault) → told ≡ Err why → (why ≡ fault.Write → ⊥) → WroteAll sink (fault_text why) → Wrote sink told (Err why)
-wrote-line sink told fault.Write is other line = absurd (other refl)
-wrote-line sink told fault.Memory is other line = nothing-written sink.held sink.holds line
-wrote-line sink told why is other line = (is, rw is line)
+pub wrote-line : (sink : Sink) (returned : Result (List ℕ) RunFault) (why : RunFault) → returned ≡ Err why → (why ≡ fault.Write → ⊥) → WroteAll sink (fault_text why) → Wrote sink returned (Err why)
+wrote-line sink returned fault.Write is other line = absurd (other refl)
+wrote-line sink returned fault.Memory is other line = nothing-written sink.held sink.holds line
+wrote-line sink returned why is other line = (is, rw is line)

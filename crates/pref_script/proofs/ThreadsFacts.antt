@@ -1,7 +1,7 @@
 -- What a script is told whose clients run on threads.
 use Rattle.pref_script.proofs.Common.{◌≡◌, ◌∙◌, ℕ, ◌+◌, ◌<◌, ◌≤◌, ◌^◌, arith, map, Bool, List, ◌++◌, length, refl, sym, ap, subst, Result, Ok, Err, IfErr, ◌⊎◌, inl, inr, ℤ, Vec, string_bytes, Limits}
-use Rattle.pref_script.proofs.Common.{AreParts, HasTold, WholeAcceptAll, acts_left, accepted_events, commands_of, Script, ScriptFault, script_of, script_with, IsOpeningOf, share_fault, raw_lines}
-use Rattle.pref_script.proofs.Common.{texts, Sink, Wrote, AreActs, ClosesOrStops, HoldsNobody, TellsOnThreads, StopsClients, WereStopped, always_open, opening_of, unowned_lines, RunFault, Part}
+use Rattle.pref_script.proofs.Common.{AreParts, HasReplied, WholeAcceptAll, acts_left, accepted_events, commands_of, Script, ScriptFault, script_of, script_with, IsOpeningOf, share_fault, raw_lines}
+use Rattle.pref_script.proofs.Common.{texts, Sink, Wrote, AreActs, ClosesOrStops, HoldsNobody, PrintsOnThreads, StopsClients, WereStopped, always_open, opening_of, unowned_lines, RunFault, Part}
 use Rattle.std.specs.declared.marker.Brand.{Brand}
 use Rattle.pref_core.specs.declared.event.Act.{Act}
 use Rattle.pref_core.specs.declared.fault.CoreFault.{CoreFault}
@@ -9,8 +9,8 @@ use Rattle.pref_share.specs.Openings.{Opening}
 use Rattle.pref_share.specs.Reports.{RanTasks}
 use Rattle.pref_share.specs.Standing.{newcomers}
 use Rattle.pref_share.specs.declared.fault.ShareFault.{ShareFault}
-use Rattle.pref_share.proofs.Interleavings.{length-newcomers}
-use Rattle.pref_share.proofs.Reporting.{first_stops}
+use Rattle.pref_share.proofs.InterleavingsLaws.{length-newcomers}
+use Rattle.pref_share.proofs.ReportsLaws.{first_stops}
 use Rattle.pref_script.specs.declared.reading.Opening.{Opening as OpeningRead}
 use Rattle.pref_script.proofs.OutputFacts.{first-least, script-core-fault, script-ok}
 use Rattle.pref_script.proofs.PartFacts.{acts_from, acts-listed, are-acts, parts-shown, whole-accept}
@@ -19,7 +19,7 @@ use Rattle.pref_share.specs.declared.fault.ShareFault.TheVariants as share
 use Rattle.pref_script.specs.declared.fault.RunFault.TheVariants as fault
 
 -- a fault of the script
-pub tells-fault : (limits : Limits) (says : ℕ → ℕ → Bool → Type 0) (bytes : List ℕ) (why : RunFault) → ScriptFault why (script_of limits bytes) → TellsOnThreads limits says bytes (Err why)
+pub tells-fault : (limits : Limits) (says : ℕ → ℕ → Bool → Type 0) (bytes : List ℕ) (why : RunFault) → ScriptFault why (script_of limits bytes) → PrintsOnThreads limits says bytes (Err why)
 tells-fault limits says bytes (fault.Threads why) h = absurd h
 tells-fault limits says bytes why h = h
 
@@ -38,16 +38,16 @@ open-holds-none o acts client many (inr (inr (reports, all, first))) =
     let (s, rest, turn, stops) = first_stops o always_open (newcomers o.limits.clients) acts reports (share.Held client) all (many ∙ sym (length-newcomers o.limits.clients)) first in absurd (cc (stops.2))
 
 -- so no run of a script behind it is refused for that
-pub holds-nobody : (limits : Limits) (bytes : List ℕ) (sink : Sink) (told : Result (List ℕ) RunFault) (result : Result (Unit {0}) RunFault) → TellsOnThreads limits always_open bytes told → Wrote sink told result → IfErr result HoldsNobody
-holds-nobody limits bytes sink told (Err (fault.Threads (share.Held client))) tells wrote =
-    let (script, is_script, stopped) = subst (TellsOnThreads limits always_open bytes) wrote.0 tells in
+pub holds-nobody : (limits : Limits) (bytes : List ℕ) (sink : Sink) (returned : Result (List ℕ) RunFault) (result : Result (Unit {0}) RunFault) → PrintsOnThreads limits always_open bytes returned → Wrote sink returned result → IfErr result HoldsNobody
+holds-nobody limits bytes sink returned (Err (fault.Threads (share.Held client))) tells wrote =
+    let (script, is_script, stopped) = subst (PrintsOnThreads limits always_open bytes) wrote.0 tells in
     absurd (open-holds-none (opening_of limits script) stopped.acts client stopped.of_script.lists stopped.stops)
-holds-nobody limits bytes sink told result tells wrote = tt
+holds-nobody limits bytes sink returned result tells wrote = tt
 
 -- the clients were stopped
 tells-stopped : (limits : Limits) (says : ℕ → ℕ → Bool → Type 0) (bytes : List ℕ) (r : OpeningRead) (read : IsOpeningOf bytes r) → (limits.capacity < length r.rows.items → ⊥) → (acts : List (Vec Act))
     → AreActs limits.clients (accepted_events (commands_of r.schema read.parts.first read.parts.commands)) acts → (why : ShareFault) → ClosesOrStops Brand (record { limits = limits; rows = r.rows.items }) says acts why
-    → TellsOnThreads limits says bytes (Err (share_fault why))
+    → PrintsOnThreads limits says bytes (Err (share_fault why))
 tells-stopped limits says bytes r read room acts owned why stops = by why stops
   where
     script : Script
@@ -59,7 +59,7 @@ tells-stopped limits says bytes r read room acts owned why stops = by why stops
     stopped : (why : ShareFault) → StopsClients (opening_of limits script) says acts why → WereStopped limits says script why
     stopped why stops = record { acts = acts; of_script = owned; stops = stops }
 
-    by : (why : ShareFault) → ClosesOrStops Brand (opening_of limits script) says acts why → TellsOnThreads limits says bytes (Err (share_fault why))
+    by : (why : ShareFault) → ClosesOrStops Brand (opening_of limits script) says acts why → PrintsOnThreads limits says bytes (Err (share_fault why))
     by (share.Core core) stops = rw (memory-alone (opening_of limits script) says acts core owned.lists stops) tt
     by why stops = (script, is_script, stopped why stops)
 
@@ -85,17 +85,17 @@ module _ (limits : Limits) (says : ℕ → ℕ → Bool → Type 0) (bytes : Lis
   pub tells-refused : (rows : List (List ℤ)) (why : ShareFault) → rows ≡ r.rows.items
       → ((limits.capacity < length rows) × (why ≡ share.Core (core.Full (length rows)))) ⊎ ((limits.capacity < length rows → ⊥)
       × ((acts : List (Vec Act)) → map (λ list. list.items) acts ≡ map acts_left parts.items → ClosesOrStops Brand (record { limits = limits; rows = rows }) says acts why))
-      → TellsOnThreads limits says bytes (Err (share_fault why))
+      → PrintsOnThreads limits says bytes (Err (share_fault why))
   tells-refused rows why same refused = by (rw same at refused)
     where
       by : ((limits.capacity < length r.rows.items) × (why ≡ share.Core (core.Full (length r.rows.items)))) ⊎ ((limits.capacity < length r.rows.items → ⊥)
           × ((acts : List (Vec Act)) → map (λ list. list.items) acts ≡ map acts_left parts.items → ClosesOrStops Brand (record { limits = limits; rows = r.rows.items }) says acts why))
-          → TellsOnThreads limits says bytes (Err (share_fault why))
+          → PrintsOnThreads limits says bytes (Err (share_fault why))
       by (inl (many, full)) = rw full (script-core-fault limits bytes read.parts (r.schema, r.rows.items) (core.Full (length r.rows.items)) read.cut read.table (λ _. refl) (inr many))
       by (inr (room, stops)) = tells-stopped limits says bytes r read room acts owned why (stops acts listed)
 
   -- no line of a client whose part is whole was refused
-  pub tells-whole : (o : Opening) (done shown : List Part) → ((acts : List (Vec Act)) → map (λ list. list.items) acts ≡ map acts_left parts.items → RanTasks o HasTold acts parts.items done) → shown ≡ done
+  pub tells-whole : (o : Opening) (done shown : List Part) → ((acts : List (Vec Act)) → map (λ list. list.items) acts ≡ map acts_left parts.items → RanTasks o HasReplied acts parts.items done) → shown ≡ done
       → WholeAcceptAll r.schema shown (raw_lines r.text.commands.now)
   tells-whole o done shown ran all =
       let run = ran acts listed in
@@ -103,9 +103,9 @@ module _ (limits : Limits) (says : ℕ → ℕ → Bool → Type 0) (bytes : Lis
 
   -- the output of a joint run
   pub tells-joint : (rows : List (List ℤ)) (done shown printed : List Part) (unowned text : List ℕ) → rows ≡ r.rows.items → (limits.capacity < length rows → ⊥)
-      → ((acts : List (Vec Act)) → map (λ list. list.items) acts ≡ map acts_left parts.items → RanTasks (record { limits = limits; rows = rows }) HasTold acts parts.items done)
+      → ((acts : List (Vec Act)) → map (λ list. list.items) acts ≡ map acts_left parts.items → RanTasks (record { limits = limits; rows = rows }) HasReplied acts parts.items done)
       → unowned ≡ unowned_lines (length shown) (length r.schema) (commands_of r.schema r.text.first (raw_lines r.text.commands.now)) → shown ≡ done
-      → text ≡ unowned ++ texts (λ part. string_bytes part.text) printed → printed ≡ done → TellsOnThreads limits says bytes (Ok text)
+      → text ≡ unowned ++ texts (λ part. string_bytes part.text) printed → printed ≡ done → PrintsOnThreads limits says bytes (Ok text)
   tells-joint rows done shown printed unowned text same room ran first all wrote printed_all =
       let space = rw same at room in
       let run = rw same at (ran acts listed) in
@@ -114,5 +114,5 @@ module _ (limits : Limits) (says : ℕ → ℕ → Bool → Type 0) (bytes : Lis
       let lines = parts-shown r.schema r.text.commands.now parts.items done run.replies are run.taken in (
         script_with read.parts (r.schema, r.rows.items),
         script-ok limits bytes read.parts (r.schema, r.rows.items) read.cut read.table space,
-        record { acts = acts; replies = run.replies; of_script = owned; joint = run.joint; sequential = run.sequential; told = rw (printed_all, before, lines) at wrote },
+        record { acts = acts; replies = run.replies; of_script = owned; joint = run.joint; sequential = run.sequential; returned = rw (printed_all, before, lines) at wrote },
       )

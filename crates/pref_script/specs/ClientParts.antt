@@ -67,7 +67,7 @@ AcceptsLeft part = AllAccepted part.schema.now part.client (lines_left part)
 
 -- The part as it is now, which was this at first, has the lines of these replies behind those that it had. Unless it says that a line was
 -- refused, it has read no line that was, of those that name the client.
-pub record HasTold (first part : Part) (replies : List Reply) : Type 0 where
+pub record HasReplied (first part : Part) (replies : List Reply) : Type 0 where
   pub client : part.client ≡ first.client
   pub schema : part.schema.now ≡ first.schema.now
   pub text : string_bytes part.text ≡ string_bytes first.text ++ texts (reply_lines (length first.schema.now) first.client) replies
@@ -84,7 +84,7 @@ pub record IsPart (names raws left : List (List ℕ)) (client : ℕ) (part : Par
   pub number : part.client ≡ client
   pub lines : lines_in part ++ lines_of client left ≡ lines_of client raws
   pub unread : part.read ≡ 0
-  pub told : string_bytes part.text ≡ []
+  pub returned : string_bytes part.text ≡ []
 
 -- the parts of the clients, from client 1 on
 abbrev pub ArePartsUpTo : List (List ℕ) → List (List ℕ) → List (List ℕ) → List Part → Type 0

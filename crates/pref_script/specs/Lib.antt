@@ -16,4 +16,4 @@ pub mod Threads
 pub mod LiveTable
 pub mod ReadAhead
 pub mod Live
-pub mod Hearing
+pub mod HeardScript

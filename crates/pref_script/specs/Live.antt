@@ -3,7 +3,7 @@ use Rattle.std.specs.Prelude.{ℕ, ◌≡◌, ◌≤◌, ◌<◌, ◌^◌, ◌�
 use Rattle.std.specs.Io.KnownBytes.{Appends, Consumes, IsAtEnd}
 use Rattle.std.specs.List.{concat}
 use Rattle.pref_core.specs.Limits.{Limits}
-use Rattle.pref_script.specs.LiveTable.{TellsLine}
+use Rattle.pref_script.specs.LiveTable.{PrintsLine}
 use Rattle.pref_script.specs.Output.{fault_text, output, script_of}
 use Rattle.pref_script.specs.ReadAhead.{IsLineAt, IsLittle, LineFault, ReadBehind, ReadSome, is_at_end, most_ahead, unread}
 use Rattle.pref_script.specs.Run.{NothingWritten, Sink, Source, WroteAll, WroteBeginning}
@@ -16,7 +16,7 @@ use Rattle.pref_script.specs.declared.live_table.LiveTable.{LiveTable}
 use Rattle.pref_script.specs.declared.read_ahead.ReadAhead.{ReadAhead}
 
 -- one line was read and given to the live table, which printed this text
-pub record TellsNext (source : Source) (old new : ReadAhead) (before after : LiveTable) (text : List ℕ) : Type 0 where
+pub record PrintsNext (source : Source) (old new : ReadAhead) (before after : LiveTable) (text : List ℕ) : Type 0 where
   pub mid : ReadAhead
   pub end : ℕ
   pub read : ReadBehind source.had source.left old mid
@@ -24,7 +24,7 @@ pub record TellsNext (source : Source) (old new : ReadAhead) (before after : Liv
   pub some : 0 < end
   pub inside : end ≤ length (unread mid)
   pub line : IsLineAt 0 end mid
-  pub tells : TellsLine before (without_line_end (take end (unread mid))) [] text after
+  pub tells : PrintsLine before (without_line_end (take end (unread mid))) [] text after
   pub taken : unread new ≡ drop end (unread mid)
   pub ended : is_at_end new ≡ is_at_end mid
 
@@ -36,9 +36,9 @@ pub record NoneLeft (source : Source) (old new : ReadAhead) : Type 0 where
 
 -- what a turn reads and writes, by how it ends
 abbrev pub Turns : Source → Sink → ReadAhead → ReadAhead → LiveTable → LiveTable → Result Turn RunFault → Type 0
-Turns source sink old new before after (Ok turn.Told) = (text : List ℕ) × TellsNext source old new before after text × WroteAll sink text
+Turns source sink old new before after (Ok turn.Replied) = (text : List ℕ) × PrintsNext source old new before after text × WroteAll sink text
 Turns source sink old new before after (Ok turn.End) = NoneLeft source old new × NothingWritten sink
-Turns source sink old new before after (Err fault.Write) = (sink.failed ≡ true) × (text : List ℕ) × TellsNext source old new before after text × WroteBeginning sink text
+Turns source sink old new before after (Err fault.Write) = (sink.failed ≡ true) × (text : List ℕ) × PrintsNext source old new before after text × WroteBeginning sink text
 Turns source sink old new before after (Err fault.Read) = (source.failed ≡ true) × ReadSome source.had source.left 0 old × NothingWritten sink
 Turns source sink old new before after (Err fault.TooLarge) = LineFault source 0 old new fault.TooLarge × ReadSome source.had source.left 0 old × NothingWritten sink
 Turns source sink old new before after (Err fault.Memory) = ReadSome source.had source.left 0 old × NothingWritten sink

@@ -35,7 +35,7 @@ abbrev pub OpeningFault : Limits → List ℕ → RunFault → Type 0
 OpeningFault limits table fault = (bytes : List ℕ) (parts : Parts) → parts_of (raw_lines bytes) ≡ Ok parts → parts.table ≡ table → ScriptFault fault (script_of limits bytes)
 
 -- the table was given a line, which has its number: the text has grown by what is printed for the line, and the next line has the next number
-pub record TellsLine (before : LiveTable) (line old new : List ℕ) (after : LiveTable) : Type 0 where
+pub record PrintsLine (before : LiveTable) (line old new : List ℕ) (after : LiveTable) : Type 0 where
   pub names : names_of after ≡ names_of before
   pub number : next_number after ≡ next_number before + 1
   pub plays : Plays (length (names_of before)) (running_of before) (commands_in (names_of before) (next_number before) line) old new (running_of after)

@@ -80,9 +80,9 @@ ScriptFault fault.TooLarge said = ⊥
 ScriptFault (fault.Threads why) said = ⊥
 
 -- what an input gives: its output, which is the replies to a script without a fault, or the fault
-abbrev pub TellsOutput : Limits → List ℕ → Result (List ℕ) RunFault → Type 0
-TellsOutput limits bytes (Ok text) = IsOk (script_of limits bytes) × (text ≡ output limits bytes)
-TellsOutput limits bytes (Err why) = ScriptFault why (script_of limits bytes)
+abbrev pub PrintsOutput : Limits → List ℕ → Result (List ℕ) RunFault → Type 0
+PrintsOutput limits bytes (Ok text) = IsOk (script_of limits bytes) × (text ≡ output limits bytes)
+PrintsOutput limits bytes (Err why) = ScriptFault why (script_of limits bytes)
 
 -- what is written of a text or a fault: the text, or the fault's line
 abbrev pub text_of : Result (List ℕ) RunFault → List ℕ

@@ -39,10 +39,10 @@ WroteBeginning sink text = (count : ℕ) × Appends sink.held sink.holds (take c
 
 -- what was written of a text, or of a fault, by how the run ended
 abbrev pub Wrote : Sink → Result (List ℕ) RunFault → Result (Unit {0}) RunFault → Type 0
-Wrote sink told (Ok done) = IsOk told × WroteAll sink (text_of told)
-Wrote sink told (Err fault.Write) = (sink.failed ≡ true) × WroteBeginning sink (text_of told)
-Wrote sink told (Err fault.Memory) = NothingWritten sink
-Wrote sink told (Err why) = (told ≡ Err why) × WroteAll sink (text_of told)
+Wrote sink returned (Ok done) = IsOk returned × WroteAll sink (text_of returned)
+Wrote sink returned (Err fault.Write) = (sink.failed ≡ true) × WroteBeginning sink (text_of returned)
+Wrote sink returned (Err fault.Memory) = NothingWritten sink
+Wrote sink returned (Err why) = (returned ≡ Err why) × WroteAll sink (text_of returned)
 
 -- all bytes of the reader were read, no more than a script may have, and P holds of them
 abbrev pub ReadAll : Source → (List ℕ → Type 0) → Type 0
@@ -50,9 +50,9 @@ ReadAll source P = (bytes : List ℕ) × Consumes source.had source.left bytes �
 
 -- what a run read and wrote, by how it ended, where Tells says which text or which fault an input may give
 abbrev pub Ran : (List ℕ → Result (List ℕ) RunFault → Type 0) → Source → Sink → Result (Unit {0}) RunFault → Type 0
-Ran Tells source sink (Ok done) = ReadAll source (λ bytes. (text : List ℕ) × Tells bytes (Ok text) × WroteAll sink text)
-Ran Tells source sink (Err fault.Read) = (source.failed ≡ true) × NothingWritten sink
-Ran Tells source sink (Err fault.TooLarge) = HadTooMany source.had × NothingWritten sink
-Ran Tells source sink (Err fault.Memory) = NothingWritten sink
-Ran Tells source sink (Err fault.Write) = (sink.failed ≡ true) × ReadAll source (λ bytes. (told : Result (List ℕ) RunFault) × Tells bytes told × WroteBeginning sink (text_of told))
-Ran Tells source sink (Err why) = ReadAll source (λ bytes. Tells bytes (Err why) × WroteAll sink (fault_text why))
+Ran Prints source sink (Ok done) = ReadAll source (λ bytes. (text : List ℕ) × Prints bytes (Ok text) × WroteAll sink text)
+Ran Prints source sink (Err fault.Read) = (source.failed ≡ true) × NothingWritten sink
+Ran Prints source sink (Err fault.TooLarge) = HadTooMany source.had × NothingWritten sink
+Ran Prints source sink (Err fault.Memory) = NothingWritten sink
+Ran Prints source sink (Err fault.Write) = (sink.failed ≡ true) × ReadAll source (λ bytes. (returned : Result (List ℕ) RunFault) × Prints bytes returned × WroteBeginning sink (text_of returned))
+Ran Prints source sink (Err why) = ReadAll source (λ bytes. Prints bytes (Err why) × WroteAll sink (fault_text why))

@@ -54,13 +54,13 @@ opening_of limits script = record { limits = limits; rows = script.rows }
 
 -- The text is the output of a joint run: one legal history gives these replies to the acts of the script's clients, and so does the
 -- sequential table for one interleaving of them.
-pub record TellsJointRun (limits : Limits) (script : Script) (text : List ℕ) : Type 0 where
+pub record PrintsJointRun (limits : Limits) (script : Script) (text : List ℕ) : Type 0 where
   pub acts : List (Vec Act)
   pub replies : List (Vec Reply)
   pub of_script : AreActs limits.clients (accepted_events script.commands) acts
   pub joint : IsJointRun (opening_of limits script) (newcomers limits.clients) acts replies
   pub sequential : IsSequential (opening_of limits script) acts replies
-  pub told : text ≡ threads_text limits script replies
+  pub returned : text ≡ threads_text limits script replies
 
 -- why the acts have no replies: the board was not opened, or the run of its clients is refused
 abbrev pub ClosesOrStops : (J : Type 0) → Opening → (ℕ → ℕ → Bool → Type 0) → List (Vec Act) → ShareFault → Type 0
@@ -78,10 +78,10 @@ pub record WereStopped (limits : Limits) (says : ℕ → ℕ → Bool → Type 0
   pub stops : StopsClients (opening_of limits script) says acts why
 
 -- what an input gives whose clients run on threads behind such a gate: the text of a joint run, a fault, or why they were stopped
-abbrev pub TellsOnThreads : Limits → (ℕ → ℕ → Bool → Type 0) → List ℕ → Result (List ℕ) RunFault → Type 0
-TellsOnThreads limits says bytes (Ok text) = (script : Script) × (script_of limits bytes ≡ Ok script) × TellsJointRun limits script text
-TellsOnThreads limits says bytes (Err (fault.Threads why)) = (script : Script) × (script_of limits bytes ≡ Ok script) × WereStopped limits says script why
-TellsOnThreads limits says bytes (Err why) = ScriptFault why (script_of limits bytes)
+abbrev pub PrintsOnThreads : Limits → (ℕ → ℕ → Bool → Type 0) → List ℕ → Result (List ℕ) RunFault → Type 0
+PrintsOnThreads limits says bytes (Ok text) = (script : Script) × (script_of limits bytes ≡ Ok script) × PrintsJointRun limits script text
+PrintsOnThreads limits says bytes (Err (fault.Threads why)) = (script : Script) × (script_of limits bytes ≡ Ok script) × WereStopped limits says script why
+PrintsOnThreads limits says bytes (Err why) = ScriptFault why (script_of limits bytes)
 
 -- what a gate says that is always open
 abbrev pub always_open : ℕ → ℕ → Bool → Type 0

@@ -1,7 +1,7 @@
 //! A script whose lines are replied to as they come.
 ghost use Rattle.std.specs.Prelude.{◌≡◌, ◌≤◌, ◌<◌, ◌+◌, ◌^◌, [], List, ℕ, Option, false};
 ghost use Rattle.pref_core.specs.Limits.{Limits};
-ghost use Rattle.pref_script.specs.Hearing.{Hears, OpensLive, ReadsBlock};
+ghost use Rattle.pref_script.specs.HeardScript.{Hears, OpensLive, ReadsBlock};
 ghost use Rattle.pref_script.specs.Live.{RanLive, Turns};
 ghost use Rattle.pref_script.specs.LiveTable.{next_number};
 ghost use Rattle.pref_script.specs.ReadAhead.{is_at_end, unread};
@@ -10,7 +10,7 @@ ghost use Rattle.pref_script.specs.Watched.{has_failed, inside};
 
 use crate::fault::RunFault;
 use crate::live_table::LiveTable;
-use crate::output::{write_output, write_told};
+use crate::output::{write_output, write_result};
 use crate::read_ahead::ReadAhead;
 use crate::script::{is_end_line, is_table_line, line_text};
 use crate::watched::Watched;
@@ -25,7 +25,7 @@ const MAX_LINES: u64 = 1 << 63;
 #[derive(Clone, Copy)]
 pub enum Turn {
     /// A line was read, and its replies were written.
-    Told,
+    Replied,
     /// There was no line.
     End,
 }
@@ -115,14 +115,14 @@ fn take_turn<R: Read, W: Write>(
         return Ok(Turn::End);
     }
     let mut text = String::new(alloc);
-    live.tell(alloc, line_text(&ahead.as_slice()[..end]), &mut text)?;
+    live.reply_to(alloc, line_text(&ahead.as_slice()[..end]), &mut text)?;
     ahead.take(end);
     write_output(writer, text.as_bytes())?;
-    Ok(Turn::Told)
+    Ok(Turn::Replied)
 }
 
 /// Plays all lines that come.
-fn tell_all<R: Read, W: Write>(
+fn reply_to_all<R: Read, W: Write>(
     alloc: Global,
     reader: &mut Watched<R>,
     writer: &mut Watched<W>,
@@ -135,7 +135,7 @@ fn tell_all<R: Read, W: Write>(
 {
     for _line in 0..MAX_LINES {
         match take_turn(alloc, reader, writer, ahead, live)? {
-            Turn::Told => {}
+            Turn::Replied => {}
             Turn::End => return Ok(()),
         }
     }
@@ -167,7 +167,7 @@ pub fn run_live<R: Read, W: Write>(
 {
     let mut ahead = ReadAhead::new(alloc);
     match open_live(alloc, reader, &mut ahead, setup) {
-        Ok(mut live) => tell_all(alloc, reader, writer, &mut ahead, &mut live),
-        Err(fault) => write_told(alloc, writer, Err(fault)),
+        Ok(mut live) => reply_to_all(alloc, reader, writer, &mut ahead, &mut live),
+        Err(fault) => write_result(alloc, writer, Err(fault)),
     }
 }

@@ -1,6 +1,6 @@
 //! A table with its clients that is given its lines one at a time.
 ghost use Rattle.std.specs.Prelude.{◌≡◌, ◌<◌, ◌+◌, ◌^◌, string_bytes, OnOk, IfOk, IfErr};
-ghost use Rattle.pref_script.specs.LiveTable.{IsOpened, OpeningFault, TellsLine, next_number};
+ghost use Rattle.pref_script.specs.LiveTable.{IsOpened, OpeningFault, PrintsLine, next_number};
 
 use crate::fault::RunFault;
 use crate::playing::play_line;
@@ -12,7 +12,7 @@ use std::alloc::Global;
 ///
 /// ```text
 /// let mut live = LiveTable::open(alloc, setup, b"price\n50\n", 5)?;
-/// live.tell(alloc, b"as 1 insert 45", &mut text)?;
+/// live.reply_to(alloc, b"as 1 insert 45", &mut text)?;
 /// ```
 #[derive(Drop)]
 pub struct LiveTable {
@@ -46,9 +46,14 @@ impl LiveTable {
     /// Appends the replies to a line, which is given without its end: nothing where it is blank.
     ///
     /// Refused `Memory` alone. The line may have been done then, and the text may have a part of its replies, so the table is to be given no more lines.
-    pub fn tell(&mut self, alloc: Global, line: &[u8], text: &mut String) -> Result<(), RunFault>
+    pub fn reply_to(
+        &mut self,
+        alloc: Global,
+        line: &[u8],
+        text: &mut String,
+    ) -> Result<(), RunFault>
         requires { next_number self.old + 1 < 2 ^ 64 }
-        ensures told { OnOk result (TellsLine self.old line.now (string_bytes text.old) (string_bytes text.new) self.new) }
+        ensures returned { OnOk result (PrintsLine self.old line.now (string_bytes text.old) (string_bytes text.new) self.new) }
         ensures memory { IfErr result (λ fault. fault ≡ RunFault.Memory) }
     {
         play_line(

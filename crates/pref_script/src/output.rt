@@ -68,15 +68,15 @@ pub fn fault_line(alloc: Global, fault: &RunFault) -> Result<String, AllocError>
 /// Writes a text, or the line of a fault, which is handed on then.
 ///
 /// Refused `Write` as [`write_output`] is, and `Memory` where there is none for the line: nothing was written then.
-pub fn write_told<W: Write>(
+pub fn write_result<W: Write>(
     alloc: Global,
     writer: &mut Watched<W>,
-    told: Result<String, RunFault>,
+    returned: Result<String, RunFault>,
 ) -> Result<(), RunFault>
-    requires { told ≡ Err RunFault.Write → ⊥ }
-    ensures { Wrote (sink_of W.contents writer.old writer.new) (in_bytes told) result }
+    requires { returned ≡ Err RunFault.Write → ⊥ }
+    ensures { Wrote (sink_of W.contents writer.old writer.new) (in_bytes returned) result }
 {
-    match told {
+    match returned {
         Ok(text) => write_output(writer, text.as_bytes()),
         Err(fault) => {
             let line = fault_line(alloc, &fault)?;

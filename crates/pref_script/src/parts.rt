@@ -36,11 +36,11 @@ impl Part<'_> {
 }
 
 impl Task for Part<'_> {
-    ghost use Rattle.pref_script.specs.ClientParts.{HasTold, acts_left};
+    ghost use Rattle.pref_script.specs.ClientParts.{HasReplied, acts_left};
 
     ghost left = { acts_left };
 
-    ghost took = { HasTold };
+    ghost took = { HasReplied };
 
     fn next(&mut self, alloc: Global) -> Result<Option<Act>, AllocError> {
         while self.read < self.lines.len() {

@@ -5,21 +5,21 @@ ghost use Rattle.std.specs.Io.KnownBytes.{Consumes};
 ghost use Rattle.pref_core.specs.declared.fault.CoreFault.TheVariants as core;
 ghost use Rattle.pref_core.specs.declared.event.Act.{Act};
 ghost use Rattle.pref_share.specs.Reports.{RanTasks};
-ghost use Rattle.pref_script.specs.ClientParts.{HasTold, acts_left};
+ghost use Rattle.pref_script.specs.ClientParts.{HasReplied, acts_left};
 ghost use Rattle.pref_script.specs.Output.{in_bytes};
 ghost use Rattle.pref_script.specs.Run.{Ran, sink_of, source_of};
-ghost use Rattle.pref_script.specs.Threads.{ClosesOrStops, HoldsNobody, TellsOnThreads, always_open};
+ghost use Rattle.pref_script.specs.Threads.{ClosesOrStops, HoldsNobody, PrintsOnThreads, always_open};
 ghost use Rattle.pref_script.specs.Watched.{has_failed, inside};
 
 use crate::fault::RunFault;
 use crate::input::read_input;
-use crate::output::write_told;
+use crate::output::write_result;
 use crate::parts::{Part, client_parts, push_parts};
 use crate::reading::{Opening, read_opening};
 use crate::unowned::unowned_text;
 use crate::watched::Watched;
 use pref_core::Setup;
-use pref_share::{Gate, Name, Naming, ShareFault, open_board, run_tasks};
+use pref_share::{BoardBrand, BoardName, Gate, ShareFault, open_board, run_tasks};
 use pref_table::Row;
 use std::alloc::Global;
 use std::io::{Read, Write};
@@ -43,10 +43,10 @@ impl Gate for OpenGate {
 }
 
 /// The clients' parts of a script once they are done, on threads of their own over one new board.
-fn joint_parts<'script, J: Naming + Send + Sync, R: Threads + Wait + Sync, G: Gate + Sync>(
+fn joint_parts<'script, J: BoardBrand + Send + Sync, R: Threads + Wait + Sync, G: Gate + Sync>(
     rt: &R,
     alloc: Global,
-    name: Name,
+    name: BoardName,
     setup: Setup,
     rows: &[Row],
     parts: Vec<Part<'script>>,
@@ -57,7 +57,7 @@ fn joint_parts<'script, J: Naming + Send + Sync, R: Threads + Wait + Sync, G: Ga
     requires lists { length parts.items ≡ setup.clients }
     requires few { All (λ part. length (acts_left part) < 2 ^ 63) parts.items }
     ensures ran { IfOk result (λ done. (acts : List (VecValue Act)) → map (λ list. list.items) acts ≡ map acts_left parts.entry.items
-        → RanTasks (record { limits = setup; rows = rows.now }) HasTold acts parts.entry.items done.items) }
+        → RanTasks (record { limits = setup; rows = rows.now }) HasReplied acts parts.entry.items done.items) }
     ensures room { IfOk result (λ _. setup.capacity < length rows.now → ⊥) }
     ensures stops { IfErr result (λ why. (setup.capacity < length rows.now) × (why ≡ ShareFault.Core (core.Full (length rows.now)))
         ⊎ (setup.capacity < length rows.now → ⊥) × ((acts : List (VecValue Act)) → map (λ list. list.items) acts ≡ map acts_left parts.entry.items
@@ -87,14 +87,14 @@ pub fn run_threads<R: Threads + Wait + Sync, G: Gate + Sync>(
     setup: Setup,
     gate: &G,
 ) -> Result<String, RunFault>
-    ensures { TellsOnThreads setup (G.says gate.now) bytes.now (in_bytes result) }
+    ensures { PrintsOnThreads setup (G.says gate.now) bytes.now (in_bytes result) }
 {
     let Opening { schema, rows, text } = read_opening(alloc, bytes)?;
     let parts = client_parts(alloc, &schema, setup.clients(), text.commands)?;
     let done = joint_parts::<Brand, R, G>(
         rt,
         alloc,
-        Name::new(),
+        BoardName::new(),
         setup,
         rows.as_slice(),
         parts,
@@ -127,10 +127,10 @@ pub fn run_script_on_threads<T: Threads + Wait + Sync, R: Read, W: Write>(
     requires reads { has_failed reader.old ≡ false }
     requires writes { has_failed writer.old ≡ false }
     ensures most { (bytes : List ℕ) × Consumes (R.remaining (inside reader.old)) (R.remaining (inside reader.new)) bytes × (length bytes ≤ 16777217) }
-    ensures ran { Ran (TellsOnThreads setup always_open) (source_of R.remaining reader.old reader.new) (sink_of W.contents writer.old writer.new) result }
+    ensures ran { Ran (PrintsOnThreads setup always_open) (source_of R.remaining reader.old reader.new) (sink_of W.contents writer.old writer.new) result }
     ensures nobody { IfErr result HoldsNobody }
 {
     let input = read_input(alloc, reader)?;
-    let told = run_threads(rt, alloc, input.as_slice(), setup, &OpenGate);
-    write_told(alloc, writer, told)
+    let returned = run_threads(rt, alloc, input.as_slice(), setup, &OpenGate);
+    write_result(alloc, writer, returned)
 }

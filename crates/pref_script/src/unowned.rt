@@ -49,7 +49,7 @@ fn push_unowned(
     line: &[u8],
     out: &mut String,
 ) -> Result<(), RunFault>
-    ensures told { OnOk result (string_bytes out.new ≡ string_bytes out.old ++ unowned_lines clients (length schema.now) (commands_in schema.now number line.now)) }
+    ensures returned { OnOk result (string_bytes out.new ≡ string_bytes out.old ++ unowned_lines clients (length schema.now) (commands_in schema.now number line.now)) }
     ensures memory { IfErr result (λ fault. fault ≡ RunFault.Memory) }
 {
     if is_blank_line(line) {
@@ -84,7 +84,7 @@ fn push_if_unowned(
     out: &mut String,
 ) -> Result<(), RunFault>
     requires { WholeAccept schema.now parts.now line.now }
-    ensures told { OnOk result (string_bytes out.new ≡ string_bytes out.old ++ unowned_lines (length parts.now) (length schema.now) (commands_in schema.now number line.now)) }
+    ensures returned { OnOk result (string_bytes out.new ≡ string_bytes out.old ++ unowned_lines (length parts.now) (length schema.now) (commands_in schema.now number line.now)) }
     ensures memory { IfErr result (λ fault. fault ≡ RunFault.Memory) }
 {
     if is_read(parts, line) {
@@ -103,7 +103,7 @@ pub fn unowned_text(
 ) -> Result<String, RunFault>
     requires few { script.first + length script.commands.now < 2 ^ 64 }
     requires whole { WholeAcceptAll schema.now parts.now (raw_lines script.commands.now) }
-    ensures told { IfOk result (λ text. string_bytes text ≡ unowned_lines (length parts.now) (length schema.now) (commands_of schema.now script.entry.first (raw_lines script.entry.commands.now))) }
+    ensures returned { IfOk result (λ text. string_bytes text ≡ unowned_lines (length parts.now) (length schema.now) (commands_of schema.now script.entry.first (raw_lines script.entry.commands.now))) }
     ensures memory { IfErr result (λ fault. fault ≡ RunFault.Memory) }
 {
     let mut text = String::new(alloc);

@@ -12,17 +12,17 @@ pub use Rattle.std.specs.Option.{option_map, option_or, unwrap_or}
 pub use Rattle.std.specs.Vec.Iter.{into_iter_items}
 pub use Rattle.core.specs.Mem.{manually_drop_value}
 pub use Rattle.logbook.specs.Pages.{Book, Cell, Moves, Nib, adds, cell, gives, keeps, may_write, no_nib}
-pub use Rattle.pref_core.proofs.Stability.{seat-with_seat_other, seat-with_seat_same}
-pub use Rattle.pref_core.proofs.Systems.{after_quiet, begun_after-change, client_there, members-changed, state_of-changed, state_of-counted}
+pub use Rattle.pref_core.proofs.StabilityLaws.{seat-with_seat_other, seat-with_seat_same}
+pub use Rattle.pref_core.proofs.SystemsLaws.{after_quiet, begun_after-change, client_there, members-changed, state_of-changed, state_of-counted}
 pub use Rattle.pref_core.specs.History.{AreLegalOps, IsLegalCall, IsLegalHistory, numbered_of, state_after}
 pub use Rattle.pref_core.specs.Operations.{IsLegal, PlansIn, applied, is_next, ran, same_number, slots_after}
 pub use Rattle.pref_core.specs.Planned.{op_of}
 pub use Rattle.pref_core.specs.Scans.{Answers, IsScanned, NextIsNew, begin, next_block}
 pub use Rattle.pref_core.specs.Slots.{Contents, Shows, ShowsBegin, StandsFor}
-pub use Rattle.pref_core.specs.State.{Client, Snapshot, State, added, after, begins_row, begun_after, begun_of, calls_of, committed, counted, ended, granted, idle_clients, is_change, missing, needed}
+pub use Rattle.pref_core.specs.State.{Client, Snapshot, State, added, after, begins_row, begun_after, begun_of, calls_of, committed, counted, ended, success_outcome, idle_clients, is_change, missing, needed}
 pub use Rattle.pref_core.specs.State.{outcome, refusal, refusal_by_query, refusal_of, seat, succeeds, with_seat}
 pub use Rattle.pref_core.specs.Step.{Member, Open, Step, System, change, changed, client_of, counted_with, finish, one_less, opened, refused, replies, replies_from, scan, scanned_with, snapshot}
-pub use Rattle.pref_core.specs.Step.{state_of, step, told_of_commit}
+pub use Rattle.pref_core.specs.Step.{state_of, step, committed_of}
 pub use Rattle.pref_core.specs.declared.call.Call.{Call}
 pub use Rattle.pref_core.specs.declared.call.Call.TheVariants.{Abandon as CallAbandon, Begin as CallBegin, Commit as CallCommit, Delete as CallDelete, Finish as CallFinish, Insert as CallInsert}
 pub use Rattle.pref_core.specs.declared.call.Call.TheVariants.{Update as CallUpdate}
@@ -34,12 +34,12 @@ pub use Rattle.pref_core.specs.declared.event.Reply.{Reply}
 pub use Rattle.pref_core.specs.declared.fault.CoreFault.{CoreFault}
 pub use Rattle.pref_core.specs.declared.fault.CoreFault.TheVariants.{AllScanned, NoQuery, NoSuchClient, NoSuchRow, NoSuchRow as MissingRow, NotDone, OutOfMemory, QueryOpen, Spent}
 pub use Rattle.pref_share.specs.Clients.{Begins, Changes, Commits, Finishes, HasLeft, IsAnswer, IsInUse, Joins, RefusesCall, RefusesChange, RefusesFinish, Sees, asks_for_memory, own_refusal}
-pub use Rattle.pref_share.specs.Following.{Asks, AsksOrNone, GivesNone, IsAhead, IsJoined, MayJoin, Stands, done_or_refused, snapshot_at}
+pub use Rattle.pref_share.specs.SeenHistory.{Asks, AsksOrNone, GivesNone, IsAhead, IsJoined, MayJoin, Stands, outcome_or_refusal, snapshot_at}
 pub use Rattle.pref_share.specs.Openings.{HasCall, IsLegalFrom, LegalIsHistory, MayFollow, Opening, calls_at, contents_at, first_contents, first_state, history_of, state_at}
 pub use Rattle.pref_share.specs.Reports.{AreReports, AreTaken, Did, DidActs, Ends, IsFirstStopped, IsFoundInUse, IsWithin, RefusesRun, StandsWithin, WasLetIn}
 pub use Rattle.pref_share.specs.Runs.{Adds, IsJointRun, IsPart, IsStep, Looks, Performs, Runs, RunsTo, StepsTo, StopsAt, call_of, member_of, nobody, none, open_of, step_by, then}
-pub use Rattle.pref_share.specs.Scanning.{HasMore, RefusesGet, RefusesScan, Scanned, room_at, row_after}
-pub use Rattle.pref_share.specs.Settling.{AreWorked, DidTask, IsFirstOf, Settles, report_of}
+pub use Rattle.pref_share.specs.ClientReads.{HasMore, RefusesGet, RefusesScan, Scanned, room_at, row_after}
+pub use Rattle.pref_share.specs.TaskResults.{AreWorked, DidTask, IsFirstOf, Settles, report_of}
 pub use Rattle.pref_share.specs.Standing.{Asking, Standing, newcomer, newcomers}
 pub use Rattle.pref_share.specs.Views.{AreLetIn, Fits, HoldsHistory, Kept, Knows, Opens, Reads, Stays, stamped}
 pub use Rattle.pref_share.specs.declared.fault.ShareFault.{ShareFault}

@@ -2,8 +2,8 @@
 use Rattle.pref_share.proofs.Common.{◌≡◌, ℕ, zero, suc, ◌<◌, ◌≤◌, List, [], ◌∷◌, ◌++◌, length, Option, Some, None, refl, sym, ap, ◌∙◌, subst, arith, inl, inr, ◌⊎◌, length-append, length-set}
 use Rattle.pref_share.proofs.Common.{slice_get_within, IsPrefix, Call, Op, Act, Reply, State, Client, seat, with_seat, after, calls_of, state_after, Opening, IsLegalFrom, history_of, first_state}
 use Rattle.pref_share.proofs.Common.{state_at, calls_at, Standing, newcomer, Looks, Adds, Runs, none, then}
-use Rattle.pref_share.proofs.Histories.{history_rest, legal_is_history, state_at-append}
-use Rattle.pref_share.proofs.Counting.{IsCaller, IsGrown, after_clients, caller, calls_own, calls_grow, idle_seat, length-idle, one_more, seat_other}
+use Rattle.pref_share.proofs.HistoryLaws.{history_rest, legal_is_history, state_at-append}
+use Rattle.pref_share.proofs.CallCounts.{IsCaller, IsGrown, after_clients, caller, calls_own, calls_grow, idle_seat, length-idle, one_more, seat_other}
 
 -- a list is empty, or has a last element
 pub last_of : {A : Type 0} (xs : List A) → (xs ≡ []) ⊎ ((before : List A) × (x : A) × (before ++ x ∷ [] ≡ xs))

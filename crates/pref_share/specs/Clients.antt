@@ -14,8 +14,8 @@ use Rattle.pref_core.specs.declared.fault.CoreFault.TheVariants.{NotDone, NoSuch
 use Rattle.pref_core.specs.declared.changes.Change.{Change}
 use Rattle.pref_core.specs.declared.event.Committed.{Committed}
 use Rattle.pref_core.specs.Table.{entries}
-use Rattle.pref_core.specs.State.{added, granted, outcome, refusal_of}
-use Rattle.pref_core.specs.Step.{told_of_commit}
+use Rattle.pref_core.specs.State.{added, success_outcome, outcome, refusal_of}
+use Rattle.pref_core.specs.Step.{committed_of}
 use Rattle.pref_core.specs.History.{numbered_of}
 use Rattle.pref_core.specs.Scans.{begin}
 use Rattle.pref_core.specs.Limits.{blocks}
@@ -30,26 +30,26 @@ abbrev pub own_refusal : Standing → Call → Option CoreFault
 own_refusal s call = refusal_of (Some s.counter) (is_some s.query) call
 
 -- The call joined the history: what was seen then ends with it, and its outcome is the sequential table's at that place.
-pub record Joins (o : Opening) (old : Standing) (call : Call) (told : Outcome) (new : Standing) : Type 0 where
+pub record Joins (o : Opening) (old : Standing) (call : Call) (returned : Outcome) (new : Standing) : Type 0 where
   pub accepted : own_refusal old call ≡ None
   pub before : List Op
   pub op : Op
   pub further : IsPrefix old.seen before
   pub ends : new.seen ≡ before ++ op ∷ []
-  pub is : numbered_of op ≡ record { client = old.number; number = suc old.counter; call = call; outcome = told }
+  pub is : numbered_of op ≡ record { client = old.number; number = suc old.counter; call = call; outcome = returned }
   pub alone : calls_at o before old.number ≡ Some old.counter
-  pub reply : told ≡ outcome o.limits.capacity (state_at o before) call
+  pub reply : returned ≡ outcome o.limits.capacity (state_at o before) call
   pub legal : IsLegalFrom o new.seen
   pub counted : new.counter ≡ suc old.counter
   pub same : new.number ≡ old.number
 
 -- the same, and the open query stays
 abbrev pub Changes : Opening → Standing → Call → Outcome → Standing → Type 0
-Changes o old call told new = Joins o old call told new × (new.query ≡ old.query)
+Changes o old call returned new = Joins o old call returned new × (new.query ≡ old.query)
 
 -- the changes of a commit joined the history as one call, which added its rows from the returned id on, and this is returned of it
 abbrev pub Commits : Opening → Standing → List Change → Committed → Standing → Type 0
-Commits o old commit told new = Changes o old (Commit commit) (granted told.first (Commit commit)) new × (told ≡ told_of_commit told.first commit)
+Commits o old commit returned new = Changes o old (Commit commit) (success_outcome returned.first (Commit commit)) new × (returned ≡ committed_of returned.first commit)
 
 -- no call was made, and no less was seen
 pub record Sees (o : Opening) (old new : Standing) : Type 0 where
@@ -94,7 +94,7 @@ RefusesBegin o old ask refused new = (refused.ask ≡ ask) × RefusesCall o old 
 -- A query began: it has scanned nothing, and looks at the table as its begin left it.
 pub record Begins (o : Opening) (old : Standing) (ask : Question) (left : ℕ) (new : Standing) : Type 0 where
   pub joins : Joins o old Begin Done new
-  pub query : new.query ≡ Some (record { scan = begin ask (state_at o new.seen).commits o.limits; begun = new.seen })
+  pub query : new.query ≡ Some (record { scan = begin ask (state_at o new.seen).commits o.limits; at_begin = new.seen })
   pub left_is : left ≡ blocks o.limits
 
 -- the open query has no block left, and this is its answer, by the table at its begin
@@ -102,7 +102,7 @@ pub record IsAnswer (o : Opening) (s : Standing) (ranked : List Ranked) : Type 0
   pub asking : Asking
   pub is_open : s.query ≡ Some asking
   pub done : asking.scan.left ≡ 0
-  pub answer : ranked ≡ answer_of asking.scan.ask (entries (state_at o asking.begun).table)
+  pub answer : ranked ≡ answer_of asking.scan.ask (entries (state_at o asking.at_begin).table)
 
 -- a query is open, and has no block left
 pub record HasNoneLeft (s : Standing) : Type 0 where

@@ -1,13 +1,13 @@
 pub mod Openings
 pub mod Standing
 pub mod Clients
-pub mod Scanning
+pub mod ClientReads
 pub mod Runs
 pub mod Reports
 pub mod Interleavings
-pub mod Performing
-pub mod Settling
-pub mod Following
+pub mod ActReplies
+pub mod TaskResults
+pub mod SeenHistory
 pub mod Reached
 pub mod Book
 pub mod Views

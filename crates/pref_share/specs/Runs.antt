@@ -21,7 +21,7 @@ use Rattle.pref_share.specs.Clients.{Sees}
 
 -- the open query of a client, as its own acts give it: the table at its begin is that of the history that it began at
 abbrev pub open_of : Opening → Asking → Open
-open_of o asking = record { ask = asking.scan.ask; table = (state_at o asking.begun).table; commits = (state_at o asking.begun).commits; left = asking.scan.left }
+open_of o asking = record { ask = asking.scan.ask; table = (state_at o asking.at_begin).table; commits = (state_at o asking.at_begin).commits; left = asking.scan.left }
 
 -- the client, as its own acts give it
 abbrev pub member_of : Opening → Standing → Member
@@ -72,7 +72,7 @@ pub record StepsTo (o : Opening) (s : Standing) (act : Act) (reply : Reply) (t :
   pub legal : IsLegalFrom o t.seen
   pub same : t.number ≡ s.number
   pub joins : Looks s t at ⊎ Adds o s act t at
-  pub told : (system : System) → state_of system ≡ state_at o at → seat s.number system.members ≡ Some (member_of o s) → IsStep o s act reply t system
+  pub returned : (system : System) → state_of system ≡ state_at o at → seat s.number system.members ≡ Some (member_of o s) → IsStep o s act reply t system
 
 -- acts in order, with the reply to each, and the client after each
 pub data Runs (o : Opening) (s : Standing) : List Act → List Reply → List Standing → Standing → Type 0 where
@@ -99,7 +99,7 @@ pub record IsJointRun (o : Opening) (clients : List Standing) (acts : List (Vec 
   pub legal : IsLegalFrom o history
   pub lists : length replies ≡ length clients
   pub each : (i : ℕ) (client : Standing) (list : Vec Act) → slice_get clients i ≡ Some client → slice_get acts i ≡ Some list
-      → (told : Vec Reply) × (slice_get replies i ≡ Some told) × IsPart o history client list.items told.items
+      → (returned : Vec Reply) × (slice_get replies i ≡ Some returned) × IsPart o history client list.items returned.items
 
 -- the next of these acts is no numbered call: a scan, a get or a room
 abbrev pub ReadsNext : List Act → Type 0

@@ -6,7 +6,7 @@ use Rattle.pref_core.specs.Scans.{Scan}
 -- an open query, and the history that ends with its begin
 pub record Asking : Type 0 where
   pub scan : Scan
-  pub begun : List Op
+  pub at_begin : List Op
 
 -- its number, how many numbered calls it has made, the history that it has seen, and its open query
 pub record Standing : Type 0 where

@@ -5,11 +5,11 @@ ghost use Rattle.pref_core.specs.declared.fault.CoreFault as fault;
 ghost use Rattle.pref_share.specs.Openings.{IsLegalFrom};
 ghost use Rattle.pref_share.specs.Standing.{newcomers};
 
-use crate::book::{Name, Naming};
+use crate::book::{BoardBrand, BoardName};
 use crate::client::Client;
 use crate::fault::ShareFault;
 use crate::history::Prefix;
-use crate::master::Master;
+use crate::publisher::Publisher;
 use pref_core::{CoreFault, Setup, Store};
 use pref_table::Row;
 use std::alloc::Global;
@@ -23,15 +23,15 @@ use std::sync::{Mutex, Wait};
 /// let done = run_clients(rt, &board, clients);
 /// board.close(rt);
 /// ```
-pub struct Board<J: Naming> {
-    pub(crate) master: Mutex<Master<J>>,
+pub struct Board<J: BoardBrand> {
+    pub(crate) publisher: Mutex<Publisher<J>>,
 }
 
-impl<J: Naming> Board<J> {
+impl<J: BoardBrand> Board<J> {
     /// Lets no reader in from now on: clients that read are refused `Closed`. Waits for those that are reading.
     pub fn close<R: Wait>(self, rt: &R) {
-        let Board { master } = self;
-        master.into_inner().close(rt);
+        let Board { publisher } = self;
+        publisher.into_inner().close(rt);
     }
 }
 
@@ -41,17 +41,17 @@ impl<J: Naming> Board<J> {
 /// reader is given or a board was opened under this name before, which cannot be. Nothing is kept then. Cost: two
 /// stores of all slots, since readers take two copies in turn, and an index of the rows.
 ///
-/// The function that opens a board is generic over its name, and its caller picks one: `run_board::<Brand, _>(&rt, Name::new(), setup, &schema, &hotels)`.
+/// The function that opens a board is generic over its name, and its caller picks one: `run_board::<Brand, _>(&rt, BoardName::new(), setup, &schema, &hotels)`.
 ///
 /// ```text
 /// let (board, clients) = open_board::<J, R>(rt, alloc, name, setup, rows)?;
 /// let done = run_clients(rt, &board, clients);
 /// board.close(rt);
 /// ```
-pub fn open_board<J: Naming, R: Wait>(
+pub fn open_board<J: BoardBrand, R: Wait>(
     rt: &R,
     alloc: Global,
-    name: Name,
+    name: BoardName,
     setup: Setup,
     rows: &[Row],
 ) -> Result<(Board<J>, Vec<Client<J>>), ShareFault>
@@ -65,25 +65,25 @@ pub fn open_board<J: Naming, R: Wait>(
     let Some((history, nothing)) = name.begin::<J>() else {
         return Err(ShareFault::Closed);
     };
-    let mut master = Master::open(rt, alloc, store, history, setup.clients())?;
-    match all_clients(alloc, &mut master, &nothing, setup) {
+    let mut publisher = Publisher::open(rt, alloc, store, history, setup.clients())?;
+    match all_clients(alloc, &mut publisher, &nothing, setup) {
         Ok(clients) => Ok((
             Board {
-                master: Mutex::new(master),
+                publisher: Mutex::new(publisher),
             },
             clients,
         )),
         Err(fault) => {
-            master.close(rt);
+            publisher.close(rt);
             Err(fault)
         }
     }
 }
 
 /// The clients, who have seen nothing.
-fn all_clients<J: Naming>(
+fn all_clients<J: BoardBrand>(
     alloc: Global,
-    master: &mut Master<J>,
+    publisher: &mut Publisher<J>,
     nothing: &Prefix<J>,
     setup: Setup,
 ) -> Result<Vec<Client<J>>, ShareFault>
@@ -94,7 +94,7 @@ fn all_clients<J: Naming>(
 {
     let mut all = Vec::new(alloc);
     for client in 0..setup.clients() {
-        let Ok(reader) = master.reader() else {
+        let Ok(reader) = publisher.reader() else {
             return Err(ShareFault::Closed);
         };
         let client = Client::new(client + 1, setup, nothing.again(), reader);

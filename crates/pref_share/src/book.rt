@@ -50,21 +50,21 @@ impl Rule<Entry, u64> for Law {
 pub(crate) type Entries = Seen<Entry, u64, Law>;
 
 /// The word of the book.
-pub(crate) type Turn = Word<Entry, u64, Law>;
+pub(crate) type PenWord = Word<Entry, u64, Law>;
 
 /// A proof that the book reached a history. It has no bytes.
-pub struct Token {
+pub struct Witness {
     seen: Entries,
 }
 
 // By hand, so that letting one go is a call: a derived `drop` is written out, and proved, at each way out of each function that owns one.
-impl Drop for Token {
+impl Drop for Witness {
     fn drop(self) {
-        let Token { seen: _ } = self;
+        let Witness { seen: _ } = self;
     }
 }
 
-impl Model for Token {
+impl Model for Witness {
     ghost use Rattle.pref_share.specs.Book.{ops_of};
     ghost use Rattle.pref_share.specs.Reached.{Reached};
 
@@ -73,25 +73,25 @@ impl Model for Token {
     ghost view = { λ t. record { log = ops_of t.seen.log; book = t.seen.book } };
 }
 
-impl Token {
-    pub(crate) fn of(seen: &Entries) -> Token
+impl Witness {
+    pub(crate) fn of(seen: &Entries) -> Witness
         ensures log { result.log ≡ ops_of seen.now.log }
         ensures book { result.book ≡ seen.now.book }
     {
-        Token { seen: seen.again() }
+        Witness { seen: seen.again() }
     }
 
     /// A copy.
-    pub(crate) fn again(&self) -> Token
+    pub(crate) fn again(&self) -> Witness
         ensures { result ≡ self.now }
     {
-        Token {
+        Witness {
             seen: self.seen.again(),
         }
     }
 
     /// Afterwards it knows what both knew.
-    pub(crate) fn learn(&mut self, other: &Token)
+    pub(crate) fn learn(&mut self, other: &Witness)
         requires { other.now.book ≡ self.old.book }
         ensures book { self.new.book ≡ self.old.book }
         ensures this { IsPrefix self.old.log self.new.log }
@@ -105,43 +105,43 @@ impl Token {
         requires { self.now.book ≡ seen.old.book }
         ensures book { seen.new.book ≡ seen.old.book }
         ensures more { IsPrefix seen.old.log seen.new.log }
-        ensures told { (log : List EntryValue) × IsPrefix log seen.new.log × (ops_of log ≡ self.now.log) }
+        ensures returned { (log : List EntryValue) × IsPrefix log seen.new.log × (ops_of log ≡ self.now.log) }
     {
         seen.learn(&self.seen);
     }
 }
 
 /// Callers trade nothing.
-pub struct Nothing;
+pub struct NoTrade;
 
-impl Gain<Entry, u64> for Nothing {
+impl Gain<Entry, u64> for NoTrade {
     ghost use base.Fml.{ftrue};
 
     ghost after = { λ names about answer. ftrue };
 }
 
 /// A step that makes a pen.
-pub struct Begin;
+pub struct MakePen;
 
-impl Play<Entry, u64> for Begin {
+impl Play<Entry, u64> for MakePen {
     ghost use Rattle.pref_share.specs.Book.{Begins};
 
     ghost then = { Begins };
 }
 
 /// A step that shows that the history is whole.
-pub struct Check;
+pub struct ShowWhole;
 
-impl Play<Entry, u64> for Check {
+impl Play<Entry, u64> for ShowWhole {
     ghost use Rattle.pref_share.specs.Book.{IsWhole};
 
     ghost then = { IsWhole };
 }
 
 /// A step that adds an operation.
-pub struct Add;
+pub struct AppendOp;
 
-impl Play<Entry, u64> for Add {
+impl Play<Entry, u64> for AppendOp {
     ghost use Rattle.pref_share.specs.Book.{Adds};
 
     ghost then = { Adds };
@@ -154,7 +154,7 @@ pub(crate) struct Adding<'a> {
 }
 
 /// What a step asks for: the operation, and who may add the next one.
-impl Plain<Adding<'_>, Entry, u64> for Add {
+impl Plain<Adding<'_>, Entry, u64> for AppendOp {
     ghost use Rattle.std.specs.Prelude.{None};
     ghost use Rattle.pref_core.specs.Planned.{op_of};
 
@@ -164,7 +164,7 @@ impl Plain<Adding<'_>, Entry, u64> for Add {
 }
 
 /// For a step that adds nothing. No value of what it asks for is used.
-impl Plain<Check, Entry, u64> for Check {
+impl Plain<ShowWhole, Entry, u64> for ShowWhole {
     ghost use Rattle.std.specs.Prelude.{None, []};
     ghost use Rattle.pref_core.specs.declared.call.Call.TheVariants.{Begin};
     ghost use Rattle.pref_core.specs.declared.call.Outcome.TheVariants.{Done};
@@ -175,29 +175,31 @@ impl Plain<Check, Entry, u64> for Check {
 }
 
 /// A pen, and whether it is the first.
-pub(crate) fn new_pen(turn: &Turn, seen: &Entries) -> (Pen, bool)
+pub(crate) fn new_pen(turn: &PenWord, seen: &Entries) -> (Pen, bool)
     requires { turn.now ≡ word_of seen.now.book }
     ensures book { result.0.book ≡ seen.now.book }
     ensures right { result.0.nib.right ≡ may_write }
     ensures key { MatchBool result.1 (result.0.nib.key ≡ first_key) (Unit {0}) }
 {
     let mut seen = seen.again();
-    let mut offer: Offer<Entry, u64, Law, Nothing> = seen.plain::<Nothing, Check, Check>(&Check);
+    let mut offer: Offer<Entry, u64, Law, NoTrade> = seen.plain::<NoTrade, ShowWhole, ShowWhole>(
+        &ShowWhole,
+    );
     let mut pen = seen.no_pen();
-    let found = turn.compare_exchange::<Begin, Nothing>(0, 1, &mut seen, &mut offer, &mut pen);
-    let _word: Turn = Word::tracked(0, &mut pen);
+    let found = turn.compare_exchange::<MakePen, NoTrade>(0, 1, &mut seen, &mut offer, &mut pen);
+    let _word: PenWord = Word::tracked(0, &mut pen);
     (pen, found == 0)
 }
 
 /// The identity of a board in contracts: the book of its history, its setup and its opening rows. Code that works with any board is generic
-/// over it, as below; nobody but this crate implements it. Where a board is opened, `Brand` stands for it, beside [`Name::new`].
+/// over it, as below; nobody but this crate implements it. Where a board is opened, `Brand` stands for it, beside [`BoardName::new`].
 ///
 /// ```text
-/// fn insert<J: Naming, R: Wait + AllocGlobal>(rt: &R, board: &Board<J>, desk: &mut Client<J>, hotel: Row) -> Result<u64, ShareFault> {
+/// fn insert<J: BoardBrand, R: Wait + AllocGlobal>(rt: &R, board: &Board<J>, desk: &mut Client<J>, hotel: Row) -> Result<u64, ShareFault> {
 ///     desk.insert(rt, rt.alloc(), board, hotel)
 /// }
 /// ```
-pub trait Naming {
+pub trait BoardBrand {
     ghost use Rattle.logbook.specs.Pages.{Book};
     ghost use Rattle.pref_share.specs.Openings.{Opening};
 
@@ -206,7 +208,7 @@ pub trait Naming {
     ghost opening: { Opening };
 }
 
-impl Naming for Brand {
+impl BoardBrand for Brand {
     ghost use Rattle.std.specs.Prelude.{[]};
 
     ghost book = { record { number = 0; log_name = 0; cells_name = 0 } };
@@ -217,21 +219,21 @@ impl Naming for Brand {
 /// The name of a board that is not open yet: a book with an empty history. One board is opened under it. It takes no memory.
 ///
 /// ```text
-/// run_board::<Brand, _>(&rt, Name::new(), setup, &schema, &hotels)
+/// run_board::<Brand, _>(&rt, BoardName::new(), setup, &schema, &hotels)
 /// ```
 #[derive(Drop)]
-pub struct Name {
-    pub(crate) turn: Turn,
+pub struct BoardName {
+    pub(crate) turn: PenWord,
     pub(crate) seen: Entries,
     pub ghost empty: { seen.log ≡ [] },
     pub ghost turn_is: { turn ≡ word_of seen.book },
 }
 
-impl Name {
+impl BoardName {
     /// A name that no board has.
-    pub fn new() -> Name {
+    pub fn new() -> BoardName {
         let (seen, mut first, _second) = Seen::open(Start::alone(), 0, 0);
-        Name {
+        BoardName {
             turn: Word::tracked(0, &mut first),
             seen,
         }

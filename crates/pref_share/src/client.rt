@@ -10,15 +10,15 @@ ghost use Rattle.left_right.specs.Sides.{view};
 ghost use Rattle.pref_share.specs.Openings.{IsLegalFrom, first_contents};
 ghost use Rattle.pref_share.specs.Standing.{newcomer};
 ghost use Rattle.pref_share.specs.Clients.{Sees, IsInUse};
-ghost use Rattle.pref_share.specs.Performing.{IsIn};
+ghost use Rattle.pref_share.specs.ActReplies.{IsIn};
 ghost use Rattle.pref_share.specs.Views.{Knows};
 ghost use Rattle.pref_share.specs.declared.fault.ShareFault.TheVariants.{ClientInUse};
 
-use crate::book::Naming;
+use crate::book::BoardBrand;
 use crate::fault::ShareFault;
 use crate::history::Prefix;
-use crate::master::Master;
 use crate::published::StoreReader;
+use crate::publisher::Publisher;
 use pref_core::{Query, Setup};
 use std::marker::Model;
 
@@ -29,11 +29,11 @@ use std::marker::Model;
 /// guest.hear(word);
 /// ```
 #[derive(Drop)]
-pub struct Word<J: Naming> {
+pub struct Word<J: BoardBrand> {
     seen: Prefix<J>,
 }
 
-impl<J: Naming> Model for Word<J> {
+impl<J: BoardBrand> Model for Word<J> {
     ghost use Rattle.std.specs.Prelude.{List};
     ghost use Rattle.pref_core.specs.declared.call.Op.{Op};
 
@@ -43,19 +43,22 @@ impl<J: Naming> Model for Word<J> {
 }
 
 /// An open query, and the history that ends with its begin.
-pub(crate) struct Asking<J: Naming> {
+pub(crate) struct Asking<J: BoardBrand> {
     query: Query,
-    begun: Prefix<J>,
+    at_begin: Prefix<J>,
 }
 
 // By hand, so that letting one go is a call: a derived `drop` is written out, and proved, at each way out of each function that owns one.
-impl<J: Naming> Drop for Asking<J> {
+impl<J: BoardBrand> Drop for Asking<J> {
     fn drop(self) {
-        let Asking { query: _, begun: _ } = self;
+        let Asking {
+            query: _,
+            at_begin: _,
+        } = self;
     }
 }
 
-impl<J: Naming> Model for Asking<J> {
+impl<J: BoardBrand> Model for Asking<J> {
     ghost use Rattle.pref_share.specs.Standing.{Asking as AskingValue};
     ghost use Rattle.pref_term.specs.PreferenceCode.{coded_question};
     ghost use Rattle.std.specs.Coded.{codes};
@@ -64,7 +67,7 @@ impl<J: Naming> Model for Asking<J> {
 
     ghost coded = { Prim.hlevel (codes, coded_question) };
 
-    ghost view = { λ a. record { scan = a.query; begun = a.begun } };
+    ghost view = { λ a. record { scan = a.query; at_begin = a.at_begin } };
 }
 
 /// One client of a board: it counts its numbered calls, and keeps its open query, its reader of the published table, and what it has
@@ -79,7 +82,7 @@ impl<J: Naming> Model for Asking<J> {
 /// }
 /// let ranked = client.finish(rt, alloc, &board)?;
 /// ```
-pub struct Client<J: Naming> {
+pub struct Client<J: BoardBrand> {
     number: u8,
     counter: u64,
     setup: Setup,
@@ -89,7 +92,7 @@ pub struct Client<J: Naming> {
 }
 
 // By hand, so that letting one go is a call: a derived `drop` is written out, and proved, at each way out of each function that owns one.
-impl<J: Naming> Drop for Client<J> {
+impl<J: BoardBrand> Drop for Client<J> {
     fn drop(self) {
         let Client {
             number: _,
@@ -102,12 +105,12 @@ impl<J: Naming> Drop for Client<J> {
     }
 }
 
-impl<J: Naming> Model for Client<J> {
+impl<J: BoardBrand> Model for Client<J> {
     ghost use Rattle.std.specs.Prelude.{◌≡◌};
     ghost use Rattle.left_right.specs.Sides.{view as view_of};
     ghost use Rattle.pref_share.specs.Openings.{first_contents};
     ghost use Rattle.pref_share.specs.Views.{Knows};
-    ghost use Rattle.pref_share.specs.Following.{Stands};
+    ghost use Rattle.pref_share.specs.SeenHistory.{Stands};
     ghost use Rattle.pref_share.specs.Standing.{Standing};
     ghost use Rattle.pref_term.specs.PreferenceCode.{coded_question};
     ghost use Rattle.std.specs.Coded.{codes};
@@ -121,7 +124,7 @@ impl<J: Naming> Model for Client<J> {
     ghost invariant = { λ c. Knows (first_contents J.opening) J.book (view_of c.reader.place) × (c.setup ≡ J.opening.limits) × Stands J.opening c.number c.counter c.seen c.asking };
 }
 
-impl<J: Naming> Client<J> {
+impl<J: BoardBrand> Client<J> {
     pub(crate) fn new(number: u8, setup: Setup, seen: Prefix<J>, reader: StoreReader) -> Client<J>
         requires knows { Knows (first_contents J.opening) J.book (view reader.place) }
         requires number { (0 < number) × (number ≤ setup.clients) }
@@ -192,14 +195,14 @@ impl<J: Naming> Client<J> {
     }
 
     /// Whether the whole history holds just the calls that it made. Where it does not, the client has seen all of it from now on.
-    pub(crate) fn settle(&mut self, master: &mut Master<J>) -> Result<(), ShareFault>
-        ensures same { master.new ≡ master.old }
-        ensures settled { OnOk result (IsIn J.opening master.old self.new × (self.new ≡ self.old)) }
-        ensures in_use { IfErr result (λ fault. (fault ≡ ClientInUse (suc self.old.counter)) × IsInUse J.opening self.old (suc self.old.counter) self.new × (self.new.seen ≡ master.old)) }
+    pub(crate) fn reconcile(&mut self, publisher: &mut Publisher<J>) -> Result<(), ShareFault>
+        ensures same { publisher.new ≡ publisher.old }
+        ensures settled { OnOk result (IsIn J.opening publisher.old self.new × (self.new ≡ self.old)) }
+        ensures in_use { IfErr result (λ fault. (fault ≡ ClientInUse (suc self.old.counter)) × IsInUse J.opening self.old (suc self.old.counter) self.new × (self.new.seen ≡ publisher.old)) }
     {
-        master.check(&self.seen);
-        if master.last(self.number) > self.counter {
-            return Err(self.in_use(master.whole()));
+        publisher.check(&self.seen);
+        if publisher.last(self.number) > self.counter {
+            return Err(self.in_use(publisher.whole()));
         }
         Ok(())
     }

@@ -6,7 +6,10 @@ ghost use Rattle.pref_core.specs.Limits.{AreAllowed};
 ghost use Rattle.pref_core.specs.Planned.{op_of};
 ghost use Rattle.pref_share.specs.Openings.{IsLegalFrom, MayFollow};
 
-use crate::book::{Add, Adding, Check, Entries, Law, Name, Naming, Nothing, Token, Turn, new_pen};
+use crate::book::{
+    Adding, AppendOp, BoardBrand, BoardName, Entries, Law, NoTrade, PenWord, ShowWhole, Witness,
+    new_pen,
+};
 use crate::entry::Entry;
 use logbook::{Offer, Pen};
 use pref_core::Planned;
@@ -14,15 +17,15 @@ use std::marker::{Model, PhantomData};
 
 /// The whole history. Who has it alone may add to it. Contracts see its operations.
 #[derive(Drop)]
-pub(crate) struct History<J: Naming> {
-    turn: Turn,
+pub(crate) struct History<J: BoardBrand> {
+    turn: PenWord,
     len: u64,
     seen: Entries,
     pen: Pen,
     of: PhantomData<J>,
 }
 
-impl<J: Naming> Model for History<J> {
+impl<J: BoardBrand> Model for History<J> {
     ghost use Rattle.std.specs.Prelude.{◌≡◌, List, length};
     ghost use Rattle.logbook.specs.Pages.{may_write};
     ghost use Rattle.pref_core.specs.declared.call.Op.{Op};
@@ -36,22 +39,22 @@ impl<J: Naming> Model for History<J> {
     ghost invariant = { λ h. (h.turn ≡ word_of J.book) × (h.len ≡ length (ops_of h.seen.log)) × (h.seen.book ≡ J.book) × (h.pen.book ≡ J.book) × (h.pen.nib.right ≡ may_write) × (key_after h.seen.log ≡ h.pen.nib.key) × IsLegalFrom J.opening (ops_of h.seen.log) };
 }
 
-impl Name {
+impl BoardName {
     /// The history, with the right to add to it, and the beginning that has seen nothing. This book has been begun by no one
     /// else, so no run returns `None`.
-    pub(crate) fn begin<J: Naming>(self) -> Option<(History<J>, Prefix<J>)>
+    pub(crate) fn begin<J: BoardBrand>(self) -> Option<(History<J>, Prefix<J>)>
         requires book { self.seen.book ≡ J.book }
         requires legal { IsLegalFrom J.opening [] }
         ensures { IfSome result (λ r. (r.0 ≡ []) × (r.1 ≡ [])) }
     {
-        let Name { turn, seen } = self;
+        let BoardName { turn, seen } = self;
         let (pen, is_first) = new_pen(&turn, &seen);
         if !is_first {
             return None;
         }
         let prefix = Prefix {
             len: 0,
-            seen: Token::of(&seen),
+            seen: Witness::of(&seen),
             of: PhantomData,
         };
         let history = History {
@@ -65,7 +68,7 @@ impl Name {
     }
 }
 
-impl<J: Naming> History<J> {
+impl<J: BoardBrand> History<J> {
     /// All of it, as a beginning.
     pub(crate) fn whole(&self) -> Prefix<J>
         ensures same { result ≡ self.now }
@@ -73,7 +76,7 @@ impl<J: Naming> History<J> {
     {
         Prefix {
             len: self.len,
-            seen: Token::of(&self.seen),
+            seen: Witness::of(&self.seen),
             of: PhantomData,
         }
     }
@@ -86,12 +89,14 @@ impl<J: Naming> History<J> {
     {
         let mut seen = self.seen.again();
         prefix.seen.teach(&mut seen);
-        let mut offer: Offer<Entry, u64, Law, Nothing> = seen.plain::<Nothing, Check, Check>(
-            &Check,
-        );
+        let mut offer: Offer<Entry, u64, Law, NoTrade> = seen.plain::<
+            NoTrade,
+            ShowWhole,
+            ShowWhole,
+        >(&ShowWhole);
         let _found = self
             .turn
-            .compare_exchange::<Check, Nothing>(0, 1, &mut seen, &mut offer, &mut self.pen);
+            .compare_exchange::<ShowWhole, NoTrade>(0, 1, &mut seen, &mut offer, &mut self.pen);
     }
 
     /// Adds an operation.
@@ -101,12 +106,12 @@ impl<J: Naming> History<J> {
     {
         let (next, _) = new_pen(&self.turn, &self.seen);
         let adding = Adding { op, next };
-        let mut offer: Offer<Entry, u64, Law, Nothing> = self
+        let mut offer: Offer<Entry, u64, Law, NoTrade> = self
             .seen
-            .plain::<Nothing, Adding<'_>, Add>(&adding);
+            .plain::<NoTrade, Adding<'_>, AppendOp>(&adding);
         let _found = self
             .turn
-            .compare_exchange::<Add, Nothing>(0, 1, &mut self.seen, &mut offer, &mut self.pen);
+            .compare_exchange::<AppendOp, NoTrade>(0, 1, &mut self.seen, &mut offer, &mut self.pen);
         let Adding { op: _, next } = adding;
         self.pen = next;
         self.len += 1;
@@ -114,14 +119,14 @@ impl<J: Naming> History<J> {
 }
 
 /// A beginning of the history, which was seen. Contracts see its operations.
-pub(crate) struct Prefix<J: Naming> {
+pub(crate) struct Prefix<J: BoardBrand> {
     len: u64,
-    seen: Token,
+    seen: Witness,
     of: PhantomData<J>,
 }
 
 // By hand, so that letting one go is a call: a derived `drop` is written out, and proved, at each way out of each function that owns one.
-impl<J: Naming> Drop for Prefix<J> {
+impl<J: BoardBrand> Drop for Prefix<J> {
     fn drop(self) {
         let Prefix {
             len: _,
@@ -131,7 +136,7 @@ impl<J: Naming> Drop for Prefix<J> {
     }
 }
 
-impl<J: Naming> Model for Prefix<J> {
+impl<J: BoardBrand> Model for Prefix<J> {
     ghost use Rattle.std.specs.Prelude.{◌≡◌, List, length};
     ghost use Rattle.pref_core.specs.declared.call.Op.{Op};
     ghost use Rattle.pref_share.specs.Openings.{IsLegalFrom};
@@ -143,9 +148,9 @@ impl<J: Naming> Model for Prefix<J> {
     ghost invariant = { λ p. (p.len ≡ length p.seen.log) × (p.seen.book ≡ J.book) × IsLegalFrom J.opening p.seen.log };
 }
 
-impl<J: Naming> Prefix<J> {
+impl<J: BoardBrand> Prefix<J> {
     /// The history of a token that was seen on this board.
-    pub(crate) fn of(len: u64, seen: &Token) -> Prefix<J>
+    pub(crate) fn of(len: u64, seen: &Witness) -> Prefix<J>
         requires len { len ≡ length seen.now.log }
         requires book { seen.now.book ≡ J.book }
         requires legal { IsLegalFrom J.opening seen.now.log }
@@ -159,7 +164,7 @@ impl<J: Naming> Prefix<J> {
     }
 
     /// The token that shows it.
-    pub(crate) fn token(&self) -> Token
+    pub(crate) fn witness(&self) -> Witness
         ensures log { result.log ≡ self.now }
         ensures book { result.book ≡ J.book }
     {

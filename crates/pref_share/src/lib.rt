@@ -15,13 +15,13 @@ mod entry;
 mod fault;
 mod history;
 pub mod laws;
-mod master;
 mod published;
+mod publisher;
 mod run;
 mod task;
 
 pub use board::{Board, open_board};
-pub use book::{Name, Naming};
+pub use book::{BoardBrand, BoardName};
 pub use client::{Client, Word};
 pub use fault::{BeginFault, ShareFault};
 pub use run::{Gate, Report, run_all, run_each, run_tasks};

@@ -3,7 +3,7 @@
 //! The rule says that there is one opening and one book, over which the published store represents its history. Each seat of
 //! the writer or of a reader knows them from its first step on.
 
-use crate::book::Token;
+use crate::book::Witness;
 use atomic_table::{Join, Split};
 use crossbeam_utils::rule::{Outcome, Protocol};
 use left_right::writer::Writer;
@@ -16,7 +16,7 @@ use std::alloc::AllocError;
 pub struct Published {
     pub store: Store,
     pub len: u64,
-    pub seen: Token,
+    pub seen: Witness,
 }
 
 /// An operation that joined the history, and the token of the history that it ends.
@@ -24,7 +24,7 @@ pub struct Published {
 pub struct Stamp {
     pub op: BoxedOp,
     pub len: u64,
-    pub seen: Token,
+    pub seen: Witness,
 }
 
 impl Absorb<Stamp> for Published {
@@ -39,7 +39,7 @@ impl Absorb<Stamp> for Published {
     ghost never_fails = { Unit {0} };
 
     fn absorb_first(&mut self, operation: &Stamp, _other: &Published) -> Result<(), AllocError> {
-        let call = operation.op.call.lent();
+        let call = operation.op.call.lend();
         self.store.apply_planned(&operation.op.planned(&call));
         self.len = operation.len;
         self.seen = operation.seen.again();
@@ -50,7 +50,7 @@ impl Absorb<Stamp> for Published {
 /// The opening of a board, and a token of its book. No value of it is made.
 pub struct Base {
     pub opening: Store,
-    pub seen: Token,
+    pub seen: Witness,
 }
 
 /// What a seat knows. No value of it is made.
@@ -70,45 +70,45 @@ impl Protocol<Published, View> for Rule {
 }
 
 /// The writer's first step.
-pub(crate) struct Opening;
+pub(crate) struct OpenStep;
 
-impl Outcome<Published, View> for Opening {
+impl Outcome<Published, View> for OpenStep {
     ghost use Rattle.pref_share.specs.Views.{Opens};
 
     ghost then = { Opens };
 }
 
 /// A step of the writer that publishes.
-pub(crate) struct Staying;
+pub(crate) struct PublishStep;
 
-impl Outcome<Published, View> for Staying {
+impl Outcome<Published, View> for PublishStep {
     ghost use Rattle.pref_share.specs.Views.{Stays};
 
     ghost then = { Stays };
 }
 
 /// A step of a reader that reads.
-pub(crate) struct Reading;
+pub(crate) struct ReadStep;
 
-impl Outcome<Published, View> for Reading {
+impl Outcome<Published, View> for ReadStep {
     ghost use Rattle.pref_share.specs.Views.{Reads};
 
     ghost then = { Reads };
 }
 
 /// What the writer passes to a new reader: all that it knows.
-pub(crate) struct Telling;
+pub(crate) struct GiveView;
 
-impl Split<View> for Telling {
+impl Split<View> for GiveView {
     ghost left = { λ v. v };
 
     ghost right = { λ v. v };
 }
 
 /// What a new reader makes of it: the same.
-pub(crate) struct Hearing;
+pub(crate) struct TakeView;
 
-impl Join<View> for Hearing {
+impl Join<View> for TakeView {
     ghost use Rattle.pref_share.specs.Views.{hearing, newcomer};
 
     ghost both = { hearing };

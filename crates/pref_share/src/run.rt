@@ -9,14 +9,14 @@ ghost use Rattle.pref_share.specs.Standing.{newcomers};
 ghost use Rattle.pref_share.specs.Runs.{IsJointRun};
 ghost use Rattle.pref_share.specs.Interleavings.{IsSequential};
 ghost use Rattle.pref_share.specs.Reports.{AreReports, RanTasks, RefusesRun};
-ghost use Rattle.pref_share.specs.Settling.{AreWorked, DidTask, IsFirstOf, Settles, report_of};
+ghost use Rattle.pref_share.specs.TaskResults.{AreWorked, DidTask, IsFirstOf, Settles, report_of};
 
 use crate::board::Board;
-use crate::book::Naming;
+use crate::book::BoardBrand;
 use crate::client::Client;
 use crate::fault::ShareFault;
 use crate::history::Prefix;
-use crate::master::Master;
+use crate::publisher::Publisher;
 use crate::task::{Listed, Task};
 use pref_core::{Act, CoreFault, Reply};
 use std::alloc::{AllocError, Global};
@@ -44,7 +44,7 @@ pub trait Gate {
 ///
 /// The client may go on, by its own calls or in another run.
 #[derive(Drop)]
-pub struct Report<J: Naming> {
+pub struct Report<J: BoardBrand> {
     /// The client.
     pub client: Client<J>,
     /// The reply to each act that it did, in order: the first of its acts.
@@ -55,14 +55,14 @@ pub struct Report<J: Naming> {
 
 /// A client with its task.
 #[derive(Drop)]
-struct Job<J: Naming, T> {
+struct Job<J: BoardBrand, T> {
     client: Client<J>,
     task: T,
 }
 
 /// What came of a client's task: the client, the task as it is then, and why the client stopped, where it did not do all acts.
 #[derive(Drop)]
-struct Worked<J: Naming, T> {
+struct Worked<J: BoardBrand, T> {
     client: Client<J>,
     task: T,
     stopped: Option<ShareFault>,
@@ -84,7 +84,7 @@ struct Worked<J: Naming, T> {
 ///     let Report { client, replies, stopped } = report;
 /// }
 /// ```
-pub fn run_each<J: Naming + Send + Sync, R: Threads + Wait + Sync, G: Gate + Sync>(
+pub fn run_each<J: BoardBrand + Send + Sync, R: Threads + Wait + Sync, G: Gate + Sync>(
     rt: &R,
     alloc: Global,
     board: &Board<J>,
@@ -95,7 +95,7 @@ pub fn run_each<J: Naming + Send + Sync, R: Threads + Wait + Sync, G: Gate + Syn
     requires { vec_len acts ≡ vec_len clients }
     ensures { IfOk result (λ reports. AreReports J.opening (G.says gate.now) clients.items acts.items reports.items) }
 {
-    let tasks = all_listed(alloc, acts)?;
+    let tasks = listed_tasks(alloc, acts)?;
     let worked = work_tasks(rt, alloc, board, clients, tasks, gate)?;
     let reports = reports_of(alloc, worked)?;
     Ok(reports)
@@ -110,7 +110,7 @@ pub fn run_each<J: Naming + Send + Sync, R: Threads + Wait + Sync, G: Gate + Syn
 /// ```text
 /// let replies = run_all(rt, alloc, &board, clients, acts, &gate)?;
 /// ```
-pub fn run_all<J: Naming + Send + Sync, R: Threads + Wait + Sync, G: Gate + Sync>(
+pub fn run_all<J: BoardBrand + Send + Sync, R: Threads + Wait + Sync, G: Gate + Sync>(
     rt: &R,
     alloc: Global,
     board: &Board<J>,
@@ -124,7 +124,7 @@ pub fn run_all<J: Naming + Send + Sync, R: Threads + Wait + Sync, G: Gate + Sync
     ensures sequential { IfOk result (λ replies. IsSequential J.opening acts.items replies.items) }
     ensures refused { IfErr result (RefusesRun J J.opening (G.says gate.now) clients.items acts.items) }
 {
-    let tasks = all_listed(alloc, acts)?;
+    let tasks = listed_tasks(alloc, acts)?;
     let done = run_tasks(rt, alloc, board, clients, tasks, gate)?;
     let replies = all_replies(alloc, done)?;
     Ok(replies)
@@ -139,7 +139,7 @@ pub fn run_all<J: Naming + Send + Sync, R: Threads + Wait + Sync, G: Gate + Sync
 /// let tasks = run_tasks(rt, alloc, &board, clients, tasks, &gate)?;
 /// ```
 pub fn run_tasks<
-    J: Naming + Send + Sync,
+    J: BoardBrand + Send + Sync,
     R: Threads + Wait + Sync,
     G: Gate + Sync,
     T: Task + Send + Drop,
@@ -164,7 +164,7 @@ pub fn run_tasks<
 }
 
 /// Lists of acts as tasks.
-fn all_listed(alloc: Global, acts: Vec<Vec<Act>>) -> Result<Vec<Listed>, AllocError>
+fn listed_tasks(alloc: Global, acts: Vec<Vec<Act>>) -> Result<Vec<Listed>, AllocError>
     ensures acts { IfOk result (λ tasks. map ⟦<Listed as Task>⟧.left tasks.items ≡ map (λ list. list.items) acts.items) }
     ensures fresh { IfOk result (λ tasks. All (λ task. task.replies.items ≡ []) tasks.items) }
 {
@@ -187,7 +187,7 @@ fn all_replies(alloc: Global, tasks: Vec<Listed>) -> Result<Vec<Vec<Reply>>, All
 }
 
 /// Each client with its task.
-fn paired<J: Naming, T: Task + Drop>(
+fn pair_up<J: BoardBrand, T: Task + Drop>(
     alloc: Global,
     clients: Vec<Client<J>>,
     tasks: Vec<T>,
@@ -208,7 +208,7 @@ fn paired<J: Naming, T: Task + Drop>(
 }
 
 /// The acts of one client's task, in order, until one stops it.
-fn work<J: Naming, R: Wait, G: Gate, T: Task + Drop>(
+fn work<J: BoardBrand, R: Wait, G: Gate, T: Task + Drop>(
     rt: &R,
     alloc: Global,
     board: &Board<J>,
@@ -257,7 +257,7 @@ fn work<J: Naming, R: Wait, G: Gate, T: Task + Drop>(
 
 /// The work of each client, on a thread of its own.
 fn work_all<
-    J: Naming + Send + Sync,
+    J: BoardBrand + Send + Sync,
     R: Threads + Wait + Sync,
     G: Gate + Sync,
     T: Task + Send + Drop,
@@ -284,7 +284,7 @@ fn work_all<
 }
 
 /// What came of all tasks, where each had memory.
-fn all_worked<J: Naming, T: Task + Drop>(
+fn all_results<J: BoardBrand, T: Task + Drop>(
     alloc: Global,
     all: Vec<Result<Worked<J, T>, AllocError>>,
 ) -> Result<Vec<Worked<J, T>>, AllocError>
@@ -299,7 +299,7 @@ fn all_worked<J: Naming, T: Task + Drop>(
 
 /// What came of each client's task, which is settled by the whole history.
 fn work_tasks<
-    J: Naming + Send + Sync,
+    J: BoardBrand + Send + Sync,
     R: Threads + Wait + Sync,
     G: Gate + Sync,
     T: Task + Send + Drop,
@@ -316,34 +316,34 @@ fn work_tasks<
     requires few { All (λ task. length (T.left task) < 2 ^ 63) tasks.items }
     ensures { IfOk result (λ worked. AreWorked J.opening (G.says gate.now) T.left T.took clients.items tasks.items worked.items) }
 {
-    let jobs = paired(alloc, clients, tasks)?;
-    let mut worked = all_worked(alloc, work_all(rt, alloc, board, jobs, gate)?)?;
-    let _whole = settle_all(rt, board, &mut worked);
+    let jobs = pair_up(alloc, clients, tasks)?;
+    let mut worked = all_results(alloc, work_all(rt, alloc, board, jobs, gate)?)?;
+    let _whole = reconcile_all(rt, board, &mut worked);
     Ok(worked)
 }
 
 /// Settles what came of each task, by the whole history.
-fn settle_each<J: Naming, T: Drop>(master: &mut Master<J>, all: &mut [Worked<J, T>])
-    ensures same { master.new ≡ master.old }
-    ensures settled { (i : ℕ) (d : _) → i < length all.old → Settles J.opening master.old (slice_index_or all.old i d) (slice_index_or all.new i d) }
+fn reconcile_each<J: BoardBrand, T: Drop>(publisher: &mut Publisher<J>, all: &mut [Worked<J, T>])
+    ensures same { publisher.new ≡ publisher.old }
+    ensures settled { (i : ℕ) (d : _) → i < length all.old → Settles J.opening publisher.old (slice_index_or all.old i d) (slice_index_or all.new i d) }
 {
     for worked in all.iter_mut() {
-        settle(master, worked);
+        reconcile(publisher, worked);
     }
 }
 
 /// A client is in use where the whole history holds a call of it that it has not made. That is reported where it has not stopped.
-fn settle<J: Naming, T: Drop>(master: &mut Master<J>, worked: &mut Worked<J, T>)
-    ensures same { master.new ≡ master.old }
-    ensures settled { Settles J.opening master.old worked.old worked.new }
+fn reconcile<J: BoardBrand, T: Drop>(publisher: &mut Publisher<J>, worked: &mut Worked<J, T>)
+    ensures same { publisher.new ≡ publisher.old }
+    ensures settled { Settles J.opening publisher.old worked.old worked.new }
 {
-    if let Err(fault) = worked.client.settle(master) {
+    if let Err(fault) = worked.client.reconcile(publisher) {
         worked.stopped = worked.stopped.or(Some(fault));
     }
 }
 
 /// Settles what came of each task, and gives the whole history.
-fn settle_all<J: Naming, R: Wait, T: Drop>(
+fn reconcile_all<J: BoardBrand, R: Wait, T: Drop>(
     rt: &R,
     board: &Board<J>,
     all: &mut [Worked<J, T>],
@@ -351,14 +351,14 @@ fn settle_all<J: Naming, R: Wait, T: Drop>(
     ensures legal { IsLegalFrom J.opening result }
     ensures settled { (i : ℕ) (d : _) → i < length all.old → Settles J.opening result (slice_index_or all.old i d) (slice_index_or all.new i d) }
 {
-    let mut guard = board.master.lock(rt);
-    let master = &mut *guard;
-    settle_each(master, all);
-    master.whole()
+    let mut guard = board.publisher.lock(rt);
+    let publisher = &mut *guard;
+    reconcile_each(publisher, all);
+    publisher.whole()
 }
 
 /// What came of lists of acts, as reports.
-fn reports_of<J: Naming>(
+fn reports_of<J: BoardBrand>(
     alloc: Global,
     all: Vec<Worked<J, Listed>>,
 ) -> Result<Vec<Report<J>>, AllocError>
@@ -381,7 +381,7 @@ fn reports_of<J: Naming>(
 }
 
 /// The tasks, where no client stopped; else why the first did that stopped.
-fn tasks_of<J: Naming, T: Task + Drop>(
+fn tasks_of<J: BoardBrand, T: Task + Drop>(
     alloc: Global,
     all: Vec<Worked<J, T>>,
 ) -> Result<Vec<T>, ShareFault>

@@ -2,15 +2,15 @@
 use Rattle.pref_sky.proofs.Common.{◌≡◌, ℕ, zero, suc, ◌≤◌, ◌+◌, ◌-◌, Bool, true, cond, not, inl, inr, ◌⊎◌, List, [], ◌∷◌, ◌++◌, length, take, drop, filter, map, eqb, refl, sym, ◌∙◌, ap, subst, arith}
 use Rattle.pref_sky.proofs.Common.{append-nil, Vec, Global, All, cases_Bool, length-map, map-append, take-map, drop-map, All-append, All-drop, All-take, filter-append, sum_by-append, IsStrictOrder}
 use Rattle.pref_sky.proofs.Common.{Arrival, Entry, Made, KeepsUpper, arrived, coming_to, best, is_beaten, rest, AreAllItems, AreInPool, AreItems, entries_at, levels_at, items_at, parts_at, Item}
-use Rattle.pref_sky.proofs.Common.{HaveDifferentIds, entry_of, levels, ArePartsMade, ArePut, IsPartMade, LeaveAlone, new_levels, IsBehind, IsMade, held_at, replaced, ArePartedBy, depth, is_in}
-use Rattle.pref_sky.proofs.Common.{ranked_parts, ranked_upto, Among, ◌<◌, both_ways, eq-eqb, eqb-true, false, list_any, AreComing, HaveArrived, IsArrival, StartsAt, part_of, parts_by}
+use Rattle.pref_sky.proofs.Common.{HaveDifferentIds, entry_of, levels, ArePartsMade, ArePut, IsPartMade, LeaveAlone, new_levels, IsBehind, IsMade, held_at, replaced, ArePartitionedBy, depth, is_in}
+use Rattle.pref_sky.proofs.Common.{ranked_parts, ranked_upto, Among, ◌<◌, both_ways, eq-eqb, eqb-true, false, list_any, AreComing, HaveArrived, IsArrival, StartsAt, partition_of, partitions_by}
 use Rattle.pref_sky.proofs.LevelLaws.{first_differ}
-use Rattle.pref_sky.proofs.Members.{all_among, among_all, any_from, any_gives, from_filter}
+use Rattle.pref_sky.proofs.MembersLaws.{all_among, among_all, any_from, any_gives, from_filter}
 use Rattle.pref_sky.proofs.Merges.{different_filter}
 use Rattle.pref_sky.proofs.PartItems.{Part, all_held, in_pool_if, levels_of_at}
-use Rattle.pref_sky.proofs.PartLaws.{IsWithin, depth_within, differ_after, hold_apart, hold_together, level_in_part, part_below, parted_after, within_depth}
+use Rattle.pref_sky.proofs.PartitionsLaws.{IsWithin, depth_within, differ_after, hold_apart, hold_together, level_in_part, part_below, parted_after, within_depth}
 use Rattle.pref_sky.proofs.Ranks.{held_there, held_upto, levels_upto_is, within_if_same}
-use Rattle.pref_sky.proofs.Enough.{filter_agree_among}
+use Rattle.pref_sky.proofs.AtLeastLaws.{filter_agree_among}
 use Rattle.pref_sky.proofs.Removals.{beaten_by_rest, comes_after}
 use Rattle.pref_sky.proofs.MadeItems.{taken_long}
 use Rattle.pref_sky.proofs.HeldLevels.{different_by_count}
@@ -123,7 +123,7 @@ coming_of number pool arrivals of_part part =
 module _ (over : Entry → Entry → Bool) (number : Entry → ℕ) (cut : ℕ) (old new : List (List (List Entry))) (coming : List Entry)
     (after : (part : ℕ) → IsMade over cut (held_at part old) (held_at part new) (filter (is_in number part) coming)) where
   pub added : IsWithin over number → (before : List Entry) → HaveDifferentIds (before ++ coming) → HaveDifferentIds (map entry_of (ranked_parts old)) → HaveDifferentIds (map entry_of (ranked_parts new))
-      → ArePartedBy number old → ranked_parts old ≡ levels over before cut → ranked_parts new ≡ levels over (before ++ coming) cut
+      → ArePartitionedBy number old → ranked_parts old ≡ levels over before cut → ranked_parts new ≡ levels over (before ++ coming) cut
   added within before different apart new_apart parted is =
       hold_together over number within cut new (before ++ coming) different new_apart (λ part.
       let mine = is_in number part in
@@ -133,7 +133,7 @@ module _ (over : Entry → Entry → Bool) (number : Entry → ℕ) (cut : ℕ) 
       ∙ ap (λ l. levels over l cut) (sym both))
 
 -- what is below the cut of its part is below that of all
-late : (over : Entry → Entry → Bool) (number : Entry → ℕ) → IsWithin over number → (cut : ℕ) (old : List (List (List Entry))) (before : List Entry) → HaveDifferentIds before → HaveDifferentIds (map entry_of (ranked_parts old)) → ArePartedBy number old
+late : (over : Entry → Entry → Bool) (number : Entry → ℕ) → IsWithin over number → (cut : ℕ) (old : List (List (List Entry))) (before : List Entry) → HaveDifferentIds before → HaveDifferentIds (map entry_of (ranked_parts old)) → ArePartitionedBy number old
     → ranked_parts old ≡ levels over before cut → (x : Entry) (n : ℕ) → cut ≤ n → IsBehind over (held_at (number x) old) n x → comes_after over before cut x ≡ true
 late over number within zero old before different apart parted is x n low behind = refl
 late over number within (suc c) old before different apart parted is x n low behind =
@@ -158,7 +158,7 @@ module _ (over : Entry → Entry → Bool) (number : Entry → ℕ) (cut : ℕ) 
   some_differ held different =
       different_by_count held entries (held ++ kept) different (λ p. omega (arith, upper.counts p, sum_by-append (λ e. cond (p e) 1 0) held kept))
 
-  pub upper_levels : IsStrictOrder over → IsWithin over number → (before : List Entry) → HaveDifferentIds (before ++ entries) → HaveDifferentIds (map entry_of (ranked_parts old) ++ entries) → ArePartedBy number old
+  pub upper_levels : IsStrictOrder over → IsWithin over number → (before : List Entry) → HaveDifferentIds (before ++ entries) → HaveDifferentIds (map entry_of (ranked_parts old) ++ entries) → ArePartitionedBy number old
       → ranked_parts old ≡ levels over before cut → levels over (before ++ kept) cut ≡ levels over (before ++ entries) cut
   upper_levels strict within before different apart parted is =
       kept_levels over strict cut before entries (subst (λ l. HaveDifferentIds (map entry_of l ++ entries)) is apart) kept upper.within
@@ -171,44 +171,44 @@ module _ (over : Entry → Entry → Bool) (number : Entry → ℕ) (cut : ℕ) 
 -- ---- an addition to parts, from what arrived to what they hold
 
 module _ (over : Entry → Entry → Bool) (rule : Entry → ℕ) (cut : ℕ) (columns : List ℕ) (pool : List Entry) (parts : List Part) (entries : List Entry) (arrivals : List Arrival) (here : HaveArrived over rule cut columns pool parts entries arrivals) where
-  of_part : All (λ a. part_of columns (arrived pool a) ≡ a.part) arrivals
-  of_part = among_all (λ (a : Arrival). part_of columns (arrived pool a) ≡ a.part) arrivals (λ a m. (all_among (IsArrival over rule (part_of columns) pool (parts_at pool parts)) arrivals here.are a m).part)
+  of_part : All (λ a. partition_of columns (arrived pool a) ≡ a.part) arrivals
+  of_part = among_all (λ (a : Arrival). partition_of columns (arrived pool a) ≡ a.part) arrivals (λ a m. (all_among (IsArrival over rule (partition_of columns) pool (parts_at pool parts)) arrivals here.are a m).part)
 
   -- to parts that there are, and to their levels
-  pub to_coming : length parts ≡ parts_by columns → AreComing over rule pool parts arrivals
+  pub to_coming : length parts ≡ partitions_by columns → AreComing over rule pool parts arrivals
   to_coming long =
       record {
         dealt = here.dealt;
         part = among_all (λ (a : Arrival). a.part < length parts) arrivals
-            (λ a m. omega (arith, long, part_below columns (arrived pool a), all_among (λ (b : Arrival). part_of columns (arrived pool b) ≡ b.part) arrivals of_part a m));
+            (λ a m. omega (arith, long, part_below columns (arrived pool a), all_among (λ (b : Arrival). partition_of columns (arrived pool b) ≡ b.part) arrivals of_part a m));
         start = among_all (λ (a : Arrival). StartsAt over rule pool (levels_at pool (items_at a.part parts)) a) arrivals
-            (λ a m. subst (λ l. StartsAt over rule pool l a) (levels_of_at pool a.part parts) (all_among (IsArrival over rule (part_of columns) pool (parts_at pool parts)) arrivals here.are a m).starts);
+            (λ a m. subst (λ l. StartsAt over rule pool l a) (levels_of_at pool a.part parts) (all_among (IsArrival over rule (partition_of columns) pool (parts_at pool parts)) arrivals here.are a m).starts);
       }
 
   -- and the parts once they are made and put in their places
   module _ (new : List Part) (all : List Made) (are : ArePartsMade over cut rule pool parts arrivals all)
       (put : ArePut all parts new)
-      (different : HaveDifferentIds (map entry_of (ranked_parts (parts_at pool parts)) ++ entries)) (parted : ArePartedBy (part_of columns) (parts_at pool parts)) where
-    after : (part : ℕ) → IsMade over cut (held_at part (parts_at pool parts)) (held_at part (parts_at pool new)) (filter (is_in (part_of columns) part) (map (arrived pool) arrivals))
+      (different : HaveDifferentIds (map entry_of (ranked_parts (parts_at pool parts)) ++ entries)) (parted : ArePartitionedBy (partition_of columns) (parts_at pool parts)) where
+    after : (part : ℕ) → IsMade over cut (held_at part (parts_at pool parts)) (held_at part (parts_at pool new)) (filter (is_in (partition_of columns) part) (map (arrived pool) arrivals))
     after part =
-        subst (IsMade over cut (held_at part (parts_at pool parts)) (held_at part (parts_at pool new))) (sym (coming_of (part_of columns) pool arrivals of_part part)) (part_after over cut rule pool parts new arrivals all are put part)
+        subst (IsMade over cut (held_at part (parts_at pool parts)) (held_at part (parts_at pool new))) (sym (coming_of (partition_of columns) pool arrivals of_part part)) (part_after over cut rule pool parts new arrivals all are put part)
 
     apart : HaveDifferentIds (map entry_of (ranked_parts (parts_at pool parts)) ++ map (arrived pool) arrivals)
-    apart = some_differ over (part_of columns) cut (parts_at pool parts) entries (map (arrived pool) arrivals) here.upper (map entry_of (ranked_parts (parts_at pool parts))) different
+    apart = some_differ over (partition_of columns) cut (parts_at pool parts) entries (map (arrived pool) arrivals) here.upper (map entry_of (ranked_parts (parts_at pool parts))) different
 
     pub added_differ : HaveDifferentIds (map entry_of (ranked_parts (parts_at pool new)))
     added_differ =
-        differ_after (part_of columns) (parts_at pool parts) (parts_at pool new) (map (arrived pool) arrivals) apart
+        differ_after (partition_of columns) (parts_at pool parts) (parts_at pool new) (map (arrived pool) arrivals) apart
         (λ p part. (after part).counts p)
 
-    pub added_parted : ArePartedBy (part_of columns) (parts_at pool new)
+    pub added_parted : ArePartitionedBy (partition_of columns) (parts_at pool new)
     added_parted =
-        parted_after (part_of columns) (parts_at pool parts) (parts_at pool new) (map (arrived pool) arrivals) parted
+        parted_after (partition_of columns) (parts_at pool parts) (parts_at pool new) (map (arrived pool) arrivals) parted
         (λ p part. (after part).counts p)
 
-    pub added_levels : IsStrictOrder over → IsWithin over (part_of columns) → (before : List Entry) → HaveDifferentIds (before ++ entries) → ranked_parts (parts_at pool parts) ≡ levels over before cut
+    pub added_levels : IsStrictOrder over → IsWithin over (partition_of columns) → (before : List Entry) → HaveDifferentIds (before ++ entries) → ranked_parts (parts_at pool parts) ≡ levels over before cut
         → ranked_parts (parts_at pool new) ≡ levels over (before ++ entries) cut
     added_levels strict within before differ is =
-        added over (part_of columns) cut (parts_at pool parts) (parts_at pool new) (map (arrived pool) arrivals) after within before
-        (some_differ over (part_of columns) cut (parts_at pool parts) entries (map (arrived pool) arrivals) here.upper before differ) (first_differ (map entry_of (ranked_parts (parts_at pool parts))) entries different) added_differ parted is
-        ∙ upper_levels over (part_of columns) cut (parts_at pool parts) entries (map (arrived pool) arrivals) here.upper strict within before differ different parted is
+        added over (partition_of columns) cut (parts_at pool parts) (parts_at pool new) (map (arrived pool) arrivals) after within before
+        (some_differ over (partition_of columns) cut (parts_at pool parts) entries (map (arrived pool) arrivals) here.upper before differ) (first_differ (map entry_of (ranked_parts (parts_at pool parts))) entries different) added_differ parted is
+        ∙ upper_levels over (partition_of columns) cut (parts_at pool parts) entries (map (arrived pool) arrivals) here.upper strict within before differ different parted is

@@ -1,7 +1,7 @@
 -- What is among a list of items is counted in it, and lists that are counted alike are as long.
 use Rattle.pref_sky.proofs.Common.{◌≡◌, ℕ, ◌<◌, ◌+◌, Bool, cond, ◌&&◌, ◌⊎◌, inl, inr, List, [], ◌∷◌, length, refl, ◌∙◌, ap, arith, eqb, eq-eqb, sum_by, and_from, and_parts, cases_Bool, eqb-true}
 use Rattle.pref_sky.proofs.Common.{sum_by-cons, Item, Among}
-use Rattle.pref_sky.proofs.Orders.{one_passes}
+use Rattle.pref_sky.proofs.IdOrder.{one_passes}
 
 abbrev same_item : Item → Item → Bool
 same_item x y = eqb x.signature y.signature && eqb x.place y.place

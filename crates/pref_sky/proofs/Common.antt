@@ -25,16 +25,16 @@ pub use Rattle.std.specs.Ordering.{int_eq, is_lt, nat_cmp, ordering_then}
 pub use Rattle.std.specs.Prelude.{All, IfSome, OnOk, bit_and, int_lt, min, slice_set}
 pub use Rattle.pref_sky.specs.Answers.{answer_of, at_least, count_before, count_upto, selected}
 pub use Rattle.pref_sky.specs.Arrivals.{AreComing, AreDealt, AreInOrderOfStart, HaveArrived, IsArrival, KeepsUpper, StartsAt, arrived, coming_to, deals_before}
-pub use Rattle.pref_sky.specs.Best.{IsApart, best, is_beaten, rest, without_best}
+pub use Rattle.pref_sky.specs.Best.{IsAntichain, best, is_beaten, rest, without_best}
 pub use Rattle.pref_sky.specs.ChainOrders.{AreInOrder, AreSorted, comes_before, is_below, own_levels, own_order}
 pub use Rattle.pref_sky.specs.Items.{AreAllItems, AreInPool, AreItems, HasGrown, IsItem, entries_at, entry_at, is_word, item_order, items_at, levels_at, parts_at, place_order}
-pub use Rattle.pref_sky.specs.Layers.{StandsBehind, count_above, leveled, with_last, with_level}
+pub use Rattle.pref_sky.specs.Layers.{StandsBehind, count_above, with_levels, with_last, with_level}
 pub use Rattle.pref_sky.specs.Levels.{HaveDifferentIds, at_level, entry_of, entry_order, held_after, in_order_of_id, levels, put_by_id}
 pub use Rattle.pref_sky.specs.Made.{AreInOrderOfPart, AreLevelsMade, ArePartsMade, ArePut, Fits, IsPartMade, LeaveAlone, new_levels}
 pub use Rattle.pref_sky.specs.Members.{Among}
 pub use Rattle.pref_sky.specs.Partials.{IsBehind, IsMade, KeepsAllBut, held_at, ranked_from, replaced}
-pub use Rattle.pref_sky.specs.Parts.{ArePartedBy, all_at, depth, is_in, mixed_onto, part_of, parts_by, ranked_parts, ranked_upto}
-pub use Rattle.pref_sky.specs.Passes.{IsClear, IsMet, IsTold, Parted, Passes, Passing, Sifted}
+pub use Rattle.pref_sky.specs.Partitions.{ArePartitionedBy, all_at, depth, is_in, mixed_onto, partition_of, partitions_by, ranked_parts, ranked_upto}
+pub use Rattle.pref_sky.specs.Passes.{IsClear, IsMet, IsDecided, Parted, Passes, Passing, Sifted}
 pub use Rattle.pref_sky.specs.Signatures.{signature_by}
 pub use Rattle.pref_sky.specs.Sorted.{AreLeveled, AreLowest, HoldsUpper}
 pub use Rattle.pref_sky.specs.StairLaws.{AreChain, HasOneCandidate, IsStairs, IsSwept, LevelsHoldAlike, LineHasLevels, OrderGroups, ServesGroups}
@@ -53,6 +53,6 @@ pub use Rattle.pref_term.specs.Better.{cell, in_same_group}
 pub use Rattle.pref_term.specs.Chains.{IsProductOf, by_chain, by_chains, chain_order, first_chain, second_chain, tie_chain}
 pub use Rattle.pref_term.specs.Order.{IsRowOrder, IsStrictOrder, RowOrder, StandAlike, StaysWithin, is_better, is_same, is_worse}
 pub use Rattle.pref_term.specs.Question.{Question, cut_of}
-pub use Rattle.pref_term.specs.Signatures.{Suit, is_within, mixed, signature}
+pub use Rattle.pref_term.specs.Signatures.{Suit, is_within, hash_with, signature}
 pub use Rattle.pref_term.specs.declared.ask.Mode.TheVariants.{AtLeast, Best, TopLevel}
 pub use denote.Param.Members.{Mut}

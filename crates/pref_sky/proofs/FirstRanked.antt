@@ -3,9 +3,9 @@ use Rattle.pref_sky.proofs.Common.{◌≡◌, ℕ, zero, suc, ◌<◌, ◌-◌, 
 use Rattle.pref_sky.proofs.Common.{cases_lt, nat_tests, IsNonDecreasingBy, IsPartitionPoint, IsPartitionedBy, le-ltb, lt-ltb, get_or_append_left, get_or-append_right, get_or-map, length-append}
 use Rattle.pref_sky.proofs.Common.{length-map, count_by, count_by-le-length, sum_by-cons, filter_agree, in_same_group, Row, Entry, Ranked, at_least, count_before, best, rest, at_level, in_order_of_id}
 use Rattle.pref_sky.proofs.Common.{levels, IsPartitionedBy-ltb}
-use Rattle.pref_sky.proofs.Counts.{count_filtered}
-use Rattle.pref_sky.proofs.Enough.{all_pass, levels_upto, none_pass}
-use Rattle.pref_sky.proofs.Members.{among_place}
+use Rattle.pref_sky.proofs.CountLaws.{count_filtered}
+use Rattle.pref_sky.proofs.AtLeastLaws.{all_pass, levels_upto, none_pass}
+use Rattle.pref_sky.proofs.MembersLaws.{among_place}
 
 -- where what passes a test stands in front of a place, and what fails it behind, that is what passes
 filter_front : {E : Type 0} (p : E → Bool) (xs : List E) (n : ℕ) → IsPartitionPoint (λ x. p x ≡ true) (λ x. p x ≡ false) xs n → filter p xs ≡ take n xs

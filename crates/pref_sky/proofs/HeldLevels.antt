@@ -1,9 +1,9 @@
 -- Lists with the same members have the same best, and entries that others are over change nothing of the best.
 use Rattle.pref_sky.proofs.Common.{◌≡◌, ◌≤◌, ◌+◌, Bool, true, false, cond, not, inl, inr, List, ◌++◌, sym, ◌∙◌, ap, arith, eqb, count_by, both_ways, not-true, not_from_false, sum_by-append}
-use Rattle.pref_sky.proofs.Common.{IsStrictOrder, Entry, IsApart, best, is_beaten, without_best, HaveDifferentIds, in_order_of_id, Among}
-use Rattle.pref_sky.proofs.Members.{any_from, any_gives, in_filter, from_filter, in_left, in_right, in_either}
+use Rattle.pref_sky.proofs.Common.{IsStrictOrder, Entry, IsAntichain, best, is_beaten, without_best, HaveDifferentIds, in_order_of_id, Among}
+use Rattle.pref_sky.proofs.MembersLaws.{any_from, any_gives, in_filter, from_filter, in_left, in_right, in_either}
 use Rattle.pref_sky.proofs.Removals.{same_answer}
-use Rattle.pref_sky.proofs.Orders.{SameMembers, from_in_order}
+use Rattle.pref_sky.proofs.IdOrder.{SameMembers, from_in_order}
 use Rattle.pref_sky.proofs.StairLaws.{best_are_apart}
 
 -- what is beaten by more
@@ -29,7 +29,7 @@ without_of_same over xs ys same =
     }
 
 -- the best of a list are apart
-pub best_apart : (over : Entry → Entry → Bool) (xs : List Entry) → IsApart over (in_order_of_id (best over xs))
+pub best_apart : (over : Entry → Entry → Bool) (xs : List Entry) → IsAntichain over (in_order_of_id (best over xs))
 best_apart over xs x y mx my = best_are_apart over xs x y (from_in_order (best over xs) x mx) (from_in_order (best over xs) y my)
 
 pub same_sym : (xs ys : List Entry) → SameMembers xs ys → SameMembers ys xs

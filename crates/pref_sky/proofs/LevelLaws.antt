@@ -6,12 +6,12 @@ use Rattle.pref_sky.proofs.Common.{at_least, Among}
 use Rattle.pref_term.specs.declared.ask.Mode.{Mode}
 use Rattle.pref_sky.proofs.Removals.{comes_after}
 use Rattle.pref_sky.proofs.HeldLevels.{different_by_count}
-use Rattle.pref_sky.proofs.Members.{in_filter, from_filter}
-use Rattle.pref_sky.proofs.Orders.{SameMembers}
+use Rattle.pref_sky.proofs.MembersLaws.{in_filter, from_filter}
+use Rattle.pref_sky.proofs.IdOrder.{SameMembers}
 use Rattle.pref_sky.proofs.Merges.{different_best, entry_order_is_strict, entry_order_stays_in_groups, same_by_level}
 use Rattle.pref_sky.proofs.SortedLevels.{count_levels, merge}
-use Rattle.pref_sky.proofs.Enough.{StaysInGroups, enough}
-pub use Rattle.pref_sky.proofs.Counts.{count_and, count_both, count_filtered, count_within}
+use Rattle.pref_sky.proofs.AtLeastLaws.{StaysInGroups, enough}
+pub use Rattle.pref_sky.proofs.CountLaws.{count_and, count_both, count_filtered, count_within}
 
 -- nothing is left of nothing
 rest_of_none : (over : Entry → Entry → Bool) (n : ℕ) → rest over [] n ≡ []

@@ -2,9 +2,9 @@
 use Rattle.pref_sky.proofs.Common.{◌≡◌, ℕ, zero, suc, ◌≤◌, ◌+◌, Bool, true, false, cond, not, ◌&&◌, ◌||◌, inl, inr, List, [], ◌∷◌, ◌++◌, length, refl, sym, ◌∙◌, ap, subst, arith, count_by, cases_lt}
 use Rattle.pref_sky.proofs.Common.{both_ways, and_parts, and_from, false_from_ne_true, sum_by-cons, StandAlike, best, rest, LevelsHoldAlike, LineHasLevels, AreClassesOf, AreStairs, IsInOrder, IsLine}
 use Rattle.pref_sky.proofs.Common.{are_level, comes_first, in_turn, Among}
-use Rattle.pref_sky.proofs.Counts.{count_both}
-use Rattle.pref_sky.proofs.Members.{any_from, any_gives, in_filter, from_filter, in_right}
-use Rattle.pref_sky.proofs.Orders.{one_passes}
+use Rattle.pref_sky.proofs.CountLaws.{count_both}
+use Rattle.pref_sky.proofs.MembersLaws.{any_from, any_gives, in_filter, from_filter, in_right}
+use Rattle.pref_sky.proofs.IdOrder.{one_passes}
 use Rattle.pref_sky.proofs.Removals.{comes_after, comes_after_among_more, best_of_rest_is, same_answer}
 use Rattle.pref_sky.proofs.StairLaws.{level_above, level_below}
 

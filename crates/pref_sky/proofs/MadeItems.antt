@@ -5,10 +5,10 @@ use Rattle.pref_sky.proofs.Common.{All-append, All-drop, All-push, All-take, IsN
 use Rattle.pref_sky.proofs.Common.{AreAllItems, AreItems, IsItem, entries_at, entry_at, item_order, items_at, levels_at, entry_order, IsBehind, IsMade, replaced, Parted, signature_by, Among}
 use Rattle.pref_sky.proofs.Common.{length-take-le, max}
 use Rattle.pref_term.specs.declared.signature.scale.Scale.{Scale}
-use Rattle.pref_sky.proofs.Members.{all_among, among_all, from_map, in_map}
+use Rattle.pref_sky.proofs.MembersLaws.{all_among, among_all, from_map, in_map}
 use Rattle.pref_sky.proofs.PartItems.{all_held}
-use Rattle.pref_sky.proofs.Pools.{entries_held}
-use Rattle.pref_sky.proofs.Items.{entries_parted, parted_items, suit_tells}
+use Rattle.pref_sky.proofs.PoolLaws.{entries_held}
+use Rattle.pref_sky.proofs.ItemsLaws.{entries_parted, parted_items, suit_tells}
 use Rattle.pref_sky.proofs.MadeLevels.{AreBehind, Making, making_begins, making_ends, making_more}
 
 -- arrivals in order start no earlier than the first
@@ -47,27 +47,27 @@ arrival_items over rule pool old arrivals starts =
     (λ x m. let w = from_map (λ (a : Arrival). a.item) arrivals x m in subst (IsItem rule pool) (sym w.2) (all_among (StartsAt over rule pool old) arrivals starts w.0 w.1).item)
 
 -- levels of items were made, where `down` came down to the next one, and `rest` starts there or behind it
-pub record MakingItems (order : RowOrder) (cuts : List Scale) (pool : List Entry) (cut first : ℕ) (levels : List (Vec Item Global)) (arrivals : List Arrival) (made : List (Vec Item Global)) (down : List Item) (rest : List Arrival) : Type 0 where
+pub record MakingItems (order : RowOrder) (scales : List Scale) (pool : List Entry) (cut first : ℕ) (levels : List (Vec Item Global)) (arrivals : List Arrival) (made : List (Vec Item Global)) (down : List Item) (rest : List Arrival) : Type 0 where
   pub from : first ≤ length made
   pub making : Making (entry_order order) cut (length made) (levels_at pool levels) (take first (levels_at pool levels) ++ levels_at pool (drop first made)) (map (arrived pool) arrivals) (entries_at pool down) (map (arrived pool) rest)
-  pub made_items : AreAllItems (signature_by cuts) pool made
-  pub down_items : AreItems (signature_by cuts) pool down
-  pub starts : All (StartsAt (entry_order order) (signature_by cuts) pool (levels_at pool levels)) rest
+  pub made_items : AreAllItems (signature_by scales) pool made
+  pub down_items : AreItems (signature_by scales) pool down
+  pub starts : All (StartsAt (entry_order order) (signature_by scales) pool (levels_at pool levels)) rest
   pub in_order : AreInOrderOfStart rest
   pub behind : All (λ (a : Arrival). length made ≤ a.start) rest
 
-module _ (order : RowOrder) (strict : IsStrictOrder (entry_order order)) (cuts : List Scale) (pool : List Entry) (cut first : ℕ) (levels : List (Vec Item Global)) (arrivals : List Arrival)
-    (starts : All (StartsAt (entry_order order) (signature_by cuts) pool (levels_at pool levels)) arrivals) (all_behind_first : All (λ (a : Arrival). first ≤ a.start) arrivals) where
+module _ (order : RowOrder) (strict : IsStrictOrder (entry_order order)) (scales : List Scale) (pool : List Entry) (cut first : ℕ) (levels : List (Vec Item Global)) (arrivals : List Arrival)
+    (starts : All (StartsAt (entry_order order) (signature_by scales) pool (levels_at pool levels)) arrivals) (all_behind_first : All (λ (a : Arrival). first ≤ a.start) arrivals) where
   all_start : AreBehind (entry_order order) (levels_at pool levels) first (map (arrived pool) arrivals)
-  all_start = arrivals_behind (entry_order order) (signature_by cuts) pool (levels_at pool levels) first arrivals starts all_behind_first
+  all_start = arrivals_behind (entry_order order) (signature_by scales) pool (levels_at pool levels) first arrivals starts all_behind_first
 
-  pub making_items_begin : AreInOrderOfStart arrivals → (made : List (Vec Item Global)) → length made ≡ first → AreAllItems (signature_by cuts) pool made → (some : Arrival) → Among some arrivals
-      → MakingItems order cuts pool cut first levels arrivals made [] arrivals
+  pub making_items_begin : AreInOrderOfStart arrivals → (made : List (Vec Item Global)) → length made ≡ first → AreAllItems (signature_by scales) pool made → (some : Arrival) → Among some arrivals
+      → MakingItems order scales pool cut first levels arrivals made [] arrivals
   making_items_begin in_order made long are some among =
       let over = entry_order order in
       let old = levels_at pool levels in
       let entries = map (arrived pool) arrivals in
-      let inside : first ≤ length old = omega (arith, (all_among (StartsAt over (signature_by cuts) pool old) arrivals starts some among).within, all_among (λ (a : Arrival). first ≤ a.start) arrivals all_behind_first some among) in
+      let inside : first ≤ length old = omega (arith, (all_among (StartsAt over (signature_by scales) pool old) arrivals starts some among).within, all_among (λ (a : Arrival). first ≤ a.start) arrivals all_behind_first some among) in
       let front : take first old ++ levels_at pool (drop first made) ≡ take first old = ap (λ l. take first old ++ levels_at pool l) (drop_all first made (omega (arith, long))) ∙ append-nil (take first old) in
       record {
         from = omega (arith, long);
@@ -81,13 +81,13 @@ module _ (order : RowOrder) (strict : IsStrictOrder (entry_order order)) (cuts :
       }
 
   -- one level more was made
-  pub making_items_more : Suit order cuts → AreAllItems (signature_by cuts) pool levels → (made : List (Vec Item Global)) (down now others : List Item) (rest : List Arrival) (count : ℕ) (top : Vec Item Global) → length made < cut
+  pub making_items_more : Suit order scales → AreAllItems (signature_by scales) pool levels → (made : List (Vec Item Global)) (down now others : List Item) (rest : List Arrival) (count : ℕ) (top : Vec Item Global) → length made < cut
       → All (λ (a : Arrival). length made < a.start) (drop count rest) → now ≡ down ++ map (λ (a : Arrival). a.item) (take count rest)
       → Parted (item_order order pool) (items_at (length made) levels) now top.items others
-      → MakingItems order cuts pool cut first levels arrivals made down rest → MakingItems order cuts pool cut first levels arrivals (made ++ top ∷ []) others (drop count rest)
+      → MakingItems order scales pool cut first levels arrivals made down rest → MakingItems order scales pool cut first levels arrivals (made ++ top ∷ []) others (drop count rest)
   making_items_more suit are made down now others rest count top below later pushed parted so_far =
       let over = entry_order order in
-      let rule = signature_by cuts in
+      let rule = signature_by scales in
       let n = length made in
       let old = levels_at pool levels in
       let held = items_at n levels in
@@ -115,7 +115,7 @@ module _ (order : RowOrder) (strict : IsStrictOrder (entry_order order)) (cuts :
       (arrivals_behind over rule pool old (suc n) behind behind_starts (λ k d inside. omega (arith, later k d inside)))
       (subst (λ l. Parted over l (entries_at pool down ++ map (arrived pool) here) (entries_at pool top.items) (entries_at pool others)) held_is
       (subst (λ l. Parted over (entries_at pool held) l (entries_at pool top.items) (entries_at pool others)) now_is
-      (entries_parted order rule pool held now top.items others (suit_tells order cuts suit) both parted)))
+      (entries_parted order rule pool held now top.items others (suit_tells order scales suit) both parted)))
       (subst (Making over cut n old upto (map (arrived pool) arrivals) (entries_at pool down)) rest_is so_far.making) in
       record {
         from = omega (arith, next, so_far.from);
@@ -129,7 +129,7 @@ module _ (order : RowOrder) (strict : IsStrictOrder (entry_order order)) (cuts :
       }
 
   -- the levels are those that the addition makes
-  pub making_items_end : (made : List (Vec Item Global)) (down : List Item) (rest : List Arrival) → (cut ≤ length made) ⊎ ((length down ≡ 0) × (length rest ≡ 0)) → MakingItems order cuts pool cut first levels arrivals made down rest
+  pub making_items_end : (made : List (Vec Item Global)) (down : List Item) (rest : List Arrival) → (cut ≤ length made) ⊎ ((length down ≡ 0) × (length rest ≡ 0)) → MakingItems order scales pool cut first levels arrivals made down rest
       → IsMade (entry_order order) cut (levels_at pool levels) (replaced first (levels_at pool (drop first made)) (levels_at pool levels)) (map (arrived pool) arrivals)
   making_items_end made down rest ended so_far =
       let old = levels_at pool levels in

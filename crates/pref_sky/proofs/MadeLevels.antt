@@ -1,16 +1,16 @@
 -- What an addition makes of levels: from the first one to which something comes, each new level is the best of the held one and of what comes to it.
 use Rattle.pref_sky.proofs.Common.{◌≡◌, ℕ, zero, suc, ◌≤◌, ◌<◌, ◌+◌, ◌-◌, Bool, true, cond, ◌⊎◌, inl, inr, List, [], ◌∷◌, ◌++◌, length, map, take, drop, get_or, refl, sym, ◌∙◌, ap, subst, arith}
 use Rattle.pref_sky.proofs.Common.{filter, append_assoc, length-append, length-take-le, count_by, sum_by, cases_lt, both_ways, get_or_append_left, get_or-append_right, get_or-drop, get_or-take}
-use Rattle.pref_sky.proofs.Common.{sum_by-append, sum_by-cons, sum_by_push, sum_by-take-drop, IsStrictOrder, Entry, IsApart, best, is_beaten, rest, without_best, HaveDifferentIds, entry_of, levels}
+use Rattle.pref_sky.proofs.Common.{sum_by-append, sum_by-cons, sum_by_push, sum_by-take-drop, IsStrictOrder, Entry, IsAntichain, best, is_beaten, rest, without_best, HaveDifferentIds, entry_of, levels}
 use Rattle.pref_sky.proofs.Common.{IsBehind, IsMade, held_at, ranked_from, ranked_upto, Parted, Among}
-use Rattle.pref_sky.proofs.Members.{any_from, any_gives, in_filter, from_filter, in_left, in_right, in_either}
+use Rattle.pref_sky.proofs.MembersLaws.{any_from, any_gives, in_filter, from_filter, in_left, in_right, in_either}
 use Rattle.pref_sky.proofs.Removals.{beaten_by_best, beaten_by_rest, best_of_rest_is, comes_after, comes_after_among_more, comes_after_upto, rest_is, same_chains}
-use Rattle.pref_sky.proofs.Orders.{SameMembers, among_in_order}
+use Rattle.pref_sky.proofs.IdOrder.{SameMembers, among_in_order}
 use Rattle.pref_sky.proofs.Merges.{HoldsLevels, different_best, is_at, same_best}
 use Rattle.pref_sky.proofs.HeldLevels.{beaten_by_more, best_apart, best_of_same, best_without, different_by_count, left_without, same_behind, same_beside, same_sym, same_then, without_of_same}
-use Rattle.pref_sky.proofs.Parting.{best_are, others_are}
+use Rattle.pref_sky.proofs.PartedLaws.{best_are, others_are}
 use Rattle.pref_sky.proofs.LevelLaws.{held_differ}
-use Rattle.pref_sky.proofs.LevelByLevel.{best_with_top, without_with_top}
+use Rattle.pref_sky.proofs.LevelMerge.{best_with_top, without_with_top}
 use Rattle.pref_sky.proofs.RankedLevels.{count_joined, count_level, level_differs, one_level}
 use Rattle.pref_sky.proofs.Ranks.{held_there, held_upto, levels_upto_is, same_upto, within_if_same}
 
@@ -70,7 +70,7 @@ AreBehind over held n later = (e : Entry) → Among e later → (start : ℕ) ×
 -- n levels are told, where `down` came down to the next one, and `later` starts there or behind it
 pub record Merging (over : Entry → Entry → Bool) (before coming : List Entry) (cut n : ℕ) (made : List (List Entry)) (down later : List Entry) : Type 0 where
   pub upto : n ≤ cut
-  pub told : (k : ℕ) → k < n → SameMembers (held_at k made) (best over (rest over (before ++ coming) k))
+  pub decided : (k : ℕ) → k < n → SameMembers (held_at k made) (best over (rest over (before ++ coming) k))
   pub left : SameMembers (rest over (before ++ coming) n) ((down ++ later) ++ rest over before n)
 
 -- what comes is behind the first levels
@@ -105,7 +105,7 @@ module _ (over : Entry → Entry → Bool) (strict : IsStrictOrder over) (before
       let reach = (behind_chain over strict before cut old holds s.0 some s.2).0 in
       record {
         upto = omega (arith, s.1, reach);
-        told = λ k front. subst (λ l. SameMembers l (best over (rest over all k))) (sym (held_taken first k old front)) (front_stays k front (omega (arith, front, s.1, reach)));
+        decided = λ k front. subst (λ l. SameMembers l (best over (rest over all k))) (sym (held_taken first k old front)) (front_stays k front (omega (arith, front, s.1, reach)));
         left = record {
           there = λ x m.
               let w = from_filter (comes_after over all first) all x (subst (Among x) (rest_is over all first) m) in
@@ -149,7 +149,7 @@ merging_more over strict before coming cut n old made down here later top others
     let held = held_at n old in
     let now = down ++ here in
     let both = now ++ left in
-    let apart : IsApart over held = λ x y mx my. best_apart over left x y (among_in_order (best over left) x (holds.there n x mx).1) (among_in_order (best over left) y (holds.there n y my).1) in
+    let apart : IsAntichain over held = λ x y mx my. best_apart over left x y (among_in_order (best over left) x (holds.there n x mx).1) (among_in_order (best over left) y (holds.there n y my).1) in
     let held_best : SameMembers held (best over left) = record { there = λ x among. (holds.there n x among).1; back = λ x among. holds.back n x below among } in
     let lower : (x : Entry) → Among x later → is_beaten over both x ≡ true =
     λ x among.
@@ -166,8 +166,8 @@ merging_more over strict before coming cut n old made down here later top others
     let lost = without_best over left in
     record {
       upto = omega (arith, below);
-      told = λ k inside. elim (cases_lt k n) [
-        | inl before_it ↦ subst (λ l. SameMembers l (best over (rest over all k))) (sym (held_front k made (top ∷ []) (omega (arith, long, before_it)))) (m.told k before_it)
+      decided = λ k inside. elim (cases_lt k n) [
+        | inl before_it ↦ subst (λ l. SameMembers l (best over (rest over all k))) (sym (held_front k made (top ∷ []) (omega (arith, long, before_it)))) (m.decided k before_it)
         | inr past ↦
             let same : n ≡ k = omega (arith, inside, past) in
             let none : n - length made ≡ 0 = omega (arith, long) in
@@ -217,7 +217,7 @@ module _ (over : Entry → Entry → Bool) (strict : IsStrictOrder over) (before
   new_level k below =
       let P : List Entry → Type 0 = λ l. SameMembers l (best over (rest over (before ++ coming) k)) in
       elim (cases_lt k n) [
-        | inl told ↦ subst P (sym (held_front k made (drop n old) (omega (arith, long, told)))) (m.told k told)
+        | inl decided ↦ subst P (sym (held_front k made (drop n old) (omega (arith, long, decided)))) (m.decided k decided)
         | inr behind ↦ subst P (sym (new_behind k behind)) (behind_stays k behind below)
       ]
 

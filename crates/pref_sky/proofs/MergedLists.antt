@@ -2,7 +2,7 @@
 use Rattle.pref_sky.proofs.Common.{◌≡◌, ◌∙◌, ℕ, zero, suc, ◌+◌, ◌≤◌, ◌<◌, Bool, true, false, not, inl, inr, List, [], ◌∷◌, ◌++◌, length, get_or, take, drop, refl, sym, ap, subst, arith, append_assoc}
 use Rattle.pref_sky.proofs.Common.{length-drop, length-take, IsPartitionPoint, IsPartitionedBy, IsPermutation, cases_lt, get_or-drop, get_or-take, IsPermutation-cons, IsPermutation-middle}
 use Rattle.pref_sky.proofs.Common.{IsPermutation-sym, IsPermutation-to_front, IsPermutation-trans, IsChain, IsInOrder, Among}
-use Rattle.pref_sky.proofs.Members.{among_place, in_left, in_right, in_either, place_of}
+use Rattle.pref_sky.proofs.MembersLaws.{among_place, in_left, in_right, in_either, place_of}
 
 -- ---- lists in an order, one behind the other
 

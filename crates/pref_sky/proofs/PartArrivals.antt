@@ -2,8 +2,8 @@
 use Rattle.pref_sky.proofs.Common.{◌≡◌, ℕ, ◌≤◌, ◌<◌, ◌+◌, Bool, false, nat_tests, deals_before, eqb, eq-eqb, inl, inr, List, ◌++◌, length, get_or, take, drop, filter, sym, ◌∙◌, ap, subst, arith}
 use Rattle.pref_sky.proofs.Common.{append-nil, length-take, length-drop, get_or-drop, All, IsNonDecreasingBy, cases_lt, eqb-true, false_from_ne_true, get_or-take, get_or_default, take-append-drop}
 use Rattle.pref_sky.proofs.Common.{filter-append, IsNonDecreasingBy-from_all_adjacent, Arrival, AreDealt, AreInOrderOfStart, coming_to, Among}
-use Rattle.pref_sky.proofs.Members.{all_among, from_filter}
-use Rattle.pref_sky.proofs.Enough.{all_pass, none_pass}
+use Rattle.pref_sky.proofs.MembersLaws.{all_among, from_filter}
+use Rattle.pref_sky.proofs.AtLeastLaws.{all_pass, none_pass}
 
 -- the parts do not fall, nor do the starts within one
 parts_stay : (a b : Arrival) → deals_before b a ≡ false → a.part ≤ b.part

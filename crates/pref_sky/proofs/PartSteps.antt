@@ -2,8 +2,8 @@
 use Rattle.pref_sky.proofs.Common.{◌≡◌, ℕ, ◌<◌, Bool, inl, inr, List, [], ◌∷◌, ◌++◌, length, take, drop, filter, set, ltb, eqb, sym, ◌∙◌, ap, subst, arith, refl, All, eqb-true, false_from_ne_true}
 use Rattle.pref_sky.proofs.Common.{lt-ltb, ltb-true, length-set, take-append-drop, All-drop, All-push, filter-append, Arrival, Entry, Made, AreComing, StartsAt, coming_to, levels_at, items_at}
 use Rattle.pref_sky.proofs.Common.{AreInOrderOfPart, AreLevelsMade, ArePut, IsPartMade, LeaveAlone, new_levels, replaced, Among}
-use Rattle.pref_sky.proofs.Enough.{none_pass}
-use Rattle.pref_sky.proofs.Members.{all_among, among_all, in_left, in_right, in_either, from_filter}
+use Rattle.pref_sky.proofs.AtLeastLaws.{none_pass}
+use Rattle.pref_sky.proofs.MembersLaws.{all_among, among_all, in_left, in_right, in_either, from_filter}
 use Rattle.pref_sky.proofs.MergedLists.{in_order_across, in_order_joined}
 use Rattle.pref_sky.proofs.PartArrivals.{coming_are, dealt_behind}
 use Rattle.pref_sky.proofs.PartItems.{Levels, Part, in_set_here, in_set_other}

@@ -1,7 +1,7 @@
 -- The entries of levels, level by level: where they are cut, and how many of a kind they are.
 use Rattle.pref_sky.proofs.Common.{◌≡◌, ℕ, zero, suc, ◌+◌, Bool, cond, List, [], ◌∷◌, ◌++◌, map, take, drop, refl, sym, ◌∙◌, ap, arith, append_assoc, ◌==◌, count_by, map-append, sum_by-append, Entry}
 use Rattle.pref_sky.proofs.Common.{Ranked, HaveDifferentIds, in_order_of_id, at_level, entry_of, ranked_from, held_at}
-use Rattle.pref_sky.proofs.Orders.{count_in_order}
+use Rattle.pref_sky.proofs.IdOrder.{count_in_order}
 use Rattle.pref_sky.proofs.Merges.{entries_at_level}
 
 -- one level, as it stands among the ranked entries

@@ -3,10 +3,10 @@ use Rattle.pref_sky.proofs.Common.{◌≡◌, ℕ, zero, suc, ◌<◌, ◌≤◌
 use Rattle.pref_sky.proofs.Common.{length-append, drop_of_length-le, cases_lt, IsNonDecreasingBy, IsPermutation, get_or-map, length-map, IsPermutation-map, take-length, Entry, Ranked, best, rest}
 use Rattle.pref_sky.proofs.Common.{HaveDifferentIds, in_order_of_id, at_level, entry_of, levels, ranked_from, held_at, ranked_upto, Among}
 use borrow.Rule.Slice.PartMut.{mid_of, post_of, put_mid}
-use Rattle.pref_sky.proofs.Members.{in_left, in_right, in_either, from_map, in_map}
-use Rattle.pref_sky.proofs.Orders.{Rises, RisesBy, rises_in_order, same_if_rise, same_if_permuted, sorted_is, among_in_order, from_in_order}
+use Rattle.pref_sky.proofs.MembersLaws.{in_left, in_right, in_either, from_map, in_map}
+use Rattle.pref_sky.proofs.IdOrder.{Rises, RisesBy, rises_in_order, same_if_rise, same_if_permuted, sorted_is, among_in_order, from_in_order}
 use Rattle.pref_sky.proofs.Merges.{entries_at_level}
-use Rattle.pref_sky.proofs.Splits.{cut_at}
+use Rattle.pref_sky.proofs.CutLaws.{cut_at}
 use Rattle.pref_sky.proofs.RankedLevels.{one_level}
 
 -- one entry stands before another

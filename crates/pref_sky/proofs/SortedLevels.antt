@@ -2,13 +2,13 @@
 use Rattle.pref_sky.proofs.Common.{◌≡◌, ℕ, zero, suc, ◌≤◌, Bool, true, false, cond, not, ltb, ◌&&◌, ◌||◌, ◌⊎◌, inl, inr, List, [], ◌∷◌, ◌++◌, map, refl, sym, ◌∙◌, ap, subst, arith, append_assoc}
 use Rattle.pref_sky.proofs.Common.{filter, ◌==◌, count_by, both_ways, false_from_ne_true, sum_by-append, sum_by-cons, IsProductOf, IsStrictOrder, RowOrder, ChainOrder, Entry, best, rest, is_below}
 use Rattle.pref_sky.proofs.Common.{own_levels, own_order, HaveDifferentIds, entry_of, entry_order, in_order_of_id, levels, HoldsUpper, Among}
-use Rattle.pref_sky.proofs.ChainOrders.{own_is_strict}
+use Rattle.pref_sky.proofs.ChainOrdersLaws.{own_is_strict}
 use Rattle.pref_sky.proofs.HeldLevels.{different_by_count}
-use Rattle.pref_sky.proofs.Members.{in_left, in_right, in_either}
-use Rattle.pref_sky.proofs.Orders.{count_in_order}
+use Rattle.pref_sky.proofs.MembersLaws.{in_left, in_right, in_either}
+use Rattle.pref_sky.proofs.IdOrder.{count_in_order}
 use Rattle.pref_sky.proofs.Removals.{comes_after, comes_after_less, comes_after_among_more, best_of_rest_is, early_stays, same_chains}
 use Rattle.pref_sky.proofs.Merges.{HoldsLevels, held_all, held_more, held_within, is_at, same_by_level}
-use Rattle.pref_sky.proofs.Counts.{count_and, count_filtered, count_split, count_within}
+use Rattle.pref_sky.proofs.CountLaws.{count_and, count_filtered, count_split, count_within}
 
 count_never : {E : Type 0} (p : E → Bool) (xs : List E) → count_by (λ x. p x && false) xs ≡ 0
 count_never p [] = refl

@@ -1,8 +1,8 @@
 -- Chains, and stairs: in the order of the first chain one entry stands for all before it.
 use Rattle.pref_sky.proofs.Common.{◌≡◌, Bool, true, false, not, ◌||◌, inl, inr, List, [], ◌∷◌, ◌++◌, refl, sym, ◌∙◌, ap, subst, filter, arith, both_ways, false_from_ne_true, cond_both, IsStrictOrder}
-use Rattle.pref_sky.proofs.Common.{IsApart, best, is_beaten, IsChain, AreStairs, IsLine, IsInOrder, are_level, comes_first, in_turn, HasOneCandidate, IsSwept, ServesGroups, Among}
+use Rattle.pref_sky.proofs.Common.{IsAntichain, best, is_beaten, IsChain, AreStairs, IsLine, IsInOrder, are_level, comes_first, in_turn, HasOneCandidate, IsSwept, ServesGroups, Among}
 use Rattle.std.proofs.lemmas.List.Folds.{list_any-append}
-use Rattle.pref_sky.proofs.Members.{any_from, any_gives, from_filter, in_left, in_right, in_either}
+use Rattle.pref_sky.proofs.MembersLaws.{any_from, any_gives, from_filter, in_left, in_right, in_either}
 use Rattle.pref_sky.proofs.MergedLists.{in_order_across, in_order_back, in_order_front}
 use Rattle.pref_sky.proofs.Removals.{beaten_by_best}
 
@@ -41,7 +41,7 @@ in_weaker_order : {E : Type 0} (before weaker : E → E → Bool) → ((a b : E)
 in_weaker_order before weaker then [] h = h
 in_weaker_order before weaker then (e ∷ others) h = ((λ x m. then e x (h.0 x m)), in_weaker_order before weaker then others h.1)
 
-pub best_are_apart : {E : Type 0} (over : E → E → Bool) (all : List E) → IsApart over (best over all)
+pub best_are_apart : {E : Type 0} (over : E → E → Bool) (all : List E) → IsAntichain over (best over all)
 best_are_apart over all x y mx my =
     let other = from_filter (λ e. not (is_beaten over all e)) all x mx in
     let free = (from_filter (λ e. not (is_beaten over all e)) all y my).1 in
@@ -51,7 +51,7 @@ abbrev comes_no_earlier : {E : Type 0} → (E → E → Bool) → (E → E → B
 comes_no_earlier f s t a b = not (comes_first f s t b a)
 
 -- the best of a list in order are a level, of which one entry can be asked
-best_are_a_level : {E : Type 0} (over f s t : E → E → Bool) (all : List E) → IsInOrder (comes_no_earlier f s t) all → IsInOrder (λ a b. not (f b a)) (best over all) × IsApart over (best over all)
+best_are_a_level : {E : Type 0} (over f s t : E → E → Bool) (all : List E) → IsInOrder (comes_no_earlier f s t) all → IsInOrder (λ a b. not (f b a)) (best over all) × IsAntichain over (best over all)
 best_are_a_level over f s t all ordered = (
   in_weaker_order (comes_no_earlier f s t) (λ a b. not (f b a)) (λ a b h. grind (arith, h)) (best over all) (filter_in_order (comes_no_earlier f s t) (λ e. not (is_beaten over all e)) all ordered),
   best_are_apart over all,
@@ -156,7 +156,7 @@ module _ {E : Type 0} (over f s t : E → E → Bool) (stairs : AreStairs over f
       beaten_by_those_before front x back ordered ∙
       (sym (beaten_by_best over strict_stairs front x) ∙
       (ap (λ l. is_beaten over l x) is ∙
-      one_candidate.candidate stayed y [] x (subst (IsInOrder (λ a b. not (f b a))) is level.0) (subst (IsApart over) is level.1) (grind (arith, before)) (λ z m. absurd m)))
+      one_candidate.candidate stayed y [] x (subst (IsInOrder (λ a b. not (f b a))) is level.0) (subst (IsAntichain over) is level.1) (grind (arith, before)) (λ z m. absurd m)))
 
 pub swept : {E : Type 0} (over f s t : E → E → Bool) → IsSwept over f s t
 swept over f s t =

@@ -1,7 +1,7 @@
 -- What is best in an order with twins.
 use Rattle.pref_sky.proofs.Common.{not, ◌≡◌, false, List, arith, nat_tests, both_ways, false_from_ne_true, not-true, not_from_false, RowOrder, Entry, best, is_beaten, entry_order, Among}
 use Rattle.pref_sky.specs.Twins.{IsFirstOfTwins}
-use Rattle.pref_sky.proofs.Members.{any_from, any_gives, in_filter, from_filter}
+use Rattle.pref_sky.proofs.MembersLaws.{any_from, any_gives, in_filter, from_filter}
 
 pub best_is_first : (order : RowOrder) (all : List Entry) (e : Entry) → Among e (best (entry_order order) all) → IsFirstOfTwins order all e
 best_is_first order all e m other there =

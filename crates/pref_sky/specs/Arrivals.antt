@@ -9,7 +9,7 @@ use Rattle.pref_sky.specs.declared.arrival.Arrival.{Arrival}
 use Rattle.pref_sky.specs.declared.item.Item.{Item}
 use Rattle.pref_sky.specs.Items.{IsItem, entry_at, levels_at, items_at, parts_at}
 use Rattle.pref_sky.specs.Partials.{IsBehind, KeepsAllBut, held_at}
-use Rattle.pref_sky.specs.Parts.{part_of}
+use Rattle.pref_sky.specs.Partitions.{partition_of}
 
 -- the entry that arrived
 abbrev pub arrived : List Entry → Arrival → Entry
@@ -39,8 +39,8 @@ AreDealt arrivals = IsSortedBy deals_before arrivals
 
 -- what entries become that come to parts: those that may be above the cut arrive in a pool that holds the entries of the parts
 pub record HaveArrived (over : Entry → Entry → Bool) (rule : Entry → ℕ) (cut : ℕ) (columns : List ℕ) (pool : List Entry) (parts : List (Vec (Vec Item Global) Global)) (entries : List Entry) (arrivals : List Arrival) : Type 0 where
-  pub are : All (IsArrival over rule (part_of columns) pool (parts_at pool parts)) arrivals
-  pub upper : KeepsUpper over cut (part_of columns) (parts_at pool parts) entries (map (arrived pool) arrivals)
+  pub are : All (IsArrival over rule (partition_of columns) pool (parts_at pool parts)) arrivals
+  pub upper : KeepsUpper over cut (partition_of columns) (parts_at pool parts) entries (map (arrived pool) arrivals)
   pub dealt : AreDealt arrivals
 
 -- in order of part and start, and each comes to one of these parts

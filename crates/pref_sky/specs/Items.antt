@@ -57,8 +57,8 @@ items_at n [] = []
 items_at zero (first ∷ behind) = first.items
 items_at (suc n) (first ∷ behind) = items_at n behind
 
--- a pool with the same cuts that may have further entries behind its own
+-- a pool with the same scales that may have further entries behind its own
 pub record HasGrown (old new : Pool) : Type 0 where
-  pub cuts : new.cuts ≡ old.cuts
+  pub scales : new.scales ≡ old.scales
   pub more : List Entry
   pub entries : new.entries.items ≡ old.entries.items ++ more

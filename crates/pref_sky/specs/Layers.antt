@@ -22,8 +22,8 @@ abbrev pub with_level : (Entry → Entry → Bool) → List Entry → ℕ → En
 with_level over all cut e = at_level (suc (count_above over all cut e)) e
 
 -- those of some entries that are of the levels of all up to a cut, each with its level
-abbrev pub leveled : (Entry → Entry → Bool) → List Entry → ℕ → List Entry → List Ranked
-leveled over all cut some = map (with_level over all cut) (filter (λ e. not (comes_after over all cut e)) some)
+abbrev pub with_levels : (Entry → Entry → Bool) → List Entry → ℕ → List Entry → List Ranked
+with_levels over all cut some = map (with_level over all cut) (filter (λ e. not (comes_after over all cut e)) some)
 
 -- the last entries of n levels are over this one, and that of the next level is not, as far as the n-th and the next one tell
 pub record StandsBehind (over : Entry → Entry → Bool) (all : List Entry) (last : List ℕ) (e : Entry) (n : ℕ) : Type 0 where

@@ -15,5 +15,5 @@ pub mod Partials
 pub mod Arrivals
 pub mod Made
 pub mod Sorted
-pub mod Parts
-pub mod Held
+pub mod Partitions
+pub mod PartialForms

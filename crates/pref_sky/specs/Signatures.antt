@@ -5,6 +5,6 @@ use Rattle.pref_term.specs.declared.signature.scale.Scale.{Scale}
 use Rattle.pref_term.specs.Signatures.{signature}
 use Rattle.pref_sky.specs.declared.entry.Entry.{Entry}
 
--- the signature of an entry by some cuts
+-- the signature of an entry by some scales
 abbrev pub signature_by : List Scale → Entry → ℕ
-signature_by cuts e = signature cuts e.row
+signature_by scales e = signature scales e.row

@@ -7,7 +7,7 @@ use Rattle.pref_sky.specs.declared.entry.Entry.{Entry}
 use Rattle.pref_sky.specs.declared.entry.Ranked.{Ranked}
 use Rattle.pref_sky.specs.ChainOrders.{AreInOrder, AreSorted, is_below, own_order}
 use Rattle.pref_sky.specs.Items.{entry_at}
-use Rattle.pref_sky.specs.Layers.{leveled}
+use Rattle.pref_sky.specs.Layers.{with_levels}
 use Rattle.pref_sky.specs.Partials.{KeepsAllBut}
 use Rattle.pref_sky.specs.Stairs.{IsInOrder}
 
@@ -23,7 +23,7 @@ HoldsUpper order sorted = KeepsAllBut (λ e. is_below order sorted e ≡ true)
 pub record AreLeveled (order : ChainOrder) (held : List Entry) (found : List Ranked) : Type 0 where
   pub all : List Entry
   pub sorted : AreSorted order held all
-  pub is : found ≡ leveled (own_order order) all order.cut all
+  pub is : found ≡ with_levels (own_order order) all order.cut all
 
 IsInOrder-prop : {E : Type 0} (before : E → E → Bool) (xs : List E) → IsProp (IsInOrder before xs)
 IsInOrder-prop before [] = Unit-prop

@@ -5,16 +5,16 @@ use Rattle.pref_term.specs.Chains.{by_chain, first_chain, second_chain, tie_chai
 use Rattle.pref_term.specs.Order.{RowOrder, StandAlike, is_same, is_worse}
 use Rattle.pref_term.specs.declared.chains.Chains.{Chains}
 use Rattle.pref_term.specs.declared.key.Key.{Key}
-use Rattle.pref_sky.specs.Best.{IsApart, best, is_beaten, rest, without_best}
+use Rattle.pref_sky.specs.Best.{IsAntichain, best, is_beaten, rest, without_best}
 use Rattle.pref_sky.specs.Levels.{entry_order}
 use Rattle.pref_sky.specs.Members.{Among}
 use Rattle.pref_sky.specs.Stairs.{AreClassesOf, AreStairs, IsChain, IsInOrder, IsLine, are_level, better_in, by_row, comes_first, earlier_in, earlier_twin, first_within, in_turn, second_within, tie_or_twin}
 
 -- of a level in the order of the first chain, the last entry that is no worse than x in that chain dominates x, or none does, and is alike to x, or none is; a search by halves finds it
 pub record HasOneCandidate {E : Type 0} (over first second tie : E → E → Bool) : Type 0 where
-  pub candidate : (front : List E) (y : E) (back : List E) (x : E) → IsInOrder (λ a b. not (first b a)) (front ++ y ∷ back) → IsApart over (front ++ y ∷ back)
+  pub candidate : (front : List E) (y : E) (back : List E) (x : E) → IsInOrder (λ a b. not (first b a)) (front ++ y ∷ back) → IsAntichain over (front ++ y ∷ back)
       → first x y ≡ false → ((z : E) → Among z back → first x z ≡ true) → is_beaten over (front ++ y ∷ back) x ≡ over y x
-  pub alike : (front : List E) (y : E) (back : List E) (x z : E) → IsInOrder (λ a b. not (first b a)) (front ++ y ∷ back) → IsApart over (front ++ y ∷ back)
+  pub alike : (front : List E) (y : E) (back : List E) (x z : E) → IsInOrder (λ a b. not (first b a)) (front ++ y ∷ back) → IsAntichain over (front ++ y ∷ back)
       → first x y ≡ false → ((w : E) → Among w back → first x w ≡ true) → Among z (front ++ y ∷ back)
       → are_level (comes_first first second tie) z x ≡ true → are_level (comes_first first second tie) y x ≡ true
   pub none : (level : List E) (x : E) → ((z : E) → Among z level → first x z ≡ true) → is_beaten over level x ≡ false
@@ -27,7 +27,7 @@ pub record IsSwept {E : Type 0} (over first second tie : E → E → Bool) : Typ
       → (stayed : List E) (last : E) → best over front ≡ stayed ++ last ∷ [] → is_beaten over (front ++ x ∷ back) x ≡ over last x
   pub parts : (all : List E) → IsInOrder (λ a b. not (comes_first first second tie b a)) all
       → IsInOrder (λ a b. not (comes_first first second tie b a)) (best over all) × IsInOrder (λ a b. not (comes_first first second tie b a)) (without_best over all)
-  pub level : (all : List E) → IsInOrder (λ a b. not (comes_first first second tie b a)) all → IsInOrder (λ a b. not (first b a)) (best over all) × IsApart over (best over all)
+  pub level : (all : List E) → IsInOrder (λ a b. not (comes_first first second tie b a)) all → IsInOrder (λ a b. not (first b a)) (best over all) × IsAntichain over (best over all)
 
 -- stairs within groups are stairs, whose order is that of the groups, and then as in each of them
 pub record ServesGroups {E : Type 0} (over first second tie earlier : E → E → Bool) : Type 0 where

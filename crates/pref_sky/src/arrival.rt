@@ -5,14 +5,14 @@ ghost use Rattle.pref_sky.specs.Arrivals.{HaveArrived};
 ghost use Rattle.pref_sky.specs.Items.{AreAllItems, AreInPool, HasGrown, levels_at};
 ghost use Rattle.pref_sky.specs.Levels.{entry_order};
 ghost use Rattle.pref_sky.specs.Partials.{IsBehind};
-ghost use Rattle.pref_sky.specs.Parts.{part_of, parts_by};
+ghost use Rattle.pref_sky.specs.Partitions.{partition_of, partitions_by};
 ghost use Rattle.pref_sky.specs.Signatures.{signature_by};
 
 use crate::entry::Entry;
 use crate::item::Item;
 use crate::pool::Pool;
 use crate::signatures::signature_of;
-use pref_term::{Dominance, mixed};
+use pref_term::{Dominance, hash_with};
 use std::alloc::{AllocError, Global};
 
 /// A new entry: its part, how many levels there it is seen to be below, and its item.
@@ -23,15 +23,15 @@ pub(crate) struct Arrival {
     pub(crate) item: Item,
 }
 
-/// The part that holds an entry: its cells in these columns, mixed, tell it.
-fn part_of(columns: &[usize], entry: &Entry) -> usize
+/// The part that holds an entry: a hash of its cells in these columns says which.
+fn partition_of(columns: &[usize], entry: &Entry) -> usize
     requires { All (λ col. col < 16) columns.now }
-    ensures number { result ≡ part_of columns.now entry.now }
-    ensures within { result < parts_by columns.now }
+    ensures number { result ≡ partition_of columns.now entry.now }
+    ensures within { result < partitions_by columns.now }
 {
     let mut word = 0;
     for col in columns {
-        word = mixed(word, entry.row.cell(*col));
+        word = hash_with(word, entry.row.cell(*col));
     }
     (word >> 54) as usize
 }
@@ -46,7 +46,7 @@ fn start_of<D: Dominance>(
     entry: &Entry,
     signature: u64,
 ) -> usize
-    requires { AreAllItems (signature_by pool.now.cuts) pool.now.entries.items levels.now }
+    requires { AreAllItems (signature_by pool.now.scales) pool.now.entries.items levels.now }
     ensures within { result ≤ length levels.now }
     ensures behind { IsBehind (entry_order (D.order dominance.now)) (levels_at pool.now.entries.items levels.now) result entry.now }
 {
@@ -82,15 +82,15 @@ pub(crate) fn arrivals_of<D: Dominance>(
     entries: &[Entry],
 ) -> Result<Vec<Arrival>, AllocError>
     requires columns { All (λ col. col < 16) columns.now }
-    requires long { length parts.now ≡ parts_by columns.now }
-    requires items { AreInPool (signature_by pool.old.cuts) pool.old.entries.items parts.now }
+    requires long { length parts.now ≡ partitions_by columns.now }
+    requires items { AreInPool (signature_by pool.old.scales) pool.old.entries.items parts.now }
     ensures grown { HasGrown pool.old pool.new }
-    ensures arrivals { IfOk result (λ arrivals. HaveArrived (entry_order (D.order dominance.now)) (signature_by pool.new.cuts) cut columns.now pool.new.entries.items parts.now entries.now arrivals.items) }
+    ensures arrivals { IfOk result (λ arrivals. HaveArrived (entry_order (D.order dominance.now)) (signature_by pool.new.scales) cut columns.now pool.new.entries.items parts.now entries.now arrivals.items) }
 {
     let mut arrivals = Vec::new(alloc);
     for entry in entries {
-        let part = part_of(columns, entry);
-        let signature = signature_of(&pool.cuts, entry);
+        let part = partition_of(columns, entry);
+        let signature = signature_of(&pool.scales, entry);
         let start = start_of(dominance, pool, &parts[part], entry, signature);
         if start < cut as usize {
             let item = pool.push(entry, signature)?;

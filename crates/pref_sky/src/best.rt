@@ -6,7 +6,7 @@ ghost use Rattle.pref_sky.specs.Levels.{HaveDifferentIds, entry_order, in_order_
 
 use crate::entry::Entry;
 use crate::passes::best_and_rest;
-use crate::signatures::{cuts_of, items_of};
+use crate::signatures::{items_of, scales_of};
 use pref_term::Dominance;
 use std::alloc::{AllocError, Global};
 
@@ -31,8 +31,8 @@ pub fn best_rows_passes<D: Dominance>(
     ensures passes { IfOk result (λ found. found.1 ≤ length entries.now) }
     ensures some_pass { IfOk result (λ found. 0 < length entries.now → 0 < found.1) }
 {
-    let cuts = cuts_of(alloc, dominance, entries)?;
-    let items = items_of(alloc, &cuts, entries)?;
+    let scales = scales_of(alloc, dominance, entries)?;
+    let items = items_of(alloc, &scales, entries)?;
     let found = best_and_rest(alloc, dominance, window, entries, &[], &items)?;
     let mut best = Vec::with_capacity(alloc, found.best.len())?;
     for item in &found.best {

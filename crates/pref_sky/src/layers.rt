@@ -14,7 +14,7 @@
 
 ghost use Rattle.std.specs.Prelude.{◌≡◌, ◌<◌, ◌≤◌, ◌-◌, ◌+◌, true, false, All, IfOk, OnOk, get_or, length};
 ghost use Rattle.pref_sky.specs.ChainOrders.{AreInOrder, own_order};
-ghost use Rattle.pref_sky.specs.Layers.{StandsBehind, leveled, with_last};
+ghost use Rattle.pref_sky.specs.Layers.{StandsBehind, with_levels, with_last};
 
 use crate::chain_order::ChainOrder;
 use crate::entry::{Entry, Ranked};
@@ -55,13 +55,13 @@ fn note_last(last: &mut Vec<usize>, above: usize, place: usize) -> Result<(), Al
 ///
 /// Cost: for each entry a search by halves among the last entries of the levels so far. Memory: the list, and a number for each level.
 /// `Err` is out of memory.
-pub(crate) fn leveled(
+pub(crate) fn with_levels(
     alloc: Global,
     order: &ChainOrder,
     entries: &[Entry],
 ) -> Result<Vec<Ranked>, AllocError>
     requires { AreInOrder order.now entries.now }
-    ensures { IfOk result (λ found. found.items ≡ leveled (own_order order.now) entries.now order.now.cut entries.now) }
+    ensures { IfOk result (λ found. found.items ≡ with_levels (own_order order.now) entries.now order.now.cut entries.now) }
 {
     let mut found = Vec::with_capacity(alloc, entries.len())?;
     let mut last = Vec::new(alloc);

@@ -26,7 +26,7 @@ mod layers;
 mod making;
 mod merging;
 mod partial;
-mod parts;
+mod partitions;
 mod passes;
 mod pool;
 mod ranking;

@@ -43,7 +43,7 @@ pub(crate) struct Made {
 }
 
 /// The items at the level behind the first `place`: none where there is no such level.
-#[tactic(auto, using(crate::proofs::PartItems::in_here, crate::proofs::Pools::no_level))]
+#[tactic(auto, using(crate::proofs::PartItems::in_here, crate::proofs::PoolLaws::no_level))]
 pub(crate) fn level_at(levels: &[Vec<Item>], place: usize) -> &[Item]
     ensures { result.now ≡ items_at place levels.now }
 {
@@ -102,13 +102,13 @@ pub(crate) fn made_of<D: Dominance>(
     arrivals: &[Arrival],
 ) -> Result<Made, AllocError>
     requires window { 0 < window }
-    requires suit { Suit (D.order dominance.now) pool.now.cuts }
-    requires items { AreAllItems (signature_by pool.now.cuts) pool.now.entries.items levels.now }
-    requires start { All (StartsAt (entry_order (D.order dominance.now)) (signature_by pool.now.cuts) pool.now.entries.items (levels_at pool.now.entries.items levels.now)) arrivals.now }
+    requires suit { Suit (D.order dominance.now) pool.now.scales }
+    requires items { AreAllItems (signature_by pool.now.scales) pool.now.entries.items levels.now }
+    requires start { All (StartsAt (entry_order (D.order dominance.now)) (signature_by pool.now.scales) pool.now.entries.items (levels_at pool.now.entries.items levels.now)) arrivals.now }
     requires in_order { AreInOrderOfStart arrivals.now }
     requires some { 0 < length arrivals.now }
     ensures part { IfOk result (λ made. made.part ≡ part) }
-    ensures made { IfOk result (λ made. AreLevelsMade (entry_order (D.order dominance.now)) cut (signature_by pool.now.cuts) pool.now.entries.items levels.now arrivals.now made) }
+    ensures made { IfOk result (λ made. AreLevelsMade (entry_order (D.order dominance.now)) cut (signature_by pool.now.scales) pool.now.entries.items levels.now arrivals.now made) }
 {
     let first = arrivals[0].start;
     let mut made = empty_levels(alloc, first)?;

@@ -56,7 +56,7 @@ fn merge(
 ///
 /// Cost: a copy of all, and for each of the others what a sort of them takes and a search by halves among the first list. Memory: the
 /// copy, and one of the others.
-pub(crate) fn merged(
+pub(crate) fn merge_all(
     alloc: Global,
     order: &ChainOrder,
     sorted: &[Entry],

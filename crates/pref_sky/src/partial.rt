@@ -1,15 +1,15 @@
 //! Partial results: the first levels of a list that is added piece by piece.
 
 ghost use Rattle.std.specs.Prelude.{◌≡◌, ◌<◌, ◌++◌, ◌^◌, [], List, length, map, IfOk};
-ghost use Rattle.pref_sky.specs.Held.{ranked_held};
+ghost use Rattle.pref_sky.specs.PartialForms.{ranked_held};
 ghost use Rattle.pref_sky.specs.Levels.{HaveDifferentIds, entry_of, entry_order, levels};
 ghost use Rattle.pref_sky.specs.Partials.{ranked_from};
-ghost use Rattle.pref_sky.specs.Parts.{ranked_parts};
+ghost use Rattle.pref_sky.specs.Partitions.{ranked_parts};
 ghost use Rattle.pref_sky.specs.declared.entry.Entry.{Entry};
 
 use crate::chain_order::ChainOrder;
 use crate::entry::{Entry, Ranked, entries_of};
-use crate::parts::Parts;
+use crate::partitions::Partitions;
 use crate::sorted::SortedEntries;
 use pref_term::Dominance;
 use std::alloc::{AllocError, Global};
@@ -23,7 +23,7 @@ pub(crate) enum Held {
     /// In the order of two chains, where the order of the first addition is their product.
     Sorted(SortedEntries),
     /// In parts, which the order never compares with each other.
-    Apart(Parts),
+    Partitioned(Partitions),
 }
 
 /// The entries of the levels 1 to a cut among all that were added, in order of level, then id.
@@ -47,7 +47,7 @@ impl Drop for Partial {
 impl Model for Partial {
     ghost use Rattle.std.specs.Prelude.{List, map};
     ghost use Rattle.pref_sky.specs.declared.entry.Ranked.{Ranked};
-    ghost use Rattle.pref_sky.specs.Held.{ranked_held};
+    ghost use Rattle.pref_sky.specs.PartialForms.{ranked_held};
     ghost use Rattle.pref_sky.specs.Levels.{HaveDifferentIds, entry_of};
 
     ghost Value = { List Ranked };
@@ -59,7 +59,7 @@ impl Model for Partial {
 
 /// What is held after the first addition: entries in the order of two chains where the order is their product, and else parts where it
 /// compares rows within groups alone.
-fn begun<D: Dominance>(
+fn hold_first<D: Dominance>(
     alloc: Global,
     dominance: &D,
     window: usize,
@@ -77,13 +77,13 @@ fn begun<D: Dominance>(
         let sorted = SortedEntries::of(alloc, order, entries)?;
         return Ok(Held::Sorted(sorted));
     }
-    let parts = Parts::of(alloc, dominance, window, cut, entries)?;
-    Ok(Held::Apart(parts))
+    let parts = Partitions::of(alloc, dominance, window, cut, entries)?;
+    Ok(Held::Partitioned(parts))
 }
 
 /// What is held where an addition is by an order or a cut that does not go with what was held: the entries of its levels and the new
 /// ones are begun anew.
-fn begun_anew<D: Dominance>(
+fn hold_anew<D: Dominance>(
     alloc: Global,
     dominance: &D,
     window: usize,
@@ -100,7 +100,7 @@ fn begun_anew<D: Dominance>(
 {
     let mut all = entries_of(alloc, ranked)?;
     all.extend_from_slice(entries)?;
-    begun(alloc, dominance, window, cut, &all)
+    hold_first(alloc, dominance, window, cut, &all)
 }
 
 impl Partial {
@@ -131,7 +131,7 @@ impl Partial {
         match &self.held {
             Held::Nothing => Ok(Vec::new(alloc)),
             Held::Sorted(sorted) => sorted.ranked(alloc),
-            Held::Apart(parts) => parts.ranked(alloc),
+            Held::Partitioned(parts) => parts.ranked(alloc),
         }
     }
 
@@ -175,7 +175,7 @@ impl Partial {
     {
         match &mut self.held {
             Held::Nothing => {
-                self.held = begun(alloc, dominance, window, cut, entries)?;
+                self.held = hold_first(alloc, dominance, window, cut, entries)?;
                 Ok(())
             }
             Held::Sorted(sorted) => {
@@ -183,15 +183,15 @@ impl Partial {
                     return sorted.add(alloc, entries);
                 }
                 let ranked = sorted.ranked(alloc)?;
-                self.held = begun_anew(alloc, dominance, window, cut, &ranked, entries)?;
+                self.held = hold_anew(alloc, dominance, window, cut, &ranked, entries)?;
                 Ok(())
             }
-            Held::Apart(parts) => {
+            Held::Partitioned(parts) => {
                 if parts.columns.as_slice() == dominance.groups() {
                     return parts.add(alloc, dominance, window, cut, entries);
                 }
                 let ranked = parts.ranked(alloc)?;
-                self.held = begun_anew(alloc, dominance, window, cut, &ranked, entries)?;
+                self.held = hold_anew(alloc, dominance, window, cut, &ranked, entries)?;
                 Ok(())
             }
         }

@@ -19,9 +19,9 @@
 //! from the beginning of the first pass, and so among the early ones.
 
 ghost use Rattle.std.specs.Prelude.{◌≡◌, ◌≤◌, ◌<◌, [], ◌∷◌, ℕ, Bool, List, get_or, length, IfOk, OnOk};
-ghost use Rattle.pref_sky.specs.Best.{IsApart};
+ghost use Rattle.pref_sky.specs.Best.{IsAntichain};
 ghost use Rattle.pref_sky.specs.Items.{item_order};
-ghost use Rattle.pref_sky.specs.Passes.{IsClear, IsMet, IsTold, Parted, Passes, Settled, Sifted};
+ghost use Rattle.pref_sky.specs.Passes.{IsClear, IsMet, IsDecided, Parted, Passes, PassEnds, Sifted};
 ghost use Rattle.pref_term.specs.Order.{IsStrictOrder};
 ghost use Rattle.pref_sky.specs.declared.item.Item.{Item};
 
@@ -35,7 +35,7 @@ use std::alloc::{AllocError, Global};
 fn next_open(items: &[Item], from: usize, signature: u64) -> usize
     requires { from ≤ length items.now }
     ensures within { (from ≤ result) × (result ≤ length items.now) }
-    ensures told { (k : ℕ) (d : Item) → from ≤ k → k < result → IsTold signature (get_or items.now k d) }
+    ensures decided { (k : ℕ) (d : Item) → from ≤ k → k < result → IsDecided signature (get_or items.now k d) }
 {
     for (skipped, other) in items[from..].iter().enumerate() {
         if is_within(other.signature, signature) || is_within(signature, other.signature) {
@@ -45,9 +45,9 @@ fn next_open(items: &[Item], from: usize, signature: u64) -> usize
     items.len()
 }
 
-/// Moves what an item dominates out of a list, behind others, and tells whether something of the list dominates it. One comparison
+/// Moves what an item dominates out of a list, behind others, and returns whether something of the list dominates it. One comparison
 /// for each of the list whose signature leaves open how the two compare, until one dominates the item, or is alike: the list is to
-/// be apart, so then none dominates the item, and it dominates none.
+/// be an antichain, so then none dominates the item, and it dominates none.
 fn sift<D: Dominance>(
     dominance: &D,
     pool: &[Entry],
@@ -56,7 +56,7 @@ fn sift<D: Dominance>(
     rest: &mut Vec<Item>,
 ) -> Result<bool, AllocError>
     ensures { let over = item_order (D.order dominance.now) pool.now in
-        IfOk result (λ beaten. Sifted over item.now held.old.items held.new.items rest.old.items rest.new.items × (IsApart over held.old.items → IsMet over held.new.items item.now beaten)) }
+        IfOk result (λ beaten. Sifted over item.now held.old.items held.new.items rest.old.items rest.new.items × (IsAntichain over held.old.items → IsMet over held.new.items item.now beaten)) }
 {
     let mut place = next_open(held, 0, item.signature);
     'each: while place < held.len() {
@@ -93,7 +93,7 @@ struct Pass {
 fn take_in(window: usize, pass: &mut Pass, item: Item) -> Result<(), AllocError>
     requires { 0 < window }
     ensures { OnOk result ((over : Item → Item → Bool) → IsStrictOrder over → (held input best left : List Item) (before : ℕ)
-        → (IsApart over held → IsClear over pass.old.early.items item × IsClear over pass.old.late.items item)
+        → (IsAntichain over held → IsClear over pass.old.early.items item × IsClear over pass.old.late.items item)
         → Passes over held window input best (item ∷ left) before pass.old → Passes over held window input best left before pass.new) }
 {
     if pass.late.len() >= window.saturating_sub(pass.early.len()) {
@@ -158,8 +158,8 @@ pub(crate) struct Found {
 }
 
 /// Ends a pass: the early items are best, the late ones stay in the window. Gives what overflowed.
-fn settle(alloc: Global, pass: &mut Pass, best: &mut Vec<Item>) -> Result<Vec<Item>, AllocError>
-    ensures { IfOk result (λ input. Settled best.old.items best.new.items pass.old pass.new input.items) }
+fn end_pass(alloc: Global, pass: &mut Pass, best: &mut Vec<Item>) -> Result<Vec<Item>, AllocError>
+    ensures { IfOk result (λ input. PassEnds best.old.items best.new.items pass.old pass.new input.items) }
 {
     let early = std::mem::replace(&mut pass.early, Vec::new(alloc));
     pass.early = std::mem::replace(&mut pass.late, Vec::new(alloc));
@@ -205,7 +205,7 @@ pub(crate) fn best_and_rest<D: Dominance>(
     let mut passes = 0;
     'each_pass: while !input.is_empty() {
         offer_all(dominance, pool, room, &mut pass, &input)?;
-        input = settle(alloc, &mut pass, &mut best)?;
+        input = end_pass(alloc, &mut pass, &mut best)?;
         passes += 1;
     }
     Ok(Found {

@@ -1,4 +1,4 @@
-//! Entries in one pool, and the cuts by which their items are signed.
+//! Entries in one pool, and the scales by which their items are signed.
 //!
 //! ```text
 //! pool        0    1    2    3    4    5            entries, as they came, or as they were held when the pool was made anew
@@ -21,16 +21,16 @@ ghost use Rattle.pref_term.specs.Signatures.{Suit};
 
 use crate::entry::{Entry, compare};
 use crate::item::Item;
-use crate::signatures::{cuts_of, signature_of};
-use pref_term::{Cuts, Dominance, Relation, is_within};
+use crate::signatures::{scales_of, signature_of};
+use pref_term::{Dominance, Relation, Scales, is_within};
 use std::alloc::{AllocError, Global};
 
 /// The fewest held entries beside which what comes is signed. Beside fewer most of what comes is dominated after
 /// a few comparisons, and to sign an entry takes as many instructions as six or seven.
 const MANY: usize = 48;
 
-/// How many more entries are held, beside an eighth of them, before cuts are made anew: what comes later may be other than
-/// the first entries were, as in a table that is sorted, and cuts for these then tell nothing of it. Cuts that are made
+/// How many more entries are held, beside an eighth of them, before scales are made anew: what comes later may be other than
+/// the first entries were, as in a table that is sorted, and scales for these then say nothing of it. Scales that are made
 /// more often cost more than they spare where entries come in no order.
 const MORE: usize = 1024;
 
@@ -47,12 +47,12 @@ pub(crate) fn next_look(count: usize) -> usize {
     count.saturating_add(count / 8).saturating_add(16)
 }
 
-/// Entries, and the cuts by which their items are signed.
+/// Entries, and the scales by which their items are signed.
 #[derive(Drop)]
 pub(crate) struct Pool {
     pub(crate) entries: Vec<Entry>,
-    pub(crate) cuts: Cuts,
-    /// How many entries were held when the cuts were made.
+    pub(crate) scales: Scales,
+    /// How many entries were held when the scales were made.
     pub(crate) held_when_signed: usize,
     /// How many entries there are to be when it is looked again how many of them are held.
     pub(crate) look_at: usize,
@@ -65,30 +65,30 @@ impl Pool {
     {
         Pool {
             entries: Vec::new(alloc),
-            cuts: Cuts::none(),
+            scales: Scales::none(),
             held_when_signed: 0,
             look_at: 0,
         }
     }
 
-    /// No entries, with room for so many that are to be signed by these cuts.
-    pub(crate) fn with_room(alloc: Global, cuts: Cuts, held: usize) -> Result<Pool, AllocError>
-        ensures { IfOk result (λ pool. pool.cuts ≡ cuts) }
+    /// No entries, with room for so many that are to be signed by these scales.
+    pub(crate) fn with_room(alloc: Global, scales: Scales, held: usize) -> Result<Pool, AllocError>
+        ensures { IfOk result (λ pool. pool.scales ≡ scales) }
     {
         let entries = Vec::with_capacity(alloc, held)?;
         Ok(Pool {
             entries,
-            cuts,
+            scales,
             held_when_signed: held,
             look_at: next_look(held),
         })
     }
 
-    /// Whether the cuts suit the order, and hardly more entries are here than at the last look.
+    /// Whether the scales suit the order, and hardly more entries are here than at the last look.
     pub(crate) fn is_fresh<D: Dominance>(&self, dominance: &D) -> bool
-        ensures { result ≡ true → Suit (D.order dominance.now) self.now.cuts }
+        ensures { result ≡ true → Suit (D.order dominance.now) self.now.scales }
     {
-        self.entries.len() < self.look_at && dominance.suits(&self.cuts)
+        self.entries.len() < self.look_at && dominance.suits(&self.scales)
     }
 
     /// Whether so many held entries are too few for signatures to be worth their cost: one in 64 of those that come is counted with
@@ -97,47 +97,47 @@ impl Pool {
         held < MANY.saturating_sub(coming / 64)
     }
 
-    /// Whether the cuts suit the order, and serve where so many entries are held and so many come, and no more than half of the pool and
+    /// Whether the scales suit the order, and serve where so many entries are held and so many come, and no more than half of the pool and
     /// `SPARE` entries are held no more.
     pub(crate) fn serves<D: Dominance>(&self, dominance: &D, held: usize, coming: usize) -> bool
-        ensures { result ≡ true → Suit (D.order dominance.now) self.now.cuts }
+        ensures { result ≡ true → Suit (D.order dominance.now) self.now.scales }
     {
-        if !dominance.suits(&self.cuts) || self.entries.len() / 2 > held.saturating_add(SPARE) {
+        if !dominance.suits(&self.scales) || self.entries.len() / 2 > held.saturating_add(SPARE) {
             return false;
         }
-        if self.cuts.is_none() {
+        if self.scales.is_none() {
             return Pool::are_few(held, coming);
         }
         let before = self.held_when_signed;
         held <= before.saturating_add(before / 8).saturating_add(MORE)
     }
 
-    /// Cuts that suit the order: none where few entries are held, and else some for the entries of the pool or for those that come,
+    /// Scales that suit the order: none where few entries are held, and else some for the entries of the pool or for those that come,
     /// where these are more.
-    pub(crate) fn cuts_beside<D: Dominance>(
+    pub(crate) fn scales_beside<D: Dominance>(
         &self,
         alloc: Global,
         dominance: &D,
         held: usize,
         coming: &[Entry],
-    ) -> Result<Cuts, AllocError>
-        ensures { IfOk result (λ cuts. Suit (D.order dominance.now) cuts) }
+    ) -> Result<Scales, AllocError>
+        ensures { IfOk result (λ scales. Suit (D.order dominance.now) scales) }
     {
         if Pool::are_few(held, coming.len()) {
-            return Ok(Cuts::none());
+            return Ok(Scales::none());
         }
         if coming.len() > self.entries.len() {
-            cuts_of(alloc, dominance, coming)
+            scales_of(alloc, dominance, coming)
         } else {
-            cuts_of(alloc, dominance, &self.entries)
+            scales_of(alloc, dominance, &self.entries)
         }
     }
 
     /// Puts an entry behind the others.
     pub(crate) fn push(&mut self, entry: &Entry, signature: u64) -> Result<Item, AllocError>
-        requires { signature ≡ signature_by self.old.cuts entry.now }
+        requires { signature ≡ signature_by self.old.scales entry.now }
         ensures grown { HasGrown self.old self.new }
-        ensures item { IfOk result (λ item. (self.new.entries.items ≡ self.old.entries.items ++ entry.now ∷ []) × IsItem (signature_by self.new.cuts) self.new.entries.items item
+        ensures item { IfOk result (λ item. (self.new.entries.items ≡ self.old.entries.items ++ entry.now ∷ []) × IsItem (signature_by self.new.scales) self.new.entries.items item
             × (item.place ≡ length self.old.entries.items)) }
     {
         let place = self.entries.len();
@@ -154,7 +154,7 @@ impl Pool {
         entry: &Entry,
         signature: u64,
     ) -> bool
-        requires { AreItems (signature_by self.now.cuts) self.now.entries.items items.now }
+        requires { AreItems (signature_by self.now.scales) self.now.entries.items items.now }
         ensures { result ≡ true → is_beaten (entry_order (D.order dominance.now)) (entries_at self.now.entries.items items.now) entry.now ≡ true }
     {
         for item in &items[..items.len().min(NEAR)] {
@@ -170,7 +170,7 @@ impl Pool {
     }
 }
 
-/// Puts the entries of items behind those of another pool, and signs them by its cuts. Gives their items there.
+/// Puts the entries of items behind those of another pool, and signs them by its scales. Gives their items there.
 fn take_items(
     alloc: Global,
     pool: &mut Pool,
@@ -179,19 +179,19 @@ fn take_items(
 ) -> Result<Vec<Item>, AllocError>
     requires { (rule : Entry → ℕ) × AreItems rule entries.now items.now }
     ensures grown { HasGrown pool.old pool.new }
-    ensures taken { IfOk result (λ taken. AreItems (signature_by pool.new.cuts) pool.new.entries.items taken.items × (entries_at pool.new.entries.items taken.items ≡ entries_at entries.now items.now)) }
+    ensures taken { IfOk result (λ taken. AreItems (signature_by pool.new.scales) pool.new.entries.items taken.items × (entries_at pool.new.entries.items taken.items ≡ entries_at entries.now items.now)) }
 {
     let mut taken = Vec::with_capacity(alloc, items.len())?;
     for item in items {
         let entry = &entries[item.place];
-        let signature = signature_of(&pool.cuts, entry);
+        let signature = signature_of(&pool.scales, entry);
         let item = pool.push(entry, signature)?;
         taken.push(item)?;
     }
     Ok(taken)
 }
 
-/// Puts the entries of the items of levels behind those of another pool, and signs them by its cuts. Gives the levels of their items there.
+/// Puts the entries of the items of levels behind those of another pool, and signs them by its scales. Gives the levels of their items there.
 fn take_levels(
     alloc: Global,
     pool: &mut Pool,
@@ -200,7 +200,7 @@ fn take_levels(
 ) -> Result<Vec<Vec<Item>>, AllocError>
     requires { (rule : Entry → ℕ) × AreAllItems rule entries.now levels.now }
     ensures grown { HasGrown pool.old pool.new }
-    ensures taken { IfOk result (λ taken. AreAllItems (signature_by pool.new.cuts) pool.new.entries.items taken.items × (levels_at pool.new.entries.items taken.items ≡ levels_at entries.now levels.now)) }
+    ensures taken { IfOk result (λ taken. AreAllItems (signature_by pool.new.scales) pool.new.entries.items taken.items × (levels_at pool.new.entries.items taken.items ≡ levels_at entries.now levels.now)) }
 {
     let mut taken = Vec::with_capacity(alloc, levels.len())?;
     for level in levels {
@@ -210,7 +210,7 @@ fn take_levels(
     Ok(taken)
 }
 
-/// Puts the entries of the items of parts behind those of another pool, and signs them by its cuts. Gives the parts of their items there.
+/// Puts the entries of the items of parts behind those of another pool, and signs them by its scales. Gives the parts of their items there.
 pub(crate) fn take_parts(
     alloc: Global,
     pool: &mut Pool,
@@ -219,7 +219,7 @@ pub(crate) fn take_parts(
 ) -> Result<Vec<Vec<Vec<Item>>>, AllocError>
     requires { (rule : Entry → ℕ) × AreInPool rule entries.now parts.now }
     ensures grown { HasGrown pool.old pool.new }
-    ensures taken { IfOk result (λ taken. AreInPool (signature_by pool.new.cuts) pool.new.entries.items taken.items × (parts_at pool.new.entries.items taken.items ≡ parts_at entries.now parts.now)
+    ensures taken { IfOk result (λ taken. AreInPool (signature_by pool.new.scales) pool.new.entries.items taken.items × (parts_at pool.new.entries.items taken.items ≡ parts_at entries.now parts.now)
         × (length taken.items ≡ length parts.now)) }
 {
     let mut taken = Vec::with_capacity(alloc, parts.len())?;

@@ -8,63 +8,63 @@ ghost use Rattle.pref_term.specs.Signatures.{Suit};
 use crate::entry::Entry;
 use crate::item::Item;
 use pref_table::Row;
-use pref_term::{Cuts, Dominance};
+use pref_term::{Dominance, Scales};
 use std::alloc::{AllocError, Global};
 
-/// The fewest entries for which cuts are made: fewer are compared in less time.
+/// The fewest entries for which scales are made: fewer are compared in less time.
 const FEWEST: usize = 16;
 
 /// How many rows a sample has at most: twice as many as a signature has bits, so that marks which divide the sample divide the rows
 /// about as evenly.
 const SAMPLE: usize = 128;
 
-/// Cuts that suit the order, for entries like these, of which evenly spread ones are looked at; none where they are few.
-pub(crate) fn cuts_of<D: Dominance>(
+/// Scales that suit the order, for entries like these, of which evenly spread ones are looked at; none where they are few.
+pub(crate) fn scales_of<D: Dominance>(
     alloc: Global,
     dominance: &D,
     entries: &[Entry],
-) -> Result<Cuts, AllocError>
-    ensures { IfOk result (λ cuts. Suit (D.order dominance.now) cuts) }
+) -> Result<Scales, AllocError>
+    ensures { IfOk result (λ scales. Suit (D.order dominance.now) scales) }
 {
     if entries.len() < FEWEST {
-        return Ok(Cuts::none());
+        return Ok(Scales::none());
     }
     let mut sample: Vec<Row> = Vec::new(alloc);
     for entry in entries.iter().step_by(entries.len() / SAMPLE + 1) {
         sample.push(entry.row)?;
     }
-    let cuts = dominance.cuts(alloc, &sample)?;
-    if dominance.suits(&cuts) {
-        Ok(cuts)
+    let scales = dominance.scales(alloc, &sample)?;
+    if dominance.suits(&scales) {
+        Ok(scales)
     } else {
-        Ok(Cuts::none())
+        Ok(Scales::none())
     }
 }
 
 /// The signature of an entry.
 #[inline(always)]
-pub(crate) fn signature_of(cuts: &Cuts, entry: &Entry) -> u64
-    ensures { result ≡ signature_by cuts.now entry.now }
+pub(crate) fn signature_of(scales: &Scales, entry: &Entry) -> u64
+    ensures { result ≡ signature_by scales.now entry.now }
 {
-    if cuts.is_none() {
+    if scales.is_none() {
         return 0;
     }
-    cuts.signature(&entry.row)
+    scales.signature(&entry.row)
 }
 
 /// The items of these entries, in order.
 pub(crate) fn items_of(
     alloc: Global,
-    cuts: &Cuts,
+    scales: &Scales,
     entries: &[Entry],
 ) -> Result<Vec<Item>, AllocError>
     ensures entries { IfOk result (λ items. entries_at entries.now items.items ≡ entries.now) }
-    ensures items { IfOk result (λ items. AreItems (signature_by cuts.now) entries.now items.items) }
+    ensures items { IfOk result (λ items. AreItems (signature_by scales.now) entries.now items.items) }
 {
     let mut items = Vec::with_capacity(alloc, entries.len())?;
     for (place, entry) in entries.iter().enumerate() {
         items.push(Item {
-            signature: signature_of(cuts, entry),
+            signature: signature_of(scales, entry),
             place,
         })?;
     }

@@ -10,8 +10,8 @@ ghost use Rattle.pref_sky.specs.declared.entry.Ranked.{Ranked};
 
 use crate::chain_order::ChainOrder;
 use crate::entry::{Entry, Ranked, entries_of};
-use crate::layers::leveled;
-use crate::merging::merged;
+use crate::layers::with_levels;
+use crate::merging::merge_all;
 use std::alloc::{AllocError, Global};
 
 /// The fewest entries that come before the lists are merged.
@@ -97,11 +97,11 @@ impl Pruned {
     /// The entries of the levels of these and the recent ones.
     ///
     /// Cost: a copy of all entries, a sort of the recent ones, and a search by halves among the levels for each.
-    fn leveled(&self, alloc: Global, recent: &[Entry]) -> Result<Vec<Ranked>, AllocError>
+    fn with_levels(&self, alloc: Global, recent: &[Entry]) -> Result<Vec<Ranked>, AllocError>
         ensures { IfOk result (λ found. AreLeveled self.now.order (self.now.entries.items ++ recent.now) found.items) }
     {
-        let entries = merged(alloc, &self.order, &self.entries, recent)?;
-        leveled(alloc, &self.order, &entries)
+        let entries = merge_all(alloc, &self.order, &self.entries, recent)?;
+        with_levels(alloc, &self.order, &entries)
     }
 
     /// Whether beside these so many entries came that it is worth while to look which are below the cut. Where there are no more than the
@@ -122,7 +122,7 @@ impl Pruned {
         if !self.is_outgrown(recent.len()) {
             return Ok(());
         }
-        let found = self.leveled(alloc, recent)?;
+        let found = self.with_levels(alloc, recent)?;
         let entries = entries_of(alloc, &found)?;
         self.lowest = places_of(alloc, &found, self.order.cut)?;
         self.entries = entries;
@@ -147,7 +147,7 @@ impl SortedEntries {
     pub(crate) fn ranked(&self, alloc: Global) -> Result<Vec<Ranked>, AllocError>
         ensures { IfOk result (λ ranked. ranked.items ≡ own_levels self.now.pruned.order (self.now.pruned.entries.items ++ self.now.recent.items)) }
     {
-        let mut ranked = self.pruned.leveled(alloc, &self.recent)?;
+        let mut ranked = self.pruned.with_levels(alloc, &self.recent)?;
         ranked.sort_unstable_by_key(|entry| (entry.level, entry.id));
         Ok(ranked)
     }

@@ -35,9 +35,9 @@ pub struct Window {
 
 impl Model for Window {
     ghost use Rattle.std.specs.Prelude.{◌≤◌, ◌<◌, ◌+◌, ◌≡◌, false, [], vec_len, vec_capacity};
-    ghost use Rattle.pref_sky.specs.Windows.{Held};
+    ghost use Rattle.pref_sky.specs.Windows.{WindowState};
 
-    ghost Value = { Held };
+    ghost Value = { WindowState };
 
     ghost view = { λ a. record { size = a.size; early = a.early.items; late = a.late.items; overflowed = a.overflowed } };
 
@@ -59,7 +59,7 @@ fn is_beaten_by<D: Dominance>(dominance: &D, entries: &[Entry], entry: &Entry) -
 impl Window {
     ghost use Rattle.std.specs.Prelude.{◌≡◌, ◌<◌, ◌≤◌, ◌⊎◌, [], length, IfOk};
     ghost use Rattle.pref_sky.specs.Levels.{entry_order};
-    ghost use Rattle.pref_sky.specs.Windows.{Held, Offers, window_at_begin, window_entries};
+    ghost use Rattle.pref_sky.specs.Windows.{WindowState, Offers, window_at_begin, window_entries};
 
     /// An empty window with room for `size` entries, 272 bytes each, taken here once.
     ///

@@ -102,7 +102,7 @@ fn check_names(names: &[&[u8]]) -> Result<(), TableFault>
     check_each_name(names)
 }
 
-fn owned(alloc: Global, names: &[&[u8]]) -> Result<Vec<Vec<u8>>, AllocError>
+fn copy_names(alloc: Global, names: &[&[u8]]) -> Result<Vec<Vec<u8>>, AllocError>
     ensures { IfOk result (λ owned. map (λ name. name.items) owned.items ≡ map (λ name. name.now) names.now) }
 {
     let mut owned = Vec::new(alloc);
@@ -134,7 +134,7 @@ impl Schema {
     {
         check_names(names)?;
         Ok(Schema {
-            names: owned(alloc, names)?,
+            names: copy_names(alloc, names)?,
         })
     }
 

@@ -4,7 +4,7 @@ use Rattle.pref_term.proofs.Common.{inr, arith, MatchResult, IfOk, IfErr, nat_te
 use Rattle.pref_term.proofs.Common.{without_third, AskText, rated, skyline, Preference, Best, option_map, ◌&&◌, codes, false≢true, Names, Spells, Faults, LacksOrder, FirstFault, UnlessMemory}
 use Rattle.pref_term.proofs.Common.{question, product_of, orders_of, groups_of, Question, FitsWidth, start, run, ordered, meant, asked, TermFault, TooLong, NoMinOrMax, AsksWhole, AsksWholeNothing}
 use Rattle.pref_term.proofs.LedLemmas.{unless_map}
-use Rattle.pref_term.proofs.Exact.{Finishes, Due, Spelt, Answers, run_answers, reached_start, spelt_run, fault_run}
+use Rattle.pref_term.proofs.SpellsLaws.{Finishes, Due, Spelt, Answers, run_answers, reached_start, spelt_run, fault_run}
 
 -- ---- the tokens of a text end with its end
 
@@ -12,8 +12,8 @@ finishes_more : (t : Placed) (ts : List Placed) → Finishes ts → Finishes (t 
 finishes_more t [] h = absurd h
 finishes_more t (u ∷ us) h = h
 
-pub tokens_finish : (told p : ℕ) (bs : List ℕ) → Finishes (tokens_from told p bs)
-tokens_finish told p [] = refl
+pub tokens_finish : (reported p : ℕ) (bs : List ℕ) → Finishes (tokens_from reported p bs)
+tokens_finish reported p [] = refl
 tokens_finish (suc k) p (b ∷ bs) = tokens_finish k (p + 1) bs
 tokens_finish zero p (b ∷ bs) = go (is_blank b) (tokens_finish 0 (p + 1) bs) (tokens_finish (more_bytes b bs) (p + 1) bs)
   where

@@ -7,7 +7,7 @@ use Rattle.pref_term.proofs.Common.{question, name_at, nests, shown_mode, shown_
 use Rattle.pref_term.proofs.ShownNames.{IsWordText, IsNamed, is_named}
 use Rattle.pref_term.proofs.AskedLemmas.{spelled_asked}
 use Rattle.pref_term.proofs.ShownLemmas.{CanShow, column_same}
-use Rattle.pref_term.proofs.Lexed.{lexed, Ends, place_free, word_lexed, sign_lexed}
+use Rattle.pref_term.proofs.ShownTokens.{lexed, Ends, place_free, word_lexed, sign_lexed}
 use Rattle.pref_term.proofs.ShowLaw.{all_named, can_show, column_fine, plain_spells}
 
 -- ---- the tree of a clause: its MIN and MAX columns, and then others

@@ -36,12 +36,12 @@ pub use Rattle.pref_term.specs.Grammar.{minimal, more_columns, more_dims, more_s
 pub use Rattle.pref_term.specs.Grammar.{pos_text, pos_word, prior_leaves, product_leaves, rated, reverse_word, reversed, set_leaves, signed_leaves, skyline, skyline_word, then_factor, then_product}
 pub use Rattle.pref_term.specs.Grammar.{token_of, top_level_head, top_level_word, unary_leaves}
 pub use Rattle.pref_term.specs.Keys.{by_key, by_keys, from_zero, is_number, is_product, key_for, keyed, leading, opposed}
-pub use Rattle.pref_term.specs.Led.{Asks, AsksClause, AsksClauseNothing, AsksNothing, AsksWhole, AsksWholeNothing, Fails, FailsBase, FailsClause, FailsColumn, FailsColumns, FailsCount, FailsDim}
-pub use Rattle.pref_term.specs.Led.{FailsDirection, FailsEnd, FailsGroup, FailsGrouping, FailsNumber, FailsNumbers, FailsOf, FailsOpened, FailsPrior, FailsProduct, FailsSets, FailsUnary, Goes}
-pub use Rattle.pref_term.specs.Led.{IsBehindDistinct, IsColumn, IsKnown, IsNoDigits, IsNoWord, IsOther, IsTermOf, NotNext, Passes, PassesOf, ReadsBase, ReadsClause, ReadsColumns, ReadsDim, ReadsDims}
-pub use Rattle.pref_term.specs.Led.{ReadsEnd, ReadsFactors, ReadsGroup, ReadsGrouping, ReadsNumber, ReadsNumbers, ReadsOpened, ReadsPrior, ReadsProduct, ReadsProducts, ReadsReverse, ReadsSets}
-pub use Rattle.pref_term.specs.Led.{ReadsSome, ReadsSomeColumns, ReadsSomeSets, ReadsUnary, TakesColumn, TakesCount, TakesDirection, WantsColumn, WantsCount, first_place, list_hole, with_order}
-pub use Rattle.pref_term.specs.Led.{word_ahead}
+pub use Rattle.pref_term.specs.ReaderResults.{Asks, AsksClause, AsksClauseNothing, AsksNothing, AsksWhole, AsksWholeNothing, Fails, FailsBase, FailsClause, FailsColumn, FailsColumns, FailsCount, FailsDim}
+pub use Rattle.pref_term.specs.ReaderResults.{FailsDirection, FailsEnd, FailsGroup, FailsGrouping, FailsNumber, FailsNumbers, FailsOf, FailsOpened, FailsPrior, FailsProduct, FailsSets, FailsUnary, Goes}
+pub use Rattle.pref_term.specs.ReaderResults.{IsBehindDistinct, IsColumn, IsKnown, IsNoDigits, IsNoWord, IsOther, IsTermOf, NotNext, Passes, PassesOf, ReadsBase, ReadsClause, ReadsColumns, ReadsDim, ReadsDims}
+pub use Rattle.pref_term.specs.ReaderResults.{ReadsEnd, ReadsFactors, ReadsGroup, ReadsGrouping, ReadsNumber, ReadsNumbers, ReadsOpened, ReadsPrior, ReadsProduct, ReadsProducts, ReadsReverse, ReadsSets}
+pub use Rattle.pref_term.specs.ReaderResults.{ReadsSome, ReadsSomeColumns, ReadsSomeSets, ReadsUnary, TakesColumn, TakesCount, TakesDirection, WantsColumn, WantsCount, first_place, list_hole, with_order}
+pub use Rattle.pref_term.specs.ReaderResults.{word_ahead}
 pub use Rattle.pref_term.specs.Order.{is_better, is_same, is_worse}
 pub use Rattle.pref_term.specs.Preference.{Base, Preference, around, between, high, layered, low, one_of, pareto, preference_of, prior, reverse, scored}
 pub use Rattle.pref_term.specs.Question.{FitsWidth, IsAsk, IsClause, IsCount, IsDimension, IsSkyline, Question, alike, cut_of, is_count}
@@ -52,13 +52,13 @@ pub use Rattle.pref_term.specs.Reading.{hole_leaves, in_group, in_minus, in_pos,
 pub use Rattle.pref_term.specs.Reading.{listed_dim, low_kind, named, next, next_factor, next_of, next_product, number_due, number_signed, of_named, opened, operand, operand_word, outer, part}
 pub use Rattle.pref_term.specs.Reading.{part_leaves, parted, pos_kind, prior_depth, product_depth, range_ended, ranged, ranked, read_of, reading, reverse_named, run, set_due, sets_listed}
 pub use Rattle.pref_term.specs.Reading.{skyline_named, start, start_of, stepped, top_level_named, unary_depth, whole, whole_base, with_set}
-pub use Rattle.pref_term.specs.Seen.{IsFront, seen}
+pub use Rattle.pref_term.specs.SeenTokens.{IsFront, seen}
 pub use Rattle.pref_term.specs.Shown.{IsShownAs, held, held_nests, is_composed, is_prior, more_names, name_at, nests, shown, shown_base, shown_diffs, shown_dims, shown_group, shown_mode, shown_set}
 pub use Rattle.pref_term.specs.Shown.{shown_sets, shown_term, shown_values, worked_names}
-pub use Rattle.pref_term.specs.Signatures.{Suit, bits_by, is_within, mixed, scale_column, signature, signed_onto, with_bit}
+pub use Rattle.pref_term.specs.Signatures.{Suit, bits_by, is_within, hash_with, scale_column, signature, signed_onto, with_bit}
 pub use Rattle.pref_term.specs.Spells.{Faults, FirstFault, HasOwnFault, IsGood, IsUnexpected, LacksOrder, Names, OwnFault, Spells, Starts, UnlessMemory, bad_count, base_meaning, below, column_at}
 pub use Rattle.pref_term.specs.Spells.{empty_range, group_by, groups_of, last_place, mode_of, number_range, number_value, order_by, orders_of, own_fault, prior_meaning, product_meaning, product_of}
-pub use Rattle.pref_term.specs.Spells.{question, set_value, signed_value, tokens_in, tokens_on, told, told_at, too_deep, unary_meaning, unknown_column}
+pub use Rattle.pref_term.specs.Spells.{question, set_value, signed_value, tokens_in, tokens_on, reported, reported_at, too_deep, unary_meaning, unknown_column}
 pub use Rattle.pref_term.specs.Token.{Placed, Sign, Token, ampersand, comma, digits, finish, left, left_brace, minus, more_bytes, other, right, right_brace, sign, sign_or_other, star, token_from}
 pub use Rattle.pref_term.specs.Token.{tokens_from, tokens_of, word}
 pub use Rattle.pref_term.specs.TwinLaws.{clause_twins, twins_alike}
@@ -67,7 +67,7 @@ pub use Rattle.pref_term.specs.Writable.{IsWritable, IsWritableBase, IsWritableS
 pub use Rattle.pref_term.specs.declared.ask.Mode.{Mode}
 pub use Rattle.pref_term.specs.declared.ask.Mode.TheVariants.{AtLeast, Best, TopLevel}
 pub use Rattle.pref_term.specs.declared.cursor.Cursor.{Cursor}
-pub use Rattle.pref_term.specs.declared.cursor.Taken.{Taken}
+pub use Rattle.pref_term.specs.declared.cursor.Lexeme.{Lexeme}
 pub use Rattle.pref_term.specs.declared.fault.TermFault.{TermFault}
 pub use Rattle.pref_term.specs.declared.fault.TermFault.TheVariants.{EmptyRange, NoMinOrMax, NumberRange, OutOfMemory, TooLong, Unexpected}
 pub use Rattle.pref_term.specs.declared.front.Token.TheVariants.{Digits, End, Word}

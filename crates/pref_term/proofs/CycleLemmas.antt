@@ -4,8 +4,8 @@ use Rattle.pref_term.proofs.Common.{left, right, star, ampersand, minus, Token, 
 use Rattle.pref_term.proofs.Common.{one_product, then_product, name, mark, opens, Names, own_fault, too_deep, unary_meaning, product_meaning, BaseKind, low_kind, kind_word, named, UnaryHole, in_minus}
 use Rattle.pref_term.proofs.Common.{first_factor, next_factor, first_product, next_product, in_group, in_reverse, unary_depth, State, operand, reverse_named, reading, after, ranked, next}
 use Rattle.pref_term.proofs.Common.{operand_word, Goes, Fails, IsOther, Passes, ReadsBase, ReadsUnary, ReadsFactors, ReadsProducts, ReadsProduct, ReadsPrior, ReadsGroup, ReadsReverse, FailsBase}
-use Rattle.pref_term.proofs.Common.{FailsUnary, FailsGroup, FailsProduct, FailsPrior, ahead, taken, Preference, pareto, prior, reverse, preference_of, Cursor, Taken, Word, Term, TermFault}
-use Rattle.pref_term.proofs.Complete.{ranked_goes_on, ranked_group, ranked_reverse}
+use Rattle.pref_term.proofs.Common.{FailsUnary, FailsGroup, FailsProduct, FailsPrior, ahead, taken, Preference, pareto, prior, reverse, preference_of, Cursor, Lexeme, Word, Term, TermFault}
+use Rattle.pref_term.proofs.GrammarComplete.{ranked_goes_on, ranked_group, ranked_reverse}
 use Rattle.pref_term.proofs.LedLemmas.{goes_then, goes_fails, passes_goes, stuck_fails, taken_is, if_err_map}
 
 -- ---- nestings
@@ -99,7 +99,7 @@ base_fails : (names : Names) (depth : ℕ) (letters : List ℕ) (k : BaseKind) (
 base_fails names depth letters k ts us f c e r h _ = goes_fails names _ _ ts us f (word_goes names letters k ts us h c e) (r h)
 
 -- a base term behind the word that was taken
-module _ (names : Names) (depth : ℕ) (k : BaseKind) (ts : List Placed) (t : Taken) (letters : Bor (List ℕ)) (e : ts ≡ taken t) (f : t.token ≡ Word letters) (word_is : keyword_of letters.now ≡ Some (kind_word k))
+module _ (names : Names) (depth : ℕ) (k : BaseKind) (ts : List Placed) (t : Lexeme) (letters : Bor (List ℕ)) (e : ts ≡ taken t) (f : t.token ≡ Word letters) (word_is : keyword_of letters.now ≡ Some (kind_word k))
     (r : Result (Term × Cursor) TermFault) where
   pub taken_base_read : IfOk r (λ x. ReadsBase names k (ahead t.next) (preference_of x.0) (ahead x.1)) → IfOk r (λ x. ReadsUnary names depth ts (preference_of x.0) (ahead x.1))
   taken_base_read read =

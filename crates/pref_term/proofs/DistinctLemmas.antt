@@ -6,7 +6,7 @@ use Rattle.pref_term.proofs.Common.{at_least_head, ask_leaves, IsText, is_in_any
 use Rattle.pref_term.proofs.Common.{groups_of, product_of, tokens_in, tokens_on, IsGood, Spells, question, meant, ordered, start, skyline_named, dim_due, begun, of_named, run, word_ahead}
 use Rattle.pref_term.proofs.Common.{AsksWholeNothing, AsksClause, AsksClauseNothing, IsBehindDistinct, ReadsClause, FailsClause, Preference, scored, pareto, Question, IsClause, IsDimension, Best}
 use Rattle.pref_term.proofs.Common.{TermFault, NoMinOrMax, and_from, and_right}
-use Rattle.pref_term.proofs.Complete.{cased_found, no_keyword}
+use Rattle.pref_term.proofs.GrammarComplete.{cased_found, no_keyword}
 use Rattle.pref_term.proofs.LedLemmas.{run_step, unless_map}
 use Rattle.pref_term.specs.declared.front.Token as code
 

@@ -1,15 +1,15 @@
 -- What the parts of the reader promise, from the tokens that they take.
 use Rattle.pref_term.proofs.Common.{◌≡◌, ℕ, ℤ, Bor, List, [], ◌∷◌, ◌++◌, map, Bool, true, false, cond, Some, None, Result, Ok, Err, refl, sym, ap, subst, ◌∙◌, fits_cell, Sign, left, right}
 use Rattle.pref_term.proofs.Common.{right_brace, comma, minus, Token, word, digits, sign, Placed, based, NumberText, low_text, high_text, around_text, pos_text, Leaf, mark, column_name, number_digits}
-use Rattle.pref_term.proofs.Common.{between_text, Names, UnlessMemory, own_fault, signed_value, number_value, column_at, number_range, below, empty_range, told, told_at, OwnFault, BaseKind, low_kind}
+use Rattle.pref_term.proofs.Common.{between_text, Names, UnlessMemory, own_fault, signed_value, number_value, column_at, number_range, below, empty_range, reported, reported_at, OwnFault, BaseKind, low_kind}
 use Rattle.pref_term.proofs.Common.{high_kind, around_kind, pos_kind, layered_kind, centre_of, first_of, named, opened, columned, number_due, number_signed, centred, listed, filled, NumberHole}
 use Rattle.pref_term.proofs.Common.{UnaryHole, State, reading, completed, run, led, judged, next, between_kind, start_of, end_of, least_of, ranged, range_ended, NumberList, in_pos, in_set, closing}
-use Rattle.pref_term.proofs.Common.{list_closed, stepped, seen, ahead, taken, behind_token, Cursor, Taken, Digits, Goes, Fails, IsOther, NotNext, Passes, WantsColumn, TakesColumn, ReadsOpened}
+use Rattle.pref_term.proofs.Common.{list_closed, stepped, seen, ahead, taken, behind_token, Cursor, Lexeme, Digits, Goes, Fails, IsOther, NotNext, Passes, WantsColumn, TakesColumn, ReadsOpened}
 use Rattle.pref_term.proofs.Common.{IsNoWord, FailsColumn, FailsOpened, ReadsNumber, ReadsSome, ReadsNumbers, ReadsBase, FailsNumber, FailsNumbers, FailsBase, list_hole, ReadsEnd, FailsEnd}
 use Rattle.pref_term.proofs.Common.{first_place, TermFault, Unexpected, OutOfMemory, EmptyRange, NumberRange, All, FitsSigned, ◌≢◌, IsErrAnd, IfErr, unwrap_or, int_lt, Option, scored, low, high}
 use Rattle.pref_term.proofs.Common.{around, one_of, between, all_ascii_digits, map-append, All-append, All-cons, All-nil}
 use Rattle.pref_table.specs.Columns.{column_of}
-use Rattle.pref_term.proofs.Complete.{list_ends}
+use Rattle.pref_term.proofs.GrammarComplete.{list_ends}
 use Rattle.pref_term.proofs.TokenLemmas.{digits_taken}
 use Rattle.std.specs.Int.{w64}
 use Rattle.pref_term.specs.declared.front.Token as code
@@ -92,7 +92,7 @@ opened_fails names ts us f c r h k =
     (r (reading h (opened k)) (λ letters. reading h (columned k letters)) (wants_opened h k))
 
 -- what was taken, where the token is known
-pub taken_is : (ts : List Placed) (t : Taken) (k : code.Token) → ts ≡ taken t → t.token ≡ k → ts ≡ at_place (seen k) t.at ∷ behind_token k (ahead t.next)
+pub taken_is : (ts : List Placed) (t : Lexeme) (k : code.Token) → ts ≡ taken t → t.token ≡ k → ts ≡ at_place (seen k) t.at ∷ behind_token k (ahead t.next)
 taken_is ts t k e f = e ∙ ap (λ (x : code.Token). at_place (seen x) t.at ∷ behind_token x (ahead t.next)) f
 
 -- the tokens of a number
@@ -101,11 +101,11 @@ NumberAhead false ts ds us = Passes (digits ds) ts us
 NumberAhead true ts ds us = (behind : List Placed) × Passes (sign minus) ts behind × Passes (digits ds) behind us
 
 -- its digits were taken
-pub plain_ahead : (c : Cursor) (u : Taken) (negative : Bool) (ds : Bor (List ℕ)) → negative ≡ false → ahead c ≡ taken u → u.token ≡ Digits ds → NumberAhead negative (ahead c) ds.now (ahead u.next) × (all_ascii_digits ds.now ≡ true)
+pub plain_ahead : (c : Cursor) (u : Lexeme) (negative : Bool) (ds : Bor (List ℕ)) → negative ≡ false → ahead c ≡ taken u → u.token ≡ Digits ds → NumberAhead negative (ahead c) ds.now (ahead u.next) × (all_ascii_digits ds.now ≡ true)
 plain_ahead c u false ds n e d = ((u.at, taken_is _ u _ e d), digits_taken c u ds e d)
 plain_ahead c u true ds n e d = cc
 
-pub signed_ahead : (c : Cursor) (t u : Taken) (negative : Bool) (ds : Bor (List ℕ)) → negative ≡ true → ahead c ≡ at_place (sign minus) t.at ∷ ahead t.next → ahead t.next ≡ taken u → u.token ≡ Digits ds → NumberAhead negative (ahead c) ds.now (ahead u.next) × (all_ascii_digits ds.now ≡ true)
+pub signed_ahead : (c : Cursor) (t u : Lexeme) (negative : Bool) (ds : Bor (List ℕ)) → negative ≡ true → ahead c ≡ at_place (sign minus) t.at ∷ ahead t.next → ahead t.next ≡ taken u → u.token ≡ Digits ds → NumberAhead negative (ahead c) ds.now (ahead u.next) × (all_ascii_digits ds.now ≡ true)
 signed_ahead c t u true ds n m e d = ((ahead t.next, (t.at, m), (u.at, taken_is _ u _ e d)), digits_taken t.next u ds e d)
 signed_ahead c t u false ds n m e d = cc
 
@@ -117,17 +117,17 @@ number_goes true ts us ds c names h hole own =
     (passes_goes names (sign minus) ts c.0 (reading h (number_due hole)) (reading h (number_signed hole)) (mark minus) c.1 refl refl)
     (passes_goes names (digits ds) c.0 us (reading h (number_signed hole)) _ (number_digits (least_of hole) true ds) c.2 refl own)
 
-digits_refused : (names : Names) (ts us : List Placed) (ds : List ℕ) (leaf : Leaf) (s m : State) (c : Passes (digits ds) ts us) (kind : OwnFault) → next s (digits ds) ≡ Some (leaf, m) → own_fault names leaf ≡ Some kind → (p : ℕ) → run names ts p s ≡ Err (told kind (told_at leaf p c.0))
+digits_refused : (names : Names) (ts us : List Placed) (ds : List ℕ) (leaf : Leaf) (s m : State) (c : Passes (digits ds) ts us) (kind : OwnFault) → next s (digits ds) ≡ Some (leaf, m) → own_fault names leaf ≡ Some kind → (p : ℕ) → run names ts p s ≡ Err (reported kind (reported_at leaf p c.0))
 digits_refused names ts us ds leaf s m c kind e own p = ap (λ xs. run names xs p s) c.1 ∙ (ap (led names p c.0 (run names us c.0)) e ∙ ap (judged leaf p c.0 (run names us c.0 m)) own)
 
 -- a number with a fault of its own, which is reported at its first token
 number_refused : (negative : Bool) (ts us : List Placed) (ds : List ℕ) → NumberAhead negative ts ds us → (names : Names) (h : UnaryHole) (hole : NumberHole) (kind : OwnFault) → own_fault names (number_digits (least_of hole) negative ds) ≡ Some kind
-    → (p : ℕ) → run names ts p (reading h (number_due hole)) ≡ Err (told kind (first_place ts))
+    → (p : ℕ) → run names ts p (reading h (number_due hole)) ≡ Err (reported kind (first_place ts))
 number_refused false ts us ds c names h hole kind own p =
-    digits_refused names ts us ds (number_digits (least_of hole) false ds) (reading h (number_due hole)) _ c kind refl own p ∙ ap (λ at. Err (told kind at)) (sym (ap first_place c.1))
+    digits_refused names ts us ds (number_digits (least_of hole) false ds) (reading h (number_due hole)) _ c kind refl own p ∙ ap (λ at. Err (reported kind at)) (sym (ap first_place c.1))
 number_refused true ts us ds c names h hole kind own p =
     ap (λ xs. run names xs p (reading h (number_due hole))) c.1.1
-    ∙ (digits_refused names c.0 us ds (number_digits (least_of hole) true ds) (reading h (number_signed hole)) _ c.2 kind refl own c.1.0 ∙ ap (λ at. Err (told kind at)) (sym (ap first_place c.1.1)))
+    ∙ (digits_refused names c.0 us ds (number_digits (least_of hole) true ds) (reading h (number_signed hole)) _ c.2 kind refl own c.1.0 ∙ ap (λ at. Err (reported kind at)) (sym (ap first_place c.1.1)))
 
 pub number_read : (negative : Bool) (ts us : List Placed) (ds : List ℕ) (value : ℤ) → NumberAhead negative ts ds us → fits_cell (signed_value negative ds) ≡ true → value ≡ signed_value negative ds → FitsSigned w64 value → ReadsNumber ts value us
 number_read negative ts us ds value c fits v held =

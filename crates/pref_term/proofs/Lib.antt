@@ -7,10 +7,10 @@ pub mod ChainLaws
 pub mod SignatureWords
 pub mod SignatureLaws
 pub mod WorkedTerms
-pub mod Sound
+pub mod GrammarSound
 pub mod TokenLemmas
-pub mod Complete
-pub mod Exact
+pub mod GrammarComplete
+pub mod SpellsLaws
 pub mod LedLemmas
 pub mod SetLemmas
 pub mod CycleLemmas
@@ -19,6 +19,6 @@ pub mod AskLemmas
 pub mod DistinctLemmas
 pub mod ShownNames
 pub mod ShownLemmas
-pub mod Lexed
+pub mod ShownTokens
 pub mod ShowLaw
 pub mod ClauseLaw

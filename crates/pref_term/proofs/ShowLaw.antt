@@ -12,10 +12,10 @@ use Rattle.pref_term.proofs.ShownNames.{IsWordText, IsNamed, is_named}
 use Rattle.pref_term.proofs.ShownLemmas.{AreInRange, CanShowBase, CanShow, leaves_text, leaves_text-append, head_text, head_shown, group_shown, columns_same, number_text, base_text, Shape, factor}
 use Rattle.pref_term.proofs.ShownLemmas.{product, ranked, as_prior, as_product, as_factor, shape_of, shape_leaves, prior_same, number_same, meaning_same, prior_text, text_shown, own_numerals}
 use Rattle.pref_term.proofs.ShownLemmas.{CanShowSet, set_text}
-use Rattle.pref_term.proofs.Exact.{good_both}
+use Rattle.pref_term.proofs.SpellsLaws.{good_both}
 use Rattle.pref_term.proofs.CycleLemmas.{depth_good}
 use Rattle.pref_term.proofs.DistinctLemmas.{head_said, plain_tokens}
-use Rattle.pref_term.proofs.Lexed.{lexed, IsDigitsText, FineHead, FineNumbers, FineBase, FinePrior, FineProduct, FineUnary, said, rated_lexed, rated_written, FineSet}
+use Rattle.pref_term.proofs.ShownTokens.{lexed, IsDigitsText, FineHead, FineNumbers, FineBase, FinePrior, FineProduct, FineUnary, said, rated_lexed, rated_written, FineSet}
 
 digits_text : (ds : List ℕ) → all_ascii_digits ds ≡ true → 0 < length ds → IsDigitsText ds
 digits_text [] h n = absurd (omega arith)

@@ -1,7 +1,7 @@
 -- Of two rows of which the first is over the second, or its twin, the first reaches no mark that the second does not reach.
 use Rattle.pref_term.proofs.Common.{not-true, ◌≡◌, ℕ, ℤ, pos, List, [], ◌∷◌, Bool, true, false, map, not, inl, inr, refl, sym, ap, ◌∙◌, subst, arith, if◌then◌else◌, All, bit_and, int_lt, ◌==◌}
 use Rattle.pref_term.proofs.Common.{flat_map, int_eq, false≢true, Decides-int_eq, ints, All-append, All-cons, All-contains, All-nil, order_of, better, in_same_group, cell, same, from_zero, key_for}
-use Rattle.pref_term.proofs.Common.{keyed, leading, opposed, is_better, is_same, and_parts, Preference, scored, pareto, prior, reverse, Question, Suit, bits_by, is_within, mixed, scale_column}
+use Rattle.pref_term.proofs.Common.{keyed, leading, opposed, is_better, is_same, and_parts, Preference, scored, pareto, prior, reverse, Question, Suit, bits_by, is_within, hash_with, scale_column}
 use Rattle.pref_term.proofs.Common.{signature, twins_alike, by_scores, in_priority, in_product, walked, Key, Relation, Better, Worse, Same, Neither}
 use Rattle.pref_term.specs.RelationLaws.{lower_once}
 use Rattle.pref_term.specs.Leading.{Suits}
@@ -87,7 +87,7 @@ group_cells (col ∷ cols) a b h =
 bits_as : (scale : Scale) (a b : List ℤ) → cell a (scale_column scale) ≡ cell b (scale_column scale) → bits_by scale a ≡ bits_by scale b
 bits_as (Marks k marks) a b e = ap (λ x. map (λ mark. not (int_lt (opposed k.turned (from_zero k.score x)) (pos mark))) marks.items) e
 bits_as (Hashes c masks) a b e =
-    ap (λ x. flat_map (λ mask. (bit_and (mixed 0 x) mask == mask) ∷ (bit_and (mixed 0 x) mask == 0) ∷ []) masks.items) e
+    ap (λ x. flat_map (λ mask. (bit_and (hash_with 0 x) mask == mask) ∷ (bit_and (hash_with 0 x) mask == 0) ∷ []) masks.items) e
 
 -- ---- a scale
 
@@ -113,8 +113,8 @@ suiting keys group (Hashes c masks) a b keeps near (inr led) = absurd led
 -- ---- the law
 
 -- scales that suit the keys that lead an ask's preference, and its group, suit its order
-pub suiting_cuts : (q : Question) (cuts : List Scale) → All (Suits (leading q.preference false) q.group) cuts → Suit (order_of q) cuts
-suiting_cuts q cuts suit = record {
+pub suiting_cuts : (q : Question) (scales : List Scale) → All (Suits (leading q.preference false) q.group) scales → Suit (order_of q) scales
+suiting_cuts q scales suit = record {
   over = λ a b h.
       let both = and_parts (in_same_group q.group a b) (better q.preference a b) h in
       within a b (better_fits (walked q.preference a b) (walked-better q.preference a b ∙ both.1)) both.0;
@@ -123,7 +123,7 @@ suiting_cuts q cuts suit = record {
       within a b (same_fits (walked q.preference a b) (walked-same q.preference a b ∙ both.1)) both.0;
 }
   where
-    within : (a b : List ℤ) → fits (walked q.preference a b) ≡ true → in_same_group q.group a b ≡ true → is_within (signature cuts a) (signature cuts b) ≡ true
+    within : (a b : List ℤ) → fits (walked q.preference a b) ≡ true → in_same_group q.group a b ≡ true → is_within (signature scales a) (signature scales b) ≡ true
     within a b h near =
         signed_within _ _ (implied_flat (Suits (leading q.preference false) q.group) (λ scale. bits_by scale a) (λ scale. bits_by scale b)
-        (λ scale. suiting (leading q.preference false) q.group scale a b (keep q.preference false a b h) near) cuts suit)
+        (λ scale. suiting (leading q.preference false) q.group scale a b (keep q.preference false a b h) near) scales suit)

@@ -24,6 +24,6 @@ pub mod Spells
 pub mod Reading
 pub mod Asked
 pub mod Shown
-pub mod Led
-pub mod Seen
+pub mod ReaderResults
+pub mod SeenTokens
 pub mod Ahead

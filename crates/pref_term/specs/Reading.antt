@@ -3,7 +3,7 @@
 use Rattle.std.specs.Prelude.{ℕ, ◌+◌, List, [], ◌∷◌, ◌++◌, true, false, Option, Some, None, Result, Ok, Err}
 use Rattle.pref_term.specs.Token.{Sign, left, right, comma, star, ampersand, minus, left_brace, right_brace, Token, word, digits, sign, finish, Placed}
 use Rattle.pref_term.specs.Grammar.{Keyword, best_word, low_word, high_word, around_word, pos_word, reverse_word, top_level_word, at_least_word, by_word, CasedWord, skyline_word, of_word, min_word, max_word, diff_word, keyword_of, cased_of, HeadText, best_head, top_level_head, at_least_head, head_leaves, minimal, maximal, different, DimText, dim_leaves, more_dims, group_leaves, AskText, rated, skyline, NumberText, BaseText, low_text, high_text, around_text, pos_text, PriorText, one_product, then_product, ProductText, one_factor, then_factor, UnaryText, negated, grouped, reversed, based, Leaf, name, mark, opens, column_name, number_digits, count_digits, cased, last, number_leaves, others_leaves, prior_leaves, product_leaves, ask_leaves, between_word, between_text, end_leaves, layered_word, layered_text, SetText, set_leaves, more_sets}
-use Rattle.pref_term.specs.Spells.{Names, own_fault, OwnFault, told, told_at}
+use Rattle.pref_term.specs.Spells.{Names, own_fault, OwnFault, reported, reported_at}
 use Rattle.pref_term.specs.declared.fault.TermFault.{TermFault}
 use Rattle.pref_term.specs.declared.fault.TermFault.TheVariants.{Unexpected}
 
@@ -361,7 +361,7 @@ ended _ place = Err (Unexpected place)
 -- goes on where the leaf has no fault of its own
 abbrev pub judged : Leaf → (before place : ℕ) → Result AskText TermFault → Option OwnFault → Result AskText TermFault
 judged leaf before place go None = go
-judged leaf before place go (Some kind) = Err (told kind (told_at leaf before place))
+judged leaf before place go (Some kind) = Err (reported kind (reported_at leaf before place))
 
 abbrev pub led : Names → (before place : ℕ) → (State → Result AskText TermFault) → Option (Leaf × State) → Result AskText TermFault
 led names before place go None = Err (Unexpected place)

@@ -10,8 +10,8 @@ use Rattle.pref_term.specs.declared.signature.scale.Scale.{Scale}
 use Rattle.pref_term.specs.declared.signature.scale.Scale.TheVariants.{Marks, Hashes}
 
 -- a hash with one value more mixed into it: their sum, times an odd number near 2^64 over the golden ratio
-abbrev pub mixed : ℕ → ℤ → ℕ
-mixed hash value = (hash + cast_unsigned w64 value) % 2 ^ 64 * GOLDEN % 2 ^ 64
+abbrev pub hash_with : ℕ → ℤ → ℕ
+hash_with hash value = (hash + cast_unsigned w64 value) % 2 ^ 64 * GOLDEN % 2 ^ 64
 
 -- the column that a scale reads
 abbrev pub scale_column : Scale → ℕ
@@ -21,7 +21,7 @@ scale_column (Hashes col masks) = col
 -- a row's bits by a scale: for each mark, whether the row's key is no less; for each mask, whether its cell's hash has all of these bits, and whether it has none
 abbrev pub bits_by : Scale → List ℤ → List Bool
 bits_by (Marks key marks) row = map (λ mark. not (int_lt (keyed key row) (pos mark))) marks.items
-bits_by (Hashes col masks) row = flat_map (λ mask. (bit_and (mixed 0 (cell row col)) mask == mask) ∷ (bit_and (mixed 0 (cell row col)) mask == 0) ∷ []) masks.items
+bits_by (Hashes col masks) row = flat_map (λ mask. (bit_and (hash_with 0 (cell row col)) mask == mask) ∷ (bit_and (hash_with 0 (cell row col)) mask == 0) ∷ []) masks.items
 
 -- a word with one bit more at its low end; of more than 64 bits the first ones fall out
 abbrev pub with_bit : ℕ → Bool → ℕ
@@ -41,6 +41,6 @@ abbrev pub is_within : ℕ → ℕ → Bool
 is_within a b = bit_and a (bit_not w64 b) == 0
 
 -- a row that dominates another, or is its twin, has no bit that the other lacks
-pub record Suit (order : RowOrder) (cuts : List Scale) : Type 0 where
-  pub over : (a b : List ℤ) → order.over a b ≡ true → is_within (signature cuts a) (signature cuts b) ≡ true
-  pub twin : (a b : List ℤ) → order.twin a b ≡ true → is_within (signature cuts a) (signature cuts b) ≡ true
+pub record Suit (order : RowOrder) (scales : List Scale) : Type 0 where
+  pub over : (a b : List ℤ) → order.over a b ≡ true → is_within (signature scales a) (signature scales b) ≡ true
+  pub twin : (a b : List ℤ) → order.twin a b ≡ true → is_within (signature scales a) (signature scales b) ≡ true

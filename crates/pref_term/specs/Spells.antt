@@ -129,17 +129,17 @@ abbrev pub IsGood : Names → Leaf → Type 0
 IsGood names leaf = own_fault names leaf ≡ None
 
 -- where it is reported: a number at its first token
-abbrev pub told_at : Leaf → (before place : ℕ) → ℕ
-told_at (number_digits least true ds) before place = before
-told_at _ before place = place
+abbrev pub reported_at : Leaf → (before place : ℕ) → ℕ
+reported_at (number_digits least true ds) before place = before
+reported_at _ before place = place
 
 -- the fault that is reported of it
-abbrev pub told : OwnFault → ℕ → TermFault
-told unknown_column at = UnknownColumn at
-told number_range at = NumberRange at
-told empty_range at = EmptyRange at
-told too_deep at = TooDeep at
-told bad_count at = BadCount at
+abbrev pub reported : OwnFault → ℕ → TermFault
+reported unknown_column at = UnknownColumn at
+reported number_range at = NumberRange at
+reported empty_range at = EmptyRange at
+reported too_deep at = TooDeep at
+reported bad_count at = BadCount at
 
 -- ---- which ask a text spells
 
@@ -186,7 +186,7 @@ pub record HasOwnFault (names : Names) (before : List Placed) (leaves : List Lea
   pub played : token_of leaf ≡ at.token
   pub kind : OwnFault
   pub own : own_fault names leaf ≡ Some kind
-  pub fault_is : fault ≡ told kind (told_at leaf (last_place 0 before) at.place)
+  pub fault_is : fault ≡ reported kind (reported_at leaf (last_place 0 before) at.place)
 
 -- the first token with a fault: those before it begin a text of the grammar, and have none
 pub record FirstFault (names : Names) (tokens : List Placed) (fault : TermFault) : Type 0 where

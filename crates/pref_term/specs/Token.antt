@@ -46,9 +46,9 @@ token_from b bs =
     else sign_or_other b
 
 -- the tokens of the bytes, of which the first few belong to a token that was listed before
-abbrev pub tokens_from : (told place : ℕ) → List ℕ → List Placed
-tokens_from told place [] = record { token = finish; place = place } ∷ []
-tokens_from (suc told) place (b ∷ bs) = tokens_from told (place + 1) bs
+abbrev pub tokens_from : (reported place : ℕ) → List ℕ → List Placed
+tokens_from reported place [] = record { token = finish; place = place } ∷ []
+tokens_from (suc reported) place (b ∷ bs) = tokens_from reported (place + 1) bs
 tokens_from zero place (b ∷ bs) =
     if is_blank b then tokens_from 0 (place + 1) bs
     else record { token = token_from b bs; place = place } ∷ tokens_from (more_bytes b bs) (place + 1) bs

@@ -7,7 +7,7 @@ use crate::dominance::Dominance;
 use crate::key::Key;
 use crate::keys::{compare_by_keys, in_same_group, is_product, leading_keys};
 use crate::relation::Relation;
-use crate::signature::{Cuts, cuts_for};
+use crate::signature::{Scales, scales_for};
 use crate::term::Term;
 use crate::walk::compare;
 use pref_table::Row;
@@ -239,13 +239,13 @@ impl Dominance for Ask {
         }
     }
 
-    /// Whether each cut goes through the scores of a part that leads the term, or reads a column of the group. Takes no memory.
-    fn suits(&self, cuts: &Cuts) -> bool {
-        cuts.suit(&self.keys, &self.group)
+    /// Whether each scale is one of the scores of a part that leads the term, or reads a column of the group. Takes no memory.
+    fn suits(&self, scales: &Scales) -> bool {
+        scales.suit(&self.keys, &self.group)
     }
 
-    fn cuts(&self, alloc: Global, sample: &[Row]) -> Result<Cuts, AllocError> {
-        cuts_for(alloc, &self.keys, &self.group, sample)
+    fn scales(&self, alloc: Global, sample: &[Row]) -> Result<Scales, AllocError> {
+        scales_for(alloc, &self.keys, &self.group, sample)
     }
 
     fn groups(&self) -> &[usize] {

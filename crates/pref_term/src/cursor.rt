@@ -3,7 +3,7 @@
 ghost use Rattle.std.specs.Prelude.{◌≡◌, ◌≤◌, length};
 
 use crate::fault::TermFault;
-use crate::front::{Token, front};
+use crate::front::{Token, first_token};
 use crate::token::Sign;
 use pref_table::blanks_length;
 
@@ -17,7 +17,7 @@ pub(crate) struct Cursor<'a> {
 
 /// A token, where it begins, and what lies behind it.
 #[derive(Clone, Copy)]
-pub(crate) struct Taken<'a> {
+pub(crate) struct Lexeme<'a> {
     pub token: Token<'a>,
     pub at: u64,
     pub next: Cursor<'a>,
@@ -35,24 +35,24 @@ impl<'a> Cursor<'a> {
     }
 
     /// The next token. The end of the text is taken again and again.
-    pub(crate) fn take(self) -> Taken<'a>
+    pub(crate) fn take(self) -> Lexeme<'a>
         ensures { ahead self.entry ≡ taken result }
     {
         let text = self.text;
         let start = self.place + blanks_length(&text[self.place..]);
-        let (token, length) = front(&text[start..]);
+        let (token, length) = first_token(&text[start..]);
         let place = start + length;
         let next = Cursor { text, place };
         let at = start as u64;
-        Taken { token, at, next }
+        Lexeme { token, at, next }
     }
 }
 
-impl<'a> Taken<'a> {
+impl<'a> Lexeme<'a> {
     ghost use Rattle.std.specs.Prelude.{◌≢◌, [], ◌∷◌};
     ghost use Rattle.std.specs.Bool.{OnTrue, OnFalse};
     ghost use Rattle.pref_term.specs.Token as tokens;
-    ghost use Rattle.pref_term.specs.Seen.{seen};
+    ghost use Rattle.pref_term.specs.SeenTokens.{seen};
     ghost use Rattle.pref_term.specs.Ahead.{ahead, taken};
 
     /// Whether the end was taken.

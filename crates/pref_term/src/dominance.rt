@@ -6,14 +6,14 @@ ghost use Rattle.pref_term.specs.Signatures.{Suit};
 
 use crate::chains::Chains;
 use crate::relation::Relation;
-use crate::signature::Cuts;
+use crate::signature::Scales;
 use pref_table::Row;
 use std::alloc::{AllocError, Global};
 
 /// A strict order of rows, as the skyline operator needs it (Börzsönyi, Kossmann, Stocker 2001).
 ///
 /// No row dominates itself; what dominates a row dominates all that this row dominates. The code's word for that is
-/// `over`. Of twins one is kept: the same rows dominate both, and both dominate the same rows. No call but `cuts` takes memory.
+/// `over`. Of twins one is kept: the same rows dominate both, and both dominate the same rows. No call but `scales` takes memory.
 ///
 /// [`Ask`](crate::Ask) is such an order. One of your own needs `over`, `twin`, the ghost `order` and its `laws`; the other calls are for
 /// speed, have bodies that are right for every order, and can be seen in no answer.
@@ -55,18 +55,18 @@ pub trait Dominance {
         }
     }
 
-    /// Whether rows that are signed by these cuts can be distinguished by their signatures: a row that dominates
-    /// another, or is its twin, has no bit that the other lacks. This body says so of no cuts at all.
-    fn suits(&self, cuts: &Cuts) -> bool
-        ensures { result ≡ true → Suit (order self.now) cuts.now }
+    /// Whether rows that are signed by these scales can be distinguished by their signatures: a row that dominates
+    /// another, or is its twin, has no bit that the other lacks. This body says so of no scales at all.
+    fn suits(&self, scales: &Scales) -> bool
+        ensures { result ≡ true → Suit (order self.now) scales.now }
     {
-        cuts.is_none()
+        scales.is_none()
     }
 
-    /// Cuts for rows like these. Any are right where `suits` says so, and good ones distinguish most rows;
+    /// Scales for rows like these. Any are right where `suits` says so, and good ones distinguish most rows;
     /// this body gives none. Takes memory for the list, and `Err` is out of memory.
-    fn cuts(&self, _alloc: Global, _sample: &[Row]) -> Result<Cuts, AllocError> {
-        Ok(Cuts::none())
+    fn scales(&self, _alloc: Global, _sample: &[Row]) -> Result<Scales, AllocError> {
+        Ok(Scales::none())
     }
 
     /// Columns in which rows are equal where one dominates the other or is its twin: rows that differ in one of them

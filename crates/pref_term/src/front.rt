@@ -4,7 +4,7 @@ ghost use Rattle.std.specs.Prelude.{◌≡◌, ◌≤◌, length};
 ghost use Rattle.std.specs.List.{prefix_len};
 ghost use Rattle.std.specs.Char.{is_ascii_digit};
 ghost use Rattle.pref_table.specs.Names as names;
-ghost use Rattle.pref_term.specs.Seen.{seen, IsFront};
+ghost use Rattle.pref_term.specs.SeenTokens.{seen, IsFront};
 
 use crate::token::Sign;
 use pref_table::is_name_byte;
@@ -39,7 +39,7 @@ fn digits_length(bytes: &[u8]) -> usize
 }
 
 /// The token at the front, and its length.
-pub(crate) fn front(bytes: &[u8]) -> (Token<'_>, usize)
+pub(crate) fn first_token(bytes: &[u8]) -> (Token<'_>, usize)
     ensures token { IsFront bytes.now (seen result.0) result.1 }
     ensures within { result.1 ≤ length bytes.now }
 {

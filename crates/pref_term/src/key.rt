@@ -128,7 +128,7 @@ impl Key {
 
     /// The key of a row less 2^63, where values are compared as they are.
     #[inline(always)]
-    fn lowered(&self, row: &Row) -> i64
+    fn signed_key(&self, row: &Row) -> i64
         requires column { self.now.col < 16 }
         requires value { self.now.score ≡ Score.Value }
         ensures { result ≡ (keyed self.now row.now -ℤ pos (2 ^ 63)) }
@@ -144,8 +144,8 @@ impl Key {
         requires value { self.now.score ≡ Score.Value }
         ensures { by_sides result.0 result.1 ≡ by_key self.now a.now b.now }
     {
-        let first = self.lowered(a);
-        let second = self.lowered(b);
+        let first = self.signed_key(a);
+        let second = self.signed_key(b);
         (first < second, second < first)
     }
 

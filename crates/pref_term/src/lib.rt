@@ -30,6 +30,6 @@ pub use keys::in_same_group;
 pub use read::read_ask;
 pub use relation::Relation;
 pub use shown::show;
-pub use signature::{Cuts, is_within, mixed};
+pub use signature::{Scales, hash_with, is_within};
 pub use term::{NumberSets, Numbers, Term};
 pub use walk::{better, compare, same};

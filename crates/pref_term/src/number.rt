@@ -11,7 +11,7 @@ use pref_table::signed_number;
 const MOST: i64 = 1000;
 
 /// The count that the digits name, where it is from 1 to 1000.
-pub(crate) fn counted(digits: &[u8]) -> Option<u32>
+pub(crate) fn count_value(digits: &[u8]) -> Option<u32>
     requires { all_ascii_digits digits.now ≡ true }
     ensures { let value = digits_value 10 digits.now in
         MatchOption result (is_count value ≡ false) (λ k. (k ≡ value) × (is_count value ≡ true)) }

@@ -211,8 +211,8 @@ mod tests {
             (&["play", "--cap", "0"], true),
         ];
         for (words, wanted) in cases {
-            let told = read_args(rt.alloc(), words);
-            let is_refused = matches!(told, Err(ArgsFault::Refused));
+            let asked = read_args(rt.alloc(), words);
+            let is_refused = matches!(asked, Err(ArgsFault::Refused));
             assert_eq!(rt; is_refused, wanted, "at {words:?}");
         }
     }

@@ -32,7 +32,7 @@ fn arguments(rt: &(impl Env + AllocGlobal)) -> Result<Vec<String>, ArgsFault> {
     }
 }
 
-fn lent(alloc: Global, words: &[String]) -> Result<Vec<&str>, AllocError> {
+fn borrowed(alloc: Global, words: &[String]) -> Result<Vec<&str>, AllocError> {
     let mut lent = Vec::new(alloc);
     for word in words {
         lent.push(word.as_str())?;
@@ -104,7 +104,7 @@ fn run_as_asked<T: Threads + Wait + Sync + AllocGlobal + Print, R: Read + Drop, 
 /// What the program's words ask for.
 fn given_args(rt: &(impl Env + AllocGlobal)) -> Result<Args, ArgsFault> {
     let words = arguments(rt)?;
-    let Ok(lent) = lent(rt.alloc(), words.as_slice()) else {
+    let Ok(lent) = borrowed(rt.alloc(), words.as_slice()) else {
         return Err(ArgsFault::Memory);
     };
     read_args(rt.alloc(), lent.as_slice())

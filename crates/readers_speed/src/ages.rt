@@ -4,7 +4,7 @@ ghost use Rattle.std.specs.Prelude.{◌≡◌};
 
 use crate::random::Random;
 use pref_core::Setup;
-use pref_share::{Board, Client, Name, Naming, open_board};
+use pref_share::{Board, BoardBrand, BoardName, Client, open_board};
 use pref_table::{Row, Schema};
 use std::alloc::{AllocError, Global};
 use std::sync::Wait;
@@ -38,7 +38,7 @@ const ROUNDS: u64 = 10;
 
 /// A client alone on a board, with the ids of the rows and of the row before each.
 #[derive(Drop)]
-struct Table<'a, J: Naming, R> {
+struct Table<'a, J: BoardBrand, R> {
     rt: &'a R,
     board: &'a Board<J>,
     schema: &'a Schema,
@@ -56,7 +56,7 @@ fn nanoseconds(rt: &impl Clock, start: Instant, times: u64) -> anyhow::Result<u6
 }
 
 /// How many of these ids a get finds.
-fn count<J: Naming>(client: &mut Client<J>, ids: &[u64]) -> u64 {
+fn count<J: BoardBrand>(client: &mut Client<J>, ids: &[u64]) -> u64 {
     let mut found = 0u64;
     for id in ids {
         if client.get(*id).is_ok() {
@@ -67,7 +67,7 @@ fn count<J: Naming>(client: &mut Client<J>, ids: &[u64]) -> u64 {
 }
 
 /// Nanoseconds of a get of one of these ids. Refused where another number of them is found than wanted.
-fn get<J: Naming>(
+fn get<J: BoardBrand>(
     rt: &impl Clock,
     client: &mut Client<J>,
     ids: &[u64],
@@ -83,7 +83,7 @@ fn get<J: Naming>(
     nanoseconds(rt, start, ROUNDS.saturating_mul(ids.len() as u64))
 }
 
-impl<'a, J: Naming, R: Wait + Clock + AllocGlobal> Table<'a, J, R> {
+impl<'a, J: BoardBrand, R: Wait + Clock + AllocGlobal> Table<'a, J, R> {
     /// A row at random leaves and another comes: two changes.
     fn replace(&mut self) -> anyhow::Result<()> {
         let place = self.random.id() as usize % ROWS;
@@ -145,7 +145,7 @@ fn ids_from(alloc: Global, first: u64, count: usize) -> Result<Vec<u64>, AllocEr
 }
 
 /// The client's table at these ages, each a number of changes.
-fn at_ages<J: Naming, R: Wait + Clock + AllocGlobal>(
+fn at_ages<J: BoardBrand, R: Wait + Clock + AllocGlobal>(
     rt: &R,
     board: &Board<J>,
     schema: &Schema,
@@ -170,9 +170,9 @@ fn at_ages<J: Naming, R: Wait + Clock + AllocGlobal>(
 }
 
 /// A new table of one client at these ages, each a number of changes.
-pub fn measure<J: Naming, R: Wait + Clock + AllocGlobal>(
+pub fn measure<J: BoardBrand, R: Wait + Clock + AllocGlobal>(
     rt: &R,
-    name: Name,
+    name: BoardName,
     schema: &Schema,
     rows: &[Row],
     setup: Setup,

@@ -11,7 +11,7 @@ ghost use Rattle.std.specs.Prelude.{◌≤◌, ◌+◌, IfSome};
 use ages::Age;
 use anyhow::{Context, Result};
 use pref_core::Setup;
-use pref_share::Name;
+use pref_share::BoardName;
 use pref_table::{Row, Schema, TableFault};
 use random::{ROWS, Random};
 use std::alloc::Global;
@@ -83,7 +83,7 @@ fn print_ages(rt: &impl Print, ages: &[Age]) -> io::Result<()> {
 fn print_costs(rt: &(impl Wait + Clock + Print + AllocGlobal), schema: &Schema) -> Result<()> {
     let setup = Setup::new(1, ages::SLOTS, 65_536, 64).context("a setup of one client")?;
     let rows = opening_rows(rt.alloc(), schema, ages::ROWS as u64)?;
-    let aged = ages::measure::<Brand, _>(rt, Name::new(), schema, &rows, setup, &AGES)?;
+    let aged = ages::measure::<Brand, _>(rt, BoardName::new(), schema, &rows, setup, &AGES)?;
     Ok(print_ages(rt, &aged)?)
 }
 
@@ -95,7 +95,7 @@ fn print_rates(
 ) -> Result<()> {
     let milliseconds = plan.milliseconds;
     let rows = opening_rows(rt.alloc(), schema, ROWS)?;
-    let tallies = measure::<Brand, _>(rt, Name::new(), schema, &rows, plan)?;
+    let tallies = measure::<Brand, _>(rt, BoardName::new(), schema, &rows, plan)?;
     for does in [Does::Gets, Does::Updates, Does::Scans] {
         print_rate(rt, &tallies, does, milliseconds)?;
     }

@@ -5,7 +5,7 @@ ghost use Rattle.pref_share.specs.Standing.{newcomers};
 
 use crate::random::Random;
 use pref_core::Setup;
-use pref_share::{Board, Client, Name, Naming, ShareFault, open_board};
+use pref_share::{Board, BoardBrand, BoardName, Client, ShareFault, open_board};
 use pref_table::{Row, Schema};
 use pref_term::read_ask;
 use std::sync::Wait;
@@ -62,7 +62,7 @@ fn sum(row: &Row) -> i64 {
 }
 
 /// How many gets found a row. All its numbers are looked at: their sum is 1 or more.
-fn gets<J: Naming>(client: &mut Client<J>, random: &mut Random) -> u64 {
+fn gets<J: BoardBrand>(client: &mut Client<J>, random: &mut Random) -> u64 {
     let mut found = 0u64;
     for _ in 0..GETS {
         if client.get(random.id()).is_ok_and(|row| sum(&row) > 0) {
@@ -74,14 +74,14 @@ fn gets<J: Naming>(client: &mut Client<J>, random: &mut Random) -> u64 {
 
 /// What all clients share.
 #[derive(Drop)]
-struct Run<'a, J: Naming, R> {
+struct Run<'a, J: BoardBrand, R> {
     rt: &'a R,
     board: &'a Board<J>,
     schema: &'a Schema,
     plan: Plan,
 }
 
-impl<'a, J: Naming, R: Wait + Clock + AllocGlobal> Run<'a, J, R> {
+impl<'a, J: BoardBrand, R: Wait + Clock + AllocGlobal> Run<'a, J, R> {
     fn update(&self, client: &mut Client<J>, random: &mut Random) -> Option<()> {
         let row = random.row(self.schema).ok()?;
         let id = random.id();
@@ -135,9 +135,9 @@ impl<'a, J: Naming, R: Wait + Clock + AllocGlobal> Run<'a, J, R> {
 }
 
 /// What the clients of a new board do at once, each on a thread of its own. Its reader of the published table moves there with it.
-pub fn measure<J: Naming + Send + Sync, R: Threads + Wait + Clock + AllocGlobal + Sync>(
+pub fn measure<J: BoardBrand + Send + Sync, R: Threads + Wait + Clock + AllocGlobal + Sync>(
     rt: &R,
-    name: Name,
+    name: BoardName,
     schema: &Schema,
     rows: &[Row],
     plan: Plan,

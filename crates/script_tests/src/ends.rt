@@ -55,13 +55,13 @@ fn an_input_is_read_whole(rt: HostRuntime) -> Result<(), Fail> {
 
 #[test]
 fn an_output_is_written_whole(rt: HostRuntime) -> Result<(), Fail> {
-    let [(_, told), _] = SCRIPTS;
+    let [(_, returned), _] = SCRIPTS;
     let mut writer = Watched::new(roomy(rt.alloc(), 7));
-    let result = write_output(&mut writer, told);
+    let result = write_output(&mut writer, returned);
     let failed = writer.failed();
     let taken = writer.into_inner().taken;
     let found = (result, failed, taken.as_slice());
-    assert_same(&rt, told.len(), &found, &(Ok(()), false, told));
+    assert_same(&rt, returned.len(), &found, &(Ok(()), false, returned));
     Ok(())
 }
 
@@ -69,10 +69,10 @@ fn an_output_is_written_whole(rt: HostRuntime) -> Result<(), Fail> {
 fn few_bytes_at_a_time_give_the_same_output(rt: HostRuntime) -> Result<(), Fail> {
     let alloc = rt.alloc();
     let setup = defaults()?;
-    for (script, told) in SCRIPTS {
+    for (script, returned) in SCRIPTS {
         for step in [1, 2, 7, 8192] {
             let run = run_through(alloc, in_steps(script, step), roomy(alloc, step), setup);
-            let wanted = (Ok(()), told, false, false);
+            let wanted = (Ok(()), returned, false, false);
             assert_same(&rt, (script.len(), step), &run.seen(), &wanted);
         }
     }
@@ -110,8 +110,8 @@ fn a_writer_that_fails_holds_a_beginning(rt: HostRuntime) -> Result<(), Fail> {
         (first, 5, Full::TakesNone),
         (stored, 8192, Full::Fails),
     ];
-    for ((script, told), step, full) in writers {
-        for room in 0..told.len() {
+    for ((script, returned), step, full) in writers {
+        for room in 0..returned.len() {
             let writer = Narrow {
                 taken: Vec::new(alloc),
                 step,
@@ -119,7 +119,7 @@ fn a_writer_that_fails_holds_a_beginning(rt: HostRuntime) -> Result<(), Fail> {
                 full,
             };
             let run = run_through(alloc, in_steps(script, 8192), writer, setup);
-            let wanted = (Err(RunFault::Write), &told[..room], false, true);
+            let wanted = (Err(RunFault::Write), &returned[..room], false, true);
             assert_same(&rt, (room, full), &run.seen(), &wanted);
         }
     }

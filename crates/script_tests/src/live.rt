@@ -74,7 +74,7 @@ fn a_refused_table_is_told_and_flushed(rt: HostRuntime) -> Result<(), Fail> {
 #[test]
 fn a_reader_that_fails_leaves_the_lines_before(rt: HostRuntime) -> Result<(), Fail> {
     let cases: [(usize, usize); 6] = [(0, 0), (15, 0), (27, 0), (28, 13), (40, 41), (46, 65)];
-    for (fails_after, told) in cases {
+    for (fails_after, returned) in cases {
         let mut reader = Watched::new(Trickle {
             text: SCRIPT,
             step: 3,
@@ -84,7 +84,7 @@ fn a_reader_that_fails_leaves_the_lines_before(rt: HostRuntime) -> Result<(), Fa
         let mut writer = Watched::new(roomy(rt.alloc(), 8192));
         let end = run_live(rt.alloc(), &mut reader, &mut writer, defaults()?);
         let run = ended(end, reader, writer);
-        let wanted: Seen<'_> = (Err(RunFault::Read), &TOLD[..told], true, false);
+        let wanted: Seen<'_> = (Err(RunFault::Read), &TOLD[..returned], true, false);
         assert_same(&rt, fails_after, &run.seen(), &wanted);
     }
     Ok(())

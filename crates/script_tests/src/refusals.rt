@@ -68,12 +68,12 @@ fn a_refused_live_run_has_told_whole_lines_and_is_made_again(rt: HostRuntime) ->
         Ok(()) => first,
         Err(fault) => {
             assert_same(&rt, "refused", &fault, &RunFault::Memory);
-            let told = first.output.as_slice();
-            assert_same(&rt, "refused", &TOLD.starts_with(told), &true);
+            let returned = first.output.as_slice();
+            assert_same(&rt, "refused", &TOLD.starts_with(returned), &true);
             assert_same(
                 &rt,
                 "refused",
-                &(told.is_empty() || told.ends_with(b"\n")),
+                &(returned.is_empty() || returned.ends_with(b"\n")),
                 &true,
             );
             run_into(alloc, setup, Vec::with_capacity(alloc, 1024)?)

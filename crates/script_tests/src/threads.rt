@@ -65,7 +65,7 @@ impl Gate for StopsAt {
 }
 
 /// What a run has returned, or its fault.
-fn told(output: &Result<String, RunFault>) -> Result<&str, RunFault> {
+fn returned(output: &Result<String, RunFault>) -> Result<&str, RunFault> {
     match output {
         Ok(text) => Ok(text.as_str()),
         Err(fault) => Err(*fault),
@@ -101,7 +101,7 @@ fn eight_clients_take_turns_as_they_come(rt: HostRuntime) -> Result<(), Fail> {
         "2 inserted ",
     ];
     let output = run_threads(&rt, rt.alloc(), script, setup, &OpenGate);
-    let mut lines = told(&output)?.lines();
+    let mut lines = returned(&output)?.lines();
     for beginning in beginnings {
         let line = lines.next().ok_or("a line is missing")?;
         assert!(rt; line.starts_with(beginning), "{line}");
@@ -122,7 +122,7 @@ fn two_clients_run_at_once(rt: HostRuntime) -> Result<(), Fail> {
         };
         let output = run_threads(&rt, rt.alloc(), script, setup, &gate);
         let wanted = Ok("1 row 1: 3\n2 row 1: 3\n");
-        assert_same(&rt, held, &told(&output), &wanted);
+        assert_same(&rt, held, &returned(&output), &wanted);
     }
     Ok(())
 }
@@ -138,7 +138,7 @@ fn a_gate_that_answers_false_stops_the_run(rt: HostRuntime) -> Result<(), Fail> 
     for (turn, wanted) in cases {
         let gate = StopsAt { client: 2, turn };
         let output = run_threads(&rt, rt.alloc(), script, setup, &gate);
-        assert_same(&rt, turn, &told(&output), &wanted);
+        assert_same(&rt, turn, &returned(&output), &wanted);
     }
     Ok(())
 }
@@ -163,9 +163,9 @@ fn a_run_on_threads_writes_the_replies_or_the_line_of_a_fault(rt: HostRuntime) -
             b"table refused 6: not whole row 1 col 1\n",
         ),
     ];
-    for (script, result, told) in cases {
+    for (script, result, returned) in cases {
         let run = run_into(&rt, setup, script, roomy(rt.alloc(), 5));
-        assert_same(&rt, script, &run.seen(), &(result, told, false, false));
+        assert_same(&rt, script, &run.seen(), &(result, returned, false, false));
     }
     Ok(())
 }

@@ -153,9 +153,9 @@ fn numbered(alloc: Global, word: &str, number: u64) -> Result<String, Fail> {
     Ok(format!(in alloc; "{word} {number}")?)
 }
 
-fn committed_text(alloc: Global, told: &Committed) -> Result<String, Fail> {
-    let changes = told.changes;
-    let first = told.first;
+fn committed_text(alloc: Global, returned: &Committed) -> Result<String, Fail> {
+    let changes = returned.changes;
+    let first = returned.first;
     Ok(format!(in alloc; "committed {changes} first {first}")?)
 }
 
@@ -169,7 +169,7 @@ pub fn reply_text(alloc: Global, reply: &Reply) -> Result<String, Fail> {
         Reply::Inserted(id) => numbered(alloc, "inserted", *id),
         Reply::Updated(id) => numbered(alloc, "updated", *id),
         Reply::Deleted(id) => numbered(alloc, "deleted", *id),
-        Reply::Committed(told) => committed_text(alloc, told),
+        Reply::Committed(returned) => committed_text(alloc, returned),
         Reply::Begun(blocks) => numbered(alloc, "begun", u64::from(*blocks)),
         Reply::Left(blocks) => numbered(alloc, "left", u64::from(*blocks)),
         Reply::Answer(list) => answer_text(alloc, list.as_slice()),

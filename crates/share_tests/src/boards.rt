@@ -4,7 +4,7 @@ ghost use Rattle.std.specs.Prelude.{◌≡◌};
 
 use crate::acts::best_low;
 use pref_core::{Act, Reply, Setup};
-use pref_share::{Board, Client, Gate, Name, Naming, ShareFault, open_board, run_all};
+use pref_share::{Board, BoardBrand, BoardName, Client, Gate, ShareFault, open_board, run_all};
 use pref_table::Row;
 use pref_term::Ask;
 use std::alloc::Global;
@@ -14,7 +14,7 @@ use std::test::Fail;
 use std::thread::Threads;
 
 /// The first two clients of a board. Lent, since a proof pays for each way out of a function that owns a client of its own.
-pub fn first_two<'a, J: Naming>(
+pub fn first_two<'a, J: BoardBrand>(
     rt: &impl Abort,
     clients: &'a mut [Client<J>],
 ) -> (&'a mut Client<J>, &'a mut Client<J>) {
@@ -40,7 +40,7 @@ impl Gate for Open {
 }
 
 /// Begins a query, and returns how many blocks it has.
-pub fn begin<J: Naming, R: Wait + Abort>(
+pub fn begin<J: BoardBrand, R: Wait + Abort>(
     rt: &R,
     alloc: Global,
     board: &Board<J>,
@@ -54,7 +54,7 @@ pub fn begin<J: Naming, R: Wait + Abort>(
 }
 
 /// Begins a query for the rows with the smallest x, and returns how many blocks it has.
-pub fn begin_low<J: Naming, R: Wait + Abort>(
+pub fn begin_low<J: BoardBrand, R: Wait + Abort>(
     rt: &R,
     alloc: Global,
     board: &Board<J>,
@@ -64,10 +64,14 @@ pub fn begin_low<J: Naming, R: Wait + Abort>(
 }
 
 /// The replies to all clients of a new board, each on a thread of its own.
-pub fn replies_of_a_run<J: Naming + Send + Sync, R: Threads + Wait + Abort + Sync, G: Gate + Sync>(
+pub fn replies_of_a_run<
+    J: BoardBrand + Send + Sync,
+    R: Threads + Wait + Abort + Sync,
+    G: Gate + Sync,
+>(
     rt: &R,
     alloc: Global,
-    name: Name,
+    name: BoardName,
     setup: Setup,
     rows: &[Row],
     acts: Vec<Vec<Act>>,
@@ -80,7 +84,7 @@ pub fn replies_of_a_run<J: Naming + Send + Sync, R: Threads + Wait + Abort + Syn
     if acts.len() != clients.len() {
         panic!(rt; "there is a list for each");
     }
-    let told = run_all(rt, alloc, &board, clients, acts, gate);
+    let returned = run_all(rt, alloc, &board, clients, acts, gate);
     board.close(rt);
-    told
+    returned
 }

@@ -6,7 +6,7 @@ use crate::acts::{Does, act_of, refused_text, replies_text, reply_text, row_of, 
 use crate::boards::{begin_low, first_two};
 use crate::same::assert_same;
 use pref_core::{Event, Setup, replay};
-use pref_share::{Board, Client, Name, Naming, open_board};
+use pref_share::{Board, BoardBrand, BoardName, Client, open_board};
 use pref_table::Row;
 use std::alloc::Global;
 use std::marker::Brand;
@@ -15,7 +15,7 @@ use std::sync::Wait;
 use std::test::Fail;
 
 /// Adds the reply to one call of a client to a text.
-fn push_told<J: Naming, R: Wait>(
+fn push_told<J: BoardBrand, R: Wait>(
     rt: &R,
     alloc: Global,
     board: &Board<J>,
@@ -33,7 +33,7 @@ fn push_told<J: Naming, R: Wait>(
 }
 
 /// The replies to the clients of a board, one call after the other.
-fn told<J: Naming, R: Wait>(
+fn returned<J: BoardBrand, R: Wait>(
     rt: &R,
     alloc: Global,
     board: &Board<J>,
@@ -49,10 +49,10 @@ fn told<J: Naming, R: Wait>(
 }
 
 /// The replies to the clients of a new board. The clients count from 0 here.
-fn played<J: Naming, R: Wait + Abort>(
+fn played<J: BoardBrand, R: Wait + Abort>(
     rt: &R,
     alloc: Global,
-    name: Name,
+    name: BoardName,
     setup: Setup,
     rows: &[Row],
     run: &[(u8, Does)],
@@ -63,7 +63,7 @@ fn played<J: Naming, R: Wait + Abort>(
     let Ok((board, mut clients)) = open_board::<J, R>(rt, alloc, name, setup, rows) else {
         panic!(rt; "it opens");
     };
-    let text = told(rt, alloc, &board, &mut clients, run);
+    let text = returned(rt, alloc, &board, &mut clients, run);
     board.close(rt);
     text
 }
@@ -78,7 +78,7 @@ pub fn check_told(
 ) -> Result<(), Fail> {
     let alloc = rt.alloc();
     let opening = rows(alloc, values)?;
-    let text = played::<Brand, _>(rt, alloc, Name::new(), setup, &opening, run)?;
+    let text = played::<Brand, _>(rt, alloc, BoardName::new(), setup, &opening, run)?;
     assert_same(rt, (setup.capacity(), values), &text.as_str(), &wanted);
     Ok(())
 }
@@ -199,7 +199,7 @@ fn refused_calls_have_not_joined(rt: HostRuntime) -> Result<(), Fail> {
 }
 
 /// How many blocks the begin of the second client returns, who is the last, and the replies to the first once the second was dropped.
-fn begun_and_told<J: Naming, R: Wait + Abort>(
+fn begun_and_told<J: BoardBrand, R: Wait + Abort>(
     rt: &R,
     alloc: Global,
     board: &Board<J>,
@@ -209,14 +209,14 @@ fn begun_and_told<J: Naming, R: Wait + Abort>(
     let (_first, last) = first_two(rt, clients);
     let blocks = begin_low(rt, alloc, board, last)?;
     drop(clients.pop());
-    Ok((blocks, told(rt, alloc, board, clients, run)?))
+    Ok((blocks, returned(rt, alloc, board, clients, run)?))
 }
 
 /// The same on a new board.
-fn told_after_a_drop<J: Naming, R: Wait + Abort>(
+fn told_after_a_drop<J: BoardBrand, R: Wait + Abort>(
     rt: &R,
     alloc: Global,
-    name: Name,
+    name: BoardName,
     setup: Setup,
     rows: &[Row],
     run: &[(u8, Does)],
@@ -225,9 +225,9 @@ fn told_after_a_drop<J: Naming, R: Wait + Abort>(
     requires opening { J.opening ≡ record { limits = setup; rows = rows.now } }
 {
     let (board, mut clients) = open_board::<J, R>(rt, alloc, name, setup, rows)?;
-    let told = begun_and_told(rt, alloc, &board, &mut clients, run);
+    let returned = begun_and_told(rt, alloc, &board, &mut clients, run);
     board.close(rt);
-    told
+    returned
 }
 
 /// What the clients do, who count from 1.
@@ -263,7 +263,7 @@ fn dropped_open(rt: HostRuntime) -> Result<(), Fail> {
     let (blocks, text) = told_after_a_drop::<Brand, _>(
         &rt,
         alloc,
-        Name::new(),
+        BoardName::new(),
         setup,
         &opening,
         &run,
@@ -272,8 +272,8 @@ fn dropped_open(rt: HostRuntime) -> Result<(), Fail> {
         1,
         "updated 1 / updated 1 / room 0 / refused: full needed 3 / row 1: 7 / ",
     );
-    let told = (blocks, text.as_str());
-    assert_same(&rt, "a client that is dropped", &told, &wanted);
+    let returned = (blocks, text.as_str());
+    assert_same(&rt, "a client that is dropped", &returned, &wanted);
     Ok(())
 }
 

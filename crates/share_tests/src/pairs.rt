@@ -6,7 +6,7 @@ use crate::acts::{Changes, Does, acts_of, columns, commit_act, row_of, setup};
 use crate::boards::{Open, replies_of_a_run};
 use crate::same::assert_same;
 use pref_core::{Act, Reply};
-use pref_share::Name;
+use pref_share::BoardName;
 use pref_sky::Ranked;
 use pref_table::Schema;
 use std::alloc::Global;
@@ -105,7 +105,7 @@ fn no_answer_sees_half_a_commit(rt: HostRuntime) -> Result<(), Fail> {
     let lists = replies_of_a_run::<Brand, _, _>(
         &rt,
         alloc,
-        Name::new(),
+        BoardName::new(),
         setup,
         &opening,
         acts,

@@ -6,7 +6,7 @@ use crate::acts::{setup, three_rows};
 use crate::boards::{begin_low, first_two};
 use crate::same::assert_same;
 use pref_core::Setup;
-use pref_share::{Board, Client, Name, Naming, ShareFault, open_board};
+use pref_share::{Board, BoardBrand, BoardName, Client, ShareFault, open_board};
 use pref_table::Row;
 use std::alloc::Global;
 use std::marker::Brand;
@@ -23,12 +23,12 @@ type Reads = (
 
 /// The row of id 1, the room, and the blocks that are left after a scan. There is no handle here that may wait, and taking a lock
 /// needs one, so reads that took a lock would not compile.
-fn read<J: Naming>(alloc: Global, client: &mut Client<J>) -> Reads {
+fn read<J: BoardBrand>(alloc: Global, client: &mut Client<J>) -> Reads {
     (client.get(1), client.room(), client.scan(alloc))
 }
 
 /// What a client reads after it has begun a query.
-fn begin_and_read<J: Naming, R: Wait + Abort>(
+fn begin_and_read<J: BoardBrand, R: Wait + Abort>(
     rt: &R,
     alloc: Global,
     board: &Board<J>,
@@ -39,10 +39,10 @@ fn begin_and_read<J: Naming, R: Wait + Abort>(
 }
 
 /// What a client with an open query reads.
-fn read_of_an_open_board<J: Naming, R: Wait + Abort>(
+fn read_of_an_open_board<J: BoardBrand, R: Wait + Abort>(
     rt: &R,
     alloc: Global,
-    name: Name,
+    name: BoardName,
     setup: Setup,
     rows: &[Row],
 ) -> Result<Reads, Fail>
@@ -51,9 +51,9 @@ fn read_of_an_open_board<J: Naming, R: Wait + Abort>(
 {
     let (board, mut clients) = open_board::<J, R>(rt, alloc, name, setup, rows)?;
     let (client, _other) = first_two(rt, &mut clients);
-    let told = begin_and_read(rt, alloc, &board, client);
+    let returned = begin_and_read(rt, alloc, &board, client);
     board.close(rt);
-    told
+    returned
 }
 
 #[test]
@@ -61,17 +61,23 @@ fn reads_of_an_open_board(rt: HostRuntime) -> Result<(), Fail> {
     let alloc = rt.alloc();
     let opening = three_rows(alloc, (5, 4, 6))?;
     let setup = setup(2, 4, 2)?;
-    let told = read_of_an_open_board::<Brand, _>(&rt, alloc, Name::new(), setup, &opening)?;
+    let returned = read_of_an_open_board::<Brand, _>(
+        &rt,
+        alloc,
+        BoardName::new(),
+        setup,
+        &opening,
+    )?;
     let wanted = (Ok(opening[0]), Ok(1), Ok(1));
-    assert_same(&rt, "an open board", &told, &wanted);
+    assert_same(&rt, "an open board", &returned, &wanted);
     Ok(())
 }
 
 /// What a client with an open query reads after its board was closed, and how much it has seen then.
-fn read_of_a_closed_board<J: Naming, R: Wait + Abort>(
+fn read_of_a_closed_board<J: BoardBrand, R: Wait + Abort>(
     rt: &R,
     alloc: Global,
-    name: Name,
+    name: BoardName,
     setup: Setup,
     rows: &[Row],
 ) -> Result<(Reads, u64), Fail>
@@ -91,9 +97,15 @@ fn a_closed_board_lets_nobody_in(rt: HostRuntime) -> Result<(), Fail> {
     let alloc = rt.alloc();
     let opening = three_rows(alloc, (5, 4, 6))?;
     let setup = setup(2, 4, 2)?;
-    let told = read_of_a_closed_board::<Brand, _>(&rt, alloc, Name::new(), setup, &opening)?;
+    let returned = read_of_a_closed_board::<Brand, _>(
+        &rt,
+        alloc,
+        BoardName::new(),
+        setup,
+        &opening,
+    )?;
     let closed = ShareFault::Closed;
     let wanted = ((Err(closed), Err(closed), Err(closed)), 1);
-    assert_same(&rt, "a closed board", &told, &wanted);
+    assert_same(&rt, "a closed board", &returned, &wanted);
     Ok(())
 }

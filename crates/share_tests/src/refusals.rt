@@ -7,7 +7,7 @@ use crate::acts::{Does, answer_text, best_low, lists_of, lists_text, row_of, set
 use crate::boards::{Open, first_two, replies_of_a_run};
 use crate::same::assert_same;
 use pref_core::{Act, BoxedCommit, Change, Commit, Committed, CoreFault, Reply, Setup};
-use pref_share::{BeginFault, Board, Client, Name, Naming, ShareFault, open_board};
+use pref_share::{BeginFault, Board, BoardBrand, BoardName, Client, ShareFault, open_board};
 use pref_sky::Ranked;
 use pref_table::Row;
 use pref_term::Ask;
@@ -24,10 +24,10 @@ const ROUNDS: u8 = 30;
 const OUT_OF_MEMORY: ShareFault = ShareFault::Core(CoreFault::OutOfMemory);
 
 /// How many clients a board has that is opened and closed.
-fn clients_of_an_opening<J: Naming, R: Wait>(
+fn clients_of_an_opening<J: BoardBrand, R: Wait>(
     rt: &R,
     alloc: Global,
-    name: Name,
+    name: BoardName,
     setup: Setup,
     rows: &[Row],
 ) -> Result<usize, ShareFault>
@@ -42,11 +42,11 @@ fn clients_of_an_opening<J: Naming, R: Wait>(
 /// The same, opened again where memory was refused.
 fn clients_in_the_end(rt: &(impl Wait + Abort + AllocGlobal), setup: Setup, rows: &[Row]) -> usize {
     let alloc = rt.alloc();
-    match clients_of_an_opening::<Brand, _>(rt, alloc, Name::new(), setup, rows) {
+    match clients_of_an_opening::<Brand, _>(rt, alloc, BoardName::new(), setup, rows) {
         Ok(clients) => clients,
         Err(fault) => {
             assert_same(rt, "an opening", &fault, &OUT_OF_MEMORY);
-            clients_of_an_opening::<Brand, _>(rt, alloc, Name::new(), setup, rows).expect(
+            clients_of_an_opening::<Brand, _>(rt, alloc, BoardName::new(), setup, rows).expect(
                 rt, "memory",
             )
         }
@@ -62,7 +62,7 @@ fn an_opening_refused_then_again(rt: HostRuntime) -> Result<(), Fail> {
 }
 
 /// Memory was refused, and nothing has joined the history that the client sees.
-fn check_refusal<J: Naming>(
+fn check_refusal<J: BoardBrand>(
     rt: &impl Abort,
     fault: ShareFault,
     client: &Client<J>,
@@ -77,7 +77,7 @@ macro_rules! in_the_end {
     ($rt:expr, $client:expr, $call:expr) => {{
         let before = $client.seen();
         match $call {
-            Ok(told) => told,
+            Ok(returned) => returned,
             Err(fault) => {
                 check_refusal($rt, fault, $client, before);
                 $call.expect($rt, "memory")
@@ -87,7 +87,7 @@ macro_rules! in_the_end {
 }
 
 /// Begins a query, again where memory was refused, with the ask that was handed back.
-fn begin_in_the_end<J: Naming, R: Wait + Abort>(
+fn begin_in_the_end<J: BoardBrand, R: Wait + Abort>(
     rt: &R,
     alloc: Global,
     board: &Board<J>,
@@ -109,7 +109,7 @@ fn begin_in_the_end<J: Naming, R: Wait + Abort>(
 }
 
 /// Inserts a row, again where memory was refused: it gets this id.
-fn insert_in_the_end<J: Naming, R: Wait + Abort>(
+fn insert_in_the_end<J: BoardBrand, R: Wait + Abort>(
     rt: &R,
     alloc: Global,
     board: &Board<J>,
@@ -122,7 +122,7 @@ fn insert_in_the_end<J: Naming, R: Wait + Abort>(
 }
 
 /// Fills a table of 18 slots that has the one row of id 1.
-fn fill<J: Naming, R: Wait + Abort>(
+fn fill<J: BoardBrand, R: Wait + Abort>(
     rt: &R,
     alloc: Global,
     board: &Board<J>,
@@ -135,7 +135,7 @@ fn fill<J: Naming, R: Wait + Abort>(
 }
 
 /// Changes a full table of 18 slots, and reads it. A row that takes the place of another may make the index grow.
-fn change_and_read<J: Naming, R: Wait + Abort>(
+fn change_and_read<J: BoardBrand, R: Wait + Abort>(
     rt: &R,
     alloc: Global,
     board: &Board<J>,
@@ -152,7 +152,7 @@ fn change_and_read<J: Naming, R: Wait + Abort>(
 }
 
 /// Changes a table as one client, and reads it as another who heard of it.
-fn change_and_hear<J: Naming, R: Wait + Abort>(
+fn change_and_hear<J: BoardBrand, R: Wait + Abort>(
     rt: &R,
     alloc: Global,
     board: &Board<J>,
@@ -166,10 +166,10 @@ fn change_and_hear<J: Naming, R: Wait + Abort>(
     assert_same(rt, "what is heard", &other.get(1), &Ok(*row));
 }
 
-fn changed_and_heard<J: Naming, R: Wait + Abort>(
+fn changed_and_heard<J: BoardBrand, R: Wait + Abort>(
     rt: &R,
     alloc: Global,
-    name: Name,
+    name: BoardName,
     setup: Setup,
     rows: &[Row],
     row: &Row,
@@ -189,7 +189,7 @@ fn changes_refused_then_again(rt: &(impl Wait + Abort + AllocGlobal)) -> Result<
     let opening = [row_of(alloc, 5)?];
     let changed = row_of(alloc, 6)?;
     let setup = setup(2, 18, 6)?;
-    changed_and_heard::<Brand, _>(rt, alloc, Name::new(), setup, &opening, &changed)?;
+    changed_and_heard::<Brand, _>(rt, alloc, BoardName::new(), setup, &opening, &changed)?;
     Ok(())
 }
 
@@ -213,7 +213,7 @@ fn boxed(rt: &impl Abort, alloc: Global, commit: Commit) -> BoxedCommit {
 
 /// A commit that adds eight rows, made again where memory was refused: until then none of them is there, and there is room for
 /// them.
-fn add_in_the_end<J: Naming, R: Wait + Abort>(
+fn add_in_the_end<J: BoardBrand, R: Wait + Abort>(
     rt: &R,
     alloc: Global,
     board: &Board<J>,
@@ -223,7 +223,7 @@ fn add_in_the_end<J: Naming, R: Wait + Abort>(
 ) -> Committed {
     let before = client.seen();
     match client.commit(rt, alloc, board, boxed(rt, alloc, adds)) {
-        Ok(told) => told,
+        Ok(returned) => returned,
         Err(fault) => {
             check_refusal(rt, fault, client, before);
             let missing = ShareFault::Core(CoreFault::NoSuchRow { id: first });
@@ -236,7 +236,7 @@ fn add_in_the_end<J: Naming, R: Wait + Abort>(
 }
 
 /// Eight rows in place of the eight oldest of a full table, again and again, until the index has to grow.
-fn replace_eight_rows<J: Naming, R: Wait + Abort>(
+fn replace_eight_rows<J: BoardBrand, R: Wait + Abort>(
     rt: &R,
     alloc: Global,
     board: &Board<J>,
@@ -255,10 +255,10 @@ fn replace_eight_rows<J: Naming, R: Wait + Abort>(
     Ok(())
 }
 
-fn replaced<J: Naming, R: Wait + Abort>(
+fn replaced<J: BoardBrand, R: Wait + Abort>(
     rt: &R,
     alloc: Global,
-    name: Name,
+    name: BoardName,
     setup: Setup,
     rows: &[Row],
     adds: Commit,
@@ -268,9 +268,9 @@ fn replaced<J: Naming, R: Wait + Abort>(
 {
     let (board, mut clients) = open_board::<J, R>(rt, alloc, name, setup, rows)?;
     let (client, _other) = first_two(rt, &mut clients);
-    let told = replace_eight_rows(rt, alloc, &board, client, adds);
+    let returned = replace_eight_rows(rt, alloc, &board, client, adds);
     board.close(rt);
-    told
+    returned
 }
 
 fn a_commit_refused_then_again(rt: &(impl Wait + Abort + AllocGlobal)) -> Result<(), Fail> {
@@ -278,11 +278,11 @@ fn a_commit_refused_then_again(rt: &(impl Wait + Abort + AllocGlobal)) -> Result
     let opening = [row_of(alloc, 5)?; 18];
     let adds = Commit::of(&[Change::Add(row_of(alloc, 6)?); 8])?;
     let setup = setup(2, 18, 6)?;
-    replaced::<Brand, _>(rt, alloc, Name::new(), setup, &opening, adds)
+    replaced::<Brand, _>(rt, alloc, BoardName::new(), setup, &opening, adds)
 }
 
 /// Begins a query of two blocks, and abandons it.
-fn abandon_in_the_end<J: Naming, R: Wait + Abort>(
+fn abandon_in_the_end<J: BoardBrand, R: Wait + Abort>(
     rt: &R,
     alloc: Global,
     board: &Board<J>,
@@ -295,12 +295,12 @@ fn abandon_in_the_end<J: Naming, R: Wait + Abort>(
 }
 
 /// How many blocks are left after a scan, made again where memory was refused.
-fn scan_in_the_end<J: Naming>(rt: &impl Abort, alloc: Global, client: &mut Client<J>) -> u32 {
+fn scan_in_the_end<J: BoardBrand>(rt: &impl Abort, alloc: Global, client: &mut Client<J>) -> u32 {
     in_the_end!(rt, client, client.scan(alloc))
 }
 
 /// Asks a query of two blocks to its end.
-fn ask_in_the_end<J: Naming, R: Wait + Abort>(
+fn ask_in_the_end<J: BoardBrand, R: Wait + Abort>(
     rt: &R,
     alloc: Global,
     board: &Board<J>,
@@ -315,7 +315,7 @@ fn ask_in_the_end<J: Naming, R: Wait + Abort>(
 }
 
 /// Abandons a query, and asks it again to its end.
-fn abandon_and_ask<J: Naming, R: Wait + Abort>(
+fn abandon_and_ask<J: BoardBrand, R: Wait + Abort>(
     rt: &R,
     alloc: Global,
     board: &Board<J>,
@@ -325,10 +325,10 @@ fn abandon_and_ask<J: Naming, R: Wait + Abort>(
     Ok(ask_in_the_end(rt, alloc, board, client, best_low(alloc)?))
 }
 
-fn answered<J: Naming, R: Wait + Abort>(
+fn answered<J: BoardBrand, R: Wait + Abort>(
     rt: &R,
     alloc: Global,
-    name: Name,
+    name: BoardName,
     setup: Setup,
     rows: &[Row],
 ) -> Result<Vec<Ranked>, Fail>
@@ -346,7 +346,7 @@ fn a_query_refused_then_again(rt: &(impl Wait + Abort + AllocGlobal)) -> Result<
     let alloc = rt.alloc();
     let opening = three_rows(alloc, (5, 4, 6))?;
     let setup = setup(2, 4, 2)?;
-    let name = Name::new();
+    let name = BoardName::new();
     let text = answer_text(
         alloc,
         &answered::<Brand, _>(rt, alloc, name, setup, &opening)?,
@@ -384,12 +384,12 @@ fn replies_in_the_end(
 ) -> Result<Vec<Vec<Reply>>, Fail> {
     let alloc = rt.alloc();
     let acts = acts_of_one(alloc)?;
-    match replies_of_a_run::<Brand, _, _>(rt, alloc, Name::new(), setup, rows, acts, &Open) {
+    match replies_of_a_run::<Brand, _, _>(rt, alloc, BoardName::new(), setup, rows, acts, &Open) {
         Ok(replies) => return Ok(replies),
         Err(fault) => assert_same(rt, "a run", &fault, &OUT_OF_MEMORY),
     }
     let again = acts_of_one(alloc)?;
-    match replies_of_a_run::<Brand, _, _>(rt, alloc, Name::new(), setup, rows, again, &Open) {
+    match replies_of_a_run::<Brand, _, _>(rt, alloc, BoardName::new(), setup, rows, again, &Open) {
         Ok(replies) => Ok(replies),
         Err(_) => panic!(rt; "memory"),
     }

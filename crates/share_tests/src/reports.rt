@@ -6,7 +6,7 @@ use crate::acts::{Does, lists_of, replies_text, row_of, setup};
 use crate::boards::Open;
 use crate::same::assert_same;
 use pref_core::Setup;
-use pref_share::{Board, Client, Gate, Name, Naming, Report, open_board, run_each};
+use pref_share::{Board, BoardBrand, BoardName, Client, Gate, Report, open_board, run_each};
 use pref_table::Row;
 use std::alloc::Global;
 use std::marker::Brand;
@@ -35,7 +35,7 @@ impl Gate for HoldsAt {
 }
 
 /// Adds the replies of each report to a text, and why its client stopped.
-fn push_reports<J: Naming>(
+fn push_reports<J: BoardBrand>(
     alloc: Global,
     text: &mut String,
     reports: &[Report<J>],
@@ -49,7 +49,10 @@ fn push_reports<J: Naming>(
     Ok(())
 }
 
-fn clients_of<J: Naming>(alloc: Global, reports: Vec<Report<J>>) -> Result<Vec<Client<J>>, Fail> {
+fn clients_of<J: BoardBrand>(
+    alloc: Global,
+    reports: Vec<Report<J>>,
+) -> Result<Vec<Client<J>>, Fail> {
     let mut clients = Vec::new(alloc);
     for report in reports {
         clients.push(report.client)?;
@@ -58,7 +61,7 @@ fn clients_of<J: Naming>(alloc: Global, reports: Vec<Report<J>>) -> Result<Vec<C
 }
 
 /// Runs acts of clients, adds what is reported to a text, and gives the clients.
-fn run<J: Naming + Send + Sync, R: Threads + Wait + Abort + Sync, G: Gate + Sync>(
+fn run<J: BoardBrand + Send + Sync, R: Threads + Wait + Abort + Sync, G: Gate + Sync>(
     rt: &R,
     alloc: Global,
     board: &Board<J>,
@@ -77,7 +80,7 @@ fn run<J: Naming + Send + Sync, R: Threads + Wait + Abort + Sync, G: Gate + Sync
 }
 
 /// What is reported of a run, and of a second one of the same clients, which no gate holds.
-fn run_twice<J: Naming + Send + Sync, R: Threads + Wait + Abort + Sync, G: Gate + Sync>(
+fn run_twice<J: BoardBrand + Send + Sync, R: Threads + Wait + Abort + Sync, G: Gate + Sync>(
     rt: &R,
     alloc: Global,
     board: &Board<J>,
@@ -93,10 +96,10 @@ fn run_twice<J: Naming + Send + Sync, R: Threads + Wait + Abort + Sync, G: Gate 
 }
 
 /// The same on a new board.
-fn two_runs<J: Naming + Send + Sync, R: Threads + Wait + Abort + Sync, G: Gate + Sync>(
+fn two_runs<J: BoardBrand + Send + Sync, R: Threads + Wait + Abort + Sync, G: Gate + Sync>(
     rt: &R,
     alloc: Global,
-    name: Name,
+    name: BoardName,
     setup: Setup,
     rows: &[Row],
     first: &[&[Does]],
@@ -127,7 +130,7 @@ fn check_two_runs<G: Gate + Sync>(
     let text = two_runs::<Brand, _, _>(
         rt,
         alloc,
-        Name::new(),
+        BoardName::new(),
         setup,
         &opening,
         first,

@@ -6,7 +6,7 @@ ghost use Rattle.std.specs.Prelude.{◌≡◌};
 use crate::acts::{best_low, rows, setup};
 use crate::boards::{begin, first_two};
 use pref_core::Setup;
-use pref_share::{Board, Client, Name, Naming, open_board};
+use pref_share::{Board, BoardBrand, BoardName, Client, open_board};
 use pref_table::Row;
 use pref_term::Ask;
 use std::alloc::Global;
@@ -27,7 +27,7 @@ fn asks(alloc: Global) -> Result<Vec<Ask>, Fail> {
 }
 
 /// Begins each of these queries, and abandons it.
-fn begin_and_abandon<J: Naming, R: Wait + Print + Abort>(
+fn begin_and_abandon<J: BoardBrand, R: Wait + Print + Abort>(
     rt: &R,
     alloc: Global,
     board: &Board<J>,
@@ -44,10 +44,10 @@ fn begin_and_abandon<J: Naming, R: Wait + Print + Abort>(
     Ok(())
 }
 
-fn on_a_new_board<J: Naming, R: Wait + Print + Abort>(
+fn on_a_new_board<J: BoardBrand, R: Wait + Print + Abort>(
     rt: &R,
     alloc: Global,
-    name: Name,
+    name: BoardName,
     setup: Setup,
     rows: &[Row],
     asks: Vec<Ask>,
@@ -57,9 +57,9 @@ fn on_a_new_board<J: Naming, R: Wait + Print + Abort>(
 {
     let (board, mut clients) = open_board::<J, R>(rt, alloc, name, setup, rows)?;
     let (client, _other) = first_two(rt, &mut clients);
-    let told = begin_and_abandon(rt, alloc, &board, client, asks);
+    let returned = begin_and_abandon(rt, alloc, &board, client, asks);
     board.close(rt);
-    told
+    returned
 }
 
 #[test]
@@ -68,5 +68,5 @@ fn rounds_of_begin_and_abandon(rt: HostRuntime) -> Result<(), Fail> {
     let setup = setup(2, 16, 4)?;
     let opening = rows(alloc, &[5, 4, 6, 3, 7, 2, 8, 1])?;
     let asks = asks(alloc)?;
-    on_a_new_board::<Brand, _>(&rt, alloc, Name::new(), setup, &opening, asks)
+    on_a_new_board::<Brand, _>(&rt, alloc, BoardName::new(), setup, &opening, asks)
 }

@@ -7,7 +7,7 @@ use crate::acts::{row_of, rows, setup};
 use crate::boards::Open;
 use crate::same::assert_same;
 use pref_core::{Act, Reply, Setup};
-use pref_share::{Name, Naming, ShareFault, Task, open_board, run_tasks};
+use pref_share::{BoardBrand, BoardName, ShareFault, Task, open_board, run_tasks};
 use pref_table::Row;
 use std::alloc::{AllocError, Global};
 use std::marker::Brand;
@@ -53,10 +53,10 @@ impl Task for Inserts {
 }
 
 /// The tasks of all clients of a new board, each done on a thread of its own.
-fn done_on_a_new_board<J: Naming + Send + Sync, R: Threads + Wait + Abort + Sync>(
+fn done_on_a_new_board<J: BoardBrand + Send + Sync, R: Threads + Wait + Abort + Sync>(
     rt: &R,
     alloc: Global,
-    name: Name,
+    name: BoardName,
     setup: Setup,
     rows: &[Row],
     tasks: Vec<Inserts>,
@@ -103,7 +103,7 @@ fn tasks_take_each_reply(rt: HostRuntime) -> Result<(), Fail> {
     let opening = [row_of(alloc, 4)?];
     let tasks = two_tasks(alloc, &[5, 6, 7])?;
     let setup = setup(2, 4, 4)?;
-    let name = Name::new();
+    let name = BoardName::new();
     let done = done_on_a_new_board::<Brand, _>(&rt, alloc, name, setup, &opening, tasks)?;
     let ids = all_ids(alloc, &done)?;
     let wanted = [0, 0, 0, 2, 3, 4].as_slice();

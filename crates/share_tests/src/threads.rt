@@ -6,7 +6,7 @@ use crate::acts::{Does, act_of, acts_of, lists_of, lists_text, row_of, rows, set
 use crate::boards::replies_of_a_run;
 use crate::same::assert_same;
 use pref_core::{Act, Setup};
-use pref_share::{Gate, Name, Naming};
+use pref_share::{BoardBrand, BoardName, Gate};
 use pref_table::Row;
 use std::alloc::Global;
 use std::marker::Brand;
@@ -112,10 +112,10 @@ impl Gate for HoldsScans {
 }
 
 /// The replies to all clients of a new board, or what stopped them.
-fn run<J: Naming + Send + Sync, R: Threads + Wait + Abort + Sync, G: Gate + Sync>(
+fn run<J: BoardBrand + Send + Sync, R: Threads + Wait + Abort + Sync, G: Gate + Sync>(
     rt: &R,
     alloc: Global,
-    name: Name,
+    name: BoardName,
     setup: Setup,
     rows: &[Row],
     acts: Vec<Vec<Act>>,
@@ -189,7 +189,7 @@ fn check_run<G: Gate + Sync>(
     wanted: &str,
 ) -> Result<(), Fail> {
     let alloc = rt.alloc();
-    let text = run::<Brand, _, _>(rt, alloc, Name::new(), setup, rows, acts, gate)?;
+    let text = run::<Brand, _, _>(rt, alloc, BoardName::new(), setup, rows, acts, gate)?;
     assert_same(rt, case, &text.as_str(), &wanted);
     Ok(())
 }

@@ -6,7 +6,7 @@ use crate::acts::{row_of, setup};
 use crate::boards::first_two;
 use crate::same::assert_same;
 use pref_core::Setup;
-use pref_share::{Board, Client, Name, Naming, ShareFault, Word, open_board};
+use pref_share::{Board, BoardBrand, BoardName, Client, ShareFault, Word, open_board};
 use pref_table::Row;
 use std::alloc::Global;
 use std::marker::Brand;
@@ -17,7 +17,7 @@ use std::thread;
 use std::thread::Threads;
 
 /// What a client has seen after it inserted a row.
-fn word_of_an_insert<J: Naming, R: Wait>(
+fn word_of_an_insert<J: BoardBrand, R: Wait>(
     rt: &R,
     alloc: Global,
     board: &Board<J>,
@@ -29,7 +29,7 @@ fn word_of_an_insert<J: Naming, R: Wait>(
 }
 
 /// The row that a client gets, after it heard what the other had seen, who inserted it on a thread.
-fn got_after_a_word<J: Naming + Send + Sync, R: Threads + Wait + Abort + Sync>(
+fn got_after_a_word<J: BoardBrand + Send + Sync, R: Threads + Wait + Abort + Sync>(
     rt: &R,
     alloc: Global,
     board: &Board<J>,
@@ -47,10 +47,10 @@ fn got_after_a_word<J: Naming + Send + Sync, R: Threads + Wait + Abort + Sync>(
 }
 
 /// The same by the first client of a new board, who hears the second.
-fn got_on_a_new_board<J: Naming + Send + Sync, R: Threads + Wait + Abort + Sync>(
+fn got_on_a_new_board<J: BoardBrand + Send + Sync, R: Threads + Wait + Abort + Sync>(
     rt: &R,
     alloc: Global,
-    name: Name,
+    name: BoardName,
     setup: Setup,
     rows: &[Row],
     row: Row,
@@ -70,13 +70,13 @@ fn word_crosses(rt: HostRuntime) -> Result<(), Fail> {
     let alloc = rt.alloc();
     let inserted = row_of(alloc, 4)?;
     let setup = setup(2, 4, 4)?;
-    let got = got_on_a_new_board::<Brand, _>(&rt, alloc, Name::new(), setup, &[], inserted)?;
+    let got = got_on_a_new_board::<Brand, _>(&rt, alloc, BoardName::new(), setup, &[], inserted)?;
     assert_same(&rt, "a thread", &got, &inserted);
     Ok(())
 }
 
 /// How much a client has seen before it hears another that made one call, and after.
-fn seen_before_and_after<J: Naming, R: Wait>(
+fn seen_before_and_after<J: BoardBrand, R: Wait>(
     rt: &R,
     alloc: Global,
     board: &Board<J>,
@@ -90,10 +90,10 @@ fn seen_before_and_after<J: Naming, R: Wait>(
 }
 
 /// The same of the first client of a new board, who hears the second.
-fn seen_on_a_new_board<J: Naming, R: Wait + Abort>(
+fn seen_on_a_new_board<J: BoardBrand, R: Wait + Abort>(
     rt: &R,
     alloc: Global,
-    name: Name,
+    name: BoardName,
     setup: Setup,
     rows: &[Row],
 ) -> Result<(u64, u64), ShareFault>
@@ -112,7 +112,7 @@ fn a_word_is_heard(rt: HostRuntime) -> Result<(), Fail> {
     let alloc = rt.alloc();
     let opening = [row_of(alloc, 5)?];
     let setup = setup(2, 4, 4)?;
-    let seen = seen_on_a_new_board::<Brand, _>(&rt, alloc, Name::new(), setup, &opening)?;
+    let seen = seen_on_a_new_board::<Brand, _>(&rt, alloc, BoardName::new(), setup, &opening)?;
     assert_same(&rt, "one call", &seen, &(0, 1));
     Ok(())
 }

@@ -31,8 +31,8 @@ fn check_changes(
     assert_same(rt, "insert", &machine.insert(alloc, 2, row), &Ok(3));
     assert_same(rt, "update", &machine.update(alloc, 2, 2, row), &Ok(()));
     assert_same(rt, "delete", &machine.delete(alloc, 2, 1), &Ok(()));
-    let told = machine.commit(alloc, 2, commit);
-    assert_same(rt, "commit", &told, &Ok(committed));
+    let returned = machine.commit(alloc, 2, commit);
+    assert_same(rt, "commit", &returned, &Ok(committed));
 }
 
 /// The same changes again, of which the rows 1 and 3 are gone, and inserts until there is no room.
@@ -48,8 +48,8 @@ fn check_refused_changes(
     let full = CoreFault::Full { needed: 5 };
     assert_same(rt, "update", &machine.update(alloc, 2, 1, row), &Err(first));
     assert_same(rt, "delete", &machine.delete(alloc, 2, 1), &Err(first));
-    let told = machine.commit(alloc, 2, commit);
-    assert_same(rt, "commit", &told, &Err(third));
+    let returned = machine.commit(alloc, 2, commit);
+    assert_same(rt, "commit", &returned, &Err(third));
     assert_same(rt, "insert", &machine.insert(alloc, 2, row), &Ok(5));
     assert_same(rt, "insert", &machine.insert(alloc, 2, row), &Ok(6));
     assert_same(rt, "full", &machine.insert(alloc, 2, row), &Err(full));
@@ -130,8 +130,8 @@ fn check_reads(rt: &impl Abort, machine: &Machine, row: Row) {
     assert_same(rt, "get", &machine.get(1, 1), &Ok(row));
     assert_same(rt, "no row", &machine.get(1, 9), &Err(missing));
     assert_same(rt, "room", &machine.room(1), &Ok(2));
-    let told = machine.room(3);
-    assert_same(rt, "no client", &told, &Err(CoreFault::NoSuchClient));
+    let returned = machine.room(3);
+    assert_same(rt, "no client", &returned, &Err(CoreFault::NoSuchClient));
 }
 
 #[test]

@@ -29,44 +29,44 @@ const THREE: [(u8, Does); 8] = [
 /// answers.
 struct Order {
     clients: &'static [u8],
-    told: &'static str,
+    returned: &'static str,
 }
 
 const ORDERS_OF_TWO: [Order; 2] = [
     Order {
         clients: &[1, 2],
-        told: "abandoned / room 2 / left 0 / answer level 1 id 2: 2 / room 3 / ",
+        returned: "abandoned / room 2 / left 0 / answer level 1 id 2: 2 / room 3 / ",
     },
     Order {
         clients: &[2, 1],
-        told: "abandoned / room 1 / left 0 / answer level 1 id 1: 1 / room 3 / ",
+        returned: "abandoned / room 1 / left 0 / answer level 1 id 1: 1 / room 3 / ",
     },
 ];
 
 const ORDERS_OF_THREE: [Order; 6] = [
     Order {
         clients: &[1, 2, 3],
-        told: "abandoned / room 4 / abandoned / room 5 / left 0 / answer level 1 id 2: 2 / room 7 / ",
+        returned: "abandoned / room 4 / abandoned / room 5 / left 0 / answer level 1 id 2: 2 / room 7 / ",
     },
     Order {
         clients: &[1, 3, 2],
-        told: "abandoned / room 4 / abandoned / room 4 / left 0 / answer level 1 id 2: 2 / room 7 / ",
+        returned: "abandoned / room 4 / abandoned / room 4 / left 0 / answer level 1 id 2: 2 / room 7 / ",
     },
     Order {
         clients: &[2, 1, 3],
-        told: "abandoned / room 4 / abandoned / room 5 / left 0 / answer level 1 id 2: 2 / room 7 / ",
+        returned: "abandoned / room 4 / abandoned / room 5 / left 0 / answer level 1 id 2: 2 / room 7 / ",
     },
     Order {
         clients: &[2, 3, 1],
-        told: "abandoned / room 4 / abandoned / room 4 / left 0 / answer level 1 id 1: 1 / room 7 / ",
+        returned: "abandoned / room 4 / abandoned / room 4 / left 0 / answer level 1 id 1: 1 / room 7 / ",
     },
     Order {
         clients: &[3, 1, 2],
-        told: "abandoned / room 3 / abandoned / room 4 / left 0 / answer level 1 id 2: 2 / room 7 / ",
+        returned: "abandoned / room 3 / abandoned / room 4 / left 0 / answer level 1 id 2: 2 / room 7 / ",
     },
     Order {
         clients: &[3, 2, 1],
-        told: "abandoned / room 3 / abandoned / room 4 / left 0 / answer level 1 id 1: 1 / room 7 / ",
+        returned: "abandoned / room 3 / abandoned / room 4 / left 0 / answer level 1 id 1: 1 / room 7 / ",
     },
 ];
 
@@ -90,9 +90,9 @@ fn two_queries_end_in_each_order(rt: HostRuntime) -> Result<(), Fail> {
     let alloc = rt.alloc();
     for order in &ORDERS_OF_TWO {
         let run = ending(alloc, &TWO, order.clients)?;
-        let told = order.told;
+        let returned = order.returned;
         let wanted = format!(in alloc;
-            "begun 1 / updated 1 / begun 1 / deleted 2 / room 1 / {told}"
+            "begun 1 / updated 1 / begun 1 / deleted 2 / room 1 / {returned}"
         )?;
         check_told(&rt, alloc, 4, 4, &[1, 2], run.as_slice(), wanted.as_str())?;
     }
@@ -104,9 +104,9 @@ fn three_queries_end_in_each_order(rt: HostRuntime) -> Result<(), Fail> {
     let alloc = rt.alloc();
     for order in &ORDERS_OF_THREE {
         let run = ending(alloc, &THREE, order.clients)?;
-        let told = order.told;
+        let returned = order.returned;
         let wanted = format!(in alloc;
-            "begun 1 / updated 1 / begun 1 / updated 1 / begun 1 / deleted 2 / deleted 3 / room 3 / {told}"
+            "begun 1 / updated 1 / begun 1 / updated 1 / begun 1 / deleted 2 / deleted 3 / room 3 / {returned}"
         )?;
         check_told(
             &rt,

@@ -142,7 +142,7 @@ pub(crate) fn reply_text(alloc: Global, reply: &Reply) -> Result<String, AllocEr
         Reply::Inserted(id) => counted_text(alloc, "inserted", *id),
         Reply::Updated(id) => counted_text(alloc, "updated", *id),
         Reply::Deleted(id) => counted_text(alloc, "deleted", *id),
-        Reply::Committed(told) => committed_text(alloc, told),
+        Reply::Committed(returned) => committed_text(alloc, returned),
         Reply::Begun(blocks) => counted_text(alloc, "begun", u64::from(*blocks)),
         Reply::Left(blocks) => counted_text(alloc, "left", u64::from(*blocks)),
         Reply::Answer(list) => answer_text(alloc, list),
@@ -153,9 +153,9 @@ pub(crate) fn reply_text(alloc: Global, reply: &Reply) -> Result<String, AllocEr
     }
 }
 
-fn committed_text(alloc: Global, told: &Committed) -> Result<String, AllocError> {
-    let changes = told.changes;
-    let first = told.first;
+fn committed_text(alloc: Global, returned: &Committed) -> Result<String, AllocError> {
+    let changes = returned.changes;
+    let first = returned.first;
     format!(in alloc; "committed {changes} first {first}")
 }
 
@@ -225,8 +225,8 @@ pub(crate) fn check_told(
     wanted: &str,
 ) -> Result<(), Fail> {
     let setup = setup_of(8, capacity, block, 64)?;
-    let told = text_of_replies(alloc, setup, values, run)?;
-    assert_same_text(rt, (capacity, values), told.as_str(), wanted);
+    let returned = text_of_replies(alloc, setup, values, run)?;
+    assert_same_text(rt, (capacity, values), returned.as_str(), wanted);
     Ok(())
 }
 

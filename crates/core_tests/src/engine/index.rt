@@ -21,7 +21,7 @@ fn done(
     requires { IsIndexOf store.old index.old }
     ensures { OnOk result (IsIndexOf store.new index.new) }
 {
-    let lent = call.lent();
+    let lent = call.lend();
     let op = match store.look_up(index, client, &lent) {
         Ok(op) => op,
         Err(fault) => return Err(Fail::from(fault)),
@@ -163,7 +163,7 @@ fn goes_before_the_store(
     requires { IsIndexOf store.now index.old }
 {
     let delete = Call::Delete(2);
-    let lent = delete.lent();
+    let lent = delete.lend();
     let op = match store.look_up(index, 1, &lent) {
         Ok(op) => op,
         Err(fault) => return Err(Fail::from(fault)),

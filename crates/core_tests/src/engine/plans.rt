@@ -87,8 +87,8 @@ fn tells_what_becomes_of_a_call(
     let op = store.plan(2, Call::Insert(row(schema, 5)?))?;
     assert_same(rt, "outcome", &op.outcome, &Outcome::Added(3));
     assert_same_list(rt, "slots", op.slots.as_slice(), [2].as_slice());
-    let told = store.plan(9, Call::Abandon).err();
-    assert_same(rt, "client 9", &told, &Some(CoreFault::NoSuchClient));
+    let returned = store.plan(9, Call::Abandon).err();
+    assert_same(rt, "client 9", &returned, &Some(CoreFault::NoSuchClient));
     Ok(())
 }
 
@@ -162,7 +162,7 @@ fn a_call_gets_a_number_or_its_refusal(rt: HostRuntime) -> Result<(), Fail> {
         (Call::Begin, most, QueryState::Open, Some(CoreFault::Spent)),
     ];
     for (case, (call, calls, query, wanted)) in cases.iter().enumerate() {
-        assert_same(&rt, case, &call.lent().refusal(*calls, *query), wanted);
+        assert_same(&rt, case, &call.lend().refusal(*calls, *query), wanted);
     }
     Ok(())
 }

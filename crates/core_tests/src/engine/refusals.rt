@@ -87,8 +87,8 @@ fn go_through_a_run(
             client: *client,
             act: act(alloc, schema, *does)?,
         };
-        let told = text_in_the_end(rt, alloc, machine, event)?;
-        assert_same_text(rt, *client, told.as_str(), *wanted);
+        let returned = text_in_the_end(rt, alloc, machine, event)?;
+        assert_same_text(rt, *client, returned.as_str(), *wanted);
     }
     Ok(())
 }
@@ -144,15 +144,15 @@ fn added_in_the_end(
     event: Event,
     first: u64,
 ) -> Option<Committed> {
-    let told = match machine.step(alloc, event) {
-        Ok(told) => told,
+    let returned = match machine.step(alloc, event) {
+        Ok(returned) => returned,
         Err(StepFault { fault, event }) => {
             assert_same(rt, first, &fault, &CoreFault::OutOfMemory);
             has_room_for_eight(rt, alloc, machine, first);
             machine.step(alloc, event).ok()?
         }
     };
-    match told {
+    match returned {
         Reply::Committed(committed) => Some(committed),
         _ => None,
     }
@@ -299,9 +299,9 @@ fn answer_in_the_end(rt: &impl Abort, alloc: Global, query: &Query) -> Vec<Ranke
 /// The answer has three rows on two levels.
 fn check_two_levels(rt: &impl Abort, alloc: Global, query: &Query) -> Result<(), Fail> {
     let ranked = RankedList::of(answer_in_the_end(rt, alloc, query));
-    let told = answer_text(alloc, &ranked)?;
+    let returned = answer_text(alloc, &ranked)?;
     let wanted = "answer level 1 id 1: 4 level 1 id 3: 4 level 2 id 2: 6";
-    assert_same_text(rt, "answer", told.as_str(), wanted);
+    assert_same_text(rt, "answer", returned.as_str(), wanted);
     Ok(())
 }
 

@@ -9,7 +9,7 @@ use std::process::Abort;
 use std::test::Fail;
 
 /// What a machine replies to an event.
-fn told(alloc: Global, machine: &mut Machine, event: Event) -> Result<String, AllocError> {
+fn returned(alloc: Global, machine: &mut Machine, event: Event) -> Result<String, AllocError> {
     reply_text(alloc, &machine.reply(alloc, event)?)
 }
 
@@ -33,8 +33,8 @@ fn tells_what_is_refused(
             client: *client,
             act: act(alloc, schema, *does)?,
         };
-        let told = told(alloc, machine, event)?;
-        assert_same_text(rt, *client, told.as_str(), *wanted);
+        let returned = returned(alloc, machine, event)?;
+        assert_same_text(rt, *client, returned.as_str(), *wanted);
     }
     Ok(())
 }

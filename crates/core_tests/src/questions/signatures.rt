@@ -1,8 +1,8 @@
-//! Signatures of rows, by the cuts that questions make and take.
+//! Signatures of rows, by the scales that questions make and take.
 use super::{XY, ask_over, row_over};
 use crate::same::assert_same;
 use pref_table::Row;
-use pref_term::{Ask, Cuts, Dominance, Relation, is_within};
+use pref_term::{Ask, Dominance, Relation, Scales, is_within};
 use std::alloc::Global;
 use std::process::Abort;
 use std::test::Fail;
@@ -42,22 +42,22 @@ const LEADING_PARTS: [(&str, &str); 10] = [
     ),
 ];
 
-/// The cuts that a question makes from these rows.
-fn cuts_of(alloc: Global, rows: &[Row], text: &[u8]) -> Result<Cuts, Fail> {
-    Ok(ask_over(alloc, &XY, text)?.cuts(alloc, rows)?)
+/// The scales that a question makes from these rows.
+fn scales_of(alloc: Global, rows: &[Row], text: &[u8]) -> Result<Scales, Fail> {
+    Ok(ask_over(alloc, &XY, text)?.scales(alloc, rows)?)
 }
 
-/// Whether a question suits the cuts that another one makes from these rows.
-fn suits_cuts_of(alloc: Global, rows: &[Row], text: &[u8], other: &[u8]) -> Result<bool, Fail> {
-    let cuts = cuts_of(alloc, rows, other)?;
-    Ok(ask_over(alloc, &XY, text)?.suits(&cuts))
+/// Whether a question suits the scales that another one makes from these rows.
+fn suits_scales_of(alloc: Global, rows: &[Row], text: &[u8], other: &[u8]) -> Result<bool, Fail> {
+    let scales = scales_of(alloc, rows, other)?;
+    Ok(ask_over(alloc, &XY, text)?.suits(&scales))
 }
 
 /// Of all pairs of these rows the signature of the first is within that of the second just where the first is not worse.
-fn check_pairs(rt: &impl Abort, text: &str, ask: &Ask, cuts: &Cuts, rows: &[Row]) {
+fn check_pairs(rt: &impl Abort, text: &str, ask: &Ask, scales: &Scales, rows: &[Row]) {
     for first in rows {
         for second in rows {
-            let within = is_within(cuts.signature(first), cuts.signature(second));
+            let within = is_within(scales.signature(first), scales.signature(second));
             let relation = ask.compare(first, second);
             let wanted = matches!(relation, Relation::Better | Relation::Same);
             assert_same(rt, (text, first, second), &within, &wanted);
@@ -65,7 +65,7 @@ fn check_pairs(rt: &impl Abort, text: &str, ask: &Ask, cuts: &Cuts, rows: &[Row]
     }
 }
 
-/// A question suits the cuts that it makes from a sample, and they tell the rows apart as its leading part does.
+/// A question suits the scales that it makes from a sample, and they tell the rows apart as its leading part does.
 fn check_signatures(
     rt: &impl Abort,
     alloc: Global,
@@ -74,15 +74,15 @@ fn check_signatures(
     rows: &[Row],
 ) -> Result<(), Fail> {
     let (question, leading) = (text.as_bytes(), leading.as_bytes());
-    let suits = suits_cuts_of(alloc, sample, question, question)?;
+    let suits = suits_scales_of(alloc, sample, question, question)?;
     assert_same(rt, text, &suits, &true);
-    let cuts = cuts_of(alloc, sample, question)?;
+    let scales = scales_of(alloc, sample, question)?;
     let part = ask_over(alloc, &XY, leading)?;
-    check_pairs(rt, text, &part, &cuts, rows);
+    check_pairs(rt, text, &part, &scales, rows);
     Ok(())
 }
 
-/// Questions and their leading parts, each with the cuts that it makes from these rows.
+/// Questions and their leading parts, each with the scales that it makes from these rows.
 fn check_leading_parts(
     rt: &impl Abort,
     alloc: Global,
@@ -123,7 +123,7 @@ const TAKERS: [(&str, &str, bool); 18] = [
     ("best layered(x, {1}, {0})", "best pos(x, 1)", false),
 ];
 
-/// Two questions each, and whether the first takes the cuts that the second makes from these rows.
+/// Two questions each, and whether the first takes the scales that the second makes from these rows.
 fn check_takers(
     rt: &impl Abort,
     alloc: Global,
@@ -131,15 +131,15 @@ fn check_takers(
     cases: &[(&str, &str, bool)],
 ) -> Result<(), Fail> {
     for (text, other, wanted) in cases {
-        let found = suits_cuts_of(alloc, rows, text.as_bytes(), other.as_bytes())?;
+        let found = suits_scales_of(alloc, rows, text.as_bytes(), other.as_bytes())?;
         assert_same(rt, (*text, *other), &found, wanted);
     }
     Ok(())
 }
 
-/// Whether a question takes the cuts of another.
+/// Whether a question takes the scales of another.
 #[test]
-fn cuts_of_other_questions(rt: HostRuntime) -> Result<(), Fail> {
+fn scales_of_other_questions(rt: HostRuntime) -> Result<(), Fail> {
     let rows = small_rows(rt.alloc())?;
     check_takers(&rt, rt.alloc(), &rows, &TAKERS)
 }
@@ -153,7 +153,7 @@ fn rows_of_groups(alloc: Global) -> Result<Vec<Row>, Fail> {
     Ok(rows)
 }
 
-/// Rows of different groups are distinguished both ways, also by cuts from rows of few groups; those of one group by the term.
+/// Rows of different groups are distinguished both ways, also by scales from rows of few groups; those of one group by the term.
 #[test]
 fn groups_are_told_apart(rt: HostRuntime) -> Result<(), Fail> {
     let question = "best low(x) by y";

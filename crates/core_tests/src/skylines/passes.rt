@@ -40,8 +40,8 @@ fn check_each_offer<D: Dominance>(
     offers: &[(&D, Offer)],
 ) {
     for (entry, (dominance, outcome)) in entries.iter().zip(offers) {
-        let told = window.offer(*dominance, *entry);
-        assert_same(rt, ("id", entry.id), &told, outcome);
+        let returned = window.offer(*dominance, *entry);
+        assert_same(rt, ("id", entry.id), &returned, outcome);
     }
 }
 

@@ -113,7 +113,7 @@ impl BoxedCall {
 
     /// This call with its rows lent: none is copied.
     #[inline(always)]
-    pub fn lent(&self) -> LentCall<'_>
+    pub fn lend(&self) -> LentCall<'_>
         ensures { result ≡ self.now }
     {
         match &self.kind {

@@ -2,7 +2,7 @@
 
 ghost use Rattle.std.specs.Prelude.{◌≡◌, None, IfOk, is_some, replicate};
 ghost use Rattle.pref_core.specs.State.{seat, with_seat};
-ghost use Rattle.pref_core.specs.Parts.{NextIsNewAt, ScansAt, AnswersAt};
+ghost use Rattle.pref_core.specs.MachineParts.{NextIsNewAt, ScansAt, AnswersAt};
 
 use crate::fault::CoreFault;
 use crate::query::Query;

@@ -1,7 +1,7 @@
 //! A planned call, done.
 
 ghost use Rattle.std.specs.Prelude.{map, true, [], ◌∷◌, suc, is_some, ◌≡◌, ◌&&◌};
-ghost use Rattle.pref_core.specs.Kept.{IsKept, IsFreed, FindsFreed, are_free};
+ghost use Rattle.pref_core.specs.ContentsInvariant.{IsKept, IsFreed, FindsFreed, are_free};
 ghost use Rattle.pref_core.specs.Operations.{close, is_next, outcome_at, slots_after};
 ghost use Rattle.pref_core.specs.Planned.{op_of};
 ghost use Rattle.pref_core.specs.Slots.{begins};
@@ -11,7 +11,7 @@ use crate::call::{Outcome, Planned, QueryState, SlotList};
 use crate::store::Store;
 use crate::store::caller::caller_of;
 use crate::store::contents::Contents;
-use crate::store::planning::granted;
+use crate::store::planning::success_outcome;
 
 impl Store {
     /// Whether an op is legal next: its call, number and outcome, and its slots.
@@ -19,7 +19,7 @@ impl Store {
         ensures { result ≡ (is_next self.now (op_of op.now) && is_some (slots_after self.now (op_of op.now))) }
     {
         if self.contents.fit_at_once(None, op.call, &op.slots) {
-            let outcome = granted(self.contents.next_id, op.call);
+            let outcome = success_outcome(self.contents.next_id, op.call);
             return self.contents.is_next(outcome, op);
         }
         let freed = self.freed_places(None, op.call);
@@ -38,7 +38,9 @@ impl Contents {
         let Some(caller) = caller_of(&self.callers, op.client) else {
             return false;
         };
-        let refusal = op.call.refusal(caller.calls, QueryState::of(&caller.begun));
+        let refusal = op
+            .call
+            .refusal(caller.calls, QueryState::of(&caller.at_begin));
         if refusal.is_some() || op.number != caller.calls + 1 {
             return false;
         }

@@ -15,15 +15,15 @@ use std::alloc::{AllocError, Global};
 #[derive(Clone, Copy)]
 pub struct Caller {
     pub calls: u64,
-    pub begun: Option<u64>,
+    pub at_begin: Option<u64>,
 }
 
 /// Whether an open query's begin sees a version of this birth that ends then.
 #[inline(always)]
 pub(crate) fn sees(caller: &Caller, birth: u64, death: Option<u64>) -> bool
-    ensures { result ≡ list_any (λ stamp. nat_le birth stamp && not (has_ended stamp death)) (option_to_list caller.now.begun) }
+    ensures { result ≡ list_any (λ stamp. nat_le birth stamp && not (has_ended stamp death)) (option_to_list caller.now.at_begin) }
 {
-    match caller.begun {
+    match caller.at_begin {
         Some(stamp) => is_alive(birth, death, stamp),
         None => false,
     }
@@ -57,30 +57,30 @@ pub(crate) fn count(callers: &mut [Caller], client: u8, call: &LentCall<'_>, sta
 {
     let seat = client as usize;
     if 0 < seat && seat <= callers.len() {
-        callers[seat - 1] = counted(callers[seat - 1], call, stamp);
+        callers[seat - 1] = caller_after(callers[seat - 1], call, stamp);
     }
 }
 
 /// What is kept of a client that has made one call more.
-fn counted(caller: Caller, call: &LentCall<'_>, stamp: u64) -> Caller
+fn caller_after(caller: Caller, call: &LentCall<'_>, stamp: u64) -> Caller
     requires { caller.calls < 2 ^ 56 }
-    ensures { result ≡ record { calls = suc caller.calls; begun = begin_after stamp call.now caller.begun } }
+    ensures { result ≡ record { calls = suc caller.calls; at_begin = begin_after stamp call.now caller.at_begin } }
 {
     Caller {
         calls: caller.calls + 1,
-        begun: call.begun_after(stamp, caller.begun),
+        at_begin: call.begun_after(stamp, caller.at_begin),
     }
 }
 
 /// Clients without a call.
-pub(crate) fn idle(alloc: Global, clients: u8) -> Result<Vec<Caller>, AllocError>
-    ensures { IfOk result (λ v. v.items ≡ replicate clients (record { calls = 0; begun = None })) }
+pub(crate) fn idle_callers(alloc: Global, clients: u8) -> Result<Vec<Caller>, AllocError>
+    ensures { IfOk result (λ v. v.items ≡ replicate clients (record { calls = 0; at_begin = None })) }
 {
     let mut callers = Vec::with_capacity(alloc, clients as usize)?;
     for _client in 0..clients {
         callers.push(Caller {
             calls: 0,
-            begun: None,
+            at_begin: None,
         })?;
     }
     Ok(callers)

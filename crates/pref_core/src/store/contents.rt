@@ -18,12 +18,12 @@
 ghost use Rattle.std.specs.List.{count_by};
 ghost use Rattle.std.specs.Prelude.{ℕ, List, map, length, true, false, is_some, [], ◌∷◌, Some, None, slice_set, IfOk, IfSome, IfNone, ◌≡◌, ◌+◌, ◌^◌, ◌<◌, ◌≤◌};
 ghost use Rattle.pref_core.specs.Indexes.{row_at, slot_of, Points, IsPlaceOf, IsIndexOf};
-ghost use Rattle.pref_core.specs.Kept.{IsKept, IsFreed, AreFresh, KeepSlots, row_in, frees_at, is_open, replaced, with_slots, zones_of};
+ghost use Rattle.pref_core.specs.ContentsInvariant.{IsKept, IsFreed, AreFresh, KeepSlots, row_in, frees_at, is_open, replaced, with_slots, uses_of};
 ghost use Rattle.pref_core.specs.Operations.{close, is_free, filled, is_next, refusal_at, slots_after, stepped, callers_after, used, grown};
-ghost use Rattle.pref_core.specs.Links.{home_of};
-ghost use Rattle.pref_core.specs.Places.{is_free_zone};
+ghost use Rattle.pref_core.specs.IdChains.{home_of};
+ghost use Rattle.pref_core.specs.SlotSets.{is_free_use};
 ghost use Rattle.pref_core.specs.Planned.{op_of};
-ghost use Rattle.pref_core.specs.Slots.{stamps, begins, born, visible, opening_contents};
+ghost use Rattle.pref_core.specs.Slots.{stamps, begins, new_version, visible, opening_contents};
 ghost use Rattle.pref_core.specs.Stability.{is_end};
 ghost use Rattle.pref_core.specs.State.{ended, begun, added, changes_of, is_change, succeeds};
 ghost use Rattle.pref_core.specs.Table.{among, has};
@@ -33,13 +33,13 @@ use crate::call::{LentCall, Planned, SlotList};
 use crate::changes::LentChange;
 use crate::index::Index;
 use crate::setup::Setup;
-use crate::store::caller::{Caller, count, idle};
-use crate::store::links::{Links, home_of};
-use crate::store::needs::{is_seen, zone_of};
+use crate::store::caller::{Caller, count, idle_callers};
+use crate::store::id_chains::{IdChains, home_of};
+use crate::store::needs::{is_seen, use_of};
 use crate::store::opening::opening;
-use crate::store::places::{Places, Zone, any_but};
 use crate::store::reads::stands_at;
-use crate::store::version::{Version, born, end};
+use crate::store::slot_sets::{SlotSets, SlotUse, any_but};
+use crate::store::version::{Version, end, new_version};
 use pref_sky::Entry;
 use pref_table::Row;
 use std::alloc::{AllocError, Global};
@@ -53,13 +53,13 @@ pub(crate) struct Contents {
     pub(crate) stamp: u64,
     pub(crate) next_id: u64,
     pub(crate) callers: Vec<Caller>,
-    pub(crate) places: Places,
-    links: Links,
+    pub(crate) places: SlotSets,
+    links: IdChains,
 }
 
 impl Model for Contents {
     ghost use Rattle.pref_core.specs.Slots as specs;
-    ghost use Rattle.pref_core.specs.Kept.{IsTracked};
+    ghost use Rattle.pref_core.specs.ContentsInvariant.{IsTracked};
 
     ghost Value = { specs.Contents };
 
@@ -77,9 +77,9 @@ impl Contents {
     {
         let capacity = setup.capacity();
         let slots = opening(alloc, capacity, rows)?;
-        let callers = idle(alloc, setup.clients())?;
-        let places = Places::new(alloc, capacity, rows.len() as u32)?;
-        let links = Links::new(alloc, capacity, rows.len() as u32)?;
+        let callers = idle_callers(alloc, setup.clients())?;
+        let places = SlotSets::new(alloc, capacity, rows.len() as u32)?;
+        let links = IdChains::new(alloc, capacity, rows.len() as u32)?;
         Ok(Contents {
             slots,
             stamp: rows.len() as u64,
@@ -149,7 +149,7 @@ impl Contents {
 
     /// How many places are free.
     pub(crate) fn free(&self) -> u32
-        ensures value { result ≡ count_by is_free_zone (zones_of self.now) }
+        ensures value { result ≡ count_by is_free_use (uses_of self.now) }
         ensures few { result ≤ length self.now.slots }
     {
         self.places.free()
@@ -178,7 +178,7 @@ impl Contents {
 
     /// Whether a place can be used once rows ended that leave these slots free.
     pub(crate) fn is_open(&self, freed: &SlotList, place: u32) -> bool
-        ensures { result ≡ is_open (zones_of self.now) freed.now place }
+        ensures { result ≡ is_open (uses_of self.now) freed.now place }
     {
         self.places.is_free(place) || freed.has(place)
     }
@@ -186,9 +186,9 @@ impl Contents {
     /// A slot for a row of this id, beside those that were chosen: its home where that can be used, so that a row that
     /// had to move comes home, else one that an ended row leaves free, else any.
     pub(crate) fn choose(&self, freed: &SlotList, chosen: &SlotList, id: u64) -> Option<u32>
-        ensures found { IfSome result (λ place. (is_open (zones_of self.now) freed.now place ≡ true) × (among chosen.now place ≡ false)) }
-        ensures none { IfNone result ((place : ℕ) → is_open (zones_of self.now) freed.now place ≡ true → among chosen.now place ≡ true) }
-        ensures home { let home = home_of (length self.now.slots) id in 0 < length self.now.slots → is_open (zones_of self.now) freed.now home ≡ true → among chosen.now home ≡ false → result ≡ Some home }
+        ensures found { IfSome result (λ place. (is_open (uses_of self.now) freed.now place ≡ true) × (among chosen.now place ≡ false)) }
+        ensures none { IfNone result ((place : ℕ) → is_open (uses_of self.now) freed.now place ≡ true → among chosen.now place ≡ true) }
+        ensures home { let home = home_of (length self.now.slots) id in 0 < length self.now.slots → is_open (uses_of self.now) freed.now home ≡ true → among chosen.now home ≡ false → result ≡ Some home }
     {
         if !self.slots.is_empty() {
             let home = home_of(&self.slots, id);
@@ -285,9 +285,9 @@ impl Contents {
     #[inline(always)]
     fn replace(&mut self, id: u64, row: &Row, place: u32)
         requires { row_at self.old.stamp id self.old.slots place ≡ true }
-        ensures { self.new ≡ with_slots (slice_set self.old.slots place (born self.old.stamp (record { id = id; row = row.now }))) self.old }
+        ensures { self.new ≡ with_slots (slice_set self.old.slots place (new_version self.old.stamp (record { id = id; row = row.now }))) self.old }
     {
-        self.slots[place as usize] = born(Entry { id, row: *row }, self.stamp);
+        self.slots[place as usize] = new_version(Entry { id, row: *row }, self.stamp);
     }
 
     /// Ends all rows that the call ends.
@@ -310,8 +310,8 @@ impl Contents {
             return;
         };
         end(&mut self.slots[place as usize], stamp);
-        let zone = zone_of(&self.slots[place as usize], &self.callers);
-        self.places.put(place, Zone::Live, zone);
+        let zone = use_of(&self.slots[place as usize], &self.callers);
+        self.places.put(place, SlotUse::Live, zone);
     }
 
     /// Begins all rows that the op's call begins, each in its slot; added ones get the ids from this one on.
@@ -340,12 +340,12 @@ impl Contents {
         requires free { is_free (stamps self.old) self.old.slots place ≡ true }
         requires absent { has (visible self.old.stamp self.old.slots) id ≡ false }
         requires low { id < self.old.next_id }
-        ensures { self.new ≡ with_slots (slice_set self.old.slots place (born self.old.stamp (record { id = id; row = row.now }))) self.old }
+        ensures { self.new ≡ with_slots (slice_set self.old.slots place (new_version self.old.stamp (record { id = id; row = row.now }))) self.old }
     {
         let stamp = self.stamp;
         self.links.add(&self.slots, stamp, id, place);
-        self.slots[place as usize] = born(Entry { id, row: *row }, stamp);
-        self.places.put(place, Zone::Free, Zone::Live);
+        self.slots[place as usize] = new_version(Entry { id, row: *row }, stamp);
+        self.places.put(place, SlotUse::Free, SlotUse::Live);
     }
 
     /// The client has made one call more. Where it ends a query, each ended version that it kept goes to another open

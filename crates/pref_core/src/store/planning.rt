@@ -2,11 +2,11 @@
 
 ghost use Rattle.std.specs.Prelude.{IfSome, true, is_some, ◌≡◌};
 ghost use Rattle.pref_core.specs.Indexes.{IsIndexOf};
-ghost use Rattle.pref_core.specs.Kept.{IsKept, IsFreed, FindsFreed, FitAtOnce};
+ghost use Rattle.pref_core.specs.ContentsInvariant.{IsKept, IsFreed, FindsFreed, FitAtOnce};
 ghost use Rattle.pref_core.specs.Operations.{outcome_at, placed, Plans, PlansIn};
 ghost use Rattle.pref_core.specs.Planned.{op_or_fault};
 ghost use Rattle.pref_core.specs.Slots.{StandsFor};
-ghost use Rattle.pref_core.specs.State.{State, ended, is_change, is_formed, succeeds, granted};
+ghost use Rattle.pref_core.specs.State.{State, ended, is_change, is_formed, succeeds, success_outcome};
 
 use crate::call::{Call, LentCall, Op, Outcome, Planned, QueryState, SlotList, is_listed};
 use crate::changes::LentChange;
@@ -15,7 +15,7 @@ use crate::index::Index;
 use crate::store::Store;
 use crate::store::caller::caller_of;
 use crate::store::contents::Contents;
-use crate::store::links::home_of;
+use crate::store::id_chains::home_of;
 use crate::store::reads::stands_at;
 
 impl Store {
@@ -30,7 +30,7 @@ impl Store {
         ensures exact { Plans self.now client call.now result }
         ensures state { (state : State) → StandsFor self.now state → PlansIn state self.now client call.now result }
     {
-        match self.plan_by(index, client, &call.lent()) {
+        match self.plan_by(index, client, &call.lend()) {
             Ok(planned) => Ok(planned.op()),
             Err(fault) => Err(fault),
         }
@@ -51,10 +51,10 @@ impl Store {
         let Some(caller) = caller_of(&self.contents.callers, client) else {
             return Err(CoreFault::NoSuchClient);
         };
-        if let Some(fault) = call.refusal(caller.calls, QueryState::of(&caller.begun)) {
+        if let Some(fault) = call.refusal(caller.calls, QueryState::of(&caller.at_begin)) {
             return Err(fault);
         }
-        let (slots, outcome) = self.placed(index, call);
+        let (slots, outcome) = self.slots_and_outcome(index, call);
         Ok(Planned {
             client,
             number: caller.calls + 1,
@@ -66,14 +66,14 @@ impl Store {
 
     /// The slots of a call's new rows and its outcome: at once where that can be, as where no open query needs what
     /// ends.
-    fn placed(&self, index: Option<&Index>, call: &LentCall<'_>) -> (SlotList, Outcome)
+    fn slots_and_outcome(&self, index: Option<&Index>, call: &LentCall<'_>) -> (SlotList, Outcome)
         requires { IfSome index (λ index. IsIndexOf self.now index.now) }
         ensures outcome { result.1 ≡ outcome_at self.now call.now }
         ensures placed { is_some (placed self.now call.now result.0 result.1) ≡ true }
         ensures formed { is_formed call.now ≡ true }
     {
         if let Some(slots) = self.contents.slots_at_once(index, call) {
-            return (slots, granted(self.contents.next_id, call));
+            return (slots, success_outcome(self.contents.next_id, call));
         }
         let freed = self.freed_places(index, call);
         let outcome = self.contents.outcome(&freed, call);
@@ -112,7 +112,7 @@ impl Store {
         outcome: Outcome,
     ) -> SlotList
         requires freed { FindsFreed self.now (ended call.now) freed.now }
-        requires told { outcome ≡ outcome_at self.now call.now }
+        requires returned { outcome ≡ outcome_at self.now call.now }
         ensures { is_some (placed self.now call.now result outcome) ≡ true }
     {
         match freed {
@@ -219,13 +219,13 @@ impl Contents {
                 return Outcome::Full(needed as u64);
             }
         }
-        granted(self.next_id, call)
+        success_outcome(self.next_id, call)
     }
 }
 
 /// The outcome of a change that succeeds.
-pub(crate) fn granted(next_id: u64, call: &LentCall<'_>) -> Outcome
-    ensures { result ≡ granted next_id call.now }
+pub(crate) fn success_outcome(next_id: u64, call: &LentCall<'_>) -> Outcome
+    ensures { result ≡ success_outcome next_id call.now }
 {
     if call.added() > 0 {
         Outcome::Added(next_id)

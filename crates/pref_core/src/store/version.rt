@@ -1,7 +1,7 @@
 //! Versions of rows.
 
 ghost use Rattle.std.specs.Prelude.{◌≡◌, ◌&&◌, Some, nat_le, not, option_map};
-ghost use Rattle.pref_core.specs.Slots.{born, has_ended, is_visible};
+ghost use Rattle.pref_core.specs.Slots.{new_version, has_ended, is_visible};
 ghost use Rattle.pref_core.specs.declared.store.version.Version.{Version};
 
 use pref_sky::Entry;
@@ -44,8 +44,8 @@ pub(crate) fn end(slot: &mut Option<Version>, stamp: u64)
 
 /// A version that begins.
 #[inline(always)]
-pub(crate) fn born(entry: Entry, stamp: u64) -> Option<Version>
-    ensures { result ≡ born stamp entry }
+pub(crate) fn new_version(entry: Entry, stamp: u64) -> Option<Version>
+    ensures { result ≡ new_version stamp entry }
 {
     Some(Version {
         id: entry.id,

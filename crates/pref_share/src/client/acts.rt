@@ -1,18 +1,18 @@
 //! One act of a client, by its calls, and the reply to it. What the table refuses is a reply.
 
 ghost use Rattle.std.specs.Prelude.{◌≡◌, IfOk, IfErr};
-ghost use Rattle.pref_share.specs.Performing.{reply_or_stop};
+ghost use Rattle.pref_share.specs.ActReplies.{reply_or_stop};
 ghost use Rattle.pref_share.specs.Runs.{Performs, StepsTo};
 
 use crate::board::Board;
-use crate::book::Naming;
+use crate::book::BoardBrand;
 use crate::client::Client;
 use crate::fault::ShareFault;
 use pref_core::{Act, CoreFault, RankedList, Reply};
 use std::alloc::Global;
 use std::sync::Wait;
 
-impl<J: Naming> Client<J> {
+impl<J: BoardBrand> Client<J> {
     /// Does an act by the call that it is, and gives the reply to it: that of the sequential table, whose refusals are replies. Waits for
     /// the board, unless the act is a scan, a get or a room.
     ///
@@ -37,13 +37,13 @@ impl<J: Naming> Client<J> {
     {
         match answer(rt, alloc, board, self, act) {
             Ok(reply) => Ok(reply),
-            Err(fault) => refused(fault),
+            Err(fault) => reply_to_refusal(fault),
         }
     }
 }
 
 /// A refusal of the table as a reply, and any other as what stops the client.
-fn refused(fault: ShareFault) -> Result<Reply, ShareFault>
+fn reply_to_refusal(fault: ShareFault) -> Result<Reply, ShareFault>
     ensures { result ≡ reply_or_stop fault }
 {
     match fault {
@@ -54,7 +54,7 @@ fn refused(fault: ShareFault) -> Result<Reply, ShareFault>
 }
 
 /// The reply where the client's call is not refused.
-fn answer<J: Naming, R: Wait>(
+fn answer<J: BoardBrand, R: Wait>(
     rt: &R,
     alloc: Global,
     board: &Board<J>,
@@ -76,8 +76,8 @@ fn answer<J: Naming, R: Wait>(
             Ok(Reply::Deleted(id))
         }
         Act::Commit(commit) => {
-            let told = client.commit(rt, alloc, board, commit)?;
-            Ok(Reply::Committed(told))
+            let returned = client.commit(rt, alloc, board, commit)?;
+            Ok(Reply::Committed(returned))
         }
         Act::Begin(ask) => match client.begin(rt, alloc, board, ask) {
             Ok(blocks) => Ok(Reply::Begun(blocks)),

@@ -2,15 +2,15 @@
 
 ghost use Rattle.std.specs.Prelude.{◌≡◌, ℕ, suc, nat_lt, List, length, true, None, IfOk, IfErr, OnOk, OnErr, MatchResult};
 ghost use Rattle.pref_core.specs.declared.call.Outcome.TheVariants.{Added, Done};
-ghost use Rattle.pref_core.specs.State.{added, is_change, granted};
+ghost use Rattle.pref_core.specs.State.{added, is_change, success_outcome};
 ghost use Rattle.pref_core.specs.Stability.{is_end};
 ghost use Rattle.pref_share.specs.declared.fault.ShareFault.TheVariants.{ClientInUse};
-ghost use Rattle.pref_core.specs.Step.{told_of_commit};
+ghost use Rattle.pref_core.specs.Step.{committed_of};
 ghost use Rattle.pref_share.specs.Clients.{own_refusal, Changes, Commits, Joins, Begins, Finishes, IsAnswer, RefusesChange, RefusesCall, RefusesBegin, RefusesFinish, IsInUse};
-ghost use Rattle.pref_share.specs.Following.{MayJoin, IsAhead, done_or_refused, first_added, GivesNone};
+ghost use Rattle.pref_share.specs.SeenHistory.{MayJoin, IsAhead, outcome_or_refusal, first_added_id, GivesNone};
 
 use crate::board::Board;
-use crate::book::Naming;
+use crate::book::BoardBrand;
 use crate::client::{Asking, Client};
 use crate::fault::{BeginFault, ShareFault};
 use crate::history::Prefix;
@@ -39,7 +39,7 @@ pub(super) enum Joining<H> {
     },
 }
 
-impl<J: Naming> Client<J> {
+impl<J: BoardBrand> Client<J> {
     /// Inserts a row, and returns its id. Waits for the board.
     ///
     /// Refused `Spent`, `Full` (which is numbered), or `OutOfMemory`; and `ClientInUse`.
@@ -58,7 +58,7 @@ impl<J: Naming> Client<J> {
         ensures refused { IfErr result (λ fault. RefusesChange J.opening self.old (Call.Insert row) fault self.new) }
     {
         let outcome = self.change(rt, alloc, board, BoxedCall::insert(row))?;
-        Ok(first_added(outcome))
+        Ok(first_added_id(outcome))
     }
 
     /// Puts another row in place of the one of this id, in one commit. Waits for the board.
@@ -120,12 +120,12 @@ impl<J: Naming> Client<J> {
         board: &Board<J>,
         commit: BoxedCommit,
     ) -> Result<Committed, ShareFault>
-        ensures committed { IfOk result (λ told. Commits J.opening self.old commit told self.new) }
+        ensures committed { IfOk result (λ returned. Commits J.opening self.old commit returned self.new) }
         ensures refused { IfErr result (λ fault. RefusesChange J.opening self.old (Call.Commit commit) fault self.new) }
     {
         let changes = change_count(commit.commit());
         let outcome = self.change(rt, alloc, board, BoxedCall::commit(commit))?;
-        Ok(told_of_commit(changes, outcome))
+        Ok(committed_of(changes, outcome))
     }
 
     /// Begins a query of the table as it is now, and returns how many blocks it has to scan. Waits for the board, and copies
@@ -159,7 +159,10 @@ impl<J: Naming> Client<J> {
             Ok(Joining::Joined { seen, stamp, .. }) => {
                 let query = Query::begin(ask, stamp, &self.setup);
                 let begun = seen.again();
-                self.asking = Some(Asking { query, begun });
+                self.asking = Some(Asking {
+                    query,
+                    at_begin: begun,
+                });
                 self.counter += 1;
                 self.seen = seen;
                 Ok(self.setup.blocks())
@@ -239,18 +242,18 @@ impl<J: Naming> Client<J> {
         call: BoxedCall,
     ) -> Result<Outcome, ShareFault>
         requires change { is_change call ≡ true }
-        ensures changed { IfOk result (λ told. Changes J.opening self.old call told self.new) }
-        ensures granted { IfOk result (λ told. (next_id : ℕ) × (told ≡ granted next_id call)) }
+        ensures changed { IfOk result (λ returned. Changes J.opening self.old call returned self.new) }
+        ensures success_outcome { IfOk result (λ returned. (next_id : ℕ) × (returned ≡ success_outcome next_id call)) }
         ensures refused { IfErr result (λ fault. RefusesChange J.opening self.old call fault self.new) }
     {
-        if let Some(fault) = self.refusal(&call.lent()) {
+        if let Some(fault) = self.refusal(&call.lend()) {
             return Err(ShareFault::Core(fault));
         }
         match self.join(rt, alloc, board, call)? {
             Joining::Joined { seen, outcome, .. } => {
                 self.counter += 1;
                 self.seen = seen;
-                done_or_refused(outcome)
+                outcome_or_refusal(outcome)
             }
             Joining::Ahead { seen } => Err(self.in_use(seen)),
         }
@@ -303,19 +306,19 @@ impl<J: Naming> Client<J> {
         ensures joins { IfOk result (λ joining. MayJoin J.opening self.now call joining) }
         ensures memory { OnErr result (nat_lt 0 (added call) ≡ true) }
     {
-        let mut guard = board.master.lock(rt);
-        let master = &mut *guard;
-        master.check(&self.seen);
-        if master.last(self.number) > self.counter {
+        let mut guard = board.publisher.lock(rt);
+        let publisher = &mut *guard;
+        publisher.check(&self.seen);
+        if publisher.last(self.number) > self.counter {
             return Ok(Joining::Ahead {
-                seen: master.whole(),
+                seen: publisher.whole(),
             });
         }
-        match master.join(rt, alloc, self.number, call) {
+        match publisher.join(rt, alloc, self.number, call) {
             Ok(outcome) => Ok(Joining::Joined {
-                seen: master.whole(),
+                seen: publisher.whole(),
                 outcome,
-                stamp: master.stamp(),
+                stamp: publisher.stamp(),
             }),
             Err(_) => Err(AllocError),
         }
@@ -343,18 +346,18 @@ fn change_count(commit: &Commit) -> u32
 }
 
 /// What is returned of a commit of this many changes that was done with this outcome.
-fn told_of_commit(changes: u32, outcome: Outcome) -> Committed
-    ensures { (next_id : ℕ) (commit : List Change) → changes ≡ length commit → outcome ≡ granted next_id (Call.Commit commit) → result ≡ told_of_commit next_id commit }
+fn committed_of(changes: u32, outcome: Outcome) -> Committed
+    ensures { (next_id : ℕ) (commit : List Change) → changes ≡ length commit → outcome ≡ success_outcome next_id (Call.Commit commit) → result ≡ committed_of next_id commit }
 {
     Committed {
         changes,
-        first: first_added(outcome),
+        first: first_added_id(outcome),
     }
 }
 
 /// The id of the first row that a change with this outcome added, 0 where it added none.
-fn first_added(outcome: Outcome) -> u64
-    ensures { result ≡ first_added outcome }
+fn first_added_id(outcome: Outcome) -> u64
+    ensures { result ≡ first_added_id outcome }
 {
     match outcome {
         Outcome::Added(first) => first,
@@ -363,8 +366,8 @@ fn first_added(outcome: Outcome) -> u64
 }
 
 /// The outcome of a change, or the refusal that it is.
-fn done_or_refused(outcome: Outcome) -> Result<Outcome, ShareFault>
-    ensures { result ≡ done_or_refused outcome }
+fn outcome_or_refusal(outcome: Outcome) -> Result<Outcome, ShareFault>
+    ensures { result ≡ outcome_or_refusal outcome }
 {
     match outcome.refusal() {
         Some(fault) => Err(ShareFault::Core(fault)),

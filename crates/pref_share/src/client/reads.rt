@@ -14,15 +14,15 @@ ghost use Rattle.pref_core.specs.State.{State, calls_of, needed};
 ghost use Rattle.pref_core.specs.Table.{line_of};
 ghost use Rattle.pref_share.specs.Openings.{IsLegalFrom, first_contents, contents_at, calls_at};
 ghost use Rattle.pref_share.specs.Clients.{Sees};
-ghost use Rattle.pref_share.specs.Scanning.{Scanned, HasMore, RefusesScan, RefusesGet, room_at, row_after};
+ghost use Rattle.pref_share.specs.ClientReads.{Scanned, HasMore, RefusesScan, RefusesGet, room_at, row_after};
 ghost use Rattle.pref_share.specs.Views.{Knows, HoldsHistory};
 ghost use Rattle.pref_share.specs.declared.fault.ShareFault.TheVariants.{Closed};
 
-use crate::book::Naming;
+use crate::book::BoardBrand;
 use crate::client::Client;
 use crate::fault::ShareFault;
 use crate::history::Prefix;
-use crate::published::{Published, Reading, StoreReader, StoreReading};
+use crate::published::{Published, ReadStep, StoreReader, StoreReading};
 use core::mem::replace_with;
 use pref_core::{CoreFault, Store};
 use pref_sky::Entry;
@@ -37,7 +37,7 @@ struct Block {
 }
 
 /// The history of the published table, where it begins with what was seen.
-fn history_of<J: Naming>(published: &Published, seen: &Prefix<J>) -> Option<Prefix<J>>
+fn history_of<J: BoardBrand>(published: &Published, seen: &Prefix<J>) -> Option<Prefix<J>>
     requires stands { HoldsHistory (first_contents J.opening) J.book published.now }
     requires legal { IsLegalFrom J.opening seen.now }
     ensures { IfSome result (λ now. IsPrefix seen.now now × IsLegalFrom J.opening now × (published.now.store ≡ contents_at J.opening now)) }
@@ -48,7 +48,7 @@ fn history_of<J: Naming>(published: &Published, seen: &Prefix<J>) -> Option<Pref
 
 /// The published table to read from, with its history. The reader comes back where it is not let in, or where the history does not
 /// begin with what was seen.
-fn entered<J: Naming>(
+fn enter<J: BoardBrand>(
     reader: StoreReader,
     seen: &Prefix<J>,
 ) -> Result<(StoreReading, Prefix<J>), StoreReader>
@@ -56,7 +56,7 @@ fn entered<J: Naming>(
     requires legal { IsLegalFrom J.opening seen.now }
     ensures { MatchResult result (λ entered. (view entered.0.place ≡ view reader.place) × IsPrefix seen.now entered.1 × IsLegalFrom J.opening entered.1 × (entered.0.part.value.store ≡ contents_at J.opening entered.1)) (λ back. view back.place ≡ view reader.place) }
 {
-    let reading = reader.enter_as::<Reading>()?;
+    let reading = reader.enter_as::<ReadStep>()?;
     match history_of(reading.get(), seen) {
         Some(now) => Ok((reading, now)),
         None => Err(reading.leave()),
@@ -65,7 +65,7 @@ fn entered<J: Naming>(
 
 /// What a look at the published table finds there, with the table's history, where a reader is let in. The reader is back outside when
 /// this returns, so that the writer need not wait for what is made of what was found.
-fn read<J: Naming, T, F: FnOnce(&Store) -> T>(
+fn read<J: BoardBrand, T, F: FnOnce(&Store) -> T>(
     reader: &mut StoreReader,
     seen: &Prefix<J>,
     look: F,
@@ -82,12 +82,12 @@ fn read<J: Naming, T, F: FnOnce(&Store) -> T>(
         |reader: StoreReader, look: F| -> (StoreReader, Option<(Prefix<J>, T)>)
             requires { Knows (first_contents J.opening) J.book (view reader.place) × IsLegalFrom J.opening seen.now × F.IsAlwaysCallable look }
             ensures { (view result.0.place ≡ view reader.place) × IfSome result.1 (λ found. IsPrefix seen.entry.now found.0 × IsLegalFrom J.opening found.0 × FnOnceReturnsAt F.FnOnce look (contents_at J.opening found.0) found.1) }
-        { looked(reader, seen, look) },
+        { read_at(reader, seen, look) },
     )
 }
 
 /// [`read`] with a reader that is handed over and back.
-fn looked<J: Naming, T, F: FnOnce(&Store) -> T>(
+fn read_at<J: BoardBrand, T, F: FnOnce(&Store) -> T>(
     reader: StoreReader,
     seen: &Prefix<J>,
     look: F,
@@ -98,7 +98,7 @@ fn looked<J: Naming, T, F: FnOnce(&Store) -> T>(
     ensures view { view result.0.place ≡ view reader.place }
     ensures found { IfSome result.1 (λ found. IsPrefix seen.now found.0 × IsLegalFrom J.opening found.0 × FnOnceReturnsAt F.FnOnce look (contents_at J.opening found.0) found.1) }
 {
-    let (reading, now) = match entered(reader, seen) {
+    let (reading, now) = match enter(reader, seen) {
         Ok(entered) => entered,
         Err(reader) => return (reader, None),
     };
@@ -106,7 +106,7 @@ fn looked<J: Naming, T, F: FnOnce(&Store) -> T>(
     (reading.leave(), Some((now, found)))
 }
 
-impl<J: Naming> Client<J> {
+impl<J: BoardBrand> Client<J> {
     /// The row of this id in the table. Takes no lock, no memory, and never waits.
     ///
     /// Refused `NoSuchRow`, or `Closed` where no reader is let in, and then nothing has changed.

@@ -4,7 +4,7 @@ ghost use Rattle.std.specs.Option.{option_map};
 ghost use Rattle.pref_term.specs.Ahead.{ahead};
 ghost use Rattle.pref_term.specs.Distinct as distinct;
 ghost use Rattle.pref_term.specs.Grammar as grammar;
-ghost use Rattle.pref_term.specs.Led as led;
+ghost use Rattle.pref_term.specs.ReaderResults as led;
 ghost use Rattle.pref_term.specs.Reading as reading;
 ghost use Rattle.pref_term.specs.Spells as spells;
 ghost use Rattle.pref_term.specs.Question.{FitsWidth, IsAsk, IsCount, cut_of};
@@ -16,7 +16,7 @@ use crate::ask::{Ask, Mode};
 use crate::cursor::Cursor;
 use crate::fault::TermFault;
 use crate::front::Token;
-use crate::number::counted;
+use crate::number::count_value;
 use crate::term::Term;
 use crate::token::{CasedWord, Direction, Keyword, Sign, cased_word, word_of_grammar};
 use pref_table::Schema;
@@ -31,7 +31,7 @@ fn count<'a>(cursor: Cursor<'a>) -> Parsed<'a, u32>
     let Token::Digits(digits) = taken.token else {
         return Err(taken.unexpected());
     };
-    let count = counted(digits).ok_or(TermFault::BadCount { at: taken.at })?;
+    let count = count_value(digits).ok_or(TermFault::BadCount { at: taken.at })?;
     Ok((count, taken.next))
 }
 
@@ -72,7 +72,12 @@ fn grouping(alloc: Global, schema: &Schema, cursor: Cursor<'_>) -> Result<Vec<us
 }
 
 /// Takes what follows the words that say how many are wanted.
-fn rated(alloc: Global, schema: &Schema, mode: Mode, cursor: Cursor<'_>) -> Result<Ask, TermFault>
+fn read_rated_term(
+    alloc: Global,
+    schema: &Schema,
+    mode: Mode,
+    cursor: Cursor<'_>,
+) -> Result<Ask, TermFault>
     requires { IsCount (cut_of mode) }
     ensures ok { IfOk result (λ a. (head : grammar.HeadText) → spells.mode_of head ≡ mode → led.Asks schema.now (reading.operand (reading.in_whole head)) (ahead cursor.entry) a) }
     ensures known { IfOk result (λ a. FitsWidth (length schema.now) a) }
@@ -137,7 +142,7 @@ struct Clause {
 }
 
 /// The product with one more order.
-fn joined(alloc: Global, product: Option<Term>, order: Term) -> Result<Term, TermFault>
+fn product_with(alloc: Global, product: Option<Term>, order: Term) -> Result<Term, TermFault>
     ensures ok { IfOk result (λ term. preference_of term ≡ led.joined (option_map preference_of product) (preference_of order)) }
     ensures err { IfErr result (λ f. f ≡ TermFault.OutOfMemory) }
 {
@@ -148,7 +153,7 @@ fn joined(alloc: Global, product: Option<Term>, order: Term) -> Result<Term, Ter
 }
 
 /// The clause with one more dimension.
-fn extended(alloc: Global, clause: Clause, dimension: Dimension) -> Result<Clause, TermFault>
+fn with_dimension(alloc: Global, clause: Clause, dimension: Dimension) -> Result<Clause, TermFault>
     ensures product { IfOk result (λ longer. option_map preference_of longer.product ≡ led.with_order (option_map preference_of clause.product) dimension.direction dimension.col) }
     ensures group { IfOk result (λ longer. longer.group.items ≡ clause.group.items ++ spells.group_by dimension.direction dimension.col) }
     ensures err { IfErr result (λ f. f ≡ TermFault.OutOfMemory) }
@@ -163,7 +168,7 @@ fn extended(alloc: Global, clause: Clause, dimension: Dimension) -> Result<Claus
             return Ok(Clause { product, group });
         }
     };
-    let product = Some(joined(alloc, product, order)?);
+    let product = Some(product_with(alloc, product, order)?);
     Ok(Clause { product, group })
 }
 
@@ -179,7 +184,7 @@ fn dimensions(alloc: Global, schema: &Schema, cursor: Cursor<'_>) -> Result<Clau
     let mut place = cursor;
     loop {
         let (dimension, next) = take_dimension(schema, place)?;
-        clause = extended(alloc, clause, dimension)?;
+        clause = with_dimension(alloc, clause, dimension)?;
         if next.take().ends() {
             return Ok(clause);
         }
@@ -213,14 +218,14 @@ fn ask(alloc: Global, schema: &Schema, cursor: Cursor<'_>) -> Result<Ask, TermFa
 {
     let (letters, word) = take_word(cursor)?;
     match word_of_grammar(letters) {
-        Some(Keyword::Best) => rated(alloc, schema, Mode::Best, word.next),
+        Some(Keyword::Best) => read_rated_term(alloc, schema, Mode::Best, word.next),
         Some(Keyword::TopLevel) => {
             let (k, behind) = count(word.next)?;
-            rated(alloc, schema, Mode::TopLevel(k), behind)
+            read_rated_term(alloc, schema, Mode::TopLevel(k), behind)
         }
         Some(Keyword::AtLeast) => {
             let (k, behind) = count(word.next)?;
-            rated(alloc, schema, Mode::AtLeast(k), behind)
+            read_rated_term(alloc, schema, Mode::AtLeast(k), behind)
         }
         Some(_) => Err(word.unexpected()),
         None => {

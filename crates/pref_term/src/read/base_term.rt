@@ -2,11 +2,11 @@
 ghost use Rattle.std.specs.Prelude.{◌≡◌, ◌<◌, ◌+◌, [], ◌∷◌, ◌++◌, length, IfOk, IfErr, OnOk};
 ghost use Rattle.pref_term.specs.Ahead.{ahead};
 ghost use Rattle.pref_term.specs.Token as tokens;
-ghost use Rattle.pref_term.specs.Led as led;
+ghost use Rattle.pref_term.specs.ReaderResults as led;
 ghost use Rattle.pref_term.specs.Reading as reading;
 ghost use Rattle.pref_term.specs.Preference.{preference_of};
 
-use crate::cursor::{Cursor, Taken};
+use crate::cursor::{Cursor, Lexeme};
 use crate::fault::TermFault;
 use crate::front::Token;
 use crate::term::{NumberSets, Numbers, Term};
@@ -31,7 +31,7 @@ pub(super) fn expect<'a>(cursor: Cursor<'a>, sign: Sign) -> Result<Cursor<'a>, T
 }
 
 /// Takes a word: its letters, and what was taken.
-pub(super) fn take_word<'a>(cursor: Cursor<'a>) -> Result<(&'a [u8], Taken<'a>), TermFault>
+pub(super) fn take_word<'a>(cursor: Cursor<'a>) -> Result<(&'a [u8], Lexeme<'a>), TermFault>
     ensures ok { IfOk result (λ x. ahead cursor.entry ≡ led.word_ahead x.0.now x.1.at (ahead x.1.next)) }
     ensures err { IfErr result (λ f. led.LacksWord (ahead cursor.entry) f) }
 {

@@ -1,7 +1,7 @@
 //! Reading terms: one function for each rule of the grammar.
 ghost use Rattle.std.specs.Prelude.{◌≡◌, ◌≤◌, ◌<◌, ◌+◌, length, IfOk, IfErr};
 ghost use Rattle.pref_term.specs.Ahead.{ahead};
-ghost use Rattle.pref_term.specs.Led as led;
+ghost use Rattle.pref_term.specs.ReaderResults as led;
 ghost use Rattle.pref_term.specs.Preference.{preference_of};
 ghost use Rattle.pref_term.specs.Preference as terms;
 
@@ -42,7 +42,7 @@ fn unary<'a>(alloc: Global, schema: &Schema, depth: usize, cursor: Cursor<'a>) -
     if taken.is(Sign::Minus) {
         let inside = deeper(depth, taken.at)?;
         let (part, next) = unary(alloc, schema, inside, taken.next)?;
-        return Ok((reversed(alloc, part)?, next));
+        return Ok((reverse_of(alloc, part)?, next));
     }
     if taken.is(Sign::Left) {
         let inside = deeper(depth, taken.at)?;
@@ -77,7 +77,7 @@ fn reverse<'a>(alloc: Global, schema: &Schema, depth: usize, cursor: Cursor<'a>)
     }
     let inside = deeper(depth, taken.at)?;
     let (part, next) = group(alloc, schema, inside, taken.next)?;
-    Ok((reversed(alloc, part)?, next))
+    Ok((reverse_of(alloc, part)?, next))
 }
 
 /// Takes a prior and the parenthesis behind it, where this many nestings are open within.
@@ -133,12 +133,12 @@ pub(super) fn prior<'a>(
             return Ok((term, place));
         }
         let (last, next) = product(alloc, schema, depth, taken.next)?;
-        term = prioritised(alloc, term, last)?;
+        term = priority_of(alloc, term, last)?;
         place = next;
     }
 }
 
-fn reversed(alloc: Global, part: Term) -> Result<Term, TermFault>
+fn reverse_of(alloc: Global, part: Term) -> Result<Term, TermFault>
     ensures ok { IfOk result (λ term. preference_of term ≡ terms.reverse (preference_of part)) }
     ensures err { IfErr result (λ f. f ≡ TermFault.OutOfMemory) }
 {
@@ -155,7 +155,7 @@ pub(super) fn pareto(alloc: Global, left: Term, right: Term) -> Result<Term, Ter
     Ok(Term::Pareto(left, right))
 }
 
-fn prioritised(alloc: Global, first: Term, then: Term) -> Result<Term, TermFault>
+fn priority_of(alloc: Global, first: Term, then: Term) -> Result<Term, TermFault>
     ensures ok { IfOk result (λ term. preference_of term ≡ terms.prior (preference_of first) (preference_of then)) }
     ensures err { IfErr result (λ f. f ≡ TermFault.OutOfMemory) }
 {

@@ -1,10 +1,10 @@
-//! Cuts for an ask, from a sample of rows. Any marks on scales of leading parts or of the group's columns are right, so nothing about them is proved.
+//! Scales for an ask, from a sample of rows. Any marks on scales of leading parts or of the group's columns are right, so nothing about them is proved.
 ghost use Rattle.std.specs.Prelude.{◌<◌, All, IfOk, OnOk};
 ghost use Rattle.pref_term.specs.Signatures.{scale_column};
 
 use crate::key::Key;
-use crate::signature::cuts::Cuts;
 use crate::signature::scale::Scale;
+use crate::signature::scales::Scales;
 use pref_table::Row;
 use std::alloc::{AllocError, Global};
 
@@ -126,16 +126,16 @@ fn groups_in(alloc: Global, group: &[usize], sample: &[Row]) -> Result<usize, Al
     Ok(groups)
 }
 
-/// Cuts for an order within these groups that these keys lead. The bits of a signature that the group leaves are dealt out evenly among the
+/// Scales for an order within these groups that these keys lead. The bits of a signature that the group leaves are dealt out evenly among the
 /// keys that vary in the sample, and a key's marks divide it into equal shares. In many groups few pairs are left to these, so they
 /// are fewer.
 /// Takes memory for a key's numbers and for the scales.
-pub(crate) fn cuts_for(
+pub(crate) fn scales_for(
     alloc: Global,
     keys: &[Key],
     group: &[usize],
     sample: &[Row],
-) -> Result<Cuts, AllocError>
+) -> Result<Scales, AllocError>
     requires keys { All (λ key. key.col < 16) keys.now }
     requires group { All (λ col. col < 16) group.now }
 {
@@ -149,5 +149,5 @@ pub(crate) fn cuts_for(
         push_key(alloc, &mut scales, key, sample, shares.max(1))?;
     }
     push_group(alloc, &mut scales, group, bits)?;
-    Ok(Cuts::of(scales))
+    Ok(Scales::of(scales))
 }

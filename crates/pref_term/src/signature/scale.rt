@@ -6,7 +6,7 @@ ghost use Rattle.pref_term.specs.Signatures.{bits_by, scale_column, signed_onto}
 
 use crate::key::Key;
 use crate::keys::contains;
-use crate::signature::mixed;
+use crate::signature::hash_with;
 use pref_table::Row;
 
 /// Some bits of a signature, by one column.
@@ -50,7 +50,7 @@ impl Scale {
     {
         match self {
             Scale::Marks { key, marks } => reached_onto(word, key.of(row), marks),
-            Scale::Hashes { col, masks } => hashed_onto(word, mixed(0, row.cell(*col)), masks),
+            Scale::Hashes { col, masks } => hashed_onto(word, hash_with(0, row.cell(*col)), masks),
         }
     }
 

@@ -120,8 +120,8 @@ fn opening_of_run(alloc: Global, run: &Run) -> Result<Vec<Row>, Fail> {
 }
 
 fn check_reply(rt: &impl Abort, alloc: Global, reply: &Reply, wanted: &str) -> Result<(), Fail> {
-    let told = reply_text(alloc, reply)?;
-    assert_same_text(rt, wanted, told.as_str(), wanted);
+    let returned = reply_text(alloc, reply)?;
+    assert_same_text(rt, wanted, returned.as_str(), wanted);
     Ok(())
 }
 

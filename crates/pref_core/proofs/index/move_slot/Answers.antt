@@ -1,6 +1,6 @@
 use Rattle.pref_core.proofs.Common.{Some, sym, ap, ◌∙◌, subst, slot_of, row_at, IsPlaceOf, Contents}
-use Rattle.pref_core.proofs.Linked.{place_known}
-use Rattle.pref_core.proofs.Reindexing.{points_still}
+use Rattle.pref_core.proofs.IdsAfterCommit.{place_known}
+use Rattle.pref_core.proofs.IndexLaws.{points_still}
 use Rattle.pref_core.proofs.index.move_slot.Goals as goal
 
 pub returns-else-not-stands_at-clause-moved : goal.returns-else-not-stands_at-clause-moved

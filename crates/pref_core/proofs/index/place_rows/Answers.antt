@@ -1,10 +1,10 @@
 use Rattle.pref_core.proofs.Common.{◌≡◌, ◌+◌, ◌≤◌, ◌||◌, ◌∷◌, ℕ, suc, List, Option, Some, None, drop, refl, sym, ap, ap₂, ◌∙◌, subst, arith, eq-eqb, ltb-false, ltb-true, Add, Set, Change, added_by, ended, ended_by, slot_of, given, placed_rows}
 use Rattle.pref_core.proofs.Common.{among, change_of, changes_of, op_of}
 use Rattle.indexmap.specs.IndexMap.{spare}
-use Rattle.pref_core.proofs.Bounds.{next_id-small}
-use Rattle.pref_core.proofs.Changing.{drop_at, drop_all}
-use Rattle.pref_core.proofs.Counts.{drop_item}
-use Rattle.pref_core.proofs.Reindexing.{AreThere, PlacesRest, adds_one, moves_one, ended_there}
+use Rattle.pref_core.proofs.BoundsLaws.{next_id-small}
+use Rattle.pref_core.proofs.ChangesLaws.{drop_at, drop_all}
+use Rattle.pref_core.proofs.ChangeCounts.{drop_item}
+use Rattle.pref_core.proofs.IndexLaws.{AreThere, PlacesRest, adds_one, moves_one, ended_there}
 use Rattle.pref_core.proofs.index.place_rows.Goals.{in-Add-Some, in-Set-Some, in-Remove-default}
 use Rattle.pref_core.proofs.index.place_rows.Goals as goal
 

@@ -1,5 +1,5 @@
 use Rattle.pref_core.proofs.Common.{◌+◌, ◌≤◌, drop, slot_of, given, placed_rows, added_by, changes_of}
-use Rattle.pref_core.proofs.Reindexing.{PlacesRest}
+use Rattle.pref_core.proofs.IndexLaws.{PlacesRest}
 use Rattle.pref_core.proofs.index.place_rows.Given as goal
 use Rattle.indexmap.specs.IndexMap.{spare}
 

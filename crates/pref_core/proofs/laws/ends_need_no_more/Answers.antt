@@ -1,4 +1,4 @@
-use Rattle.pref_core.proofs.Fewer.{ends_need_no_more}
+use Rattle.pref_core.proofs.NeededKeys.{ends_need_no_more}
 use Rattle.pref_core.proofs.laws.ends_need_no_more.Goals as goal
 
 pub returns : goal.returns

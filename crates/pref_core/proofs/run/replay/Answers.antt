@@ -1,5 +1,5 @@
 use Rattle.pref_core.proofs.Common.{◌∙◌, sym, opened}
-use Rattle.pref_core.proofs.Replies.{all_replied}
+use Rattle.pref_core.proofs.RepliesLaws.{all_replied}
 use Rattle.pref_core.proofs.run.replay.Goals as goal
 
 pub returns-clause-replies : goal.returns-clause-replies

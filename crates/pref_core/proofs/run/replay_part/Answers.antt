@@ -1,7 +1,7 @@
 use Rattle.pref_core.proofs.Common.{◌≡◌, [], ◌∷◌, ◌++◌, ◌<◌, length, drop, ap, ◌∙◌, arith, sym, subst, lt-ltb, length_push, step, replies_from, StandsForSystem}
 use Rattle.std.proofs.lemmas.Iterator.Consumers.{YieldsList-turn}
 use Rattle.std.proofs.lemmas.Iterator.Adapters.{YieldsList-from_vec}
-use Rattle.pref_core.proofs.Replies.{reply_is_added, replies_step, one_reply_more, stopped_replies}
+use Rattle.pref_core.proofs.RepliesLaws.{reply_is_added, replies_step, one_reply_more, stopped_replies}
 use Rattle.pref_core.proofs.run.replay_part.Goals as goal
 
 pub loop-event-preserved : goal.loop-event-preserved
@@ -10,10 +10,10 @@ loop-event-preserved c =
     let turn = YieldsList-turn (YieldsList-from_vec {s = c.into_iter-event-iterator.result} c.args.events.items gives.0 (gives.1 ∙ c.args.events.ok.0)) c.loop-event.yielded c.loop-event.event-iterator c.loop-event.yielded_by c.next.result c.next.new.self c.in-Some.event c.in-Some.is c.next.ensures.steps in
     let inv = c.loop-event.invariant in
     let event = c.in-Some.event in
-    let one = reply_is_added c.loop-event.told.items c.reply-reply.result c.push_reply.result c.push_reply.new.told.items c.push_reply.ensures (sym c.if-is_err.ensures.value) in
+    let one = reply_is_added c.loop-event.returned.items c.reply-reply.result c.push_reply.result c.push_reply.new.returned.items c.push_reply.ensures (sym c.if-is_err.ensures.value) in
     let said = replies_step c.loop-event.machine c.reply-reply.new.self inv.system event c.reply-reply.result one.reply inv.stands c.reply-reply.ensures one.is in
-    let more = one_reply_more c.args.setup inv.system c.loop-event.told.items c.args.events.items c.loop-event.yielded event one.reply _ turn (subst (λ l. one.reply ≡ (step l inv.system event).reply) inv.limits said.0) inv.rest in
-    let one_each : length (c.loop-event.told.items ++ one.reply ∷ []) ≡ length (c.loop-event.yielded ++ event ∷ []) = omega (arith, inv.count, length_push c.loop-event.told.items one.reply, length_push c.loop-event.yielded event) in
+    let more = one_reply_more c.args.setup inv.system c.loop-event.returned.items c.args.events.items c.loop-event.yielded event one.reply _ turn (subst (λ l. one.reply ≡ (step l inv.system event).reply) inv.limits said.0) inv.rest in
+    let one_each : length (c.loop-event.returned.items ++ one.reply ∷ []) ≡ length (c.loop-event.yielded ++ event ∷ []) = omega (arith, inv.count, length_push c.loop-event.returned.items one.reply, length_push c.loop-event.yielded event) in
     record {
       limits = c.reply-reply.ensures.limits ∙ inv.limits;
       few = inv.few;
@@ -24,12 +24,12 @@ loop-event-preserved c =
     }
 
 pub returns-then-is_err-clause-replies : goal.returns-then-is_err-clause-replies
-returns-then-is_err-clause-replies c = (stopped_replies c.loop-event.told.items c.reply-reply.result c.push_reply.result c.push_reply.new.told.items _ _ c.push_reply.ensures (sym c.is_err.ensures.value ∙ c.if-is_err.true) c.loop-event.invariant.rest).1
+returns-then-is_err-clause-replies c = (stopped_replies c.loop-event.returned.items c.reply-reply.result c.push_reply.result c.push_reply.new.returned.items _ _ c.push_reply.ensures (sym c.is_err.ensures.value ∙ c.if-is_err.true) c.loop-event.invariant.rest).1
 
 pub returns-then-is_err-clause-stopped : goal.returns-then-is_err-clause-stopped
 returns-then-is_err-clause-stopped c =
     let gives = c.into_iter-event-iterator.ensures.into_iter_gives in
     let turn = YieldsList-turn (YieldsList-from_vec {s = c.into_iter-event-iterator.result} c.args.events.items gives.0 (gives.1 ∙ c.args.events.ok.0)) c.loop-event.yielded c.loop-event.event-iterator c.loop-event.yielded_by c.next.result c.next.new.self c.in-Some.event c.in-Some.is c.next.ensures.steps in
-    let none = (stopped_replies c.loop-event.told.items c.reply-reply.result c.push_reply.result c.push_reply.new.told.items _ _ c.push_reply.ensures (sym c.is_err.ensures.value ∙ c.if-is_err.true) c.loop-event.invariant.rest).0 in
-    let less : length c.push_reply.new.told.items < length c.args.events.items = omega (arith, ap length none, c.loop-event.invariant.count, turn.0) in
+    let none = (stopped_replies c.loop-event.returned.items c.reply-reply.result c.push_reply.result c.push_reply.new.returned.items _ _ c.push_reply.ensures (sym c.is_err.ensures.value ∙ c.if-is_err.true) c.loop-event.invariant.rest).0 in
+    let less : length c.push_reply.new.returned.items < length c.args.events.items = omega (arith, ap length none, c.loop-event.invariant.count, turn.0) in
     sym (lt-ltb _ _ less)

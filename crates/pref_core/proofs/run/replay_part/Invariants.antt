@@ -7,6 +7,6 @@ invariant-loop-event l = record {
   few : length l.fn.rows ≤ l.fn.setup.capacity;
   system : System;
   stands : StandsForSystem l.machine system;
-  count : length l.told.items ≡ length l.yielded;
-  rest : l.told.items ++ replies_from l.fn.setup system (drop (length l.yielded) l.fn.events.items) ≡ replies l.fn.setup l.fn.rows l.fn.events.items;
+  count : length l.returned.items ≡ length l.yielded;
+  rest : l.returned.items ++ replies_from l.fn.setup system (drop (length l.yielded) l.fn.events.items) ≡ replies l.fn.setup l.fn.rows l.fn.events.items;
 }

@@ -3,7 +3,7 @@ use Rattle.pref_script.proofs.live.take_turn.Goals as goal
 
 pub returns : goal.returns
 returns g c = (
-  string_bytes c.tell.new.text,
+  string_bytes c.reply_to.new.text,
   record {
     mid = c.read_line.new.self;
     end = c.in_ok-end.end;
@@ -12,7 +12,7 @@ returns g c = (
     some = grind arith;
     inside = c.in_ok-end.ensures.inside.1;
     line = c.in_ok-end.ensures.line;
-    tells = rw (c.line_text.ensures, c.as_slice.ensures, c.new-text.ensures.bytes) at c.in_ok-tell.ensures.told;
+    tells = rw (c.line_text.ensures, c.as_slice.ensures, c.new-text.ensures.bytes) at c.in_ok-reply_to.ensures.returned;
     taken = c.take.ensures.unread;
     ended = c.take.ensures.ended;
   },
@@ -26,7 +26,7 @@ returns-in_err-write_output g c =
     let line = rw c.as_bytes.ensures.value at part in
     rw (p.1, p.2, written) (
       failed,
-      string_bytes c.tell.new.text,
+      string_bytes c.reply_to.new.text,
       record {
         mid = c.read_line.new.self;
         end = c.in_ok-end.end;
@@ -35,7 +35,7 @@ returns-in_err-write_output g c =
         some = grind arith;
         inside = c.in_ok-end.ensures.inside.1;
         line = c.in_ok-end.ensures.line;
-        tells = rw (c.line_text.ensures, c.as_slice.ensures, c.new-text.ensures.bytes) at c.in_ok-tell.ensures.told;
+        tells = rw (c.line_text.ensures, c.as_slice.ensures, c.new-text.ensures.bytes) at c.in_ok-reply_to.ensures.returned;
         taken = c.take.ensures.unread;
         ended = c.take.ensures.ended;
       },

@@ -18,5 +18,5 @@ returns c =
     let live = c.in_ok-live.live in
     let opened = c.in_ok-live.ensures.opened in
     let said = script-ok c.args.setup c.args.bytes.now _ (names_of live, opened.rows) c.in_ok-table.ensures.parts opened.gives opened.room in
-    let told = IfOk-weaker c.tell_lines.result _ _ (λ text tells. tells_output c.args.setup opened.rows (names_of live) _ _ _ (running_of live) _ opened.bounds opened.stands tells opened.starts) c.tell_lines.ensures.told in
-    tells-played c.args.setup c.args.bytes.now _ c.tell_lines.result said told c.tell_lines.ensures.memory
+    let returned = IfOk-weaker c.reply_to_lines.result _ _ (λ text tells. tells_output c.args.setup opened.rows (names_of live) _ _ _ (running_of live) _ opened.bounds opened.stands tells opened.starts) c.reply_to_lines.ensures.returned in
+    tells-played c.args.setup c.args.bytes.now _ c.reply_to_lines.result said returned c.reply_to_lines.ensures.memory

@@ -29,4 +29,4 @@ pub returns : goal.returns
 returns g c =
     let short = commands-short c.args.bytes.now c.in_ok-schema.field-0 c.in_ok-schema.ensures.read c.in_ok-schema.ensures.few (omega arith) in
     tells-joint c.args.setup (g.G.Gate.says c.args.gate.now) c.args.bytes.now c.in_ok-schema.field-0 c.in_ok-schema.ensures.read c.in_ok-parts.parts (c.in_ok-parts.ensures.count ∙ c.clients.ensures.value) c.in_ok-parts.ensures.parts short
-    _ _ _ _ _ _ c.as_slice.ensures.value c.in_ok-done.ensures.room c.in_ok-done.ensures.ran c.in_ok-out.ensures.told c.as_slice-2.ensures.value c.in_ok-push_parts.ensures c.as_slice-3.ensures.value
+    _ _ _ _ _ _ c.as_slice.ensures.value c.in_ok-done.ensures.room c.in_ok-done.ensures.ran c.in_ok-out.ensures.returned c.as_slice-2.ensures.value c.in_ok-push_parts.ensures c.as_slice-3.ensures.value

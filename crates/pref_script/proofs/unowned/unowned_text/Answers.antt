@@ -11,12 +11,12 @@ pub loop-left-preserved : goal.loop-left-preserved
 loop-left-preserved c =
     let raw = c.cut_line.result.0.now in
     let tail = c.cut_line.result.1.now in
-    let told = rw c.line_text.ensures at c.in_ok-push_if_unowned.ensures.told in
+    let returned = rw c.line_text.ensures at c.in_ok-push_if_unowned.ensures.returned in
     record {
       few = omega (arith, c.loop-left.invariant.few, ap length c.cut_line.ensures.whole, length-append raw tail, c.cut_line.ensures.some);
       whole = accept-rest c.args.schema.now c.args.parts.now c.loop-left.left.now raw tail c.loop-left.invariant.whole c.cut_line.ensures.lines;
-      told = unowned-more (length c.args.parts.now) (length c.args.schema.now) c.args.schema.now c.loop-left.number c.loop-left.left.now raw tail _ _ _ c.loop-left.invariant.told c.cut_line.ensures.lines told;
+      returned = unowned-more (length c.args.parts.now) (length c.args.schema.now) c.args.schema.now c.loop-left.number c.loop-left.left.now raw tail _ _ _ c.loop-left.invariant.returned c.cut_line.ensures.lines returned;
     }
 
-pub returns-clause-told : goal.returns-clause-told
-returns-clause-told c = unowned-all (length c.args.parts.now) (length c.args.schema.now) c.args.schema.now c.loop-left.number c.loop-left.left.now _ _ c.loop-left.invariant.told (grind arith)
+pub returns-clause-returned : goal.returns-clause-returned
+returns-clause-returned c = unowned-all (length c.args.parts.now) (length c.args.schema.now) c.args.schema.now c.loop-left.number c.loop-left.left.now _ _ c.loop-left.invariant.returned (grind arith)

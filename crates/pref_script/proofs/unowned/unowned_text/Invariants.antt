@@ -5,7 +5,7 @@ abbrev pub invariant-loop-left : goal.invariant-loop-left
 invariant-loop-left l = record {
   few : l.number + length l.left < 2 ^ 64;
   whole : WholeAcceptAll l.schema l.parts (raw_lines l.left);
-  told : string_bytes l.text ++ unowned_lines (length l.parts) (length l.schema) (commands_of l.schema l.number (raw_lines l.left))
+  returned : string_bytes l.text ++ unowned_lines (length l.parts) (length l.schema) (commands_of l.schema l.number (raw_lines l.left))
       ≡ unowned_lines (length l.parts) (length l.schema) (commands_of l.schema l.script.first (raw_lines l.script.commands.now));
 }
 

@@ -1,5 +1,5 @@
 use Rattle.pref_share.proofs.Common.{ap, sym, ◌∙◌}
-use Rattle.pref_share.proofs.Adding.{begins_moves}
+use Rattle.pref_share.proofs.BookSteps.{begins_moves}
 use Rattle.pref_share.proofs.book.new_pen.Goals as goal
 
 pub compare_exchange-found-requires : goal.compare_exchange-found-requires

@@ -1,7 +1,7 @@
 use Rattle.pref_share.proofs.Common.{sendable, Listed, into_iter_items}
-use Rattle.pref_share.proofs.Sending.{listed_send}
-use Rattle.pref_share.proofs.Reporting.{are_reports}
-use Rattle.pref_share.proofs.Running.{few_each}
+use Rattle.pref_share.proofs.SendLaws.{listed_send}
+use Rattle.pref_share.proofs.ReportsLaws.{are_reports}
+use Rattle.pref_share.proofs.RunsLaws.{few_each}
 use Rattle.pref_share.proofs.run.run_each.Goals as goal
 
 pub work_tasks-requires-send-T : goal.work_tasks-requires-send-T
@@ -12,4 +12,4 @@ work_tasks-requires-clause-few g c κs within = few_each (λ (listed : Listed). 
 
 pub returns : goal.returns
 returns g c =
-    are_reports g.J.Naming.opening (g.G.Gate.says c.args.gate.now) (λ listed. into_iter_items listed.acts) c.args.clients.items c.args.acts.items c.in_ok-tasks.tasks.items c.in_ok-worked.worked.items c.in_ok-reports.reports.items c.in_ok-tasks.ensures.acts c.in_ok-reports.ensures c.in_ok-worked.ensures
+    are_reports g.J.BoardBrand.opening (g.G.Gate.says c.args.gate.now) (λ listed. into_iter_items listed.acts) c.args.clients.items c.args.acts.items c.in_ok-tasks.tasks.items c.in_ok-worked.worked.items c.in_ok-reports.reports.items c.in_ok-tasks.ensures.acts c.in_ok-reports.ensures c.in_ok-worked.ensures

@@ -1,13 +1,13 @@
 use Rattle.pref_share.proofs.Common.{◌≡◌, ◌∙◌, ℕ, Bool, List, Err, IfErr, ⊎_elim, ap, arith, inl, inr, length, map, rules, subst, sym, Vec, Act, OutOfMemory, ShareFault, Core, RefusesRun, IsJointRun}
 use Rattle.pref_share.proofs.Common.{IsFirstOf, Standing}
-use Rattle.pref_share.proofs.Interleavings.{joint_runs_are_sequential, length-newcomers}
-use Rattle.pref_share.proofs.Reporting.{tasks_joint, tasks_refused}
-use Rattle.pref_share.proofs.Running.{length_map}
+use Rattle.pref_share.proofs.InterleavingsLaws.{joint_runs_are_sequential, length-newcomers}
+use Rattle.pref_share.proofs.ReportsLaws.{tasks_joint, tasks_refused}
+use Rattle.pref_share.proofs.RunsLaws.{length_map}
 use Rattle.pref_share.proofs.run.run_tasks.Goals as goal
 
 pub returns-clause-ran : goal.returns-clause-ran
 returns-clause-ran g c = λ acts listed.
-    let o = g.J.Naming.opening in
+    let o = g.J.BoardBrand.opening in
     let says : ℕ → ℕ → Bool → Type 0 = g.G.Gate.says c.args.gate.now in
     let clients = c.args.clients.items in
     let many : length acts ≡ length clients =
@@ -19,7 +19,7 @@ returns-clause-ran g c = λ acts listed.
 
 pub returns-in_err-done-clause-refused : goal.returns-in_err-done-clause-refused
 returns-in_err-done-clause-refused g c =
-    let o = g.J.Naming.opening in
+    let o = g.J.BoardBrand.opening in
     let says : ℕ → ℕ → Bool → Type 0 = g.G.Gate.says c.args.gate.now in
     let clients = c.args.clients.items in
     let lists = map g.T.Task.left c.args.tasks.items in

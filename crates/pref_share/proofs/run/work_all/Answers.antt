@@ -1,7 +1,7 @@
 use Rattle.pref_share.proofs.Common.{sendable}
 use denote.Param.SendFields.{declared_send, variants_send, as_row_send}
 use Rattle.std.proofs.Crossing.{frees}
-use Rattle.pref_share.proofs.Sending.{client_send}
+use Rattle.pref_share.proofs.SendLaws.{client_send}
 use Rattle.std.proofs.alloc.Global.TheSendSync as heap
 use Rattle.std.proofs.option.Option.TheSendSync as options
 use Rattle.pref_share.proofs.fault.ShareFault.TheSendSync as faults

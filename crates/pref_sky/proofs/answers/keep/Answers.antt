@@ -1,6 +1,6 @@
 use Rattle.pref_sky.proofs.Common.{◌≡◌, ◌≤◌, ◌<◌, Bool, false, map, length, get_or, sym, ◌∙◌, ap, arith, length-set, get_or-map, get_or_default, [], Ranked, FiltersInPlace-more_no}
 use Rattle.pref_sky.proofs.Common.{FiltersInPlace-more_set}
-use Rattle.pref_sky.proofs.Staying.{same_there}
+use Rattle.pref_sky.proofs.MovedToFront.{same_there}
 use Rattle.pref_sky.proofs.answers.keep.Goals.{then-chosen-place, else-chosen-place}
 use Rattle.pref_sky.proofs.answers.keep.Goals as goal
 
@@ -14,7 +14,7 @@ loop-place-preserved c =
     let inv = c.loop-place.invariant in
     let few : c.min-place-end.result ≤ c.len.result = grind arith in
     let inside : place < length ys = omega (arith, c.loop-place-test.true, few, c.len.ensures, c.args.ranked.now.ok.0, inv.long) in
-    let told : (test : Ranked → Bool) (x : Ranked) → flags ≡ map test xs → x ≡ get_or ys place x → test x ≡ get_or flags place false =
+    let decided : (test : Ranked → Bool) (x : Ranked) → flags ≡ map test xs → x ≡ get_or ys place x → test x ≡ get_or flags place false =
     λ test x by at.
     ap test (at ∙ same_there xs ys place x (inv.moved test by).rest) ∙ sym (ap (λ l. get_or l place false) by ∙ get_or-map test xs place x false (omega (arith, inside, inv.long))) in
     elim c.if-chosen-place.branch [
@@ -23,13 +23,13 @@ loop-place-preserved c =
           rw (w.ranked-is, w.count-is) (record {
             behind = omega (arith, inv.behind);
             long = length-set ys count x ∙ inv.long;
-            moved = λ test by. FiltersInPlace-more_set (inv.moved test by) inside (told test x by w.index.ensures ∙ w.if-chosen-place.true) w.index.ensures;
+            moved = λ test by. FiltersInPlace-more_set (inv.moved test by) inside (decided test x by w.index.ensures ∙ w.if-chosen-place.true) w.index.ensures;
           })
       | else-chosen-place w ↦
           let x : Ranked = get_or ys place (record { level = 0; id = 0; row = [] }) in
           rw (w.ranked-is, w.count-is) (record {
             behind = omega (arith, inv.behind);
             long = inv.long;
-            moved = λ test by. FiltersInPlace-more_no (inv.moved test by) inside (told test x by (get_or_default ys place _ x inside) ∙ w.if-chosen-place.false) (get_or_default ys place _ x inside);
+            moved = λ test by. FiltersInPlace-more_no (inv.moved test by) inside (decided test x by (get_or_default ys place _ x inside) ∙ w.if-chosen-place.false) (get_or_default ys place _ x inside);
           })
     ]

@@ -1,8 +1,8 @@
 use Rattle.pref_sky.proofs.Common.{rules, ◌≡◌, ◌∙◌, ◌≤◌, ◌<◌, ◌+◌, ◌∷◌, ◌++◌, [], Vec, Global, length, map, take, sym, ap, subst, arith, All, length-map, take_all, All-permutation, IsPermutation-map}
-use Rattle.pref_sky.proofs.Common.{Entry, Arrival, Item, Pool, IsArrival, KeepsUpper, arrived, HasGrown, IsItem, entries_at, levels_at, parts_at, entry_order, IsBehind, held_at, part_of, signature_by}
-use Rattle.pref_sky.proofs.Dealing.{arrival_here, arrivals_push, arrived_push, dealt_by_key, drops_one, keeps_moved, keeps_one, part_stays}
+use Rattle.pref_sky.proofs.Common.{Entry, Arrival, Item, Pool, IsArrival, KeepsUpper, arrived, HasGrown, IsItem, entries_at, levels_at, parts_at, entry_order, IsBehind, held_at, partition_of, signature_by}
+use Rattle.pref_sky.proofs.ArrivalsLaws.{arrival_here, arrivals_push, arrived_push, dealt_by_key, drops_one, keeps_moved, keeps_one, part_stays}
 use Rattle.pref_sky.proofs.Loops.{front_more}
-use Rattle.pref_sky.proofs.Pools.{entry_behind, grown_then, parts_grown}
+use Rattle.pref_sky.proofs.PoolLaws.{entry_behind, grown_then, parts_grown}
 use Rattle.pref_sky.proofs.arrival.arrivals_of.Goals.{then-start-cut+in_ok-item+in_ok-push, else-start-cut}
 use Rattle.pref_sky.proofs.arrival.arrivals_of.Goals as goal
 
@@ -10,7 +10,7 @@ pub loop-entry-preserved : goal.loop-entry-preserved
 loop-entry-preserved g c =
     let inv = c.loop-entry.invariant in
     let over = entry_order (g.D.Dominance.order c.args.dominance.now) in
-    let number = part_of c.args.columns.now in
+    let number = partition_of c.args.columns.now in
     let parts = parts_at c.args.pool.now.entries.items c.args.parts.now in
     let was = c.loop-entry.pool in
     let now = c.if-start-cut.pool in
@@ -19,10 +19,10 @@ loop-entry-preserved g c =
     let entries = c.args.entries.now in
     let i = c.loop-entry.entry-index in
     let e : Entry = c.entry-item.result in
-    let n = c.part_of-part.result in
+    let n = c.partition_of-part.result in
     let start = c.start_of-start.result in
-    let numbered : n ≡ number e = c.part_of-part.ensures.number in
-    let inside : n < length c.args.parts.now = omega (arith, c.part_of-part.ensures.within, c.requires.long) in
+    let numbered : n ≡ number e = c.partition_of-part.ensures.number in
+    let inside : n < length c.args.parts.now = omega (arith, c.partition_of-part.ensures.within, c.requires.long) in
     let here : levels_at pool c.deref.result.now ≡ held_at n parts =
     ap (levels_at pool) c.deref.ensures.value ∙ part_stays c.args.pool.now was inv.grown c.args.parts.now n c.index-parts-part.result c.requires.items inside c.index-parts-part.is in
     let within : start ≤ length (levels_at pool c.deref.result.now) = subst (λ k. start ≤ k) (sym (length-map c.deref.result.now (λ (v : Vec Item Global). entries_at pool v.items))) c.start_of-start.ensures.within in
@@ -38,13 +38,13 @@ loop-entry-preserved g c =
           let entries_now : now.entries.items ≡ pool ++ e ∷ [] = ap (λ (p : Pool). p.entries.items) w.pool-is ∙ put.item.0 in
           let more : arrivals_now ≡ arrivals ++ a ∷ [] = ap (λ (v : Vec Arrival Global). v.items) w.arrivals-is ∙ w.in_ok-push.ensures.items in
           let same : arrived now.entries.items a ≡ e = ap (λ l. arrived l a) entries_now ∙ entry_behind pool e a.item put.item.2 in
-          let item : IsItem (signature_by now.cuts) now.entries.items a.item = subst (λ (p : Pool). IsItem (signature_by p.cuts) p.entries.items a.item) (sym w.pool-is) put.item.1 in
-          let one = arrival_here over number parts (signature_by now.cuts) now.entries.items e (levels_at pool c.deref.result.now) a here (sym numbered) item same within behind in
+          let item : IsItem (signature_by now.scales) now.entries.items a.item = subst (λ (p : Pool). IsItem (signature_by p.scales) p.entries.items a.item) (sym w.pool-is) put.item.1 in
+          let one = arrival_here over number parts (signature_by now.scales) now.entries.items e (levels_at pool c.deref.result.now) a here (sym numbered) item same within behind in
           let all : map (arrived now.entries.items) arrivals_now ≡ kept ++ e ∷ [] =
           ap (map (arrived now.entries.items)) more ∙ (arrived_push over number parts was now grown arrivals inv.arrivals a ∙ ap (λ y. kept ++ y ∷ []) same) in
           record {
             grown = grown_then c.args.pool.now was inv.grown now grown;
-            arrivals = subst (All (IsArrival over (signature_by now.cuts) number now.entries.items parts)) (sym more) (arrivals_push over number parts was now grown arrivals inv.arrivals a one);
+            arrivals = subst (All (IsArrival over (signature_by now.scales) number now.entries.items parts)) (sym more) (arrivals_push over number parts was now grown arrivals inv.arrivals a one);
             upper = subst (λ l. KeepsUpper over c.args.cut number parts l (map (arrived now.entries.items) arrivals_now)) (sym longer)
                 (subst (KeepsUpper over c.args.cut number parts (take i entries ++ e ∷ [])) (sym all) (keeps_one (take i entries) kept inv.upper e));
           }
@@ -54,8 +54,8 @@ loop-entry-preserved g c =
           let all : map (arrived now.entries.items) arrivals_now ≡ kept = ap (λ (p : Pool). map (arrived p.entries.items) arrivals_now) w.pool-is ∙ ap (map (arrived pool)) stay in
           record {
             grown = subst (HasGrown c.args.pool.now) (sym w.pool-is) inv.grown;
-            arrivals = subst (λ (p : Pool). All (IsArrival over (signature_by p.cuts) number p.entries.items parts) arrivals_now) (sym w.pool-is)
-                (subst (All (IsArrival over (signature_by was.cuts) number pool parts)) (sym stay) inv.arrivals);
+            arrivals = subst (λ (p : Pool). All (IsArrival over (signature_by p.scales) number p.entries.items parts) arrivals_now) (sym w.pool-is)
+                (subst (All (IsArrival over (signature_by was.scales) number pool parts)) (sym stay) inv.arrivals);
             upper = subst (λ l. KeepsUpper over c.args.cut number parts l (map (arrived now.entries.items) arrivals_now)) (sym longer)
                 (subst (KeepsUpper over c.args.cut number parts (take i entries ++ e ∷ [])) (sym all)
                 (drops_one (take i entries) kept inv.upper e (start, w.if-start-cut.false, subst (λ l. start ≤ length l) at within, subst (λ l. IsBehind over l start e) at behind)));
@@ -66,7 +66,7 @@ pub returns-clause-arrivals : goal.returns-clause-arrivals
 returns-clause-arrivals g c =
     let inv = c.loop-entry.invariant in
     let over = entry_order (g.D.Dominance.order c.args.dominance.now) in
-    let number = part_of c.args.columns.now in
+    let number = partition_of c.args.columns.now in
     let now = c.loop-entry.pool in
     let one = arrived now.entries.items in
     let kept = c.loop-entry.arrivals.items in
@@ -75,8 +75,8 @@ returns-clause-arrivals g c =
     let same = sym (parts_grown c.args.pool.now now inv.grown c.args.parts.now c.requires.items) in
     let whole = take_all c.loop-entry.entry-index c.args.entries.now c.loop-entry-test.false in
     record {
-      are = subst (λ parts. All (IsArrival over (signature_by now.cuts) number now.entries.items parts) moved) same
-          (All-permutation (IsArrival over (signature_by now.cuts) number now.entries.items (parts_at c.args.pool.now.entries.items c.args.parts.now)) kept moved permuted inv.arrivals);
+      are = subst (λ parts. All (IsArrival over (signature_by now.scales) number now.entries.items parts) moved) same
+          (All-permutation (IsArrival over (signature_by now.scales) number now.entries.items (parts_at c.args.pool.now.entries.items c.args.parts.now)) kept moved permuted inv.arrivals);
       upper = subst (λ parts. KeepsUpper over c.args.cut number parts c.args.entries.now (map one moved)) same
           (subst (λ l. KeepsUpper over c.args.cut number (parts_at c.args.pool.now.entries.items c.args.parts.now) l (map one moved)) whole
           (keeps_moved (take c.loop-entry.entry-index c.args.entries.now) (map one kept) inv.upper (map one moved) (IsPermutation-map one kept moved permuted)));

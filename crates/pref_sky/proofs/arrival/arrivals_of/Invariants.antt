@@ -1,4 +1,4 @@
-use Rattle.pref_sky.proofs.Common.{map, take, All, IsArrival, KeepsUpper, arrived, HasGrown, parts_at, entry_order, part_of, signature_by}
+use Rattle.pref_sky.proofs.Common.{map, take, All, IsArrival, KeepsUpper, arrived, HasGrown, parts_at, entry_order, partition_of, signature_by}
 use Rattle.pref_sky.proofs.arrival.arrivals_of.Given as goal
 
 abbrev pub invariant-loop-entry : goal.invariant-loop-entry
@@ -7,6 +7,6 @@ invariant-loop-entry g l =
     let parts = parts_at l.initial.pool.entries.items l.parts in
     record {
       grown : HasGrown l.initial.pool l.pool;
-      arrivals : All (IsArrival over (signature_by l.pool.cuts) (part_of l.columns) l.pool.entries.items parts) l.arrivals.items;
-      upper : KeepsUpper over l.cut (part_of l.columns) parts (take l.entry-index l.entries) (map (arrived l.pool.entries.items) l.arrivals.items);
+      arrivals : All (IsArrival over (signature_by l.pool.scales) (partition_of l.columns) l.pool.entries.items parts) l.arrivals.items;
+      upper : KeepsUpper over l.cut (partition_of l.columns) parts (take l.entry-index l.entries) (map (arrived l.pool.entries.items) l.arrivals.items);
     }

@@ -1,5 +1,5 @@
 use Rattle.pref_sky.proofs.Common.{◌≡◌, ◌+◌, ◌-◌, ◌/◌, ℕ, true, length, subst, arith, is_beaten, entries_at, entry_order}
-use Rattle.pref_sky.proofs.Pools.{behind_level}
+use Rattle.pref_sky.proofs.PoolLaws.{behind_level}
 use Rattle.pref_sky.proofs.arrival.start_of.Goals as goal
 
 pub returns-then-dominates-clause-behind : goal.returns-then-dominates-clause-behind

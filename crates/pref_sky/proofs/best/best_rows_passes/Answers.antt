@@ -1,18 +1,18 @@
 use Rattle.pref_sky.proofs.Common.{rules, ◌≡◌, ◌==◌, ◌++◌, [], ◌∷◌, get_or, take, take_all, sym, ◌∙◌, ap, subst, arith, get_or_default, map-append, take_more, IsNonDecreasingBy-from_sort_by_key}
 use Rattle.pref_sky.proofs.Common.{Entry, Item, best, AreItems, entries_at, entry_at, HaveDifferentIds, entry_order, Parted, signature_by}
 use Rattle.pref_sky.proofs.Merges.{different_best}
-use Rattle.pref_sky.proofs.Orders.{same_in_order, sorted_is}
-use Rattle.pref_sky.proofs.Parting.{best_are}
+use Rattle.pref_sky.proofs.IdOrder.{same_in_order, sorted_is}
+use Rattle.pref_sky.proofs.PartedLaws.{best_are}
 use Rattle.pref_sky.proofs.best.best_rows_passes.Given.{Over}
 use Rattle.pref_sky.proofs.best.best_rows_passes.Goals.{After-deref-item-items}
-use Rattle.pref_sky.proofs.Items.{entries_parted, parted_items, suit_tells}
+use Rattle.pref_sky.proofs.ItemsLaws.{entries_parted, parted_items, suit_tells}
 use Rattle.pref_sky.proofs.best.best_rows_passes.Goals as goal
 
 -- the best items are some of the entries
-best_are_items : (g : Over) (c : After-deref-item-items g) → AreItems (signature_by c.in_ok-cuts.cuts) c.args.entries.now c.deref-item-items.result.now
+best_are_items : (g : Over) (c : After-deref-item-items g) → AreItems (signature_by c.in_ok-scales.scales) c.args.entries.now c.deref-item-items.result.now
 best_are_items g c =
     let entries = c.args.entries.now in
-    let rule = signature_by c.in_ok-cuts.cuts in
+    let rule = signature_by c.in_ok-scales.scales in
     let found = c.in_ok-found.found in
     let made : AreItems rule entries c.deref.result.now = subst (AreItems rule entries) (sym c.deref.ensures.value) (c.in_ok-items.ensures {u = tt}).items in
     subst (AreItems rule entries) (sym c.deref-item-items.ensures.value)
@@ -45,8 +45,8 @@ pub returns-clause-best : goal.returns-clause-best
 returns-clause-best g c =
     let order = g.D.Dominance.order c.args.dominance.now in
     let over = entry_order order in
-    let cuts = c.in_ok-cuts.cuts in
-    let rule = signature_by cuts in
+    let scales = c.in_ok-scales.scales in
+    let rule = signature_by scales in
     let all = c.args.entries.now in
     let items = c.deref.result.now in
     let top = c.in_ok-found.found.best.items in
@@ -56,11 +56,11 @@ returns-clause-best g c =
     let are : AreItems rule all items = subst (AreItems rule all) (sym c.deref.ensures.value) made.items in
     let parted : Parted over [] all (entries_at all top) (entries_at all others) =
     subst (λ l. Parted over [] l (entries_at all top) (entries_at all others)) whole
-    (entries_parted order rule all [] items top others (suit_tells order cuts (c.in_ok-cuts.ensures {u = tt})) are (c.in_ok-found.ensures {u = tt}).parted) in
+    (entries_parted order rule all [] items top others (suit_tells order scales (c.in_ok-scales.ensures {u = tt})) are (c.in_ok-found.ensures {u = tt}).parted) in
     let found = c.loop-item.best.items in
     let copied : found ≡ entries_at all top =
     c.loop-item.invariant ∙ ap (entries_at all) (take_all c.loop-item.item-index c.deref-item-items.result.now c.loop-item-test.false ∙ c.deref-item-items.ensures.value) in
-    let told : Parted over [] all found (entries_at all others) = subst (λ l. Parted over [] all l (entries_at all others)) (sym copied) parted in
-    let differ : HaveDifferentIds found = record { once = λ id. omega (arith, told.bag (λ (e : Entry). e.id == id), c.requires.ids.once id) } in
+    let decided : Parted over [] all found (entries_at all others) = subst (λ l. Parted over [] all l (entries_at all others)) (sym copied) parted in
+    let differ : HaveDifferentIds found = record { once = λ id. omega (arith, decided.bag (λ (e : Entry). e.id == id), c.requires.ids.once id) } in
     let sorted = IsNonDecreasingBy-from_sort_by_key (λ (e : Entry). e.id) _ c.sort_unstable_by_key.ensures.sorted (λ a r q k. search rules) in
-    sorted_is found _ c.sort_unstable_by_key.ensures.permutation sorted differ ∙ same_in_order found (best over all) differ (different_best over all 0 c.requires.ids) (best_are over [] all found (entries_at all others) told (λ x y mx my. absurd mx))
+    sorted_is found _ c.sort_unstable_by_key.ensures.permutation sorted differ ∙ same_in_order found (best over all) differ (different_best over all 0 c.requires.ids) (best_are over [] all found (entries_at all others) decided (λ x y mx my. absurd mx))

@@ -1,6 +1,6 @@
 use Rattle.pref_sky.proofs.Common.{◌≡◌, ◌≤◌, ◌<◌, ◌⊎◌, inl, inr, ◌++◌, map, get_or, length, drop, vec_len, sym, ◌∙◌, ap, subst, arith, both_ways, eqb-true, All, Arrival, AreAllItems, item_order}
 use Rattle.pref_sky.proofs.Common.{items_at, entry_order, Parted, signature_by}
-use Rattle.pref_sky.proofs.Members.{among_place}
+use Rattle.pref_sky.proofs.MembersLaws.{among_place}
 use Rattle.pref_sky.proofs.Merges.{entry_order_is_strict}
 use Rattle.pref_sky.proofs.MadeItems.{MakingItems, first_inside, first_starts, making_items_begin, making_items_end, making_items_more}
 use Rattle.pref_sky.proofs.making.made_of.Goals.{then-each_level-test+else-not-is_empty, then-is_empty, else-is_empty, else-each_level-test}
@@ -10,7 +10,7 @@ pub each_level-init : goal.each_level-init
 each_level-init g c =
     let order = g.D.Dominance.order c.args.dominance.now in
     let strict = entry_order_is_strict order (g.met.D.Dominance.laws c.args.dominance.now) in
-    let cuts = c.args.pool.now.cuts in
+    let scales = c.args.pool.now.scales in
     let pool = c.args.pool.now.entries.items in
     let arrivals = c.args.arrivals.now in
     let levels = c.args.levels.now in
@@ -18,18 +18,18 @@ each_level-init g c =
     let first : Arrival = get_or arrivals 0 none in
     let made = c.in_ok-made.made in
     let long : length made.items ≡ first.start = c.in_ok-made.ensures.long in
-    let are : AreAllItems (signature_by cuts) pool made.items = c.in_ok-made.ensures.items (signature_by cuts) pool in
+    let are : AreAllItems (signature_by scales) pool made.items = c.in_ok-made.ensures.items (signature_by scales) pool in
     record {
-      so_far = subst (λ l. MakingItems order cuts pool c.args.cut first.start levels arrivals made.items l arrivals) (sym c.new-down.ensures.items)
-          (making_items_begin order strict cuts pool c.args.cut first.start levels arrivals c.requires.start (first_starts arrivals none c.requires.some c.requires.in_order) c.requires.in_order made.items long are first (among_place arrivals 0 none c.requires.some));
-      no_deeper = omega (arith, long, made.ok.0, first_inside (entry_order order) (signature_by cuts) pool levels arrivals none c.requires.some c.requires.start);
+      so_far = subst (λ l. MakingItems order scales pool c.args.cut first.start levels arrivals made.items l arrivals) (sym c.new-down.ensures.items)
+          (making_items_begin order strict scales pool c.args.cut first.start levels arrivals c.requires.start (first_starts arrivals none c.requires.some c.requires.in_order) c.requires.in_order made.items long are first (among_place arrivals 0 none c.requires.some));
+      no_deeper = omega (arith, long, made.ok.0, first_inside (entry_order order) (signature_by scales) pool levels arrivals none c.requires.some c.requires.start);
     }
 
 pub each_level-preserved : goal.each_level-preserved
 each_level-preserved g c =
     let order = g.D.Dominance.order c.args.dominance.now in
     let strict = entry_order_is_strict order (g.met.D.Dominance.laws c.args.dominance.now) in
-    let cuts = c.args.pool.now.cuts in
+    let scales = c.args.pool.now.scales in
     let pool = c.args.pool.now.entries.items in
     let arrivals = c.args.arrivals.now in
     let levels = c.args.levels.now in
@@ -52,11 +52,11 @@ each_level-preserved g c =
     subst (λ l. Parted (item_order order pool) l now top.items down) held_is
     (subst (λ l. Parted (item_order order pool) c.level_at-held.result.now l top.items down) c.deref-in-each_level.ensures.value
     (subst (λ l. Parted (item_order order l) c.level_at-held.result.now c.deref-in-each_level.result.now top.items down) c.deref.ensures.value c.in_ok-found.ensures.parted)) in
-    let after = making_items_more order strict cuts pool c.args.cut first.start levels arrivals c.requires.start (first_starts arrivals none c.requires.some c.requires.in_order) c.requires.suit c.requires.items
+    let after = making_items_more order strict scales pool c.args.cut first.start levels arrivals c.requires.start (first_starts arrivals none c.requires.some c.requires.in_order) c.requires.suit c.requires.items
     made c.each_level.down.items now down rest count top below later pushed parted inv.so_far in
     record {
-      so_far = subst (λ l. MakingItems order cuts pool c.args.cut first.start levels arrivals c.push.new.self.items down l) (sym c.split_at.ensures.back)
-          (subst (λ l. MakingItems order cuts pool c.args.cut first.start levels arrivals l down (drop count rest)) (sym (c.in_ok-push.ensures {u = tt}).items) after);
+      so_far = subst (λ l. MakingItems order scales pool c.args.cut first.start levels arrivals c.push.new.self.items down l) (sym c.split_at.ensures.back)
+          (subst (λ l. MakingItems order scales pool c.args.cut first.start levels arrivals l down (drop count rest)) (sym (c.in_ok-push.ensures {u = tt}).items) after);
       no_deeper = omega (arith, below, (c.in_ok-push.ensures {u = tt}).len, c.each_level.made.ok.0);
     }
 
@@ -64,7 +64,7 @@ pub returns-clause-made : goal.returns-clause-made
 returns-clause-made g c =
     let order = g.D.Dominance.order c.args.dominance.now in
     let strict = entry_order_is_strict order (g.met.D.Dominance.laws c.args.dominance.now) in
-    let cuts = c.args.pool.now.cuts in
+    let scales = c.args.pool.now.scales in
     let pool = c.args.pool.now.entries.items in
     let arrivals = c.args.arrivals.now in
     let levels = c.args.levels.now in
@@ -84,10 +84,10 @@ returns-clause-made g c =
       ]
       | else-each_level-test w ↦ inl (omega (arith, w.each_level-test.false, c.len.ensures, made.ok.0))
     ] in
-    let inside = first_inside (entry_order order) (signature_by cuts) pool levels arrivals none c.requires.some c.requires.start in
+    let inside = first_inside (entry_order order) (signature_by scales) pool levels arrivals none c.requires.some c.requires.start in
     record {
       fits = record { first = c.each_level.invariant.so_far.from; inside = inside };
       no_deeper = omega (arith, made.ok.0, c.each_level.invariant.no_deeper);
       items = c.each_level.invariant.so_far.made_items;
-      made = making_items_end order strict cuts pool c.args.cut first.start levels arrivals c.requires.start (first_starts arrivals none c.requires.some c.requires.in_order) made.items down.items rest ended c.each_level.invariant.so_far;
+      made = making_items_end order strict scales pool c.args.cut first.start levels arrivals c.requires.start (first_starts arrivals none c.requires.some c.requires.in_order) made.items down.items rest ended c.each_level.invariant.so_far;
     }

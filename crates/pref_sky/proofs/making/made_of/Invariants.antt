@@ -5,7 +5,7 @@ use Rattle.pref_sky.proofs.making.made_of.Given as goal
 abbrev pub invariant-each_level : goal.invariant-each_level
 invariant-each_level g l =
     record {
-      so_far : MakingItems (g.D.Dominance.order l.dominance) l.pool.cuts l.pool.entries.items l.cut l.first l.levels l.fn.arrivals l.made.items l.down.items l.rest;
+      so_far : MakingItems (g.D.Dominance.order l.dominance) l.pool.scales l.pool.entries.items l.cut l.first l.levels l.fn.arrivals l.made.items l.down.items l.rest;
       no_deeper : vec_len l.made ≤ max l.cut (length l.levels);
     }
 

@@ -1,5 +1,5 @@
 use Rattle.pref_sky.proofs.Common.{rules, ◌≡◌, true, false, IsPartitionPoint, IsPartitionPoint-from_clause, comes_before, Entry}
-use Rattle.pref_sky.proofs.ChainOrders.{before_is_chain}
+use Rattle.pref_sky.proofs.ChainOrdersLaws.{before_is_chain}
 use Rattle.pref_sky.proofs.MergedLists.{fails_behind, parted_by_entry, passes_before}
 use Rattle.pref_sky.proofs.merging.count_before.Goals as goal
 

@@ -1,6 +1,6 @@
 use Rattle.pref_sky.proofs.Common.{◌≡◌, ◌∙◌, ◌++◌, ◌+◌, [], ◌∷◌, true, false, not, take, drop, sym, ap, subst, append_assoc, take-append-drop, IsPermutation, drop_more, Entry, AreInOrder}
 use Rattle.pref_sky.proofs.Common.{comes_before, Among}
-use Rattle.pref_sky.proofs.ChainOrders.{before_is_chain}
+use Rattle.pref_sky.proofs.ChainOrdersLaws.{before_is_chain}
 use Rattle.pref_sky.proofs.Loops.{front_more}
 use Rattle.pref_sky.proofs.MergedLists.{below_later, in_order_back, merged_more, moved_more}
 use Rattle.pref_sky.proofs.merging.merge.Goals as goal

@@ -1,7 +1,7 @@
 use Rattle.pref_sky.proofs.Common.{◌≡◌, ◌∙◌, ◌<◌, [], ◌++◌, length, sym, ap, subst, arith, length-append, vec_len, eqb-true, eqb-false, item_order, Parted, Passes, Passing}
-use Rattle.pref_sky.proofs.Items.{item_order_is_strict}
+use Rattle.pref_sky.proofs.ItemsLaws.{item_order_is_strict}
 use Rattle.pref_sky.proofs.Merges.{entry_order_is_strict}
-use Rattle.pref_sky.proofs.PassSteps.{more_settled, of_same_lists, parted_held, pass_ends, pass_long, passes_begin, passes_end}
+use Rattle.pref_sky.proofs.PassesLaws.{more_settled, of_same_lists, parted_held, pass_ends, pass_long, passes_begin, passes_end}
 use Rattle.pref_sky.proofs.passes.best_and_rest.Goals as goal
 
 -- nothing comes
@@ -58,10 +58,10 @@ each_pass-preserved g c =
     let some : 0 < length left = omega (arith, eqb-false (vec_len c.each_pass.input) 0 (sym c.is_empty-in-each_pass.ensures ∙ c.each_pass-test.true), c.each_pass.input.ok.0) in
     let more = more_settled over held room all best inv.before end.early.items end.late.items end.overflow.items end.rest.items (omega (arith, inv.unsettled, some)) passed in
     let s = c.in_ok-input-2.ensures in
-    let now = c.settle.new.pass in
-    let next : Passes over held room all c.settle.new.best.items c.in_ok-input-2.input.items (length end.rest.items) now =
+    let now = c.end_pass.new.pass in
+    let next : Passes over held room all c.end_pass.new.best.items c.in_ok-input-2.input.items (length end.rest.items) now =
     of_same_lists (λ best left. Passing over held room all best left (length end.rest.items)) (best ++ end.early.items) end.overflow.items end.late.items [] [] end.rest.items
-    c.settle.new.best.items c.in_ok-input-2.input.items now.early.items now.late.items now.overflow.items now.rest.items s.best s.next s.early s.late s.overflow s.rest
+    c.end_pass.new.best.items c.in_ok-input-2.input.items now.early.items now.late.items now.overflow.items now.rest.items s.best s.next s.early s.late s.overflow s.rest
     (pass_ends over held room all best inv.before end.early.items end.late.items end.overflow.items end.rest.items strict wide passed) in
     let rest = ap length s.rest in
     let found = ap length s.best in
@@ -74,7 +74,7 @@ each_pass-preserved g c =
       settled = omega (arith, rest);
       count = omega (arith, more, found, length-append best end.early.items, inv.count);
       begins = λ h. absurd (omega (arith, h));
-      unsettled = omega (arith, pass_long over held room all c.settle.new.best.items (length end.rest.items) c.in_ok-input-2.input.items now.early.items now.late.items now.overflow.items now.rest.items next, rest);
+      unsettled = omega (arith, pass_long over held room all c.end_pass.new.best.items (length end.rest.items) c.in_ok-input-2.input.items now.early.items now.late.items now.overflow.items now.rest.items next, rest);
     }
 
 pub each_pass-smaller : goal.each_pass-smaller

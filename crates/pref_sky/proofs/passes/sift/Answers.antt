@@ -1,9 +1,9 @@
 use Rattle.pref_sky.proofs.Common.{◌≡◌, ◌∙◌, ◌<◌, ◌+◌, ◌/◌, true, length, sym, ap, subst, arith, vec_len, Vec, Global, swap_remove, get_or_default, IsPermutation-swap, is_better, is_worse, is_same}
 use Rattle.pref_sky.proofs.Common.{Item, item_order, Among, Sifted}
 use Rattle.pref_sky.proofs.Bags.{among_if, is_item, some_of}
-use Rattle.pref_sky.proofs.Members.{among_place, any_from}
-use Rattle.pref_sky.proofs.Orders.{same_if_permuted}
-use Rattle.pref_sky.proofs.Sifting.{AreClear, AreTold, clear_if_alike, clear_after_move, clear_by_place, clear_more, clear_upto, sifted_more, sifted_moved, sifted_none}
+use Rattle.pref_sky.proofs.MembersLaws.{among_place, any_from}
+use Rattle.pref_sky.proofs.IdOrder.{same_if_permuted}
+use Rattle.pref_sky.proofs.SiftedLaws.{AreClear, AreDecided, clear_if_alike, clear_after_move, clear_by_place, clear_more, clear_upto, sifted_more, sifted_moved, sifted_none}
 use Rattle.pref_sky.proofs.passes.sift.Goals.{in-Worse+in_ok-push-in-Worse, in-Neither}
 use Rattle.pref_sky.proofs.passes.sift.Goals as goal
 
@@ -45,11 +45,11 @@ each-init g c =
     let item = c.args.item.now in
     let held = c.args.held.now.items in
     let place = c.next_open-place.result in
-    let told : AreTold held item 0 place = subst (λ l. AreTold l item 0 place) c.deref.ensures.value c.next_open-place.ensures.told in
+    let decided : AreDecided held item 0 place = subst (λ l. AreDecided l item 0 place) c.deref.ensures.value c.next_open-place.ensures.decided in
     record {
       inside = omega (arith, c.next_open-place.ensures.within.1, ap length c.deref.ensures.value);
       sifted = sifted_none (item_order order pool) item held c.args.rest.now.items;
-      clear = clear_upto order pool held item 0 place (λ k d within. absurd (omega (arith, within))) told;
+      clear = clear_upto order pool held item 0 place (λ k d within. absurd (omega (arith, within))) decided;
     }
 
 -- one goes out, which the item dominates, or the item is clear of one more
@@ -87,11 +87,11 @@ each-preserved g c =
           )
     ] in
     let next = c.next_open-place-in-each.result in
-    let told : AreTold met.held.items item met.place next = subst (λ l. AreTold l item met.place next) c.deref-in-each.ensures.value c.next_open-place-in-each.ensures.told in
+    let decided : AreDecided met.held.items item met.place next = subst (λ l. AreDecided l item met.place next) c.deref-in-each.ensures.value c.next_open-place-in-each.ensures.decided in
     record {
       inside = omega (arith, c.next_open-place-in-each.ensures.within.1, ap length c.deref-in-each.ensures.value);
       sifted = step.0;
-      clear = clear_upto order pool met.held.items item met.place next step.1 told;
+      clear = clear_upto order pool met.held.items item met.place next step.1 decided;
     }
 
 pub returns : goal.returns

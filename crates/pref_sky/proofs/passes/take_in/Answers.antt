@@ -1,5 +1,5 @@
 use Rattle.pref_sky.proofs.Common.{◌≡◌, ◌<◌, ◌≤◌, ◌+◌, length, refl, sym, ◌∙◌, subst, arith, vec_len, inl, inr, eqb-true, eqb-false, Passing}
-use Rattle.pref_sky.proofs.PassSteps.{pass_joined, pass_overflows}
+use Rattle.pref_sky.proofs.PassesLaws.{pass_joined, pass_overflows}
 use Rattle.pref_sky.proofs.passes.take_in.Goals as goal
 
 -- the window is full

@@ -1,6 +1,6 @@
 use Rattle.pref_sky.proofs.Common.{◌≡◌, ◌∙◌, ◌<◌, ◌+◌, ◌∷◌, ◌++◌, [], get_or, length, take, sym, ap, subst, arith, get_or_default, All-push, Entry, Item, AreItems, IsItem, entries_at, entry_at}
 use Rattle.pref_sky.proofs.Common.{signature_by}
-use Rattle.pref_sky.proofs.Pools.{entries_grown, entry_behind, grown_none, grown_then, items_grown, result_more}
+use Rattle.pref_sky.proofs.PoolLaws.{entries_grown, entry_behind, grown_none, grown_then, items_grown, result_more}
 use Rattle.pref_sky.proofs.pool.take_items.Goals as goal
 
 pub loop-item-init : goal.loop-item-init
@@ -35,6 +35,6 @@ loop-item-preserved c =
     (get_or_default items i none x inside) (entries_grown pool now grown done inv.items) inv.entries (here ∙ at) in
     record {
       grown = grown_then c.args.pool.now pool inv.grown now grown;
-      items = subst (AreItems (signature_by now.cuts) now.entries.items) (sym kept) (All-push (IsItem (signature_by now.cuts) now.entries.items) done next (items_grown pool now grown done inv.items) put.1);
+      items = subst (AreItems (signature_by now.scales) now.entries.items) (sym kept) (All-push (IsItem (signature_by now.scales) now.entries.items) done next (items_grown pool now grown done inv.items) put.1);
       entries = ap (entries_at now.entries.items) kept ∙ same;
     }

@@ -5,6 +5,6 @@ abbrev pub invariant-loop-item : goal.invariant-loop-item
 invariant-loop-item l =
     record {
       grown : HasGrown l.initial.pool l.pool;
-      items : AreItems (signature_by l.pool.cuts) l.pool.entries.items l.taken.items;
+      items : AreItems (signature_by l.pool.scales) l.pool.entries.items l.taken.items;
       entries : entries_at l.pool.entries.items l.taken.items ≡ entries_at l.entries (take l.item-index l.items);
     }

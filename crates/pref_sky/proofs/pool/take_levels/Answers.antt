@@ -1,5 +1,5 @@
 use Rattle.pref_sky.proofs.Common.{◌≡◌, ◌∙◌, ◌+◌, ◌∷◌, ◌++◌, [], Vec, length, take, sym, ap, subst, arith, All-push, Global, Item, AreAllItems, AreItems, entries_at, levels_at, signature_by}
-use Rattle.pref_sky.proofs.Pools.{all_items_grown, grown_none, grown_then, levels_grown, result_more}
+use Rattle.pref_sky.proofs.PoolLaws.{all_items_grown, grown_none, grown_then, levels_grown, result_more}
 use Rattle.pref_sky.proofs.pool.take_levels.Goals as goal
 
 pub take_items-requires : goal.take_items-requires
@@ -34,6 +34,6 @@ loop-level-preserved c =
     (levels_grown pool now grown done inv.items) inv.entries (taken.1 ∙ ap (entries_at entries) c.deref.ensures.value) in
     record {
       grown = grown_then c.args.pool.now pool inv.grown now grown;
-      items = subst (AreAllItems (signature_by now.cuts) now.entries.items) (sym kept) (All-push (λ (v : Vec Item Global). AreItems (signature_by now.cuts) now.entries.items v.items) done next (all_items_grown pool now grown done inv.items) taken.0);
+      items = subst (AreAllItems (signature_by now.scales) now.entries.items) (sym kept) (All-push (λ (v : Vec Item Global). AreItems (signature_by now.scales) now.entries.items v.items) done next (all_items_grown pool now grown done inv.items) taken.0);
       entries = ap (levels_at now.entries.items) kept ∙ same;
     }

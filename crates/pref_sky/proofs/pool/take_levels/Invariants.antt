@@ -5,6 +5,6 @@ abbrev pub invariant-loop-level : goal.invariant-loop-level
 invariant-loop-level l =
     record {
       grown : HasGrown l.initial.pool l.pool;
-      items : AreAllItems (signature_by l.pool.cuts) l.pool.entries.items l.taken.items;
+      items : AreAllItems (signature_by l.pool.scales) l.pool.entries.items l.taken.items;
       entries : levels_at l.pool.entries.items l.taken.items ≡ levels_at l.entries (take l.level-index l.levels);
     }

@@ -1,6 +1,6 @@
 use Rattle.pref_sky.proofs.Common.{◌≡◌, ◌∙◌, ◌+◌, ◌∷◌, ◌++◌, [], Vec, length, length-append, take, sym, ap, subst, arith, All-push, Global, Item, AreInPool, AreAllItems, levels_at, parts_at}
 use Rattle.pref_sky.proofs.Common.{signature_by}
-use Rattle.pref_sky.proofs.Pools.{grown_none, grown_then, in_pool_grown, parts_grown, result_more}
+use Rattle.pref_sky.proofs.PoolLaws.{grown_none, grown_then, in_pool_grown, parts_grown, result_more}
 use Rattle.pref_sky.proofs.pool.take_parts.Goals as goal
 
 pub take_levels-requires : goal.take_levels-requires
@@ -37,6 +37,6 @@ loop-part-preserved c =
     record {
       long = omega (arith, ap length kept, length-append done (next ∷ []), inv.long);
       grown = grown_then c.args.pool.now pool inv.grown now grown;
-      items = subst (AreInPool (signature_by now.cuts) now.entries.items) (sym kept) (All-push (λ (v : Vec (Vec Item Global) Global). AreAllItems (signature_by now.cuts) now.entries.items v.items) done next (in_pool_grown pool now grown done inv.items) taken.0);
+      items = subst (AreInPool (signature_by now.scales) now.entries.items) (sym kept) (All-push (λ (v : Vec (Vec Item Global) Global). AreAllItems (signature_by now.scales) now.entries.items v.items) done next (in_pool_grown pool now grown done inv.items) taken.0);
       entries = ap (parts_at now.entries.items) kept ∙ same;
     }

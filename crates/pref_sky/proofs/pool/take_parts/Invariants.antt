@@ -6,6 +6,6 @@ invariant-loop-part l =
     record {
       long : length l.taken.items ≡ l.part-index;
       grown : HasGrown l.initial.pool l.pool;
-      items : AreInPool (signature_by l.pool.cuts) l.pool.entries.items l.taken.items;
+      items : AreInPool (signature_by l.pool.scales) l.pool.entries.items l.taken.items;
       entries : parts_at l.pool.entries.items l.taken.items ≡ parts_at l.entries (take l.part-index l.parts);
     }

@@ -5,5 +5,5 @@ abbrev pub invariant-loop-place : goal.invariant-loop-place
 invariant-loop-place l =
     record {
       entries : entries_at l.entries l.items.items ≡ take l.place l.entries;
-      items : AreItems (signature_by l.cuts) l.entries l.items.items;
+      items : AreItems (signature_by l.scales) l.entries l.items.items;
     }

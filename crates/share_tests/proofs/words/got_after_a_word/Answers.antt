@@ -4,7 +4,7 @@ use Rattle.std.proofs.Crossing.{frees}
 use Rattle.std.proofs.alloc.Global.TheSendSync as heap
 use Rattle.pref_table.proofs.row.Row.TheSendSync as rows
 use Rattle.pref_share.proofs.board.Board.TheSendSync as boards
-use Rattle.pref_share.proofs.Sending.{client_send}
+use Rattle.pref_share.proofs.SendLaws.{client_send}
 use Rattle.share_tests.proofs.words.got_after_a_word.Goals as goal
 
 pub join-word-requires-send-F : goal.join-word-requires-send-F

@@ -2,7 +2,7 @@ use Rattle.std.proofs.Common.{sym, subst}
 use Rattle.pref_core.specs.State.{opening_table}
 use Rattle.pref_core.specs.Slots.{Shows}
 use Rattle.pref_core.specs.Scans.{NextIsNew, begin}
-use Rattle.pref_core.proofs.Following.{begun_on_its_way, next_is_new_on_its_way}
+use Rattle.pref_core.proofs.QueryLaws.{begun_on_its_way, next_is_new_on_its_way}
 use Rattle.core_tests.proofs.engine.refusals.a_query_is_scanned_and_answered_again_after_a_refusal.Goals as goal
 
 pub scan_and_answer-requires : goal.scan_and_answer-requires

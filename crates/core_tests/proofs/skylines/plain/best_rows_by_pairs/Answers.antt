@@ -4,7 +4,7 @@ use Rattle.std.proofs.lemmas.Grind.{common_steps}
 use Rattle.pref_sky.specs.declared.entry.Entry.{Entry}
 use Rattle.pref_sky.specs.Best.{best, is_beaten}
 use Rattle.pref_sky.specs.Levels.{entry_order, in_order_of_id, HaveDifferentIds}
-use Rattle.pref_sky.proofs.Orders.{sorted_is}
+use Rattle.pref_sky.proofs.IdOrder.{sorted_is}
 use Rattle.pref_sky.proofs.Merges.{different_filter}
 use Rattle.core_tests.proofs.skylines.plain.best_rows_by_pairs.Goals as goal
 

@@ -1,5 +1,5 @@
 use Rattle.pref_core.proofs.Common.{ap, ◌∙◌, nat_lt, changes_of}
-use Rattle.pref_core.proofs.Counts.{begins_some}
+use Rattle.pref_core.proofs.ChangeCounts.{begins_some}
 use Rattle.pref_core.proofs.call.LentCall.begins_row.Goals as goal
 
 pub returns : goal.returns

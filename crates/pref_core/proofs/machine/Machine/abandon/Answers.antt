@@ -1,7 +1,7 @@
 use Rattle.pref_core.proofs.Common.{◌≡◌, Ok, Err, None, length, arith, refl, sym, subst, ◌∙◌, ap, with_items, with_items_is, with_seat, Does, IsPlan, op_of, Abandon, ActAbandon, Abandoned}
-use Rattle.pref_core.proofs.Legal.{plan_itself}
-use Rattle.pref_core.proofs.Steps.{PlansAlways, running_of}
-use Rattle.pref_core.proofs.Doing.{abandon_does, abandon_not, in_order_quiet}
+use Rattle.pref_core.proofs.LegalLaws.{plan_itself}
+use Rattle.pref_core.proofs.ChangeReplies.{PlansAlways, running_of}
+use Rattle.pref_core.proofs.MachineActs.{abandon_does, abandon_not, in_order_quiet}
 use Rattle.pref_core.proofs.machine.Machine.abandon.Goals as goal
 
 pub returns-in-Err : goal.returns-in-Err

@@ -1,7 +1,7 @@
 use Rattle.pref_core.proofs.Common.{◌≡◌, Ok, Some, length, arith, refl, sym, subst, ◌∙◌, with_items, with_items_is, with_seat, Begin, ActBegin, Begun, blocks, IsPlan, Running, Does, op_of}
-use Rattle.pref_core.proofs.Legal.{plan_itself}
-use Rattle.pref_core.proofs.Steps.{running_of}
-use Rattle.pref_core.proofs.Doing.{begin_does, in_order_quiet}
+use Rattle.pref_core.proofs.LegalLaws.{plan_itself}
+use Rattle.pref_core.proofs.ChangeReplies.{running_of}
+use Rattle.pref_core.proofs.MachineActs.{begin_does, in_order_quiet}
 use Rattle.pref_core.proofs.machine.Machine.begin_planned.Goals as goal
 
 pub invariant_of-self : goal.invariant_of-self

@@ -1,8 +1,8 @@
 use Rattle.pref_core.proofs.Common.{◌≡◌, nat_lt, true, Err, refl, sym, subst, rules, OutOfMemory, IsIndexOf, op_of, added, Abandoned, as_reply, Changes}
-use Rattle.pref_core.proofs.Steps.{running_of}
-use Rattle.pref_core.proofs.Legal.{plan_itself}
-use Rattle.pref_core.proofs.Doing.{change_done, change_not, change_unmade, in_order_changed}
-use Rattle.pref_core.proofs.Reindexing.{adds_planned}
+use Rattle.pref_core.proofs.ChangeReplies.{running_of}
+use Rattle.pref_core.proofs.LegalLaws.{plan_itself}
+use Rattle.pref_core.proofs.MachineActs.{change_done, change_not, change_unmade, in_order_changed}
+use Rattle.pref_core.proofs.IndexLaws.{adds_planned}
 use Rattle.pref_core.proofs.machine.Machine.change.Goals as goal
 
 pub returns-in-Err : goal.returns-in-Err
@@ -32,8 +32,8 @@ returns c done quiet =
     let old = running_of c.self.inside.store c.self.inside.setup c.self.inside.queries.items in
     let new = running_of c.perform.new.self c.self.inside.setup c.self.inside.queries.items in
     let base = change_done old c.args.client c.args.call.now done (op_of c.in-Ok.op) c.perform.new.self c.requires quiet c.in-Ok.ensures.state c.perform.ensures.exact in
-    let told = subst (λ t. Changes old c.args.client c.args.call.now done t new) (sym (c.told.ensures done)) base in
-    subst (λ r. Changes r c.args.client c.args.call.now done (as_reply (λ _. done) c.told.result) new) c.self.view_is told
+    let returned = subst (λ t. Changes old c.args.client c.args.call.now done t new) (sym (c.result_of.ensures done)) base in
+    subst (λ r. Changes r c.args.client c.args.call.now done (as_reply (λ _. done) c.result_of.result) new) c.self.view_is returned
 
 pub invariant_of-self-2 : goal.invariant_of-self-2
 invariant_of-self-2 c =

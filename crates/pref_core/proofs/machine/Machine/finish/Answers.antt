@@ -1,8 +1,8 @@
 use Rattle.pref_core.proofs.Common.{◌≡◌, Ok, Err, None, length, arith, refl, sym, subst, ◌∙◌, ap, rules, with_items, with_items_is, with_seat, seat, Does, as_reply, AnswersAt, IsPlan, op_of, Finish}
 use Rattle.pref_core.proofs.Common.{ActFinish, Answer}
-use Rattle.pref_core.proofs.Legal.{plan_itself}
-use Rattle.pref_core.proofs.Steps.{PlansAlways, running_of}
-use Rattle.pref_core.proofs.Doing.{finish_does, finish_not, finish_early, in_order_quiet}
+use Rattle.pref_core.proofs.LegalLaws.{plan_itself}
+use Rattle.pref_core.proofs.ChangeReplies.{PlansAlways, running_of}
+use Rattle.pref_core.proofs.MachineActs.{finish_does, finish_not, finish_early, in_order_quiet}
 use Rattle.pref_core.proofs.machine.Machine.finish.Goals as goal
 
 pub returns-in-Err : goal.returns-in-Err
@@ -39,8 +39,8 @@ returns c =
     let scans = with_items_is c.self.inside.queries c.set.new.queries long ∙ c.set.ensures ∙ ap (with_seat c.args.client None) c.deref_mut.ensures.value in
     let base = finish_does old c.args.client (op_of c.in-Ok.op) c.perform.new.self c.in_ok-ranked.ranked (subst (λ call. PlansAlways c.self.inside.store c.args.client call (Ok (op_of c.in-Ok.op))) c.finish-call.ensures c.in-Ok.ensures.state) c.perform.ensures.exact says in
     let placed = subst (λ l. Does old c.args.client ActFinish (Ok (Answer c.in_ok-ranked.ranked.items)) (running_of c.perform.new.self c.self.inside.setup l)) (sym scans) base in
-    let told = subst (λ l. Does old c.args.client ActFinish (Ok (Answer l)) (running_of c.perform.new.self c.self.inside.setup (with_items c.self.inside.queries c.set.new.queries).items)) (sym c.of.ensures) placed in
-    subst (λ r. Does r c.args.client ActFinish (Ok (Answer c.of.result)) (running_of c.perform.new.self c.self.inside.setup (with_items c.self.inside.queries c.set.new.queries).items)) c.self.view_is told
+    let returned = subst (λ l. Does old c.args.client ActFinish (Ok (Answer l)) (running_of c.perform.new.self c.self.inside.setup (with_items c.self.inside.queries c.set.new.queries).items)) (sym c.of.ensures) placed in
+    subst (λ r. Does r c.args.client ActFinish (Ok (Answer c.of.result)) (running_of c.perform.new.self c.self.inside.setup (with_items c.self.inside.queries c.set.new.queries).items)) c.self.view_is returned
 
 pub perform-requires : goal.perform-requires
 perform-requires c = plan_itself c.self.inside.store c.args.client c.finish-call.result (op_of c.in-Ok.op) c.in-Ok.ensures.exact

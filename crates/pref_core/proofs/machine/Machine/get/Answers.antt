@@ -1,7 +1,7 @@
 use Rattle.pref_core.proofs.Common.{Some, None, is_some, sym, subst, ◌∙◌, ap, ActGet, seat, Does}
-use Rattle.pref_core.proofs.Steps.{running_of}
-use Rattle.pref_core.proofs.Endings.{told_get}
-use Rattle.pref_core.proofs.Doing.{get_does}
+use Rattle.pref_core.proofs.ChangeReplies.{running_of}
+use Rattle.pref_core.proofs.EndReplies.{told_get}
+use Rattle.pref_core.proofs.MachineActs.{get_does}
 use Rattle.pref_core.proofs.machine.Machine.get.Goals as goal
 
 pub returns-in-Some : goal.returns-in-Some

@@ -1,5 +1,5 @@
 use Rattle.pref_core.proofs.Common.{replicate, None, refl, ap, ◌∙◌, opened}
-use Rattle.pref_core.proofs.Systems.{opened_system}
+use Rattle.pref_core.proofs.SystemsLaws.{opened_system}
 use Rattle.pref_core.proofs.machine.Machine.new.Goals as goal
 
 pub invariant_of-result : goal.invariant_of-result

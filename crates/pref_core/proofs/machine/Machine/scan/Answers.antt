@@ -1,6 +1,6 @@
 use Rattle.pref_core.proofs.Common.{◌≡◌, length, arith, sym, subst, with_items, with_items_is, seat, ActScan, Does, as_reply, ScansAt, NextIsNewAt, Left}
-use Rattle.pref_core.proofs.Steps.{running_of}
-use Rattle.pref_core.proofs.Doing.{scan_does, next_is_new_in_order, in_order_after}
+use Rattle.pref_core.proofs.ChangeReplies.{running_of}
+use Rattle.pref_core.proofs.MachineActs.{scan_does, next_is_new_in_order, in_order_after}
 use Rattle.pref_core.proofs.machine.Machine.scan.Goals as goal
 
 pub scan_at-requires : goal.scan_at-requires

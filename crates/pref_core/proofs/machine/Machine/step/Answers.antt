@@ -1,5 +1,5 @@
 use Rattle.pref_core.proofs.Common.{refl}
-use Rattle.pref_core.proofs.Doing.{steps_does}
+use Rattle.pref_core.proofs.MachineActs.{steps_does}
 use Rattle.pref_core.proofs.machine.Machine.step.Goals as goal
 
 pub returns-in_default : goal.returns-in_default

@@ -1,5 +1,5 @@
 use Rattle.pref_core.proofs.Common.{arith, ◌≡◌, ◌∙◌}
-use Rattle.pref_core.proofs.Places.{next_is_new_there, scans_some, scans_none}
+use Rattle.pref_core.proofs.SeatScans.{next_is_new_there, scans_some, scans_none}
 use Rattle.pref_core.proofs.machine.seats.scan_at.Goals as goal
 
 pub scan-requires : goal.scan-requires

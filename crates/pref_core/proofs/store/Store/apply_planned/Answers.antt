@@ -1,12 +1,12 @@
 use Rattle.pref_core.proofs.Common.{◌≡◌, ◌&&◌, Bool, true, is_some, sym, ap, ◌∙◌, subst, and_from, and_parts, true≢false, Op, Contents, AppliesIn, IsLegal, is_next, applied, slots_after, op_of}
-use Rattle.pref_core.proofs.Ends.{kept_stepped, stepped_is}
-use Rattle.pref_core.proofs.Legal.{applies_in, applied_not, is_next-from}
+use Rattle.pref_core.proofs.UsesAfterQuery.{kept_stepped, stepped_is}
+use Rattle.pref_core.proofs.LegalLaws.{applies_in, applied_not, is_next-from}
 use Rattle.pref_core.proofs.store.Store.apply_planned.Goals.{After-step, Else-is_legal}
 use Rattle.pref_core.proofs.store.Store.apply_planned.Goals as goal
 
 -- an op that is found legal by the contents that the store shows is so by those inside
 legal : (inside now : Contents) (op : Op) (b : Bool) → inside ≡ now → b ≡ (is_next now op && is_some (slots_after now op)) → b ≡ true → (is_next inside op ≡ true) × (is_some (slots_after inside op) ≡ true)
-legal inside now op b same told holds = and_parts (is_next inside op) (is_some (slots_after inside op)) (ap (λ s. is_next s op && is_some (slots_after s op)) same ∙ sym told ∙ holds)
+legal inside now op b same returned holds = and_parts (is_next inside op) (is_some (slots_after inside op)) (ap (λ s. is_next s op && is_some (slots_after s op)) same ∙ sym returned ∙ holds)
 
 pub step-requires-clause-next : goal.step-requires-clause-next
 step-requires-clause-next c = (legal c.self.inside.contents c.args.self.now (op_of c.args.op.now) c.is_legal.result c.self.view_is c.is_legal.ensures c.if-is_legal.true).0

@@ -1,9 +1,9 @@
 use Rattle.pref_core.proofs.Common.{◌≡◌, ◌+◌, ◌++◌, suc, [], ◌∷◌, true, false, take, drop, sym, ap, ◌∙◌, subst, arith, option_to_list, append-nil, ended_by, IsPlaceOf, IsFreed, frees_at, Contents}
 use Rattle.pref_core.proofs.Common.{begins, visible, changes_of, ended, missing, change_of}
-use Rattle.pref_core.proofs.Bounds.{stamp-small}
-use Rattle.pref_core.proofs.Changing.{ended_so_far, formed_apart, take_all}
-use Rattle.pref_core.proofs.Counts.{ended_first, ended_next, named_at}
-use Rattle.pref_core.proofs.Freeing.{FreesUpTo, frees_one, frees_few, frees_missing, freed_all}
+use Rattle.pref_core.proofs.BoundsLaws.{stamp-small}
+use Rattle.pref_core.proofs.ChangesLaws.{ended_so_far, formed_apart, take_all}
+use Rattle.pref_core.proofs.ChangeCounts.{ended_first, ended_next, named_at}
+use Rattle.pref_core.proofs.FreedLaws.{FreesUpTo, frees_one, frees_few, frees_missing, freed_all}
 use Rattle.pref_core.proofs.store.Store.freed_places.Goals.{in-Some+in-Some-place_of+then-frees, in-Some+in-Some-place_of+else-frees, in_default}
 use Rattle.pref_core.proofs.store.Store.freed_places.Goals as goal
 

@@ -1,5 +1,5 @@
 use Rattle.pref_core.proofs.Common.{take, ended_by, changes_of, ended}
-use Rattle.pref_core.proofs.Freeing.{FreesUpTo}
+use Rattle.pref_core.proofs.FreedLaws.{FreesUpTo}
 use Rattle.pref_core.proofs.store.Store.freed_places.Given as goal
 
 abbrev pub invariant-loop-at : goal.invariant-loop-at

@@ -1,5 +1,5 @@
 use Rattle.pref_core.proofs.Common.{◌∙◌, ap, subst, Contents, IsPlaceOf, row_in}
-use Rattle.pref_core.proofs.Lookups.{row_of_place}
+use Rattle.pref_core.proofs.LineOfLaws.{row_of_place}
 use Rattle.pref_core.proofs.store.Store.get_at.Goals as goal
 
 pub returns : goal.returns

@@ -1,5 +1,5 @@
 use Rattle.pref_core.proofs.Common.{◌&&◌, is_some, sym, ap, ◌∙◌, is_next, slots_after, op_of, Contents}
-use Rattle.pref_core.proofs.AtOnce.{next_fits}
+use Rattle.pref_core.proofs.FitAtOnceLaws.{next_fits}
 use Rattle.pref_core.proofs.store.Store.is_legal.Goals as goal
 
 pub returns-then-fit_at_once : goal.returns-then-fit_at_once

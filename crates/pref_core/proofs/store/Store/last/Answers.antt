@@ -1,6 +1,6 @@
 use Rattle.pref_core.proofs.Common.{◌≡◌, ℕ, Option, Some, None, refl, ap, ◌∙◌, option_map, Caller, Inside, seat, Contents}
 use Rattle.std.specs.Option.{unwrap_or}
-use Rattle.pref_core.proofs.Outcomes.{same_calls}
+use Rattle.pref_core.proofs.OutcomeLaws.{same_calls}
 use Rattle.pref_core.proofs.store.Store.last.Goals as goal
 
 calls_of_one : (o : Option Caller) → option_map (λ (k : Caller). k.calls) o ≡ elim o as (λ x. Option ℕ) [ None ↦ None | Some caller ↦ Some caller.calls ]

@@ -1,5 +1,5 @@
 use Rattle.pref_core.proofs.Common.{op_or_fault}
-use Rattle.pref_core.proofs.Legal.{plans_in}
+use Rattle.pref_core.proofs.LegalLaws.{plans_in}
 use Rattle.pref_core.proofs.store.Store.look_up.Goals as goal
 
 pub returns-clause-state : goal.returns-clause-state

@@ -1,5 +1,5 @@
 use Rattle.pref_core.proofs.Common.{◌≡◌, length, arith, refl, sym, subst, Contents, StandsFor, opening_contents, opening}
-use Rattle.pref_core.proofs.Openings.{opened_stands}
+use Rattle.pref_core.proofs.OpeningLaws.{opened_stands}
 use Rattle.pref_core.proofs.store.Store.new.Goals as goal
 
 pub returns-clause-state : goal.returns-clause-state

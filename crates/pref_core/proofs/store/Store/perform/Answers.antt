@@ -1,6 +1,6 @@
 use Rattle.pref_core.proofs.Common.{◌≡◌, true, sym, ap, ◌∙◌, subst, AppliesIn, is_next, applied, op_of}
-use Rattle.pref_core.proofs.Ends.{kept_stepped, stepped_is}
-use Rattle.pref_core.proofs.Legal.{applies_in}
+use Rattle.pref_core.proofs.UsesAfterQuery.{kept_stepped, stepped_is}
+use Rattle.pref_core.proofs.LegalLaws.{applies_in}
 use Rattle.pref_core.proofs.store.Store.perform.Goals.{After-step}
 use Rattle.pref_core.proofs.store.Store.perform.Goals as goal
 

@@ -1,5 +1,5 @@
 use Rattle.pref_core.proofs.Common.{◌+◌, ◌≤◌, drop, begun_by, changes_of}
-use Rattle.pref_core.proofs.Choosing.{ChosenUpTo}
+use Rattle.pref_core.proofs.ChosenSlots.{ChosenUpTo}
 use Rattle.pref_core.proofs.store.Store.places_for.Given as goal
 
 abbrev pub invariant-loop-at : goal.invariant-loop-at

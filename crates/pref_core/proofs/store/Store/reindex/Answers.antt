@@ -1,5 +1,5 @@
 use Rattle.pref_core.proofs.Common.{◌≡◌, ◌&&◌, Bool, true, false, Result, Ok, Err, OnOk, refl, sym, ◌∙◌, subst, Contents, IsKept, PointsAll, placed_rows, op_of, changes_of, is_change, succeeds, is_next}
-use Rattle.pref_core.proofs.Reindexing.{indexed, indexed_still}
+use Rattle.pref_core.proofs.IndexLaws.{indexed, indexed_still}
 use Rattle.pref_core.proofs.store.Store.reindex.Goals as goal
 
 -- an op that does not succeed makes no change

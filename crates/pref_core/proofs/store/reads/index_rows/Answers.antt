@@ -1,5 +1,5 @@
 use Rattle.pref_core.proofs.Common.{◌+◌, Some, ap, sym, subst, ◌∙◌, arith, slice_get-get_or, slot_of}
-use Rattle.pref_core.proofs.Indexing.{IsPlaceUpTo, place_at_end, place_past, place_put, row_at-hidden, row_at-empty}
+use Rattle.pref_core.proofs.IndexedRows.{IsPlaceUpTo, place_at_end, place_past, place_put, row_at-hidden, row_at-empty}
 use Rattle.pref_core.proofs.store.reads.index_rows.Goals.{in-Some+then-is_visible_at+in_ok-put-in-Some, in-Some+else-is_visible_at, in-None}
 use Rattle.pref_core.proofs.store.reads.index_rows.Goals as goal
 

@@ -1,5 +1,5 @@
 use Rattle.pref_core.proofs.Common.{ℕ, slot_of}
-use Rattle.pref_core.proofs.Indexing.{IsPlaceUpTo}
+use Rattle.pref_core.proofs.IndexedRows.{IsPlaceUpTo}
 use Rattle.pref_core.proofs.store.reads.index_rows.Given as goal
 
 abbrev pub invariant-loop-place : goal.invariant-loop-place

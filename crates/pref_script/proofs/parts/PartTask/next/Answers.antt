@@ -1,6 +1,6 @@
 use Rattle.pref_script.proofs.Common.{◌∙◌, ◌∷◌, ◌+◌, [], ℕ, List, arith, refl, Part}
 use Rattle.std.proofs.Common.{Bor}
-use Rattle.pref_script.proofs.PartFacts.{acts-none, gone-line, gone-nowhere, line-next, told-on}
+use Rattle.pref_script.proofs.PartFacts.{acts-none, gone-line, gone-nowhere, line-next, returned-on}
 use Rattle.pref_script.specs.declared.parts.Found.TheVariants as found
 use Rattle.pref_script.proofs.parts.PartTask.next.Goals as goal
 
@@ -28,10 +28,10 @@ returns-in-Act-clause-next c =
     (λ none. (none, λ same. cc same))).acts
 
 pub returns-in-Act-clause-same : goal.returns-in-Act-clause-same
-returns-in-Act-clause-same c = λ first replies told.
+returns-in-Act-clause-same c = λ first replies returned.
     let now = c.loop-self.self in
     let raw : Bor (List ℕ) = c.index-raw.result.now in
-    told-on first _ _ (c.in-Act.act ∷ []) replies told
+    returned-on first _ _ (c.in-Act.act ∷ []) replies returned
     (gone-line _ now _ raw.now _ (found.Act c.in-Act.act) c.loop-self.invariant (line-next now raw (omega (arith, c.loop-self-test.true, c.len.ensures)) c.index-raw.ensures) c.line_text.ensures (rw c.in-Act.is at c.in_ok-read_line.ensures) refl refl refl
     (λ none. (none, λ same. cc same)))
 
@@ -39,4 +39,4 @@ pub returns-clause-next : goal.returns-clause-next
 returns-clause-next c = c.loop-self.invariant.acts ∙ acts-none c.loop-self.self (omega arith)
 
 pub returns-clause-same : goal.returns-clause-same
-returns-clause-same c = λ first replies told. told-on first _ _ [] replies told c.loop-self.invariant
+returns-clause-same c = λ first replies returned. returned-on first _ _ [] replies returned c.loop-self.invariant

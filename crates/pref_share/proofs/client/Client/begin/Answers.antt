@@ -1,16 +1,16 @@
 use Rattle.pref_share.proofs.Common.{◌≡◌, suc, ◌+◌, Option, Some, sym, subst, ap, ◌∙◌, arith, begin, Asking, Standing, IsJoined, MayJoin, Stands}
 use Rattle.pref_core.specs.declared.call.Call.TheVariants.{Begin}
-use Rattle.pref_share.proofs.Standings.{stands_begun}
+use Rattle.pref_share.proofs.StandingLaws.{stands_begun}
 use Rattle.pref_share.proofs.client.Client.begin.Goals as goal
 
 pub invariant_of-self : goal.invariant_of-self
 invariant_of-self g c =
-    let o = g.J.Naming.opening in
+    let o = g.J.BoardBrand.opening in
     let s = c.self.inside in
     let mine : Standing = record { number = s.number; counter = s.counter; seen = s.seen; query = s.asking } in
     let j = c.in-Ok-Joined in
     let joined : IsJoined o mine Begin j.field-0-1 j.seen j.stamp = subst (λ (x : Standing). IsJoined o x Begin j.field-0-1 j.seen j.stamp) (sym c.self.view_is) (subst (λ call. IsJoined o c.args.self.now call j.field-0-1 j.seen j.stamp) c.begin-2.ensures (subst (MayJoin o c.args.self.now c.begin-2.result) j.field-0-is j.ensures.joins)) in
     let up : s.counter + 1 ≡ suc s.counter = omega arith in
     let scan : c.begin-query.result ≡ begin c.args.ask j.stamp o.limits = c.begin-query.ensures ∙ ap (begin c.args.ask j.stamp) c.self.invariant.1 in
-    let asking : Some (record { scan = c.begin-query.result; begun = c.again-begun.result }) ≡ Some (record { scan = begin c.args.ask j.stamp o.limits; begun = j.seen }) = λ i. Some (record { scan = scan i; begun = c.again-begun.ensures.same i }) in
+    let asking : Some (record { scan = c.begin-query.result; at_begin = c.again-begun.result }) ≡ Some (record { scan = begin c.args.ask j.stamp o.limits; at_begin = j.seen }) = λ i. Some (record { scan = scan i; at_begin = c.again-begun.ensures.same i }) in
     (c.self.invariant.0, c.self.invariant.1, subst (λ (q : Option Asking). Stands o s.number (s.counter + 1) j.seen q) (sym asking) (stands_begun o mine j.field-0-1 j.seen j.stamp (s.counter + 1) c.args.ask c.self.invariant.2 joined up))

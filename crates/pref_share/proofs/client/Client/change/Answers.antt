@@ -1,10 +1,10 @@
 use Rattle.pref_share.proofs.Common.{◌≡◌, suc, ◌+◌, None, refl, sym, subst, ap, ◌∙◌, arith, rules, Standing, own_refusal, IsJoined, MayJoin}
-use Rattle.pref_share.proofs.Standings.{stands_changed, joins, change_told}
+use Rattle.pref_share.proofs.StandingLaws.{stands_changed, joins, change_told}
 use Rattle.pref_share.proofs.client.Client.change.Goals as goal
 
 pub invariant_of-self : goal.invariant_of-self
 invariant_of-self g c =
-    let o = g.J.Naming.opening in
+    let o = g.J.BoardBrand.opening in
     let s = c.self.inside in
     let mine : Standing = record { number = s.number; counter = s.counter; seen = s.seen; query = s.asking } in
     let j = c.in-Joined in
@@ -14,12 +14,12 @@ invariant_of-self g c =
 
 pub returns-in-Joined : goal.returns-in-Joined
 returns-in-Joined g c =
-    let o = g.J.Naming.opening in
+    let o = g.J.BoardBrand.opening in
     let s = c.self.inside in
     let mine : Standing = record { number = s.number; counter = s.counter; seen = s.seen; query = s.asking } in
     let j = c.in-Joined in
     let joined : IsJoined o mine c.args.call j.outcome j.seen j.stamp = subst (λ (x : Standing). IsJoined o x c.args.call j.outcome j.seen j.stamp) (sym c.self.view_is) (subst (MayJoin o c.args.self.now c.args.call) j.is c.in_ok-seen.ensures.joins) in
-    let accepted : own_refusal mine c.args.call ≡ None = subst (λ (x : Standing). own_refusal x c.args.call ≡ None) (sym c.self.view_is) (ap (own_refusal c.args.self.now) (sym c.lent.ensures) ∙ sym c.refusal.ensures ∙ c.in_default.is) in
+    let accepted : own_refusal mine c.args.call ≡ None = subst (λ (x : Standing). own_refusal x c.args.call ≡ None) (sym c.self.view_is) (ap (own_refusal c.args.self.now) (sym c.lend.ensures) ∙ sym c.refusal.ensures ∙ c.in_default.is) in
     let up : s.counter + 1 ≡ suc s.counter = omega arith in
-    let told = change_told o mine _ c.args.call j.outcome c.done_or_refused.result c.done_or_refused.ensures (joins o mine _ c.args.call j.outcome j.seen j.stamp accepted joined refl up refl) refl in
-    record { changed = rw (← c.self.view_is) told.0; granted = search rules; refused = rw (← c.self.view_is) told.1 }
+    let returned = change_told o mine _ c.args.call j.outcome c.outcome_or_refusal.result c.outcome_or_refusal.ensures (joins o mine _ c.args.call j.outcome j.seen j.stamp accepted joined refl up refl) refl in
+    record { changed = rw (← c.self.view_is) returned.0; success_outcome = search rules; refused = rw (← c.self.view_is) returned.1 }

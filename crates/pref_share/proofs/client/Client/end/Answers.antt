@@ -1,10 +1,10 @@
 use Rattle.pref_share.proofs.Common.{◌≡◌, suc, ◌+◌, None, refl, sym, subst, arith, Standing, own_refusal, IsJoined, MayJoin}
-use Rattle.pref_share.proofs.Standings.{stands_ended, joins, joins_as_done}
+use Rattle.pref_share.proofs.StandingLaws.{stands_ended, joins, joins_as_done}
 use Rattle.pref_share.proofs.client.Client.end.Goals as goal
 
 pub invariant_of-self : goal.invariant_of-self
 invariant_of-self g c =
-    let o = g.J.Naming.opening in
+    let o = g.J.BoardBrand.opening in
     let s = c.self.inside in
     let mine : Standing = record { number = s.number; counter = s.counter; seen = s.seen; query = s.asking } in
     let j = c.in-Joined in
@@ -14,7 +14,7 @@ invariant_of-self g c =
 
 pub returns-in-Joined-clause-ended : goal.returns-in-Joined-clause-ended
 returns-in-Joined-clause-ended g c =
-    let o = g.J.Naming.opening in
+    let o = g.J.BoardBrand.opening in
     let s = c.self.inside in
     let mine : Standing = record { number = s.number; counter = s.counter; seen = s.seen; query = s.asking } in
     let j = c.in-Joined in

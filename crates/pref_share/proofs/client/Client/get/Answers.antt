@@ -1,20 +1,20 @@
 use Rattle.pref_share.proofs.Common.{rules, refl, sym, ◌≡◌, ◌∙◌, state_at, row_after}
-use Rattle.pref_share.proofs.Histories.{left_stands}
-use Rattle.pref_share.proofs.Standings.{sees}
+use Rattle.pref_share.proofs.HistoryLaws.{left_stands}
+use Rattle.pref_share.proofs.StandingLaws.{sees}
 use Rattle.pref_share.proofs.client.Client.get.Goals.{Joined-row, in-Some-row, in-None}
 use Rattle.pref_share.proofs.client.Client.get.Given.{Over}
 use Rattle.pref_share.proofs.client.Client.get.Goals as goal
 
 -- the row that was found is that of the history
-is_row : (g : Over) (c : Joined-row g) → c.in-Some.row ≡ row_after g.J.Naming.opening c.in-Some.now c.args.id
+is_row : (g : Over) (c : Joined-row g) → c.in-Some.row ≡ row_after g.J.BoardBrand.opening c.in-Some.now c.args.id
 is_row g c =
-    let o = g.J.Naming.opening in
+    let o = g.J.BoardBrand.opening in
     let read = c.in-Some.ensures.found in
     read.2.1 (state_at o c.in-Some.now) (left_stands o c.in-Some.now _ read.1 read.2.2)
 
 pub returns-clause-row : goal.returns-clause-row
 returns-clause-row g c =
-    let o = g.J.Naming.opening in
+    let o = g.J.BoardBrand.opening in
     let read = c.in-Some.ensures.found in
     elim c.match-row.branch [
       | in-Some-row w ↦ rw w.result-is (rw (← c.self.view_is) (sees o _ _ read.0 read.1 refl refl refl, sym (is_row g c) ∙ w.in-Some-row.is))
@@ -23,7 +23,7 @@ returns-clause-row g c =
 
 pub returns-clause-refused : goal.returns-clause-refused
 returns-clause-refused g c =
-    let o = g.J.Naming.opening in
+    let o = g.J.BoardBrand.opening in
     let read = c.in-Some.ensures.found in
     elim c.match-row.branch [
       | in-Some-row w ↦ rw w.result-is search rules

@@ -1,10 +1,10 @@
 use Rattle.pref_share.proofs.Common.{ℕ, ◌≤◌, List, sym, subst, ap, ◌∙◌, Op, IsLegalFrom}
-use Rattle.pref_share.proofs.Standings.{stands_new}
+use Rattle.pref_share.proofs.StandingLaws.{stands_new}
 use Rattle.pref_share.proofs.client.Client.new.Goals as goal
 
 pub invariant_of-result : goal.invariant_of-result
 invariant_of-result g c =
-    let o = g.J.Naming.opening in (
+    let o = g.J.BoardBrand.opening in (
       c.requires.knows,
       c.requires.setup,
       stands_new o c.args.number c.again-seen.result (subst (λ (l : List Op). IsLegalFrom o l) (sym c.again-seen.ensures.same) c.again-seen.ensures.legal)

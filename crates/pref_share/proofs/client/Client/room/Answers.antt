@@ -1,11 +1,11 @@
 use Rattle.pref_share.proofs.Common.{◌-◌, length, refl, ap, ◌∙◌, needed, Contents, state_at}
-use Rattle.pref_share.proofs.Histories.{left_stands, legal_capacity}
-use Rattle.pref_share.proofs.Standings.{sees}
+use Rattle.pref_share.proofs.HistoryLaws.{left_stands, legal_capacity}
+use Rattle.pref_share.proofs.StandingLaws.{sees}
 use Rattle.pref_share.proofs.client.Client.room.Goals as goal
 
 pub returns-clause-room : goal.returns-clause-room
 returns-clause-room g c =
-    let o = g.J.Naming.opening in
+    let o = g.J.BoardBrand.opening in
     let now = c.in-Some.now in
     let read = c.in-Some.ensures.found in
     let slots = ap (λ (s : Contents). length s.slots) read.2.2 ∙ legal_capacity o now read.1.fits in

@@ -3,8 +3,8 @@ use Rattle.pref_share.proofs.Common.{calls_at, contents_at, state_at, first_cont
 use Rattle.pref_sky.specs.declared.entry.Entry.{Entry}
 use Rattle.pref_sky.specs.Levels.{HaveDifferentIds, entry_of}
 use Rattle.pref_core.specs.Scans.{Scan, Reads, IsAdded}
-use Rattle.pref_share.proofs.Histories.{left_stands}
-use Rattle.pref_share.proofs.Standings.{ahead, even, next_new, stands_seen, stands_scanned, sees, scanned}
+use Rattle.pref_share.proofs.HistoryLaws.{left_stands}
+use Rattle.pref_share.proofs.StandingLaws.{ahead, even, next_new, stands_seen, stands_scanned, sees, scanned}
 use Rattle.pref_share.proofs.client.Client.scan.Given.{Over}
 use Rattle.pref_share.proofs.client.Client.scan.Goals.{After-deref}
 use Rattle.pref_share.proofs.client.Client.scan.Goals as goal
@@ -18,12 +18,12 @@ record IsReadFor (o : Opening) (s : Standing) (asking : Asking) (now : List Op) 
   alone : calls_at o now s.number ≡ Some s.counter
   is : block ≡ next_block asking.scan (contents_at o now).slots
 
-is_read : (g : Over) (c : After-deref g) → IsReadFor g.J.Naming.opening (record { number = c.self.inside.number; counter = c.self.inside.counter; seen = c.self.inside.seen; query = c.self.inside.asking }) (record { scan = c.asking.inside.query; begun = c.asking.inside.begun }) c.in-Some-found.now c.deref.result.now
+is_read : (g : Over) (c : After-deref g) → IsReadFor g.J.BoardBrand.opening (record { number = c.self.inside.number; counter = c.self.inside.counter; seen = c.self.inside.seen; query = c.self.inside.asking }) (record { scan = c.asking.inside.query; at_begin = c.asking.inside.at_begin }) c.in-Some-found.now c.deref.result.now
 is_read g c =
-    let o = g.J.Naming.opening in
+    let o = g.J.BoardBrand.opening in
     let s = c.self.inside in
     let now = c.in-Some-found.now in
-    let asking : Asking = record { scan = c.asking.inside.query; begun = c.asking.inside.begun } in
+    let asking : Asking = record { scan = c.asking.inside.query; at_begin = c.asking.inside.at_begin } in
     let found = c.in-Some-found.ensures.found in
     let query : s.asking ≡ Some asking = c.in-Some.is ∙ ap Some (sym c.asking.view_is) in
     let calls = found.2.1.0 (state_at o now) (left_stands o now _ found.1 found.2.2) in
@@ -39,7 +39,7 @@ is_read g c =
 
 pub in_use-requires : goal.in_use-requires
 in_use-requires g c =
-    let o = g.J.Naming.opening in
+    let o = g.J.BoardBrand.opening in
     let s = c.self.inside in
     let now = c.in-Some-found.now in
     let found = c.in-Some-found.ensures.found in
@@ -49,30 +49,30 @@ in_use-requires g c =
 pub add-requires-clause-new : goal.add-requires-clause-new
 add-requires-clause-new g c =
     let r = is_read g c in
-    subst (λ (l : List Entry). HaveDifferentIds (map entry_of c.asking.inside.query.partial ++ l)) (sym r.is) (next_new g.J.Naming.opening _ _ _ _ _ r.stands r.further r.legal r.alone)
+    subst (λ (l : List Entry). HaveDifferentIds (map entry_of c.asking.inside.query.partial ++ l)) (sym r.is) (next_new g.J.BoardBrand.opening _ _ _ _ _ r.stands r.further r.legal r.alone)
 
 pub invariant_of-self-in-Ok-add : goal.invariant_of-self-in-Ok-add
 invariant_of-self-in-Ok-add g c =
     let r = is_read g (goal.at.invariant_of-self-in-Ok-add g c).After-deref in
     let added = subst (λ (l : List Entry). IsAdded c.asking.inside.query l c.add.new.self) r.is c.in-Ok-add.ensures.1 in
-    (subst (Knows (first_contents g.J.Naming.opening) g.J.Naming.book) (sym c.read-found.ensures.view) c.self.invariant.0, c.self.invariant.1, stands_scanned g.J.Naming.opening _ _ _ _ _ c.add.new.self r.stands r.further r.legal r.alone added)
+    (subst (Knows (first_contents g.J.BoardBrand.opening) g.J.BoardBrand.book) (sym c.read-found.ensures.view) c.self.invariant.0, c.self.invariant.1, stands_scanned g.J.BoardBrand.opening _ _ _ _ _ c.add.new.self r.stands r.further r.legal r.alone added)
 
 pub returns-in-Ok-add-clause-scanned : goal.returns-in-Ok-add-clause-scanned
 returns-in-Ok-add-clause-scanned g c =
     let r = is_read g (goal.at.returns-in-Ok-add-clause-scanned g c).After-deref in
     let added = subst (λ (l : List Entry). IsAdded c.asking.inside.query l c.add.new.self) r.is c.in-Ok-add.ensures.1 in
     rw (← (c.self.view_is))
-    (scanned g.J.Naming.opening _ _ _ c.add.new.self c.in-Ok-add.left r.query refl c.in-Ok-add.ensures.0 added r.further r.legal r.alone refl refl)
+    (scanned g.J.BoardBrand.opening _ _ _ c.add.new.self c.in-Ok-add.left r.query refl c.in-Ok-add.ensures.0 added r.further r.legal r.alone refl refl)
 
 pub invariant_of-self-2 : goal.invariant_of-self-2
 invariant_of-self-2 g c =
-    let o = g.J.Naming.opening in
+    let o = g.J.BoardBrand.opening in
     let s = c.self.inside in
     let r = is_read g (goal.at.invariant_of-self-2 g c).After-deref in
     let kept : c.add.new.self ≡ c.asking.inside.query = c.in-Err.ensures.0 in (
-      subst (Knows (first_contents o) g.J.Naming.book) (sym c.read-found.ensures.view) c.self.invariant.0,
+      subst (Knows (first_contents o) g.J.BoardBrand.book) (sym c.read-found.ensures.view) c.self.invariant.0,
       c.self.invariant.1,
-      subst (λ (x : Scan). Stands o s.number s.counter c.in-Some-found.now (Some (record { scan = x; begun = c.asking.inside.begun }))) (sym kept) (stands_seen o _ _ _ _ _ r.stands r.further r.legal),
+      subst (λ (x : Scan). Stands o s.number s.counter c.in-Some-found.now (Some (record { scan = x; at_begin = c.asking.inside.at_begin }))) (sym kept) (stands_seen o _ _ _ _ _ r.stands r.further r.legal),
     )
 
 pub returns-clause-refused : goal.returns-clause-refused
@@ -81,13 +81,13 @@ returns-clause-refused g c =
     let same = c.self.view_is in
     let kept : c.add.new.self ≡ c.asking.inside.query = c.in-Err.ensures.0 in
     rw (← same)
-    ((c.left.result, record { asking = _; is_open = r.query; left_is = c.left.ensures; some = search rules }), sees g.J.Naming.opening _ _ r.further r.legal refl refl ((λ i. Some (record { scan = kept i; begun = c.asking.inside.begun })) ∙ sym r.query))
+    ((c.left.result, record { asking = _; is_open = r.query; left_is = c.left.ensures; some = search rules }), sees g.J.BoardBrand.opening _ _ r.further r.legal refl refl ((λ i. Some (record { scan = kept i; at_begin = c.asking.inside.at_begin })) ∙ sym r.query))
 
 pub returns-then-block-self-clause-refused : goal.returns-then-block-self-clause-refused
 returns-then-block-self-clause-refused g c =
-    let o = g.J.Naming.opening in
+    let o = g.J.BoardBrand.opening in
     let s = c.self.inside in
-    let query : s.asking ≡ Some (record { scan = c.asking.inside.query; begun = c.asking.inside.begun }) = c.in-Some.is ∙ ap Some (sym c.asking.view_is) in
+    let query : s.asking ≡ Some (record { scan = c.asking.inside.query; at_begin = c.asking.inside.at_begin }) = c.in-Some.is ∙ ap Some (sym c.asking.view_is) in
     let more : HasMore (record { number = s.number; counter = s.counter; seen = s.seen; query = s.asking }) = (c.left.result, record { asking = _; is_open = query; left_is = c.left.ensures; some = search rules }) in
     let in_use = subst (λ (q : Option Asking). IsInUse o (record { number = s.number; counter = s.counter; seen = s.seen; query = q }) (suc s.counter) c.in_use.new.self) (sym c.in-Some.is) c.in_use.ensures.sees in
     rw c.in_use.ensures.fault (rw (← c.self.view_is) (more, in_use))

@@ -1,10 +1,10 @@
 use Rattle.pref_share.proofs.Common.{first_contents, first_state}
-use Rattle.pref_share.proofs.Histories.{legal_from_let_in, opens}
+use Rattle.pref_share.proofs.HistoryLaws.{legal_from_let_in, opens}
 use Rattle.pref_share.proofs.client.reads.history_of.Goals as goal
 
 pub of-now-requires-clause-legal : goal.of-now-requires-clause-legal
 of-now-requires-clause-legal g c =
-    let o = g.J.Naming.opening in
+    let o = g.J.BoardBrand.opening in
     record {
       allowed = c.requires.legal.allowed;
       fits = c.requires.legal.fits;

@@ -1,8 +1,8 @@
 use Rattle.pref_share.proofs.Common.{◌≡◌, ◌+◌, ◌++◌, ◌∷◌, [], length, sym, subst, ◌∙◌, ap, refl, arith, append-nil, length-append, op_of, IsLegalFrom, MayFollow}
 use Rattle.pref_share.specs.Book.{ops_of}
-use Rattle.pref_share.proofs.Adding.{adds_moves, entry_added}
-use Rattle.pref_share.proofs.Histories.{legal-more, legal_is_history}
-use Rattle.pref_share.proofs.Counting.{few_ops}
+use Rattle.pref_share.proofs.BookSteps.{adds_moves, entry_added}
+use Rattle.pref_share.proofs.HistoryLaws.{legal-more, legal_is_history}
+use Rattle.pref_share.proofs.CallCounts.{few_ops}
 use Rattle.pref_share.proofs.history.History.add.Goals as goal
 
 pub compare_exchange-found-requires : goal.compare_exchange-found-requires
@@ -18,7 +18,7 @@ compare_exchange-found-requires g c =
 
 pub invariant_of-self : goal.invariant_of-self
 invariant_of-self g c =
-    let opening = g.J.Naming.opening in
+    let opening = g.J.BoardBrand.opening in
     let old = c.self.inside.seen.log in
     let e = c.compare_exchange-found.ensures in
     let grown : c.compare_exchange-found.new.seen.log ≡ old ++ c.plain-offer.result.ask ∷ [] = e.7 old ([], append-nil old) c.self.invariant.5 in
@@ -38,6 +38,6 @@ invariant_of-self g c =
 pub overflow_add-self : goal.overflow_add-self
 overflow_add-self g c =
     let legal = c.self.invariant.6 in
-    let few = few_ops g.J.Naming.opening.limits.capacity g.J.Naming.opening.limits.clients _ (ops_of c.self.inside.seen.log) refl legal.allowed.clients.1 (legal_is_history g.J.Naming.opening (ops_of c.self.inside.seen.log) legal) in
+    let few = few_ops g.J.BoardBrand.opening.limits.capacity g.J.BoardBrand.opening.limits.clients _ (ops_of c.self.inside.seen.log) refl legal.allowed.clients.1 (legal_is_history g.J.BoardBrand.opening (ops_of c.self.inside.seen.log) legal) in
     let len = c.self.invariant.1 in
     omega arith

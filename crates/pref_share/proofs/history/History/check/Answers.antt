@@ -1,5 +1,5 @@
 use Rattle.pref_share.proofs.Common.{ap, sym, ◌∙◌}
-use Rattle.pref_share.proofs.Adding.{whole_moves}
+use Rattle.pref_share.proofs.BookSteps.{whole_moves}
 use Rattle.pref_share.proofs.history.History.check.Goals as goal
 
 pub compare_exchange-found-requires : goal.compare_exchange-found-requires

@@ -1,5 +1,5 @@
 use Rattle.pref_sky.proofs.Common.{◌++◌, Result, Ok, Err, sym, ◌∙◌, ap, OnOk, ChainOrder, own_levels}
-use Rattle.pref_sky.specs.Held.{ranked_held}
+use Rattle.pref_sky.specs.PartialForms.{ranked_held}
 use Rattle.pref_sky.proofs.SortedLevels.{says_its_levels}
 use Rattle.pref_sky.proofs.partial.Partial.add.Goals as goal
 

@@ -1,8 +1,8 @@
 use Rattle.pref_sky.proofs.Common.{rules, ◌≡◌, ◌+◌, ◌∙◌, inr, Bool, true, false, not, [], ◌∷◌, ◌++◌, cond, filter, length, sym, ap, subst, arith, is_ok, length-append, filter-append, Entry, is_beaten}
 use Rattle.pref_sky.proofs.Common.{entry_order}
-use Rattle.pref_sky.specs.Windows.{Held, joined, not_below, window_entries}
-use Rattle.pref_sky.proofs.Retained.{filter_from_retain_at}
-use Rattle.pref_sky.proofs.WindowSteps.{unbeaten_both, filtered_whole, held_of, joined_early, joined_late}
+use Rattle.pref_sky.specs.Windows.{WindowState, joined, not_below, window_entries}
+use Rattle.pref_sky.proofs.RetainLaws.{filter_from_retain_at}
+use Rattle.pref_sky.proofs.WindowsLaws.{unbeaten_both, filtered_whole, held_of, joined_early, joined_late}
 use Rattle.pref_sky.proofs.window.Window.offer.Goals as goal
 
 -- nothing went out of a full window
@@ -24,10 +24,10 @@ returns-then-len-self-clause-outcome g c =
     ap (λ l. held_of a.size l c.retain-2.new.self.items true) (early ∙ whole.0) ∙ ap (λ l. held_of a.size a.early.items l true) (late ∙ whole.1) in
     let stays : filter p (a.early.items ++ a.late.items) ≡ a.early.items ++ a.late.items = filter-append p a.early.items a.late.items ∙ (ap (λ l. l ++ filter p a.late.items) whole.0 ∙ ap (λ l. a.early.items ++ l) whole.1) in
     let long : length (a.early.items ++ a.late.items) ≡ a.size = omega (arith, length-append a.early.items a.late.items, full, ap length whole.0, ap length whole.1) in (
-      subst (λ (w : Held). is_beaten over (window_entries w) e ≡ false) c.self.view_is unbeaten,
-      subst (λ (w : Held). not_below over e (window_entries w) ≡ window_entries w) c.self.view_is stays,
-      subst (λ (w : Held). length (window_entries w) ≡ w.size) c.self.view_is long,
-      same ∙ ap (λ (w : Held). held_of w.size w.early w.late true) c.self.view_is,
+      subst (λ (w : WindowState). is_beaten over (window_entries w) e ≡ false) c.self.view_is unbeaten,
+      subst (λ (w : WindowState). not_below over e (window_entries w) ≡ window_entries w) c.self.view_is stays,
+      subst (λ (w : WindowState). length (window_entries w) ≡ w.size) c.self.view_is long,
+      same ∙ ap (λ (w : WindowState). held_of w.size w.early w.late true) c.self.view_is,
     )
 
 pub returns-then-len-self-clause-as_before : goal.returns-then-len-self-clause-as_before
@@ -57,7 +57,7 @@ returns-then-self-clause-outcome g c =
     let okay : is_ok c.push.result ≡ true = ap is_ok c.unwrap.ensures in
     let pushed : c.push.new.self.items ≡ filter p a.late.items ++ e ∷ [] =
     c.push.ensures.items ∙ (ap (λ b. cond b (c.retain-2.new.self.items ++ e ∷ []) c.retain-2.new.self.items) okay ∙ ap (λ l. l ++ e ∷ []) late) in
-    subst (λ (w : Held). (is_beaten over (window_entries w) e ≡ false) × (held_of a.size c.retain.new.self.items c.push.new.self.items a.overflowed ≡ joined over w e)) c.self.view_is
+    subst (λ (w : WindowState). (is_beaten over (window_entries w) e ≡ false) × (held_of a.size c.retain.new.self.items c.push.new.self.items a.overflowed ≡ joined over w e)) c.self.view_is
     (unbeaten, joined_late over e a.size a.early.items a.late.items c.retain.new.self.items c.push.new.self.items a.overflowed c.if-self.true early pushed)
 
 pub returns-else-self-clause-outcome : goal.returns-else-self-clause-outcome
@@ -74,5 +74,5 @@ returns-else-self-clause-outcome g c =
     let okay : is_ok c.push-else-self.result ≡ true = ap is_ok c.unwrap-else-self.ensures in
     let pushed : c.push-else-self.new.self.items ≡ filter p a.early.items ++ e ∷ [] =
     c.push-else-self.ensures.items ∙ (ap (λ b. cond b (c.retain.new.self.items ++ e ∷ []) c.retain.new.self.items) okay ∙ ap (λ l. l ++ e ∷ []) early) in
-    subst (λ (w : Held). (is_beaten over (window_entries w) e ≡ false) × (held_of a.size c.push-else-self.new.self.items c.retain-2.new.self.items a.overflowed ≡ joined over w e)) c.self.view_is
+    subst (λ (w : WindowState). (is_beaten over (window_entries w) e ≡ false) × (held_of a.size c.push-else-self.new.self.items c.retain-2.new.self.items a.overflowed ≡ joined over w e)) c.self.view_is
     (unbeaten, joined_early over e a.size a.early.items a.late.items c.push-else-self.new.self.items c.retain-2.new.self.items a.overflowed c.if-self.false pushed late)

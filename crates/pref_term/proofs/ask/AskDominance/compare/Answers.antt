@@ -3,16 +3,16 @@ use Rattle.pref_term.proofs.ask.AskDominance.compare.Goals as goal
 
 -- rows that are told as the same are of one group, and the same
 told_alike : (c : goal.After-compare_in_group) → is_same c.compare_in_group.result ≡ true → alike c.args.self.now c.args.a.now c.args.b.now ≡ true
-told_alike c told =
+told_alike c reported =
     let q = c.args.self.now in
     let group : c.deref.result.now ≡ q.group = c.deref.ensures.value ∙ ap (λ (s : Question). s.group) c.self.view_is in
     and_from (in_same_group q.group c.args.a.now c.args.b.now) (same q.preference c.args.a.now c.args.b.now)
     (ap (λ cols. in_same_group cols c.args.a.now c.args.b.now) (sym group) ∙ sym c.in_same_group.ensures ∙ c.if-in_same_group.true)
-    (sym c.compare_in_group.ensures.same ∙ told)
+    (sym c.compare_in_group.ensures.same ∙ reported)
 
 pub returns-then-in_same_group-clause-stand_alike : goal.returns-then-in_same_group-clause-stand_alike
-returns-then-in_same_group-clause-stand_alike c told =
-    order_of_alike c.args.self.now c.args.a.now c.args.b.now (told_alike c told)
+returns-then-in_same_group-clause-stand_alike c reported =
+    order_of_alike c.args.self.now c.args.a.now c.args.b.now (told_alike c reported)
 
 pub returns-then-in_same_group-clause-twins : goal.returns-then-in_same_group-clause-twins
 returns-then-in_same_group-clause-twins c twin =
@@ -21,5 +21,5 @@ returns-then-in_same_group-clause-twins c twin =
     ∙ (and_parts (in_same_group q.group c.args.a.now c.args.b.now) (same q.preference c.args.a.now c.args.b.now) (twins_alike q c.args.a.now c.args.b.now twin)).1
 
 pub returns-then-in_same_group-clause-twins_alike : goal.returns-then-in_same_group-clause-twins_alike
-returns-then-in_same_group-clause-twins_alike c told =
-    order_of_twins_alike c.args.self.now (subst IsAsk c.self.view_is c.self.invariant.0) c.args.a.now c.args.b.now (told_alike c told)
+returns-then-in_same_group-clause-twins_alike c reported =
+    order_of_twins_alike c.args.self.now (subst IsAsk c.self.view_is c.self.invariant.0) c.args.a.now c.args.b.now (told_alike c reported)

@@ -17,21 +17,21 @@ pub returns-in-Some-Best-clause-err : goal.returns-in-Some-Best-clause-err
 returns-in-Some-Best-clause-err c =
     let w = c.in_ok-letters in
     if_err_map _ (λ f h. best_fails c.args.schema.now w.letters.now (ahead c.args.cursor) (ahead w.word.next) f (w.word.at, w.ensures.ok) (sym c.in-Some-Best.ensures ∙ ap Some c.in-Some-Best.field-0-is) h)
-    c.rated.ensures.err
+    c.read_rated_term.ensures.err
 
 pub returns-in_ok-k-in-Some-TopLevel-clause-err : goal.returns-in_ok-k-in-Some-TopLevel-clause-err
 returns-in_ok-k-in-Some-TopLevel-clause-err c =
     let w = c.in_ok-letters in
     let k = c.in_ok-k-in-Some-TopLevel in
     if_err_map _ (λ f h. count_behind_fails c.args.schema.now levels w.letters.now (ahead c.args.cursor) (ahead w.word.next) (ahead k.behind) k.k f (w.word.at, w.ensures.ok) (sym c.in-Some-TopLevel.ensures ∙ ap Some c.in-Some-TopLevel.field-0-is) k.ensures.ok h)
-    c.rated-in-Some-TopLevel.ensures.err
+    c.read_rated_term-in-Some-TopLevel.ensures.err
 
 pub returns-in_ok-k-in-Some-AtLeast-clause-err : goal.returns-in_ok-k-in-Some-AtLeast-clause-err
 returns-in_ok-k-in-Some-AtLeast-clause-err c =
     let w = c.in_ok-letters in
     let k = c.in_ok-k-in-Some-AtLeast in
     if_err_map _ (λ f h. count_behind_fails c.args.schema.now rows w.letters.now (ahead c.args.cursor) (ahead w.word.next) (ahead k.behind) k.k f (w.word.at, w.ensures.ok) (sym c.in-Some-AtLeast.ensures ∙ ap Some c.in-Some-AtLeast.field-0-is) k.ensures.ok h)
-    c.rated-in-Some-AtLeast.ensures.err
+    c.read_rated_term-in-Some-AtLeast.ensures.err
 
 pub returns-in_err-behind-in-None-clause-err : goal.returns-in_err-behind-in-None-clause-err
 returns-in_err-behind-in-None-clause-err c =

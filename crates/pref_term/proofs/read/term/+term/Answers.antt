@@ -66,7 +66,7 @@ reverse-returns-clause-ok t c =
     let i = c.in_ok-inside.ensures.ok in
     let v = c.in_ok-part in
     let r = subst (λ (n : ℕ). ReadsGroup c.args.schema.now n (ahead u.next) (preference_of v.part) (ahead v.next)) i.1 v.ensures.ok in
-    subst (λ (p : Preference). ReadsReverse c.args.schema.now c.args.depth (ahead c.args.cursor) p (ahead v.next)) (sym c.in_ok-reversed.ensures.ok)
+    subst (λ (p : Preference). ReadsReverse c.args.schema.now c.args.depth (ahead c.args.cursor) p (ahead v.next)) (sym c.in_ok-reverse_of.ensures.ok)
     (reverse_read c.args.schema.now c.args.depth (ahead c.args.cursor) (ahead u.next) (ahead v.next) (preference_of v.part) i.0 (u.at, c.take-taken.ensures ∙ c.if-not-is.ensures.yes) r)
 
 pub unary-returns-in_err-part-clause-err : goal.unary-returns-in_err-part-clause-err
@@ -78,7 +78,7 @@ unary-returns-then-is-clause-ok t c =
     let i = c.in_ok-inside.ensures.ok in
     let v = c.in_ok-part in
     let r = subst (λ (n : ℕ). ReadsUnary c.args.schema.now n (ahead u.next) (preference_of v.part) (ahead v.next)) i.1 v.ensures.ok in
-    subst (λ (p : Preference). ReadsUnary c.args.schema.now c.args.depth (ahead c.args.cursor) p (ahead v.next)) (sym c.in_ok-reversed.ensures.ok)
+    subst (λ (p : Preference). ReadsUnary c.args.schema.now c.args.depth (ahead c.args.cursor) p (ahead v.next)) (sym c.in_ok-reverse_of.ensures.ok)
     (minus_read c.args.schema.now c.args.depth (ahead c.args.cursor) (ahead u.next) (ahead v.next) (preference_of v.part) i.0 (u.at, c.take-taken.ensures ∙ c.if-is.ensures.yes) r)
 
 pub unary-returns-then-is-2-clause-ok : goal.unary-returns-then-is-2-clause-ok

@@ -1,5 +1,5 @@
 use Rattle.pref_core.proofs.Common.{◌<◌, set, Some, sym, ap, ◌∙◌, subst, arith, ids_of, AreLinks, is_free, Contents, stamps, visible, has}
-use Rattle.pref_core.proofs.Filling.{free_there, begin_tracked}
+use Rattle.pref_core.proofs.FilledLaws.{free_there, begin_tracked}
 use Rattle.pref_core.proofs.store.contents.Contents.begin_row.Goals as goal
 
 pub put-requires-clause-there : goal.put-requires-clause-there
@@ -15,5 +15,5 @@ invariant_of-self c =
     let free = ap (λ (s : Contents). is_free (stamps s) s.slots c.args.place) c.self.view_is ∙ c.requires.free in
     let absent = ap (λ (s : Contents). has (visible s.stamp s.slots) c.args.id) c.self.view_is ∙ c.requires.absent in
     let low = subst (λ (s : Contents). c.args.id < s.next_id) (sym c.self.view_is) c.requires.low in
-    begin_tracked contents now.places now.links (record { id = c.args.id; row = c.args.row.now }) c.args.place c.born.result c.put.new.self c.add.new.self c.self.invariant free absent low (omega arith) c.born.ensures c.put.ensures
+    begin_tracked contents now.places now.links (record { id = c.args.id; row = c.args.row.now }) c.args.place c.new_version.result c.put.new.self c.add.new.self c.self.invariant free absent low (omega arith) c.new_version.ensures c.put.ensures
     (subst (λ slots. AreLinks (set (ids_of now.stamp slots) c.args.place (Some c.args.id)) c.add.new.self) c.deref.ensures.value c.add.ensures)

@@ -1,6 +1,6 @@
 use Rattle.pref_core.proofs.Common.{◌+◌, ◌++◌, [], ◌∷◌, List, Option, drop, sym, ap, ◌∙◌, subst, arith, Version, Entry, begun_by, added_by, filled, begins, stamps, changes_of, begun, change_of}
-use Rattle.pref_core.proofs.Changing.{added_one, begun_at, drop_all}
-use Rattle.pref_core.proofs.Filling.{BegunUpTo, FillsRest, BeginsNext, begins_next, begun_one, fills_end}
+use Rattle.pref_core.proofs.ChangesLaws.{added_one, begun_at, drop_all}
+use Rattle.pref_core.proofs.FilledLaws.{BegunUpTo, FillsRest, BeginsNext, begins_next, begun_one, fills_end}
 use Rattle.pref_core.proofs.store.contents.Contents.begin_rows.Goals.{In-Some, in-Some, in_default}
 use Rattle.pref_core.proofs.store.contents.Contents.begin_rows.Goals as goal
 
@@ -39,11 +39,11 @@ loop-at-preserved c =
     let used = c.loop-at.used in
     let from = begun_at c.loop-at.next_id changes c.loop-at.at (change_of c.change-change.result) c.change-change.ensures in
     let one = added_one (change_of c.change-change.result) in
-    let told = c.added-next_id.ensures in
+    let returned = c.added-next_id.ensures in
     let few = c.loop-at.invariant.few in
     let before = c.loop-at.invariant.used in
     record {
-      begun = subst (λ n. BegunUpTo start c.match-begun.self (drop c.match-begun.used slots) (begun_by (c.loop-at.next_id + n) (drop (c.loop-at.at + 1) changes)) all) (sym told)
+      begun = subst (λ n. BegunUpTo start c.match-begun.self (drop c.match-begun.used slots) (begun_by (c.loop-at.next_id + n) (drop (c.loop-at.at + 1) changes)) all) (sym returned)
           (elim c.match-begun.branch [
             | in-Some w ↦
                 let is = from ∙ ap (λ l. l ++ rest) w.in-Some.ensures.some in

@@ -1,5 +1,5 @@
 use Rattle.pref_core.proofs.Common.{◌+◌, ◌≤◌, drop, begun_by, filled, stamps, changes_of, begun}
-use Rattle.pref_core.proofs.Filling.{BegunUpTo}
+use Rattle.pref_core.proofs.FilledLaws.{BegunUpTo}
 use Rattle.pref_core.proofs.store.contents.Contents.begin_rows.Given as goal
 
 abbrev pub invariant-loop-at : goal.invariant-loop-at

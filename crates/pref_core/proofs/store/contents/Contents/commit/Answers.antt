@@ -1,10 +1,10 @@
-use Rattle.pref_core.proofs.Common.{◌≡◌, suc, ◌+◌, set, Some, sym, ap, ap₂, ◌∙◌, subst, is_some, arith, Entry, row_at, IsTracked, KeepSlots, replaced, Contents, born, added, changes_of, op_of}
-use Rattle.pref_core.proofs.Bounds.{stamp-small, next_id-small, added-small}
-use Rattle.pref_core.proofs.Applied.{IsAllowed-from}
-use Rattle.pref_core.proofs.Changing.{formed_apart}
-use Rattle.pref_core.proofs.Filling.{commit_fresh, commit_filled, commit_replaced}
-use Rattle.pref_core.proofs.Linked.{tracked_next}
-use Rattle.pref_core.proofs.Replacing.{commit_kept}
+use Rattle.pref_core.proofs.Common.{◌≡◌, suc, ◌+◌, set, Some, sym, ap, ap₂, ◌∙◌, subst, is_some, arith, Entry, row_at, IsTracked, KeepSlots, replaced, Contents, new_version, added, changes_of, op_of}
+use Rattle.pref_core.proofs.BoundsLaws.{stamp-small, next_id-small, added-small}
+use Rattle.pref_core.proofs.AppliedLaws.{IsAllowed-from}
+use Rattle.pref_core.proofs.ChangesLaws.{formed_apart}
+use Rattle.pref_core.proofs.FilledLaws.{commit_fresh, commit_filled, commit_replaced}
+use Rattle.pref_core.proofs.IdsAfterCommit.{tracked_next}
+use Rattle.pref_core.proofs.ReplacedLaws.{commit_kept}
 use Rattle.pref_core.proofs.store.contents.Contents.commit.Goals as goal
 
 pub overflow_add-self : goal.overflow_add-self
@@ -64,9 +64,9 @@ pub returns-in-Some-clause-slots : goal.returns-in-Some-clause-slots
 returns-in-Some-clause-slots c =
     let now = c.self.inside in
     let entry : Entry = record { id = c.in-Some.id; row = c.in-Some.row.now } in
-    let told = c.in-Some.ensures {u = tt} in
+    let returned = c.in-Some.ensures {u = tt} in
     let slots = ap (λ (s : Contents). s.slots) c.self.view_is in
     let stamp : now.stamp + 1 ≡ suc c.args.self.now.stamp = let same = ap (λ (s : Contents). s.stamp) c.self.view_is in omega (arith, same) in
-    let row = sym (ap₂ (λ n l. row_at n entry.id l c.in-Some.place) stamp slots) ∙ told.2 in
-    commit_replaced c.args.self.now now.places now.links (op_of c.args.op.now) entry c.in-Some.place (subst (λ (s : Contents). IsTracked s now.places now.links) c.self.view_is c.self.invariant) told.0 told.1 row c.requires.change c.requires.succeeds c.requires.fits
-    ∙ ap Some (sym (ap (λ (s : Contents). s.slots) c.replace.ensures ∙ ap₂ (λ n l. set l c.in-Some.place (born n entry)) stamp slots))
+    let row = sym (ap₂ (λ n l. row_at n entry.id l c.in-Some.place) stamp slots) ∙ returned.2 in
+    commit_replaced c.args.self.now now.places now.links (op_of c.args.op.now) entry c.in-Some.place (subst (λ (s : Contents). IsTracked s now.places now.links) c.self.view_is c.self.invariant) returned.0 returned.1 row c.requires.change c.requires.succeeds c.requires.fits
+    ∙ ap Some (sym (ap (λ (s : Contents). s.slots) c.replace.ensures ∙ ap₂ (λ n l. set l c.in-Some.place (new_version n entry)) stamp slots))

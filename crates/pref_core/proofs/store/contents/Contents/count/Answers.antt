@@ -1,5 +1,5 @@
-use Rattle.pref_core.proofs.Common.{◌≡◌, ◌-◌, ◌≤◌, length, map, sym, ap, ◌∙◌, subst, arith, AllZip, with_items_is, zones_of, callers_after, refusal_at, MayBecome, zone_of, Contents}
-use Rattle.pref_core.proofs.Ends.{callers_long, seated, zones_kept, zones_end}
+use Rattle.pref_core.proofs.Common.{◌≡◌, ◌-◌, ◌≤◌, length, map, sym, ap, ◌∙◌, subst, arith, AllZip, with_items_is, uses_of, callers_after, refusal_at, MayBecome, use_of, Contents}
+use Rattle.pref_core.proofs.UsesAfterQuery.{callers_long, seated, zones_kept, zones_end}
 use Rattle.pref_core.proofs.store.contents.Contents.count.Goals as goal
 
 pub overflow_sub-client : goal.overflow_sub-client
@@ -16,8 +16,8 @@ sweep-requires c =
     let counted = c.deref-then-ends_query.ensures.value ∙ with_items_is now.callers c.count.new.callers long ∙ c.count.ensures ∙ ap (λ l. callers_after now.stamp l c.args.client c.args.call.now) c.deref_mut.ensures.value in
     record {
       seats = (omega arith, subst (λ callers. length callers ≤ 8) (sym counted) (let same = callers_long now.stamp now.callers.items c.args.client c.args.call.now in omega arith));
-      zones = subst (λ zones. AllZip (MayBecome (c.args.client - 1)) zones (map (zone_of c.deref-then-ends_query.result.now) c.deref.result.now)) (sym c.self.invariant.listed)
-          (subst (AllZip (MayBecome (c.args.client - 1)) (zones_of contents)) (sym (λ i. map (zone_of (counted i)) (c.deref.ensures.value i)))
+      zones = subst (λ zones. AllZip (MayBecome (c.args.client - 1)) zones (map (use_of c.deref-then-ends_query.result.now) c.deref.result.now)) (sym c.self.invariant.listed)
+          (subst (AllZip (MayBecome (c.args.client - 1)) (uses_of contents)) (sym (λ i. map (use_of (counted i)) (c.deref.ensures.value i)))
           (zones_end contents c.args.client c.args.call.now accepted (sym c.ends_query.ensures ∙ c.if-ends_query.true)));
     }
 
@@ -34,7 +34,7 @@ invariant_of-self-else-ends_query c =
       few = c.self.invariant.few;
       seats = subst (λ callers. length callers ≤ 8) (sym counted) (let same = callers_long now.stamp now.callers.items c.args.client c.args.call.now in omega arith);
       within = c.self.invariant.within;
-      listed = c.self.invariant.listed ∙ sym kept ∙ ap (λ callers. map (zone_of callers) now.slots.items) (sym counted);
+      listed = c.self.invariant.listed ∙ sym kept ∙ ap (λ callers. map (use_of callers) now.slots.items) (sym counted);
       linked = c.self.invariant.linked;
       ids = c.self.invariant.ids;
     }

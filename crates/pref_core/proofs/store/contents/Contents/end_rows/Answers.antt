@@ -1,6 +1,6 @@
 use Rattle.pref_core.proofs.Common.{◌++◌, [], ◌∷◌, take, sym, ap, ◌∙◌, subst, option_to_list, append-nil, ended_by, changes_of, change_of}
-use Rattle.pref_core.proofs.Changing.{ended_so_far}
-use Rattle.pref_core.proofs.Filling.{EndedUpTo, ended_none, ended_more}
+use Rattle.pref_core.proofs.ChangesLaws.{ended_so_far}
+use Rattle.pref_core.proofs.FilledLaws.{EndedUpTo, ended_none, ended_more}
 use Rattle.pref_core.proofs.store.contents.Contents.end_rows.Goals.{in-Some, in_default}
 use Rattle.pref_core.proofs.store.contents.Contents.end_rows.Goals as goal
 

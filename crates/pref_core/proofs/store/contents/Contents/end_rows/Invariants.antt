@@ -1,5 +1,5 @@
 use Rattle.pref_core.proofs.Common.{take, ended_by, changes_of}
-use Rattle.pref_core.proofs.Filling.{EndedUpTo}
+use Rattle.pref_core.proofs.FilledLaws.{EndedUpTo}
 use Rattle.pref_core.proofs.store.contents.Contents.end_rows.Given as goal
 
 abbrev pub invariant-loop-at : goal.invariant-loop-at

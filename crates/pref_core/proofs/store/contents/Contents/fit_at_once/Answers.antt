@@ -1,7 +1,7 @@
-use Rattle.pref_core.proofs.Common.{◌+◌, Some, refl, sym, ap, ◌∙◌, subst, arith, eqb-true, ltb-true, slice_get-get_or, Set, row_at, FitAtOnce, zones_of, free_at, Contents, changes_of, ended}
-use Rattle.pref_core.proofs.AtOnce.{FitsUpTo, fits_added, fits_set, fits_removed, fits_all}
-use Rattle.pref_core.proofs.Bounds.{stamp-small}
-use Rattle.pref_core.proofs.Counts.{named_at}
+use Rattle.pref_core.proofs.Common.{◌+◌, Some, refl, sym, ap, ◌∙◌, subst, arith, eqb-true, ltb-true, slice_get-get_or, Set, row_at, FitAtOnce, uses_of, free_at, Contents, changes_of, ended}
+use Rattle.pref_core.proofs.FitAtOnceLaws.{FitsUpTo, fits_added, fits_set, fits_removed, fits_all}
+use Rattle.pref_core.proofs.BoundsLaws.{stamp-small}
+use Rattle.pref_core.proofs.ChangeCounts.{named_at}
 use Rattle.pref_core.proofs.store.contents.Contents.fit_at_once.Goals.{in-Add-Some, in-Set-Some, in-Remove-default}
 use Rattle.pref_core.proofs.store.contents.Contents.fit_at_once.Goals as goal
 
@@ -21,7 +21,7 @@ loop-at-preserved c =
           let place = w.in-Add-Some.place.now in
           let more = w.used-is in
           let slot = slice_get-get_or places used place (ltb-true _ _ (sym w.in-Add-Some.ensures'.lookup.0)) ∙ ap Some (sym w.in-Add-Some.ensures'.lookup.1) in
-          let zones = c.self.invariant.listed ∙ ap zones_of c.self.view_is in
+          let zones = c.self.invariant.listed ∙ ap uses_of c.self.view_is in
           record {
             fits = subst (FitsUpTo now call places (at + 1)) (sym more)
                 (fits_added now call places at used w.in-Add-Some.field-0-0.now place c.requires.kept w.in-Add-Some.ensures slot

@@ -1,5 +1,5 @@
 use Rattle.pref_core.proofs.Common.{◌≤◌}
-use Rattle.pref_core.proofs.AtOnce.{FitsUpTo}
+use Rattle.pref_core.proofs.FitAtOnceLaws.{FitsUpTo}
 use Rattle.pref_core.proofs.store.contents.Contents.fit_at_once.Given as goal
 
 abbrev pub invariant-loop-at : goal.invariant-loop-at

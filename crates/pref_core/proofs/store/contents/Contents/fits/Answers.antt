@@ -1,7 +1,7 @@
 use Rattle.pref_core.proofs.Common.{◌≡◌, ◌&&◌, Bool, nat_eq, length, true, false, refl, sym, ap, ◌∙◌, ne_eqb, is_change, succeeds, op_of}
-use Rattle.pref_core.proofs.Applied.{IsAllowed-from}
-use Rattle.pref_core.proofs.Choosing.{missing_quiet}
-use Rattle.pref_core.proofs.Filling.{fits_begun, fits_other, fits_quiet}
+use Rattle.pref_core.proofs.AppliedLaws.{IsAllowed-from}
+use Rattle.pref_core.proofs.ChosenSlots.{missing_quiet}
+use Rattle.pref_core.proofs.FilledLaws.{fits_begun, fits_other, fits_quiet}
 use Rattle.pref_core.proofs.store.contents.Contents.fits.Goals.{in_default-via-in-Ok+then-is_change+else-succeeds, in_default-via-in-Ok+else-is_change, in_default-via-in_default}
 use Rattle.pref_core.proofs.store.contents.Contents.fits.Goals as goal
 

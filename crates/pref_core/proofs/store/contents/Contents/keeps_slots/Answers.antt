@@ -1,6 +1,6 @@
 use Rattle.pref_core.proofs.Common.{◌+◌, ◌∷◌, drop, sym, ap, ◌∙◌, subst, ltb-true, Set, row_at, KeepSlots, Contents, changes_of}
-use Rattle.pref_core.proofs.Changing.{drop_at}
-use Rattle.pref_core.proofs.Counts.{drop_item}
+use Rattle.pref_core.proofs.ChangesLaws.{drop_at}
+use Rattle.pref_core.proofs.ChangeCounts.{drop_item}
 use Rattle.pref_core.proofs.store.contents.Contents.keeps_slots.Goals as goal
 
 pub loop-at-preserved : goal.loop-at-preserved

@@ -1,8 +1,8 @@
 use Rattle.pref_core.proofs.Common.{◌+◌, ◌-◌, ◌++◌, length, replicate, Option, None, arith, refl, ap, ◌∙◌, subst, Version, IsKept, AreLinks, opening_slots}
-use Rattle.pref_core.proofs.Ends.{zones_opened}
-use Rattle.pref_core.proofs.Linked.{known_ids}
-use Rattle.pref_core.proofs.OpeningLinks.{opening_is}
-use Rattle.pref_core.proofs.Openings.{opened_kept}
+use Rattle.pref_core.proofs.UsesAfterQuery.{zones_opened}
+use Rattle.pref_core.proofs.IdsAfterCommit.{known_ids}
+use Rattle.pref_core.proofs.OpeningChains.{opening_is}
+use Rattle.pref_core.proofs.OpeningLaws.{opened_kept}
 use Rattle.pref_core.proofs.store.contents.Contents.new.Goals as goal
 
 pub invariant_of-result : goal.invariant_of-result
@@ -24,7 +24,7 @@ invariant_of-result c =
 pub returns-clause-opening : goal.returns-clause-opening
 returns-clause-opening c =
     let slots = c.in_ok-slots.ensures ∙ ap (λ n. opening_slots 0 c.args.rows.now ++ replicate {A = Option Version} (n - length c.args.rows.now) None) c.capacity-capacity.ensures.value in
-    let callers = c.in_ok-callers.ensures ∙ ap (λ n. replicate n (record { calls = 0; begun = None })) c.clients.ensures.value in
+    let callers = c.in_ok-callers.ensures ∙ ap (λ n. replicate n (record { calls = 0; at_begin = None })) c.clients.ensures.value in
     (λ i. record { slots = slots i; stamp = length c.args.rows.now; next_id = length c.args.rows.now + 1; callers = callers i })
 
 pub returns-clause-kept : goal.returns-clause-kept

@@ -1,6 +1,6 @@
 use Rattle.pref_core.proofs.Common.{refl, ap, ◌∙◌, row_at, Contents}
-use Rattle.pref_core.proofs.Filling.{replace_tracked}
-use Rattle.pref_core.proofs.Zones.{row_version}
+use Rattle.pref_core.proofs.FilledLaws.{replace_tracked}
+use Rattle.pref_core.proofs.SlotUseLaws.{row_version}
 use Rattle.pref_core.proofs.store.contents.Contents.replace.Goals as goal
 
 pub invariant_of-self : goal.invariant_of-self
@@ -9,4 +9,4 @@ invariant_of-self c =
     let contents : Contents = record { slots = now.slots.items; stamp = now.stamp; next_id = now.next_id; callers = now.callers.items } in
     let shows = ap (λ (s : Contents). row_at s.stamp c.args.id s.slots c.args.place) c.self.view_is ∙ c.requires in
     let found = row_version now.stamp c.args.id now.slots.items c.args.place shows in
-    replace_tracked contents now.places now.links c.args.id c.args.place found.0 c.self.invariant shows found.1 (record { id = c.args.id; row = c.args.row.now }) c.born.result refl c.born.ensures
+    replace_tracked contents now.places now.links c.args.id c.args.place found.0 c.self.invariant shows found.1 (record { id = c.args.id; row = c.args.row.now }) c.new_version.result refl c.new_version.ensures

@@ -1,5 +1,5 @@
 use Rattle.pref_core.proofs.Common.{drop, replaced, changes_of}
-use Rattle.pref_core.proofs.Replacing.{ReplacedUpTo}
+use Rattle.pref_core.proofs.ReplacedLaws.{ReplacedUpTo}
 use Rattle.pref_core.proofs.store.contents.Contents.replace_rows.Given as goal
 
 abbrev pub invariant-loop-at : goal.invariant-loop-at

@@ -1,5 +1,5 @@
 use Rattle.pref_core.proofs.Common.{◌+◌, ◌-◌, length, ap, arith, common_steps, Contents, ended}
-use Rattle.pref_core.proofs.Choosing.{size_is, freed_less}
+use Rattle.pref_core.proofs.ChosenSlots.{size_is, freed_less}
 use Rattle.pref_core.proofs.store.contents.Contents.size_after.Goals as goal
 
 pub returns : goal.returns

@@ -1,6 +1,6 @@
 use Rattle.pref_core.proofs.Common.{arith, change_of}
-use Rattle.pref_core.proofs.Bounds.{next_id-small}
-use Rattle.pref_core.proofs.Changing.{added_one}
+use Rattle.pref_core.proofs.BoundsLaws.{next_id-small}
+use Rattle.pref_core.proofs.ChangesLaws.{added_one}
 use Rattle.pref_core.proofs.store.contents.Contents.slots_at_once.Goals as goal
 
 pub overflow_add-next_id : goal.overflow_add-next_id

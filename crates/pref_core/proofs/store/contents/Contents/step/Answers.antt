@@ -1,5 +1,5 @@
 use Rattle.pref_core.proofs.Common.{◌≡◌, ◌&&◌, Bool, Some, true, false, refl, sym, ap, ◌∙◌, Contents, is_change, succeeds, op_of}
-use Rattle.pref_core.proofs.Filling.{slots_still}
+use Rattle.pref_core.proofs.FilledLaws.{slots_still}
 use Rattle.pref_core.proofs.store.contents.Contents.step.Goals.{then-is_change+then-succeeds, else-is_change, else-is_change-via-then-is_change+else-succeeds, else-is_change-via-else-is_change}
 use Rattle.pref_core.proofs.store.contents.Contents.step.Goals as goal
 

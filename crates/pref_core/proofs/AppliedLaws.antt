@@ -1,0 +1,136 @@
+-- An op that is legal at slots that stand for a state leaves slots that stand for the next one.
+use Rattle.pref_core.proofs.Common.{◌≡◌, ℕ, zero, suc, Bool, true, false, not, List, [], ◌∷◌, length, Option, Some, None, is_some, slice_set, refl, sym, ap, ◌∙◌, arith, AllZip, and_parts, eqb-true}
+use Rattle.pref_core.proofs.Common.{Version, Caller, Call, Insert, Update, Delete, Commit, Begin, Finish, Abandon, Outcome, Added, Done, NoSuchRow, Full, Op, State, Client, Snapshot, with_seat}
+use Rattle.pref_core.proofs.Common.{is_change, missing, ended, begun, begins_row, needed_after, success_outcome, outcome, succeeds, committed, begun_after, counted, after, is_formed, outcome_of, Contents}
+use Rattle.pref_core.proofs.Common.{StandsFor, StandsForClient, ShowsBegin, stamps, caller_calls, grown, filled, begin_after, callers_after, is_next, same_number, same_outcome, outcome_at, refusal_at}
+use Rattle.pref_core.proofs.Common.{slots_after, stepped}
+use Rattle.pref_core.proofs.CommitLaws.{grown_stands}
+use Rattle.pref_core.proofs.SlotReuse.{filled_stands}
+use Rattle.pref_core.proofs.OutcomeLaws.{SameSeat, nobody, somebody, same_seat, same_outcome_at}
+
+same_outcome-true : (a b : Outcome) → same_outcome a b ≡ true → a ≡ b
+same_outcome-true (Added a) (Added b) h = ap Added (eqb-true a b h)
+same_outcome-true Done Done h = refl
+same_outcome-true (NoSuchRow a) (NoSuchRow b) h = ap NoSuchRow (eqb-true a b h)
+same_outcome-true (Full a) (Full b) h = ap Full (eqb-true a b h)
+same_outcome-true (Added a) Done h = absurd (cc)
+same_outcome-true (Added a) (NoSuchRow b) h = absurd (cc)
+same_outcome-true (Added a) (Full b) h = absurd (cc)
+same_outcome-true Done (Added b) h = absurd (cc)
+same_outcome-true Done (NoSuchRow b) h = absurd (cc)
+same_outcome-true Done (Full b) h = absurd (cc)
+same_outcome-true (NoSuchRow a) (Added b) h = absurd (cc)
+same_outcome-true (NoSuchRow a) Done h = absurd (cc)
+same_outcome-true (NoSuchRow a) (Full b) h = absurd (cc)
+same_outcome-true (Full a) (Added b) h = absurd (cc)
+same_outcome-true (Full a) Done h = absurd (cc)
+same_outcome-true (Full a) (NoSuchRow b) h = absurd (cc)
+
+AllZip-set : {A B : Type 0} (R : A → B → Type 0) (xs : List A) (ys : List B) (k : ℕ) (a : A) (b : B) → R a b → AllZip R xs ys → AllZip R (slice_set xs k a) (slice_set ys k b)
+AllZip-set R [] [] k a b r h = tt
+AllZip-set R [] (y ∷ ys) k a b r h = absurd h
+AllZip-set R (x ∷ xs) [] k a b r h = absurd h
+AllZip-set R (x ∷ xs) (y ∷ ys) zero a b r h = (r, h.1)
+AllZip-set R (x ∷ xs) (y ∷ ys) (suc k) a b r h = (h.0, AllZip-set R xs ys k a b r h.1)
+
+AllZip-with_seat : {A B : Type 0} (R : A → B → Type 0) (xs : List A) (ys : List B) (client : ℕ) (a : A) (b : B) → R a b → AllZip R xs ys → AllZip R (with_seat client a xs) (with_seat client b ys)
+AllZip-with_seat R xs ys zero a b r h = h
+AllZip-with_seat R xs ys (suc k) a b r h = AllZip-set R xs ys k a b r h
+
+-- what a call makes of the client's open query
+begun_counts : (contents : Contents) (state : State) (call : Call) (b : Option ℕ) (f : Option Snapshot) → StandsFor contents state → ShowsBegin contents.slots contents.stamp b f
+    → ShowsBegin contents.slots contents.stamp (begin_after contents.stamp call b) (begun_after state call f)
+begun_counts contents state (Insert row) b f h s = s
+begun_counts contents state (Update id row) b f h s = s
+begun_counts contents state (Delete id) b f h s = s
+begun_counts contents state (Commit changes) b f h s = s
+begun_counts contents state Begin b f h s = (h.stamp, omega arith, h.table)
+begun_counts contents state Finish b f h s = tt
+begun_counts contents state Abandon b f h s = tt
+
+counted_stands : (contents : Contents) (state : State) (client : ℕ) (call : Call) → StandsFor contents state → StandsFor
+    (record { slots = contents.slots; stamp = contents.stamp; next_id = contents.next_id; callers = callers_after contents.stamp contents.callers client call })
+    (record { table = state.table; next_id = state.next_id; commits = state.commits; clients = counted state client call })
+counted_stands contents state client call h = record {
+  stamp = h.stamp;
+  next_id = h.next_id;
+  table = h.table;
+  clients = go (same_seat contents.slots contents.stamp contents.callers state.clients client h.clients);
+  separate = h.separate;
+  within = h.within;
+}
+  where
+    go : {a : Option Caller} {b : Option Client} → SameSeat contents.slots contents.stamp a b → AllZip (StandsForClient contents.slots contents.stamp)
+        (elim a as (λ x. List Caller) [ None ↦ contents.callers | Some found ↦ with_seat client (record { calls = suc found.calls; at_begin = begin_after contents.stamp call found.at_begin }) contents.callers ])
+        (elim b as (λ x. List Client) [ None ↦ state.clients | Some found ↦ with_seat client (record { calls = suc found.calls; at_begin = begun_after state call found.at_begin }) state.clients ])
+    go nobody = h.clients
+    go (somebody caller found s) = AllZip-with_seat (StandsForClient contents.slots contents.stamp) contents.callers state.clients client _ _
+        (record { calls = ap suc s.calls; at_begin = begun_counts contents state call caller.at_begin found.at_begin h s.at_begin }) h.clients
+
+-- a change that succeeds misses no row
+pub succeeds-missing : (capacity : ℕ) (begins : Bool) (m : Option ℕ) (size : ℕ) (success_outcome : Outcome) → succeeds (outcome_of capacity begins m size success_outcome) ≡ true → m ≡ None
+succeeds-missing capacity begins None size success_outcome h = refl
+succeeds-missing capacity begins (Some id) size success_outcome h = absurd (cc)
+
+-- a change counts a call and leaves the open query
+callers_after-change : (now later : ℕ) (callers : List Caller) (client : ℕ) (call : Call) → is_change call ≡ true → callers_after later callers client call ≡ callers_after now callers client call
+callers_after-change now later callers client (Insert row) c = refl
+callers_after-change now later callers client (Update id row) c = refl
+callers_after-change now later callers client (Delete id) c = refl
+callers_after-change now later callers client (Commit changes) c = refl
+callers_after-change now later callers client Begin c = absurd (cc)
+callers_after-change now later callers client Finish c = absurd (cc)
+callers_after-change now later callers client Abandon c = absurd (cc)
+
+counted-change : (state : State) (client : ℕ) (call : Call) → is_change call ≡ true → counted (committed call state) client call ≡ counted state client call
+counted-change state client (Insert row) c = refl
+counted-change state client (Update id row) c = refl
+counted-change state client (Delete id) c = refl
+counted-change state client (Commit changes) c = refl
+counted-change state client Begin c = absurd (cc)
+counted-change state client Finish c = absurd (cc)
+counted-change state client Abandon c = absurd (cc)
+
+-- what is legal of an op, by parts
+pub record IsAllowed (contents : Contents) (op : Op) : Type 0 where
+  pub accepted : refusal_at contents op.client op.call ≡ None
+  pub number : same_number (caller_calls contents op.client) op.number ≡ true
+  pub outcome : op.outcome ≡ outcome_at contents op.call
+  pub formed : is_formed op.call ≡ true
+
+pub IsAllowed-from : (contents : Contents) (op : Op) → is_next contents op ≡ true → IsAllowed contents op
+IsAllowed-from contents op h =
+    let all = and_parts _ (is_formed op.call) h in
+    let outer = and_parts _ (same_outcome op.outcome (outcome_at contents op.call)) all.0 in
+    let inner = and_parts (not (is_some (refusal_at contents op.client op.call))) (same_number (caller_calls contents op.client) op.number) outer.0 in
+    record { accepted = none (refusal_at contents op.client op.call) inner.0; number = inner.1; outcome = same_outcome-true _ _ outer.1; formed = all.1 }
+  where
+    none : {X : Type 0} (o : Option X) → not (is_some o) ≡ true → o ≡ None
+    none None e = refl
+    none (Some x) e = absurd (cc)
+
+pub stepped_stands : (contents : Contents) (state : State) (op : Op) (slots : List (Option Version)) → StandsFor contents state → is_next contents op ≡ true → slots_after contents op ≡ Some slots
+    → StandsFor (stepped contents op slots) (after (length contents.slots) state op.client op.call)
+stepped_stands contents state op slots h next fits = go (is_change op.call) refl (succeeds op.outcome) refl
+  where
+    same : op.outcome ≡ outcome (length contents.slots) state op.call
+    same = (IsAllowed-from contents op next).outcome ∙ same_outcome_at contents state op.call (IsAllowed-from contents op next).formed h
+
+    quiet : filled (stamps contents) contents.stamp op.slots [] contents.slots ≡ Some slots
+        → StandsFor (record { slots = slots; stamp = contents.stamp; next_id = contents.next_id; callers = callers_after contents.stamp contents.callers op.client op.call })
+        (record { table = state.table; next_id = state.next_id; commits = state.commits; clients = counted state op.client op.call })
+    quiet e = counted_stands (record { slots = slots; stamp = contents.stamp; next_id = contents.next_id; callers = contents.callers }) state op.client op.call
+        (filled_stands contents state contents.stamp op.slots [] contents.slots slots e h)
+
+    go : (c : Bool) → is_change op.call ≡ c → (s : Bool) → succeeds op.outcome ≡ s → StandsFor (stepped contents op slots) (after (length contents.slots) state op.client op.call)
+    go false c s o = rw c (quiet (rw c at fits))
+    go true c false o =
+        let refused = rw c at (ap succeeds (sym same) ∙ o) in
+        rw (c, o, refused) (quiet (rw (c, o) at fits))
+    go true c true o =
+        let granted_too = rw c at (ap succeeds (sym same) ∙ o) in
+        let none = succeeds-missing (length contents.slots) (begins_row op.call) (missing (ended op.call) state.table) (needed_after state op.call) (success_outcome state.next_id op.call) granted_too in
+        let grows = grown_stands contents state op.call c (IsAllowed-from contents op next).formed none h in
+        let placed = filled_stands (grown op.call contents) (committed op.call state) (suc contents.stamp) op.slots (begun contents.next_id op.call) _ slots (rw (c, o) at fits) grows in
+        let counts = counted_stands _ _ op.client op.call placed in
+        rw (c, o, granted_too) (rw (callers_after-change contents.stamp (suc contents.stamp) contents.callers op.client op.call c, counted-change state op.client op.call c) at counts)

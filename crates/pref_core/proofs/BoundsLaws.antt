@@ -1,0 +1,115 @@
+-- No number of a store comes near its type's end.
+use Rattle.pref_core.proofs.Common.{◌≡◌, ℕ, zero, suc, ◌+◌, ◌^◌, ◌<◌, ◌≤◌, Bool, true, false, cond, ◌&&◌, nat_lt, List, [], ◌∷◌, map, length, Option, Some, None, is_some, slice_get, slice_set, refl}
+use Rattle.pref_core.proofs.Common.{sym, ap, ◌∙◌, arith, AllByRecursion, sum_by, length-map, length-set, ltb-true, All-from_recursion, sum_by-le, sum_by-cons, Entry, Version, Caller, Call, Insert}
+use Rattle.pref_core.proofs.Common.{Update, Delete, Commit, Begin, Finish, Abandon, Spent, Op, seat, with_seat, is_change, succeeds, ended, begun, added, refusal_of, refusal_by_query, is_formed}
+use Rattle.pref_core.proofs.Common.{Contents, stamps, new_version, is_free, filled, close, slots_after, begin_after, callers_after, is_next, stepped, grown, IsBounded}
+use Rattle.pref_core.proofs.AppliedLaws.{IsAllowed, IsAllowed-from}
+use Rattle.pref_core.proofs.ChangesLaws.{commit_length}
+use Rattle.pref_core.proofs.ChangeCounts.{added_by-length}
+
+total-small : (callers : List Caller) → length callers ≤ 8 → AllByRecursion (λ caller. caller.calls ≤ 2 ^ 56) callers → sum_by (λ caller. caller.calls) callers ≤ 2 ^ 59
+total-small callers few small =
+    let all = sum_by-le (λ (caller : Caller). caller.calls) (2 ^ 56) callers (All-from_recursion (λ caller. caller.calls ≤ 2 ^ 56) callers small) in
+    omega arith
+
+pub stamp-small : (contents : Contents) → IsBounded contents → contents.stamp < 2 ^ 60
+stamp-small contents h = let total = total-small contents.callers h.callers h.calls in let at = h.stamp in omega arith
+
+pub next_id-small : (contents : Contents) → IsBounded contents → contents.next_id < 2 ^ 63
+next_id-small contents h = let total = total-small contents.callers h.callers h.calls in let at = h.next_id in omega arith
+
+pub sum_by-set_suc : {X : Type 0} (f : X → ℕ) (xs : List X) (k : ℕ) (x y : X) → slice_get xs k ≡ Some x → f y ≡ suc (f x) → sum_by f (slice_set xs k y) ≡ suc (sum_by f xs)
+sum_by-set_suc f [] k x y at h = absurd (cc)
+sum_by-set_suc f (z ∷ xs) zero x y at h =
+    let same : f z ≡ f x = let e : z ≡ x = cc in ap f e in
+    let a = sum_by-cons f y xs in
+    let b = sum_by-cons f z xs in
+    omega arith
+sum_by-set_suc f (z ∷ xs) (suc k) x y at h =
+    let rest = sum_by-set_suc f xs k x y at h in
+    let a = sum_by-cons f z (slice_set xs k y) in
+    let b = sum_by-cons f z xs in
+    omega arith
+
+pub AllByRecursion-set : {X : Type 0} (P : X → Type 0) (xs : List X) (k : ℕ) (y : X) → P y → AllByRecursion P xs → AllByRecursion P (slice_set xs k y)
+AllByRecursion-set P [] k y p h = tt
+AllByRecursion-set P (z ∷ xs) zero y p h = (p, h.1)
+AllByRecursion-set P (z ∷ xs) (suc k) y p h = (h.0, AllByRecursion-set P xs k y p h.1)
+
+-- the slots stay as many
+pub length-filled : (ns : List ℕ) (made : ℕ) (places : List ℕ) (begun : List Entry) (slots after : List (Option Version)) → filled ns made places begun slots ≡ Some after → length after ≡ length slots
+length-filled ns made [] [] slots after e = let same : slots ≡ after = cc in ap length (sym same)
+length-filled ns made (place ∷ places) (entry ∷ rest) slots after e = go (is_free ns slots place) e (length-filled ns made places rest (slice_set slots place (new_version made entry)) after)
+  where
+    go : (b : Bool) → cond b (filled ns made places rest (slice_set slots place (new_version made entry))) None ≡ Some after
+        → (filled ns made places rest (slice_set slots place (new_version made entry)) ≡ Some after → length after ≡ length (slice_set slots place (new_version made entry))) → length after ≡ length slots
+    go false e more = absurd (cc)
+    go true e more = more e ∙ length-set slots place (new_version made entry)
+length-filled ns made [] (entry ∷ rest) slots after e = absurd (cc)
+length-filled ns made (place ∷ places) [] slots after e = absurd (cc)
+
+pub length-slots_after : (contents : Contents) (op : Op) (slots : List (Option Version)) → slots_after contents op ≡ Some slots → length slots ≡ length contents.slots
+length-slots_after contents op slots fits = go (is_change op.call && succeeds op.outcome) refl
+  where
+    go : (b : Bool) → (is_change op.call && succeeds op.outcome) ≡ b → length slots ≡ length contents.slots
+    go true e = length-filled (stamps (grown op.call contents)) (suc contents.stamp) op.slots (begun contents.next_id op.call) (map (close (ended op.call) (suc contents.stamp)) contents.slots) slots (rw e at fits) ∙ length-map contents.slots (close (ended op.call) (suc contents.stamp))
+    go false e = length-filled (stamps contents) contents.stamp op.slots [] contents.slots slots (rw e at fits)
+
+-- what a call that is let in leaves of the callers
+record CountsOne (before after : List Caller) : Type 0 where
+  long : length after ≡ length before
+  calls : AllByRecursion (λ caller. caller.calls ≤ 2 ^ 56) before → AllByRecursion (λ caller. caller.calls ≤ 2 ^ 56) after
+  total : sum_by (λ caller. caller.calls) after ≡ suc (sum_by (λ caller. caller.calls) before)
+
+callers_count : (callers : List Caller) (client : ℕ) (new found : Caller) → seat client callers ≡ Some found → found.calls < 2 ^ 56 → new.calls ≡ suc found.calls → CountsOne callers (with_seat client new callers)
+callers_count callers zero new found at few same = absurd (cc)
+callers_count callers (suc k) new found at few same = record {
+  long = length-set callers k new;
+  calls = λ h. AllByRecursion-set (λ caller. caller.calls ≤ 2 ^ 56) callers k new (omega arith) h;
+  total = sum_by-set_suc (λ caller. caller.calls) callers k found new at same;
+}
+
+-- a caller that is let in has made fewer calls than may be made
+pub few_calls : (calls : ℕ) (b : Bool) (call : Call) → refusal_of (Some calls) b call ≡ None → calls < 2 ^ 56
+few_calls calls b call h = go (nat_lt calls (2 ^ 56)) refl h
+  where
+    go : (t : Bool) → nat_lt calls (2 ^ 56) ≡ t → cond t (refusal_by_query b call) (Some Spent) ≡ None → calls < 2 ^ 56
+    go true e h = ltb-true _ _ e
+    go false e h = absurd (cc)
+
+callers_after-counts : (contents : Contents) (op : Op) → IsAllowed contents op → CountsOne contents.callers (callers_after contents.stamp contents.callers op.client op.call)
+callers_after-counts contents op allowed = go (seat op.client contents.callers) refl allowed.accepted
+  where
+    go : (o : Option Caller) → seat op.client contents.callers ≡ o
+        → refusal_of (elim o as (λ x. Option ℕ) [ None ↦ None | Some caller ↦ Some caller.calls ]) (is_some (elim o as (λ x. Option ℕ) [ None ↦ None | Some caller ↦ caller.at_begin ])) op.call ≡ None
+        → CountsOne contents.callers (elim o as (λ x. List Caller) [ None ↦ contents.callers | Some found ↦ with_seat op.client (record { calls = suc found.calls; at_begin = begin_after contents.stamp op.call found.at_begin }) contents.callers ])
+    go None at r = absurd (cc)
+    go (Some found) at r = callers_count contents.callers op.client _ found at (few_calls found.calls (is_some found.at_begin) op.call r) refl
+
+-- a call adds no more rows than a commit may have changes
+pub added-small : (call : Call) → is_formed call ≡ true → added call ≤ 8
+added-small (Insert row) f = omega arith
+added-small (Update id row) f = omega arith
+added-small (Delete id) f = omega arith
+added-small (Commit changes) f = let long = added_by-length changes in let few = commit_length changes f in omega arith
+added-small Begin f = omega arith
+added-small Finish f = omega arith
+added-small Abandon f = omega arith
+
+pub IsBounded-stepped : (contents : Contents) (op : Op) (slots : List (Option Version)) → IsBounded contents → is_next contents op ≡ true → slots_after contents op ≡ Some slots → IsBounded (stepped contents op slots)
+IsBounded-stepped contents op slots h next fits =
+    let counts = callers_after-counts contents op (IsAllowed-from contents op next) in
+    let long = length-slots_after contents op slots fits in
+    let few = added-small op.call (IsAllowed-from contents op next).formed in
+    let total = counts.total in
+    let old_slots = h.slots in
+    let old_callers = h.callers in
+    let old_stamp = h.stamp in
+    let old_id = h.next_id in
+    let many = counts.long in
+    elim (is_change op.call && succeeds op.outcome) as (λ b. IsBounded (cond b
+    (record { slots = slots; stamp = suc contents.stamp; next_id = contents.next_id + added op.call; callers = callers_after contents.stamp contents.callers op.client op.call })
+    (record { slots = slots; stamp = contents.stamp; next_id = contents.next_id; callers = callers_after contents.stamp contents.callers op.client op.call }))) [
+      | true ↦ record { slots = omega arith; callers = omega arith; calls = counts.calls h.calls; stamp = omega arith; next_id = omega arith }
+      | false ↦ record { slots = omega arith; callers = omega arith; calls = counts.calls h.calls; stamp = omega arith; next_id = omega arith }
+    ]

@@ -1,0 +1,78 @@
+-- How many changes a call makes, and how many rows they begin and add, one change after the other.
+use Rattle.pref_core.proofs.Common.{◌≡◌, ℕ, zero, suc, ◌+◌, ◌<◌, ◌≤◌, Bool, true, false, ◌||◌, cond, eqb, List, [], ◌∷◌, ◌++◌, length, take, drop, get_or, slice_get, add-one, Some, refl, sym, ap, ◌∙◌}
+use Rattle.pref_core.proofs.Common.{arith, nat_lt, drop-cons, lt-ltb, eq-eqb, or_right, take-append-drop, Change, Add, Set, Remove, ended_by, begun_by, added_by, begins_any, among}
+use Rattle.pref_core.proofs.ChangesLaws.{ended_by-append, drop_at}
+
+pub drop_item : {X : Type 0} (xs : List X) (at : ℕ) (x other : X) → x ≡ get_or xs at other → at < length xs → drop at xs ≡ x ∷ drop (at + 1) xs
+drop_item xs at x other is inside = drop-cons xs at other inside ∙ ap (λ y. y ∷ drop (suc at) xs) (sym is) ∙ ap (λ n. x ∷ drop n xs) (sym (add-one at))
+
+-- a place at which something is left
+pub drop_inside : {X : Type 0} (xs : List X) (at : ℕ) (x : X) (rest : List X) → drop at xs ≡ x ∷ rest → at < length xs
+drop_inside [] zero x rest e = absurd (cc)
+drop_inside [] (suc at) x rest e = absurd (cc)
+drop_inside (y ∷ xs) zero x rest e = omega arith
+drop_inside (y ∷ xs) (suc at) x rest e = let more = drop_inside xs at x rest e in omega arith
+
+pub drop_more : {X : Type 0} (xs : List X) (at : ℕ) → drop 1 (drop at xs) ≡ drop (at + 1) xs
+drop_more [] zero = refl
+drop_more {X} [] (suc at) = ap (λ n. drop n []) (sym (add-one (suc at)))
+drop_more (x ∷ xs) zero = refl
+drop_more (x ∷ xs) (suc at) = drop_more xs at ∙ ap (λ n. drop n xs) (add-one at) ∙ ap (λ n. drop n (x ∷ xs)) (sym (add-one (suc at)))
+
+-- The ids that the first changes end, and the next one.
+pub ended_first : (at : ℕ) (changes : List Change) → length (ended_by (take at changes)) ≤ at
+ended_first zero [] = omega arith
+ended_first zero (change ∷ rest) = omega arith
+ended_first (suc at) [] = omega arith
+ended_first (suc at) (Add row ∷ rest) = let more = ended_first at rest in omega arith
+ended_first (suc at) (Set id row ∷ rest) = let more = ended_first at rest in omega arith
+ended_first (suc at) (Remove id ∷ rest) = let more = ended_first at rest in omega arith
+
+pub ended_next : (changes : List Change) (at : ℕ) (change : Change) (id : ℕ) → slice_get changes at ≡ Some change → ended_by (change ∷ []) ≡ id ∷ [] → ended_by changes ≡ ended_by (take at changes) ++ id ∷ ended_by (drop (at + 1) changes)
+ended_next changes at change id e named =
+    ap ended_by (sym (take-append-drop at changes)) ∙ ended_by-append (take at changes) (drop at changes)
+    ∙ ap (λ l. ended_by (take at changes) ++ ended_by l) (drop_at changes at change e)
+    ∙ ap (λ l. ended_by (take at changes) ++ l) (ended_by-append (change ∷ []) (drop (at + 1) changes) ∙ ap (λ l. l ++ ended_by (drop (at + 1) changes)) named)
+
+pub named_at : (changes : List Change) (at : ℕ) (change : Change) (id : ℕ) → slice_get changes at ≡ Some change → ended_by (change ∷ []) ≡ id ∷ [] → among (ended_by changes) id ≡ true
+named_at changes at change id e named = ap (λ l. among l id) (ended_next changes at change id e named) ∙ behind (ended_by (take at changes))
+  where
+    rest : List ℕ
+    rest = ended_by (drop (at + 1) changes)
+
+    behind : (ids : List ℕ) → among (ids ++ id ∷ rest) id ≡ true
+    behind [] = ap (λ b. b || among rest id) (eq-eqb id id refl)
+    behind (other ∷ ids) = or_right (eqb other id) (among (ids ++ id ∷ rest) id) (behind ids)
+
+-- The next id has no say in how many rows begin.
+begun_alike : (m n : ℕ) (changes : List Change) → length (begun_by m changes) ≡ length (begun_by n changes)
+begun_alike m n [] = refl
+begun_alike m n (Add row ∷ rest) = ap suc (begun_alike (suc m) (suc n) rest)
+begun_alike m n (Set id row ∷ rest) = ap suc (begun_alike m n rest)
+begun_alike m n (Remove id ∷ rest) = begun_alike m n rest
+
+pub one_begins : (next : ℕ) (change : Change) (rest : List Change) (begins : Bool) → begins_any (change ∷ []) ≡ begins → length (begun_by next (change ∷ rest)) ≡ cond begins (suc (length (begun_by next rest))) (length (begun_by next rest))
+one_begins next (Add row) rest true e = ap suc (begun_alike (suc next) next rest)
+one_begins next (Add row) rest false e = absurd (cc)
+one_begins next (Set id row) rest true e = refl
+one_begins next (Set id row) rest false e = absurd (cc)
+one_begins next (Remove id) rest true e = absurd (cc)
+one_begins next (Remove id) rest false e = refl
+
+pub one_adds : (change : Change) (rest : List Change) → added_by (change ∷ rest) ≡ added_by (change ∷ []) + added_by rest
+one_adds (Add row) rest = omega arith
+one_adds (Set id row) rest = omega arith
+one_adds (Remove id) rest = omega arith
+
+-- changes begin a row where the rows that they begin are more than none
+pub begins_some : (next : ℕ) (changes : List Change) → nat_lt 0 (length (begun_by next changes)) ≡ begins_any changes
+begins_some next [] = refl
+begins_some next (Add row ∷ rest) = lt-ltb 0 (suc (length (begun_by (suc next) rest))) (omega arith)
+begins_some next (Set id row ∷ rest) = lt-ltb 0 (suc (length (begun_by next rest))) (omega arith)
+begins_some next (Remove id ∷ rest) = begins_some next rest
+
+pub added_by-length : (changes : List Change) → added_by changes ≤ length changes
+added_by-length [] = omega arith
+added_by-length (Add row ∷ rest) = let more = added_by-length rest in omega arith
+added_by-length (Set id row ∷ rest) = let more = added_by-length rest in omega arith
+added_by-length (Remove id ∷ rest) = let more = added_by-length rest in omega arith

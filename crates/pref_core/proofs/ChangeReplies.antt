@@ -1,0 +1,205 @@
+-- What a machine tells at each act is the system's reply: changes and begins.
+use Rattle.pref_core.proofs.Common.{◌≡◌, ℕ, ◌^◌, Bool, true, false, cond, nat_lt, List, Option, Some, None, is_some, Ok, Err, Result, inl, refl, sym, ap, ◌∙◌, subst, option_map, Question, Call}
+use Rattle.pref_core.proofs.Common.{CallInsert, CallUpdate, CallDelete, CallCommit, Begin, Finish, Abandon, Outcome, Added, Done, NoSuchRow, Full, Op, CoreFault, NoSuchClient, Spent, QueryOpen, Act}
+use Rattle.pref_core.proofs.Common.{ActBegin, Reply, Begun, Limits, AreAllowed, blocks, State, is_change, seat, with_seat, refusal, refusal_of, refusal_by_query, begun_after, outcome, Open, Member}
+use Rattle.pref_core.proofs.Common.{System, Step, snapshot, state_of, refused, counted_with, changed, change, step, Contents, StandsFor, adds, PlansIn, applied, Scan, begin, Running, StandsForSystem}
+use Rattle.pref_core.proofs.Common.{is_refusal, Returns, reply_for, step_of}
+use Rattle.pref_core.specs.MachineParts.{change_of, numbered}
+use Rattle.pref_core.proofs.VisibleAfterOp.{length-applied}
+use Rattle.pref_core.proofs.SystemsLaws.{refusal_there, refusal_nobody, IsThere, IsThere-from, IsLetIn, IsLetIn-from, changed_stands, queried_stands, follows_begun}
+
+-- what `plan` says of a store, in every state that it stands for
+abbrev pub PlansAlways : Contents → ℕ → Call → Result Op CoreFault → Type 0
+PlansAlways contents client call result = (state : State) → StandsFor contents state → PlansIn state contents client call result
+
+abbrev pub running_of : Contents → Limits → List (Option Scan) → Running
+running_of contents limits scans = record { contents = contents; limits = limits; scans = scans }
+
+-- a refusal that changes nothing
+pub refused_tells : (running : Running) (system : System) (right : Step) (act : Act) (fault : CoreFault) → StandsForSystem running system → right ≡ refused fault system → Returns running right act (Err fault) running
+refused_tells running system right act fault h is = subst (λ r. Returns running r act (Err fault) running) (sym is) (inl (refl, h))
+
+-- nobody is refused whatever it does
+pub nobody_steps : (limits : Limits) (system : System) (client : ℕ) (act : Act) → seat client system.members ≡ None → step limits system (record { client = client; act = act }) ≡ refused NoSuchClient system
+nobody_steps limits system client act at = ap (λ (o : Option Member). elim o as (λ x. Step) [ None ↦ refused NoSuchClient system | Some member ↦ step_of limits system client member act member.query ]) at
+
+pub somebody_steps : (limits : Limits) (system : System) (client : ℕ) (act : Act) (member : Member) → seat client system.members ≡ Some member → step limits system (record { client = client; act = act }) ≡ step_of limits system client member act member.query
+somebody_steps limits system client act member at = ap (λ (o : Option Member). elim o as (λ x. Step) [ None ↦ refused NoSuchClient system | Some member ↦ step_of limits system client member act member.query ]) at
+
+pub let_in_steps : (member : Member) (system : System) (right : Step) → nat_lt member.calls (2 ^ 56) ≡ true → numbered member system right ≡ right
+let_in_steps member system right h = ap (λ b. cond b right (refused Spent system)) h
+
+-- the same fault
+pub the_fault : (a b : CoreFault) → Some a ≡ Some b → a ≡ b
+the_fault a b e = cc
+
+-- a numbered call that is refused: what the step is where the query lets it in or not
+numbered_refused : (system : System) (member : Member) (call : Call) (right : Step) (fault : CoreFault)
+    → ((early : CoreFault) → refusal_by_query (is_some (option_map snapshot member.query)) call ≡ Some early → right ≡ refused early system)
+    → refusal_of (Some member.calls) (is_some (option_map snapshot member.query)) call ≡ Some fault → numbered member system right ≡ refused fault system
+numbered_refused system member call right fault open_ e = go (nat_lt member.calls (2 ^ 56)) e
+  where
+    go : (b : Bool) → cond b (refusal_by_query (is_some (option_map snapshot member.query)) call) (Some Spent) ≡ Some fault → cond b right (refused Spent system) ≡ refused fault system
+    go true h = open_ fault h
+    go false h = ap (λ f. refused f system) (the_fault Spent fault h)
+
+-- What comes of a planned change.
+record Comes (running : Running) (system : System) (client : ℕ) (call : Call) (done : Reply) (op : Op) : Type 0 where
+  who : Member
+  at : seat client system.members ≡ Some who
+  is : change_of running.limits system client call done ≡ changed op.outcome done call (counted_with who.query client who system)
+
+comes : (running : Running) (system : System) (client : ℕ) (call : Call) (done : Reply) (op : Op) → StandsForSystem running system → PlansAlways running.contents client call (Ok op) → Comes running system client call done op
+comes running system client call done op h plans = record {
+  who = there.who;
+  at = there.at;
+  is = ap (λ (o : Option Member). elim o as (λ x. Step) [ None ↦ refused NoSuchClient system | Some member ↦ numbered member system (change running.limits system client member call done) ]) there.at
+      ∙ let_in_steps there.who system _ (IsLetIn-from system client there.who call there.at accepted).unspent
+      ∙ ap (λ o. changed o done call (counted_with there.who.query client there.who system)) (sym outcome_is);
+}
+  where
+    plan : PlansIn (state_of system) running.contents client call (Ok op)
+    plan = plans (state_of system) h.store
+
+    accepted : refusal (state_of system) client call ≡ None
+    accepted = (λ i. refusal (state_of system) (sym plan.0 i) (sym plan.1 i)) ∙ plan.2.next.accepted
+
+    there : IsThere system client
+    there = IsThere-from system client call accepted
+
+    outcome_is : op.outcome ≡ outcome running.limits.capacity (state_of system) call
+    outcome_is = plan.2.next.outcome ∙ (λ i. outcome (h.capacity i) (state_of system) (plan.1 i))
+
+-- A planned change that adds a row is not refused.
+pub adding_not_refused : (running : Running) (system : System) (client : ℕ) (call : Call) (done : Reply) (op : Op) → is_refusal done ≡ false → adds op.outcome ≡ true → StandsForSystem running system → PlansAlways running.contents client call (Ok op)
+    → is_refusal (change_of running.limits system client call done).reply ≡ false
+adding_not_refused running system client call done op quiet adding h plans = ap (λ (right : Step). is_refusal right.reply) change_comes.is ∙ go op.outcome adding
+  where
+    change_comes : Comes running system client call done op
+    change_comes = comes running system client call done op h plans
+
+    go : (o : Outcome) → adds o ≡ true → is_refusal (changed o done call (counted_with change_comes.who.query client change_comes.who system)).reply ≡ false
+    go (Added id) adding = quiet
+    go Done adding = absurd (cc)
+    go (NoSuchRow id) adding = absurd (cc)
+    go (Full size) adding = absurd (cc)
+
+-- Changes.
+pub change_tells : (running : Running) (system : System) (client : ℕ) (call : Call) (done : Reply) (op : Op) (new : Contents) (act : Act) → is_change call ≡ true → is_refusal done ≡ false → StandsForSystem running system → PlansAlways running.contents client call (Ok op) → new ≡ applied running.contents op
+    → Returns running (change_of running.limits system client call done) act (reply_for op.outcome done) (running_of new running.limits running.scans)
+change_tells running system client call done op new act c quiet h plans is = subst (λ r. Returns running r act (reply_for op.outcome done) after) (sym change_comes.is) (tell op.outcome stands)
+  where
+    after : Running
+    after = running_of new running.limits running.scans
+
+    change_comes : Comes running system client call done op
+    change_comes = comes running system client call done op h plans
+
+    plan : PlansIn (state_of system) running.contents client call (Ok op)
+    plan = plans (state_of system) h.store
+
+    outcome_is : op.outcome ≡ outcome running.limits.capacity (state_of system) op.call
+    outcome_is = plan.2.next.outcome ∙ ap (λ n. outcome n (state_of system) op.call) h.capacity
+
+    stands : StandsForSystem after (changed op.outcome done call (counted_with change_comes.who.query client change_comes.who system)).next
+    stands =
+        subst (λ s. StandsForSystem (running_of s running.limits running.scans) (changed op.outcome done call (counted_with change_comes.who.query client change_comes.who system)).next) (sym is)
+        (subst (λ k. StandsForSystem (running_of (applied running.contents op) running.limits running.scans) (changed op.outcome done k (counted_with change_comes.who.query client change_comes.who system)).next) plan.1
+        (subst (λ n. StandsForSystem (running_of (applied running.contents op) running.limits running.scans) (changed op.outcome done op.call (counted_with change_comes.who.query n change_comes.who system)).next) plan.0
+        (subst (λ o. StandsForSystem (running_of (applied running.contents op) running.limits running.scans) (changed o done op.call (counted_with change_comes.who.query op.client change_comes.who system)).next) (sym outcome_is)
+        (changed_stands running system op change_comes.who done (ap (λ n. seat n system.members) plan.0 ∙ change_comes.at) h plan.2 (ap is_change plan.1 ∙ c)))))
+
+    tell : (o : Outcome) → StandsForSystem after (changed o done call (counted_with change_comes.who.query client change_comes.who system)).next
+        → Returns running (changed o done call (counted_with change_comes.who.query client change_comes.who system)) act (reply_for o done) after
+    tell (Added id) s = (refl, quiet, s)
+    tell Done s = (refl, quiet, s)
+    tell (NoSuchRow id) s = inl (refl, s)
+    tell (Full size) s = inl (refl, s)
+
+pub change_refused : (running : Running) (system : System) (client : ℕ) (call : Call) (done : Reply) (fault : CoreFault) (act : Act) → is_change call ≡ true → StandsForSystem running system → PlansAlways running.contents client call (Err fault)
+    → Returns running (change_of running.limits system client call done) act (Err fault) running
+change_refused running system client call done fault act c h plans = refused_tells running system _ act fault h (go (seat client system.members) refl)
+  where
+    returned : refusal (state_of system) client call ≡ Some fault
+    returned = plans (state_of system) h.store
+
+    no_early : (call : Call) (b : Bool) (early : CoreFault) → is_change call ≡ true → refusal_by_query b call ≡ Some early → ⊥
+    no_early (CallInsert row) true early c e = cc
+    no_early (CallInsert row) false early c e = cc
+    no_early (CallUpdate id row) true early c e = cc
+    no_early (CallUpdate id row) false early c e = cc
+    no_early (CallDelete id) true early c e = cc
+    no_early (CallDelete id) false early c e = cc
+    no_early (CallCommit changes) true early c e = cc
+    no_early (CallCommit changes) false early c e = cc
+    no_early Begin b early c e = cc
+    no_early Finish b early c e = cc
+    no_early Abandon b early c e = cc
+
+    go : (o : Option Member) → seat client system.members ≡ o
+        → elim o as (λ x. Step) [ None ↦ refused NoSuchClient system | Some member ↦ numbered member system (change running.limits system client member call done) ] ≡ refused fault system
+    go None at = ap (λ f. refused f system) (the_fault NoSuchClient fault (sym (refusal_nobody system client call at) ∙ returned))
+    go (Some member) at = numbered_refused system member call (change running.limits system client member call done) fault
+        (λ early e. absurd (no_early call (is_some (option_map snapshot member.query)) early c e)) (sym (refusal_there system client member call at) ∙ returned)
+
+-- A query begins.
+pub begin_tells : (running : Running) (system : System) (client : ℕ) (ask : Question) (op : Op) (new : Contents) (stamp : ℕ) → AreAllowed running.limits → stamp ≡ running.contents.stamp → StandsForSystem running system → PlansAlways running.contents client Begin (Ok op) → new ≡ applied running.contents op
+    → Returns running (step running.limits system (record { client = client; act = ActBegin ask })) (ActBegin ask) (Ok (Begun (blocks running.limits))) (running_of new running.limits (with_seat client (Some (begin ask stamp running.limits)) running.scans))
+begin_tells running system client ask op new stamp allowed now h plans is =
+    subst (λ r. Returns running r (ActBegin ask) (Ok (Begun (blocks running.limits))) (running_of new running.limits (with_seat client (Some (begin ask stamp running.limits)) running.scans))) (sym right) (refl, refl, stands)
+  where
+    plan : PlansIn (state_of system) running.contents client Begin (Ok op)
+    plan = plans (state_of system) h.store
+
+    accepted : refusal (state_of system) client Begin ≡ None
+    accepted = (λ i. refusal (state_of system) (sym plan.0 i) (sym plan.1 i)) ∙ plan.2.next.accepted
+
+    there : IsThere system client
+    there = IsThere-from system client Begin accepted
+
+    let_in : IsLetIn there.who Begin
+    let_in = IsLetIn-from system client there.who Begin there.at accepted
+
+    opens : Open
+    opens = record { ask = ask; table = system.table; commits = system.commits; left = blocks running.limits }
+
+    right : step running.limits system (record { client = client; act = ActBegin ask })
+        ≡ record { reply = Begun (blocks running.limits); next = counted_with (Some (record { ask = ask; table = system.table; commits = system.commits; left = blocks running.limits })) client there.who system }
+    right = somebody_steps running.limits system client (ActBegin ask) there.who there.at ∙ go there.who.query let_in.allowed
+      where
+        go : (q : Option Open) → refusal_by_query (is_some (option_map snapshot q)) Begin ≡ None → step_of running.limits system client there.who (ActBegin ask) q
+            ≡ record { reply = Begun (blocks running.limits); next = counted_with (Some (record { ask = ask; table = system.table; commits = system.commits; left = blocks running.limits })) client there.who system }
+        go None e = let_in_steps there.who system _ let_in.unspent
+        go (Some query) e = absurd (cc)
+
+    stands : StandsForSystem (running_of new running.limits (with_seat client (Some (begin ask stamp running.limits)) running.scans)) (counted_with (Some (record { ask = ask; table = system.table; commits = system.commits; left = blocks running.limits })) client there.who system)
+    stands =
+        subst (λ s. StandsForSystem (running_of s running.limits (with_seat client (Some (begin ask stamp running.limits)) running.scans)) (counted_with (Some (record { ask = ask; table = system.table; commits = system.commits; left = blocks running.limits })) client there.who system)) (sym is)
+        (subst (λ n. StandsForSystem (running_of (applied running.contents op) running.limits (with_seat n (Some (begin ask stamp running.limits)) running.scans)) (counted_with (Some (record { ask = ask; table = system.table; commits = system.commits; left = blocks running.limits })) n there.who system)) plan.0
+        (queried_stands running system op there.who (Some (begin ask stamp running.limits)) (Some (record { ask = ask; table = system.table; commits = system.commits; left = blocks running.limits })) (ap (λ n. seat n system.members) plan.0 ∙ there.at) h plan.2 (ap is_change plan.1)
+        (ap (λ call. begun_after (state_of system) call (option_map snapshot there.who.query)) (sym plan.1))
+        (follows_begun running.limits (applied running.contents op).slots ask system stamp allowed (length-applied running.contents (state_of system) op h.store plan.2 ∙ h.capacity) (now ∙ h.store.stamp))))
+
+pub begin_refused : (running : Running) (system : System) (client : ℕ) (ask : Question) (fault : CoreFault) → StandsForSystem running system → PlansAlways running.contents client Begin (Err fault)
+    → Returns running (step running.limits system (record { client = client; act = ActBegin ask })) (ActBegin ask) (Err fault) running
+begin_refused running system client ask fault h plans = refused_tells running system _ (ActBegin ask) fault h (go (seat client system.members) refl)
+  where
+    returned : refusal (state_of system) client Begin ≡ Some fault
+    returned = plans (state_of system) h.store
+
+    at_query : (member : Member) (q : Option Open) → refusal_of (Some member.calls) (is_some (option_map snapshot q)) Begin ≡ Some fault → step_of running.limits system client member (ActBegin ask) q ≡ refused fault system
+    at_query member None e = none (nat_lt member.calls (2 ^ 56)) e _
+      where
+        none : (b : Bool) → cond b None (Some Spent) ≡ Some fault → (right : Step) → cond b right (refused Spent system) ≡ refused fault system
+        none true h right = absurd (cc)
+        none false h right = ap (λ f. refused f system) (the_fault Spent fault h)
+    at_query member (Some query) e = some (nat_lt member.calls (2 ^ 56)) e
+      where
+        some : (b : Bool) → cond b (Some QueryOpen) (Some Spent) ≡ Some fault → cond b (refused QueryOpen system) (refused Spent system) ≡ refused fault system
+        some true h = ap (λ f. refused f system) (the_fault QueryOpen fault h)
+        some false h = ap (λ f. refused f system) (the_fault Spent fault h)
+
+    go : (o : Option Member) → seat client system.members ≡ o
+        → elim o as (λ x. Step) [ None ↦ refused NoSuchClient system | Some member ↦ step_of running.limits system client member (ActBegin ask) member.query ] ≡ refused fault system
+    go None at = ap (λ f. refused f system) (the_fault NoSuchClient fault (sym (refusal_nobody system client Begin at) ∙ returned))
+    go (Some member) at = at_query member member.query (sym (refusal_there system client member Begin at) ∙ returned)

@@ -1,0 +1,115 @@
+-- The slots of the rows that a call begins, chosen one after the other.
+use Rattle.pref_core.proofs.Common.{◌≡◌, ℕ, suc, ◌+◌, ◌<◌, ◌≤◌, Bool, true, false, ◌&&◌, cond, List, [], ◌∷◌, ◌++◌, map, length, Option, Some, None, Result, Ok, Err, is_some, slice_set, refl, sym, ap}
+use Rattle.pref_core.proofs.Common.{◌∙◌, subst, arith, count_by, length-map, length-append, append-nil, append_assoc, le-ltb, Version, Call, Op, NoSuchRow, Entry, Change, Add, Set, Remove}
+use Rattle.pref_core.proofs.Common.{begun_by, begins_any, among, changes_of, ended, begun, begins_row, is_change, missing, success_outcome, succeeds, Contents, begins, new_version, visible, close, filled, placed}
+use Rattle.pref_core.proofs.Common.{used, grown, is_free, outcome_at, outcome_of, is_free_use, IsFreed, FindsFreed, is_open, uses_of}
+use Rattle.pref_core.proofs.ChangesLaws.{begun_few}
+use Rattle.pref_core.proofs.PlanLaws.{succeeds-fits}
+use Rattle.pref_core.proofs.SlotsForAll.{count_grown, filled_snoc, free_still, some_left}
+
+abbrev pub closed_slots : Contents → List ℕ → List (Option Version)
+closed_slots contents ids = map (close ids (suc contents.stamp)) contents.slots
+
+abbrev pub stamps_next : Contents → List ℕ
+stamps_next contents = suc contents.stamp ∷ begins contents.callers
+
+-- The size that code computes.
+pub size_is : (contents : Contents) (call : Call) (freed : List ℕ) (size free begun_rows : ℕ) → IsFreed contents (ended call) freed
+    → begun_rows ≡ length (begun contents.next_id call) → free ≡ count_by is_free_use (uses_of contents) + length freed → size + free ≡ length contents.slots + begun_rows → size ≡ used (grown call contents)
+size_is contents call freed size free begun_rows h rows is returned =
+    let more = count_grown (suc contents.stamp) (begins contents.callers) (begun contents.next_id call) (closed_slots contents (ended call)) in
+    let all = h.counted in
+    omega arith
+
+pub freed_less : (contents : Contents) (ids freed : List ℕ) → IsFreed contents ids freed → count_by is_free_use (uses_of contents) + length freed ≤ length contents.slots
+freed_less contents ids freed h = let all = h.counted in omega arith
+
+-- The outcome of a change that misses no row.
+pub outcome_missing : (contents : Contents) (call : Call) (id : ℕ) → is_change call ≡ true → missing (ended call) (visible contents.stamp contents.slots) ≡ Some id → NoSuchRow id ≡ outcome_at contents call
+outcome_missing contents call id c none = rw (c, none) refl
+
+-- A call that misses a row does nothing.
+pub missing_quiet : (contents : Contents) (op : Op) (freed : Result (List ℕ) ℕ) → FindsFreed contents (ended op.call) freed → ((places : List ℕ) → freed ≡ Ok places → ⊥) → op.outcome ≡ outcome_at contents op.call → (is_change op.call && succeeds op.outcome) ≡ false
+missing_quiet contents op (Ok places) finds not returned = absurd (not places refl)
+missing_quiet contents op (Err id) finds not returned = go (is_change op.call) refl
+  where
+    go : (b : Bool) → is_change op.call ≡ b → (is_change op.call && succeeds op.outcome) ≡ false
+    go false c = ap (λ b. b && succeeds op.outcome) c
+    go true c = ap (λ b. b && succeeds op.outcome) c ∙ ap succeeds (returned ∙ sym (outcome_missing contents op.call id c finds))
+
+pub outcome_fits : (contents : Contents) (call : Call) (size : ℕ) → is_change call ≡ true → missing (ended call) (visible contents.stamp contents.slots) ≡ None → begins_row call ≡ true → size ≡ used (grown call contents) → size ≤ length contents.slots → success_outcome contents.next_id call ≡ outcome_at contents call
+outcome_fits contents call size c none row is small =
+    let less : used (grown call contents) ≤ length contents.slots = omega arith in
+    let within = le-ltb (length contents.slots) (used (grown call contents)) less in
+    rw (c, none, row, within) refl
+
+pub outcome_other : (contents : Contents) (call : Call) → is_change call ≡ true → missing (ended call) (visible contents.stamp contents.slots) ≡ None → begins_row call ≡ false → success_outcome contents.next_id call ≡ outcome_at contents call
+outcome_other contents call c none row = rw (c, none, row) refl
+
+begins_where : (changes : List Change) (next : ℕ) (done : List Entry) (fresh : Entry) (rest : List Entry) → begun_by next changes ≡ done ++ fresh ∷ rest → begins_any changes ≡ true
+begins_where [] next [] fresh rest e = absurd (cc)
+begins_where [] next (entry ∷ done) fresh rest e = absurd (cc)
+begins_where (Add row ∷ changes) next done fresh rest e = refl
+begins_where (Set id row ∷ changes) next done fresh rest e = refl
+begins_where (Remove id ∷ changes) next done fresh rest e = begins_where changes next done fresh rest e
+
+-- Rows that have their slots, before those that are left.
+pub record ChosenUpTo (contents : Contents) (call : Call) (rest : List Entry) (chosen : List ℕ) : Type 0 where
+  pub done : List Entry
+  pub all : begun contents.next_id call ≡ done ++ rest
+  pub now : List (Option Version)
+  pub fills : filled (stamps_next contents) (suc contents.stamp) chosen done (closed_slots contents (ended call)) ≡ Some now
+
+pub none_chosen : (contents : Contents) (call : Call) → ChosenUpTo contents call (begun contents.next_id call) []
+none_chosen contents call = record { done = []; all = refl; now = closed_slots contents (ended call); fills = refl }
+
+pub filled_long : (ns : List ℕ) (made : ℕ) (places : List ℕ) (begun : List Entry) (slots after : List (Option Version)) → filled ns made places begun slots ≡ Some after → length places ≡ length begun
+filled_long ns made [] [] slots after e = refl
+filled_long ns made [] (fresh ∷ rest) slots after e = absurd (cc)
+filled_long ns made (place ∷ places) [] slots after e = absurd (cc)
+filled_long ns made (place ∷ places) (fresh ∷ rest) slots after e = go (is_free ns slots place) e (filled_long ns made places rest (slice_set slots place (new_version made fresh)) after)
+  where
+    go : (b : Bool) → cond b (filled ns made places rest (slice_set slots place (new_version made fresh))) None ≡ Some after → (filled ns made places rest (slice_set slots place (new_version made fresh)) ≡ Some after → length places ≡ length rest) → length (place ∷ places) ≡ length (fresh ∷ rest)
+    go true e more = ap suc (more e)
+    go false e more = absurd (cc)
+
+-- there is room for the number of one more
+pub chosen_few : (contents : Contents) (call : Call) (fresh : Entry) (rest : List Entry) (chosen : List ℕ) → length (changes_of call) ≤ 8 → ChosenUpTo contents call (fresh ∷ rest) chosen → length chosen < 8
+chosen_few contents call fresh rest chosen few h =
+    let a = filled_long (stamps_next contents) (suc contents.stamp) chosen h.done (closed_slots contents (ended call)) h.now h.fills in
+    let b = begun_few contents.next_id (changes_of call) in
+    let c = ap length h.all ∙ length-append h.done (fresh ∷ rest) in
+    omega arith
+
+-- one more
+pub choose_one : (contents : Contents) (call : Call) (fresh : Entry) (rest : List Entry) (chosen : List ℕ) (place : ℕ) (freed : List ℕ) → IsFreed contents (ended call) freed
+    → is_open (uses_of contents) freed place ≡ true → among chosen place ≡ false → ChosenUpTo contents call (fresh ∷ rest) chosen → ChosenUpTo contents call rest (chosen ++ place ∷ [])
+choose_one contents call fresh rest chosen place freed finds opens new h = record {
+  done = h.done ++ fresh ∷ [];
+  all = h.all ∙ sym (append_assoc h.done (fresh ∷ []) rest);
+  now = _;
+  fills = filled_snoc (stamps_next contents) (suc contents.stamp) chosen h.done (closed_slots contents (ended call)) h.now place fresh h.fills
+      (free_still (stamps_next contents) (suc contents.stamp) chosen h.done (closed_slots contents (ended call)) h.now place h.fills new ∙ finds.opens place ∙ opens);
+}
+
+-- there is one
+pub one_left : (contents : Contents) (call : Call) (fresh : Entry) (rest : List Entry) (chosen freed : List ℕ) → IsFreed contents (ended call) freed
+    → is_change call ≡ true → succeeds (outcome_at contents call) ≡ true → ((place : ℕ) → is_open (uses_of contents) freed place ≡ true → among chosen place ≡ true) → ChosenUpTo contents call (fresh ∷ rest) chosen → ⊥
+one_left contents call fresh rest chosen freed finds c ok taken h =
+    some_left (suc contents.stamp) (begins contents.callers) chosen h.done (closed_slots contents (ended call)) h.now h.fills
+    (let size = succeeds-fits (length contents.slots) (missing (ended call) (visible contents.stamp contents.slots)) (used (grown call contents)) (success_outcome contents.next_id call)
+    (subst (λ b. succeeds (outcome_of (length contents.slots) b (missing (ended call) (visible contents.stamp contents.slots)) (used (grown call contents)) (success_outcome contents.next_id call)) ≡ true) begins_one (rw c at ok)) in
+    let more = count_grown (suc contents.stamp) (begins contents.callers) (begun contents.next_id call) (closed_slots contents (ended call)) in
+    let long = length-map contents.slots (close (ended call) (suc contents.stamp)) in
+    let all = ap length h.all ∙ length-append h.done (fresh ∷ rest) in
+    omega arith)
+    (λ place f. taken place (sym (finds.opens place) ∙ f))
+  where
+    begins_one : begins_row call ≡ true
+    begins_one = begins_where (changes_of call) contents.next_id h.done fresh rest h.all
+
+-- all of them
+pub all_chosen : (contents : Contents) (call : Call) (chosen : List ℕ) → is_change call ≡ true → succeeds (outcome_at contents call) ≡ true → ChosenUpTo contents call [] chosen → is_some (placed contents call chosen (outcome_at contents call)) ≡ true
+all_chosen contents call chosen c ok h =
+    ap (λ b. is_some (cond b (filled (stamps_next contents) (suc contents.stamp) chosen (begun contents.next_id call) (closed_slots contents (ended call))) (filled (contents.stamp ∷ begins contents.callers) contents.stamp chosen [] contents.slots))) (ap (λ b. b && succeeds (outcome_at contents call)) c ∙ ok)
+    ∙ ap (λ rows. is_some (filled (stamps_next contents) (suc contents.stamp) chosen rows (closed_slots contents (ended call)))) (h.all ∙ append-nil h.done) ∙ ap is_some h.fills

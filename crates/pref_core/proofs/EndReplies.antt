@@ -1,0 +1,192 @@
+-- What a machine tells at each act is the system's reply: ends of queries, and reads.
+use Rattle.pref_core.proofs.Common.{◌≡◌, ℕ, ◌-◌, ◌<◌, ◌^◌, Bool, true, false, cond, nat_lt, length, Option, Some, None, is_some, Ok, Err, Result, ⊎_elim, inl, inr, refl, sym, ap, ◌∙◌, subst, arith}
+use Rattle.pref_core.proofs.Common.{option_map, Ranked, answer_of, Call, Finish, Abandon, Op, CoreFault, NoSuchClient, Spent, NoQuery, NotDone, MissingRow, OutOfMemory, ActFinish, ActAbandon, ActGet}
+use Rattle.pref_core.proofs.Common.{ActRoom, Reply, Answer, Abandoned, Found, Room, Refused, Row, Line, line_of, entries, State, Snapshot, is_change, seat, with_seat, refusal, refusal_of}
+use Rattle.pref_core.proofs.Common.{refusal_by_query, begun_after, needed, Open, Member, System, Step, snapshot, state_of, refused, counted_with, finish, step, Contents, StandsFor, applied, Scan}
+use Rattle.pref_core.proofs.Common.{Running, StandsForMember, StandsForSystem, Returns, is_refusal, AnswersAt, step_of}
+use Rattle.std.specs.Global.{Vec}
+use Rattle.pref_core.specs.MachineParts.{numbered}
+use Rattle.pref_core.proofs.QueryLaws.{follows_answered}
+use Rattle.pref_core.proofs.SystemsLaws.{refusal_there, refusal_nobody, IsThere-from, IsLetIn, IsLetIn-from, queried_stands, query_shows}
+use Rattle.pref_core.proofs.ChangeReplies.{PlansAlways, running_of, refused_tells, somebody_steps, let_in_steps, the_fault}
+use Rattle.pref_core.proofs.ScanReplies.{IsAsking-from, IsIdle-from, nobody_there, some_left, no_left}
+
+-- A call that ends a query is refused where there is none.
+ends_refused : (system : System) (member : Member) (fault : CoreFault) (right : Open → Step) (call : Call) → refusal_by_query true call ≡ None → refusal_by_query false call ≡ Some NoQuery → (q : Option Open) → refusal_of (Some member.calls) (is_some (option_map snapshot q)) call ≡ Some fault
+    → numbered member system (elim q as (λ x. Step) [ None ↦ refused NoQuery system | Some query ↦ right query ]) ≡ refused fault system
+ends_refused system member fault right call t f None e = go (nat_lt member.calls (2 ^ 56)) (ap (λ r. cond (nat_lt member.calls (2 ^ 56)) r (Some Spent)) (sym f) ∙ e)
+  where
+    go : (b : Bool) → cond b (Some NoQuery) (Some Spent) ≡ Some fault → cond b (refused NoQuery system) (refused Spent system) ≡ refused fault system
+    go true h = ap (λ g. refused g system) (the_fault NoQuery fault h)
+    go false h = ap (λ g. refused g system) (the_fault Spent fault h)
+ends_refused system member fault right call t f (Some query) e = go (nat_lt member.calls (2 ^ 56)) (ap (λ r. cond (nat_lt member.calls (2 ^ 56)) r (Some Spent)) (sym t) ∙ e)
+  where
+    go : (b : Bool) → cond b None (Some Spent) ≡ Some fault → cond b (right query) (refused Spent system) ≡ refused fault system
+    go true h = absurd (cc)
+    go false h = ap (λ g. refused g system) (the_fault Spent fault h)
+
+pub abandon_refused : (running : Running) (system : System) (client : ℕ) (fault : CoreFault) → StandsForSystem running system → PlansAlways running.contents client Abandon (Err fault)
+    → Returns running (step running.limits system (record { client = client; act = ActAbandon })) ActAbandon (Err fault) running
+abandon_refused running system client fault h plans = refused_tells running system _ ActAbandon fault h (go (seat client system.members) refl)
+  where
+    returned : refusal (state_of system) client Abandon ≡ Some fault
+    returned = plans (state_of system) h.store
+
+    by_query : (member : Member) (q : Option Open) → step_of running.limits system client member ActAbandon q
+        ≡ numbered member system (elim q as (λ x. Step) [ None ↦ refused NoQuery system | Some query ↦ record { reply = Abandoned; next = counted_with None client member system } ])
+    by_query member None = refl
+    by_query member (Some query) = refl
+
+    go : (o : Option Member) → seat client system.members ≡ o
+        → elim o as (λ x. Step) [ None ↦ refused NoSuchClient system | Some member ↦ step_of running.limits system client member ActAbandon member.query ] ≡ refused fault system
+    go None at = ap (λ f. refused f system) (the_fault NoSuchClient fault (sym (refusal_nobody system client Abandon at) ∙ returned))
+    go (Some member) at = by_query member member.query ∙ ends_refused system member fault (λ query. record { reply = Abandoned; next = counted_with None client member system }) Abandon refl refl member.query (sym (refusal_there system client member Abandon at) ∙ returned)
+
+pub finish_refused : (running : Running) (system : System) (client : ℕ) (fault : CoreFault) → StandsForSystem running system → PlansAlways running.contents client Finish (Err fault)
+    → Returns running (step running.limits system (record { client = client; act = ActFinish })) ActFinish (Err fault) running
+finish_refused running system client fault h plans = refused_tells running system _ ActFinish fault h (go (seat client system.members) refl)
+  where
+    returned : refusal (state_of system) client Finish ≡ Some fault
+    returned = plans (state_of system) h.store
+
+    by_query : (member : Member) (q : Option Open) → step_of running.limits system client member ActFinish q
+        ≡ numbered member system (elim q as (λ x. Step) [ None ↦ refused NoQuery system | Some query ↦ finish client member system query ])
+    by_query member None = refl
+    by_query member (Some query) = refl
+
+    go : (o : Option Member) → seat client system.members ≡ o
+        → elim o as (λ x. Step) [ None ↦ refused NoSuchClient system | Some member ↦ step_of running.limits system client member ActFinish member.query ] ≡ refused fault system
+    go None at = ap (λ f. refused f system) (the_fault NoSuchClient fault (sym (refusal_nobody system client Finish at) ∙ returned))
+    go (Some member) at = by_query member member.query ∙ ends_refused system member fault (finish client member system) Finish refl refl member.query (sym (refusal_there system client member Finish at) ∙ returned)
+
+-- What a call that ends a query leaves.
+record Ends (running : Running) (system : System) (client : ℕ) (call : Call) (new : Contents) : Type 0 where
+  who : Member
+  at : seat client system.members ≡ Some who
+  let_in : IsLetIn who call
+  stands : StandsForSystem (running_of new running.limits (with_seat client None running.scans)) (counted_with None client who system)
+
+ends : (running : Running) (system : System) (client : ℕ) (call : Call) (op : Op) (new : Contents) → is_change call ≡ false → ((found : Option Snapshot) → None ≡ begun_after (state_of system) call found) → StandsForSystem running system → PlansAlways running.contents client call (Ok op) → new ≡ applied running.contents op → Ends running system client call new
+ends running system client call op new c gone h plans is =
+    let plan = plans (state_of system) h.store in
+    let accepted = (λ i. refusal (state_of system) (sym plan.0 i) (sym plan.1 i)) ∙ plan.2.next.accepted in
+    let there = IsThere-from system client call accepted in
+    record {
+      who = there.who;
+      at = there.at;
+      let_in = IsLetIn-from system client there.who call there.at accepted;
+      stands = subst (λ s. StandsForSystem (running_of s running.limits (with_seat client None running.scans)) (counted_with None client there.who system)) (sym is)
+          (subst (λ n. StandsForSystem (running_of (applied running.contents op) running.limits (with_seat n None running.scans)) (counted_with None n there.who system)) plan.0
+          (queried_stands running system op there.who None None (ap (λ n. seat n system.members) plan.0 ∙ there.at) h plan.2 (ap is_change plan.1 ∙ c)
+          (gone (option_map snapshot there.who.query) ∙ ap (λ k. begun_after (state_of system) k (option_map snapshot there.who.query)) (sym plan.1)) tt));
+    }
+
+-- A query is abandoned.
+pub abandon_tells : (running : Running) (system : System) (client : ℕ) (op : Op) (new : Contents) → StandsForSystem running system → PlansAlways running.contents client Abandon (Ok op) → new ≡ applied running.contents op
+    → Returns running (step running.limits system (record { client = client; act = ActAbandon })) ActAbandon (Ok Abandoned) (running_of new running.limits (with_seat client None running.scans))
+abandon_tells running system client op new h plans is =
+    let end = ends running system client Abandon op new refl (λ f. refl) h plans is in
+    subst (λ r. Returns running r ActAbandon (Ok Abandoned) (running_of new running.limits (with_seat client None running.scans)))
+    (sym (somebody_steps running.limits system client ActAbandon end.who end.at ∙ go end.who end.who.query end.let_in.unspent end.let_in.allowed)) (refl, refl, end.stands)
+  where
+    go : (member : Member) (q : Option Open) → nat_lt member.calls (2 ^ 56) ≡ true → refusal_by_query (is_some (option_map snapshot q)) Abandon ≡ None
+        → step_of running.limits system client member ActAbandon q ≡ record { reply = Abandoned; next = counted_with None client member system }
+    go member None u a = absurd (cc)
+    go member (Some query) u a = let_in_steps member system _ u
+
+-- A query finishes.
+pub finish_tells : (running : Running) (system : System) (client : ℕ) (op : Op) (new : Contents) (ranked : Vec Ranked) → StandsForSystem running system → PlansAlways running.contents client Finish (Ok op) → new ≡ applied running.contents op
+    → AnswersAt (seat client running.scans) (Ok ranked)
+    → Returns running (step running.limits system (record { client = client; act = ActFinish })) ActFinish (Ok (Answer ranked.items)) (running_of new running.limits (with_seat client None running.scans))
+finish_tells running system client op new ranked h plans is says = go (seat client running.scans) refl says
+  where
+    go : (o : Option (Option Scan)) → seat client running.scans ≡ o → AnswersAt o (Ok ranked)
+        → Returns running (step running.limits system (record { client = client; act = ActFinish })) ActFinish (Ok (Answer ranked.items)) (running_of new running.limits (with_seat client None running.scans))
+    go None at says = absurd (cc)
+    go (Some None) at says = absurd (cc)
+    go (Some (Some held)) at says =
+        let asks = IsAsking-from running system client held h at in
+        let end = ends running system client Finish op new refl (λ f. refl) h plans is in
+        let same : end.who ≡ asks.who = let both : Some end.who ≡ Some asks.who = sym end.at ∙ asks.at in cc in
+        let shows = query_shows running system client asks.who asks.query h asks.at asks.is in
+        let answer = follows_answered running.contents.slots held asks.query ranked.items shows asks.follows says.0 says.1 in
+        let none_left : asks.query.left ≡ 0 = sym asks.follows.left ∙ says.0 in
+        let right : step running.limits system (record { client = client; act = ActFinish }) ≡ record { reply = Answer (answer_of asks.query.ask (entries asks.query.table)); next = counted_with None client end.who system }
+        = somebody_steps running.limits system client ActFinish end.who end.at
+        ∙ ap (step_of running.limits system client end.who ActFinish) (ap (λ (m : Member). m.query) same ∙ asks.is)
+        ∙ let_in_steps end.who system _ end.let_in.unspent
+        ∙ ap (λ b. cond b (refused (NotDone asks.query.left) system) (record { reply = Answer (answer_of asks.query.ask (entries asks.query.table)); next = counted_with None client end.who system })) (no_left asks.query.left none_left) in
+        subst (λ r. Returns running r ActFinish (Ok (Answer ranked.items)) (running_of new running.limits (with_seat client None running.scans))) (sym right) (ap Answer answer, refl, end.stands)
+
+pub finish_not_done : (running : Running) (system : System) (client : ℕ) (op : Op) (fault : CoreFault) → StandsForSystem running system → PlansAlways running.contents client Finish (Ok op)
+    → AnswersAt (seat client running.scans) (Err fault)
+    → Returns running (step running.limits system (record { client = client; act = ActFinish })) ActFinish (Err fault) running
+finish_not_done running system client op fault h plans says = go (seat client running.scans) refl says
+  where
+    accepted : refusal (state_of system) client Finish ≡ None
+    accepted = let plan = plans (state_of system) h.store in (λ i. refusal (state_of system) (sym plan.0 i) (sym plan.1 i)) ∙ plan.2.next.accepted
+
+    nobody : seat client system.members ≡ None → ⊥
+    nobody at = let refused_here : Some NoSuchClient ≡ None = sym (refusal_nobody system client Finish at) ∙ accepted in cc
+
+    no_query : (who : Member) → who.query ≡ None → refusal_by_query (is_some (option_map snapshot who.query)) Finish ≡ None → ⊥
+    no_query who is a = let refused_here : Some NoQuery ≡ None = ap (λ (q : Option Open). refusal_by_query (is_some (option_map snapshot q)) Finish) (sym is) ∙ a in cc
+
+    go : (o : Option (Option Scan)) → seat client running.scans ≡ o → AnswersAt o (Err fault) → Returns running (step running.limits system (record { client = client; act = ActFinish })) ActFinish (Err fault) running
+    go None at says = absurd (nobody (nobody_there running system client h at))
+    go (Some None) at says =
+        let idle = IsIdle-from running system client h at in
+        absurd (no_query idle.who idle.is (IsLetIn-from system client idle.who Finish idle.at accepted).allowed)
+    go (Some (Some held)) at says =
+        let asks = IsAsking-from running system client held h at in
+        let same_left = asks.follows.left in
+        let steps : step running.limits system (record { client = client; act = ActFinish }) ≡ finish client asks.who system asks.query
+        = somebody_steps running.limits system client ActFinish asks.who asks.at
+        ∙ ap (step_of running.limits system client asks.who ActFinish) asks.is
+        ∙ let_in_steps asks.who system _ (IsLetIn-from system client asks.who Finish asks.at accepted).unspent in
+        let by_left = λ (b : Bool). cond b (refused (NotDone asks.query.left) system) (record { reply = Answer (answer_of asks.query.ask (entries asks.query.table)); next = counted_with None client asks.who system }) in
+        ⊎_elim
+        (λ (e : (fault ≡ NotDone held.left) × (0 < held.left)).
+        let some : 0 < asks.query.left = let s = e.1 in omega arith in
+        subst (λ f. Returns running (step running.limits system (record { client = client; act = ActFinish })) ActFinish (Err f) running) (sym (e.0 ∙ ap NotDone same_left))
+        (refused_tells running system _ ActFinish (NotDone asks.query.left) h (steps ∙ ap by_left (some_left asks.query.left some))))
+        (λ (e : (fault ≡ OutOfMemory) × (held.left ≡ 0)).
+        inr (e.0, refl, ap (λ (right : Step). is_refusal right.reply) (steps ∙ ap by_left (no_left asks.query.left (sym same_left ∙ e.1))), refl))
+        says
+
+-- Reads.
+record IsSomebody (system : System) (client : ℕ) : Type 0 where
+  who : Member
+  at : seat client system.members ≡ Some who
+
+somebody_there : (running : Running) (system : System) (client : ℕ) → StandsForSystem running system → is_some (seat client running.scans) ≡ true → IsSomebody system client
+somebody_there running system client h t = go (seat client running.scans) (seat client system.members) refl t (h.members client)
+  where
+    go : (o : Option (Option Scan)) (m : Option Member) → seat client system.members ≡ m → is_some o ≡ true → StandsForMember running.contents.slots o m → IsSomebody system client
+    go None m e t s = absurd (cc)
+    go (Some place) None e t s = absurd s
+    go (Some place) (Some member) e t s = record { who = member; at = e }
+
+abbrev pub told_get : ℕ → Option Row → Result Reply CoreFault
+told_get id None = Err (MissingRow id)
+told_get id (Some row) = Ok (Found id row)
+
+pub get_tells : (running : Running) (system : System) (client id : ℕ) (row : Option Row) → StandsForSystem running system → is_some (seat client running.scans) ≡ true
+    → ((state : State) → StandsFor running.contents state → row ≡ option_map (λ (l : Line). l.row) (line_of state.table id))
+    → Returns running (step running.limits system (record { client = client; act = ActGet id })) (ActGet id) (told_get id row) running
+get_tells running system client id row h some says =
+    let there = somebody_there running system client h some in
+    subst (λ r. Returns running r (ActGet id) (told_get id row) running) (sym (somebody_steps running.limits system client (ActGet id) there.who there.at))
+    (subst (λ o. Returns running (record { reply = elim (line_of system.table id) as (λ x. Reply) [ None ↦ Refused (MissingRow id) | Some line ↦ Found id line.row ]; next = system }) (ActGet id) (told_get id o) running) (sym (says (state_of system) h.store)) (go (line_of system.table id)))
+  where
+    go : (o : Option Line) → Returns running (record { reply = elim o as (λ x. Reply) [ None ↦ Refused (MissingRow id) | Some line ↦ Found id line.row ]; next = system }) (ActGet id) (told_get id (option_map (λ (l : Line). l.row) o)) running
+    go None = inl (refl, h)
+    go (Some line) = (refl, refl, h)
+
+pub room_tells : (running : Running) (system : System) (client room : ℕ) → StandsForSystem running system → is_some (seat client running.scans) ≡ true
+    → ((state : State) → StandsFor running.contents state → room ≡ length running.contents.slots - length (needed state))
+    → Returns running (step running.limits system (record { client = client; act = ActRoom })) ActRoom (Ok (Room room)) running
+room_tells running system client room h some says =
+    let there = somebody_there running system client h some in
+    subst (λ r. Returns running r ActRoom (Ok (Room room)) running) (sym (somebody_steps running.limits system client ActRoom there.who there.at))
+    (ap Room (says (state_of system) h.store ∙ ap (λ n. n - length (needed (state_of system))) h.capacity), refl, h)

@@ -1,0 +1,391 @@
+-- The rows that a call begins, in their slots, one after the other.
+use Rattle.pref_core.proofs.Common.{◌≡◌, ℕ, suc, ◌+◌, ◌^◌, ◌<◌, Bool, true, false, not, ◌&&◌, ◌||◌, cond, eqb, nat_eq, List, [], ◌∷◌, ◌++◌, map, length, drop, set, Option, Some, None, is_some}
+use Rattle.pref_core.proofs.Common.{slice_get, get_or, unwrap_or, refl, sym, ap, ap₂, ◌∙◌, subst, arith, ⊎_elim, AllByRecursion, length-map, length-set, map-set, set-set, map-set_same, option_map}
+use Rattle.pref_core.proofs.Common.{slice_get_within, slice_get-get_or, slice_get-map, le-leb, eqb-true, eqb-false, ne_eqb, cases_eq, or_parts, and_parts, true≢false, Version, SlotUse, Free, Ended, Live}
+use Rattle.pref_core.proofs.Common.{Entry, among, has, Op, Call, Update, Outcome, State, ended, begun, begins_row, added, missing, success_outcome, is_change, succeeds, Contents, StandsFor, IsWithin, EndsBy}
+use Rattle.pref_core.proofs.Common.{is_visible, begins, stamps, new_version, visible, close, close_at, grown, is_free, filled, outcome_at, is_next, slots_after, used, is_free_use, free_at, use_of, is_row}
+use Rattle.pref_core.proofs.Common.{row_at, IsPlaceOf, shown, ids_of, id_at, AreIds, AreLinks, IsTracked, AreFresh, with_slots, are_free}
+use Rattle.pref_core.proofs.AppliedLaws.{IsAllowed-from, succeeds-missing}
+use Rattle.pref_core.proofs.LinksOfSlots.{id_at-here, id_at-there}
+use Rattle.pref_core.proofs.ChangeCounts.{drop_item, drop_inside}
+use Rattle.pref_core.proofs.RowEndLaws.{none_closed, one_closed, row_alive, within_closed, ids_closed, links_ended, closed_zones, filled_zones}
+use Rattle.pref_core.proofs.IndexedRows.{other_place}
+use Rattle.pref_core.proofs.SlotKeys.{within-set}
+use Rattle.pref_core.proofs.IdsAfterCommit.{links_born, fresh_begun, tracked_next}
+use Rattle.pref_core.proofs.IdChainsLaws.{some_same, shows_row}
+use Rattle.pref_core.proofs.PlanLaws.{close_none}
+use Rattle.pref_core.proofs.SlotsForAll.{filled_snoc, free_still, taken}
+use Rattle.pref_core.proofs.SlotUseLaws.{holds_there, free_zone, has_row_at, row_version}
+
+-- Slots fit rows where there are as many, each is free, and none comes twice.
+fills_where : (made : ℕ) (ns earlier : List ℕ) (before : List Entry) (slots now : List (Option Version)) (places : List ℕ) (begun : List Entry) → filled (made ∷ ns) made earlier before slots ≡ Some now → length places ≡ length begun
+    → is_some (filled (made ∷ ns) made places begun now) ≡ are_free (made ∷ ns) slots earlier places
+fills_where made ns earlier before slots now [] [] e long = refl
+fills_where made ns earlier before slots now [] (fresh ∷ rest) e long = absurd (omega arith)
+fills_where made ns earlier before slots now (place ∷ places) [] e long = absurd (omega arith)
+fills_where made ns earlier before slots now (place ∷ places) (fresh ∷ rest) e long =
+    go (among earlier place) refl (is_free (made ∷ ns) slots place) refl
+    (λ free. fills_where made ns (earlier ++ place ∷ []) (before ++ fresh ∷ []) slots (set now place (new_version made fresh)) places rest (filled_snoc (made ∷ ns) made earlier before slots now place fresh e free) (omega arith))
+  where
+    go : (a : Bool) → among earlier place ≡ a → (f : Bool) → is_free (made ∷ ns) slots place ≡ f
+        → (is_free (made ∷ ns) now place ≡ true → is_some (filled (made ∷ ns) made places rest (set now place (new_version made fresh))) ≡ are_free (made ∷ ns) slots (earlier ++ place ∷ []) places)
+        → is_some (cond (is_free (made ∷ ns) now place) (filled (made ∷ ns) made places rest (set now place (new_version made fresh))) None) ≡ ((not (among earlier place) && is_free (made ∷ ns) slots place) && are_free (made ∷ ns) slots (earlier ++ place ∷ []) places)
+    go true a f g more = rw (taken made ns earlier before slots now place e a, a) refl
+    go false a false g more = rw (free_still (made ∷ ns) made earlier before slots now place e a, g, a) refl
+    go false a true g more =
+        let free = free_still (made ∷ ns) made earlier before slots now place e a ∙ g in
+        rw (free, g, a) (more free)
+
+pub fills_free : (made : ℕ) (ns : List ℕ) (slots : List (Option Version)) (places : List ℕ) (begun : List Entry) → length places ≡ length begun → are_free (made ∷ ns) slots [] places ≡ is_some (filled (made ∷ ns) made places begun slots)
+fills_free made ns slots places begun long = sym (fills_where made ns [] [] slots slots places begun refl long)
+
+pub fills_not : (ns : List ℕ) (made : ℕ) (places : List ℕ) (begun : List Entry) (slots : List (Option Version)) → (length places ≡ length begun → ⊥) → is_some (filled ns made places begun slots) ≡ false
+fills_not ns made [] [] slots n = absurd (n refl)
+fills_not ns made [] (fresh ∷ rest) slots n = refl
+fills_not ns made (place ∷ places) [] slots n = refl
+fills_not ns made (place ∷ places) (fresh ∷ rest) slots n = go (is_free ns slots place) (fills_not ns made places rest (set slots place (new_version made fresh)) (λ e. n (ap suc e)))
+  where
+    go : (b : Bool) → is_some (filled ns made places rest (set slots place (new_version made fresh))) ≡ false → is_some (cond b (filled ns made places rest (set slots place (new_version made fresh))) None) ≡ false
+    go true more = more
+    go false more = refl
+
+-- A free slot's zone is free, and it shows no row.
+pub free_there : (contents : Contents) (zones : List SlotUse) (links : List ℕ) (place : ℕ) → IsTracked contents zones links → is_free (stamps contents) contents.slots place ≡ true → slice_get zones place ≡ Some Free
+free_there contents zones links place h f = go (slice_get zones place) refl (ap (λ z. free_at z place) h.listed ∙ sym (free_zone contents.next_id contents.stamp contents.callers contents.slots place h.within) ∙ f)
+  where
+    go : (o : Option SlotUse) → slice_get zones place ≡ o → elim o as (λ x. Bool) [ None ↦ false | Some zone ↦ is_free_use zone ] ≡ true → slice_get zones place ≡ Some Free
+    go None e is = absurd (cc)
+    go (Some Free) e is = e
+    go (Some (Ended keeper)) e is = absurd (cc)
+    go (Some Live) e is = absurd (cc)
+
+pub free_inside : (contents : Contents) (zones : List SlotUse) (links : List ℕ) (place : ℕ) → IsTracked contents zones links → is_free (stamps contents) contents.slots place ≡ true → place < length contents.slots
+free_inside contents zones links place h f =
+    let inside = slice_get_within zones place Free (free_there contents zones links place h f) in
+    let long = ap length h.listed ∙ length-map contents.slots (use_of contents.callers) in
+    omega arith
+
+-- The ids that the slots show, with one more.
+pub ids_born : (made place : ℕ) (fresh : Entry) (slots : List (Option Version)) → fresh.id < 2 ^ 64 → place < length slots → IsPlaceOf made fresh.id slots None → AreIds (2 ^ 64) (id_at (ids_of made slots))
+    → AreIds (2 ^ 64) (id_at (ids_of made (set slots place (new_version made fresh))))
+ids_born made place fresh slots low room absent known = subst (λ l. AreIds (2 ^ 64) (id_at l)) (sym (map-set (shown made) slots place (new_version made fresh) ∙ ap (set (ids_of made slots) place) shows)) (record {
+  once = λ p q id at also. once p q id at also;
+  small = λ p id at. ⊎_elim
+      (λ (e : p ≡ place). let same : fresh.id ≡ id = some_same fresh.id id (sym (here p e) ∙ at) in omega arith)
+      (λ (n : p ≡ place → ⊥). known.small p id (sym (id_at-there (ids_of made slots) place (Some fresh.id) p n) ∙ at))
+      (cases_eq p place);
+})
+  where
+    shows : shown made (new_version made fresh) ≡ Some fresh.id
+    shows = rw (le-leb made made (omega arith)) refl
+
+    here : (p : ℕ) → p ≡ place → id_at (set (ids_of made slots) place (Some fresh.id)) p ≡ Some fresh.id
+    here p e = ap (id_at (set (ids_of made slots) place (Some fresh.id))) e ∙ id_at-here (ids_of made slots) place (Some fresh.id) (let long = length-map slots (shown made) in omega arith)
+
+    -- no other place shows its id
+    alone : (p id : ℕ) → fresh.id ≡ id → id_at (ids_of made slots) p ≡ Some id → ⊥
+    alone p id same at = true≢false (sym (has_row_at made fresh.id slots p (shows_row made fresh.id slots p (at ∙ ap Some (sym same)))) ∙ absent)
+
+    once : (p q id : ℕ) → id_at (set (ids_of made slots) place (Some fresh.id)) p ≡ Some id → id_at (set (ids_of made slots) place (Some fresh.id)) q ≡ Some id → p ≡ q
+    once p q id at also = ⊎_elim
+        (λ (e : p ≡ place). ⊎_elim
+        (λ (f : q ≡ place). e ∙ sym f)
+        (λ (n : q ≡ place → ⊥). absurd (alone q id (some_same fresh.id id (sym (here p e) ∙ at)) (sym (id_at-there (ids_of made slots) place (Some fresh.id) q n) ∙ also)))
+        (cases_eq q place))
+        (λ (n : p ≡ place → ⊥). ⊎_elim
+        (λ (f : q ≡ place). absurd (alone p id (some_same fresh.id id (sym (here q f) ∙ also)) (sym (id_at-there (ids_of made slots) place (Some fresh.id) p n) ∙ at)))
+        (λ (m : q ≡ place → ⊥). known.once p q id (sym (id_at-there (ids_of made slots) place (Some fresh.id) p n) ∙ at) (sym (id_at-there (ids_of made slots) place (Some fresh.id) q m) ∙ also))
+        (cases_eq q place))
+        (cases_eq p place)
+
+-- Rows that are still to begin stay new.
+pub fresh_left : (limit made place : ℕ) (ns : List ℕ) (first : Entry) (slots : List (Option Version)) (rest : List Entry) → is_free (made ∷ ns) slots place ≡ true → among (map (λ (e : Entry). e.id) rest) first.id ≡ false
+    → AreFresh limit (visible made slots) rest → AreFresh limit (visible made (set slots place (new_version made first))) rest
+fresh_left limit made place ns first slots [] free apart h = tt
+fresh_left limit made place ns first slots (fresh ∷ rest) free apart h =
+    let parts = or_parts (eqb fresh.id first.id) (among (map (λ (e : Entry). e.id) rest) first.id) apart in
+    (h.0, other_place made fresh.id first ns slots place None free (turn (eqb first.id fresh.id) refl parts.0) h.1, h.2, fresh_left limit made place ns first slots rest free parts.1 h.3)
+  where
+    turn : (b : Bool) → eqb first.id fresh.id ≡ b → eqb fresh.id first.id ≡ false → eqb first.id fresh.id ≡ false
+    turn false e n = e
+    turn true e n = absurd (eqb-false fresh.id first.id n (sym (eqb-true first.id fresh.id e)))
+
+-- What is left of the places and of the rows, when some have begun.
+pub record FillsRest (limit stamp : ℕ) (ns places : List ℕ) (rest : List Entry) (slots : List (Option Version)) (all : Option (List (Option Version))) : Type 0 where
+  pub fills : filled (stamp ∷ ns) stamp places rest slots ≡ all
+  pub some : is_some all ≡ true
+  pub fresh : AreFresh limit (visible stamp slots) rest
+
+-- the place of the next row
+pub record FillsNext (limit stamp : ℕ) (ns places : List ℕ) (first : Entry) (rest : List Entry) (slots : List (Option Version)) (all : Option (List (Option Version))) : Type 0 where
+  pub place : ℕ
+  pub later : List ℕ
+  pub is : places ≡ place ∷ later
+  pub free : is_free (stamp ∷ ns) slots place ≡ true
+  pub next : FillsRest limit stamp ns later rest (set slots place (new_version stamp first)) all
+
+pub fills_next : (limit stamp : ℕ) (ns places : List ℕ) (first : Entry) (rest : List Entry) (slots : List (Option Version)) (all : Option (List (Option Version))) → FillsRest limit stamp ns places (first ∷ rest) slots all → FillsNext limit stamp ns places first rest slots all
+fills_next limit stamp ns [] first rest slots all h = absurd (true≢false (sym h.some ∙ ap is_some (sym h.fills)))
+fills_next limit stamp ns (place ∷ later) first rest slots all h = go (is_free (stamp ∷ ns) slots place) refl h.fills
+  where
+    go : (b : Bool) → is_free (stamp ∷ ns) slots place ≡ b → cond b (filled (stamp ∷ ns) stamp later rest (set slots place (new_version stamp first))) None ≡ all → FillsNext limit stamp ns (place ∷ later) first rest slots all
+    go false f e = absurd (true≢false (sym h.some ∙ ap is_some (sym e)))
+    go true f e = record {
+      place = place;
+      later = later;
+      is = refl;
+      free = f;
+      next = record { fills = e; some = h.some; fresh = fresh_left limit stamp place ns first slots rest f h.fresh.2 h.fresh.3 };
+    }
+
+pub fills_end : (limit stamp : ℕ) (ns places : List ℕ) (slots : List (Option Version)) (all : Option (List (Option Version))) → FillsRest limit stamp ns places [] slots all → all ≡ Some slots
+fills_end limit stamp ns [] slots all h = sym h.fills
+fills_end limit stamp ns (place ∷ places) slots all h = absurd (true≢false (sym h.some ∙ ap is_some (sym h.fills)))
+
+-- The rows that ended so far, ..
+abbrev pub EndedUpTo : Contents → Contents → List ℕ → Type 0
+EndedUpTo start now ids = now ≡ with_slots (map (close ids start.stamp) start.slots) start
+
+pub close_more : (xs ys : List ℕ) (made : ℕ) (slots : List (Option Version)) → map (close ys made) (map (close xs made) slots) ≡ map (close (xs ++ ys) made) slots
+close_more xs ys made [] = refl
+close_more xs ys made (None ∷ slots) = ap (λ l. None ∷ l) (close_more xs ys made slots)
+close_more xs ys made (Some version ∷ slots) = ap₂ ◌∷◌ (ap (λ d. Some (record version { death = d })) (go (among xs version.id) (among ys version.id) version.death ∙ ap (λ b. close_at made b version.death) (sym (among_both xs)))) (close_more xs ys made slots)
+  where
+    go : (a b : Bool) (death : Option ℕ) → close_at made b (close_at made a death) ≡ close_at made (a || b) death
+    go a b (Some death) = refl
+    go true true None = refl
+    go true false None = refl
+    go false true None = refl
+    go false false None = refl
+
+    among_both : (xs : List ℕ) → among (xs ++ ys) version.id ≡ (among xs version.id || among ys version.id)
+    among_both [] = refl
+    among_both (x ∷ xs) = or_assoc (eqb x version.id) (among (xs ++ ys) version.id) (among xs version.id) (among ys version.id) (among_both xs)
+      where
+        or_assoc : (a b c d : Bool) → b ≡ (c || d) → (a || b) ≡ ((a || c) || d)
+        or_assoc true b c d e = refl
+        or_assoc false b c d e = e
+
+pub ended_none : (start : Contents) → EndedUpTo start start []
+ended_none start = ap (λ l. with_slots l start) (sym (close_none start.stamp start.slots))
+
+pub ended_more : (start now new : Contents) (done ids : List ℕ) → EndedUpTo start now done → new ≡ with_slots (map (close ids now.stamp) now.slots) now → EndedUpTo start new (done ++ ids)
+ended_more start now new done ids h is = is ∙ ap (λ (s : Contents). with_slots (map (close ids s.stamp) s.slots) s) h ∙ ap (λ l. with_slots l start) (close_more done ids start.stamp start.slots)
+
+-- .. and those that began.
+pub record BegunUpTo (start now : Contents) (places : List ℕ) (rest : List Entry) (all : Option (List (Option Version))) : Type 0 where
+  pub contents : now ≡ with_slots now.slots start
+  pub fills : FillsRest start.next_id start.stamp (begins start.callers) places rest now.slots all
+
+-- What is known as the next row begins, ..
+pub record BeginsNext (start now : Contents) (places : List ℕ) (used : ℕ) (first : Entry) (rest : List Entry) (all : Option (List (Option Version))) : Type 0 where
+  pub inside : used < length places
+  pub free : is_free (stamps now) now.slots (get_or places used 0) ≡ true
+  pub absent : has (visible now.stamp now.slots) first.id ≡ false
+  pub low : first.id < now.next_id
+  pub next : FillsRest start.next_id start.stamp (begins start.callers) (drop (used + 1) places) rest (set now.slots (get_or places used 0) (new_version start.stamp first)) all
+
+pub begins_next : (start now : Contents) (places : List ℕ) (used : ℕ) (first : Entry) (rest : List Entry) (all : Option (List (Option Version))) → BegunUpTo start now (drop used places) (first ∷ rest) all
+    → BeginsNext start now places used first rest all
+begins_next start now places used first rest all h = record {
+  inside = inside;
+  free = ap (λ (s : Contents). is_free (stamps s) now.slots (get_or places used 0)) h.contents ∙ subst (λ place. is_free (start.stamp ∷ begins start.callers) now.slots place ≡ true) here filled_next.free;
+  absent = ap (λ (s : Contents). has (visible s.stamp now.slots) first.id) h.contents ∙ h.fills.fresh.1;
+  low = subst (λ (s : Contents). first.id < s.next_id) (sym h.contents) h.fills.fresh.0;
+  next = subst (λ place. FillsRest start.next_id start.stamp (begins start.callers) (drop (used + 1) places) rest (set now.slots place (new_version start.stamp first)) all) here
+      (subst (λ l. FillsRest start.next_id start.stamp (begins start.callers) l rest (set now.slots filled_next.place (new_version start.stamp first)) all) later filled_next.next);
+}
+  where
+    filled_next : FillsNext start.next_id start.stamp (begins start.callers) (drop used places) first rest now.slots all
+    filled_next = fills_next start.next_id start.stamp (begins start.callers) (drop used places) first rest now.slots all h.fills
+
+    inside : used < length places
+    inside = drop_inside places used filled_next.place filled_next.later filled_next.is
+
+    same : filled_next.place ∷ filled_next.later ≡ get_or places used 0 ∷ drop (used + 1) places
+    same = sym filled_next.is ∙ drop_item places used (get_or places used 0) 0 refl inside
+
+    here : filled_next.place ≡ get_or places used 0
+    here = cc same
+
+    later : filled_next.later ≡ drop (used + 1) places
+    later = cc same
+
+-- .. and once it has begun.
+pub begun_one : (start now new : Contents) (places : List ℕ) (used : ℕ) (first : Entry) (rest : List Entry) (all : Option (List (Option Version))) → BegunUpTo start now (drop used places) (first ∷ rest) all
+    → new ≡ with_slots (set now.slots (get_or places used 0) (new_version now.stamp first)) now → BegunUpTo start new (drop (used + 1) places) rest all
+begun_one start now new places used first rest all h is = record {
+  contents = is ∙ ap (with_slots slots) h.contents ∙ ap (λ l. with_slots l start) (sym same);
+  fills = subst (λ l. FillsRest start.next_id start.stamp (begins start.callers) (drop (used + 1) places) rest l all) (sym (same ∙ ap (λ (s : Contents). set now.slots (get_or places used 0) (new_version s.stamp first)) h.contents))
+      (begins_next start now places used first rest all h).next;
+}
+  where
+    slots : List (Option Version)
+    slots = set now.slots (get_or places used 0) (new_version now.stamp first)
+
+    same : new.slots ≡ slots
+    same = ap (λ (s : Contents). s.slots) is
+
+-- One row ends, ..
+pub end_none : (contents : Contents) (zones : List SlotUse) (links : List ℕ) (id : ℕ) → IsTracked contents zones links → IsPlaceOf contents.stamp id contents.slots None → contents ≡ with_slots (map (close (id ∷ []) contents.stamp) contents.slots) contents
+end_none contents zones links id h absent = ap (λ l. with_slots l contents) (sym (none_closed contents.next_id contents.stamp id contents.slots h.within absent))
+
+-- a version that stands in the table has no end
+no_end : (next made id : ℕ) (version : Version) → IsWithin next made (Some version) → is_row made id (Some version) ≡ true → version.death ≡ None
+no_end next made id version within row = go version.death within.2 (and_parts (eqb version.id id) (is_visible made version) row).1
+  where
+    go : (death : Option ℕ) → EndsBy made death → is_visible made (record version { death = death }) ≡ true → death ≡ None
+    go None ends v = refl
+    go (Some death) ends v = absurd (let w = rw (le-leb version.birth made within.1, le-leb death made ends) at v in cc)
+
+module _ (contents : Contents) (zones : List SlotUse) (links : List ℕ) (id place : ℕ) (version : Version) (h : IsTracked contents zones links) (row : row_at contents.stamp id contents.slots place ≡ true) (at : slice_get contents.slots place ≡ Some (Some version)) where
+  abbrev last : Option Version
+  last = Some (record version { death = Some contents.stamp })
+
+  within_here : IsWithin contents.next_id contents.stamp (Some version)
+  within_here = holds_there (IsWithin contents.next_id contents.stamp) contents.slots place (Some version) at h.within
+
+  row_here : is_row contents.stamp id (Some version) ≡ true
+  row_here = ap (λ o. elim o as (λ x. Bool) [ None ↦ false | Some s ↦ is_row contents.stamp id s ]) (sym at) ∙ row
+
+  closes : ◌≡◌ {A = Option Version} (Some (record version { death = close_at contents.stamp true version.death })) last
+  closes = ap (λ d. Some (record version { death = close_at contents.stamp true d })) (no_end contents.next_id contents.stamp id version within_here row_here)
+
+  pub end_inside : place < length contents.slots
+  end_inside = slice_get_within contents.slots place (Some version) at
+
+  pub end_alive : slice_get zones place ≡ Some Live
+  end_alive = ap (λ z. slice_get z place) h.listed ∙ slice_get-map (use_of contents.callers) contents.slots place ∙ ap (option_map (use_of contents.callers)) at ∙ ap Some (row_alive contents.next_id contents.stamp id contents.callers version within_here row_here)
+
+  pub end_slots : set contents.slots place last ≡ map (close (id ∷ []) contents.stamp) contents.slots
+  end_slots = ap (set contents.slots place) (sym closes) ∙ sym (one_closed contents.next_id contents.stamp id contents.slots h.within place version h.ids row at)
+
+  pub end_tracked : (zone : SlotUse) (zones_new : List SlotUse) (links_new : List ℕ) → zone ≡ use_of contents.callers last → zones_new ≡ set zones place zone → AreLinks (set (ids_of contents.stamp contents.slots) place None) links_new
+      → IsTracked (with_slots (set contents.slots place last) contents) zones_new links_new
+  end_tracked zone zones_new links_new is returned linked = record {
+    few = let long = length-set contents.slots place last in let few = h.few in omega arith;
+    seats = h.seats;
+    within = subst (AllByRecursion (IsWithin contents.next_id contents.stamp)) (sym end_slots) (within_closed (id ∷ []) contents.next_id contents.stamp contents.slots h.within);
+    listed = closed_zones contents.callers contents.slots zones zones_new place last zone h.listed is returned;
+    linked = subst (λ s. AreLinks (ids_of contents.stamp (set contents.slots place s)) links_new) closes (links_ended contents.stamp place contents.slots version links_new within_here.2 linked);
+    ids = subst (λ l. AreIds (2 ^ 64) (id_at (ids_of contents.stamp l))) (sym end_slots) (ids_closed (id ∷ []) contents.stamp contents.slots h.ids);
+  }
+
+  visible_here : (eqb version.id id ≡ true) × (is_visible contents.stamp version ≡ true)
+  visible_here = and_parts (eqb version.id id) (is_visible contents.stamp version) row_here
+
+  -- .. or is replaced where it stands, ..
+  pub replace_slots : (new : Option Version) → set (map (close (id ∷ []) contents.stamp) contents.slots) place new ≡ set contents.slots place new
+  replace_slots new = ap (λ l. set l place new) (sym end_slots) ∙ set-set contents.slots place last new
+
+  here : (new : Option Version) → get_or contents.slots place new ≡ Some version
+  here new = ap (λ o. unwrap_or o new) (sym (slice_get-get_or contents.slots place new end_inside) ∙ at)
+
+  pub replace_tracked : (entry : Entry) (new : Option Version) → entry.id ≡ id → new ≡ new_version contents.stamp entry → IsTracked (with_slots (set contents.slots place new) contents) zones links
+  replace_tracked entry new same is =
+      let named : version.id ≡ id = eqb-true version.id id visible_here.0 in
+      let low : entry.id < contents.next_id = omega (arith, within_here.0, named, same) in
+      let zone : use_of contents.callers new ≡ use_of contents.callers (get_or contents.slots place new) =
+      ap (use_of contents.callers) is ∙ sym (ap (use_of contents.callers) (here new) ∙ row_alive contents.next_id contents.stamp id contents.callers version within_here row_here) in
+      let fresh : shown contents.stamp (new_version contents.stamp entry) ≡ Some entry.id = rw (le-leb contents.stamp contents.stamp (omega arith)) refl in
+      let before : shown contents.stamp (Some version) ≡ Some version.id = rw visible_here.1 refl in
+      let id_here : shown contents.stamp new ≡ shown contents.stamp (get_or contents.slots place new) =
+      ap (shown contents.stamp) is ∙ (fresh ∙ (ap Some (same ∙ sym named) ∙ sym (ap (shown contents.stamp) (here new) ∙ before))) in
+      let ids_same = map-set_same (shown contents.stamp) contents.slots place new new id_here in
+      record {
+        few = let long = length-set contents.slots place new in let few = h.few in omega arith;
+        seats = h.seats;
+        within = subst (λ r. AllByRecursion (IsWithin contents.next_id contents.stamp) (set contents.slots place r)) (sym is) (within-set contents.next_id contents.stamp contents.slots place (new_version contents.stamp entry) (low, omega arith, tt) h.within);
+        listed = h.listed ∙ sym (map-set_same (use_of contents.callers) contents.slots place new new zone);
+        linked = subst (λ ids. AreLinks ids links) (sym ids_same) h.linked;
+        ids = subst (λ ids. AreIds (2 ^ 64) (id_at ids)) (sym ids_same) h.ids;
+      }
+
+-- .. or begins.
+pub begin_tracked : (contents : Contents) (zones : List SlotUse) (links : List ℕ) (entry : Entry) (place : ℕ) (row : Option Version) (zones_new : List SlotUse) (links_new : List ℕ) → IsTracked contents zones links → is_free (stamps contents) contents.slots place ≡ true
+    → has (visible contents.stamp contents.slots) entry.id ≡ false → entry.id < contents.next_id → entry.id < 2 ^ 64 → row ≡ new_version contents.stamp entry → zones_new ≡ set zones place Live → AreLinks (set (ids_of contents.stamp contents.slots) place (Some entry.id)) links_new
+    → IsTracked (with_slots (set contents.slots place row) contents) zones_new links_new
+begin_tracked contents zones links entry place row zones_new links_new h free absent low small is returned linked = record {
+  few = let long = length-set contents.slots place row in let few = h.few in omega arith;
+  seats = h.seats;
+  within = subst (λ r. AllByRecursion (IsWithin contents.next_id contents.stamp) (set contents.slots place r)) (sym is) (within-set contents.next_id contents.stamp contents.slots place (new_version contents.stamp entry) (low, omega arith, tt) h.within);
+  listed = filled_zones contents.callers contents.slots zones zones_new place row entry contents.stamp h.listed is returned;
+  linked = links_born contents.stamp place entry row contents.slots links_new is linked;
+  ids = subst (λ r. AreIds (2 ^ 64) (id_at (ids_of contents.stamp (set contents.slots place r)))) (sym is) (ids_born contents.stamp place entry contents.slots small (free_inside contents zones links place h free) absent h.ids);
+}
+
+-- Whether an op's slots fit.
+pub fits_begun : (contents : Contents) (op : Op) → is_change op.call ≡ true → succeeds op.outcome ≡ true → length op.slots ≡ length (begun contents.next_id op.call)
+    → are_free (suc contents.stamp ∷ begins contents.callers) (map (close (ended op.call) (suc contents.stamp)) contents.slots) [] op.slots ≡ is_some (slots_after contents op)
+fits_begun contents op c s long =
+    fills_free (suc contents.stamp) (begins contents.callers) (map (close (ended op.call) (suc contents.stamp)) contents.slots) op.slots (begun contents.next_id op.call) long
+    ∙ sym (by_change contents op c s)
+  where
+    by_change : (contents : Contents) (op : Op) → is_change op.call ≡ true → succeeds op.outcome ≡ true → is_some (slots_after contents op) ≡ is_some (filled (suc contents.stamp ∷ begins contents.callers) (suc contents.stamp) op.slots (begun contents.next_id op.call) (map (close (ended op.call) (suc contents.stamp)) contents.slots))
+    by_change contents op c s = ap (λ b. is_some (cond b (filled (suc contents.stamp ∷ begins contents.callers) (suc contents.stamp) op.slots (begun contents.next_id op.call) (map (close (ended op.call) (suc contents.stamp)) contents.slots)) (filled (stamps contents) contents.stamp op.slots [] contents.slots))) (ap (λ b. b && succeeds op.outcome) c ∙ s)
+
+pub fits_other : (contents : Contents) (op : Op) → is_change op.call ≡ true → succeeds op.outcome ≡ true → (length op.slots ≡ length (begun contents.next_id op.call) → ⊥) → is_some (slots_after contents op) ≡ false
+fits_other contents op c s n =
+    ap (λ b. is_some (cond b (filled (suc contents.stamp ∷ begins contents.callers) (suc contents.stamp) op.slots (begun contents.next_id op.call) (map (close (ended op.call) (suc contents.stamp)) contents.slots)) (filled (stamps contents) contents.stamp op.slots [] contents.slots))) (ap (λ b. b && succeeds op.outcome) c ∙ s)
+    ∙ fills_not (suc contents.stamp ∷ begins contents.callers) (suc contents.stamp) op.slots (begun contents.next_id op.call) (map (close (ended op.call) (suc contents.stamp)) contents.slots) n
+
+pub fits_quiet : (contents : Contents) (op : Op) (empty : Bool) → (is_change op.call && succeeds op.outcome) ≡ false → empty ≡ nat_eq (length op.slots) 0 → empty ≡ is_some (slots_after contents op)
+fits_quiet contents op empty quiet is = is ∙ by op.slots ∙ sym (ap (λ b. is_some (cond b (filled (suc contents.stamp ∷ begins contents.callers) (suc contents.stamp) op.slots (begun contents.next_id op.call) (map (close (ended op.call) (suc contents.stamp)) contents.slots)) (filled (stamps contents) contents.stamp op.slots [] contents.slots))) quiet)
+  where
+    by : (places : List ℕ) → nat_eq (length places) 0 ≡ is_some (filled (stamps contents) contents.stamp places [] contents.slots)
+    by [] = refl
+    by (place ∷ places) = ne_eqb (length (place ∷ places)) 0 (λ (e : length (place ∷ places) ≡ 0). omega arith)
+
+-- A call that is no commit, or isn't done, leaves the slots.
+pub slots_still : (contents : Contents) (op : Op) → (is_change op.call && succeeds op.outcome) ≡ false → is_some (slots_after contents op) ≡ true → slots_after contents op ≡ Some contents.slots
+slots_still contents op quiet fits = same ∙ go op.slots (ap is_some (sym same) ∙ fits)
+  where
+    same : slots_after contents op ≡ filled (stamps contents) contents.stamp op.slots [] contents.slots
+    same = ap (λ b. cond b (filled (suc contents.stamp ∷ begins contents.callers) (suc contents.stamp) op.slots (begun contents.next_id op.call) (map (close (ended op.call) (suc contents.stamp)) contents.slots)) (filled (stamps contents) contents.stamp op.slots [] contents.slots)) quiet
+
+    go : (places : List ℕ) → is_some (filled (stamps contents) contents.stamp places [] contents.slots) ≡ true → filled (stamps contents) contents.stamp places [] contents.slots ≡ Some contents.slots
+    go [] h = refl
+    go (place ∷ places) h = absurd (true≢false (sym h))
+
+-- The contents as a commit begins, that adds so many rows.
+abbrev pub begun_commit : Contents → ℕ → Contents
+begun_commit contents more = record { slots = contents.slots; stamp = suc contents.stamp; next_id = contents.next_id + more; callers = contents.callers }
+
+pub none_missing : (contents : Contents) (call : Call) (outcome : Outcome) → outcome ≡ outcome_at contents call → succeeds outcome ≡ true → is_change call ≡ true → missing (ended call) (visible contents.stamp contents.slots) ≡ None
+none_missing contents call outcome returned ok c = succeeds-missing (length contents.slots) (begins_row call) (missing (ended call) (visible contents.stamp contents.slots)) (used (grown call contents)) (success_outcome contents.next_id call) (rw c at (ap succeeds (sym returned) ∙ ok))
+
+pub commit_fresh : (now start closed : Contents) (state : State) (op : Op) (first : ℕ) → start ≡ begun_commit now (added op.call) → first ≡ now.next_id → closed ≡ with_slots (map (close (ended op.call) start.stamp) start.slots) start
+    → StandsFor now state → is_next now op ≡ true → is_change op.call ≡ true → succeeds op.outcome ≡ true → AreFresh closed.next_id (visible closed.stamp closed.slots) (begun first op.call)
+commit_fresh now start closed state op first is next ends stands legal c s =
+    subst (λ (e : Contents). AreFresh e.next_id (visible e.stamp e.slots) (begun first op.call)) (sym ends)
+    (subst (λ (b : Contents). AreFresh b.next_id (visible b.stamp (map (close (ended op.call) b.stamp) b.slots)) (begun first op.call)) (sym is)
+    (subst (λ n. AreFresh (now.next_id + added op.call) (visible (suc now.stamp) (map (close (ended op.call) (suc now.stamp)) now.slots)) (begun n op.call)) (sym next)
+    (fresh_begun now state op.call (IsAllowed-from now op legal).formed stands (none_missing now op.call op.outcome (IsAllowed-from now op legal).outcome s c))))
+
+pub commit_filled : (now start closed : Contents) (op : Op) (first : ℕ) → start ≡ begun_commit now (added op.call) → first ≡ now.next_id → closed ≡ with_slots (map (close (ended op.call) start.stamp) start.slots) start
+    → is_change op.call ≡ true → succeeds op.outcome ≡ true → filled (stamps closed) closed.stamp op.slots (begun first op.call) closed.slots ≡ slots_after now op
+commit_filled now start closed op first is next ends c s =
+    ap (λ (e : Contents). filled (stamps e) e.stamp op.slots (begun first op.call) e.slots) ends
+    ∙ ap (λ (b : Contents). filled (stamps b) b.stamp op.slots (begun first op.call) (map (close (ended op.call) b.stamp) b.slots)) is
+    ∙ ap (λ n. filled (suc now.stamp ∷ begins now.callers) (suc now.stamp) op.slots (begun n op.call) (map (close (ended op.call) (suc now.stamp)) now.slots)) next
+    ∙ sym (ap (λ b. cond b (filled (suc now.stamp ∷ begins now.callers) (suc now.stamp) op.slots (begun now.next_id op.call) (map (close (ended op.call) (suc now.stamp)) now.slots)) (filled (stamps now) now.stamp op.slots [] now.slots)) (ap (λ b. b && succeeds op.outcome) c ∙ s))
+
+-- An update whose row stays in its slot writes this slot alone.
+pub commit_replaced : (now : Contents) (zones : List SlotUse) (links : List ℕ) (op : Op) (entry : Entry) (place : ℕ) → IsTracked now zones links → op.call ≡ Update entry.id entry.row → op.slots ≡ place ∷ []
+    → row_at (suc now.stamp) entry.id now.slots place ≡ true → is_change op.call ≡ true → succeeds op.outcome ≡ true → is_some (slots_after now op) ≡ true
+    → slots_after now op ≡ Some (set now.slots place (new_version (suc now.stamp) entry))
+commit_replaced now zones links op entry place h call slots row c s fits =
+    let start = begun_commit now (added op.call) in
+    let tracked = tracked_next now zones links (added op.call) h in
+    let found = row_version (suc now.stamp) entry.id now.slots place row in
+    let new = new_version (suc now.stamp) entry in
+    let closed : Contents = with_slots (map (close (entry.id ∷ []) (suc now.stamp)) now.slots) start in
+    let ends : closed ≡ with_slots (map (close (ended op.call) (suc now.stamp)) now.slots) start = ap (λ a. with_slots (map (close (ended a) (suc now.stamp)) now.slots) start) (sym call) in
+    let returned : slots_after now op ≡ filled (stamps closed) (suc now.stamp) (place ∷ []) (entry ∷ []) closed.slots =
+    sym (commit_filled now start closed op now.next_id refl refl ends c s) ∙ ap₂ (λ places a. filled (stamps closed) (suc now.stamp) places (begun now.next_id a) closed.slots) slots call in
+    returned ∙ (go (is_free (stamps closed) closed.slots place) (set closed.slots place new) (ap is_some (sym returned) ∙ fits)
+    ∙ ap Some (replace_slots start zones links entry.id place found.0 tracked row found.1 new))
+  where
+    go : (free : Bool) (after : List (Option Version)) → is_some (cond free (Some after) None) ≡ true → cond free (Some after) None ≡ Some after
+    go true after e = refl
+    go false after e = absurd (true≢false (sym e))

@@ -1,0 +1,206 @@
+-- The slots of a change that are known by a look at them alone.
+use Rattle.pref_core.proofs.Common.{◌≡◌, ℕ, suc, ◌+◌, ◌≤◌, Bool, true, false, not, ◌&&◌, ◌||◌, cond, eqb, nat_lt, List, [], ◌∷◌, ◌++◌, length, take, drop, Option, Some, None, is_some, slice_get, ◌⊎◌}
+use Rattle.pref_core.proofs.Common.{inl, inr, ⊎_elim, refl, sym, ap, ap₂, ◌∙◌, subst, arith, eq-eqb, eqb-true, or_cases, or_left, or_right, true≢false, append-nil, Call, Outcome, Added, Done, Op}
+use Rattle.pref_core.proofs.Common.{Change, Add, Set, Remove, Version, Row, ended_by, begun_by, begins_any, row_at, IsPlaceOf, IsKept, FitAtOnce, are_free, frees_at, uses_of, filled, is_free}
+use Rattle.pref_core.proofs.Common.{is_next, outcome_at, placed, slots_after, used, grown, free_at, Contents, begins, visible, added, begins_row, begun, changes_of, ended, success_outcome, is_change}
+use Rattle.pref_core.proofs.Common.{is_formed, missing, succeeds, Line, among}
+use Rattle.pref_core.proofs.AppliedLaws.{IsAllowed-from}
+use Rattle.pref_core.proofs.ChangesLaws.{AreApart, drop_all, drop_at, ended_so_far, formed_apart, take_at}
+use Rattle.pref_core.proofs.ChosenSlots.{ChosenUpTo, all_chosen, closed_slots, outcome_fits, outcome_other, stamps_next}
+use Rattle.pref_core.proofs.ChangeCounts.{ended_next, one_begins}
+use Rattle.pref_core.proofs.FilledLaws.{fills_free}
+use Rattle.pref_core.proofs.FreedLaws.{free_closed, frees_closed, one_id, row_taken}
+use Rattle.pref_core.proofs.PlanLaws.{plan_is_not_full}
+use Rattle.pref_core.proofs.SlotUseLaws.{has_row_at}
+
+granted_succeeds : (next_id : ℕ) (call : Call) → succeeds (success_outcome next_id call) ≡ true
+granted_succeeds next_id call = go (nat_lt 0 (added call))
+  where
+    go : (b : Bool) → succeeds (cond b (Added next_id) Done) ≡ true
+    go true = refl
+    go false = refl
+
+-- Slots for all rows that a change begins, which misses none: it succeeds.
+chosen_at_once : (contents : Contents) (call : Call) (slots : List ℕ) → is_change call ≡ true → is_formed call ≡ true → missing (ended call) (visible contents.stamp contents.slots) ≡ None → ChosenUpTo contents call [] slots → FitAtOnce contents call slots
+chosen_at_once contents call slots c formed none h = record {
+  outcome = returned (begins_row call) refl;
+  placed = all_chosen contents call slots c (ap succeeds (sym (returned (begins_row call) refl)) ∙ granted_succeeds contents.next_id call) h;
+  formed = formed;
+}
+  where
+    fills : filled (stamps_next contents) (suc contents.stamp) slots (begun contents.next_id call) (closed_slots contents (ended call)) ≡ Some h.now
+    fills = ap (λ rows. filled (stamps_next contents) (suc contents.stamp) slots rows (closed_slots contents (ended call))) (h.all ∙ append-nil h.done) ∙ h.fills
+
+    returned : (row : Bool) → begins_row call ≡ row → success_outcome contents.next_id call ≡ outcome_at contents call
+    returned true row = outcome_fits contents call (used (grown call contents)) c none row refl (plan_is_not_full contents call slots h.now fills)
+    returned false row = outcome_other contents call c none row
+
+-- A place that was taken for one of the first changes: it was free, or a row stood there that one of them ends.
+pub record StoodThere (contents : Contents) (ids : List ℕ) (place : ℕ) : Type 0 where
+  pub id : ℕ
+  pub named : among ids id ≡ true
+  pub row : row_at contents.stamp id contents.slots place ≡ true
+
+abbrev pub Was : Contents → List ℕ → ℕ → Type 0
+Was contents ids place = (free_at (uses_of contents) place ≡ true) ⊎ StoodThere contents ids place
+
+-- The first slots fit the first changes.
+pub record FitsUpTo (contents : Contents) (call : Call) (slots : List ℕ) (at used : ℕ) : Type 0 where
+  pub there : missing (ended_by (drop at (changes_of call))) (visible contents.stamp contents.slots) ≡ missing (ended call) (visible contents.stamp contents.slots)
+  pub free : are_free (stamps_next contents) (closed_slots contents (ended call)) (take used slots) (drop used slots) ≡ are_free (stamps_next contents) (closed_slots contents (ended call)) [] slots
+  pub taken : (place : ℕ) → among (take used slots) place ≡ true → Was contents (ended_by (take at (changes_of call))) place
+  pub long : (next_id : ℕ) → used + length (begun_by next_id (drop at (changes_of call))) ≡ length (begun next_id call)
+
+among_left : (xs ys : List ℕ) (id : ℕ) → among xs id ≡ true → among (xs ++ ys) id ≡ true
+among_left [] ys id a = absurd (cc)
+among_left (x ∷ xs) ys id a = ⊎_elim (or_left (eqb x id) (among (xs ++ ys) id)) (λ (e : among xs id ≡ true). or_right (eqb x id) (among (xs ++ ys) id) (among_left xs ys id e)) (or_cases (eqb x id) (among xs id) a)
+
+among_last : (xs : List ℕ) (last id : ℕ) → among (xs ++ last ∷ []) id ≡ true → (among xs id ≡ true) ⊎ (last ≡ id)
+among_last [] last id a = ⊎_elim (λ (e : eqb last id ≡ true). inr (eqb-true last id e)) (λ (e : false ≡ true). absurd (cc)) (or_cases (eqb last id) false a)
+among_last (x ∷ xs) last id a = ⊎_elim
+    (λ (e : eqb x id ≡ true). inl (or_left (eqb x id) (among xs id) e))
+    (λ (e : among (xs ++ last ∷ []) id ≡ true). ⊎_elim (λ (there : among xs id ≡ true). inl (or_right (eqb x id) (among xs id) there)) (λ (same : last ≡ id). inr same) (among_last xs last id e))
+    (or_cases (eqb x id) (among (xs ++ last ∷ []) id) a)
+
+-- an id comes before no other place of ids that differ
+apart_before : (xs ys : List ℕ) (id : ℕ) → AreApart (xs ++ id ∷ ys) → among xs id ≡ false
+apart_before [] ys id h = refl
+apart_before (x ∷ xs) ys id h = go (eqb x id) refl (apart_before xs ys id h.1)
+  where
+    behind : (xs : List ℕ) → among (xs ++ id ∷ ys) id ≡ true
+    behind [] = or_left (eqb id id) (among ys id) (eq-eqb id id refl)
+    behind (x ∷ xs) = or_right (eqb x id) (among (xs ++ id ∷ ys) id) (behind xs)
+
+    go : (b : Bool) → eqb x id ≡ b → among xs id ≡ false → (b || among xs id) ≡ false
+    go false e more = more
+    go true e more = absurd (true≢false (sym (ap (among (xs ++ id ∷ ys)) (eqb-true x id e) ∙ behind xs) ∙ h.0))
+
+module _ (contents : Contents) (call : Call) (slots : List ℕ) (kept : IsKept contents) (at used : ℕ) (change : Change) (here : slice_get (changes_of call) at ≡ Some change) (h : FitsUpTo contents call slots at used) where
+  abbrev table : List Line
+  table = visible contents.stamp contents.slots
+
+  abbrev changes : List Change
+  changes = changes_of call
+
+  abbrev closed : List (Option Version)
+  closed = closed_slots contents (ended call)
+
+  -- its row is there
+  there_one : (id place : ℕ) → ended_by (change ∷ drop (at + 1) changes) ≡ id ∷ ended_by (drop (at + 1) changes) → row_at contents.stamp id contents.slots place ≡ true → missing (ended_by (drop (at + 1) changes)) table ≡ missing (ended call) table
+  there_one id place named row =
+      sym (ap (λ b. cond (not b) (Some id) (missing (ended_by (drop (at + 1) changes)) table)) (has_row_at contents.stamp id contents.slots place row))
+      ∙ sym (ap (λ l. missing l table) (ap ended_by (drop_at changes at change here) ∙ named)) ∙ h.there
+
+  weaker : (place : ℕ) → Was contents (ended_by (take at changes)) place → Was contents (ended_by (take (at + 1) changes)) place
+  weaker place was = ⊎_elim
+      (λ (free : free_at (uses_of contents) place ≡ true). inl free)
+      (λ (stood : StoodThere contents (ended_by (take at changes)) place). inr (record {
+        id = stood.id;
+        named = ap (λ l. among l stood.id) (ended_so_far changes at change here) ∙ among_left (ended_by (take at changes)) (ended_by (change ∷ [])) stood.id stood.named;
+        row = stood.row;
+      }))
+      was
+
+  -- a slot that fits
+  slot_taken : (place : ℕ) → slice_get slots used ≡ Some place → is_free (stamps_next contents) closed place ≡ true → among (take used slots) place ≡ false
+      → are_free (stamps_next contents) closed (take (used + 1) slots) (drop (used + 1) slots) ≡ are_free (stamps_next contents) closed [] slots
+  slot_taken place is free new =
+      let one : are_free (stamps_next contents) closed (take used slots) (place ∷ drop (used + 1) slots) ≡ are_free (stamps_next contents) closed (take used slots ++ place ∷ []) (drop (used + 1) slots) =
+      ap₂ (λ a f. (not a && f) && are_free (stamps_next contents) closed (take used slots ++ place ∷ []) (drop (used + 1) slots)) new free in
+      ap (λ l. are_free (stamps_next contents) closed l (drop (used + 1) slots)) (take_at slots used place is) ∙ sym one
+      ∙ sym (ap (are_free (stamps_next contents) closed (take used slots)) (drop_at slots used place is)) ∙ h.free
+
+  all_taken : (last : ℕ) → slice_get slots used ≡ Some last → Was contents (ended_by (take (at + 1) changes)) last → (place : ℕ) → among (take (used + 1) slots) place ≡ true → Was contents (ended_by (take (at + 1) changes)) place
+  all_taken last is was place a = ⊎_elim
+      (λ (e : among (take used slots) place ≡ true). weaker place (h.taken place e))
+      (λ (e : last ≡ place). subst (Was contents (ended_by (take (at + 1) changes))) e was)
+      (among_last (take used slots) last place (sym (ap (λ l. among l place) (take_at slots used last is)) ∙ a))
+
+  length_one : (begins : Bool) → begins_any (change ∷ []) ≡ begins → (next_id : ℕ) → used + cond begins (suc (length (begun_by next_id (drop (at + 1) changes)))) (length (begun_by next_id (drop (at + 1) changes))) ≡ length (begun next_id call)
+  length_one begins e next_id = ap (λ n. used + n) (sym (one_begins next_id change (drop (at + 1) changes) begins e)) ∙ ap (λ l. used + length (begun_by next_id l)) (sym (drop_at changes at change here)) ∙ h.long next_id
+
+-- An added row may have a free slot, ..
+pub fits_added : (contents : Contents) (call : Call) (slots : List ℕ) (at used : ℕ) (row : Row) (place : ℕ) → IsKept contents → slice_get (changes_of call) at ≡ Some (Add row) → slice_get slots used ≡ Some place → free_at (uses_of contents) place ≡ true
+    → among (take used slots) place ≡ false → FitsUpTo contents call slots at used → FitsUpTo contents call slots (at + 1) (used + 1)
+fits_added contents call slots at used row place kept here is free new h = record {
+  there = sym (ap (λ l. missing (ended_by l) (visible contents.stamp contents.slots)) (drop_at (changes_of call) at (Add row) here)) ∙ h.there;
+  free = slot_taken contents call slots kept at used (Add row) here h place is (free_closed contents kept.state kept.bounded kept.stands (ended call) place free) new;
+  taken = all_taken contents call slots kept at used (Add row) here h place is (inl free);
+  long = λ next_id. let one = length_one contents call slots kept at used (Add row) here h true refl next_id in omega arith;
+}
+
+-- .. a row that is set the one where it stands, ..
+pub fits_set : (contents : Contents) (call : Call) (slots : List ℕ) (at used id : ℕ) (row : Row) (place : ℕ) → IsKept contents → is_formed call ≡ true → slice_get (changes_of call) at ≡ Some (Set id row) → slice_get slots used ≡ Some place
+    → row_at contents.stamp id contents.slots place ≡ true → frees_at (begins contents.callers) (ended call) (contents.stamp + 1) contents.slots place ≡ true → FitsUpTo contents call slots at used → FitsUpTo contents call slots (at + 1) (used + 1)
+fits_set contents call slots at used id row place kept formed here is stands frees h = record {
+  there = there_one contents call slots kept at used (Set id row) here h id place refl stands;
+  free = slot_taken contents call slots kept at used (Set id row) here h place is (frees_closed contents kept.state kept.bounded kept.stands (ended call) place (ap (λ m. frees_at (begins contents.callers) (ended call) m contents.slots place) next ∙ frees)) (go (among (take used slots) place) refl);
+  taken = all_taken contents call slots kept at used (Set id row) here h place is (inr (record {
+    id = id;
+    named = ap (λ l. among l id) (ended_so_far (changes_of call) at (Set id row) here) ∙ last (ended_by (take at (changes_of call)));
+    row = stands;
+  }));
+  long = λ next_id. let one = length_one contents call slots kept at used (Set id row) here h true refl next_id in omega arith;
+}
+  where
+    next : suc contents.stamp ≡ contents.stamp + 1
+    next = omega arith
+
+    last : (ids : List ℕ) → among (ids ++ id ∷ []) id ≡ true
+    last [] = or_left (eqb id id) false (eq-eqb id id refl)
+    last (other ∷ ids) = or_right (eqb other id) (among (ids ++ id ∷ []) id) (last ids)
+
+    before : among (ended_by (take at (changes_of call))) id ≡ false
+    before = apart_before (ended_by (take at (changes_of call))) (ended_by (drop (at + 1) (changes_of call))) id (subst AreApart (ended_next (changes_of call) at (Set id row) id here refl) (formed_apart call formed))
+
+    go : (b : Bool) → among (take used slots) place ≡ b → among (take used slots) place ≡ false
+    go false e = e
+    go true e = absurd (⊎_elim
+        (λ (free : free_at (uses_of contents) place ≡ true). true≢false (sym free ∙ row_taken contents kept.state kept.bounded kept.stands id place stands))
+        (λ (stood : StoodThere contents (ended_by (take at (changes_of call))) place).
+        true≢false (sym stood.named ∙ ap (among (ended_by (take at (changes_of call)))) (sym (one_id contents kept.state kept.bounded kept.stands contents.slots id stood.id place stands stood.row)) ∙ before))
+        (h.taken place e))
+
+-- .. and one that is removed needs none.
+pub fits_removed : (contents : Contents) (call : Call) (slots : List ℕ) (at used id : ℕ) (place : Option ℕ) → IsKept contents → slice_get (changes_of call) at ≡ Some (Remove id) → IsPlaceOf contents.stamp id contents.slots place → is_some place ≡ true
+    → FitsUpTo contents call slots at used → FitsUpTo contents call slots (at + 1) used
+fits_removed contents call slots at used id None kept here stands some h = absurd (cc)
+fits_removed contents call slots at used id (Some place) kept here stands some h = record {
+  there = there_one contents call slots kept at used (Remove id) here h id place refl stands;
+  free = h.free;
+  taken = λ other a. weaker contents call slots kept at used (Remove id) here h other (h.taken other a);
+  long = λ next_id. length_one contents call slots kept at used (Remove id) here h false refl next_id;
+}
+
+pub fits_all : (contents : Contents) (call : Call) (slots : List ℕ) (at used : ℕ) → is_change call ≡ true → is_formed call ≡ true → length (changes_of call) ≤ at → length slots ≡ used → FitsUpTo contents call slots at used → FitAtOnce contents call slots
+fits_all contents call slots at used c formed done long h = chosen_at_once contents call slots c formed there (go (filled (stamps_next contents) (suc contents.stamp) slots (begun contents.next_id call) closed) refl fits)
+  where
+    closed : List (Option Version)
+    closed = closed_slots contents (ended call)
+
+    none : drop at (changes_of call) ≡ []
+    none = drop_all (changes_of call) at done
+
+    there : missing (ended call) (visible contents.stamp contents.slots) ≡ None
+    there = sym h.there ∙ ap (λ l. missing (ended_by l) (visible contents.stamp contents.slots)) none
+
+    free : are_free (stamps_next contents) closed [] slots ≡ true
+    free = sym h.free ∙ ap (are_free (stamps_next contents) closed (take used slots)) (drop_all slots used (omega arith))
+
+    many : length slots ≡ length (begun contents.next_id call)
+    many = let all = ap (λ l. used + length (begun_by contents.next_id l)) (sym none) ∙ h.long contents.next_id in omega (arith, all, long)
+
+    fits : is_some (filled (stamps_next contents) (suc contents.stamp) slots (begun contents.next_id call) closed) ≡ true
+    fits = sym (fills_free (suc contents.stamp) (begins contents.callers) closed slots (begun contents.next_id call) many) ∙ free
+
+    go : (o : Option (List (Option Version))) → filled (stamps_next contents) (suc contents.stamp) slots (begun contents.next_id call) closed ≡ o → is_some o ≡ true → ChosenUpTo contents call [] slots
+    go None e some = absurd (cc)
+    go (Some now) e some = record { done = begun contents.next_id call; all = sym (append-nil (begun contents.next_id call)); now = now; fills = e }
+
+-- Its slots fit an op of it that is next.
+pub next_fits : (contents : Contents) (op : Op) → FitAtOnce contents op.call op.slots → is_next contents op ≡ (is_next contents op && is_some (slots_after contents op))
+next_fits contents op h = go (is_next contents op) refl
+  where
+    go : (b : Bool) → is_next contents op ≡ b → b ≡ (b && is_some (slots_after contents op))
+    go false next = refl
+    go true next = sym (ap (λ (o : Outcome). is_some (placed contents op.call op.slots o)) (IsAllowed-from contents op next).outcome ∙ h.placed)

@@ -1,0 +1,356 @@
+-- The slots that ended rows leave free.
+use Rattle.pref_core.proofs.Common.{◌≡◌, ℕ, zero, suc, ◌+◌, ◌<◌, ◌≤◌, Bool, true, false, ◌&&◌, ◌||◌, cond, eqb, List, [], ◌∷◌, ◌++◌, map, length, set, Option, Some, None, slice_get, refl, sym, ap}
+use Rattle.pref_core.proofs.Common.{◌∙◌, subst, arith, ⊎_elim, count_by, option_map, length-map, length-set, filter-append, slice_get-map, slice_get_within, le-leb, eqb-true, eq-eqb, cases_eq}
+use Rattle.pref_core.proofs.Common.{or_cases, or_right, and_parts, true≢false, Version, SlotUse, Free, among, State, missing, Contents, StandsFor, IsWithin, is_visible, visible, begins, close, is_free}
+use Rattle.pref_core.proofs.Common.{is_free_use, is_spare, free_at, use_of, IsBounded, is_row, row_at, IsPlaceOf, AreOldPlaces, frees_at, is_open, IsFreed}
+use Rattle.std.specs.List.{filter}
+use Rattle.pref_core.proofs.ChangesLaws.{AreApart}
+use Rattle.pref_core.proofs.RowEndLaws.{row_alive}
+use Rattle.pref_core.proofs.SlotKeys.{within-close}
+use Rattle.pref_core.proofs.IdsAfterCommit.{known_ids}
+use Rattle.pref_core.proofs.IdChainsLaws.{row_shown}
+use Rattle.pref_core.proofs.StabilityLaws.{slice_get-set_other}
+use Rattle.pref_core.proofs.SlotUseLaws.{count_by-cons, holds_there, live, live_by, close_idle, has_row_at, row_version, free_zone, used_zones, spare_zone, one_no}
+
+-- What was found of the first of these rows.
+pub record FreesUpTo (contents : Contents) (ids done freed : List ℕ) : Type 0 where
+  pub olds : List ℕ
+  pub stand : AreOldPlaces contents.stamp done contents.slots olds
+  pub freed_is : freed ≡ filter (frees_at (begins contents.callers) ids (suc contents.stamp) contents.slots) olds
+
+olds_snoc : (stamp : ℕ) (done : List ℕ) (slots : List (Option Version)) (olds : List ℕ) (id place : ℕ) → AreOldPlaces stamp done slots olds → row_at stamp id slots place ≡ true → AreOldPlaces stamp (done ++ id ∷ []) slots (olds ++ place ∷ [])
+olds_snoc stamp [] slots [] id place h r = (r, tt)
+olds_snoc stamp [] slots (old ∷ olds) id place h r = absurd h
+olds_snoc stamp (first ∷ done) slots [] id place h r = absurd h
+olds_snoc stamp (first ∷ done) slots (old ∷ olds) id place h r = (h.0, olds_snoc stamp done slots olds id place h.1 r)
+
+-- .. and of one more
+pub frees_one : (contents : Contents) (ids done freed : List ℕ) (id place : ℕ) (b : Bool) → frees_at (begins contents.callers) ids (suc contents.stamp) contents.slots place ≡ b → row_at contents.stamp id contents.slots place ≡ true
+    → FreesUpTo contents ids done freed → FreesUpTo contents ids (done ++ id ∷ []) (cond b (freed ++ place ∷ []) freed)
+frees_one contents ids done freed id place b e r h = record {
+  olds = h.olds ++ place ∷ [];
+  stand = olds_snoc contents.stamp done contents.slots h.olds id place h.stand r;
+  freed_is = go b e ∙ sym (filter-append (frees_at (begins contents.callers) ids (suc contents.stamp) contents.slots) h.olds (place ∷ []));
+}
+  where
+    nil : (xs : List ℕ) → xs ≡ xs ++ []
+    nil [] = refl
+    nil (x ∷ xs) = ap (λ l. x ∷ l) (nil xs)
+
+    go : (b : Bool) → frees_at (begins contents.callers) ids (suc contents.stamp) contents.slots place ≡ b → cond b (freed ++ place ∷ []) freed
+        ≡ filter (frees_at (begins contents.callers) ids (suc contents.stamp) contents.slots) h.olds ++ cond (frees_at (begins contents.callers) ids (suc contents.stamp) contents.slots place) (place ∷ []) []
+    go true e = ap (λ l. l ++ place ∷ []) h.freed_is ∙ ap (λ c. filter (frees_at (begins contents.callers) ids (suc contents.stamp) contents.slots) h.olds ++ cond c (place ∷ []) []) (sym e)
+    go false e = h.freed_is ∙ nil _ ∙ ap (λ c. filter (frees_at (begins contents.callers) ids (suc contents.stamp) contents.slots) h.olds ++ cond c (place ∷ []) []) (sym e)
+
+length-olds : (stamp : ℕ) (done : List ℕ) (slots : List (Option Version)) (olds : List ℕ) → AreOldPlaces stamp done slots olds → length olds ≡ length done
+length-olds stamp [] slots [] h = refl
+length-olds stamp [] slots (old ∷ olds) h = absurd h
+length-olds stamp (id ∷ done) slots [] h = absurd h
+length-olds stamp (id ∷ done) slots (old ∷ olds) h = ap suc (length-olds stamp done slots olds h.1)
+
+filter_few : (p : ℕ → Bool) (xs : List ℕ) → length (filter p xs) ≤ length xs
+filter_few p [] = omega arith
+filter_few p (x ∷ xs) = let more = filter_few p xs in elim (p x) as (λ b. length (cond b (x ∷ filter p xs) (filter p xs)) ≤ suc (length xs)) [ true ↦ omega arith | false ↦ omega arith ]
+
+pub frees_few : (contents : Contents) (ids done freed : List ℕ) → FreesUpTo contents ids done freed → length freed ≤ length done
+frees_few contents ids done freed h =
+    let a = ap length h.freed_is in
+    let b = filter_few (frees_at (begins contents.callers) ids (suc contents.stamp) contents.slots) h.olds in
+    let c = length-olds contents.stamp done contents.slots h.olds h.stand in
+    omega arith
+
+-- The first row that isn't there.
+pub frees_missing : (contents : Contents) (ids done rest freed : List ℕ) (id : ℕ) → ids ≡ done ++ id ∷ rest → FreesUpTo contents ids done freed → IsPlaceOf contents.stamp id contents.slots None → missing ids (visible contents.stamp contents.slots) ≡ Some id
+frees_missing contents ids done rest freed id is h absent = ap (λ l. missing l (visible contents.stamp contents.slots)) is ∙ go done h.olds h.stand
+  where
+    go : (done olds : List ℕ) → AreOldPlaces contents.stamp done contents.slots olds → missing (done ++ id ∷ rest) (visible contents.stamp contents.slots) ≡ Some id
+    go [] olds stand = rw absent refl
+    go (first ∷ done) [] stand = absurd stand
+    go (first ∷ done) (old ∷ olds) stand = rw (has_row_at contents.stamp first contents.slots old stand.0) (go done olds stand.1)
+
+all_there : (stamp : ℕ) (slots : List (Option Version)) (done olds : List ℕ) → AreOldPlaces stamp done slots olds → missing done (visible stamp slots) ≡ None
+all_there stamp slots [] olds stand = refl
+all_there stamp slots (first ∷ done) [] stand = absurd stand
+all_there stamp slots (first ∷ done) (old ∷ olds) stand = rw (has_row_at stamp first slots old stand.0) (all_there stamp slots done olds stand.1)
+
+among_filter : (p : ℕ → Bool) (xs : List ℕ) (place : ℕ) → among (filter p xs) place ≡ (among xs place && p place)
+among_filter p [] place = refl
+among_filter p (x ∷ xs) place = go (p x) refl (eqb x place) refl (among_filter p xs place)
+  where
+    go : (b : Bool) → p x ≡ b → (e : Bool) → eqb x place ≡ e → among (filter p xs) place ≡ (among xs place && p place) → among (cond b (x ∷ filter p xs) (filter p xs)) place ≡ ((e || among xs place) && p place)
+    go true px true is more = ap (λ b. b || among (filter p xs) place) is ∙ sym (let same : x ≡ place = eqb-true x place is in sym (ap p same) ∙ px)
+    go true px false is more = ap (λ b. b || among (filter p xs) place) is ∙ more
+    go false px true is more = more ∙ none (among xs place) (p place) (let same : x ≡ place = eqb-true x place is in sym (ap p same) ∙ px)
+      where
+        none : (a b : Bool) → b ≡ false → (a && b) ≡ b
+        none true b e = refl
+        none false b e = sym e
+    go false px false is more = more
+
+-- how many are free where these places are marked
+same_count : (before after : List SlotUse) → length before ≡ length after → ((p : ℕ) → free_at after p ≡ free_at before p) → count_by is_free_use after ≡ count_by is_free_use before
+same_count [] [] long same = refl
+same_count [] (z ∷ zs) long same = absurd (omega arith)
+same_count (z ∷ zs) [] long same = absurd (omega arith)
+same_count (x ∷ xs) (y ∷ ys) long same =
+    let a = count_by-cons is_free_use x xs in
+    let b = count_by-cons is_free_use y ys in
+    let first : is_free_use y ≡ is_free_use x = same zero in
+    let one : ◌≡◌ {A = ℕ} (cond (is_free_use y) 1 0) (cond (is_free_use x) 1 0) = ap (λ t. cond t 1 0) first in
+    let rest : count_by is_free_use ys ≡ count_by is_free_use xs = same_count xs ys (omega arith) (λ p. same (suc p)) in
+    omega arith
+
+free_written : (zones : List SlotUse) (mark : ℕ) → mark < length zones → free_at (set zones mark Free) mark ≡ true
+free_written [] mark l = absurd (omega arith)
+free_written (z ∷ zs) zero l = refl
+free_written (z ∷ zs) (suc mark) l = free_written zs mark (omega arith)
+
+free_other : (zones : List SlotUse) (mark p : ℕ) → (p ≡ mark → ⊥) → free_at (set zones mark Free) p ≡ free_at zones p
+free_other zones mark p n = ap (λ (o : Option SlotUse). elim o as (λ x. Bool) [ None ↦ false | Some zone ↦ is_free_use zone ]) (slice_get-set_other zones p mark Free n)
+
+count_one : (zones : List SlotUse) (mark : ℕ) → mark < length zones → free_at zones mark ≡ false → count_by is_free_use (set zones mark Free) ≡ suc (count_by is_free_use zones)
+count_one [] mark l f = absurd (omega arith)
+count_one (z ∷ zs) zero l f =
+    let a = count_by-cons is_free_use z zs in
+    let b = count_by-cons is_free_use Free zs in
+    let c = one_no (is_free_use z) f in
+    let d : ◌≡◌ {A = ℕ} (cond (is_free_use Free) 1 0) 1 = refl in
+    omega arith
+count_one (z ∷ zs) (suc mark) l f =
+    let a = count_by-cons is_free_use z zs in
+    let b = count_by-cons is_free_use z (set zs mark Free) in
+    let rest = count_one zs mark (omega arith) f in
+    omega arith
+
+marked_count : (before after : List SlotUse) (marks : List ℕ) → length before ≡ length after → AreApart marks
+    → ((p : ℕ) → among marks p ≡ true → (p < length before) × (free_at before p ≡ false)) → ((p : ℕ) → free_at after p ≡ (free_at before p || among marks p))
+    → count_by is_free_use after ≡ count_by is_free_use before + length marks
+marked_count before after [] long apart here same = same_count before after long (λ p. same p ∙ no (free_at before p)) ∙ zero_more (count_by is_free_use before)
+  where
+    no : (b : Bool) → (b || false) ≡ b
+    no true = refl
+    no false = refl
+
+    zero_more : (n : ℕ) → n ≡ n + 0
+    zero_more n = omega arith
+marked_count before after (mark ∷ marks) long apart here same =
+    let first = here mark (ap (λ b. b || among marks mark) (eq-eqb mark mark refl)) in
+    let one = count_one before mark first.0 first.1 in
+    let more = marked_count (set before mark Free) after marks (length-set before mark Free ∙ long) apart.1
+    (λ p a. let there = here p (or_right (eqb mark p) (among marks p) a) in
+    (let size = length-set before mark Free in let l = there.0 in omega arith, free_other before mark p (λ e. true≢false (sym a ∙ ap (among marks) e ∙ apart.0)) ∙ there.1))
+    (λ p. same p ∙ by p) in
+    omega arith
+  where
+    by : (p : ℕ) → (free_at before p || (eqb mark p || among marks p)) ≡ (free_at (set before mark Free) p || among marks p)
+    by p = ⊎_elim
+        (λ (e : p ≡ mark). ap (λ q. free_at before q || (eqb mark q || among marks q)) e ∙ ap (λ b. free_at before mark || (b || among marks mark)) (eq-eqb mark mark refl) ∙ yes (free_at before mark)
+        ∙ sym (ap (λ q. free_at (set before mark Free) q || among marks q) e ∙ ap (λ b. b || among marks mark) (free_written before mark (here mark (ap (λ b. b || among marks mark) (eq-eqb mark mark refl))).0)))
+        (λ (n : p ≡ mark → ⊥). ap (λ b. free_at before p || (b || among marks p)) (apart_eqb (eqb mark p) refl n) ∙ ap (λ b. b || among marks p) (sym (free_other before mark p n)))
+        (cases_eq p mark)
+      where
+        yes : (b : Bool) → (b || true) ≡ true
+        yes true = refl
+        yes false = refl
+
+        apart_eqb : (b : Bool) → eqb mark p ≡ b → (p ≡ mark → ⊥) → eqb mark p ≡ false
+        apart_eqb false e n = e
+        apart_eqb true e n = absurd (n (sym (eqb-true mark p e)))
+
+-- Several rows of a store that stands for a state.
+module _ (contents : Contents) (state : State) (bounded : IsBounded contents) (stands : StandsFor contents state) where
+  abbrev ns : List ℕ
+  ns = begins contents.callers
+
+  abbrev made : ℕ
+  made = suc contents.stamp
+
+  abbrev zones : List SlotUse
+  zones = map (use_of contents.callers) contents.slots
+
+  one_row : (id p q : ℕ) → row_at contents.stamp id contents.slots p ≡ true → row_at contents.stamp id contents.slots q ≡ true → p ≡ q
+  one_row id p q a b = (known_ids contents state bounded stands).once p q id (row_shown contents.stamp id contents.slots p a) (row_shown contents.stamp id contents.slots q b)
+
+  -- two rows don't stand at one place
+  pub one_id : (slots : List (Option Version)) (id other place : ℕ) → row_at contents.stamp id slots place ≡ true → row_at contents.stamp other slots place ≡ true → id ≡ other
+  one_id [] id other place a b = absurd (cc)
+  one_id (None ∷ slots) id other zero a b = absurd (cc)
+  one_id (Some version ∷ slots) id other zero a b = sym (eqb-true version.id id (and_parts (eqb version.id id) (is_visible contents.stamp version) a).0) ∙ eqb-true version.id other (and_parts (eqb version.id other) (is_visible contents.stamp version) b).0
+  one_id (slot ∷ slots) id other (suc place) a b = one_id slots id other place a b
+
+  -- the old place of an id
+  record OldPlace (id : ℕ) (olds : List ℕ) : Type 0 where
+    place : ℕ
+    among_olds : among olds place ≡ true
+    row : row_at contents.stamp id contents.slots place ≡ true
+
+  old_place : (ids olds : List ℕ) (id : ℕ) → AreOldPlaces contents.stamp ids contents.slots olds → among ids id ≡ true → OldPlace id olds
+  old_place [] olds id stand a = absurd (cc)
+  old_place (first ∷ ids) [] id stand a = absurd stand
+  old_place (first ∷ ids) (old ∷ olds) id stand a = ⊎_elim
+      (λ (e : eqb first id ≡ true). record { place = old; among_olds = ap (λ b. b || among olds old) (eq-eqb old old refl); row = let same : first ≡ id = eqb-true first id e in subst (λ n. row_at contents.stamp n contents.slots old ≡ true) same stand.0 })
+      (λ (e : among ids id ≡ true). let more = old_place ids olds id stand.1 e in record { place = more.place; among_olds = or_right (eqb old more.place) (among olds more.place) more.among_olds; row = more.row })
+      (or_cases (eqb first id) (among ids id) a)
+
+  record OldId (place : ℕ) (ids : List ℕ) : Type 0 where
+    id : ℕ
+    among_ids : among ids id ≡ true
+    row : row_at contents.stamp id contents.slots place ≡ true
+
+  old_id : (ids olds : List ℕ) (place : ℕ) → AreOldPlaces contents.stamp ids contents.slots olds → among olds place ≡ true → OldId place ids
+  old_id [] [] place stand a = absurd (cc)
+  old_id [] (old ∷ olds) place stand a = absurd stand
+  old_id (first ∷ ids) [] place stand a = absurd stand
+  old_id (first ∷ ids) (old ∷ olds) place stand a = ⊎_elim
+      (λ (e : eqb old place ≡ true). record { id = first; among_ids = ap (λ b. b || among ids first) (eq-eqb first first refl); row = let same : old ≡ place = eqb-true old place e in subst (λ n. row_at contents.stamp first contents.slots n ≡ true) same stand.0 })
+      (λ (e : among olds place ≡ true). let more = old_id ids olds place stand.1 e in record { id = more.id; among_ids = or_right (eqb first more.id) (among ids more.id) more.among_ids; row = more.row })
+      (or_cases (eqb old place) (among olds place) a)
+
+  olds_apart : (ids olds : List ℕ) → AreOldPlaces contents.stamp ids contents.slots olds → AreApart ids → AreApart olds
+  olds_apart [] [] stand apart = tt
+  olds_apart [] (old ∷ olds) stand apart = absurd stand
+  olds_apart (first ∷ ids) [] stand apart = absurd stand
+  olds_apart (first ∷ ids) (old ∷ olds) stand apart = (go (among olds old) refl, olds_apart ids olds stand.1 apart.1)
+    where
+      go : (b : Bool) → among olds old ≡ b → among olds old ≡ false
+      go false e = e
+      go true e =
+          let there = old_id ids olds old stand.1 e in
+          absurd (true≢false (sym there.among_ids ∙ ap (among ids) (one_id contents.slots there.id first old there.row stand.0) ∙ apart.0))
+
+  filter_apart : (p : ℕ → Bool) (xs : List ℕ) → AreApart xs → AreApart (filter p xs)
+  filter_apart p [] apart = tt
+  filter_apart p (x ∷ xs) apart = go (p x) (filter_apart p xs apart.1)
+    where
+      no : (a b : Bool) → a ≡ false → (a && b) ≡ false
+      no true b e = absurd (cc)
+      no false b e = refl
+
+      go : (b : Bool) → AreApart (filter p xs) → AreApart (cond b (x ∷ filter p xs) (filter p xs))
+      go true more = (among_filter p xs x ∙ no (among xs x) (p x) apart.0, more)
+      go false more = more
+
+  -- a slot that is free stays free, and one that isn't and becomes it held a row that ended
+  slot_freed : (ids : List ℕ) (slot : Option Version) → is_free_use (use_of contents.callers slot) ≡ true → is_free_use (use_of contents.callers (close ids made slot)) ≡ true
+  slot_freed ids None f = refl
+  slot_freed ids (Some version) f = ap (λ s. is_free_use (use_of contents.callers s)) (close_idle ids made (Some version) (ended version.death f)) ∙ f
+    where
+      ended : (death : Option ℕ) → is_free_use (use_of contents.callers (Some (record version { death = death }))) ≡ true → live_by ids version.id death ≡ false
+      ended None f = absurd (cc)
+      ended (Some death) f = refl
+
+  row_freed : (ids : List ℕ) (slot : Option Version) → IsWithin contents.next_id contents.stamp slot → is_free_use (use_of contents.callers slot) ≡ false → is_free_use (use_of contents.callers (close ids made slot)) ≡ true → (id : ℕ) × (among ids id ≡ true) × (is_row contents.stamp id slot ≡ true)
+  row_freed ids None w n f = absurd (cc)
+  row_freed ids (Some version) w n f = go (live ids (Some version)) refl
+    where
+      alive : (death : Option ℕ) → live_by ids version.id death ≡ true → (among ids version.id ≡ true) × (is_visible contents.stamp (record version { death = death }) ≡ true)
+      alive None e = (e, rw (le-leb version.birth contents.stamp w.1) refl)
+      alive (Some death) e = absurd (cc)
+
+      go : (b : Bool) → live ids (Some version) ≡ b → (id : ℕ) × (among ids id ≡ true) × (is_row contents.stamp id (Some version) ≡ true)
+      go true e = let facts = alive version.death e in (version.id, facts.0, rw (eq-eqb version.id version.id refl) facts.1)
+      go false e = absurd (true≢false (sym f ∙ ap (λ s. is_free_use (use_of contents.callers s)) (close_idle ids made (Some version) e) ∙ n))
+
+  frees_zone : (ids : List ℕ) (place : ℕ) → free_at (map (use_of contents.callers) (map (close ids made) contents.slots)) place ≡ frees_at ns ids made contents.slots place
+  frees_zone ids place =
+      ap (λ (o : Option SlotUse). elim o as (λ x. Bool) [ None ↦ false | Some zone ↦ is_free_use zone ]) (slice_get-map (use_of contents.callers) (map (close ids made) contents.slots) place ∙ ap (option_map (use_of contents.callers)) (slice_get-map (close ids made) contents.slots place))
+      ∙ go (slice_get contents.slots place)
+    where
+      go : (o : Option (Option Version)) → elim (option_map (use_of contents.callers) (option_map (close ids made) o)) as (λ x. Bool) [ None ↦ false | Some zone ↦ is_free_use zone ]
+          ≡ elim o as (λ x. Bool) [ None ↦ false | Some slot ↦ is_spare ns (close ids made slot) ]
+      go None = refl
+      go (Some slot) = spare_zone contents.callers (close ids made slot)
+
+  zone_there : (place : ℕ) (o : Option (Option Version)) → slice_get contents.slots place ≡ o → free_at zones place ≡ elim o as (λ x. Bool) [ None ↦ false | Some slot ↦ is_free_use (use_of contents.callers slot) ]
+  zone_there place o e = ap (λ (o : Option SlotUse). elim o as (λ x. Bool) [ None ↦ false | Some zone ↦ is_free_use zone ]) (slice_get-map (use_of contents.callers) contents.slots place ∙ ap (option_map (use_of contents.callers)) e) ∙ go o
+    where
+      go : (o : Option (Option Version)) → elim (option_map (use_of contents.callers) o) as (λ x. Bool) [ None ↦ false | Some zone ↦ is_free_use zone ] ≡ elim o as (λ x. Bool) [ None ↦ false | Some slot ↦ is_free_use (use_of contents.callers slot) ]
+      go None = refl
+      go (Some slot) = refl
+
+  frees_there : (ids : List ℕ) (place : ℕ) (o : Option (Option Version)) → slice_get contents.slots place ≡ o → frees_at ns ids made contents.slots place ≡ elim o as (λ x. Bool) [ None ↦ false | Some slot ↦ is_free_use (use_of contents.callers (close ids made slot)) ]
+  frees_there ids place o e = ap (λ o. elim o as (λ x. Bool) [ None ↦ false | Some slot ↦ is_spare ns (close ids made slot) ]) e ∙ go o
+    where
+      go : (o : Option (Option Version)) → elim o as (λ x. Bool) [ None ↦ false | Some slot ↦ is_spare ns (close ids made slot) ] ≡ elim o as (λ x. Bool) [ None ↦ false | Some slot ↦ is_free_use (use_of contents.callers (close ids made slot)) ]
+      go None = refl
+      go (Some slot) = sym (spare_zone contents.callers (close ids made slot))
+
+  -- a place is free once rows ended where they leave it free, ..
+  pub frees_closed : (ids : List ℕ) (place : ℕ) → frees_at ns ids made contents.slots place ≡ true → is_free (made ∷ ns) (map (close ids made) contents.slots) place ≡ true
+  frees_closed ids place f = free_zone contents.next_id made contents.callers (map (close ids made) contents.slots) place (within-close ids contents.next_id contents.stamp contents.slots stands.within) ∙ frees_zone ids place ∙ f
+
+  -- .. or where it was free
+  pub free_closed : (ids : List ℕ) (place : ℕ) → free_at zones place ≡ true → is_free (made ∷ ns) (map (close ids made) contents.slots) place ≡ true
+  free_closed ids place f = frees_closed ids place (go (slice_get contents.slots place) refl)
+    where
+      go : (o : Option (Option Version)) → slice_get contents.slots place ≡ o → frees_at ns ids made contents.slots place ≡ true
+      go None e = absurd (true≢false (sym f ∙ zone_there place None e))
+      go (Some slot) e = frees_there ids place (Some slot) e ∙ slot_freed ids slot (sym (zone_there place (Some slot) e) ∙ f)
+
+  -- where a row stands it isn't
+  pub row_taken : (id place : ℕ) → row_at contents.stamp id contents.slots place ≡ true → free_at zones place ≡ false
+  row_taken id place row =
+      let found = row_version contents.stamp id contents.slots place row in
+      let shows : is_row contents.stamp id (Some found.0) ≡ true = ap (λ o. elim o as (λ x. Bool) [ None ↦ false | Some s ↦ is_row contents.stamp id s ]) (sym found.1) ∙ row in
+      zone_there place (Some (Some found.0)) found.1
+      ∙ ap is_free_use (row_alive contents.next_id contents.stamp id contents.callers found.0 (holds_there (IsWithin contents.next_id contents.stamp) contents.slots place (Some found.0) found.1 stands.within) shows)
+
+  -- the slot of a place is free once rows ended where it was free, or one of them stood there and nobody needs it
+  frees_open : (ids olds : List ℕ) (place : ℕ) → AreOldPlaces contents.stamp ids contents.slots olds → frees_at ns ids made contents.slots place ≡ (free_at zones place || (among olds place && frees_at ns ids made contents.slots place))
+  frees_open ids olds place stand = at (slice_get contents.slots place) refl
+    where
+      by : (f z a : Bool) → (z ≡ true → f ≡ true) → (f ≡ true → z ≡ false → a ≡ true) → f ≡ (z || (a && f))
+      by true true a up down = refl
+      by true false a up down = sym (ap (λ b. b && true) (down refl refl))
+      by false true a up down = absurd (true≢false (sym (up refl)))
+      by false false true up down = refl
+      by false false false up down = refl
+
+      at : (o : Option (Option Version)) → slice_get contents.slots place ≡ o → frees_at ns ids made contents.slots place ≡ (free_at zones place || (among olds place && frees_at ns ids made contents.slots place))
+      at None e = by (frees_at ns ids made contents.slots place) (free_at zones place) (among olds place) (λ z. absurd (true≢false (sym z ∙ zone_there place None e))) (λ f z. absurd (true≢false (sym f ∙ frees_there ids place None e)))
+      at (Some slot) e = by (frees_at ns ids made contents.slots place) (free_at zones place) (among olds place)
+          (λ z. frees_there ids place (Some slot) e ∙ slot_freed ids slot (sym (zone_there place (Some slot) e) ∙ z))
+          (λ f z.
+          let ended = row_freed ids slot (holds_there (IsWithin contents.next_id contents.stamp) contents.slots place slot e stands.within) (sym (zone_there place (Some slot) e) ∙ z) (sym (frees_there ids place (Some slot) e) ∙ f) in
+          let here : row_at contents.stamp ended.0 contents.slots place ≡ true = ap (λ o. elim o as (λ x. Bool) [ None ↦ false | Some s ↦ is_row contents.stamp ended.0 s ]) e ∙ ended.2 in
+          let old = old_place ids olds ended.0 stand ended.1 in
+          subst (λ p. among olds p ≡ true) (one_row ended.0 old.place place old.row here) old.among_olds)
+
+  -- What was found of all rows that end.
+  pub freed_all : (ids freed : List ℕ) → AreApart ids → FreesUpTo contents ids ids freed → IsFreed contents ids freed
+  freed_all ids freed apart h = record {
+    there = all_there contents.stamp contents.slots ids h.olds h.stand;
+    opens = λ place. free_zone contents.next_id made contents.callers (map (close ids made) contents.slots) place (within-close ids contents.next_id contents.stamp contents.slots stands.within) ∙ opens place;
+    counted =
+        let all = used_zones contents.next_id made contents.callers (map (close ids made) contents.slots) (within-close ids contents.next_id contents.stamp contents.slots stands.within) in
+        let long = length-map contents.slots (close ids made) in
+        let same : length zones ≡ length (map (use_of contents.callers) (map (close ids made) contents.slots)) = length-map contents.slots (use_of contents.callers) ∙ sym (length-map (map (close ids made) contents.slots) (use_of contents.callers) ∙ long) in
+        let marks = marked_count zones (map (use_of contents.callers) (map (close ids made) contents.slots)) freed same
+        (subst AreApart (sym h.freed_is) (filter_apart (frees_at ns ids made contents.slots) h.olds (olds_apart ids h.olds h.stand apart))) marked opens in
+        omega arith;
+  }
+    where
+      found : (place : ℕ) → among freed place ≡ (among h.olds place && frees_at ns ids made contents.slots place)
+      found place = ap (λ l. among l place) h.freed_is ∙ among_filter (frees_at ns ids made contents.slots) h.olds place
+
+      opens : (place : ℕ) → free_at (map (use_of contents.callers) (map (close ids made) contents.slots)) place ≡ is_open zones freed place
+      opens place = frees_zone ids place ∙ frees_open ids h.olds place h.stand ∙ ap (λ b. free_at zones place || b) (sym (found place))
+
+      marked : (p : ℕ) → among freed p ≡ true → (p < length zones) × (free_at zones p ≡ false)
+      marked p a =
+          let parts = and_parts (among h.olds p) (frees_at ns ids made contents.slots p) (sym (found p) ∙ a) in
+          let old = old_id ids h.olds p h.stand parts.0 in
+          inside old.id (slice_get contents.slots p) refl old.row
+        where
+          held : (id : ℕ) (slot : Option Version) → IsWithin contents.next_id contents.stamp slot → is_row contents.stamp id slot ≡ true → is_free_use (use_of contents.callers slot) ≡ false
+          held id None w r = absurd (cc)
+          held id (Some version) w r = ap is_free_use (row_alive contents.next_id contents.stamp id contents.callers version w r)
+
+          inside : (id : ℕ) (o : Option (Option Version)) → slice_get contents.slots p ≡ o → row_at contents.stamp id contents.slots p ≡ true → (p < length zones) × (free_at zones p ≡ false)
+          inside id None e r = absurd (true≢false (sym r ∙ ap (λ o. elim o as (λ x. Bool) [ None ↦ false | Some s ↦ is_row contents.stamp id s ]) e))
+          inside id (Some slot) e r =
+              let within = holds_there (IsWithin contents.next_id contents.stamp) contents.slots p slot e stands.within in
+              let shows : is_row contents.stamp id slot ≡ true = ap (λ o. elim o as (λ x. Bool) [ None ↦ false | Some s ↦ is_row contents.stamp id s ]) (sym e) ∙ r in
+              let room = slice_get_within contents.slots p slot e in
+              let long = length-map contents.slots (use_of contents.callers) in
+              (omega arith, ap (λ (o : Option SlotUse). elim o as (λ x. Bool) [ None ↦ false | Some zone ↦ is_free_use zone ]) (slice_get-map (use_of contents.callers) contents.slots p ∙ ap (option_map (use_of contents.callers)) e) ∙ held id slot within shows)

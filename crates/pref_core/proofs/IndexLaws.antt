@@ -1,0 +1,277 @@
+-- An index follows the store through each op that is done.
+use Rattle.pref_core.proofs.Common.{◌≡◌, ℕ, suc, ◌+◌, ◌<◌, Bool, true, false, ◌&&◌, ◌||◌, cond, eqb, nat_lt, List, [], ◌∷◌, map, length, set, Option, Some, None, is_some}
+use Rattle.pref_core.proofs.Common.{refl, sym, ap, ◌∙◌, subst, arith, AllByRecursion, eqb-true, ne_eqb, ltb-true, ltb-false, or_right, true≢false, Version, Change}
+use Rattle.pref_core.proofs.Common.{Add, Set, Remove, Call, Insert, Update, Delete, Commit, Begin, Finish, Abandon, Outcome, Added, Done, NoSuchRow, Full, Op, Entry, Row, ended_by, begun_by, added_by}
+use Rattle.pref_core.proofs.Common.{among, has, missing, success_outcome, is_change, succeeds, added, begins_row, changes_of, ended, begun, outcome_of, Contents, IsWithin, visible, begins, new_version, close}
+use Rattle.pref_core.proofs.Common.{is_free, filled, used, grown, slots_after, is_next, applied, slot_of, Points, PointsAll, given, placed_rows, adds, IsPlaceOf, IsIndexOf}
+use Rattle.pref_core.proofs.AppliedLaws.{IsAllowed-from}
+use Rattle.pref_core.proofs.ChangesLaws.{AreApart, formed_apart, found_all}
+use Rattle.pref_core.proofs.FilledLaws.{none_missing, slots_still}
+use Rattle.pref_core.proofs.IndexedRows.{closed_place, ended_place, born_place, other_place}
+use Rattle.pref_core.proofs.TableLaws.{has_visible-new}
+
+abbrev pub Pairs : Type 0
+Pairs = List (ℕ × ℕ)
+
+-- The place of an id once rows began, each in its slot: ..
+module _ (ns : List ℕ) (made id : ℕ) where
+  -- .. one row, ..
+  begun_place : (place : ℕ) (fresh : Entry) (slots : List (Option Version)) (found : Option ℕ) → is_free (made ∷ ns) slots place ≡ true → IsPlaceOf made id slots found
+      → IsPlaceOf made id (set slots place (new_version made fresh)) (cond (eqb fresh.id id) (Some place) found)
+  begun_place place fresh slots found free is = go (eqb fresh.id id) refl
+    where
+      go : (b : Bool) → eqb fresh.id id ≡ b → IsPlaceOf made id (set slots place (new_version made fresh)) (cond b (Some place) found)
+      go true e = subst (λ n. IsPlaceOf made n (set slots place (new_version made fresh)) (Some place)) (eqb-true fresh.id id e) (born_place made fresh ns slots place free)
+      go false e = other_place made id fresh ns slots place found free e is
+
+  -- .. and all rows of a commit, where the ids that it names are gone before.
+  abbrev ArePlaced : List Change → ℕ → List ℕ → List (Option Version) → List (Option Version) → Option ℕ → Type 0
+  ArePlaced changes next places slots after found = filled (made ∷ ns) made places (begun_by next changes) slots ≡ Some after → AreApart (ended_by changes) → (among (ended_by changes) id ≡ true → id < next)
+      → IsPlaceOf made id slots (cond (among (ended_by changes) id) None found) → IsPlaceOf made id after (given (placed_rows next changes places) id found)
+
+  filled_place : (changes : List Change) (next : ℕ) (places : List ℕ) (slots after : List (Option Version)) (found : Option ℕ) → ArePlaced changes next places slots after found
+  filled_place [] next [] slots after found e apart low is = subst (λ l. IsPlaceOf made id l found) (let same : slots ≡ after = cc in same) is
+  filled_place [] next (place ∷ places) slots after found e apart low is = absurd (cc)
+  filled_place (Add row ∷ rest) next [] slots after found e apart low is = absurd (cc)
+  filled_place (Set other row ∷ rest) next [] slots after found e apart low is = absurd (cc)
+  filled_place (Add row ∷ rest) next (place ∷ places) slots after found e apart low is =
+      go (is_free (made ∷ ns) slots place) refl e (filled_place rest (suc next) places (set slots place (new_version made (record { id = next; row = row }))) after (cond (eqb next id) (Some place) found))
+    where
+      fresh : Entry
+      fresh = record { id = next; row = row }
+
+      later : List (Option Version)
+      later = set slots place (new_version made fresh)
+
+      shown : is_free (made ∷ ns) slots place ≡ true → (b : Bool) → among (ended_by rest) id ≡ b → IsPlaceOf made id slots (cond b None found) → IsPlaceOf made id later (cond b None (cond (eqb next id) (Some place) found))
+      shown free false out h = begun_place place fresh slots found free h
+      shown free true there h =
+          let below : id < next = low there in
+          other_place made id fresh ns slots place None free (ne_eqb next id (λ (same : next ≡ id). omega arith)) h
+
+      go : (b : Bool) → is_free (made ∷ ns) slots place ≡ b → ◌≡◌ {A = Option (List (Option Version))} (cond b (filled (made ∷ ns) made places (begun_by (suc next) rest) later) None) (Some after)
+          → ArePlaced rest (suc next) places later after (cond (eqb next id) (Some place) found)
+          → IsPlaceOf made id after (given (placed_rows (suc next) rest places) id (cond (eqb next id) (Some place) found))
+      go false free h more = absurd (cc)
+      go true free h more = more h apart (λ there. let below : id < next = low there in omega arith) (shown free (among (ended_by rest) id) refl is)
+  filled_place (Set other row ∷ rest) next (place ∷ places) slots after found e apart low is =
+      go (is_free (made ∷ ns) slots place) refl e (filled_place rest next places (set slots place (new_version made (record { id = other; row = row }))) after)
+    where
+      fresh : Entry
+      fresh = record { id = other; row = row }
+
+      later : List (Option Version)
+      later = set slots place (new_version made fresh)
+
+      by : (b : Bool) → eqb other id ≡ b → is_free (made ∷ ns) slots place ≡ true → filled (made ∷ ns) made places (begun_by next rest) later ≡ Some after → ((o : Option ℕ) → ArePlaced rest next places later after o)
+          → IsPlaceOf made id after (given (placed_rows next rest places) id (cond b (Some place) found))
+      by true same free h more =
+          let is_id : other ≡ id = eqb-true other id same in
+          let gone : among (ended_by rest) id ≡ false = subst (λ n. among (ended_by rest) n ≡ false) is_id apart.0 in
+          let below : id < next = low (ap (λ b. b || among (ended_by rest) id) same) in
+          more (Some place) h apart.1 (λ there. below)
+          (subst (λ b. IsPlaceOf made id later (cond b None (Some place))) (sym gone)
+          (subst (λ b. IsPlaceOf made id later (cond b (Some place) None)) same (begun_place place fresh slots None free (subst (λ b. IsPlaceOf made id slots (cond (b || among (ended_by rest) id) None found)) same is))))
+      by false differ free h more =
+          more found h apart.1 (λ there. low (ap (λ b. b || among (ended_by rest) id) differ ∙ there))
+          (other_place made id fresh ns slots place (cond (among (ended_by rest) id) None found) free differ (subst (λ b. IsPlaceOf made id slots (cond (b || among (ended_by rest) id) None found)) differ is))
+
+      go : (b : Bool) → is_free (made ∷ ns) slots place ≡ b → ◌≡◌ {A = Option (List (Option Version))} (cond b (filled (made ∷ ns) made places (begun_by next rest) later) None) (Some after)
+          → ((o : Option ℕ) → ArePlaced rest next places later after o) → IsPlaceOf made id after (given (placed_rows next rest places) id (cond (eqb other id) (Some place) found))
+      go false free h more = absurd (cc)
+      go true free h more = by (eqb other id) refl free h more
+  filled_place (Remove other ∷ rest) next places slots after found e apart low is = by (eqb other id) refl (filled_place rest next places slots after)
+    where
+      nothing : (b : Bool) → ◌≡◌ {A = Option ℕ} (cond b None None) None
+      nothing true = refl
+      nothing false = refl
+
+      by : (b : Bool) → eqb other id ≡ b → ((o : Option ℕ) → ArePlaced rest next places slots after o) → IsPlaceOf made id after (given (placed_rows next rest places) id (cond b None found))
+      by true same more =
+          let below : id < next = low (ap (λ b. b || among (ended_by rest) id) same) in
+          more None e apart.1 (λ there. below)
+          (subst (IsPlaceOf made id slots) (sym (nothing (among (ended_by rest) id))) (subst (λ b. IsPlaceOf made id slots (cond (b || among (ended_by rest) id) None found)) same is))
+      by false differ more =
+          more found e apart.1 (λ there. low (ap (λ b. b || among (ended_by rest) id) differ ∙ there))
+          (subst (λ b. IsPlaceOf made id slots (cond (b || among (ended_by rest) id) None found)) differ is)
+
+-- A call that succeeds has the outcome that is granted.
+granted_is : (capacity : ℕ) (begins : Bool) (m : Option ℕ) (size : ℕ) (success_outcome : Outcome) → succeeds (outcome_of capacity begins m size success_outcome) ≡ true → outcome_of capacity begins m size success_outcome ≡ success_outcome
+granted_is capacity begins (Some id) size success_outcome s = absurd (cc)
+granted_is capacity begins None size success_outcome s = go (begins && nat_lt capacity size) s
+  where
+    go : (b : Bool) → succeeds (cond b (Full size) success_outcome) ≡ true → cond b (Full size) success_outcome ≡ success_outcome
+    go true s = absurd (cc)
+    go false s = refl
+
+-- a call that is no commit changes nothing
+no_changes : (call : Call) → is_change call ≡ false → changes_of call ≡ []
+no_changes (Insert row) still = absurd (cc)
+no_changes (Update id row) still = absurd (cc)
+no_changes (Delete id) still = absurd (cc)
+no_changes (Commit changes) still = absurd (cc)
+no_changes Begin still = refl
+no_changes Finish still = refl
+no_changes Abandon still = refl
+
+-- The rows of these ids are there, each named once and below the next one, and an index gives their places.
+pub record AreThere (contents : Contents) (next : ℕ) (ids : List ℕ) (index : Pairs) : Type 0 where
+  pub apart : AreApart ids
+  pub below : (id : ℕ) → among ids id ≡ true → id < next
+  pub there : (id : ℕ) → among ids id ≡ true → has (visible contents.stamp contents.slots) id ≡ true
+  pub placed : (id : ℕ) → among ids id ≡ true → IsPlaceOf contents.stamp id contents.slots (slot_of index id)
+
+-- what each id's place is in these slots at this stamp
+abbrev IsIndexAt : ℕ → List (Option Version) → Pairs → Type 0
+IsIndexAt stamp slots index = (id : ℕ) → IsPlaceOf stamp id slots (slot_of index id)
+
+module _ (contents : Contents) (op : Op) (next : is_next contents op ≡ true) where
+  outcome_done : is_change op.call ≡ true → succeeds op.outcome ≡ true → op.outcome ≡ success_outcome contents.next_id op.call
+  outcome_done change done =
+      let is = (IsAllowed-from contents op next).outcome ∙ ap (λ b. cond b returned Done) change in
+      is ∙ granted_is (length contents.slots) (begins_row op.call) (missing (ended op.call) (visible contents.stamp contents.slots)) (used (grown op.call contents)) (success_outcome contents.next_id op.call) (sym (ap succeeds is) ∙ done)
+    where
+      returned : Outcome
+      returned = outcome_of (length contents.slots) (begins_row op.call) (missing (ended op.call) (visible contents.stamp contents.slots)) (used (grown op.call contents)) (success_outcome contents.next_id op.call)
+
+  outcome_still : is_change op.call ≡ false → op.outcome ≡ Done
+  outcome_still still = (IsAllowed-from contents op next).outcome ∙ ap (λ b. cond b returned Done) still
+    where
+      returned : Outcome
+      returned = outcome_of (length contents.slots) (begins_row op.call) (missing (ended op.call) (visible contents.stamp contents.slots)) (used (grown op.call contents)) (success_outcome contents.next_id op.call)
+
+  -- The outcome adds a row just where the call does.
+  pub adds_told : succeeds op.outcome ≡ true → adds op.outcome ≡ nat_lt 0 (added op.call)
+  adds_told done = go (is_change op.call) refl
+    where
+      by : (b : Bool) → adds (cond b (Added contents.next_id) Done) ≡ b
+      by true = refl
+      by false = refl
+
+      go : (b : Bool) → is_change op.call ≡ b → adds op.outcome ≡ nat_lt 0 (added op.call)
+      go true e = ap adds (outcome_done e done) ∙ by (nat_lt 0 (added op.call))
+      go false e = ap adds (outcome_still e) ∙ ap (λ l. nat_lt 0 (added_by l)) (sym (no_changes op.call e))
+
+  -- the index of what the op leaves, by the stamp and the slots that it leaves
+  index_after : (after : List (Option Version)) (b : Bool) (later : Pairs) → slots_after contents op ≡ Some after → (is_change op.call && succeeds op.outcome) ≡ b → IsIndexAt (cond b (suc contents.stamp) contents.stamp) after later → IsIndexOf (applied contents op) later
+  index_after after true later e c h = rw (next, e) (rw c h)
+  index_after after false later e c h = rw (next, e) (rw c h)
+
+-- A call that makes no change leaves the index as it is.
+pub indexed_still : (contents : Contents) (op : Op) (index : Pairs) → is_next contents op ≡ true → is_some (slots_after contents op) ≡ true → (is_change op.call && succeeds op.outcome) ≡ false → IsIndexOf contents index → IsIndexOf (applied contents op) index
+indexed_still contents op index next fits still is = index_after contents op next contents.slots false index (slots_still contents op still fits) still is
+
+module _ (contents : Contents) (within : AllByRecursion (IsWithin contents.next_id contents.stamp) contents.slots) where
+  -- a row of the table has an id below the next one
+  has_below : (id : ℕ) → has (visible contents.stamp contents.slots) id ≡ true → id < contents.next_id
+  has_below id there = go (nat_lt id contents.next_id) refl
+    where
+      go : (b : Bool) → nat_lt id contents.next_id ≡ b → id < contents.next_id
+      go true e = ltb-true id contents.next_id e
+      go false e = absurd (true≢false (sym there ∙ has_visible-new contents.next_id contents.stamp contents.stamp contents.slots id within (ltb-false id contents.next_id e)))
+
+  -- the place of an id once the rows of these ids ended
+  closed_at : (ids : List ℕ) (id : ℕ) (found : Option ℕ) → IsPlaceOf contents.stamp id contents.slots found → IsPlaceOf (suc contents.stamp) id (map (close ids (suc contents.stamp)) contents.slots) (cond (among ids id) None found)
+  closed_at ids id found is = go (among ids id) refl
+    where
+      go : (b : Bool) → among ids id ≡ b → IsPlaceOf (suc contents.stamp) id (map (close ids (suc contents.stamp)) contents.slots) (cond b None found)
+      go true e = ended_place contents.next_id contents.stamp id ids contents.slots within e
+      go false e = closed_place contents.next_id contents.stamp id ids contents.slots found within e is
+
+  -- The index of a store, once the rows that a legal op begins or removes were placed, is that of the store after it.
+  pub indexed : (op : Op) (before later : Pairs) → is_next contents op ≡ true → is_some (slots_after contents op) ≡ true → succeeds op.outcome ≡ true → IsIndexOf contents before
+      → PointsAll before (placed_rows contents.next_id (changes_of op.call) op.slots) later → IsIndexOf (applied contents op) later
+  indexed op before later next fits success is found = go (is_change op.call) refl
+    where
+      done : is_change op.call ≡ true → (after : List (Option Version))
+          → filled (suc contents.stamp ∷ begins contents.callers) (suc contents.stamp) op.slots (begun contents.next_id op.call) (map (close (ended op.call) (suc contents.stamp)) contents.slots) ≡ Some after → IsIndexAt (suc contents.stamp) after later
+      done change after fills id =
+          let all = none_missing contents op.call op.outcome (IsAllowed-from contents op next).outcome success change in
+          subst (IsPlaceOf (suc contents.stamp) id after) (sym (found id))
+          (filled_place (begins contents.callers) (suc contents.stamp) id (changes_of op.call) contents.next_id op.slots (map (close (ended op.call) (suc contents.stamp)) contents.slots) after (slot_of before id) fills
+          (formed_apart op.call (IsAllowed-from contents op next).formed) (λ there. has_below id (found_all (ended op.call) (visible contents.stamp contents.slots) all id there)) (closed_at (ended op.call) id (slot_of before id) (is id)))
+
+      placed : (o : Option (List (Option Version))) → slots_after contents op ≡ o → is_some o ≡ true → is_change op.call ≡ true → IsIndexOf (applied contents op) later
+      placed None e some change = absurd (cc)
+      placed (Some after) e some change =
+          let both : (is_change op.call && succeeds op.outcome) ≡ true = ap (λ b. b && succeeds op.outcome) change ∙ success in
+          index_after contents op next after true later e both (done change after (rw both at e))
+
+      go : (b : Bool) → is_change op.call ≡ b → IsIndexOf (applied contents op) later
+      go true e = placed (slots_after contents op) refl fits e
+      go false e = indexed_still contents op later next fits (ap (λ b. b && succeeds op.outcome) e)
+          (λ id. subst (IsPlaceOf contents.stamp id contents.slots) (sym (found id ∙ ap (λ l. given (placed_rows contents.next_id l op.slots) id (slot_of before id)) (no_changes op.call e))) (is id))
+
+  -- Before an op is done, it gives the places of the rows that the op ends.
+  pub ended_there : (op : Op) (index : Pairs) → is_next contents op ≡ true → succeeds op.outcome ≡ true → IsIndexOf contents index → AreThere contents contents.next_id (ended op.call) index
+  ended_there op index next success is = record {
+    apart = formed_apart op.call (IsAllowed-from contents op next).formed;
+    below = λ id ends. has_below id (there id ends);
+    there = there;
+    placed = λ id ends. is id;
+  }
+    where
+      there : (id : ℕ) → among (ended op.call) id ≡ true → has (visible contents.stamp contents.slots) id ≡ true
+      there id ends = go (is_change op.call) refl
+        where
+          go : (b : Bool) → is_change op.call ≡ b → has (visible contents.stamp contents.slots) id ≡ true
+          go true e = found_all (ended op.call) (visible contents.stamp contents.slots) (none_missing contents op.call op.outcome (IsAllowed-from contents op next).outcome success e) id ends
+          go false e = absurd (true≢false (sym ends ∙ ap (λ l. among (ended_by l) id) (no_changes op.call e)))
+
+-- A row is added only by a call that adds one.
+pub adds_planned : (contents : Contents) (op : Op) → is_next contents op ≡ true → adds op.outcome ≡ true → nat_lt 0 (added op.call) ≡ true
+adds_planned contents op next h = sym (adds_told contents op next (succeeding op.outcome h)) ∙ h
+  where
+    succeeding : (o : Outcome) → adds o ≡ true → succeeds o ≡ true
+    succeeding (Added id) a = refl
+    succeeding Done a = absurd (cc)
+    succeeding (NoSuchRow id) a = absurd (cc)
+    succeeding (Full size) a = absurd (cc)
+
+-- What is left of the rows that are placed: ..
+pub record PlacesRest (contents : Contents) (next : ℕ) (changes : List Change) (slots : List ℕ) (index : Pairs) (all : ℕ → Option ℕ) : Type 0 where
+  pub gives : (id : ℕ) → given (placed_rows next changes slots) id (slot_of index id) ≡ all id
+  pub olds : AreThere contents next (ended_by changes) index
+
+-- .. one more is added, ..
+pub adds_one : (contents : Contents) (next slot : ℕ) (row : Row) (rest : List Change) (slots : List ℕ) (index new : Pairs) (all : ℕ → Option ℕ) → PlacesRest contents next (Add row ∷ rest) (slot ∷ slots) index all → Points index next (Some slot) new
+    → PlacesRest contents (next + 1) rest slots new all
+adds_one contents next slot row rest slots index new all h points = record {
+  gives = λ id. ap (λ n. given (placed_rows n rest slots) id (slot_of new id)) one ∙ ap (given (placed_rows (suc next) rest slots) id) (points id) ∙ h.gives id;
+  olds = record {
+    apart = h.olds.apart;
+    below = λ id ends. let low = h.olds.below id ends in omega arith;
+    there = h.olds.there;
+    placed = λ id ends. subst (IsPlaceOf contents.stamp id contents.slots) (sym (points id ∙ ap (λ b. cond b (Some slot) (slot_of index id)) (differs id ends))) (h.olds.placed id ends);
+  };
+}
+  where
+    one : next + 1 ≡ suc next
+    one = omega arith
+
+    differs : (id : ℕ) → among (ended_by rest) id ≡ true → eqb next id ≡ false
+    differs id ends = ne_eqb next id (λ (same : next ≡ id). let low = h.olds.below id ends in omega arith)
+
+-- .. or another slot is given to a row that is there, or none.
+pub moves_one : (contents : Contents) (next id : ℕ) (slot : Option ℕ) (rest : List Change) (slots : List ℕ) (index new : Pairs) (all : ℕ → Option ℕ) → ((other : ℕ) → given ((id, slot) ∷ placed_rows next rest slots) other (slot_of index other) ≡ all other)
+    → AreThere contents next (id ∷ ended_by rest) index → Points index id slot new → PlacesRest contents next rest slots new all
+moves_one contents next id slot rest slots index new all gives olds points = record {
+  gives = λ other. ap (given (placed_rows next rest slots) other) (points other) ∙ gives other;
+  olds = record {
+    apart = olds.apart.1;
+    below = λ other ends. olds.below other (or_right (eqb id other) (among (ended_by rest) other) ends);
+    there = λ other ends. olds.there other (or_right (eqb id other) (among (ended_by rest) other) ends);
+    placed = λ other ends. subst (IsPlaceOf contents.stamp other contents.slots) (sym (points other ∙ ap (λ b. cond b slot (slot_of index other)) (differs other ends))) (olds.placed other (or_right (eqb id other) (among (ended_by rest) other) ends));
+  };
+}
+  where
+    differs : (other : ℕ) → among (ended_by rest) other ≡ true → eqb id other ≡ false
+    differs other ends = ne_eqb id other (λ (same : id ≡ other). true≢false (sym ends ∙ ap (among (ended_by rest)) (sym same) ∙ olds.apart.0))
+
+-- what an index has already
+pub points_still : (index : Pairs) (id : ℕ) (slot : Option ℕ) → slot_of index id ≡ slot → Points index id slot index
+points_still index id slot e other = go (eqb id other) refl
+  where
+    go : (b : Bool) → eqb id other ≡ b → slot_of index other ≡ cond b slot (slot_of index other)
+    go true same = ap (slot_of index) (sym (eqb-true id other same)) ∙ e
+    go false differ = refl

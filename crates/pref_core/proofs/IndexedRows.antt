@@ -1,0 +1,141 @@
+-- The index of a store, after an op.
+use Rattle.pref_core.proofs.Common.{◌≡◌, ℕ, zero, suc, ◌+◌, ◌<◌, ◌≤◌, Bool, true, false, not, ◌&&◌, cond, eqb, List, [], ◌∷◌, map, length, set, Option, Some, None, slice_get, refl, sym, ap, ◌∙◌}
+use Rattle.pref_core.proofs.Common.{subst, arith, ⊎_elim, AllByRecursion, le-leb, eqb-true, eq-eqb, cases_eq, true≢false, Version, among, Entry, is_visible, new_version, is_needed, IsWithin, EndsBy, close}
+use Rattle.pref_core.proofs.Common.{close_at, is_free, slot_of, Points, is_row, row_at, IsPlaceOf}
+use Rattle.pref_core.proofs.SlotUseLaws.{has_row_at, has_nowhere}
+
+-- what a slot shows of an id
+abbrev row_of : ℕ → ℕ → Option (Option Version) → Bool
+row_of stamp id o = elim o [ None ↦ false | Some slot ↦ is_row stamp id slot ]
+
+-- A commit that doesn't end the id's row leaves it where it is.
+is_row-close : (next now id : ℕ) (ids : List ℕ) (slot : Option Version) → IsWithin next now slot → among ids id ≡ false → is_row (suc now) id (close ids (suc now) slot) ≡ is_row now id slot
+is_row-close next now id ids None h out = refl
+is_row-close next now id ids (Some version) h out = go (eqb version.id id) refl
+  where
+    at_death : (chosen : Bool) → chosen ≡ false → (death : Option ℕ) → EndsBy now death
+        → is_visible (suc now) (record version { death = close_at (suc now) chosen death }) ≡ is_visible now (record version { death = death })
+    at_death true e death ends = absurd (cc)
+    at_death false e None ends = rw (le-leb version.birth (suc now) (let low : version.birth ≤ now = h.1 in omega arith), le-leb version.birth now h.1) refl
+    at_death false e (Some death) ends =
+        rw (le-leb version.birth (suc now) (let low : version.birth ≤ now = h.1 in omega arith), le-leb version.birth now h.1, le-leb death (suc now) (let low : death ≤ now = ends in omega arith), le-leb death now ends) refl
+
+    go : (b : Bool) → eqb version.id id ≡ b → (b && is_visible (suc now) (record version { death = close_at (suc now) (among ids version.id) version.death })) ≡ (b && is_visible now version)
+    go false e = refl
+    go true e = at_death (among ids version.id) (ap (among ids) (eqb-true _ _ e) ∙ out) version.death h.2
+
+-- A commit that ends it leaves it nowhere.
+is_row-ended : (next now id : ℕ) (ids : List ℕ) (slot : Option Version) → IsWithin next now slot → among ids id ≡ true → is_row (suc now) id (close ids (suc now) slot) ≡ false
+is_row-ended next now id ids None h out = refl
+is_row-ended next now id ids (Some version) h out = go (eqb version.id id) refl
+  where
+    at_death : (chosen : Bool) → chosen ≡ true → (death : Option ℕ) → EndsBy now death
+        → is_visible (suc now) (record version { death = close_at (suc now) chosen death }) ≡ false
+    at_death false e death ends = absurd (cc)
+    at_death true e None ends = rw (le-leb version.birth (suc now) (let low : version.birth ≤ now = h.1 in omega arith), le-leb (suc now) (suc now) (omega arith)) refl
+    at_death true e (Some death) ends = rw (le-leb version.birth (suc now) (let low : version.birth ≤ now = h.1 in omega arith), le-leb death (suc now) (let low : death ≤ now = ends in omega arith)) refl
+
+    go : (b : Bool) → eqb version.id id ≡ b → (b && is_visible (suc now) (record version { death = close_at (suc now) (among ids version.id) version.death })) ≡ false
+    go false e = refl
+    go true e = at_death (among ids version.id) (ap (among ids) (eqb-true _ _ e) ∙ out) version.death h.2
+
+pub row_at-close : (next now id : ℕ) (ids : List ℕ) (slots : List (Option Version)) (k : ℕ) → AllByRecursion (IsWithin next now) slots → among ids id ≡ false → row_at (suc now) id (map (close ids (suc now)) slots) k ≡ row_at now id slots k
+row_at-close next now id ids [] k h out = refl
+row_at-close next now id ids (slot ∷ slots) zero h out = is_row-close next now id ids slot h.0 out
+row_at-close next now id ids (slot ∷ slots) (suc k) h out = row_at-close next now id ids slots k h.1 out
+
+pub row_at-ended : (next now id : ℕ) (ids : List ℕ) (slots : List (Option Version)) (k : ℕ) → AllByRecursion (IsWithin next now) slots → among ids id ≡ true → row_at (suc now) id (map (close ids (suc now)) slots) k ≡ false
+row_at-ended next now id ids [] k h out = refl
+row_at-ended next now id ids (slot ∷ slots) zero h out = is_row-ended next now id ids slot h.0 out
+row_at-ended next now id ids (slot ∷ slots) (suc k) h out = row_at-ended next now id ids slots k h.1 out
+
+-- A free slot shows no row.
+free_row : (now id : ℕ) (ns : List ℕ) (slots : List (Option Version)) (place : ℕ) → is_free (now ∷ ns) slots place ≡ true → row_at now id slots place ≡ false
+free_row now id ns [] place h = refl
+free_row now id ns (None ∷ slots) zero h = refl
+free_row now id ns (Some version ∷ slots) zero h = go (is_visible now version) refl h
+  where
+    go : (b : Bool) → is_visible now version ≡ b → not (is_needed (now ∷ ns) (Some version)) ≡ true → (eqb version.id id && is_visible now version) ≡ false
+    go true e f = absurd (let w = rw e at f in cc)
+    go false e f = rw e (none (eqb version.id id))
+      where
+        none : (b : Bool) → (b && false) ≡ false
+        none true = refl
+        none false = refl
+free_row now id ns (slot ∷ slots) (suc place) h = free_row now id ns slots place h
+
+is_row-new_version : (made : ℕ) (fresh : Entry) → is_row made fresh.id (new_version made fresh) ≡ true
+is_row-new_version made fresh = rw (eq-eqb fresh.id fresh.id refl, le-leb made made (omega arith)) refl
+
+-- A row that begins at a free place stands there, and no other row does.
+row_at-new_version : (made : ℕ) (fresh : Entry) (ns : List ℕ) (slots : List (Option Version)) (place : ℕ) → is_free (made ∷ ns) slots place ≡ true → row_at made fresh.id (set slots place (new_version made fresh)) place ≡ true
+row_at-new_version made fresh ns [] place h = absurd (cc)
+row_at-new_version made fresh ns (slot ∷ slots) zero h = is_row-new_version made fresh
+row_at-new_version made fresh ns (slot ∷ slots) (suc place) h = row_at-new_version made fresh ns slots place h
+
+row_at-other : (made id : ℕ) (fresh : Entry) (ns : List ℕ) (slots : List (Option Version)) (place k : ℕ) → is_free (made ∷ ns) slots place ≡ true → eqb fresh.id id ≡ false → row_at made id (set slots place (new_version made fresh)) k ≡ row_at made id slots k
+row_at-other made id fresh ns [] place k h other = refl
+row_at-other made id fresh ns (slot ∷ slots) zero zero h other = rw other (sym (free_row made id ns (slot ∷ slots) zero h))
+row_at-other made id fresh ns (slot ∷ slots) zero (suc k) h other = refl
+row_at-other made id fresh ns (slot ∷ slots) (suc place) zero h other = refl
+row_at-other made id fresh ns (slot ∷ slots) (suc place) (suc k) h other = row_at-other made id fresh ns slots place k h other
+
+-- The place of an id, where each slot shows the id's row as the slot there did before.
+pub moved_place : (stamp later id : ℕ) (slots moved : List (Option Version)) (place : Option ℕ) → ((k : ℕ) → row_at later id moved k ≡ row_at stamp id slots k) → IsPlaceOf stamp id slots place → IsPlaceOf later id moved place
+moved_place stamp later id slots moved None same h = has_nowhere later id moved (λ k l. same k ∙ nowhere k (row_at stamp id slots k) refl)
+  where
+    nowhere : (k : ℕ) (b : Bool) → row_at stamp id slots k ≡ b → b ≡ false
+    nowhere k false e = refl
+    nowhere k true e = absurd (true≢false (sym (has_row_at stamp id slots k e) ∙ h))
+moved_place stamp later id slots moved (Some place) same h = same place ∙ h
+
+-- no slot shows an id's row
+pub no_place : (stamp id : ℕ) (slots : List (Option Version)) → ((k : ℕ) → row_at stamp id slots k ≡ false) → IsPlaceOf stamp id slots None
+no_place stamp id slots h = has_nowhere stamp id slots (λ k l. h k)
+
+-- The place of each id after a commit that ends rows: ..
+pub closed_place : (next now id : ℕ) (ids : List ℕ) (slots : List (Option Version)) (place : Option ℕ) → AllByRecursion (IsWithin next now) slots → among ids id ≡ false → IsPlaceOf now id slots place → IsPlaceOf (suc now) id (map (close ids (suc now)) slots) place
+closed_place next now id ids slots place h out = moved_place now (suc now) id slots (map (close ids (suc now)) slots) place (λ k. row_at-close next now id ids slots k h out)
+
+pub ended_place : (next now id : ℕ) (ids : List ℕ) (slots : List (Option Version)) → AllByRecursion (IsWithin next now) slots → among ids id ≡ true → IsPlaceOf (suc now) id (map (close ids (suc now)) slots) None
+ended_place next now id ids slots h out = no_place (suc now) id (map (close ids (suc now)) slots) (λ k. row_at-ended next now id ids slots k h out)
+
+-- .. and that begins one at a free place.
+pub born_place : (made : ℕ) (fresh : Entry) (ns : List ℕ) (slots : List (Option Version)) (at : ℕ) → is_free (made ∷ ns) slots at ≡ true → IsPlaceOf made fresh.id (set slots at (new_version made fresh)) (Some at)
+born_place made fresh ns slots at free = row_at-new_version made fresh ns slots at free
+
+pub other_place : (made id : ℕ) (fresh : Entry) (ns : List ℕ) (slots : List (Option Version)) (at : ℕ) (place : Option ℕ) → is_free (made ∷ ns) slots at ≡ true → eqb fresh.id id ≡ false → IsPlaceOf made id slots place → IsPlaceOf made id (set slots at (new_version made fresh)) place
+other_place made id fresh ns slots at place free other = moved_place made made id slots (set slots at (new_version made fresh)) place (λ k. row_at-other made id fresh ns slots at k free other)
+
+-- The place of an id among the first slots, for an index that is being made.
+abbrev pub IsPlaceUpTo : ℕ → ℕ → List (Option Version) → ℕ → Option ℕ → Type 0
+IsPlaceUpTo stamp id slots count None = (k : ℕ) → k < count → row_at stamp id slots k ≡ false
+IsPlaceUpTo stamp id slots count (Some place) = row_at stamp id slots place ≡ true
+
+pub place_at_end : (stamp id : ℕ) (slots : List (Option Version)) (count : ℕ) (place : Option ℕ) → length slots ≤ count → IsPlaceUpTo stamp id slots count place → IsPlaceOf stamp id slots place
+place_at_end stamp id slots count None l h = has_nowhere stamp id slots (λ k less. h k (omega arith))
+place_at_end stamp id slots count (Some place) l h = h
+
+pub place_past : (stamp id : ℕ) (slots : List (Option Version)) (count : ℕ) (place : Option ℕ) → row_at stamp id slots count ≡ false → IsPlaceUpTo stamp id slots count place → IsPlaceUpTo stamp id slots (count + 1) place
+place_past stamp id slots count None none h = λ k l. ⊎_elim (λ (e : k ≡ count). ap (row_at stamp id slots) e ∙ none) (λ (n : k ≡ count → ⊥). h k (omega arith)) (cases_eq k count)
+place_past stamp id slots count (Some place) none h = h
+
+-- a slot that shows no row at the stamp
+pub row_at-hidden : (stamp id : ℕ) (slots : List (Option Version)) (place : ℕ) (version : Version) → slice_get slots place ≡ Some (Some version) → is_visible stamp version ≡ false → row_at stamp id slots place ≡ false
+row_at-hidden stamp id slots place version at hidden = ap (row_of stamp id) at ∙ rw hidden (none (eqb version.id id))
+  where
+    none : (b : Bool) → (b && false) ≡ false
+    none true = refl
+    none false = refl
+
+pub row_at-empty : (stamp id : ℕ) (slots : List (Option Version)) (place : ℕ) → slice_get slots place ≡ Some None → row_at stamp id slots place ≡ false
+row_at-empty stamp id slots place at = ap (row_of stamp id) at
+
+-- a slot that shows one
+pub place_put : (stamp id : ℕ) (slots : List (Option Version)) (count : ℕ) (version : Version) (old new : List (ℕ × ℕ)) → slice_get slots count ≡ Some (Some version) → is_visible stamp version ≡ true
+    → Points old version.id (Some count) new → IsPlaceUpTo stamp id slots count (slot_of old id) → IsPlaceUpTo stamp id slots (count + 1) (slot_of new id)
+place_put stamp id slots count version old new at shown points h = go (eqb version.id id) refl
+  where
+    go : (b : Bool) → eqb version.id id ≡ b → IsPlaceUpTo stamp id slots (count + 1) (slot_of new id)
+    go true e = subst (IsPlaceUpTo stamp id slots (count + 1)) (sym (points id ∙ ap (λ b. cond b (Some count) (slot_of old id)) e)) (ap (row_of stamp id) at ∙ rw (e, shown) refl)
+    go false e = subst (IsPlaceUpTo stamp id slots (count + 1)) (sym (points id ∙ ap (λ b. cond b (Some count) (slot_of old id)) e)) (place_past stamp id slots count (slot_of old id) (ap (row_of stamp id) at ∙ rw e refl) h)

@@ -1,0 +1,59 @@
+-- Fewer keys are needed where each is needed before.
+use Rattle.pref_core.proofs.Common.{◌≡◌, ℕ, ◌≤◌, Bool, true, false, not, ◌||◌, cond, List, [], ◌∷◌, ◌++◌, length, suc, subst, refl, sym, ap, ◌∙◌, arith, or_right, Line, Key, same_key, holds_key, keys}
+use Rattle.pref_core.proofs.Common.{different, with_rows, without, among, found_tables, ended, changes_of, Change, Add, Set, Remove, begun_by, begins_any, AreDifferent, DeletesNeedNoMore}
+use Rattle.pref_core.proofs.Common.{EndsNeedNoMore}
+use Rattle.pref_core.proofs.NeededCounts.{others, holds_key-others-at, AreDifferent-others, length-others, same_key_refl, same_key-true, holds_key-different, AreDifferent-different, holds_key-keys-append}
+
+pub fewer : (xs ys : List Key) → AreDifferent xs → AreDifferent ys → ((key : Key) → holds_key xs key ≡ true → holds_key ys key ≡ true) → length xs ≤ length ys
+fewer [] ys p q in_ = omega arith
+fewer (x ∷ xs) ys p q in_ =
+    let there : holds_key ys x ≡ true = in_ x (ap (λ b. b || holds_key xs x) (same_key_refl x)) in
+    let size = length-others x ys q there in
+    let rest = fewer xs (others x ys) p.1 (AreDifferent-others x ys q) (λ key h. at key (same_key key x) refl h) in
+    omega arith
+  where
+    at : (key : Key) (b : Bool) → same_key key x ≡ b → holds_key xs key ≡ true → holds_key (others x ys) key ≡ true
+    at key true e h =
+        let is : key ≡ x = same_key-true key x e in
+        let both : true ≡ false = sym h ∙ ap (holds_key xs) is ∙ p.0 in absurd (cc)
+    at key false e h = holds_key-others-at x key ys e ∙ in_ key (or_right (same_key key x) (holds_key xs key) h)
+
+held_without : (ids : List ℕ) (table : List Line) (key : Key) → holds_key (keys (without ids table)) key ≡ true → holds_key (keys table) key ≡ true
+held_without ids [] key h = h
+held_without ids (line ∷ rest) key h = go (among ids line.id) (held_without ids rest key) h
+  where
+    go : (b : Bool) → (holds_key (keys (without ids rest)) key ≡ true → holds_key (keys rest) key ≡ true)
+        → holds_key (keys (cond (not b) (line ∷ without ids rest) (without ids rest))) key ≡ true → (same_key key (record { id = line.id; made = line.made }) || holds_key (keys rest) key) ≡ true
+    go true more h = or_right (same_key key (record { id = line.id; made = line.made })) _ (more h)
+    go false more h = here (same_key key (record { id = line.id; made = line.made })) h
+      where
+        here : (b : Bool) → (b || holds_key (keys (without ids rest)) key) ≡ true → (b || holds_key (keys rest) key) ≡ true
+        here true h = refl
+        here false h = more h
+
+-- where rows end and none begins
+without_needs_no_more : (ids : List ℕ) (table found : List Line) → length (different (keys (without ids table ++ found))) ≤ length (different (keys (table ++ found)))
+without_needs_no_more ids table found =
+    fewer _ _ (AreDifferent-different (keys (without ids table ++ found))) (AreDifferent-different (keys (table ++ found))) (λ key h.
+    let held = sym (holds_key-different (keys (without ids table ++ found)) key ∙ holds_key-keys-append key (without ids table) found) ∙ h in
+    holds_key-different (keys (table ++ found)) key ∙ holds_key-keys-append key table found
+    ∙ both (holds_key (keys (without ids table)) key) (holds_key (keys table) key) (holds_key (keys found) key) (held_without ids table key) held)
+  where
+    both : (a b f : Bool) → (a ≡ true → b ≡ true) → (a || f) ≡ true → (b || f) ≡ true
+    both true b f i h = ap (λ x. x || f) (i refl)
+    both false true f i h = refl
+    both false false f i h = h
+
+pub deletes_need_no_more : DeletesNeedNoMore
+deletes_need_no_more state id = without_needs_no_more (id ∷ []) state.table (found_tables state.clients)
+
+none_begun : (next_id : ℕ) (changes : List Change) → begins_any changes ≡ false → begun_by next_id changes ≡ []
+none_begun next_id [] h = refl
+none_begun next_id (Add row ∷ rest) h = absurd (cc)
+none_begun next_id (Set id row ∷ rest) h = absurd (cc)
+none_begun next_id (Remove id ∷ rest) h = none_begun next_id rest h
+
+pub ends_need_no_more : EndsNeedNoMore
+ends_need_no_more state call h =
+    subst (λ begun. length (different (keys (with_rows (suc state.commits) begun (without (ended call) state.table) ++ found_tables state.clients))) ≤ length (different (keys (state.table ++ found_tables state.clients))))
+    (sym (none_begun state.next_id (changes_of call) h)) (without_needs_no_more (ended call) state.table (found_tables state.clients))

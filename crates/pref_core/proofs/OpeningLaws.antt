@@ -1,0 +1,111 @@
+-- The opening slots stand for the opening state.
+use Rattle.pref_core.proofs.Common.{◌≡◌, ℕ, zero, suc, ◌+◌, ◌-◌, ◌^◌, ◌<◌, ◌≤◌, false, ◌&&◌, eqb, List, [], ◌∷◌, ◌++◌, length, replicate, Option, None, refl, sym, ap, ap₂, ◌∙◌, subst, arith}
+use Rattle.pref_core.proofs.Common.{AllByRecursion, AllZip, IsPermutation, IsPermutation-refl, append-nil, length-append, length-replicate, filter_map-append, le-leb, ne_eqb, Version, Caller, Row}
+use Rattle.pref_core.proofs.Common.{holds_key, IsOrdered, opening, opening_table, idle_clients, Contents, StandsFor, StandsForClient, seen, visible, slot_key, AreDifferent, IsWithin, opening_slots}
+use Rattle.pref_core.proofs.Common.{IsKept}
+use Rattle.pref_core.proofs.SlotKeys.{slot_keys, holds_key-cons}
+
+visible_opening : (now before : ℕ) (rows : List Row) → before + length rows ≤ now → visible now (opening_slots before rows) ≡ opening_table before rows
+visible_opening now before [] h = refl
+visible_opening now before (row ∷ rows) h = rw (le-leb (suc before) now (omega arith), visible_opening now (suc before) rows (omega arith)) refl
+
+visible_empty : (now n : ℕ) → visible now (replicate n None) ≡ []
+visible_empty now zero = refl
+visible_empty now (suc n) = visible_empty now n
+
+ids_above : (low before : ℕ) (rows : List Row) → low ≤ before → AllByRecursion (λ line. low < line.id) (opening_table before rows)
+ids_above low before [] h = tt
+ids_above low before (row ∷ rows) h = (omega arith, ids_above low (suc before) rows (omega arith))
+
+opening_ordered : (before : ℕ) (rows : List Row) → IsOrdered (opening_table before rows)
+opening_ordered before [] = tt
+opening_ordered before (row ∷ rows) = (ids_above (suc before) (suc before) rows (omega arith), opening_ordered (suc before) rows)
+
+opening_clients : (slots : List (Option Version)) (now n : ℕ) → AllZip (StandsForClient slots now) (replicate n (record { calls = 0; at_begin = None })) (idle_clients n)
+opening_clients slots now zero = tt
+opening_clients slots now (suc n) = (record { calls = refl; at_begin = tt }, opening_clients slots now n)
+
+slot_keys-empty : (n : ℕ) → slot_keys (replicate n None) ≡ []
+slot_keys-empty zero = refl
+slot_keys-empty (suc n) = slot_keys-empty n
+
+keys_above : (id made before : ℕ) (rows : List Row) → id ≤ before → holds_key (slot_keys (opening_slots before rows)) (record { id = id; made = made }) ≡ false
+keys_above id made before [] h = refl
+keys_above id made before (row ∷ rows) h =
+    let other : eqb id (suc before) ≡ false = ne_eqb _ _ (λ (e : id ≡ suc before). omega arith) in
+    holds_key-cons _ (slot_keys (opening_slots (suc before) rows)) (record { id = id; made = made }) (ap (λ b. b && eqb made (suc before)) other) (keys_above id made (suc before) rows (omega arith))
+
+opening_separate : (before : ℕ) (rows : List Row) → AreDifferent (slot_keys (opening_slots before rows))
+opening_separate before [] = tt
+opening_separate before (row ∷ rows) = (keys_above (suc before) (suc before) (suc before) rows (omega arith), opening_separate (suc before) rows)
+
+empty_within : (next now n : ℕ) → AllByRecursion (IsWithin next now) (replicate n None)
+empty_within next now zero = tt
+empty_within next now (suc n) = (tt, empty_within next now n)
+
+opening_within : (next now before : ℕ) (rows : List Row) (rest : List (Option Version)) → before + length rows ≤ now → now < next → AllByRecursion (IsWithin next now) rest → AllByRecursion (IsWithin next now) (opening_slots before rows ++ rest)
+opening_within next now before [] rest h l r = r
+opening_within next now before (row ∷ rows) rest h l r = ((omega arith, omega arith, tt), opening_within next now (suc before) rows rest (omega arith) l r)
+
+-- the opening slots, and empty ones behind them
+pub opening_stands : (clients empty : ℕ) (rows : List Row) → StandsFor
+    (record { slots = opening_slots 0 rows ++ replicate empty None; stamp = length rows; next_id = length rows + 1; callers = replicate clients (record { calls = 0; at_begin = None }) })
+    (opening clients rows)
+opening_stands clients empty rows = record {
+  stamp = refl;
+  next_id = refl;
+  table = record {
+    lines = subst (λ l. IsPermutation l (opening_table 0 rows)) (sym shows) (IsPermutation-refl _);
+    ordered = opening_ordered 0 rows;
+  };
+  clients = opening_clients _ (length rows) clients;
+  separate = subst AreDifferent (sym different) (opening_separate 0 rows);
+  within = opening_within (length rows + 1) (length rows) 0 rows (replicate empty None) (omega arith) (omega arith) (empty_within (length rows + 1) (length rows) empty);
+}
+  where
+    shows : visible (length rows) (opening_slots 0 rows ++ replicate empty None) ≡ opening_table 0 rows
+    shows = filter_map-append (seen (length rows)) (opening_slots 0 rows) (replicate empty None)
+        ∙ ap₂ ◌++◌ (visible_opening (length rows) 0 rows (omega arith)) (visible_empty (length rows) empty)
+        ∙ append-nil (opening_table 0 rows)
+
+    different : slot_keys (opening_slots 0 rows ++ replicate empty None) ≡ slot_keys (opening_slots 0 rows)
+    different = filter_map-append slot_key (opening_slots 0 rows) (replicate empty None) ∙ ap (λ l. slot_keys (opening_slots 0 rows) ++ l) (slot_keys-empty empty) ∙ append-nil _
+
+length-opening_slots : (before : ℕ) (rows : List Row) → length (opening_slots before rows) ≡ length rows
+length-opening_slots before [] = refl
+length-opening_slots before (row ∷ rows) = ap suc (length-opening_slots (suc before) rows)
+
+no_calls : (n : ℕ) → AllByRecursion (λ (caller : Caller). caller.calls ≤ 2 ^ 56) (replicate n (record { calls = 0; at_begin = None }))
+no_calls zero = tt
+no_calls (suc n) = (omega arith, no_calls n)
+
+-- a store as it is opened, from the lists that its parts are
+pub opened_stands : (clients capacity : ℕ) (rows : List Row) (contents : Contents) → length rows ≤ capacity → contents.slots ≡ opening_slots 0 rows ++ replicate (capacity - length rows) None → contents.stamp ≡ length rows → contents.next_id ≡ length rows + 1
+    → contents.callers ≡ replicate clients (record { calls = 0; at_begin = None }) → StandsFor contents (opening clients rows) × (length contents.slots ≡ capacity)
+opened_stands clients capacity rows contents few slots stamp next_id callers = (
+  subst (λ s. StandsFor s (opening clients rows)) (λ i. record { slots = sym slots i; stamp = sym stamp i; next_id = sym next_id i; callers = sym callers i }) (opening_stands clients (capacity - length rows) rows),
+  (let a = ap length slots in
+      let b = length-append (opening_slots 0 rows) (replicate (capacity - length rows) None) in
+      let d = length-opening_slots 0 rows in
+      let e = length-replicate {A = Option Version} (capacity - length rows) None in
+      omega arith),
+)
+
+pub opened_kept : (clients capacity : ℕ) (rows : List Row) (contents : Contents) → length rows ≤ capacity → capacity ≤ 65536 → clients ≤ 8 → contents.slots ≡ opening_slots 0 rows ++ replicate (capacity - length rows) None → contents.stamp ≡ length rows → contents.next_id ≡ length rows + 1
+    → contents.callers ≡ replicate clients (record { calls = 0; at_begin = None }) → IsKept contents
+opened_kept clients capacity rows contents few fits eight slots stamp next_id callers =
+    let stands = opened_stands clients capacity rows contents few slots stamp next_id callers in
+    let size = stands.1 in
+    let a = ap length callers in
+    let b = length-replicate {A = Caller} clients (record { calls = 0; at_begin = None }) in
+    record {
+      bounded = record {
+        slots = omega arith;
+        callers = omega arith;
+        calls = subst (AllByRecursion (λ (caller : Caller). caller.calls ≤ 2 ^ 56)) (sym callers) (no_calls clients);
+        stamp = omega arith;
+        next_id = omega arith;
+      };
+      state = opening clients rows;
+      stands = stands.0;
+    }

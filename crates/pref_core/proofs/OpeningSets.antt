@@ -1,0 +1,130 @@
+-- The order of places as a store is opened.
+use Rattle.pref_core.proofs.Common.{◌≡◌, ℕ, zero, suc, ◌+◌, ◌-◌, ◌*◌, ◌<◌, ◌≤◌, Bool, true, false, cond, nat_lt, List, ◌∷◌, ◌++◌, map, length, get_or, replicate, refl, sym, ap, ap₂, ◌∙◌, arith}
+use Rattle.pref_core.proofs.Common.{count_by, range_with_len, length-map, length-append, length-replicate, same_lists, get_or-map, get_or-map-range_with_len, length-map-range_with_len, sum_by-append}
+use Rattle.pref_core.proofs.Common.{lt-ltb, le-ltb, ltb-true, ltb-false, SlotUse, Free, Live, use_at, is_free_use, IsInverse, IsArranged, rotated}
+use Rattle.std.proofs.lemmas.List.Folds.{sum_by-replicate}
+use Rattle.pref_core.proofs.SlotSetsLaws.{zone_free}
+
+abbrev all : ℕ → ℕ → List ℕ
+all capacity first = map (rotated capacity first) (range_with_len 0 capacity)
+
+at : (capacity first i : ℕ) → i < capacity → get_or (all capacity first) i 0 ≡ rotated capacity first i
+at capacity first i l = get_or-map-range_with_len (rotated capacity first) 0 capacity i i 0 l (omega arith)
+
+pub low : (capacity first i : ℕ) → i < capacity - first → rotated capacity first i ≡ first + i
+low capacity first i l = rw (lt-ltb i (capacity - first) l) refl
+
+pub high : (capacity first i : ℕ) → capacity - first ≤ i → rotated capacity first i ≡ i - (capacity - first)
+high capacity first i l = rw (le-ltb i (capacity - first) l) refl
+
+-- what is below the capacity, and turned back
+back : (capacity first i : ℕ) → first ≤ capacity → i < capacity → (rotated capacity first i < capacity) × (rotated capacity (capacity - first) (rotated capacity first i) ≡ i)
+back capacity first i f l = go (nat_lt i (capacity - first)) refl
+  where
+    go : (b : Bool) → nat_lt i (capacity - first) ≡ b → (rotated capacity first i < capacity) × (rotated capacity (capacity - first) (rotated capacity first i) ≡ i)
+    go true e =
+        let here = ltb-true _ _ e in
+        let is = low capacity first i here in
+        (omega arith, ap (rotated capacity (capacity - first)) is ∙ high capacity (capacity - first) (first + i) (omega arith) ∙ (let done : (first + i) - (capacity - (capacity - first)) ≡ i = omega arith in done))
+    go false e =
+        let here = ltb-false _ _ e in
+        let is = high capacity first i here in
+        (omega arith, ap (rotated capacity (capacity - first)) is ∙ low capacity (capacity - first) (i - (capacity - first)) (omega arith) ∙ (let done : (capacity - first) + (i - (capacity - first)) ≡ i = omega arith in done))
+
+long : (capacity first : ℕ) → length (all capacity first) ≡ capacity
+long capacity first = length-map-range_with_len (rotated capacity first) 0 capacity
+
+inverse : (capacity rows : ℕ) → rows ≤ capacity → IsInverse (all capacity rows) (all capacity (capacity - rows))
+inverse capacity rows r = record {
+  long = long capacity (capacity - rows) ∙ sym (long capacity rows);
+  places = λ i l. let m = below rows i l in let e = long capacity rows in let f = at capacity rows i m in let g = (back capacity rows i r m).0 in omega arith;
+  there = λ i l. let m = below rows i l in ap (λ p. get_or (all capacity (capacity - rows)) p 0) (at capacity rows i m) ∙ at capacity (capacity - rows) (rotated capacity rows i) ((back capacity rows i r m).0) ∙ (back capacity rows i r m).1;
+  within = λ p l. let m = below rows p l in let e = long capacity rows in let f = at capacity (capacity - rows) p m in let g = (back capacity (capacity - rows) p (omega arith) m).0 in omega arith;
+  back = λ p l. let m = below rows p l in let less : capacity - rows ≤ capacity = omega arith in let twice : capacity - (capacity - rows) ≡ rows = omega arith in
+      ap (λ i. get_or (all capacity rows) i 0) (at capacity (capacity - rows) p m) ∙ at capacity rows (rotated capacity (capacity - rows) p) ((back capacity (capacity - rows) p less m).0)
+      ∙ ap (λ n. rotated capacity n (rotated capacity (capacity - rows) p)) (sym twice) ∙ (back capacity (capacity - rows) p less m).1;
+}
+  where
+    below : (first i : ℕ) → i < length (all capacity rows) → i < capacity
+    below first i l = let e = long capacity rows in omega arith
+
+-- the bounds: no version has ended
+abbrev pub opened : ℕ → ℕ → List ℕ
+opened capacity free = free ∷ replicate 9 capacity
+
+opened_rest : (n capacity i : ℕ) → i < n → get_or (replicate n capacity) i 0 ≡ capacity
+opened_rest zero capacity i l = absurd (omega arith)
+opened_rest (suc n) capacity zero l = refl
+opened_rest (suc n) capacity (suc i) l = opened_rest n capacity i (omega arith)
+
+opened_less : (capacity free i : ℕ) → free ≤ capacity → i < 10 → get_or (opened capacity free) i 0 ≤ capacity
+opened_less capacity free zero h l = h
+opened_less capacity free (suc i) h l = let e = opened_rest 9 capacity i (omega arith) in omega arith
+
+opened_ascend : (capacity free i j : ℕ) → free ≤ capacity → i ≤ j → j < 10 → get_or (opened capacity free) i 0 ≤ get_or (opened capacity free) j 0
+opened_ascend capacity free zero zero h le l = omega arith
+opened_ascend capacity free zero (suc j) h le l = let e = opened_rest 9 capacity j (omega arith) in omega arith
+opened_ascend capacity free (suc i) zero h le l = absurd (omega arith)
+opened_ascend capacity free (suc i) (suc j) h le l = let e = opened_rest 9 capacity i (omega arith) in let f = opened_rest 9 capacity j (omega arith) in omega arith
+
+zone_live : (capacity free x : ℕ) → free ≤ x → x < capacity → use_at (opened capacity free) x ≡ Live
+zone_live capacity free x past below = rw (le-ltb x free past, lt-ltb x capacity below) refl
+
+-- the zones, pointwise and as a list
+zone : (capacity rows p : ℕ) → rows ≤ capacity → p < capacity → (d : SlotUse)
+    → use_at (opened capacity (capacity - rows)) (rotated capacity (capacity - rows) p) ≡ get_or (replicate rows Live ++ replicate (capacity - rows) Free) p d
+zone capacity rows p r l d = go (nat_lt p rows) refl
+  where
+    front : (n m p : ℕ) → p < n → get_or (replicate n Live ++ replicate m Free) p d ≡ Live
+    front zero m p l = absurd (omega arith)
+    front (suc n) m zero l = refl
+    front (suc n) m (suc p) l = front n m p (omega arith)
+
+    rest : (m p : ℕ) → p < m → get_or (replicate m Free) p d ≡ Free
+    rest zero p l = absurd (omega arith)
+    rest (suc m) zero l = refl
+    rest (suc m) (suc p) l = rest m p (omega arith)
+
+    behind : (n m p : ℕ) → n ≤ p → p < n + m → get_or (replicate n Live ++ replicate m Free) p d ≡ Free
+    behind zero m p l h = rest m p (omega arith)
+    behind (suc n) m zero l h = absurd (omega arith)
+    behind (suc n) m (suc p) l h = behind n m p (omega arith) (omega arith)
+
+    go : (b : Bool) → nat_lt p rows ≡ b → use_at (opened capacity (capacity - rows)) (rotated capacity (capacity - rows) p) ≡ get_or (replicate rows Live ++ replicate (capacity - rows) Free) p d
+    go true e =
+        let here = ltb-true _ _ e in
+        let is = low capacity (capacity - rows) p (omega arith) in
+        zone_live capacity (capacity - rows) (rotated capacity (capacity - rows) p) (omega arith) (omega arith) ∙ sym (front rows (capacity - rows) p here)
+    go false e =
+        let here = ltb-false _ _ e in
+        let is = high capacity (capacity - rows) p (omega arith) in
+        zone_free (opened capacity (capacity - rows)) (rotated capacity (capacity - rows) p) (omega arith) (omega arith) ∙ sym (behind rows (capacity - rows) p here (omega arith))
+
+pub turned_zones : (capacity rows : ℕ) → rows ≤ capacity → map (use_at (opened capacity (capacity - rows))) (map (rotated capacity (capacity - rows)) (range_with_len 0 capacity)) ≡ replicate rows Live ++ replicate (capacity - rows) Free
+turned_zones capacity rows r = same_lists _ _
+    (length-map (all capacity (capacity - rows)) (use_at (opened capacity (capacity - rows))) ∙ long capacity (capacity - rows) ∙ sym (length-append (replicate rows Live) (replicate (capacity - rows) Free) ∙ ap₂ ◌+◌ (length-replicate rows Live) (length-replicate (capacity - rows) Free) ∙ (let all_of : rows + (capacity - rows) ≡ capacity = omega arith in all_of)))
+    (λ p d l.
+    let m : p < capacity = let e = length-map (all capacity (capacity - rows)) (use_at (opened capacity (capacity - rows))) in let f = long capacity (capacity - rows) in omega arith in
+    let n : p < length (all capacity (capacity - rows)) = let f = long capacity (capacity - rows) in omega arith in
+    get_or-map (use_at (opened capacity (capacity - rows))) (all capacity (capacity - rows)) p 0 d n
+    ∙ ap (use_at (opened capacity (capacity - rows))) (at capacity (capacity - rows) p m)
+    ∙ zone capacity rows p r m d)
+
+pub turned_arranged : (capacity rows : ℕ) → capacity ≤ 65536 → rows ≤ capacity → IsArranged (map (rotated capacity rows) (range_with_len 0 capacity)) (map (rotated capacity (capacity - rows)) (range_with_len 0 capacity)) (opened capacity (capacity - rows))
+turned_arranged capacity rows few r =
+    let size = long capacity rows in
+    record {
+      inverse = inverse capacity rows r;
+      few = omega arith;
+      bounded = refl;
+      ascending = λ i j le l. opened_ascend capacity (capacity - rows) i j (omega arith) le l;
+      inside = λ i l. let e = opened_less capacity (capacity - rows) i (omega arith) l in omega arith;
+      counted = ap (count_by is_free_use) (turned_zones capacity rows r) ∙ counted;
+    }
+  where
+    counted : count_by is_free_use (replicate rows Live ++ replicate (capacity - rows) Free) ≡ capacity - rows
+    counted =
+        let a = sum_by-append (λ z. cond (is_free_use z) 1 0) (replicate rows Live) (replicate (capacity - rows) Free) in
+        let b = sum_by-replicate (λ z. cond (is_free_use z) 1 0) rows Live in
+        let d = sum_by-replicate (λ z. cond (is_free_use z) 1 0) (capacity - rows) Free in
+        a ∙ ap₂ ◌+◌ b d ∙ (let done : rows * 0 + (capacity - rows) * 1 ≡ capacity - rows = omega arith in done)

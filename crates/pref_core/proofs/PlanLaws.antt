@@ -1,0 +1,38 @@
+-- Whether a call is full, and the slots of its rows.
+use Rattle.pref_core.proofs.Common.{◌≡◌, ℕ, suc, ◌≤◌, Bool, true, false, cond, nat_lt, List, [], ◌∷◌, map, length, Option, Some, None, refl, ap, ap₂, arith, ltb-false, eq-eqb, length-map, Version}
+use Rattle.pref_core.proofs.Common.{Call, Outcome, Added, Done, NoSuchRow, Full, ended, begun, success_outcome, succeeds, outcome_of, Contents, begins, close, filled, grown, used, close_at, same_outcome}
+use Rattle.pref_core.proofs.SlotsForAll.{filled_fits, count_grown}
+
+-- What is needed after a change that succeeds is no more than the capacity.
+pub succeeds-fits : (capacity : ℕ) (m : Option ℕ) (size : ℕ) (success_outcome : Outcome) → succeeds (outcome_of capacity true m size success_outcome) ≡ true → size ≤ capacity
+succeeds-fits capacity (Some id) size success_outcome h = absurd (cc)
+succeeds-fits capacity None size success_outcome h = go (nat_lt capacity size) refl h
+  where
+    go : (b : Bool) → nat_lt capacity size ≡ b → succeeds (cond b (Full size) success_outcome) ≡ true → size ≤ capacity
+    go true e h = absurd (cc)
+    go false e h = ltb-false _ _ e
+
+-- A change that has slots for its rows isn't full.
+pub plan_is_not_full : (contents : Contents) (call : Call) (places : List ℕ) (after : List (Option Version)) → filled (suc contents.stamp ∷ begins contents.callers) (suc contents.stamp) places (begun contents.next_id call) (map (close (ended call) (suc contents.stamp)) contents.slots) ≡ Some after
+    → used (grown call contents) ≤ length contents.slots
+plan_is_not_full contents call places after e =
+    let fits = filled_fits (suc contents.stamp) (begins contents.callers) places (begun contents.next_id call) (map (close (ended call) (suc contents.stamp)) contents.slots) after e in
+    let same = count_grown (suc contents.stamp) (begins contents.callers) (begun contents.next_id call) (map (close (ended call) (suc contents.stamp)) contents.slots) in
+    let long = length-map contents.slots (close (ended call) (suc contents.stamp)) in
+    omega arith
+
+-- nothing ends
+pub close_none : (stamp : ℕ) (slots : List (Option Version)) → map (close [] stamp) slots ≡ slots
+close_none stamp [] = refl
+close_none stamp (None ∷ slots) = ap (λ l. None ∷ l) (close_none stamp slots)
+close_none stamp (Some version ∷ slots) = ap₂ ◌∷◌ (same version.death) (close_none stamp slots)
+  where
+    same : (death : Option ℕ) → ◌≡◌ {A = Option Version} (Some (record version { death = close_at stamp false death })) (Some (record version { death = death }))
+    same None = refl
+    same (Some n) = refl
+
+pub same_outcome_refl : (a : Outcome) → same_outcome a a ≡ true
+same_outcome_refl (Added n) = eq-eqb n n refl
+same_outcome_refl Done = refl
+same_outcome_refl (NoSuchRow n) = eq-eqb n n refl
+same_outcome_refl (Full n) = eq-eqb n n refl

@@ -1,0 +1,175 @@
+-- A query that follows its table: no id comes twice, a scan keeps on, and the end is the table's answer.
+use Rattle.pref_core.proofs.Common.{◌≡◌, ℕ, zero, suc, ◌+◌, ◌-◌, ◌*◌, ◌/◌, ◌≤◌, Bool, true, false, cond, eqb, ◌==◌, List, [], ◌∷◌, ◌++◌, map, length, take, drop, Option, Some, filter, refl, sym, ap}
+use Rattle.pref_core.proofs.Common.{◌∙◌, subst, arith, inl, inr, AllByRecursion, count_by, IsPermutation, map-append, take_all, take-append-drop, filter_map-append, sum_by-cons, sum_by-append}
+use Rattle.pref_core.proofs.Common.{IsPermutation-map, sum_by-IsPermutation, Entry, Ranked, answer_of, Question, cut_of, Version, Limits, AreAllowed, blocks, Line, IsOrdered, entries, Contents, Shows}
+use Rattle.pref_core.proofs.Common.{seen, visible, block_of, caller_begun, ran, Scan, begin, levels_for, next_block, NextIsNew, IsScanned, ends_query, Op, first_blocks, BlocksAreTheSlots, Open}
+use Rattle.pref_core.proofs.Common.{one_less, Follows}
+use Rattle.std.proofs.Math.Nat.{mul_comm}
+use Rattle.pref_sky.specs.Levels.{HaveDifferentIds, entry_order, entry_of}
+use Rattle.pref_sky.specs.Members.{Among, SameMembers}
+use Rattle.pref_sky.proofs.LevelLaws.{levels_of_none, held_differ, answer_of_same}
+use Rattle.pref_term.specs.AskOrder.{order_of}
+use Rattle.pref_core.specs.Queries.{IsOnItsWay}
+use Rattle.pref_core.proofs.Permutations.{along_permutation}
+use Rattle.pref_core.proofs.LineOfLaws.{one_line}
+use Rattle.pref_core.proofs.StabilityLaws.{shown, shown_ran}
+use Rattle.pref_core.proofs.VisibleAfterOp.{visible_take, length-ran}
+
+entry : Line → Entry
+entry line = record { id = line.id; row = line.row }
+
+-- how often an id stands among the entries
+count_id : (id : ℕ) (table : List Line) → count_by (λ (e : Entry). e.id == id) (entries table) ≡ length (filter (λ (line : Line). eqb line.id id) table)
+count_id id [] = refl
+count_id id (line ∷ rest) = sum_by-cons (λ (e : Entry). cond (e.id == id) 1 0) (record { id = line.id; row = line.row }) (entries rest) ∙ ap (λ n. cond (eqb line.id id) 1 0 + n) (count_id id rest) ∙ one (eqb line.id id) (filter (λ (l : Line). eqb l.id id) rest)
+  where
+    one : (b : Bool) (l : List Line) → cond {A = ℕ} b 1 0 + length l ≡ length (cond b (line ∷ l) l)
+    one true l = omega arith
+    one false l = omega arith
+
+pub table_differs : (table : List Line) → IsOrdered table → HaveDifferentIds (entries table)
+table_differs table ordered = record { once = λ id. subst (λ n. n ≤ 1) (sym (count_id id table)) (one_line id table ordered) }
+
+differs_along : (xs ys : List Entry) → IsPermutation xs ys → HaveDifferentIds ys → HaveDifferentIds xs
+differs_along xs ys same different = record { once = λ id. let a = sum_by-IsPermutation (λ (e : Entry). cond {A = ℕ} (e.id == id) 1 0) xs ys same in let b = different.once id in omega arith }
+
+pub shown_differs : (slots : List (Option Version)) (stamp : ℕ) (table : List Line) → Shows slots stamp table → HaveDifferentIds (entries (visible stamp slots))
+shown_differs slots stamp table shows = differs_along _ _ (IsPermutation-map (λ (l : Line). record { id = l.id; row = l.row }) _ _ shows.lines) (table_differs table shows.ordered)
+
+front_differs : (xs ys : List Entry) → HaveDifferentIds (xs ++ ys) → HaveDifferentIds xs
+front_differs xs ys different = record { once = λ id. let a = sum_by-append (λ (e : Entry). cond {A = ℕ} (e.id == id) 1 0) xs ys in let b = different.once id in omega arith }
+
+entries_append : (stamp : ℕ) (xs ys : List (Option Version)) → entries (visible stamp (xs ++ ys)) ≡ entries (visible stamp xs) ++ entries (visible stamp ys)
+entries_append stamp xs ys = ap entries (filter_map-append (seen stamp) xs ys) ∙ map-append (λ (l : Line). record { id = l.id; row = l.row }) (visible stamp xs) (visible stamp ys)
+
+taken_differs : (slots : List (Option Version)) (stamp n : ℕ) (table : List Line) → Shows slots stamp table → HaveDifferentIds (entries (visible stamp (take n slots)))
+taken_differs slots stamp n table shows =
+    front_differs _ _ (subst HaveDifferentIds (ap (λ l. entries (visible stamp l)) (sym (take-append-drop n slots)) ∙ entries_append stamp (take n slots) (drop n slots)) (shown_differs slots stamp table shows))
+
+take_none : {X : Type 0} (n : ℕ) → ◌≡◌ {A = List X} [] (take n [])
+take_none zero = refl
+take_none (suc n) = refl
+
+take_add : {X : Type 0} (a b : ℕ) (xs : List X) → take (a + b) xs ≡ take a xs ++ take b (drop a xs)
+take_add zero b xs = let e : 0 + b ≡ b = omega arith in ap (λ n. take n xs) e
+take_add {X} (suc a) b [] = let nothing : List X = [] in let e : suc a + b ≡ suc (a + b) = omega arith in ap (λ n. take n nothing) e ∙ take_none b
+take_add (suc a) b (x ∷ xs) = let e : suc a + b ≡ suc (a + b) = omega arith in ap (λ n. take n (x ∷ xs)) e ∙ ap (λ l. x ∷ l) (take_add a b xs)
+
+one_more : (d n : ℕ) → d * n + n ≡ (d + 1) * n
+one_more d n = omega arith
+
+-- what was scanned and the next block are what one block more shows
+with_next : (scan : Scan) (slots : List (Option Version)) → entries (visible scan.stamp (take (scan.done * scan.size) slots)) ++ next_block scan slots ≡ entries (visible scan.stamp (take ((scan.done + 1) * scan.size) slots))
+with_next scan slots =
+    sym (entries_append scan.stamp (take (scan.done * scan.size) slots) (block_of scan.done scan.size slots))
+    ∙ ap (λ l. entries (visible scan.stamp l)) (sym (take_add (scan.done * scan.size) scan.size slots))
+    ∙ ap (λ n. entries (visible scan.stamp (take n slots))) (one_more scan.done scan.size)
+
+-- no id of the next block came before
+next_differs : (scan : Scan) (slots : List (Option Version)) (table : List Line) → Shows slots scan.stamp table → HaveDifferentIds (entries (visible scan.stamp (take (scan.done * scan.size) slots)) ++ next_block scan slots)
+next_differs scan slots table shows = subst HaveDifferentIds (sym (with_next scan slots)) (taken_differs slots scan.stamp ((scan.done + 1) * scan.size) table shows)
+
+-- Where the slots show a table at its begin, the next block is new to it, ..
+pub next_is_new_on_its_way : (slots : List (Option Version)) (scan : Scan) (table : List Line) → Shows slots scan.stamp table → IsOnItsWay slots scan → NextIsNew scan slots
+next_is_new_on_its_way slots scan table shows h =
+    subst (λ l. HaveDifferentIds (map entry_of l ++ next_block scan slots)) (sym h.partial)
+    (held_differ (entry_order (order_of scan.ask)) (entries (visible scan.stamp (take (scan.done * scan.size) slots))) (next_block scan slots) (cut_of scan.ask.mode) (next_differs scan slots table shows))
+
+-- .. and a scan keeps it on its way
+pub scanned_on_its_way : (slots : List (Option Version)) (before after : Scan) (table : List Line) → Shows slots before.stamp table → IsOnItsWay slots before → IsScanned before slots after → IsOnItsWay slots after
+scanned_on_its_way slots scan new table shows h is =
+    let scanned = entries (visible scan.stamp (take (scan.done * scan.size) slots)) in
+    let more : new.partial ≡ levels_for scan.ask (scanned ++ next_block scan slots) = is.partial scanned (next_differs scan slots table shows) h.partial in
+    let size : (scan.done + 1) * scan.size ≡ new.done * new.size = (λ i. sym is.done i * sym is.size i) in
+    let there : scanned ++ next_block scan slots ≡ entries (visible new.stamp (take (new.done * new.size) slots)) = with_next scan slots ∙ (λ i. entries (visible (sym is.stamp i) (take (size i) slots))) in
+    let as_many : scan.done + scan.left ≡ new.done + new.left = let done = is.done in let left = is.left in omega arith in
+    record {
+      partial = more ∙ (λ i. levels_for (sym is.ask i) (there i));
+      rest = subst (λ n. length slots ≤ n) (λ i. as_many i * sym is.size i) h.rest;
+    }
+
+pub next_is_new : (slots : List (Option Version)) (scan : Scan) (query : Open) → Shows slots query.commits query.table → Follows slots scan query → NextIsNew scan slots
+next_is_new slots scan query shows h = next_is_new_on_its_way slots scan query.table (subst (λ n. Shows slots n query.table) (sym h.stamp) shows) h.way
+
+pub follows_scanned : (slots : List (Option Version)) (scan new : Scan) (query : Open) → Shows slots query.commits query.table → Follows slots scan query → IsScanned scan slots new → Follows slots new (one_less query)
+follows_scanned slots scan new query shows h is =
+    let left = is.left in
+    let query_left = h.left in
+    record {
+      ask = is.ask ∙ h.ask;
+      stamp = is.stamp ∙ h.stamp;
+      left = omega arith;
+      way = scanned_on_its_way slots scan new query.table (subst (λ n. Shows slots n query.table) (sym h.stamp) shows) h.way is;
+    }
+
+zero_blocks : (n : ℕ) → 0 * n ≡ 0
+zero_blocks n = omega arith
+
+-- All blocks are the whole store.
+all_blocks : (capacity block : ℕ) → 1 ≤ block → capacity ≤ (capacity + block - 1) / block * block
+all_blocks capacity block h = omega (arith, mul_comm ((capacity + block - 1) / block) block)
+
+-- the same members along a permutation
+same_cons : (x : Entry) (xs ys : List Entry) → SameMembers xs ys → SameMembers (x ∷ xs) (x ∷ ys)
+same_cons x xs ys h = record { there = λ y m. elim m [ inl e ↦ inl e | inr l ↦ inr (h.there y l) ]; back = λ y m. elim m [ inl e ↦ inl e | inr l ↦ inr (h.back y l) ] }
+
+over_members : (x y : Entry) (xs : List Entry) (z : Entry) → Among z (x ∷ y ∷ xs) → Among z (y ∷ x ∷ xs)
+over_members x y xs z m = elim m [ inl e ↦ inr (inl e) | inr l ↦ elim l [ inl e ↦ inl e | inr r ↦ inr (inr r) ] ]
+
+pub same_members : (xs ys : List Entry) → IsPermutation xs ys → SameMembers xs ys
+same_members = along_permutation (λ xs ys. SameMembers xs ys)
+    (λ xs. record { there = λ y m. m; back = λ y m. m })
+    same_cons
+    (λ x y xs. record { there = over_members x y xs; back = over_members y x xs })
+    (λ xs ys zs a b. record { there = λ y m. b.there y (a.there y m); back = λ y m. a.back y (b.back y m) })
+
+pub begun_on_its_way : (limits : Limits) (slots : List (Option Version)) (ask : Question) (stamp : ℕ) → AreAllowed limits → length slots ≡ limits.capacity → IsOnItsWay slots (begin ask stamp limits)
+begun_on_its_way limits slots ask stamp allowed long = record {
+  partial = levels_of_none (entry_order (order_of ask)) (cut_of ask.mode) ∙ ap (λ n. levels_for ask (entries (visible stamp (take n slots)))) (sym (zero_blocks limits.block));
+  rest = (let all = all_blocks limits.capacity limits.block allowed.block.0 in let none : 0 + blocks limits ≡ blocks limits = omega arith in subst (λ n. length slots ≤ n * limits.block) (sym none) (subst (λ n. n ≤ blocks limits * limits.block) (sym long) all));
+}
+
+-- what shows the same, and as many slots
+pub way_stays : (before after : List (Option Version)) (scan : Scan) → length after ≡ length before → shown scan.stamp after ≡ shown scan.stamp before → IsOnItsWay before scan → IsOnItsWay after scan
+way_stays before after scan long same h = record {
+  partial = h.partial ∙ ap (λ l. levels_for scan.ask (entries l)) (sym (visible_take scan.stamp (scan.done * scan.size) before after same));
+  rest = subst (λ n. n ≤ (scan.done + scan.left) * scan.size) (sym long) h.rest;
+}
+
+-- whatever is done to the slots while the query is open
+pub stays_on_its_way : (contents : Contents) (client : ℕ) (scan : Scan) → caller_begun contents client ≡ Some scan.stamp → scan.stamp ≤ contents.stamp
+    → (ops : List Op) → AllByRecursion (λ op. ends_query client op ≡ false) ops → IsOnItsWay contents.slots scan → IsOnItsWay (ran contents ops).slots scan
+stays_on_its_way contents client scan is early ops open_ h = way_stays contents.slots (ran contents ops).slots scan (length-ran ops contents) (shown_ran ops contents client scan.stamp is early open_) h
+
+-- Once no block is left, an answer of what is held is the answer of the table at the begin.
+pub answers_the_begin : (slots : List (Option Version)) (scan : Scan) (table : List Line) (ranked : List Ranked) → Shows slots scan.stamp table → IsOnItsWay slots scan → scan.left ≡ 0
+    → ((list : List Entry) → scan.partial ≡ levels_for scan.ask list → ranked ≡ answer_of scan.ask list) → ranked ≡ answer_of scan.ask (entries table)
+answers_the_begin slots scan table ranked shows h none says =
+    let all : scan.done + scan.left ≡ scan.done = omega arith in
+    let long : length slots ≤ scan.done * scan.size = subst (λ n. length slots ≤ n * scan.size) all h.rest in
+    let whole : take (scan.done * scan.size) slots ≡ slots = take_all (scan.done * scan.size) slots long in
+    let held : scan.partial ≡ levels_for scan.ask (entries (visible scan.stamp slots)) = h.partial ∙ (λ i. levels_for scan.ask (entries (visible scan.stamp (whole i)))) in
+    let arranged = IsPermutation-map (λ (l : Line). record { id = l.id; row = l.row }) _ _ shows.lines in
+    says (entries (visible scan.stamp slots)) held
+    ∙ answer_of_same scan.ask _ _ (shown_differs slots scan.stamp table shows) (table_differs table shows.ordered) (same_members _ _ arranged)
+
+pub follows_answered : (slots : List (Option Version)) (scan : Scan) (query : Open) (ranked : List Ranked) → Shows slots query.commits query.table → Follows slots scan query → scan.left ≡ 0
+    → ((list : List Entry) → scan.partial ≡ levels_for scan.ask list → ranked ≡ answer_of scan.ask list) → ranked ≡ answer_of query.ask (entries query.table)
+follows_answered slots scan query ranked shows h none says =
+    answers_the_begin slots scan query.table ranked (subst (λ n. Shows slots n query.table) (sym h.stamp) shows) h.way none says
+    ∙ ap (λ (q : Question). answer_of q (entries query.table)) h.ask
+
+-- The blocks, one after the other, are the slots.
+first_blocks_taken : (n size : ℕ) (slots : List (Option Version)) → first_blocks n size slots ≡ take (n * size) slots
+first_blocks_taken zero size slots = take_zero slots ∙ ap (λ n. take n slots) (sym (zero_blocks size))
+  where
+    take_zero : (xs : List (Option Version)) → ◌≡◌ {A = List (Option Version)} [] (take 0 xs)
+    take_zero [] = refl
+    take_zero (x ∷ xs) = refl
+first_blocks_taken (suc n) size slots =
+    ap (λ l. l ++ block_of n size slots) (first_blocks_taken n size slots) ∙ sym (take_add (n * size) size slots) ∙ ap (λ k. take k slots) (let e : n * size + size ≡ suc n * size = omega arith in e)
+
+pub blocks_are_the_slots : BlocksAreTheSlots
+blocks_are_the_slots limits slots allowed long =
+    first_blocks_taken (blocks limits) limits.block slots
+    ∙ take_all (blocks limits * limits.block) slots (let all = all_blocks limits.capacity limits.block allowed.block.0 in subst (λ n. n ≤ blocks limits * limits.block) (sym long) all)

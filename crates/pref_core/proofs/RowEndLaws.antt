@@ -1,0 +1,128 @@
+-- The row of an id ends: one slot is written, and what is kept beside the slots goes along.
+use Rattle.pref_core.proofs.Common.{◌≡◌, ℕ, zero, suc, ◌^◌, Bool, true, false, ◌&&◌, ◌||◌, eqb, List, [], ◌∷◌, map, set, Option, Some, None, slice_get, refl, sym, ap, ap₂, ◌∙◌, subst, arith, ⊎_elim}
+use Rattle.pref_core.proofs.Common.{AllByRecursion, option_map, map-set, slice_get-map, le-leb, and_parts, eqb-true, eq-eqb, cases_eq, true≢false, Version, Caller, SlotUse, Live, Entry, among}
+use Rattle.pref_core.proofs.Common.{is_visible, new_version, IsWithin, EndsBy, close, close_at, use_of, is_row, row_at, IsPlaceOf, shown, ids_of, id_at, AreIds, AreLinks}
+use Rattle.pref_core.proofs.SlotKeys.{eqb_comm}
+use Rattle.pref_core.proofs.StabilityLaws.{slice_get-set_same, slice_get-set_other}
+use Rattle.pref_core.proofs.SlotUseLaws.{holds_there, live_by, close_idle, has_row_at}
+use Rattle.pref_core.proofs.IdChainsLaws.{shows_row, row_shown}
+
+-- lists are equal where they are at each place
+pub same_at_each : {X : Type 0} (xs ys : List X) → ((k : ℕ) → slice_get xs k ≡ slice_get ys k) → xs ≡ ys
+same_at_each [] [] h = refl
+same_at_each [] (y ∷ ys) h = absurd (let bad = h zero in cc)
+same_at_each (x ∷ xs) [] h = absurd (let bad = h zero in cc)
+same_at_each (x ∷ xs) (y ∷ ys) h = let first : x ≡ y = let e = h zero in cc in ap₂ ◌∷◌ first (same_at_each xs ys (λ k. h (suc k)))
+
+-- a slot that doesn't show the id's row stays
+idle : (next made id : ℕ) (slot : Option Version) → IsWithin next made slot → is_row made id slot ≡ false → close (id ∷ []) made slot ≡ slot
+idle next made id None w r = refl
+idle next made id (Some version) w r = close_idle (id ∷ []) made (Some version) (go version.death w.2 r)
+  where
+    left : (b : Bool) → (b && true) ≡ false → b ≡ false
+    left true e = e
+    left false e = refl
+
+    go : (death : Option ℕ) → EndsBy made death → (eqb version.id id && is_visible made (record version { death = death })) ≡ false → live_by (id ∷ []) version.id death ≡ false
+    go (Some death) ends e = refl
+    go None ends e = ap (λ b. b || false) (eqb_comm id version.id ∙ left (eqb version.id id) (rw (le-leb version.birth made w.1) at e))
+
+module _ (next made id : ℕ) (slots : List (Option Version)) (within : AllByRecursion (IsWithin next made) slots) where
+  stays : (k : ℕ) → (row_at made id slots k ≡ true → ⊥) → slice_get (map (close (id ∷ []) made) slots) k ≡ slice_get slots k
+  stays k n = slice_get-map (close (id ∷ []) made) slots k ∙ go (slice_get slots k) refl
+    where
+      go : (o : Option (Option Version)) → slice_get slots k ≡ o → option_map (close (id ∷ []) made) o ≡ o
+      go None at = refl
+      go (Some slot) at = ap Some (idle next made id slot (holds_there (IsWithin next made) slots k slot at within) (not_row (is_row made id slot) refl))
+        where
+          not_row : (b : Bool) → is_row made id slot ≡ b → is_row made id slot ≡ false
+          not_row false e = e
+          not_row true e = absurd (n (ap (λ o. elim o as (λ x. Bool) [ None ↦ false | Some s ↦ is_row made id s ]) at ∙ e))
+
+  -- Where the table has no row of the id no slot is written.
+  pub none_closed : IsPlaceOf made id slots None → map (close (id ∷ []) made) slots ≡ slots
+  none_closed absent = same_at_each _ _ (λ k. stays k (λ r. true≢false (sym (has_row_at made id slots k r) ∙ absent)))
+
+  -- Else the one where it stands is.
+  pub one_closed : (place : ℕ) (version : Version) → AreIds (2 ^ 64) (id_at (ids_of made slots)) → row_at made id slots place ≡ true → slice_get slots place ≡ Some (Some version)
+      → map (close (id ∷ []) made) slots ≡ set slots place (Some (record version { death = close_at made true version.death }))
+  one_closed place version known row at = same_at_each _ _ (λ k. ⊎_elim
+      (λ (e : k ≡ place).
+      ap (slice_get (map (close (id ∷ []) made) slots)) e ∙ slice_get-map (close (id ∷ []) made) slots place ∙ ap (option_map (close (id ∷ []) made)) at ∙ ap Some here
+      ∙ sym (slice_get-set_same slots place (Some version) (Some (record version { death = close_at made true version.death })) at) ∙ ap (slice_get (set slots place (Some (record version { death = close_at made true version.death })))) (sym e))
+      (λ (n : k ≡ place → ⊥).
+      stays k (λ r. n (known.once k place id (row_shown made id slots k r) (row_shown made id slots place row)))
+      ∙ sym (slice_get-set_other slots k place (Some (record version { death = close_at made true version.death })) n))
+      (cases_eq k place))
+    where
+      its : version.id ≡ id
+      its = eqb-true version.id id (and_parts (eqb version.id id) (is_visible made version) (ap (λ o. elim o as (λ x. Bool) [ None ↦ false | Some s ↦ is_row made id s ]) (sym at) ∙ row)).0
+
+      here : close (id ∷ []) made (Some version) ≡ Some (record version { death = close_at made true version.death })
+      here = ap (λ b. Some (record version { death = close_at made (b || false) version.death })) (eq-eqb id version.id (sym its))
+
+-- A version of a row is in no query's way: it has not ended.
+pub row_alive : (next made id : ℕ) (callers : List Caller) (version : Version) → IsWithin next made (Some version) → is_row made id (Some version) ≡ true → use_of callers (Some version) ≡ Live
+row_alive next made id callers version w r = go version.death w.2 (and_parts (eqb version.id id) (is_visible made version) r).1
+  where
+    go : (death : Option ℕ) → EndsBy made death → is_visible made (record version { death = death }) ≡ true → use_of callers (Some (record version { death = death })) ≡ Live
+    go None ends v = refl
+    go (Some death) ends v = absurd (let w = rw (le-leb version.birth made w.1, le-leb death made ends) at v in cc)
+
+-- Nothing is ahead of the commit that ends rows.
+pub within_closed : (ids : List ℕ) (next made : ℕ) (slots : List (Option Version)) → AllByRecursion (IsWithin next made) slots → AllByRecursion (IsWithin next made) (map (close ids made) slots)
+within_closed ids next made [] h = tt
+within_closed ids next made (None ∷ slots) h = (tt, within_closed ids next made slots h.1)
+within_closed ids next made (Some version ∷ slots) h = ((h.0.0, h.0.1, go (among ids version.id) version.death h.0.2), within_closed ids next made slots h.1)
+  where
+    go : (b : Bool) (death : Option ℕ) → EndsBy made death → EndsBy made (close_at made b death)
+    go b (Some death) ends = ends
+    go true None ends = omega arith
+    go false None ends = tt
+
+-- what the slots show once rows ended they showed before
+row_back : (ids : List ℕ) (made x : ℕ) (slots : List (Option Version)) (p : ℕ) → row_at made x (map (close ids made) slots) p ≡ true → row_at made x slots p ≡ true
+row_back ids made x [] p r = absurd (cc)
+row_back ids made x (None ∷ slots) zero r = absurd (cc)
+row_back ids made x (Some version ∷ slots) zero r = go (among ids version.id) version.death r
+  where
+    none : (a b : Bool) → (a && (b && false)) ≡ true → ⊥
+    none true true e = cc
+    none true false e = cc
+    none false b e = cc
+
+    go : (chosen : Bool) (death : Option ℕ) → (eqb version.id x && is_visible made (record version { death = close_at made chosen death })) ≡ true → (eqb version.id x && is_visible made (record version { death = death })) ≡ true
+    go chosen (Some death) e = e
+    go false None e = e
+    go true None e = absurd (none (eqb version.id x) _ (rw (le-leb made made (omega arith)) at e))
+row_back ids made x (slot ∷ slots) (suc p) r = row_back ids made x slots p r
+
+pub ids_closed : (ids : List ℕ) (made : ℕ) (slots : List (Option Version)) → AreIds (2 ^ 64) (id_at (ids_of made slots)) → AreIds (2 ^ 64) (id_at (ids_of made (map (close ids made) slots)))
+ids_closed ids made slots known = record {
+  once = λ p q x at also. known.once p q x (was p x at) (was q x also);
+  small = λ p x at. known.small p x (was p x at);
+}
+  where
+    was : (p x : ℕ) → id_at (ids_of made (map (close ids made) slots)) p ≡ Some x → id_at (ids_of made slots) p ≡ Some x
+    was p x at = row_shown made x slots p (row_back ids made x slots p (shows_row made x (map (close ids made) slots) p at))
+
+-- An ended version shows no id.
+pub links_ended : (made place : ℕ) (slots : List (Option Version)) (version : Version) (links : List ℕ) → EndsBy made version.death → AreLinks (set (ids_of made slots) place None) links
+    → AreLinks (ids_of made (set slots place (Some (record version { death = close_at made true version.death })))) links
+links_ended made place slots version links ends h = subst (λ l. AreLinks l links) (sym (map-set (shown made) slots place _ ∙ ap (set (ids_of made slots) place) (gone version.death ends))) h
+  where
+    hidden : (b : Bool) → (b && false) ≡ false
+    hidden true = refl
+    hidden false = refl
+
+    gone : (death : Option ℕ) → EndsBy made death → shown made (Some (record version { death = close_at made true death })) ≡ None
+    gone None e = rw (le-leb made made (omega arith), hidden) refl
+    gone (Some death) e = rw (le-leb death made e, hidden) refl
+
+-- One zone is written.
+pub closed_zones : (callers : List Caller) (slots : List (Option Version)) (zones new : List SlotUse) (place : ℕ) (slot : Option Version) (zone : SlotUse) → zones ≡ map (use_of callers) slots → zone ≡ use_of callers slot → new ≡ set zones place zone → new ≡ map (use_of callers) (set slots place slot)
+closed_zones callers slots zones new place slot zone listed is returned =
+    returned ∙ (λ i. set (listed i) place (is i)) ∙ sym (map-set (use_of callers) slots place slot)
+
+pub filled_zones : (callers : List Caller) (closed : List (Option Version)) (zones new : List SlotUse) (place : ℕ) (row : Option Version) (fresh : Entry) (made : ℕ) → zones ≡ map (use_of callers) closed → row ≡ new_version made fresh → new ≡ set zones place Live → new ≡ map (use_of callers) (set closed place row)
+filled_zones callers closed zones new place row fresh made listed is returned = closed_zones callers closed zones new place row Live listed (sym (ap (use_of callers) is)) returned

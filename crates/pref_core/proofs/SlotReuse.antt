@@ -1,0 +1,71 @@
+-- New versions go into slots that aren't needed.
+use Rattle.pref_core.proofs.Common.{◌≡◌, ℕ, zero, suc, ◌+◌, Bool, true, false, not, cond, List, [], ◌∷◌, ◌++◌, map, length, Option, Some, None, slice_get, slice_set, refl, ap, ◌∙◌, subst, arith}
+use Rattle.pref_core.proofs.Common.{AllByRecursion, not-true, Version, Entry, State, Contents, StandsFor, seen, is_needed, stamps, begins, new_version, is_free, filled}
+use Rattle.pref_core.proofs.StandsForLaws.{Shows-set, hidden_unneeded, clients-set}
+use Rattle.pref_core.proofs.SlotKeys.{AreDifferent-set, within-set}
+
+-- what a free slot is
+pub record IsFree (ns : List ℕ) (slots : List (Option Version)) (place : ℕ) : Type 0 where
+  pub old : Option Version
+  pub at : slice_get slots place ≡ Some old
+  pub unneeded : is_needed ns old ≡ false
+
+pub IsFree-from : (ns : List ℕ) (slots : List (Option Version)) (place : ℕ) → is_free ns slots place ≡ true → IsFree ns slots place
+IsFree-from ns slots place h = go (slice_get slots place) refl h
+  where
+    go : (found : Option (Option Version)) → slice_get slots place ≡ found → elim found as (λ f. Bool) [ None ↦ false | Some slot ↦ not (is_needed ns slot) ] ≡ true → IsFree ns slots place
+    go None e h = absurd (cc)
+    go (Some slot) e h = record { old = slot; at = e; unneeded = not-true _ h }
+
+set_stands : (contents : Contents) (state : State) (place : ℕ) (new : Option Version) → IsFree (stamps contents) contents.slots place
+    → StandsFor (record { slots = new ∷ contents.slots; stamp = contents.stamp; next_id = contents.next_id; callers = contents.callers }) state
+    → StandsFor (record { slots = slice_set contents.slots place new; stamp = contents.stamp; next_id = contents.next_id; callers = contents.callers }) state
+set_stands contents state place new free h =
+    let hidden : AllByRecursion (λ stamp. seen stamp free.old ≡ None) (contents.stamp ∷ begins contents.callers) = hidden_unneeded (stamps contents) free.old free.unneeded in
+    record {
+      stamp = h.stamp;
+      next_id = h.next_id;
+      table = Shows-set contents.stamp contents.slots place free.old new state.table free.at hidden.0 h.table;
+      clients = clients-set contents.stamp contents.slots place free.old new free.at contents.callers state.clients hidden.1 h.clients;
+      separate = AreDifferent-set contents.slots place new h.separate;
+      within = within-set contents.next_id contents.stamp contents.slots place new h.within.0 h.within.1;
+    }
+
+slice_get_behind : {X : Type 0} (front xs : List X) (i n : ℕ) → n ≡ length front + i → slice_get (front ++ xs) n ≡ slice_get xs i
+slice_get_behind [] xs i n e = let same : n ≡ i = omega arith in ap (slice_get xs) same
+slice_get_behind (x ∷ front) xs i zero e = absurd (omega arith)
+slice_get_behind (x ∷ front) xs i (suc n) e = slice_get_behind front xs i n (omega arith)
+
+slice_set_behind : {X : Type 0} (front xs : List X) (i n : ℕ) (y : X) → n ≡ length front + i → slice_set (front ++ xs) n y ≡ front ++ slice_set xs i y
+slice_set_behind [] xs i n y e = let same : n ≡ i = omega arith in ap (λ k. slice_set xs k y) same
+slice_set_behind (x ∷ front) xs i zero y e = absurd (omega arith)
+slice_set_behind {X} (x ∷ front) xs i (suc n) y e = ap (λ (l : List X). x ∷ l) (slice_set_behind front xs i n y (omega arith))
+
+IsFree-behind : (ns : List ℕ) (front slots : List (Option Version)) (place : ℕ) → IsFree ns slots place → IsFree ns (front ++ slots) (length front + place)
+IsFree-behind ns front slots place h = record { old = h.old; at = slice_get_behind front slots place _ refl ∙ h.at; unneeded = h.unneeded }
+
+abbrev Stands : Contents → State → List (Option Version) → Type 0
+Stands contents state slots = StandsFor (record { slots = slots; stamp = contents.stamp; next_id = contents.next_id; callers = contents.callers }) state
+
+-- each in its turn
+pub filled_stands : (contents : Contents) (state : State) (made : ℕ) (places : List ℕ) (begun : List Entry) (slots after : List (Option Version)) → filled (stamps contents) made places begun slots ≡ Some after
+    → StandsFor (record { slots = map (new_version made) begun ++ slots; stamp = contents.stamp; next_id = contents.next_id; callers = contents.callers }) state
+    → StandsFor (record { slots = after; stamp = contents.stamp; next_id = contents.next_id; callers = contents.callers }) state
+filled_stands contents state made [] [] slots after e h =
+    let same : slots ≡ after = cc in
+    subst (λ l. StandsFor (record { slots = l; stamp = contents.stamp; next_id = contents.next_id; callers = contents.callers }) state) same h
+filled_stands contents state made (place ∷ places) (fresh ∷ rest) slots after e h =
+    go (is_free (stamps contents) slots place) refl e (λ f. filled_stands contents state made places rest (slice_set slots place (new_version made fresh)) after f)
+  where
+    go : (b : Bool) → is_free (stamps contents) slots place ≡ b
+        → cond b (filled (stamps contents) made places rest (slice_set slots place (new_version made fresh))) None ≡ Some after
+        → (filled (stamps contents) made places rest (slice_set slots place (new_version made fresh)) ≡ Some after → Stands contents state (map (new_version made) rest ++ slice_set slots place (new_version made fresh)) → Stands contents state after)
+        → Stands contents state after
+    go false f e more = absurd (cc)
+    go true f e more =
+        let front = map (new_version made) rest in
+        let free = IsFree-behind (stamps contents) front slots place (IsFree-from (stamps contents) slots place f) in
+        let set = set_stands (record { slots = front ++ slots; stamp = contents.stamp; next_id = contents.next_id; callers = contents.callers }) state (length front + place) (new_version made fresh) free h in
+        more e (subst (λ l. StandsFor (record { slots = l; stamp = contents.stamp; next_id = contents.next_id; callers = contents.callers }) state) (slice_set_behind front slots place _ (new_version made fresh) refl) set)
+filled_stands contents state made [] (fresh ∷ rest) slots after e h = absurd (cc)
+filled_stands contents state made (place ∷ places) [] slots after e h = absurd (cc)

@@ -1,0 +1,375 @@
+-- The order of places and its inverse, after a move.
+use Rattle.pref_core.proofs.Common.{◌≡◌, ◌≢◌, ℕ, zero, suc, ◌+◌, ◌-◌, ◌<◌, ◌≤◌, Bool, true, false, cond, nat_lt, List, [], ◌∷◌, map, length, get_or, set, Some, slice_get, refl, sym, ap, ◌∙◌, subst}
+use Rattle.pref_core.proofs.Common.{arith, ⊎_elim, get_or-set_same, get_or-set_other, count_by, length-map, length-set, same_lists, get_or-map, sum_by-set, slice_get_within, get_or_from_slice_get}
+use Rattle.pref_core.proofs.Common.{cases_eq, lt-ltb, le-ltb, ltb-true, ltb-false, SlotUse, Free, number_of, numbered, number_at, use_at, is_free_use, IsInverse, IsArranged, moved_order}
+use Rattle.pref_core.proofs.Common.{moved_positions}
+
+-- Reads of a list after two writes.
+module _ (xs : List ℕ) (i j x y : ℕ) (li : i < length xs) (lj : j < length xs) where
+  second : get_or (set (set xs i x) j y) j 0 ≡ y
+  second = get_or-set_same (set xs i x) j y 0 (let n = length-set xs i x in omega arith)
+
+  first : i ≢ j → get_or (set (set xs i x) j y) i 0 ≡ x
+  first n = get_or-set_other (set xs i x) j i y 0 n ∙ get_or-set_same xs i x 0 li
+
+  neither : (k : ℕ) → k ≢ i → k ≢ j → get_or (set (set xs i x) j y) k 0 ≡ get_or xs k 0
+  neither k a b = get_or-set_other (set xs i x) j k y 0 b ∙ get_or-set_other xs i k x 0 a
+
+-- A place goes from its position, and another comes there.
+module _ (order positions : List ℕ) (place to : ℕ) (inv : IsInverse order positions) (lp : place < length order) (lt : to < length order) where
+  abbrev from : ℕ
+  from = get_or positions place 0
+
+  abbrev other : ℕ
+  other = get_or order to 0
+
+  -- both positions of both places
+  lf : from < length order
+  lf = inv.within place lp
+
+  lo : other < length order
+  lo = inv.places to lt
+
+  from_at : get_or order from 0 ≡ place
+  from_at = inv.back place lp
+
+  other_at : get_or positions other 0 ≡ to
+  other_at = inv.there to lt
+
+  same_to : place ≡ other → from ≡ to
+  same_to e = ap (λ k. get_or positions k 0) e ∙ other_at
+
+  same_place : from ≡ to → place ≡ other
+  same_place e = sym from_at ∙ ap (λ k. get_or order k 0) e
+
+  apart : (k : ℕ) → k < length order → k ≢ place → get_or positions k 0 ≢ from
+  apart k l n e = n (sym (inv.back k l) ∙ ap (λ x. get_or order x 0) e ∙ from_at)
+
+  apart_other : (k : ℕ) → k < length order → k ≢ other → get_or positions k 0 ≢ to
+  apart_other k l n e = n (sym (inv.back k l) ∙ ap (λ x. get_or order x 0) e)
+
+  abbrev new_order : List ℕ
+  new_order = moved_order order positions place to
+
+  abbrev new_positions : List ℕ
+  new_positions = moved_positions order positions place to
+
+  pub length_order : length new_order ≡ length order
+  length_order = length-set (set order from other) to place ∙ length-set order from other
+
+  pub length_positions : length new_positions ≡ length order
+  length_positions = length-set (set positions place to) other from ∙ length-set positions place to ∙ inv.long
+
+  lq : (k : ℕ) → k < length order → k < length positions
+  lq k l = let e = inv.long in omega arith
+
+  at_other : get_or new_positions other 0 ≡ from
+  at_other = second positions place other to from (lq place lp) (lq other lo)
+
+  at_place : get_or new_positions place 0 ≡ to
+  at_place = ⊎_elim (λ (e : place ≡ other). ap (λ k. get_or new_positions k 0) e ∙ at_other ∙ same_to e)
+      (λ (n : place ≡ other → ⊥). first positions place other to from (lq place lp) (lq other lo) n) (cases_eq place other)
+
+  at_neither : (k : ℕ) → k ≢ place → k ≢ other → get_or new_positions k 0 ≡ get_or positions k 0
+  at_neither k a b = neither positions place other to from (lq place lp) (lq other lo) k a b
+
+  pub order_to : get_or new_order to 0 ≡ place
+  order_to = second order from to other place lf lt
+
+  pub order_from : get_or new_order from 0 ≡ other
+  order_from = ⊎_elim (λ (e : from ≡ to). ap (λ k. get_or new_order k 0) e ∙ order_to ∙ same_place e)
+      (λ (n : from ≡ to → ⊥). first order from to other place lf lt n) (cases_eq from to)
+
+  pub order_neither : (k : ℕ) → k ≢ from → k ≢ to → get_or new_order k 0 ≡ get_or order k 0
+  order_neither k a b = neither order from to other place lf lt k a b
+
+  order_goes : (Q : ℕ → ℕ → Type 0) → Q to place → Q from other → ((k : ℕ) → k < length order → k ≢ from → k ≢ to → Q k (get_or order k 0)) → (k : ℕ) → k < length order → Q k (get_or new_order k 0)
+  order_goes Q a b c k l =
+      ⊎_elim (λ (e : k ≡ to). subst (λ x. Q x (get_or new_order x 0)) (sym e) (subst (Q to) (sym order_to) a))
+      (λ (n : k ≡ to → ⊥). ⊎_elim (λ (e : k ≡ from). subst (λ x. Q x (get_or new_order x 0)) (sym e) (subst (Q from) (sym order_from) b))
+      (λ (m : k ≡ from → ⊥). subst (Q k) (sym (order_neither k m n)) (c k l m n)) (cases_eq k from)) (cases_eq k to)
+
+  pub position_goes : (Q : ℕ → ℕ → Type 0) → Q place to → Q other from → ((k : ℕ) → k < length order → k ≢ place → k ≢ other → Q k (get_or positions k 0)) → (k : ℕ) → k < length order → Q k (get_or new_positions k 0)
+  position_goes Q a b c k l =
+      ⊎_elim (λ (e : k ≡ place). subst (λ x. Q x (get_or new_positions x 0)) (sym e) (subst (Q place) (sym at_place) a))
+      (λ (n : k ≡ place → ⊥). ⊎_elim (λ (e : k ≡ other). subst (λ x. Q x (get_or new_positions x 0)) (sym e) (subst (Q other) (sym at_other) b))
+      (λ (m : k ≡ other → ⊥). subst (Q k) (sym (at_neither k n m)) (c k l n m)) (cases_eq k other)) (cases_eq k place)
+
+  pub inverse_moved : IsInverse new_order new_positions
+  inverse_moved = record {
+    long = length_positions ∙ sym length_order;
+    places = λ i l. subst (λ n. get_or new_order i 0 < n) (sym length_order) (order_goes (λ k x. x < length order) lp lo (λ k m a b. inv.places k m) i (below i l));
+    there = λ i l. order_goes (λ k x. get_or new_positions x 0 ≡ k) at_place at_other (λ k m a b. at_neither (get_or order k 0) (λ e. a (sym (inv.there k m) ∙ ap (λ x. get_or positions x 0) e)) (λ e. b (sym (inv.there k m) ∙ ap (λ x. get_or positions x 0) e ∙ other_at)) ∙ inv.there k m) i (below i l);
+    within = λ p l. subst (λ n. get_or new_positions p 0 < n) (sym length_order) (position_goes (λ k x. x < length order) lt lf (λ k m a b. inv.within k m) p (below p l));
+    back = λ p l. position_goes (λ k x. get_or new_order x 0 ≡ k) order_to order_from (λ k m a b. order_neither (get_or positions k 0) (apart k m a) (apart_other k m b) ∙ inv.back k m) p (below p l);
+  }
+    where
+      below : (k : ℕ) → k < length new_order → k < length order
+      below k l = let e = length_order in omega arith
+
+  -- the zones after a move that shifts a border past the position
+  pub zones_moved : (bounds after : List ℕ) (zone : SlotUse) → use_at after to ≡ zone
+      → (from ≢ to → use_at after from ≡ use_at bounds to)
+      → ((x : ℕ) → x ≢ from → x ≢ to → use_at after x ≡ use_at bounds x)
+      → map (use_at after) new_positions ≡ set (map (use_at bounds) positions) place zone
+  zones_moved bounds after zone here there elsewhere =
+      same_lists _ _ long (λ k d l. each k (let e = length-map new_positions (use_at after) in let f = length_positions in omega arith) d)
+    where
+      before : List SlotUse
+      before = map (use_at bounds) positions
+
+      long : length (map (use_at after) new_positions) ≡ length (set before place zone)
+      long = length-map new_positions (use_at after) ∙ length_positions ∙ sym inv.long ∙ sym (length-map positions (use_at bounds)) ∙ sym (length-set before place zone)
+
+      others : (k : ℕ) → k < length order → k ≢ place → use_at after (get_or new_positions k 0) ≡ use_at bounds (get_or positions k 0)
+      others = position_goes (λ k x. k ≢ place → use_at after x ≡ use_at bounds (get_or positions k 0))
+          (λ n. absurd (n refl))
+          (λ n. there (λ e. n (sym (same_place e))) ∙ ap (use_at bounds) (sym other_at))
+          (λ k l a b n. elsewhere (get_or positions k 0) (apart k l a) (apart_other k l b))
+
+      each : (k : ℕ) → k < length order → (d : SlotUse) → get_or (map (use_at after) new_positions) k d ≡ get_or (set before place zone) k d
+      each k l d =
+          let long_new : k < length new_positions = let e = length_positions in omega arith in
+          let long_old : k < length positions = lq k l in
+          ⊎_elim (λ (e : k ≡ place).
+          get_or-map (use_at after) new_positions k 0 d long_new
+          ∙ ap (λ x. use_at after (get_or new_positions x 0)) e ∙ ap (use_at after) at_place ∙ here
+          ∙ sym (ap (λ x. get_or (set before place zone) x d) e ∙ get_or-set_same before place zone d (let m = length-map positions (use_at bounds) in let n = inv.long in omega arith)))
+          (λ (n : k ≡ place → ⊥).
+          get_or-map (use_at after) new_positions k 0 d long_new
+          ∙ others k l n
+          ∙ sym (get_or-set_other before place k zone d n ∙ get_or-map (use_at bounds) positions k 0 d long_old)) (cases_eq k place)
+
+-- Numbers of positions: past each bound before, ..
+pub number_past : (bounds : List ℕ) (x j : ℕ) → j < number_at bounds x → get_or bounds j 0 ≤ x
+number_past [] x j l = absurd (omega arith)
+number_past (bound ∷ bounds) x zero l = go (nat_lt x bound) refl l
+  where
+    go : (b : Bool) → nat_lt x bound ≡ b → zero < cond b 0 (suc (number_at bounds x)) → bound ≤ x
+    go true e l = absurd (omega arith)
+    go false e l = ltb-false _ _ e
+number_past (bound ∷ bounds) x (suc j) l = go (nat_lt x bound) l (λ m. number_past bounds x j m)
+  where
+    go : (b : Bool) → suc j < cond b 0 (suc (number_at bounds x)) → (j < number_at bounds x → get_or bounds j 0 ≤ x) → get_or bounds j 0 ≤ x
+    go true l more = absurd (omega arith)
+    go false l more = more (omega arith)
+
+-- .. and below their own, ..
+pub number_below : (bounds : List ℕ) (x : ℕ) → number_at bounds x < length bounds → x < get_or bounds (number_at bounds x) 0
+number_below [] x l = absurd (omega arith)
+number_below (bound ∷ bounds) x l = go (nat_lt x bound) refl l (λ m. number_below bounds x m)
+  where
+    go : (b : Bool) → nat_lt x bound ≡ b → cond b 0 (suc (number_at bounds x)) < length (bound ∷ bounds) → (number_at bounds x < length bounds → x < get_or bounds (number_at bounds x) 0) → x < get_or (bound ∷ bounds) (cond b 0 (suc (number_at bounds x))) 0
+    go true e l more = ltb-true _ _ e
+    go false e l more = more (omega arith)
+
+-- .. and by these.
+pub number_is : (bounds : List ℕ) (x k : ℕ) → k < length bounds → ((j : ℕ) → j < k → get_or bounds j 0 ≤ x) → x < get_or bounds k 0 → number_at bounds x ≡ k
+number_is [] x k l past below = absurd (omega arith)
+number_is (bound ∷ bounds) x zero l past below = rw (lt-ltb x bound below) refl
+number_is (bound ∷ bounds) x (suc k) l past below = rw (le-ltb x bound (past zero (omega arith))) (ap suc (number_is bounds x k (omega arith) (λ j m. past (suc j) (omega arith)) below))
+
+-- Another bound leaves the numbers of positions that are on one side of both.
+pub number_kept : (bounds : List ℕ) (k bound x : ℕ) → nat_lt x bound ≡ nat_lt x (get_or bounds k 0) → number_at (set bounds k bound) x ≡ number_at bounds x
+number_kept [] k bound x e = refl
+number_kept (first ∷ bounds) zero bound x e = ap (λ b. cond b 0 (suc (number_at bounds x))) e
+number_kept (first ∷ bounds) (suc k) bound x e = ap (λ n. cond (nat_lt x first) 0 (suc n)) (number_kept bounds k bound x e)
+
+pub number_numbered : (n : ℕ) → number_of (numbered n) ≡ n
+number_numbered zero = refl
+number_numbered (suc zero) = refl
+number_numbered (suc (suc n)) = refl
+
+pub zone_number : (bounds : List ℕ) (x k : ℕ) → use_at bounds x ≡ numbered k → number_at bounds x ≡ k
+zone_number bounds x k e = sym (number_numbered (number_at bounds x)) ∙ ap number_of e ∙ number_numbered k
+
+-- The free places are below the first bound.
+pub free_number : (bounds : List ℕ) (x : ℕ) → 0 < length bounds → is_free_use (use_at bounds x) ≡ nat_lt x (get_or bounds 0 0)
+free_number [] x l = absurd (omega arith)
+free_number (bound ∷ bounds) x l = go (nat_lt x bound)
+  where
+    held : (n : ℕ) → is_free_use (numbered (suc n)) ≡ false
+    held zero = refl
+    held (suc n) = refl
+
+    go : (b : Bool) → is_free_use (numbered (cond b 0 (suc (number_at bounds x)))) ≡ b
+    go true = refl
+    go false = held (number_at bounds x)
+
+pub zone_free : (bounds : List ℕ) (x : ℕ) → 0 < length bounds → x < get_or bounds 0 0 → use_at bounds x ≡ Free
+zone_free bounds x l h = ap numbered (number_is bounds x 0 l (λ j m. absurd (omega arith)) h)
+
+pub free_from : (bounds : List ℕ) (x : ℕ) → 0 < length bounds → use_at bounds x ≡ Free → x < get_or bounds 0 0
+free_from bounds x l h = ltb-true _ _ (sym (free_number bounds x l) ∙ ap is_free_use h)
+
+-- Bounds stay in their order where one goes no further than those beside it.
+ascending_set : (bounds : List ℕ) (k bound : ℕ) → length bounds ≡ 10 → k < 10 → ((i : ℕ) → i < k → get_or bounds i 0 ≤ bound) → ((j : ℕ) → k < j → j < 10 → bound ≤ get_or bounds j 0)
+    → ((i j : ℕ) → i ≤ j → j < 10 → get_or bounds i 0 ≤ get_or bounds j 0) → (i j : ℕ) → i ≤ j → j < 10 → get_or (set bounds k bound) i 0 ≤ get_or (set bounds k bound) j 0
+ascending_set bounds k bound long lk low high all i j le lj = ⊎_elim
+    (λ (e : i ≡ k). ⊎_elim
+    (λ (f : j ≡ k). let a = at i e in let b = at j f in omega arith)
+    (λ (n : j ≡ k → ⊥). let a = at i e in let b = get_or-set_other bounds k j bound 0 n in let h = high j (omega arith) lj in omega arith)
+    (cases_eq j k))
+    (λ (m : i ≡ k → ⊥). ⊎_elim
+    (λ (f : j ≡ k). let a = get_or-set_other bounds k i bound 0 m in let b = at j f in let h = low i (omega arith) in omega arith)
+    (λ (n : j ≡ k → ⊥). let a = get_or-set_other bounds k i bound 0 m in let b = get_or-set_other bounds k j bound 0 n in let h = all i j le lj in omega arith)
+    (cases_eq j k))
+    (cases_eq i k)
+  where
+    at : (i : ℕ) → i ≡ k → get_or (set bounds k bound) i 0 ≡ bound
+    at i e = ap (λ n. get_or (set bounds k bound) n 0) e ∙ get_or-set_same bounds k bound 0 (omega arith)
+
+inside_set : (bounds : List ℕ) (k bound most : ℕ) → length bounds ≡ 10 → k < 10 → bound ≤ most → ((i : ℕ) → i < 10 → get_or bounds i 0 ≤ most) → (i : ℕ) → i < 10 → get_or (set bounds k bound) i 0 ≤ most
+inside_set bounds k bound most long lk le all i l = ⊎_elim
+    (λ (e : i ≡ k). let a = ap (λ n. get_or (set bounds k bound) n 0) e in let b = get_or-set_same bounds k bound 0 (omega arith) in omega arith)
+    (λ (n : i ≡ k → ⊥). let a = get_or-set_other bounds k i bound 0 n in let h = all i l in omega arith)
+    (cases_eq i k)
+
+-- The first bound, and whether the zones beside a bound are free.
+lower_counted : (bounds : List ℕ) (k : ℕ) → 0 < length bounds → get_or (set bounds k (get_or bounds k 0 + 1)) 0 0 + cond (is_free_use (numbered (suc k))) 1 0 ≡ get_or bounds 0 0 + cond (is_free_use (numbered k)) 1 0
+lower_counted [] k l = absurd (omega arith)
+lower_counted (bound ∷ bounds) zero l = omega arith
+lower_counted (bound ∷ bounds) (suc zero) l = refl
+lower_counted (bound ∷ bounds) (suc (suc k)) l = refl
+
+raise_counted : (bounds : List ℕ) (k : ℕ) → 0 < length bounds → 0 < get_or bounds k 0 → get_or (set bounds k (get_or bounds k 0 - 1)) 0 0 + cond (is_free_use (numbered k)) 1 0 ≡ get_or bounds 0 0 + cond (is_free_use (numbered (suc k))) 1 0
+raise_counted [] k l h = absurd (omega arith)
+raise_counted (bound ∷ bounds) zero l h = omega arith
+raise_counted (bound ∷ bounds) (suc zero) l h = refl
+raise_counted (bound ∷ bounds) (suc (suc k)) l h = refl
+
+-- How many zones are of a kind, after one place's zone is another.
+pub count_set : (p : SlotUse → Bool) (zones : List SlotUse) (place : ℕ) (old new : SlotUse) → slice_get zones place ≡ Some old
+    → count_by p (set zones place new) + cond (p old) 1 0 ≡ count_by p zones + cond (p new) 1 0
+count_set p zones place old new at =
+    subst (λ z. count_by p (set zones place new) + cond (p z) 1 0 ≡ count_by p zones + cond (p new) 1 0) (get_or_from_slice_get zones place old old at)
+    (sum_by-set (λ z. cond (p z) 1 0) zones place new old (slice_get_within zones place old at))
+
+-- One place of an arrangement changes its zone to the one beside it.
+module _ (order positions bounds : List ℕ) (place : ℕ) (a : IsArranged order positions bounds) where
+  abbrev zones : List SlotUse
+  zones = map (use_at bounds) positions
+
+  pub zone_here : (old : SlotUse) → slice_get zones place ≡ Some old → (place < length order) × (use_at bounds (get_or positions place 0) ≡ old)
+  zone_here old at =
+      let inside : place < length zones = slice_get_within zones place old at in
+      let long : length zones ≡ length positions = length-map positions (use_at bounds) in
+      let same = a.inverse.long in
+      let within : place < length positions = omega arith in
+      (omega arith, sym (get_or-map (use_at bounds) positions place 0 old within) ∙ get_or_from_slice_get zones place old old at)
+
+  pub number_here : (k : ℕ) → slice_get zones place ≡ Some (numbered k) → number_at bounds (get_or positions place 0) ≡ k
+  number_here k at = zone_number bounds (get_or positions place 0) k (zone_here (numbered k) at).1
+
+  pub bound_some : (k : ℕ) → k < 9 → slice_get zones place ≡ Some (numbered k) → 1 ≤ get_or bounds k 0
+  bound_some k few at =
+      let from = get_or positions place 0 in
+      let number = number_here k at in
+      let long = a.bounded in
+      let below : from < get_or bounds k 0 = subst (λ n. from < get_or bounds n 0) number (number_below bounds from (omega arith)) in
+      omega arith
+
+  -- a move to the bound at a number, which shifts past it
+  pub record IsStep (k to bound : ℕ) (zone : SlotUse) : Type 0 where
+    pub here : place < length order
+    pub there : to < length order
+    pub arranged : IsArranged (moved_order order positions place to) (moved_positions order positions place to) (set bounds k bound)
+    pub same : map (use_at (set bounds k bound)) (moved_positions order positions place to) ≡ set zones place zone
+
+  step_from : (k to bound : ℕ) (old zone : SlotUse) → slice_get zones place ≡ Some old → k < 10 → (lp : place < length order) (lt : to < length order)
+      → map (use_at (set bounds k bound)) (moved_positions order positions place to) ≡ set zones place zone
+      → ((i : ℕ) → i < k → get_or bounds i 0 ≤ bound) → ((j : ℕ) → k < j → j < 10 → bound ≤ get_or bounds j 0) → bound ≤ length order
+      → get_or (set bounds k bound) 0 0 + cond (is_free_use old) 1 0 ≡ get_or bounds 0 0 + cond (is_free_use zone) 1 0
+      → IsStep k to bound zone
+  step_from k to bound old zone at lk lp lt same low high most count =
+      let long = length_order order positions place to a.inverse lp lt in
+      record {
+        here = lp;
+        there = lt;
+        arranged = record {
+          inverse = inverse_moved order positions place to a.inverse lp lt;
+          few = let f = a.few in omega arith;
+          bounded = length-set bounds k bound ∙ a.bounded;
+          ascending = ascending_set bounds k bound a.bounded lk low high a.ascending;
+          inside = inside_set bounds k bound _ a.bounded lk (omega arith) (λ i l. let f = a.inside i l in omega arith);
+          counted = ap (count_by is_free_use) same ∙ (let e = count_set is_free_use zones place old zone at in let f = a.counted in omega arith);
+        };
+        same = same;
+      }
+
+  -- a place goes down, ..
+  pub lowers : (k : ℕ) → k < 9 → slice_get zones place ≡ Some (numbered (suc k)) → IsStep k (get_or bounds k 0) (get_or bounds k 0 + 1) (numbered k)
+  lowers k few at =
+      let lp = (zone_here (numbered (suc k)) at).0 in
+      let from = get_or positions place 0 in
+      let number = number_here (suc k) at in
+      let long = a.bounded in
+      let past : get_or bounds k 0 ≤ from = number_past bounds from k (omega arith) in
+      let below : from < get_or bounds (suc k) 0 = subst (λ n. from < get_or bounds n 0) number (number_below bounds from (omega arith)) in
+      let within = a.inverse.within place lp in
+      let lt : get_or bounds k 0 < length order = omega arith in
+      step_from k (get_or bounds k 0) (get_or bounds k 0 + 1) (numbered (suc k)) (numbered k) at (omega arith) lp lt
+      (zones_moved order positions place (get_or bounds k 0) a.inverse lp lt bounds (set bounds k (get_or bounds k 0 + 1)) (numbered k)
+      (ap numbered (number_is (set bounds k (get_or bounds k 0 + 1)) (get_or bounds k 0) k (let e = length-set bounds k (get_or bounds k 0 + 1) in omega arith)
+      (λ j l. let e = get_or-set_other bounds k j (get_or bounds k 0 + 1) 0 (λ s. absurd (omega arith)) in let f = a.ascending j k (omega arith) (omega arith) in omega arith)
+      (let e = get_or-set_same bounds k (get_or bounds k 0 + 1) 0 (omega arith) in omega arith)))
+      (λ n. ap numbered (number_kept bounds k (get_or bounds k 0 + 1) from (beside from n) ∙ number ∙ sym (number_is bounds (get_or bounds k 0) (suc k) (omega arith) (λ j l. a.ascending j k (omega arith) (omega arith)) (omega arith))))
+      (λ x m n. ap numbered (number_kept bounds k (get_or bounds k 0 + 1) x (beside x n))))
+      (λ i l. let f = a.ascending i k (omega arith) (omega arith) in omega arith)
+      (λ j l m. let f = a.ascending (suc k) j (omega arith) m in omega arith)
+      (omega arith)
+      (lower_counted bounds k (omega arith))
+    where
+      beside : (x : ℕ) → x ≢ get_or bounds k 0 → nat_lt x (get_or bounds k 0 + 1) ≡ nat_lt x (get_or bounds k 0)
+      beside x n = go (nat_lt x (get_or bounds k 0)) refl
+        where
+          go : (b : Bool) → nat_lt x (get_or bounds k 0) ≡ b → nat_lt x (get_or bounds k 0 + 1) ≡ b
+          go true e = let l = ltb-true _ _ e in lt-ltb x (get_or bounds k 0 + 1) (omega arith)
+          go false e = let l = ltb-false _ _ e in le-ltb x (get_or bounds k 0 + 1) (omega arith)
+
+  -- .. or up.
+  pub raises : (k : ℕ) → k < 9 → slice_get zones place ≡ Some (numbered k) → IsStep k (get_or bounds k 0 - 1) (get_or bounds k 0 - 1) (numbered (suc k))
+  raises k few at =
+      let lp = (zone_here (numbered k) at).0 in
+      let from = get_or positions place 0 in
+      let number = number_here k at in
+      let long = a.bounded in
+      let below : from < get_or bounds k 0 = subst (λ n. from < get_or bounds n 0) number (number_below bounds from (omega arith)) in
+      let room = a.inside k (omega arith) in
+      let next = a.ascending k (suc k) (omega arith) (omega arith) in
+      let to = get_or bounds k 0 - 1 in
+      let lt : get_or bounds k 0 - 1 < length order = omega arith in
+      step_from k to to (numbered k) (numbered (suc k)) at (omega arith) lp lt
+      (zones_moved order positions place to a.inverse lp lt bounds (set bounds k to) (numbered (suc k))
+      (ap numbered (number_is (set bounds k to) to (suc k) (let e = length-set bounds k to in omega arith)
+      (λ j l. ⊎_elim
+      (λ (e : j ≡ k). let f = ap (λ n. get_or (set bounds k to) n 0) e in let g = get_or-set_same bounds k to 0 (omega arith) in omega arith)
+      (λ (n : j ≡ k → ⊥). let e = get_or-set_other bounds k j to 0 n in let f = past from number j (omega arith) in omega arith)
+      (cases_eq j k))
+      (let e = get_or-set_other bounds k (suc k) to 0 (λ s. absurd (omega arith)) in omega arith)))
+      (λ n. ap numbered (number_kept bounds k to from (beside below from n) ∙ number ∙ sym (number_is bounds to k (omega arith) (λ j l. let f = past from number j l in omega arith) (omega arith))))
+      (λ x m n. ap numbered (number_kept bounds k to x (beside below x n))))
+      (λ i l. let f = past from number i l in omega arith)
+      (λ j l m. let f = a.ascending k j (omega arith) m in omega arith)
+      (omega arith)
+      (raise_counted bounds k (omega arith) (omega arith))
+    where
+      past : (x : ℕ) → number_at bounds x ≡ k → (j : ℕ) → j < k → get_or bounds j 0 ≤ x
+      past x number j l = number_past bounds x j (omega arith)
+
+      beside : get_or positions place 0 < get_or bounds k 0 → (x : ℕ) → x ≢ get_or bounds k 0 - 1 → nat_lt x (get_or bounds k 0 - 1) ≡ nat_lt x (get_or bounds k 0)
+      beside some x n = go (nat_lt x (get_or bounds k 0)) refl
+        where
+          go : (b : Bool) → nat_lt x (get_or bounds k 0) ≡ b → nat_lt x (get_or bounds k 0 - 1) ≡ b
+          go true e = let l = ltb-true _ _ e in lt-ltb x (get_or bounds k 0 - 1) (omega arith)
+          go false e = let l = ltb-false _ _ e in le-ltb x (get_or bounds k 0 - 1) (omega arith)
+
+pub arranged_same : (order order_too positions positions_too bounds bounds_too : List ℕ) → order ≡ order_too → positions ≡ positions_too → bounds ≡ bounds_too → IsArranged order_too positions_too bounds_too → IsArranged order positions bounds
+arranged_same order order_too positions positions_too bounds bounds_too p q r h =
+    subst (λ l. IsArranged l positions bounds) (sym p) (subst (λ l. IsArranged order_too l bounds) (sym q) (subst (IsArranged order_too positions_too) (sym r) h))
+
+-- A write of what is there.
+pub set_same : {X : Type 0} (xs : List X) (place : ℕ) (x : X) → slice_get xs place ≡ Some x → set xs place x ≡ xs
+set_same [] place x at = refl
+set_same {X} (y ∷ xs) zero x at = let same : y ≡ x = cc in ap (λ (z : X). z ∷ xs) (sym same)
+set_same {X} (y ∷ xs) (suc place) x at = ap (λ (l : List X). y ∷ l) (set_same xs place x at)

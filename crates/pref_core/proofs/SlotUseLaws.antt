@@ -1,0 +1,139 @@
+-- The zones of slots, and how many are free.
+use Rattle.pref_core.proofs.Common.{◌≡◌, ℕ, zero, suc, ◌+◌, ◌<◌, Bool, true, false, not, ◌&&◌, ◌||◌, cond, eqb, List, [], ◌∷◌, map, length, Option, Some, None, slice_get, is_some, refl, sym, ap}
+use Rattle.pref_core.proofs.Common.{◌∙◌, subst, arith, count_by, cons_option, AllByRecursion, option_to_list, sum_by-cons, le-leb, and_parts, or_right, Version, Caller, Ended, Line, among, has}
+use Rattle.pref_core.proofs.Common.{is_visible, seen, visible, line, is_needed, begins, IsWithin, EndsBy, close, close_at, is_free, is_free_use, free_at, kept_from, use_of, is_spare, row_at}
+use Rattle.pref_core.proofs.NeededCounts.{is_needed-empty}
+
+pub count_by-cons : {X : Type 0} (p : X → Bool) (x : X) (xs : List X) → count_by p (x ∷ xs) ≡ cond (p x) 1 0 + count_by p xs
+count_by-cons p x xs = sum_by-cons (λ y. cond (p y) 1 0) x xs
+
+pub holds_there : {X : Type 0} (P : X → Type 0) (xs : List X) (k : ℕ) (x : X) → slice_get xs k ≡ Some x → AllByRecursion P xs → P x
+holds_there P [] k x at h = absurd (cc)
+holds_there P (y ∷ xs) zero x at h = let same : y ≡ x = cc in subst P same h.0
+holds_there P (y ∷ xs) (suc k) x at h = holds_there P xs k x at h.1
+
+-- A slot is needed where the first caller's begin sees it, or another one's.
+pub needed_cons : (caller : Caller) (callers : List Caller) (slot : Option Version) → is_needed (begins (caller ∷ callers)) slot ≡ (is_needed (option_to_list caller.at_begin) slot || is_needed (begins callers) slot)
+needed_cons caller callers slot = go caller.at_begin
+  where
+    either : (b c : Bool) → (b || c) ≡ ((b || false) || c)
+    either true c = refl
+    either false c = refl
+
+    go : (b : Option ℕ) → is_needed (cons_option b (begins callers)) slot ≡ (is_needed (option_to_list b) slot || is_needed (begins callers) slot)
+    go None = refl
+    go (Some stamp) = either (is_some (seen stamp slot)) (is_needed (begins callers) slot)
+
+kept_spare : (keeper : ℕ) (callers : List Caller) (slot : Option Version) → is_free_use (kept_from keeper callers slot) ≡ not (is_needed (begins callers) slot)
+kept_spare keeper [] slot = refl
+kept_spare keeper (caller ∷ callers) slot = go (is_needed (option_to_list caller.at_begin) slot) (kept_spare (suc keeper) callers slot) ∙ sym (ap not (needed_cons caller callers slot))
+  where
+    go : (b : Bool) → is_free_use (kept_from (suc keeper) callers slot) ≡ not (is_needed (begins callers) slot) → is_free_use (cond b (Ended keeper) (kept_from (suc keeper) callers slot)) ≡ not (b || is_needed (begins callers) slot)
+    go true e = refl
+    go false e = e
+
+-- A slot is free by the callers where it is by their begins.
+pub spare_zone : (callers : List Caller) (slot : Option Version) → is_free_use (use_of callers slot) ≡ is_spare (begins callers) slot
+spare_zone callers None = refl
+spare_zone callers (Some version) = at_death version.death
+  where
+    at_death : (death : Option ℕ) → is_free_use (use_of callers (Some (record version { death = death }))) ≡ is_spare (begins callers) (Some (record version { death = death }))
+    at_death None = refl
+    at_death (Some death) = kept_spare 0 callers (Some (record version { death = Some death }))
+
+-- A slot that isn't ahead of the store is needed where it isn't free.
+pub needed_zone : (next now : ℕ) (callers : List Caller) (slot : Option Version) → IsWithin next now slot → is_needed (now ∷ begins callers) slot ≡ not (is_free_use (use_of callers slot))
+needed_zone next now callers slot h = needed slot h ∙ sym (ap not (spare_zone callers slot))
+  where
+    twice : (b : Bool) → b ≡ not (not b)
+    twice true = refl
+    twice false = refl
+
+    needed : (slot : Option Version) → IsWithin next now slot → is_needed (now ∷ begins callers) slot ≡ not (is_spare (begins callers) slot)
+    needed None h = is_needed-empty (begins callers)
+    needed (Some version) h = at_death version.death h.2
+      where
+        at_death : (death : Option ℕ) → EndsBy now death → is_needed (now ∷ begins callers) (Some (record version { death = death })) ≡ not (is_spare (begins callers) (Some (record version { death = death })))
+        at_death None ends = rw (le-leb version.birth now h.1) refl
+        at_death (Some death) ends = rw (le-leb version.birth now h.1, le-leb death now ends) (twice (is_needed (begins callers) (Some (record version { death = Some death }))))
+
+-- The slots that are needed, and those that are free, are all.
+pub used_zones : (next now : ℕ) (callers : List Caller) (slots : List (Option Version)) → AllByRecursion (IsWithin next now) slots → count_by (is_needed (now ∷ begins callers)) slots + count_by is_free_use (map (use_of callers) slots) ≡ length slots
+used_zones next now callers [] h = refl
+used_zones next now callers (slot ∷ slots) h =
+    let a = count_by-cons (is_needed (now ∷ begins callers)) slot slots in
+    let b = count_by-cons is_free_use (use_of callers slot) (map (use_of callers) slots) in
+    let rest = used_zones next now callers slots h.1 in
+    let here = one in
+    omega arith
+  where
+    either : (b : Bool) → cond (not b) 1 0 + cond b 1 0 ≡ 1
+    either true = refl
+    either false = refl
+
+    one : cond (is_needed (now ∷ begins callers) slot) 1 0 + cond (is_free_use (use_of callers slot)) 1 0 ≡ 1
+    one = ap (λ b. cond b 1 0 + cond (is_free_use (use_of callers slot)) 1 0) (needed_zone next now callers slot h.0) ∙ either (is_free_use (use_of callers slot))
+
+-- A place is free by its slot where it is by its zone.
+pub free_zone : (next now : ℕ) (callers : List Caller) (slots : List (Option Version)) (place : ℕ) → AllByRecursion (IsWithin next now) slots → is_free (now ∷ begins callers) slots place ≡ free_at (map (use_of callers) slots) place
+free_zone next now callers [] place h = refl
+free_zone next now callers (slot ∷ slots) zero h = ap not (needed_zone next now callers slot h.0) ∙ twice (is_free_use (use_of callers slot))
+  where
+    twice : (b : Bool) → not (not b) ≡ b
+    twice true = refl
+    twice false = refl
+free_zone next now callers (slot ∷ slots) (suc place) h = free_zone next now callers slots place h.1
+
+-- Whether the slot holds a row of one of these ids that hasn't ended.
+abbrev pub live_by : List ℕ → ℕ → Option ℕ → Bool
+live_by ids id None = among ids id
+live_by ids id (Some death) = false
+
+abbrev pub live : List ℕ → Option Version → Bool
+live ids None = false
+live ids (Some version) = live_by ids version.id version.death
+
+pub one_no : (b : Bool) → b ≡ false → ◌≡◌ {A = ℕ} (cond b 1 0) 0
+one_no b e = ap (λ t. cond t 1 0) e
+
+pub close_idle : (ids : List ℕ) (made : ℕ) (slot : Option Version) → live ids slot ≡ false → close ids made slot ≡ slot
+close_idle ids made None h = refl
+close_idle ids made (Some version) h = at_death version.death h
+  where
+    at_death : (death : Option ℕ) → live_by ids version.id death ≡ false → ◌≡◌ {A = Option Version} (Some (record version { death = close_at made (among ids version.id) death })) (Some (record version { death = death }))
+    at_death (Some death) h = refl
+    at_death None h = ap (λ b. Some (record version { death = close_at made b None })) h
+
+-- A place that shows an id's row is in the table.
+pub has_row_at : (stamp id : ℕ) (slots : List (Option Version)) (place : ℕ) → row_at stamp id slots place ≡ true → has (visible stamp slots) id ≡ true
+has_row_at stamp id [] place h = absurd (cc)
+has_row_at stamp id (None ∷ slots) zero h = absurd (cc)
+has_row_at stamp id (Some version ∷ slots) zero h =
+    let parts = and_parts (eqb version.id id) (is_visible stamp version) h in
+    rw (parts.1, parts.0) refl
+has_row_at stamp id (slot ∷ slots) (suc place) h = more (seen stamp slot) (has_row_at stamp id slots place h)
+  where
+    more : (s : Option Line) → has (visible stamp slots) id ≡ true → has (cons_option s (visible stamp slots)) id ≡ true
+    more None e = e
+    more (Some shown) e = or_right (eqb shown.id id) (has (visible stamp slots) id) e
+
+-- A slot that shows a row holds a version.
+pub row_version : (stamp id : ℕ) (slots : List (Option Version)) (place : ℕ) → row_at stamp id slots place ≡ true → (version : Version) × (slice_get slots place ≡ Some (Some version))
+row_version stamp id [] place at = absurd (cc)
+row_version stamp id (None ∷ slots) zero at = absurd (cc)
+row_version stamp id (Some version ∷ slots) zero at = (version, refl)
+row_version stamp id (slot ∷ slots) (suc place) at = row_version stamp id slots place at
+
+-- Where no place shows the id's row it isn't in the table.
+pub has_nowhere : (stamp id : ℕ) (slots : List (Option Version)) → ((k : ℕ) → k < length slots → row_at stamp id slots k ≡ false) → has (visible stamp slots) id ≡ false
+has_nowhere stamp id [] h = refl
+has_nowhere stamp id (None ∷ slots) h = has_nowhere stamp id slots (λ k l. h (suc k) (omega arith))
+has_nowhere stamp id (Some version ∷ slots) h = first (is_visible stamp version) (h zero (omega arith)) (has_nowhere stamp id slots (λ k l. h (suc k) (omega arith)))
+  where
+    first : (b : Bool) → (eqb version.id id && b) ≡ false → has (visible stamp slots) id ≡ false → has (cons_option (cond b (Some (line version)) None) (visible stamp slots)) id ≡ false
+    first false e rest = rest
+    first true e rest = apart (eqb version.id id) e
+      where
+        apart : (b : Bool) → (b && true) ≡ false → (b || has (visible stamp slots) id) ≡ false
+        apart true e = absurd (cc)
+        apart false e = rest

@@ -1,0 +1,173 @@
+-- Slots for all rows that a commit begins: there are some exactly where the needed versions fit, and they can be chosen one after the other, in any way.
+use Rattle.pref_core.proofs.Common.{◌≡◌, ℕ, zero, suc, ◌+◌, ◌<◌, ◌≤◌, Bool, true, false, not, ◌||◌, cond, eqb, List, [], ◌∷◌, ◌++◌, map, length, Option, Some, None, is_some, slice_get, slice_set}
+use Rattle.pref_core.proofs.Common.{refl, sym, ap, ◌∙◌, arith, ⊎_elim, count_by, list_any, sum_by-cons, count_by-le-length, or_parts, or_cases, eqb-true, eqb-false, Version, Entry, among}
+use Rattle.pref_core.proofs.Common.{is_needed, seen, new_version, is_free, filled}
+use Rattle.pref_core.proofs.VisibleLaws.{seen_born}
+use Rattle.pref_core.proofs.SlotReuse.{IsFree-from}
+use Rattle.pref_core.proofs.StabilityLaws.{slice_get-set_same, slice_get-set_other}
+use Rattle.pref_core.proofs.BoundsLaws.{length-filled}
+
+count_by-cons : {X : Type 0} (p : X → Bool) (x : X) (xs : List X) → count_by p (x ∷ xs) ≡ cond (p x) 1 0 + count_by p xs
+count_by-cons p x xs = sum_by-cons (λ y. cond (p y) 1 0) x xs
+
+one_of : (b : Bool) → b ≡ true → ◌≡◌ {A = ℕ} (cond b 1 0) 1
+one_of b e = ap (λ t. cond t 1 0) e
+
+none_of : (b : Bool) → b ≡ false → ◌≡◌ {A = ℕ} (cond b 1 0) 0
+none_of b e = ap (λ t. cond t 1 0) e
+
+count_by_set : {X : Type 0} (p : X → Bool) (xs : List X) (k : ℕ) (old new : X) → slice_get xs k ≡ Some old → p old ≡ false → p new ≡ true → count_by p (slice_set xs k new) ≡ suc (count_by p xs)
+count_by_set p [] k old new at off on = absurd (cc)
+count_by_set p (x ∷ xs) zero old new at off on =
+    let same : x ≡ old = cc in
+    let a = count_by-cons p new xs in
+    let b = count_by-cons p x xs in
+    let c = one_of (p new) on in
+    let d = none_of (p x) (ap p same ∙ off) in
+    omega arith
+count_by_set p (x ∷ xs) (suc k) old new at off on =
+    let a = count_by-cons p x (slice_set xs k new) in
+    let b = count_by-cons p x xs in
+    let rest = count_by_set p xs k old new at off on in
+    omega arith
+
+-- a new version is needed at its birth
+pub born_needed : (made : ℕ) (ns : List ℕ) (entry : Entry) → is_needed (made ∷ ns) (new_version made entry) ≡ true
+born_needed made ns entry = ap (λ s. is_some s || list_any (λ n. is_some (seen n (new_version made entry))) ns) (seen_born made entry)
+
+-- as many more are needed as rows begin
+pub filled_needs : (made : ℕ) (ns places : List ℕ) (begun : List Entry) (slots after : List (Option Version)) → filled (made ∷ ns) made places begun slots ≡ Some after
+    → count_by (is_needed (made ∷ ns)) after ≡ count_by (is_needed (made ∷ ns)) slots + length begun
+filled_needs made ns [] [] slots after e = let same : slots ≡ after = cc in let is = ap (count_by (is_needed (made ∷ ns))) same in omega arith
+filled_needs made ns (place ∷ places) (fresh ∷ rest) slots after e =
+    go (is_free (made ∷ ns) slots place) refl e (filled_needs made ns places rest (slice_set slots place (new_version made fresh)) after)
+  where
+    go : (b : Bool) → is_free (made ∷ ns) slots place ≡ b → cond b (filled (made ∷ ns) made places rest (slice_set slots place (new_version made fresh))) None ≡ Some after
+        → (filled (made ∷ ns) made places rest (slice_set slots place (new_version made fresh)) ≡ Some after → count_by (is_needed (made ∷ ns)) after ≡ count_by (is_needed (made ∷ ns)) (slice_set slots place (new_version made fresh)) + length rest)
+        → count_by (is_needed (made ∷ ns)) after ≡ count_by (is_needed (made ∷ ns)) slots + suc (length rest)
+    go false f e more = absurd (cc)
+    go true f e more =
+        let free = IsFree-from (made ∷ ns) slots place f in
+        let one = count_by_set (is_needed (made ∷ ns)) slots place free.old (new_version made fresh) free.at free.unneeded (born_needed made ns fresh) in
+        let all = more e in
+        omega arith
+filled_needs made ns [] (fresh ∷ rest) slots after e = absurd (cc)
+filled_needs made ns (place ∷ places) [] slots after e = absurd (cc)
+
+-- .. so they fit where there are slots
+pub filled_fits : (made : ℕ) (ns places : List ℕ) (begun : List Entry) (slots after : List (Option Version)) → filled (made ∷ ns) made places begun slots ≡ Some after
+    → count_by (is_needed (made ∷ ns)) slots + length begun ≤ length slots
+filled_fits made ns places begun slots after e =
+    let a = filled_needs made ns places begun slots after e in
+    let b = count_by-le-length (is_needed (made ∷ ns)) after in
+    let c = length-filled (made ∷ ns) made places begun slots after e in
+    omega arith
+
+-- one place more
+pub filled_snoc : (ns : List ℕ) (made : ℕ) (places : List ℕ) (begun : List Entry) (slots now : List (Option Version)) (place : ℕ) (fresh : Entry) → filled ns made places begun slots ≡ Some now → is_free ns now place ≡ true
+    → filled ns made (places ++ place ∷ []) (begun ++ fresh ∷ []) slots ≡ Some (slice_set now place (new_version made fresh))
+filled_snoc ns made [] [] slots now place fresh e f =
+    let same : slots ≡ now = cc in
+    ap (λ b. cond b (Some (slice_set slots place (new_version made fresh))) None) (ap (λ l. is_free ns l place) same ∙ f) ∙ ap (λ l. Some (slice_set l place (new_version made fresh))) same
+filled_snoc ns made (first ∷ places) (entry ∷ rest) slots now place fresh e f =
+    go (is_free ns slots first) e (λ h. filled_snoc ns made places rest (slice_set slots first (new_version made entry)) now place fresh h f)
+  where
+    go : (b : Bool) → cond b (filled ns made places rest (slice_set slots first (new_version made entry))) None ≡ Some now
+        → (filled ns made places rest (slice_set slots first (new_version made entry)) ≡ Some now → filled ns made (places ++ place ∷ []) (rest ++ fresh ∷ []) (slice_set slots first (new_version made entry)) ≡ Some (slice_set now place (new_version made fresh)))
+        → cond b (filled ns made (places ++ place ∷ []) (rest ++ fresh ∷ []) (slice_set slots first (new_version made entry))) None ≡ Some (slice_set now place (new_version made fresh))
+    go false e more = absurd (cc)
+    go true e more = more e
+filled_snoc ns made [] (entry ∷ rest) slots now place fresh e f = absurd (cc)
+filled_snoc ns made (first ∷ places) [] slots now place fresh e f = absurd (cc)
+
+free_other : (ns : List ℕ) (slots : List (Option Version)) (place other : ℕ) (new : Option Version) → (place ≡ other → ⊥) → is_free ns (slice_set slots other new) place ≡ is_free ns slots place
+free_other ns slots place other new n = ap (λ (o : Option (Option Version)). elim o as (λ x. Bool) [ None ↦ false | Some slot ↦ not (is_needed ns slot) ]) (slice_get-set_other slots place other new n)
+
+-- a place that no row took is as free as before
+pub free_still : (ns : List ℕ) (made : ℕ) (places : List ℕ) (begun : List Entry) (slots now : List (Option Version)) (place : ℕ) → filled ns made places begun slots ≡ Some now → among places place ≡ false → is_free ns now place ≡ is_free ns slots place
+free_still ns made [] [] slots now place e a = let same : slots ≡ now = cc in ap (λ l. is_free ns l place) (sym same)
+free_still ns made (first ∷ places) (entry ∷ rest) slots now place e a =
+    let parts = or_parts (eqb first place) (among places place) a in
+    go (is_free ns slots first) e (λ h. free_still ns made places rest (slice_set slots first (new_version made entry)) now place h parts.1) (λ same. eqb-false first place parts.0 (sym same))
+  where
+    go : (b : Bool) → cond b (filled ns made places rest (slice_set slots first (new_version made entry))) None ≡ Some now
+        → (filled ns made places rest (slice_set slots first (new_version made entry)) ≡ Some now → is_free ns now place ≡ is_free ns (slice_set slots first (new_version made entry)) place)
+        → (place ≡ first → ⊥) → is_free ns now place ≡ is_free ns slots place
+    go false e more apart = absurd (cc)
+    go true e more apart = more e ∙ free_other ns slots place first (new_version made entry) apart
+free_still ns made [] (entry ∷ rest) slots now place e a = absurd (cc)
+free_still ns made (first ∷ places) [] slots now place e a = absurd (cc)
+
+-- one that wasn't free isn't
+pub not_freed : (ns : List ℕ) (made : ℕ) (places : List ℕ) (begun : List Entry) (slots now : List (Option Version)) (place : ℕ) → filled ns made places begun slots ≡ Some now → is_free ns slots place ≡ false → is_free ns now place ≡ false
+not_freed ns made [] [] slots now place e n = let same : slots ≡ now = cc in ap (λ l. is_free ns l place) (sym same) ∙ n
+not_freed ns made (first ∷ places) (entry ∷ rest) slots now place e n =
+    go (is_free ns slots first) refl e (not_freed ns made places rest (slice_set slots first (new_version made entry)) now place)
+  where
+    go : (b : Bool) → is_free ns slots first ≡ b → cond b (filled ns made places rest (slice_set slots first (new_version made entry))) None ≡ Some now
+        → (filled ns made places rest (slice_set slots first (new_version made entry)) ≡ Some now → is_free ns (slice_set slots first (new_version made entry)) place ≡ false → is_free ns now place ≡ false)
+        → is_free ns now place ≡ false
+    go false f e more = absurd (cc)
+    go true f e more =
+        let apart : place ≡ first → ⊥ = λ same. let both : false ≡ true = sym n ∙ ap (is_free ns slots) same ∙ f in cc in
+        more e (free_other ns slots place first (new_version made entry) apart ∙ n)
+not_freed ns made [] (entry ∷ rest) slots now place e n = absurd (cc)
+not_freed ns made (first ∷ places) [] slots now place e n = absurd (cc)
+
+-- one that a row took isn't
+pub taken : (made : ℕ) (ns places : List ℕ) (begun : List Entry) (slots now : List (Option Version)) (place : ℕ) → filled (made ∷ ns) made places begun slots ≡ Some now → among places place ≡ true → is_free (made ∷ ns) now place ≡ false
+taken made ns [] [] slots now place e a = absurd (cc)
+taken made ns (first ∷ places) (entry ∷ rest) slots now place e a =
+    go (is_free (made ∷ ns) slots first) refl e (λ h t. taken made ns places rest (slice_set slots first (new_version made entry)) now place h t)
+  where
+    here : is_free (made ∷ ns) slots first ≡ true → is_free (made ∷ ns) (slice_set slots first (new_version made entry)) first ≡ false
+    here f =
+        let free = IsFree-from (made ∷ ns) slots first f in
+        ap (λ (o : Option (Option Version)). elim o as (λ x. Bool) [ None ↦ false | Some slot ↦ not (is_needed (made ∷ ns) slot) ]) (slice_get-set_same slots first free.old (new_version made entry) free.at)
+        ∙ ap not (born_needed made ns entry)
+
+    go : (b : Bool) → is_free (made ∷ ns) slots first ≡ b → cond b (filled (made ∷ ns) made places rest (slice_set slots first (new_version made entry))) None ≡ Some now
+        → (filled (made ∷ ns) made places rest (slice_set slots first (new_version made entry)) ≡ Some now → among places place ≡ true → is_free (made ∷ ns) now place ≡ false)
+        → is_free (made ∷ ns) now place ≡ false
+    go false f e more = absurd (cc)
+    go true f e more = ⊎_elim
+        (λ (t : eqb first place ≡ true). let same : first ≡ place = eqb-true first place t in not_freed (made ∷ ns) made places rest (slice_set slots first (new_version made entry)) now place e (ap (is_free (made ∷ ns) (slice_set slots first (new_version made entry))) (sym same) ∙ here f))
+        (more e)
+        (or_cases (eqb first place) (among places place) a)
+taken made ns [] (entry ∷ rest) slots now place e a = absurd (cc)
+taken made ns (first ∷ places) [] slots now place e a = absurd (cc)
+
+-- where no place is free all are needed
+pub all_needed : (ns : List ℕ) (slots : List (Option Version)) → ((place : ℕ) → is_free ns slots place ≡ false) → count_by (is_needed ns) slots ≡ length slots
+all_needed ns [] h = refl
+all_needed ns (slot ∷ slots) h =
+    let rest = all_needed ns slots (λ place. h (suc place)) in
+    let a = count_by-cons (is_needed ns) slot slots in
+    let b = one_of (is_needed ns slot) (back (is_needed ns slot) (h zero)) in
+    omega arith
+  where
+    back : (b : Bool) → not b ≡ false → b ≡ true
+    back true e = refl
+    back false e = absurd (cc)
+
+-- As long as rows are left that fit, some free place is not among those chosen so far: whoever looks at each place that was free finds one.
+pub some_left : (made : ℕ) (ns places : List ℕ) (begun : List Entry) (slots now : List (Option Version)) → filled (made ∷ ns) made places begun slots ≡ Some now
+    → count_by (is_needed (made ∷ ns)) slots + length begun < length slots → ((place : ℕ) → is_free (made ∷ ns) slots place ≡ true → among places place ≡ true) → ⊥
+some_left made ns places begun slots now e fits chosen =
+    let full = all_needed (made ∷ ns) now (λ place. each place (is_free (made ∷ ns) slots place) refl) in
+    let a = filled_needs made ns places begun slots now e in
+    let b = length-filled (made ∷ ns) made places begun slots now e in
+    omega arith
+  where
+    each : (place : ℕ) (b : Bool) → is_free (made ∷ ns) slots place ≡ b → is_free (made ∷ ns) now place ≡ false
+    each place true f = taken made ns places begun slots now place e (chosen place f)
+    each place false f = not_freed (made ∷ ns) made places begun slots now place e f
+
+-- the needed versions once these rows have begun, had they always room
+pub count_grown : (made : ℕ) (ns : List ℕ) (begun : List Entry) (slots : List (Option Version)) → count_by (is_needed (made ∷ ns)) (map (new_version made) begun ++ slots) ≡ count_by (is_needed (made ∷ ns)) slots + length begun
+count_grown made ns [] slots = omega arith
+count_grown made ns (fresh ∷ rest) slots =
+    let a = count_by-cons (is_needed (made ∷ ns)) (new_version made fresh) (map (new_version made) rest ++ slots) in
+    let b = one_of (is_needed (made ∷ ns) (new_version made fresh)) (born_needed made ns fresh) in
+    let more = count_grown made ns rest slots in
+    omega arith

@@ -1,0 +1,205 @@
+-- What an open query was shown at its begin stays, though slots are used again.
+use Rattle.pref_core.proofs.Common.{◌≡◌, ℕ, zero, suc, ◌+◌, ◌*◌, ◌<◌, ◌≤◌, Bool, true, false, ◌&&◌, cond, nat_lt, ◌^◌, List, [], ◌∷◌, map, take, drop, Option, Some, None, is_some, slice_get}
+use Rattle.pref_core.proofs.Common.{slice_set, refl, sym, ap, ap₂, ◌∙◌, subst, arith, ⊎_elim, AllByRecursion, filter_map, cons_option, take-map, drop-map, cases_eq, eq-eqb, Version, Caller, Call}
+use Rattle.pref_core.proofs.Common.{Insert, Update, Delete, Commit, Begin, Finish, Abandon, QueryOpen, Spent, Op, Line, Entry, seat, with_seat, is_change, ended, begun, added, succeeds, refusal_of}
+use Rattle.pref_core.proofs.Common.{Contents, seen, visible, begins, stamps, caller_begun, caller_calls, block_of, new_version, close, is_free, filled, refusal_at, begin_after, callers_after, is_next}
+use Rattle.pref_core.proofs.Common.{slots_after, stepped, applied, ran, is_end, ends_query, IsStable}
+use Rattle.pref_core.proofs.VisibleLaws.{seen_close-before, seen_born-before}
+use Rattle.pref_core.proofs.StandsForLaws.{hidden_unneeded}
+use Rattle.pref_core.proofs.SlotReuse.{IsFree-from}
+use Rattle.pref_core.proofs.AppliedLaws.{IsAllowed-from}
+
+-- what each slot shows at a stamp
+abbrev pub shown : ℕ → List (Option Version) → List (Option Line)
+shown stamp slots = map (seen stamp) slots
+
+-- a block shows what its slots show
+pub visible_shown : (stamp : ℕ) (slots : List (Option Version)) → visible stamp slots ≡ filter_map (λ s. s) (shown stamp slots)
+visible_shown stamp [] = refl
+visible_shown stamp (slot ∷ slots) = ap (cons_option (seen stamp slot)) (visible_shown stamp slots)
+
+shown_block : (stamp block size : ℕ) (slots : List (Option Version)) → shown stamp (block_of block size slots) ≡ take size (drop (block * size) (shown stamp slots))
+shown_block stamp block size slots = sym (take-map (seen stamp) size (drop (block * size) slots)) ∙ ap (take size) (sym (drop-map (seen stamp) (block * size) slots))
+
+same_block : (stamp block size : ℕ) (before after : List (Option Version)) → shown stamp after ≡ shown stamp before → visible stamp (block_of block size after) ≡ visible stamp (block_of block size before)
+same_block stamp block size before after same =
+    visible_shown stamp (block_of block size after)
+    ∙ ap (filter_map (λ s. s)) (shown_block stamp block size after ∙ ap (λ l. take size (drop (block * size) l)) same ∙ sym (shown_block stamp block size before))
+    ∙ sym (visible_shown stamp (block_of block size before))
+
+shown_close : (ids : List ℕ) (now stamp : ℕ) (slots : List (Option Version)) → stamp ≤ now → shown stamp (map (close ids (suc now)) slots) ≡ shown stamp slots
+shown_close ids now stamp [] l = refl
+shown_close ids now stamp (slot ∷ slots) l = ap₂ ◌∷◌ (seen_close-before ids now stamp slot l) (shown_close ids now stamp slots l)
+
+shown_set : (stamp : ℕ) (slots : List (Option Version)) (place : ℕ) (old new : Option Version) → slice_get slots place ≡ Some old → seen stamp old ≡ seen stamp new → shown stamp (slice_set slots place new) ≡ shown stamp slots
+shown_set stamp [] place old new at same = refl
+shown_set stamp (slot ∷ slots) zero old new at same = let is : slot ≡ old = cc in ap (λ s. s ∷ shown stamp slots) (sym same ∙ ap (seen stamp) (sym is))
+shown_set stamp (slot ∷ slots) (suc place) old new at same = ap (λ l. seen stamp slot ∷ l) (shown_set stamp slots place old new at same)
+
+-- the client's begin is one of the begins
+hidden_at : (callers : List Caller) (k : ℕ) (caller : Caller) (stamp : ℕ) (P : ℕ → Type 0) → slice_get callers k ≡ Some caller → caller.at_begin ≡ Some stamp → AllByRecursion P (begins callers) → P stamp
+hidden_at [] k caller stamp P at is h = absurd (cc)
+hidden_at (first ∷ callers) zero caller stamp P at is h =
+    let same : first ≡ caller = cc in
+    let begun : first.at_begin ≡ Some stamp = ap (λ (c : Caller). c.at_begin) same ∙ is in
+    let all : AllByRecursion P (cons_option (Some stamp) (begins callers)) = subst (λ b. AllByRecursion P (cons_option b (begins callers))) begun h in
+    all.0
+hidden_at (first ∷ callers) (suc k) caller stamp P at is h = hidden_at callers k caller stamp P at is (rest first.at_begin h)
+  where
+    rest : (b : Option ℕ) → AllByRecursion P (cons_option b (begins callers)) → AllByRecursion P (begins callers)
+    rest None h = h
+    rest (Some n) h = h.1
+
+begin_hidden : (contents : Contents) (client stamp : ℕ) (P : ℕ → Type 0) → caller_begun contents client ≡ Some stamp → AllByRecursion P (begins contents.callers) → P stamp
+begin_hidden contents zero stamp P e h = absurd (cc)
+begin_hidden contents (suc k) stamp P e h = go (slice_get contents.callers k) refl e
+  where
+    go : (found : Option Caller) → slice_get contents.callers k ≡ found → elim found as (λ x. Option ℕ) [ None ↦ None | Some caller ↦ caller.at_begin ] ≡ Some stamp → P stamp
+    go None at is = absurd (cc)
+    go (Some caller) at is = hidden_at contents.callers k caller stamp P at is h
+
+shown_filled : (contents : Contents) (client stamp made : ℕ) → caller_begun contents client ≡ Some stamp → stamp < made → (now : ℕ) (places : List ℕ) (begun : List Entry) (slots after : List (Option Version))
+    → filled (now ∷ begins contents.callers) made places begun slots ≡ Some after → shown stamp after ≡ shown stamp slots
+shown_filled contents client stamp made is later now [] [] slots after e = let same : slots ≡ after = cc in ap (shown stamp) (sym same)
+shown_filled contents client stamp made is later now (place ∷ places) (fresh ∷ rest) slots after e =
+    go (is_free (now ∷ begins contents.callers) slots place) refl e (shown_filled contents client stamp made is later now places rest (slice_set slots place (new_version made fresh)) after)
+  where
+    go : (b : Bool) → is_free (now ∷ begins contents.callers) slots place ≡ b
+        → cond b (filled (now ∷ begins contents.callers) made places rest (slice_set slots place (new_version made fresh))) None ≡ Some after
+        → (filled (now ∷ begins contents.callers) made places rest (slice_set slots place (new_version made fresh)) ≡ Some after → shown stamp after ≡ shown stamp (slice_set slots place (new_version made fresh)))
+        → shown stamp after ≡ shown stamp slots
+    go false f e more = absurd (cc)
+    go true f e more =
+        let free = IsFree-from (now ∷ begins contents.callers) slots place f in
+        let hidden = hidden_unneeded (now ∷ begins contents.callers) free.old free.unneeded in
+        let none : seen stamp free.old ≡ None = begin_hidden contents client stamp (λ n. seen n free.old ≡ None) is hidden.1 in
+        more e ∙ shown_set stamp slots place free.old (new_version made fresh) free.at (none ∙ sym (seen_born-before stamp made fresh later))
+shown_filled contents client stamp made is later now [] (fresh ∷ rest) slots after e = absurd (cc)
+shown_filled contents client stamp made is later now (place ∷ places) [] slots after e = absurd (cc)
+
+-- the slots after an op show the same at the begin
+pub shown_after : (contents : Contents) (client stamp : ℕ) → caller_begun contents client ≡ Some stamp → stamp ≤ contents.stamp → (op : Op) (slots : List (Option Version)) → slots_after contents op ≡ Some slots → shown stamp slots ≡ shown stamp contents.slots
+shown_after contents client stamp is l op slots fits = go (is_change op.call && succeeds op.outcome) refl
+  where
+    go : (b : Bool) → (is_change op.call && succeeds op.outcome) ≡ b → shown stamp slots ≡ shown stamp contents.slots
+    go true e =
+        shown_filled contents client stamp (suc contents.stamp) is (omega arith) (suc contents.stamp) op.slots (begun contents.next_id op.call) (map (close (ended op.call) (suc contents.stamp)) contents.slots) slots (rw e at fits)
+        ∙ shown_close (ended op.call) contents.stamp stamp contents.slots l
+    go false e = quiet op.slots (rw e at fits)
+      where
+        quiet : (places : List ℕ) → filled (stamps contents) contents.stamp places [] contents.slots ≡ Some slots → shown stamp slots ≡ shown stamp contents.slots
+        quiet [] f = let same : contents.slots ≡ slots = cc in ap (shown stamp) (sym same)
+        quiet (place ∷ places) f = absurd (cc)
+
+pub slice_get-set_same : {X : Type 0} (xs : List X) (k : ℕ) (x y : X) → slice_get xs k ≡ Some x → slice_get (slice_set xs k y) k ≡ Some y
+slice_get-set_same [] k x y h = absurd (cc)
+slice_get-set_same (z ∷ xs) zero x y h = refl
+slice_get-set_same (z ∷ xs) (suc k) x y h = slice_get-set_same xs k x y h
+
+pub slice_get-set_other : {X : Type 0} (xs : List X) (k j : ℕ) (y : X) → (k ≡ j → ⊥) → slice_get (slice_set xs j y) k ≡ slice_get xs k
+slice_get-set_other [] k j y n = refl
+slice_get-set_other (z ∷ xs) zero zero y n = absurd (n refl)
+slice_get-set_other (z ∷ xs) zero (suc j) y n = refl
+slice_get-set_other (z ∷ xs) (suc k) zero y n = refl
+slice_get-set_other (z ∷ xs) (suc k) (suc j) y n = slice_get-set_other xs k j y (λ e. n (ap suc e))
+
+pub seat-with_seat_same : {X : Type 0} (xs : List X) (client : ℕ) (x y : X) → seat client xs ≡ Some x → seat client (with_seat client y xs) ≡ Some y
+seat-with_seat_same xs zero x y h = absurd (cc)
+seat-with_seat_same xs (suc k) x y h = slice_get-set_same xs k x y h
+
+pub seat-with_seat_other : {X : Type 0} (xs : List X) (client other : ℕ) (y : X) → (client ≡ other → ⊥) → seat client (with_seat other y xs) ≡ seat client xs
+seat-with_seat_other xs zero zero y n = absurd (n refl)
+seat-with_seat_other xs zero (suc j) y n = refl
+seat-with_seat_other xs (suc k) zero y n = refl
+seat-with_seat_other xs (suc k) (suc j) y n = slice_get-set_other xs k j y (λ e. n (ap suc e))
+
+abbrev pub begun_at : Option Caller → Option ℕ
+begun_at o = elim o [ None ↦ None | Some caller ↦ caller.at_begin ]
+
+-- the client's query after its own call
+pub begun_own : (callers : List Caller) (client : ℕ) (caller : Caller) (call : Call) (now : ℕ) → seat client callers ≡ Some caller → begun_at (seat client (callers_after now callers client call)) ≡ begin_after now call caller.at_begin
+begun_own callers client caller call now at = go (seat client callers) at
+  where
+    go : (o : Option Caller) → o ≡ Some caller → begun_at (seat client (elim o as (λ x. List Caller) [ None ↦ callers | Some found ↦ with_seat client (record { calls = suc found.calls; at_begin = begin_after now call found.at_begin }) callers ])) ≡ begin_after now call caller.at_begin
+    go None same = absurd (cc)
+    go (Some found) same =
+        let one : found ≡ caller = cc in
+        ap begun_at (seat-with_seat_same callers client caller _ at) ∙ ap (λ (c : Caller). begin_after now call c.at_begin) one
+
+-- a call that is let in while a query is open, and doesn't end it, leaves it
+begin_after-kept : (calls : Option ℕ) (call : Call) (now stamp : ℕ) → refusal_of calls true call ≡ None → is_end call ≡ false → begin_after now call (Some stamp) ≡ Some stamp
+begin_after-kept calls (Insert row) now stamp r e = refl
+begin_after-kept calls (Update id row) now stamp r e = refl
+begin_after-kept calls (Delete id) now stamp r e = refl
+begin_after-kept calls (Commit changes) now stamp r e = refl
+begin_after-kept None Begin now stamp r e = absurd (cc)
+begin_after-kept (Some n) Begin now stamp r e = absurd (refused (nat_lt n (2 ^ 56)) r)
+  where
+    refused : (b : Bool) → cond b (Some QueryOpen) (Some Spent) ≡ None → ⊥
+    refused true h = cc
+    refused false h = cc
+begin_after-kept calls Finish now stamp r e = absurd (cc)
+begin_after-kept calls Abandon now stamp r e = absurd (cc)
+
+kept_at : (contents : Contents) (client stamp : ℕ) (op : Op) → caller_begun contents client ≡ Some stamp → refusal_at contents op.client op.call ≡ None → ends_query client op ≡ false
+    → begun_at (seat client (callers_after contents.stamp contents.callers op.client op.call)) ≡ Some stamp
+kept_at contents client stamp op is accepted open_ = ⊎_elim mine theirs (cases_eq op.client client)
+  where
+    theirs : (op.client ≡ client → ⊥) → begun_at (seat client (callers_after contents.stamp contents.callers op.client op.call)) ≡ Some stamp
+    theirs n = go (seat op.client contents.callers)
+      where
+        go : (o : Option Caller) → begun_at (seat client (elim o as (λ x. List Caller) [ None ↦ contents.callers | Some caller ↦ with_seat op.client (record { calls = suc caller.calls; at_begin = begin_after contents.stamp op.call caller.at_begin }) contents.callers ])) ≡ Some stamp
+        go None = is
+        go (Some caller) = ap begun_at (seat-with_seat_other contents.callers client op.client _ (λ e. n (sym e))) ∙ is
+
+    mine : op.client ≡ client → begun_at (seat client (callers_after contents.stamp contents.callers op.client op.call)) ≡ Some stamp
+    mine e = go (seat client contents.callers) refl is
+      where
+        lasting : is_end op.call ≡ false
+        lasting = sym (ap (λ b. b && is_end op.call) (eq-eqb op.client client e)) ∙ open_
+
+        accepted_here : refusal_of (caller_calls contents client) true op.call ≡ None
+        accepted_here = ap (λ o. refusal_of (caller_calls contents client) (is_some o) op.call) (sym is) ∙ subst (λ n. refusal_at contents n op.call ≡ None) e accepted
+
+        go : (o : Option Caller) → seat client contents.callers ≡ o → begun_at o ≡ Some stamp → begun_at (seat client (callers_after contents.stamp contents.callers op.client op.call)) ≡ Some stamp
+        go None at b = absurd (cc)
+        go (Some caller) at b =
+            subst (λ n. begun_at (seat client (callers_after contents.stamp contents.callers n op.call)) ≡ Some stamp) (sym e)
+            (begun_own contents.callers client caller op.call contents.stamp at
+            ∙ ap (begin_after contents.stamp op.call) b ∙ begin_after-kept (caller_calls contents client) op.call contents.stamp stamp accepted_here lasting)
+
+-- what lasts over one op
+pub record Lasts (client stamp : ℕ) (before after : Contents) : Type 0 where
+  pub at_begin : caller_begun after client ≡ Some stamp
+  pub within : stamp ≤ after.stamp
+  pub shows : shown stamp after.slots ≡ shown stamp before.slots
+
+lasts_stepped : (contents : Contents) (client stamp : ℕ) (op : Op) (slots : List (Option Version)) → begun_at (seat client (callers_after contents.stamp contents.callers op.client op.call)) ≡ Some stamp → stamp ≤ contents.stamp → shown stamp slots ≡ shown stamp contents.slots
+    → Lasts client stamp contents (stepped contents op slots)
+lasts_stepped contents client stamp op slots begun l shows =
+    elim (is_change op.call && succeeds op.outcome) as (λ b. Lasts client stamp contents (cond b
+    (record { slots = slots; stamp = suc contents.stamp; next_id = contents.next_id + added op.call; callers = callers_after contents.stamp contents.callers op.client op.call })
+    (record { slots = slots; stamp = contents.stamp; next_id = contents.next_id; callers = callers_after contents.stamp contents.callers op.client op.call })))
+    [ true ↦ record { at_begin = begun; within = omega arith; shows = shows } | false ↦ record { at_begin = begun; within = l; shows = shows } ]
+
+pub lasts_applied : (contents : Contents) (client stamp : ℕ) (op : Op) → caller_begun contents client ≡ Some stamp → stamp ≤ contents.stamp → ends_query client op ≡ false → Lasts client stamp contents (applied contents op)
+lasts_applied contents client stamp op is l open_ = go (is_next contents op) refl (slots_after contents op) refl
+  where
+    stays : Lasts client stamp contents contents
+    stays = record { at_begin = is; within = l; shows = refl }
+
+    go : (b : Bool) → is_next contents op ≡ b → (s : Option (List (Option Version))) → slots_after contents op ≡ s
+        → Lasts client stamp contents (cond b (elim s as (λ x. Contents) [ None ↦ contents | Some slots ↦ stepped contents op slots ]) contents)
+    go false n s e = stays
+    go true n None e = stays
+    go true n (Some slots) e =
+        lasts_stepped contents client stamp op slots (kept_at contents client stamp op is (IsAllowed-from contents op n).accepted open_) l (shown_after contents client stamp is l op slots e)
+
+pub shown_ran : (ops : List Op) (contents : Contents) (client stamp : ℕ) → caller_begun contents client ≡ Some stamp → stamp ≤ contents.stamp → AllByRecursion (λ op. ends_query client op ≡ false) ops → shown stamp (ran contents ops).slots ≡ shown stamp contents.slots
+shown_ran [] contents client stamp is l h = refl
+shown_ran (op ∷ ops) contents client stamp is l h =
+    let once = lasts_applied contents client stamp op is l h.0 in
+    shown_ran ops (applied contents op) client stamp once.at_begin once.within h.1 ∙ once.shows
+
+pub is_stable : IsStable
+is_stable contents client stamp is l ops h block size = same_block stamp block size _ _ (shown_ran ops contents client stamp is l h)

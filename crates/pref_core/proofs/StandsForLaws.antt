@@ -1,0 +1,100 @@
+-- What slots show at each stamp when versions end, begin, and take a slot that isn't needed.
+use Rattle.pref_core.proofs.Common.{◌≡◌, ℕ, suc, ◌<◌, ◌≤◌, false, not, List, [], ◌∷◌, map, Option, Some, None, is_some, slice_get, slice_set, refl, subst, arith, cons_option, AllByRecursion, AllZip}
+use Rattle.pref_core.proofs.Common.{IsPermutation, IsPermutation-refl, IsPermutation-trans, IsPermutation-sym, or_parts, Version, Caller, Line, among, without, Entry, Client, Snapshot, seen, visible}
+use Rattle.pref_core.proofs.Common.{is_needed, begins, IsWithin, Shows, ShowsBegin, StandsForClient, new_version, close}
+use Rattle.pref_core.proofs.Permutations.{IsPermutation-filter}
+use Rattle.pref_core.proofs.VisibleLaws.{visible_set-same, visible_set-new, visible_close-before, visible_close-after, seen_born-before}
+use Rattle.pref_core.proofs.TableLaws.{IsOrdered-filter}
+
+-- versions of these ids end
+pub Shows-close : (ids : List ℕ) (next now : ℕ) (slots : List (Option Version)) (table : List Line) → AllByRecursion (IsWithin next now) slots → Shows slots now table → Shows (map (close ids (suc now)) slots) (suc now) (without ids table)
+Shows-close ids next now slots table within shows = record {
+  lines = rw (visible_close-after ids next now slots within) (IsPermutation-filter (λ line. not (among ids line.id)) _ _ shows.lines);
+  ordered = IsOrdered-filter (λ line. not (among ids line.id)) table shows.ordered;
+}
+
+pub Shows-close-before : (ids : List ℕ) (now stamp : ℕ) (slots : List (Option Version)) (table : List Line) → stamp ≤ now → Shows slots stamp table → Shows (map (close ids (suc now)) slots) stamp table
+Shows-close-before ids now stamp slots table h shows = record {
+  lines = rw (visible_close-before ids now stamp slots h) shows.lines;
+  ordered = shows.ordered;
+}
+
+pub Shows-new_version-before : (stamp made : ℕ) (fresh : Entry) (slots : List (Option Version)) (table : List Line) → stamp < made → Shows slots stamp table → Shows (new_version made fresh ∷ slots) stamp table
+Shows-new_version-before stamp made fresh slots table h shows = record {
+  lines = rw (seen_born-before stamp made fresh h) shows.lines;
+  ordered = shows.ordered;
+}
+
+-- a slot that shows nothing is used again
+visible_set : (stamp : ℕ) (slots : List (Option Version)) (place : ℕ) (old new : Option Version) → slice_get slots place ≡ Some old → seen stamp old ≡ None → IsPermutation (visible stamp (new ∷ slots)) (visible stamp (slice_set slots place new))
+visible_set stamp slots place old new at hidden = go (seen stamp new) refl
+  where
+    go : (s : Option Line) → seen stamp new ≡ s → IsPermutation (cons_option s (visible stamp slots)) (visible stamp (slice_set slots place new))
+    go None e = rw (visible_set-same stamp slots place old new at hidden e) (IsPermutation-refl _)
+    go (Some shown) e = visible_set-new stamp slots place old new shown at hidden e
+
+pub Shows-set : (stamp : ℕ) (slots : List (Option Version)) (place : ℕ) (old new : Option Version) (table : List Line) → slice_get slots place ≡ Some old → seen stamp old ≡ None → Shows (new ∷ slots) stamp table → Shows (slice_set slots place new) stamp table
+Shows-set stamp slots place old new table at hidden shows = record {
+  lines = IsPermutation-trans _ _ _ (IsPermutation-sym _ _ (visible_set stamp slots place old new at hidden)) shows.lines;
+  ordered = shows.ordered;
+}
+
+-- what a slot that isn't needed shows: nothing at any of the stamps
+pub hidden_unneeded : (stamps : List ℕ) (slot : Option Version) → is_needed stamps slot ≡ false → AllByRecursion (λ stamp. seen stamp slot ≡ None) stamps
+hidden_unneeded [] slot h = tt
+hidden_unneeded (stamp ∷ stamps) slot h = let parts = or_parts _ _ h in (nothing (seen stamp slot) parts.0, hidden_unneeded stamps slot parts.1)
+  where
+    nothing : (s : Option Line) → is_some s ≡ false → s ≡ None
+    nothing None e = refl
+    nothing (Some shown) e = absurd (cc)
+
+-- what open queries were shown stays, where the slots show the same at their begins
+ShowsBegin-moved : (slots moved : List (Option Version)) (now later : ℕ) → now ≤ later → (begun : Option ℕ) (found : Option Snapshot) → ((stamp : ℕ) (table : List Line) → begun ≡ Some stamp → stamp ≤ now → Shows slots stamp table → Shows moved stamp table) → ShowsBegin slots now begun found → ShowsBegin moved later begun found
+ShowsBegin-moved slots moved now later l None None f h = tt
+ShowsBegin-moved slots moved now later l (Some stamp) (Some found) f h = (h.0, omega arith, f stamp found.table refl h.1 h.2)
+ShowsBegin-moved slots moved now later l None (Some found) f h = h
+ShowsBegin-moved slots moved now later l (Some stamp) None f h = h
+
+AllZip-weaker : {A B : Type 0} (R Q : A → B → Type 0) → ((a : A) (b : B) → R a b → Q a b) → (xs : List A) (ys : List B) → AllZip R xs ys → AllZip Q xs ys
+AllZip-weaker R Q f [] [] h = tt
+AllZip-weaker R Q f [] (y ∷ ys) h = h
+AllZip-weaker R Q f (x ∷ xs) [] h = h
+AllZip-weaker R Q f (x ∷ xs) (y ∷ ys) h = (f x y h.0, AllZip-weaker R Q f xs ys h.1)
+
+pub clients-close : (ids : List ℕ) (now : ℕ) (slots : List (Option Version)) (callers : List Caller) (clients : List Client) → AllZip (StandsForClient slots now) callers clients → AllZip (StandsForClient (map (close ids (suc now)) slots) now) callers clients
+clients-close ids now slots = AllZip-weaker (StandsForClient slots now) (StandsForClient (map (close ids (suc now)) slots) now) (λ caller client h. record {
+  calls = h.calls;
+  at_begin = ShowsBegin-moved slots _ now now (omega arith) caller.at_begin client.at_begin (λ stamp table e l. Shows-close-before ids now stamp slots table l) h.at_begin;
+})
+
+pub clients-new_version : (now : ℕ) (fresh : Entry) (slots : List (Option Version)) (callers : List Caller) (clients : List Client) → AllZip (StandsForClient slots now) callers clients → AllZip (StandsForClient (new_version (suc now) fresh ∷ slots) now) callers clients
+clients-new_version now fresh slots = AllZip-weaker (StandsForClient slots now) (StandsForClient (new_version (suc now) fresh ∷ slots) now) (λ caller client h. record {
+  calls = h.calls;
+  at_begin = ShowsBegin-moved slots _ now now (omega arith) caller.at_begin client.at_begin (λ stamp table e l. Shows-new_version-before stamp (suc now) fresh slots table (omega arith)) h.at_begin;
+})
+
+pub clients-later : (now : ℕ) (slots : List (Option Version)) (callers : List Caller) (clients : List Client) → AllZip (StandsForClient slots now) callers clients → AllZip (StandsForClient slots (suc now)) callers clients
+clients-later now slots = AllZip-weaker (StandsForClient slots now) (StandsForClient slots (suc now)) (λ caller client h. record {
+  calls = h.calls;
+  at_begin = ShowsBegin-moved slots slots now (suc now) (omega arith) caller.at_begin client.at_begin (λ stamp table e l s. s) h.at_begin;
+})
+
+pub clients-set : (now : ℕ) (slots : List (Option Version)) (place : ℕ) (old new : Option Version) → slice_get slots place ≡ Some old → (callers : List Caller) (clients : List Client) → AllByRecursion (λ stamp. seen stamp old ≡ None) (begins callers) → AllZip (StandsForClient (new ∷ slots) now) callers clients → AllZip (StandsForClient (slice_set slots place new) now) callers clients
+clients-set now slots place old new at [] [] hidden h = tt
+clients-set now slots place old new at [] (client ∷ clients) hidden h = h
+clients-set now slots place old new at (caller ∷ callers) [] hidden h = h
+clients-set now slots place old new at (caller ∷ callers) (client ∷ clients) hidden h =
+    let split = parts caller.at_begin hidden in (
+      record {
+        calls = h.0.calls;
+        at_begin = ShowsBegin-moved (new ∷ slots) _ now now (omega arith) caller.at_begin client.at_begin (λ stamp table e l. Shows-set stamp slots place old new table at (split.0 stamp e)) h.0.at_begin;
+      },
+      clients-set now slots place old new at callers clients split.1 h.1,
+    )
+  where
+    Hidden : List ℕ → Type 0
+    Hidden = AllByRecursion (λ stamp. seen stamp old ≡ None)
+
+    parts : (begun : Option ℕ) → Hidden (cons_option begun (begins callers)) → ((stamp : ℕ) → begun ≡ Some stamp → seen stamp old ≡ None) × Hidden (begins callers)
+    parts None h = (λ stamp e. absurd (cc), h)
+    parts (Some first) h = (λ stamp e. let same : first ≡ stamp = cc in subst (λ n. seen n old ≡ None) same h.0, h.1)

@@ -1,0 +1,188 @@
+-- What becomes of the zones where an open query begins or ends.
+use Rattle.pref_core.proofs.Common.{◌≡◌, ℕ, zero, suc, ◌+◌, ◌-◌, ◌^◌, ◌<◌, ◌≤◌, ◌⊎◌, inl, inr, Bool, true, false, cond, nat_lt, List, [], ◌∷◌, ◌++◌, map, length, set, replicate, Option, Some, None}
+use Rattle.pref_core.proofs.Common.{is_some, slice_get, refl, sym, ap, ap₂, ◌∙◌, subst, arith, AllByRecursion, AllZip, option_to_list, length-set, slice_get_within, le-leb, ne_eqb, Version, Caller}
+use Rattle.pref_core.proofs.Common.{SlotUse, Free, Ended, Live, Call, Insert, Update, Delete, Commit, Begin, Finish, Abandon, QueryOpen, Spent, Op, Row, refusal_of, after, Contents, is_needed, StandsFor}
+use Rattle.pref_core.proofs.Common.{IsWithin, EndsBy, opening_slots, begin_after, callers_after, refusal_at, is_next, slots_after, stepped, applied, is_end, kept_from, use_of, number_of, is_kept_by}
+use Rattle.pref_core.proofs.Common.{MayBecome, IsBounded, IsKept, uses_of}
+use Rattle.pref_core.proofs.AppliedLaws.{stepped_stands}
+use Rattle.pref_core.proofs.BoundsLaws.{IsBounded-stepped}
+
+-- A caller whose begin sees of ended versions what it saw leaves the zones.
+kept_still : (keeper : ℕ) (callers : List Caller) (k : ℕ) (found new : Caller) (slot : Option Version) → slice_get callers k ≡ Some found → is_needed (option_to_list new.at_begin) slot ≡ is_needed (option_to_list found.at_begin) slot
+    → kept_from keeper (set callers k new) slot ≡ kept_from keeper callers slot
+kept_still keeper [] k found new slot at e = absurd (cc)
+kept_still keeper (first ∷ callers) zero found new slot at e =
+    let same : first ≡ found = cc in
+    ap (λ b. cond b (Ended keeper) (kept_from (suc keeper) callers slot)) (e ∙ ap (λ (c : Caller). is_needed (option_to_list c.at_begin) slot) (sym same))
+kept_still keeper (first ∷ callers) (suc k) found new slot at e = ap (λ z. cond (is_needed (option_to_list first.at_begin) slot) (Ended keeper) z) (kept_still (suc keeper) callers k found new slot at e)
+
+abbrev SeesStill : ℕ → ℕ → Caller → Caller → Type 0
+SeesStill next now found new = (version : Version) → IsWithin next now (Some version) → is_some version.death ≡ true → is_needed (option_to_list new.at_begin) (Some version) ≡ is_needed (option_to_list found.at_begin) (Some version)
+
+zone_still : (next now : ℕ) (callers : List Caller) (k : ℕ) (found new : Caller) (slot : Option Version) → slice_get callers k ≡ Some found → SeesStill next now found new → IsWithin next now slot → use_of (set callers k new) slot ≡ use_of callers slot
+zone_still next now callers k found new None at still h = refl
+zone_still next now callers k found new (Some version) at still h = at_death version.death h.2
+  where
+    at_death : (death : Option ℕ) → EndsBy now death → use_of (set callers k new) (Some (record version { death = death })) ≡ use_of callers (Some (record version { death = death }))
+    at_death None ends = refl
+    at_death (Some death) ends = kept_still 0 callers k found new (Some (record version { death = Some death })) at (still (record version { death = Some death }) (h.0, h.1, ends) refl)
+
+zones_still : (next now : ℕ) (callers : List Caller) (k : ℕ) (found new : Caller) (slots : List (Option Version)) → slice_get callers k ≡ Some found → SeesStill next now found new → AllByRecursion (IsWithin next now) slots
+    → map (use_of (set callers k new)) slots ≡ map (use_of callers) slots
+zones_still next now callers k found new [] at still h = refl
+zones_still next now callers k found new (slot ∷ slots) at still h = ap₂ ◌∷◌ (zone_still next now callers k found new slot at still h.0) (zones_still next now callers k found new slots at still h.1)
+
+-- No ended version is seen now.
+sees_begun : (next now : ℕ) (found new : Caller) → found.at_begin ≡ None → new.at_begin ≡ Some now → SeesStill next now found new
+sees_begun next now found new none some version h d = ap (λ b. is_needed (option_to_list b) (Some version)) some ∙ hidden version.death h.2 d ∙ sym (ap (λ b. is_needed (option_to_list b) (Some version)) none)
+  where
+    hidden : (death : Option ℕ) → EndsBy now death → is_some death ≡ true → is_needed (now ∷ []) (Some (record version { death = death })) ≡ false
+    hidden None ends d = absurd (cc)
+    hidden (Some death) ends d = rw (le-leb version.birth now h.1, le-leb death now ends) refl
+
+begin_closed : (calls : ℕ) (b : Option ℕ) → refusal_of (Some calls) (is_some b) Begin ≡ None → b ≡ None
+begin_closed calls None h = refl
+begin_closed calls (Some n) h = absurd (go (nat_lt calls (2 ^ 56)) h)
+  where
+    go : (t : Bool) → cond t (Some QueryOpen) (Some Spent) ≡ None → ⊥
+    go true h = cc
+    go false h = cc
+
+-- Every call that doesn't end a query leaves the zones.
+pub zones_kept : (contents : Contents) (client : ℕ) (call : Call) → refusal_at contents client call ≡ None → is_end call ≡ false → AllByRecursion (IsWithin contents.next_id contents.stamp) contents.slots
+    → map (use_of (callers_after contents.stamp contents.callers client call)) contents.slots ≡ uses_of contents
+zones_kept contents zero call accepted stays within = refl
+zones_kept contents (suc k) call accepted stays within = there (slice_get contents.callers k) refl accepted
+  where
+    same : (call : Call) (found new : Caller) → new.at_begin ≡ begin_after contents.stamp call found.at_begin → begin_after contents.stamp call found.at_begin ≡ found.at_begin → SeesStill contents.next_id contents.stamp found new
+    same call found new is e version h d = ap (λ b. is_needed (option_to_list b) (Some version)) (is ∙ e)
+
+    still : (call : Call) (found new : Caller) → new.at_begin ≡ begin_after contents.stamp call found.at_begin → refusal_of (Some found.calls) (is_some found.at_begin) call ≡ None → is_end call ≡ false → SeesStill contents.next_id contents.stamp found new
+    still (Insert row) found new is r e = same (Insert row) found new is refl
+    still (Update id row) found new is r e = same (Update id row) found new is refl
+    still (Delete id) found new is r e = same (Delete id) found new is refl
+    still (Commit changes) found new is r e = same (Commit changes) found new is refl
+    still Begin found new is r e = sees_begun contents.next_id contents.stamp found new (begin_closed found.calls found.at_begin r) is
+    still Finish found new is r e = absurd (cc)
+    still Abandon found new is r e = absurd (cc)
+
+    there : (o : Option Caller) → slice_get contents.callers k ≡ o → refusal_of (elim o as (λ x. Option ℕ) [ None ↦ None | Some caller ↦ Some caller.calls ]) (is_some (elim o as (λ x. Option ℕ) [ None ↦ None | Some caller ↦ caller.at_begin ])) call ≡ None
+        → map (use_of (elim o as (λ x. List Caller) [ None ↦ contents.callers | Some found ↦ set contents.callers k (record { calls = suc found.calls; at_begin = begin_after contents.stamp call found.at_begin }) ])) contents.slots ≡ uses_of contents
+    there None at r = refl
+    there (Some found) at r =
+        let new : Caller = record { calls = suc found.calls; at_begin = begin_after contents.stamp call found.at_begin } in
+        zones_still contents.next_id contents.stamp contents.callers k found new contents.slots at (still call found new refl r stays) within
+
+-- A client whose call gets a number is one of the callers.
+pub seated : (contents : Contents) (client : ℕ) (call : Call) → refusal_at contents client call ≡ None → (1 ≤ client) × (client ≤ length contents.callers)
+seated contents zero call accepted = absurd (cc)
+seated contents (suc k) call accepted = there (slice_get contents.callers k) refl accepted
+  where
+    there : (o : Option Caller) → slice_get contents.callers k ≡ o → refusal_of (elim o as (λ x. Option ℕ) [ None ↦ None | Some caller ↦ Some caller.calls ]) (is_some (elim o as (λ x. Option ℕ) [ None ↦ None | Some caller ↦ caller.at_begin ])) call ≡ None
+        → (1 ≤ suc k) × (suc k ≤ length contents.callers)
+    there None at r = absurd (cc)
+    there (Some found) at r = let inside = slice_get_within contents.callers k found at in (omega arith, omega arith)
+
+pub callers_long : (now : ℕ) (callers : List Caller) (client : ℕ) (call : Call) → length (callers_after now callers client call) ≡ length callers
+callers_long now callers zero call = refl
+callers_long now callers (suc k) call = go (slice_get callers k)
+  where
+    go : (o : Option Caller) → length (elim o as (λ x. List Caller) [ None ↦ callers | Some found ↦ set callers k (record { calls = suc found.calls; at_begin = begin_after now call found.at_begin }) ]) ≡ length callers
+    go None = refl
+    go (Some found) = length-set callers k (record { calls = suc found.calls; at_begin = begin_after now call found.at_begin })
+
+-- The callers from one on keep nothing for those before, ..
+kept_past : (start keeper : ℕ) (callers : List Caller) (slot : Option Version) → keeper < start → is_kept_by keeper (kept_from start callers slot) ≡ false
+kept_past start keeper [] slot l = refl
+kept_past start keeper (caller ∷ callers) slot l = go (is_needed (option_to_list caller.at_begin) slot) (kept_past (suc start) keeper callers slot (omega arith))
+  where
+    go : (b : Bool) → is_kept_by keeper (kept_from (suc start) callers slot) ≡ false → is_kept_by keeper (cond b (Ended start) (kept_from (suc start) callers slot)) ≡ false
+    go true more = ne_eqb start keeper (λ e. absurd (omega arith))
+    go false more = more
+
+-- .. and no more callers than there are keep anything.
+kept_few : (start : ℕ) (callers : List Caller) (slot : Option Version) → number_of (kept_from start callers slot) < start + length callers + 2
+kept_few start [] slot = omega arith
+kept_few start (caller ∷ callers) slot = go (is_needed (option_to_list caller.at_begin) slot) (kept_few (suc start) callers slot)
+  where
+    go : (b : Bool) → number_of (kept_from (suc start) callers slot) < suc start + length callers + 2 → number_of (cond b (Ended start) (kept_from (suc start) callers slot)) < start + length (caller ∷ callers) + 2
+    go true more = omega arith
+    go false more = omega arith
+
+pub zone_few : (callers : List Caller) (slot : Option Version) → length callers ≤ 8 → number_of (use_of callers slot) < 10
+zone_few callers None few = omega arith
+zone_few callers (Some version) few = at_death version.death
+  where
+    at_death : (death : Option ℕ) → number_of (use_of callers (Some (record version { death = death }))) < 10
+    at_death None = omega arith
+    at_death (Some death) = let less = kept_few 0 callers (Some (record version { death = Some death })) in omega arith
+
+-- Where a caller's query ends, what it kept goes elsewhere.
+zone_left : (start k keeper : ℕ) (callers : List Caller) (new : Caller) (slot : Option Version) → keeper ≡ start + k → k < length callers → new.at_begin ≡ None → MayBecome keeper (kept_from start callers slot) (kept_from start (set callers k new) slot)
+zone_left start k keeper [] new slot is l e = absurd (omega arith)
+zone_left start zero keeper (first ∷ callers) new slot is l e =
+    subst (λ z. MayBecome keeper (kept_from start (first ∷ callers) slot) z) (sym (ap (λ b. cond (is_needed (option_to_list b) slot) (Ended start) (kept_from (suc start) callers slot)) e))
+    (kept_past (suc start) keeper callers slot (omega arith), either (is_needed (option_to_list first.at_begin) slot))
+  where
+    either : (b : Bool) → (cond b (Ended start) (kept_from (suc start) callers slot) ≡ kept_from (suc start) callers slot) ⊎ (cond b (Ended start) (kept_from (suc start) callers slot) ≡ Ended keeper)
+    either true = inr (ap (λ n. Ended n) (let same : start ≡ keeper = omega arith in same))
+    either false = inl refl
+zone_left start (suc k) keeper (first ∷ callers) new slot is l e = go (is_needed (option_to_list first.at_begin) slot) (zone_left (suc start) k keeper callers new slot (omega arith) (omega arith) e)
+  where
+    go : (b : Bool) → MayBecome keeper (kept_from (suc start) callers slot) (kept_from (suc start) (set callers k new) slot)
+        → MayBecome keeper (cond b (Ended start) (kept_from (suc start) callers slot)) (cond b (Ended start) (kept_from (suc start) (set callers k new) slot))
+    go true more = (ne_eqb start keeper (λ e. absurd (omega arith)), inl refl)
+    go false more = more
+
+zones_left : (keeper : ℕ) (callers : List Caller) (new : Caller) (slots : List (Option Version)) → keeper < length callers → new.at_begin ≡ None → AllZip (MayBecome keeper) (map (use_of callers) slots) (map (use_of (set callers keeper new)) slots)
+zones_left keeper callers new [] l e = tt
+zones_left keeper callers new (slot ∷ slots) l e = (first slot, zones_left keeper callers new slots l e)
+  where
+    first : (slot : Option Version) → MayBecome keeper (use_of callers slot) (use_of (set callers keeper new) slot)
+    first None = (refl, inl refl)
+    first (Some version) = at_death version.death
+      where
+        at_death : (death : Option ℕ) → MayBecome keeper (use_of callers (Some (record version { death = death }))) (use_of (set callers keeper new) (Some (record version { death = death })))
+        at_death None = (refl, inl refl)
+        at_death (Some death) = zone_left 0 keeper keeper callers new (Some (record version { death = Some death })) (omega arith) l e
+
+pub zones_end : (contents : Contents) (client : ℕ) (call : Call) → refusal_at contents client call ≡ None → is_end call ≡ true
+    → AllZip (MayBecome (client - 1)) (uses_of contents) (map (use_of (callers_after contents.stamp contents.callers client call)) contents.slots)
+zones_end contents zero call accepted e = absurd (cc)
+zones_end contents (suc k) call accepted e = subst (λ n. AllZip (MayBecome n) (uses_of contents) (map (use_of (callers_after contents.stamp contents.callers (suc k) call)) contents.slots)) (let same : k ≡ suc k - 1 = omega arith in same)
+    (there (slice_get contents.callers k) refl accepted)
+  where
+    gone : (call : Call) (b : Option ℕ) → is_end call ≡ true → begin_after contents.stamp call b ≡ None
+    gone (Insert row) b e = absurd (cc)
+    gone (Update id row) b e = absurd (cc)
+    gone (Delete id) b e = absurd (cc)
+    gone (Commit changes) b e = absurd (cc)
+    gone Begin b e = absurd (cc)
+    gone Finish b e = refl
+    gone Abandon b e = refl
+
+    there : (o : Option Caller) → slice_get contents.callers k ≡ o → refusal_of (elim o as (λ x. Option ℕ) [ None ↦ None | Some caller ↦ Some caller.calls ]) (is_some (elim o as (λ x. Option ℕ) [ None ↦ None | Some caller ↦ caller.at_begin ])) call ≡ None
+        → AllZip (MayBecome k) (uses_of contents) (map (use_of (elim o as (λ x. List Caller) [ None ↦ contents.callers | Some found ↦ set contents.callers k (record { calls = suc found.calls; at_begin = begin_after contents.stamp call found.at_begin }) ])) contents.slots)
+    there None at r = absurd (cc)
+    there (Some found) at r = zones_left k contents.callers (record { calls = suc found.calls; at_begin = begin_after contents.stamp call found.at_begin }) contents.slots (slice_get_within contents.callers k found at) (gone call found.at_begin e)
+
+-- What a legal op leaves is what applying it makes, ..
+pub stepped_is : (contents : Contents) (op : Op) (slots : List (Option Version)) (new : Contents) → is_next contents op ≡ true → slots_after contents op ≡ Some slots → new ≡ stepped contents op slots → new ≡ applied contents op
+stepped_is contents op slots new next fits is = rw (next, fits) is
+
+-- .. and is kept.
+pub kept_stepped : (contents : Contents) (op : Op) (slots : List (Option Version)) (new : Contents) → IsKept contents → is_next contents op ≡ true → slots_after contents op ≡ Some slots → new ≡ stepped contents op slots → IsKept new
+kept_stepped contents op slots new h next fits is = record {
+  bounded = subst IsBounded (sym is) (IsBounded-stepped contents op slots h.bounded next fits);
+  state = after (length contents.slots) h.state op.client op.call;
+  stands = subst (λ s. StandsFor s (after (length contents.slots) h.state op.client op.call)) (sym is) (stepped_stands contents h.state op slots h.stands next fits);
+}
+
+-- The zones as a store is opened.
+zones_opening : (callers : List Caller) (before : ℕ) (rows : List Row) (empty : ℕ) → map (use_of callers) (opening_slots before rows ++ replicate empty None) ≡ replicate (length rows) Live ++ replicate empty Free
+zones_opening callers before [] zero = refl
+zones_opening callers before [] (suc empty) = ap (λ l. Free ∷ l) (zones_opening callers before [] empty)
+zones_opening callers before (row ∷ rows) empty = ap (λ l. Live ∷ l) (zones_opening callers (suc before) rows empty)
+
+pub zones_opened : (callers : List Caller) (capacity : ℕ) (rows : List Row) (slots : List (Option Version)) (zones : List SlotUse) → slots ≡ opening_slots 0 rows ++ replicate (capacity - length rows) None → zones ≡ replicate (length rows) Live ++ replicate (capacity - length rows) Free → zones ≡ map (use_of callers) slots
+zones_opened callers capacity rows slots zones is returned = returned ∙ sym (zones_opening callers 0 rows (capacity - length rows)) ∙ ap (map (use_of callers)) (sym is)

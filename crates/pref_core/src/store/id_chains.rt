@@ -1,0 +1,166 @@
+//! Where rows are found: those of one home are chained, from the greatest id to the smallest.
+//!
+//! ```text
+//! Four slots; row 2 is gone, and row 5, whose home is 0 as that of row 1 is, has its slot:
+//!
+//! place    0      1      2      3      home 0   home 1   home 2   home 3
+//! row      1      5      3      4
+//! next     4      0      4      4      1        4        2        3           4 is no place: a chain's end
+//!
+//! home 0 -> place 1 (row 5) -> place 0 (row 1) -> end
+//! ```
+//!
+//! A row goes to its home where that is free, and ids are consecutive: so a chain has hardly more than one row.
+//! Only rows of the table are chained; versions that ended are read by block alone. A search begins at the home,
+//! and so passes the link that leads to a row: this one alone is written where the row is taken out, and links in
+//! one direction are enough. As ids fall along a chain, a search stops at the first smaller one.
+
+ghost use Rattle.std.specs.Prelude.{◌≡◌, ◌<◌, ◌≤◌, ◌^◌, length, IfOk, IfSome, IfNone, Some, None, slice_set};
+ghost use Rattle.pref_core.specs.Indexes.{IsPlaceOf};
+ghost use Rattle.pref_core.specs.IdChains.{home_of, ids_of, id_at, is_above, AreIds, AreLinks, IsBefore, opening_ids};
+
+use crate::store::reads::stands_at;
+use crate::store::version::Version;
+use std::alloc::{AllocError, Global};
+use std::marker::Model;
+
+/// The home of an id: the slot that an opening row has, and a new version where it is free.
+pub(crate) fn home_of(slots: &[Option<Version>], id: u64) -> u32
+    requires some { 0 < length slots.now }
+    requires few { length slots.now ≤ 65536 }
+    ensures home { result ≡ home_of (length slots.now) id }
+    ensures inside { result < length slots.now }
+{
+    (id.saturating_sub(1) % slots.len() as u64) as u32
+}
+
+/// The id of the row that is at a place in the table at this stamp.
+fn id_at(slots: &[Option<Version>], stamp: u64, place: u32) -> Option<u64>
+    ensures { result ≡ id_at (ids_of stamp slots.now) place }
+{
+    match slots.get(place as usize) {
+        Some(Some(version)) if version.is_visible_at(stamp) => Some(version.id),
+        _ => None,
+    }
+}
+
+/// Whether a row of a greater id is there.
+fn is_above(slots: &[Option<Version>], stamp: u64, place: u32, id: u64) -> bool
+    ensures { result ≡ is_above id (id_at (ids_of stamp slots.now) place) }
+{
+    match id_at(slots, stamp, place) {
+        Some(other) => id < other,
+        None => false,
+    }
+}
+
+/// A link of each slot, and behind them one of each home: to the place of that row of the home which has the next
+/// smaller id. Where there is none it is the capacity, which is no place. (this project)
+#[derive(Drop)]
+pub(crate) struct IdChains {
+    next: Vec<u32>,
+}
+
+impl Model for IdChains {
+    ghost use Rattle.std.specs.Prelude.{List, ℕ};
+
+    ghost Value = { List ℕ };
+
+    ghost view = { λ links. links.next.items };
+}
+
+impl IdChains {
+    /// The first slots have the rows of their homes, and the others are empty. No memory is taken after this.
+    pub(crate) fn new(alloc: Global, capacity: u32, rows: u32) -> Result<IdChains, AllocError>
+        requires few { capacity ≤ 65536 }
+        requires rows { rows ≤ capacity }
+        ensures { IfOk result (λ links. AreLinks (opening_ids capacity rows) links) }
+    {
+        let mut next = Vec::with_capacity(alloc, 2 * capacity as usize)?;
+        for _place in 0..capacity {
+            next.push(capacity)?;
+        }
+        for home in 0..capacity {
+            let link = if home < rows { home } else { capacity };
+            next.push(link)?;
+        }
+        Ok(IdChains { next })
+    }
+
+    /// A copy of these links.
+    pub(crate) fn copy(&self, alloc: Global) -> Result<IdChains, AllocError>
+        ensures { IfOk result (λ copy. copy ≡ self.now) }
+    {
+        let next = Vec::from_slice(alloc, &self.next)?;
+        Ok(IdChains { next })
+    }
+
+    /// The place of the row of this id in the table at this stamp.
+    pub(crate) fn find(&self, slots: &[Option<Version>], stamp: u64, id: u64) -> Option<u32>
+        requires few { length slots.now ≤ 65536 }
+        requires links { AreLinks (ids_of stamp slots.now) self.now }
+        ensures { IsPlaceOf stamp id slots.now result }
+    {
+        if slots.is_empty() {
+            return None;
+        }
+        let node = before(&self.next, slots, stamp, id);
+        let place = self.next[node as usize];
+        if stands_at(slots, place, stamp, id) {
+            Some(place)
+        } else {
+            None
+        }
+    }
+
+    /// A row of this id is about to begin at this place.
+    pub(crate) fn add(&mut self, slots: &[Option<Version>], stamp: u64, id: u64, place: u32)
+        requires few { length slots.now ≤ 65536 }
+        requires links { AreLinks (ids_of stamp slots.now) self.old }
+        requires ids { AreIds (2 ^ 64) (id_at (ids_of stamp slots.now)) }
+        requires place { place < length slots.now }
+        requires empty { id_at (ids_of stamp slots.now) place ≡ None }
+        requires absent { IsPlaceOf stamp id slots.now None }
+        ensures { AreLinks (slice_set (ids_of stamp slots.now) place (Some id)) self.new }
+    {
+        let node = before(&self.next, slots, stamp, id);
+        self.next[place as usize] = self.next[node as usize];
+        self.next[node as usize] = place;
+    }
+
+    /// The row of this id is about to end: takes it out of its chain, and returns its place.
+    pub(crate) fn take(&mut self, slots: &[Option<Version>], stamp: u64, id: u64) -> Option<u32>
+        requires few { length slots.now ≤ 65536 }
+        requires links { AreLinks (ids_of stamp slots.now) self.old }
+        requires ids { AreIds (2 ^ 64) (id_at (ids_of stamp slots.now)) }
+        ensures place { IsPlaceOf stamp id slots.now result }
+        ensures some { IfSome result (λ place. AreLinks (slice_set (ids_of stamp slots.now) place None) self.new) }
+        ensures none { IfNone result (self.new ≡ self.old) }
+    {
+        if slots.is_empty() {
+            return None;
+        }
+        let node = before(&self.next, slots, stamp, id);
+        let place = self.next[node as usize];
+        if !stands_at(slots, place, stamp, id) {
+            return None;
+        }
+        self.next[node as usize] = self.next[place as usize];
+        Some(place)
+    }
+}
+
+/// The last home or place before this id on the chain of its home.
+fn before(next: &[u32], slots: &[Option<Version>], stamp: u64, id: u64) -> u32
+    requires some { 0 < length slots.now }
+    requires few { length slots.now ≤ 65536 }
+    requires links { AreLinks (ids_of stamp slots.now) next.now }
+    ensures before { IsBefore (2 ^ 64) (length slots.now) (home_of (length slots.now)) (id_at (ids_of stamp slots.now)) id result }
+    ensures inside { result < length next.now }
+{
+    let mut node = slots.len() as u32 + home_of(slots, id);
+    'along: while is_above(slots, stamp, next[node as usize], id) {
+        node = next[node as usize];
+    }
+    node
+}

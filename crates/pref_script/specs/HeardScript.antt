@@ -1,0 +1,77 @@
+-- No public contract cites this.
+-- A script that is heard line by line. (this project)
+use Rattle.std.specs.Prelude.{ℕ, ℤ, ◌≡◌, ◌≤◌, ◌<◌, ◌+◌, ◌⊎◌, true, List, [], ◌++◌, length, take, Option, IfSome, Result, Ok, Err}
+use Rattle.std.specs.Io.KnownBytes.{Consumes, IsAtEnd}
+use Rattle.pref_table.specs.Tables.{table_of}
+use Rattle.pref_core.specs.Limits.{Limits}
+use Rattle.pref_core.specs.Step.{System, opened}
+use Rattle.pref_core.specs.Systems.{StandsForSystem}
+use Rattle.pref_script.specs.Commands.{Command, commands_of}
+use Rattle.pref_script.specs.Live.{EndsWithLine, IsTooLong, HeardNone, ShowsFault}
+use Rattle.pref_script.specs.LiveTable.{names_of, next_number, running_of}
+use Rattle.pref_script.specs.Playing.{printed_from}
+use Rattle.pref_script.specs.ReadAhead.{IsLittle, ReadBehind, ReadFault, between, is_at_end, unread}
+use Rattle.pref_script.specs.Run.{Source}
+use Rattle.pref_script.specs.Script.{Parts, parts_of, raw_lines}
+use Rattle.pref_script.specs.declared.fault.RunFault.{RunFault}
+use Rattle.pref_script.specs.declared.fault.RunFault.TheVariants as fault
+use Rattle.pref_script.specs.declared.live.TableBlock.{TableBlock}
+use Rattle.pref_script.specs.declared.live_table.LiveTable.{LiveTable}
+use Rattle.pref_script.specs.declared.read_ahead.ReadAhead.{ReadAhead}
+
+-- this many bytes of what was read are the lines up to the first line `end`, and these are the places of their table text
+pub record IsBlock (block : TableBlock) (ahead : ReadAhead) : Type 0 where
+  pub inside : block.end ≤ length (unread ahead)
+  pub places : (block.start ≤ block.stop) × (block.stop ≤ block.end)
+  pub few : block.first ≤ 16777219
+  pub cut : parts_of (raw_lines (take block.end (unread ahead))) ≡ Ok (record { table = between block.start block.stop (unread ahead); commands = []; first = block.first })
+  pub lines : EndsWithLine (take block.end (unread ahead)) ⊎ (is_at_end ahead ≡ true) × (block.end ≡ length (unread ahead))
+
+-- no command line was heard, where nothing was there before
+abbrev pub HearsNone : Source → ReadAhead → Type 0
+HearsNone source old = unread old ≡ [] → HeardNone source
+
+-- what was read has no table block for this reason, whatever follows it, or it is all that there was
+abbrev pub LacksBlock : ReadAhead → RunFault → Type 0
+LacksBlock ahead why = ((more : List ℕ) → parts_of (raw_lines (unread ahead ++ more)) ≡ Err why) ⊎ (is_at_end ahead ≡ true) × (parts_of (raw_lines (unread ahead)) ≡ Err why)
+
+-- the table block was read, or why there is none
+abbrev pub ReadsBlock : Source → ReadAhead → ReadAhead → Result TableBlock RunFault → Type 0
+ReadsBlock source old new (Ok block) = ReadBehind source.had source.left old new × (IsLittle 0 (unread old) → IsLittle block.end (unread new)) × IsBlock block new
+ReadsBlock source old new (Err fault.NoTable) = ReadBehind source.had source.left old new × HearsNone source old × LacksBlock new fault.NoTable
+ReadsBlock source old new (Err fault.NoEnd) = ReadBehind source.had source.left old new × HearsNone source old × LacksBlock new fault.NoEnd
+ReadsBlock source old new (Err fault.TooLarge) = ReadBehind source.had source.left old new × ((more : List ℕ) → IsTooLong (unread new ++ more)) × HearsNone source old
+ReadsBlock source old new (Err why) = ReadFault source.failed why × HearsNone source old
+
+-- the script of the lines that were read so far, with the table after them
+pub record HeardScript (limits : Limits) (heard : List ℕ) (live : LiveTable) (text : List ℕ) : Type 0 where
+  pub parts : Parts
+  pub rows : List (List ℤ)
+  pub cut : parts_of (raw_lines heard) ≡ Ok parts
+  pub table : table_of parts.table ≡ Ok (names_of live, rows)
+  pub room : limits.capacity < length rows → ⊥
+  pub number : next_number live ≡ parts.first + length parts.commands
+  pub bounds : (running_of live).limits ≡ limits
+  pub next : System
+  pub stands : StandsForSystem (running_of live) next
+  pub goes_on : (more : List Command) → text ++ printed_from limits (length (names_of live)) next more
+      ≡ printed_from limits (length (names_of live)) (opened limits rows) (commands_of (names_of live) parts.first parts.commands ++ more)
+
+-- the lines that were read so far, what of the input is ahead, and what was printed
+pub record Hears (limits : Limits) (had left : Option (List ℕ)) (ahead : ReadAhead) (live : LiveTable) (text : List ℕ) : Type 0 where
+  pub heard : List ℕ
+  pub consumed : Consumes had left (heard ++ unread ahead)
+  pub lines : EndsWithLine heard ⊎ (is_at_end ahead ≡ true) × (unread ahead ≡ [])
+  pub at_end : is_at_end ahead ≡ true → IsAtEnd left
+  pub little : IsLittle 0 (unread ahead)
+  pub script : HeardScript limits heard live text
+
+-- the table was opened, or why it was not
+abbrev pub OpensLive : Limits → Source → ReadAhead → Result LiveTable RunFault → Type 0
+OpensLive limits source new (Ok live) = Hears limits source.had source.left new live [] × (next_number live ≤ 16777219)
+OpensLive limits source new (Err fault.Read) = (source.failed ≡ true) × HeardNone source
+OpensLive limits source new (Err fault.TooLarge) = IfSome source.had IsTooLong × HeardNone source
+OpensLive limits source new (Err fault.Memory) = HeardNone source
+OpensLive limits source new (Err fault.Write) = ⊥
+OpensLive limits source new (Err (fault.Threads why)) = ⊥
+OpensLive limits source new (Err why) = ShowsFault limits source why

@@ -1,0 +1,212 @@
+-- How many calls each client has made along a legal history.
+use Rattle.pref_share.proofs.Common.{◌≡◌, ℕ, zero, suc, ◌+◌, ◌*◌, ◌^◌, ◌<◌, ◌≤◌, Bool, true, false, cond, ◌==◌, List, [], ◌∷◌, length, Option, Some, None, is_some, refl, sym, ap, ◌∙◌, subst, arith}
+use Rattle.pref_share.proofs.Common.{AllByRecursion, sum_by, ne_eqb, eqb-true, length-set, All-from_recursion, Call, Op, State, Client, Snapshot, seat, with_seat, is_change, succeeds, committed}
+use Rattle.pref_share.proofs.Common.{counted, begun_after, outcome, after, calls_of, begun_of, refusal_of, idle_clients, same_number, IsLegalCall, IsLegalHistory, state_after, numbered_of}
+use Rattle.pref_share.proofs.Common.{seat-with_seat_same, seat-with_seat_other, HasCall, history_of}
+use Rattle.std.proofs.lemmas.List.Sums.{sum_by-le}
+use native.Mathlib.Decide.{ℕ_discrete}
+use Rattle.pref_core.proofs.BoundsLaws.{sum_by-set_suc, AllByRecursion-set, few_calls}
+
+pub after_clients : (n : ℕ) (s : State) (client : ℕ) (call : Call) → (after n s client call).clients ≡ counted s client call
+after_clients n s client call = go (is_change call) (succeeds (outcome n s call))
+  where
+    go : (b c : Bool) → (cond {A = State} b (cond {A = State} c (committed call (record s { clients = counted s client call })) (record s { clients = counted s client call })) (record s { clients = counted s client call })).clients ≡ counted s client call
+    go true true = refl
+    go true false = refl
+    go false c = refl
+
+-- who makes a legal call
+pub record IsCaller (s : State) (op : Op) : Type 0 where
+  pub who : Client
+  pub at : seat op.client s.clients ≡ Some who
+  pub number : op.number ≡ suc who.calls
+  pub few : who.calls < 2 ^ 56
+
+pub caller : (n : ℕ) (s : State) (op : Op) → IsLegalCall n s (numbered_of op) → IsCaller s op
+caller n s op legal = go (seat op.client s.clients) refl legal.accepted legal.next
+  where
+    go : (o : Option Client) → seat op.client s.clients ≡ o
+        → refusal_of (elim o as (λ x. Option ℕ) [ None ↦ None | Some found ↦ Some found.calls ]) (is_some (elim o as (λ x. Option Snapshot) [ None ↦ None | Some found ↦ found.at_begin ])) op.call ≡ None
+        → same_number (elim o as (λ x. Option ℕ) [ None ↦ None | Some found ↦ Some found.calls ]) op.number ≡ true → IsCaller s op
+    go None at a b = absurd (cc)
+    go (Some who) at a b = record { who = who; at = at; number = sym (eqb-true _ _ b); few = few_calls who.calls (is_some who.at_begin) op.call a }
+
+-- the client after its call
+abbrev pub one_more : State → Call → Client → Client
+one_more s call who = record { calls = suc who.calls; at_begin = begun_after s call who.at_begin }
+
+pub seat_own : (n : ℕ) (s : State) (client : ℕ) (call : Call) (who : Client) → seat client s.clients ≡ Some who → seat client (after n s client call).clients ≡ Some (one_more s call who)
+seat_own n s client call who at = ap (seat client) (after_clients n s client call) ∙ go (seat client s.clients) at
+  where
+    go : (o : Option Client) → o ≡ Some who → seat client (elim o as (λ x. List Client) [ None ↦ s.clients | Some found ↦ with_seat client (one_more s call found) s.clients ]) ≡ Some (one_more s call who)
+    go None e = absurd (cc)
+    go (Some found) e = let same : found ≡ who = cc in seat-with_seat_same s.clients client who (one_more s call found) at ∙ ap (λ f. Some (one_more s call f)) same
+
+pub seat_other : (n : ℕ) (s : State) (client other : ℕ) (call : Call) → (client ≡ other → ⊥) → seat client (after n s other call).clients ≡ seat client s.clients
+seat_other n s client other call apart = ap (seat client) (after_clients n s other call) ∙ go (seat other s.clients)
+  where
+    go : (o : Option Client) → seat client (elim o as (λ x. List Client) [ None ↦ s.clients | Some found ↦ with_seat other (one_more s call found) s.clients ]) ≡ seat client s.clients
+    go None = refl
+    go (Some found) = seat-with_seat_other s.clients client other (one_more s call found) apart
+
+abbrev calls_in : Option Client → Option ℕ
+calls_in o = elim o [ None ↦ None | Some found ↦ Some found.calls ]
+
+abbrev begun_in : Option Client → Option Snapshot
+begun_in o = elim o [ None ↦ None | Some found ↦ found.at_begin ]
+
+pub calls_own : (n : ℕ) (s : State) (op : Op) → IsCaller s op → calls_of (after n s op.client op.call) op.client ≡ Some op.number
+calls_own n s op c = ap calls_in (seat_own n s op.client op.call c.who c.at) ∙ ap Some (sym c.number)
+
+pub begun_own : (n : ℕ) (s : State) (op : Op) → IsCaller s op → begun_of (after n s op.client op.call) op.client ≡ begun_after s op.call (begun_of s op.client)
+begun_own n s op c = ap begun_in (seat_own n s op.client op.call c.who c.at) ∙ ap (λ o. begun_after s op.call (begun_in o)) (sym c.at)
+
+calls_other : (n : ℕ) (s : State) (client : ℕ) (op : Op) → (client ≡ op.client → ⊥) → calls_of (after n s op.client op.call) client ≡ calls_of s client
+calls_other n s client op apart = ap calls_in (seat_other n s client op.client op.call apart)
+
+begun_other : (n : ℕ) (s : State) (client : ℕ) (op : Op) → (client ≡ op.client → ⊥) → begun_of (after n s op.client op.call) client ≡ begun_of s client
+begun_other n s client op apart = ap begun_in (seat_other n s client op.client op.call apart)
+
+-- a count that is there, and no less than this
+pub record IsGrown (calls : Option ℕ) (least : ℕ) : Type 0 where
+  pub count : ℕ
+  pub is : calls ≡ Some count
+  pub more : least ≤ count
+
+some_same : (a b : ℕ) → Some a ≡ Some b → a ≡ b
+some_same a b e = cc (e)
+
+own_number : (s : State) (op : Op) (client m : ℕ) → IsCaller s op → client ≡ op.client → calls_of s client ≡ Some m → op.number ≡ suc m
+own_number s op client m c e is = c.number ∙ ap suc (some_same _ _ (sym (ap calls_in (ap (λ k. seat k s.clients) e ∙ c.at)) ∙ is))
+
+count_now : (n : ℕ) (s : State) (op : Op) (client m : ℕ) → IsCaller s op → client ≡ op.client → calls_of s client ≡ Some m → calls_of (after n s op.client op.call) client ≡ Some (suc m)
+count_now n s op client m c e is = ap (calls_of (after n s op.client op.call)) e ∙ calls_own n s op c ∙ ap Some (own_number s op client m c e is)
+
+pub calls_grow : (n : ℕ) (s : State) (ops : List Op) (client m : ℕ) → IsLegalHistory n s (history_of ops) → calls_of s client ≡ Some m → IsGrown (calls_of (state_after n s (history_of ops)) client) m
+calls_grow n s [] client m legal is = record { count = m; is = is; more = omega arith }
+calls_grow n s (op ∷ ops) client m legal is =
+    go (ℕ_discrete client op.client)
+    (λ e. calls_grow n (after n s op.client op.call) ops client (suc m) legal.1 (count_now n s op client m (caller n s op legal.0) e is))
+    (λ apart. calls_grow n (after n s op.client op.call) ops client m legal.1 (calls_other n s client op apart ∙ is))
+  where
+    now : Option ℕ
+    now = calls_of (state_after n (after n s op.client op.call) (history_of ops)) client
+
+    go : Dec (client ≡ op.client) → (client ≡ op.client → IsGrown now (suc m)) → ((client ≡ op.client → ⊥) → IsGrown now m) → IsGrown now m
+    go (yes e) own other = let rest = own e in let more = rest.more in record { count = rest.count; is = rest.is; more = omega arith }
+    go (no apart) own other = other apart
+
+-- where a client's count stays, no call is its own, and its query stays
+pub none_own : (n : ℕ) (s : State) (ops : List Op) (client m : ℕ) → IsLegalHistory n s (history_of ops) → calls_of s client ≡ Some m → calls_of (state_after n s (history_of ops)) client ≡ Some m
+    → AllByRecursion (λ op. (op.client == client) ≡ false) ops × (begun_of (state_after n s (history_of ops)) client ≡ begun_of s client)
+none_own n s [] client m legal is still = (tt, refl)
+none_own n s (op ∷ ops) client m legal is still =
+    go (ℕ_discrete client op.client) (λ apart. none_own n (after n s op.client op.call) ops client m legal.1 (calls_other n s client op apart ∙ is) still)
+  where
+    Rest : Type 0
+    Rest = AllByRecursion (λ op. (op.client == client) ≡ false) ops × (begun_of (state_after n (after n s op.client op.call) (history_of ops)) client ≡ begun_of (after n s op.client op.call) client)
+
+    go : Dec (client ≡ op.client) → ((client ≡ op.client → ⊥) → Rest) → AllByRecursion (λ op. (op.client == client) ≡ false) (op ∷ ops) × (begun_of (state_after n s (history_of (op ∷ ops))) client ≡ begun_of s client)
+    go (yes e) other =
+        let rest = calls_grow n (after n s op.client op.call) ops client (suc m) legal.1 (count_now n s op client m (caller n s op legal.0) e is) in
+        let more = rest.more in
+        let same : m ≡ rest.count = some_same _ _ (sym still ∙ rest.is) in
+        absurd (omega arith)
+    go (no apart) other = let rest = other apart in ((ne_eqb _ _ (λ (e : op.client ≡ client). apart (sym e)), rest.0), rest.1 ∙ begun_other n s client op apart)
+
+further : (op : Op) (ops : List Op) (client number : ℕ) → HasCall ops client number → HasCall (op ∷ ops) client number
+further op ops client number h = record { place = suc h.place; op = h.op; there = h.there; by = h.by; counted = h.counted }
+
+-- each call that the counts tell of stands in the history
+pub has_call : (n : ℕ) (s : State) (ops : List Op) (client m number last : ℕ) → IsLegalHistory n s (history_of ops) → calls_of s client ≡ Some m → m < number
+    → calls_of (state_after n s (history_of ops)) client ≡ Some last → number ≤ last → HasCall ops client number
+has_call n s [] client m number last legal is low end high = let same : m ≡ last = some_same _ _ (sym is ∙ end) in absurd (omega arith)
+has_call n s (op ∷ ops) client m number last legal is low end high =
+    go (ℕ_discrete client op.client) (ℕ_discrete number (suc m))
+    (λ e later. has_call n (after n s op.client op.call) ops client (suc m) number last legal.1 (count_now n s op client m (caller n s op legal.0) e is) later end high)
+    (λ apart. has_call n (after n s op.client op.call) ops client m number last legal.1 (calls_other n s client op apart ∙ is) low end high)
+  where
+    above : (number ≡ suc m → ⊥) → suc m < number
+    above apart = omega (arith, apart)
+
+    go : Dec (client ≡ op.client) → Dec (number ≡ suc m) → (client ≡ op.client → suc m < number → HasCall ops client number) → ((client ≡ op.client → ⊥) → HasCall ops client number) → HasCall (op ∷ ops) client number
+    go (yes e) (yes here) own other = record { place = zero; op = op; there = refl; by = sym e; counted = own_number s op client m (caller n s op legal.0) e is ∙ sym here }
+    go (yes e) (no later) own other = further op ops client number (own e (above later))
+    go (no apart) which own other = further op ops client number (other apart)
+
+-- no client makes more calls than it may
+pub calls_few : (n : ℕ) (s : State) (ops : List Op) (client m last : ℕ) → IsLegalHistory n s (history_of ops) → calls_of s client ≡ Some m → m ≤ 2 ^ 56 → calls_of (state_after n s (history_of ops)) client ≡ Some last → last ≤ 2 ^ 56
+calls_few n s [] client m last legal is few end = let same : m ≡ last = some_same _ _ (sym is ∙ end) in omega arith
+calls_few n s (op ∷ ops) client m last legal is few end =
+    go (ℕ_discrete client op.client)
+    (λ e. calls_few n (after n s op.client op.call) ops client (suc m) last legal.1 (count_now n s op client m (caller n s op legal.0) e is) (room e) end)
+    (λ apart. calls_few n (after n s op.client op.call) ops client m last legal.1 (calls_other n s client op apart ∙ is) few end)
+  where
+    room : client ≡ op.client → suc m ≤ 2 ^ 56
+    room e =
+        let c = caller n s op legal.0 in
+        let number = own_number s op client m c e is in
+        let counted = c.number in
+        let most = c.few in
+        omega arith
+
+    go : Dec (client ≡ op.client) → (client ≡ op.client → last ≤ 2 ^ 56) → ((client ≡ op.client → ⊥) → last ≤ 2 ^ 56) → last ≤ 2 ^ 56
+    go (yes e) own other = own e
+    go (no apart) own other = other apart
+
+-- all calls of all clients
+abbrev total : State → ℕ
+total s = sum_by (λ who. who.calls) s.clients
+
+record CountsOne (before after : List Client) : Type 0 where
+  long : length after ≡ length before
+  few : AllByRecursion (λ who. who.calls ≤ 2 ^ 56) before → AllByRecursion (λ who. who.calls ≤ 2 ^ 56) after
+  all : sum_by (λ who. who.calls) after ≡ suc (sum_by (λ who. who.calls) before)
+
+with_seat_counts : (clients : List Client) (client : ℕ) (new who : Client) → seat client clients ≡ Some who → who.calls < 2 ^ 56 → new.calls ≡ suc who.calls → CountsOne clients (with_seat client new clients)
+with_seat_counts clients zero new who at few same = absurd (cc)
+with_seat_counts clients (suc k) new who at few same = record {
+  long = length-set clients k new;
+  few = λ h. AllByRecursion-set (λ who. who.calls ≤ 2 ^ 56) clients k new (omega arith) h;
+  all = sum_by-set_suc (λ who. who.calls) clients k who new at same;
+}
+
+counts_one : (n : ℕ) (s : State) (op : Op) → IsCaller s op → CountsOne s.clients (after n s op.client op.call).clients
+counts_one n s op c = subst (CountsOne s.clients) (sym (after_clients n s op.client op.call)) (go (seat op.client s.clients) c.at)
+  where
+    go : (o : Option Client) → o ≡ Some c.who → CountsOne s.clients (elim o as (λ x. List Client) [ None ↦ s.clients | Some found ↦ with_seat op.client (one_more s op.call found) s.clients ])
+    go None e = absurd (cc)
+    go (Some found) e = let same : found ≡ c.who = cc in with_seat_counts s.clients op.client (one_more s op.call found) c.who c.at c.few (ap (λ (f : Client). suc f.calls) same)
+
+-- no legal history is longer than all clients have numbers
+few_from : (n : ℕ) (s : State) (ops : List Op) → IsLegalHistory n s (history_of ops) → AllByRecursion (λ who. who.calls ≤ 2 ^ 56) s.clients → total s + length ops ≤ length s.clients * 2 ^ 56
+few_from n s [] legal few =
+    let all = sum_by-le (λ (who : Client). who.calls) (2 ^ 56) s.clients (All-from_recursion (λ who. who.calls ≤ 2 ^ 56) s.clients few) in
+    omega arith
+few_from n s (op ∷ ops) legal few =
+    let one = counts_one n s op (caller n s op legal.0) in
+    let rest = few_from n (after n s op.client op.call) ops legal.1 (one.few few) in
+    let all = one.all in
+    let long : length (after n s op.client op.call).clients * 2 ^ 56 ≡ length s.clients * 2 ^ 56 = ap (λ k. k * 2 ^ 56) one.long in
+    omega arith
+
+idle_few : (n : ℕ) → AllByRecursion (λ who. who.calls ≤ 2 ^ 56) (idle_clients n)
+idle_few zero = tt
+idle_few (suc n) = (omega arith, idle_few n)
+
+pub length-idle : (n : ℕ) → length (idle_clients n) ≡ n
+length-idle zero = refl
+length-idle (suc n) = ap suc (length-idle n)
+
+pub few_ops : (n clients : ℕ) (s : State) (ops : List Op) → s.clients ≡ idle_clients clients → clients ≤ 8 → IsLegalHistory n s (history_of ops) → length ops ≤ 2 ^ 59
+few_ops n clients s ops is eight legal =
+    let most = few_from n s ops legal (subst (AllByRecursion (λ who. who.calls ≤ 2 ^ 56)) (sym is) (idle_few clients)) in
+    let long : length s.clients ≡ clients = ap length is ∙ length-idle clients in
+    let bound : length s.clients * 2 ^ 56 ≡ clients * 2 ^ 56 = ap (λ k. k * 2 ^ 56) long in
+    omega arith
+
+pub idle_seat : (clients client : ℕ) → 0 < client → client ≤ clients → seat client (idle_clients clients) ≡ Some (record { calls = 0; at_begin = None })
+idle_seat clients zero some within = absurd (omega arith)
+idle_seat zero (suc k) some within = absurd (omega arith)
+idle_seat (suc n) (suc zero) some within = refl
+idle_seat (suc n) (suc (suc k)) some within = idle_seat n (suc k) (omega arith) (omega arith)

@@ -1,0 +1,103 @@
+-- Legal operations: how a list of them grows, and what its store stands for.
+use Rattle.pref_share.proofs.Common.{◌≡◌, ◌≤◌, List, [], ◌∷◌, ◌++◌, map, length, Some, Ok, Err, ℕ, refl, sym, ap, ◌∙◌, subst, IsPrefix, Call, Op, CoreFault, State, after, refusal, Contents, StandsFor}
+use Rattle.pref_share.proofs.Common.{IsLegal, PlansIn, applied, ran, IsLegalHistory, state_after, numbered_of, AreLegalOps, Opening, IsLegalFrom, MayFollow, LegalIsHistory, first_contents}
+use Rattle.pref_share.proofs.Common.{first_state, history_of, contents_at, state_at, AreLetIn}
+use Rattle.pref_core.proofs.LegalLaws.{applied_stands, IsNext-from}
+use Rattle.pref_core.proofs.VisibleAfterOp.{length-applied, length-ran}
+use Rattle.pref_core.proofs.HistoryLaws.{ops_are_history}
+use Rattle.pref_core.proofs.OpeningLaws.{opened_stands}
+
+abbrev pub reached : Contents → State → List Op → State
+reached contents state ops = state_after (length contents.slots) state (map numbered_of ops)
+
+pub ran-append : (contents : Contents) (xs ys : List Op) → ran contents (xs ++ ys) ≡ ran (ran contents xs) ys
+ran-append contents [] ys = refl
+ran-append contents (x ∷ xs) ys = ran-append (applied contents x) xs ys
+
+pub legal_beginning : (contents : Contents) (state : State) (xs ys : List Op) → AreLegalOps state contents (xs ++ ys) → AreLegalOps state contents xs
+legal_beginning contents state [] ys legal = tt
+legal_beginning contents state (x ∷ xs) ys legal = (legal.0, legal_beginning (applied contents x) (after (length contents.slots) state x.client x.call) xs ys legal.1)
+
+pub legal_append : (contents : Contents) (state : State) (xs ys : List Op) → StandsFor contents state → AreLegalOps state contents xs → AreLegalOps (reached contents state xs) (ran contents xs) ys → AreLegalOps state contents (xs ++ ys)
+legal_append contents state [] ys stands legal more = more
+legal_append contents state (x ∷ xs) ys stands legal more =
+    let next = after (length contents.slots) state x.client x.call in
+    let size = length-applied contents state x stands legal.0 in (
+      legal.0,
+      legal_append (applied contents x) next xs ys (applied_stands contents state x stands legal.0) legal.1
+          (subst (λ n. AreLegalOps (state_after n next (map numbered_of xs)) (ran (applied contents x) xs) ys) (sym size) more),
+    )
+
+-- what the test of each operation lets in is legal
+pub legal_from_let_in : (contents : Contents) (state : State) (ops : List Op) → StandsFor contents state → AreLetIn contents ops → AreLegalOps state contents ops
+legal_from_let_in contents state [] stands let_in = tt
+legal_from_let_in contents state (op ∷ ops) stands let_in =
+    let legal : IsLegal state contents op = record { next = IsNext-from contents state op stands let_in.0; fits = let_in.1 } in
+    (legal, legal_from_let_in (applied contents op) (after (length contents.slots) state op.client op.call) ops (applied_stands contents state op stands legal) let_in.2)
+
+-- the opening, over which all histories of a board stand
+pub opens : (o : Opening) → length o.rows ≤ o.limits.capacity → StandsFor (first_contents o) (first_state o) × (length (first_contents o).slots ≡ o.limits.capacity)
+opens o fits = opened_stands o.limits.clients o.limits.capacity o.rows (first_contents o) fits refl refl refl refl
+
+pub state_at_is : (o : Opening) (ops : List Op) → length o.rows ≤ o.limits.capacity → reached (first_contents o) (first_state o) ops ≡ state_at o ops
+state_at_is o ops fits = ap (λ n. state_after n (first_state o) (history_of ops)) (opens o fits).1
+
+pub legal_stands : (o : Opening) (ops : List Op) → IsLegalFrom o ops → StandsFor (contents_at o ops) (state_at o ops)
+legal_stands o ops legal =
+    subst (StandsFor (contents_at o ops)) (state_at_is o ops legal.fits) (ops_are_history (first_contents o) (first_state o) ops (opens o legal.fits).0 legal.each).1
+
+-- the same of a store that is seen to be what the history leaves
+pub left_stands : (o : Opening) (ops : List Op) (store : Contents) → IsLegalFrom o ops → store ≡ contents_at o ops → StandsFor store (state_at o ops)
+left_stands o ops store legal is = subst (λ (s : Contents). StandsFor s (state_at o ops)) (sym is) (legal_stands o ops legal)
+
+-- A plan on the store that a legal history leaves may follow it, ..
+pub planned : (o : Opening) (ops : List Op) (store : Contents) (client : ℕ) (call : Call) (op : Op) → IsLegalFrom o ops → store ≡ contents_at o ops
+    → ((state : State) → StandsFor store state → PlansIn state store client call (Ok op)) → (op.client ≡ client) × (op.call ≡ call) × MayFollow o ops op
+planned o ops store client call op legal is plans =
+    subst (λ (x : Contents). (op.client ≡ client) × (op.call ≡ call) × IsLegal (state_at o ops) x op) is
+    (plans (state_at o ops) (subst (λ (x : Contents). StandsFor x (state_at o ops)) (sym is) (legal_stands o ops legal)))
+
+-- .. and a refusal to plan is the sequential table's.
+pub unplanned : (o : Opening) (ops : List Op) (store : Contents) (client : ℕ) (call : Call) (fault : CoreFault) → IsLegalFrom o ops → store ≡ contents_at o ops
+    → ((state : State) → StandsFor store state → PlansIn state store client call (Err fault)) → refusal (state_at o ops) client call ≡ Some fault
+unplanned o ops store client call fault legal is plans =
+    plans (state_at o ops) (subst (λ (x : Contents). StandsFor x (state_at o ops)) (sym is) (legal_stands o ops legal))
+
+pub legal_capacity : (o : Opening) (ops : List Op) → length o.rows ≤ o.limits.capacity → length (contents_at o ops).slots ≡ o.limits.capacity
+legal_capacity o ops fits = length-ran ops (first_contents o) ∙ (opens o fits).1
+
+pub history_rest : (n : ℕ) (s : State) (xs ys : List Op) → IsLegalHistory n s (history_of (xs ++ ys)) → IsLegalHistory n (state_after n s (history_of xs)) (history_of ys)
+history_rest n s [] ys legal = legal
+history_rest n s (x ∷ xs) ys legal = history_rest n (after n s x.client x.call) xs ys legal.1
+
+pub legal_is_history : LegalIsHistory
+legal_is_history o ops legal =
+    let opened = opens o legal.fits in
+    subst (λ n. IsLegalHistory n (first_state o) (history_of ops)) opened.1 (ops_are_history (first_contents o) (first_state o) ops opened.0 legal.each).0
+
+pub contents_at-append : (o : Opening) (xs ys : List Op) → contents_at o (xs ++ ys) ≡ ran (contents_at o xs) ys
+contents_at-append o xs ys = ran-append (first_contents o) xs ys
+
+-- a beginning of a legal history is legal, and what follows is legal there
+pub legal-prefix : (o : Opening) (xs ys : List Op) → IsPrefix xs ys → IsLegalFrom o ys → IsLegalFrom o xs
+legal-prefix o xs ys p legal = record {
+  allowed = legal.allowed;
+  fits = legal.fits;
+  each = legal_beginning (first_contents o) (first_state o) xs p.0 (subst (AreLegalOps (first_state o) (first_contents o)) (sym p.1) legal.each);
+}
+
+-- one more operation
+pub legal-more : (o : Opening) (xs : List Op) (op : Op) → IsLegalFrom o xs → MayFollow o xs op → IsLegalFrom o (xs ++ op ∷ [])
+legal-more o xs op legal may = record {
+  allowed = legal.allowed;
+  fits = legal.fits;
+  each = legal_append (first_contents o) (first_state o) xs (op ∷ []) (opens o legal.fits).0 legal.each
+      (subst (λ s. AreLegalOps s (contents_at o xs) (op ∷ [])) (sym (state_at_is o xs legal.fits)) (may, tt));
+}
+
+state_after-append : (n : _) (state : State) (xs ys : List Op) → state_after n state (map numbered_of (xs ++ ys)) ≡ state_after n (state_after n state (map numbered_of xs)) (map numbered_of ys)
+state_after-append n state [] ys = refl
+state_after-append n state (x ∷ xs) ys = state_after-append n (after n state x.client x.call) xs ys
+
+pub state_at-append : (o : Opening) (xs ys : List Op) → state_at o (xs ++ ys) ≡ state_after o.limits.capacity (state_at o xs) (history_of ys)
+state_at-append o xs ys = state_after-append o.limits.capacity (first_state o) xs ys

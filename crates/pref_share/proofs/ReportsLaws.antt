@@ -1,0 +1,297 @@
+-- The reports of clients, and what follows from them of the whole run.
+use Rattle.pref_share.proofs.Common.{◌≡◌, ℕ, suc, ◌<◌, ◌+◌, ◌^◌, Bool, true, false, List, [], ◌++◌, length, map, get_or, Option, Some, None, slice_get, refl, sym, ap, ◌∙◌, subst, arith, inl, inr}
+use Rattle.pref_share.proofs.Common.{⊎_elim, option_or, All, append-nil, length-append, All-get_or, slice_get_within, get_or_from_slice_get, Vec, IsPrefix, Op, Act, Reply, ShareFault, Core}
+use Rattle.pref_share.proofs.Common.{ClientInUse, Held, Closed, Opening, IsLegalFrom, HasCall, calls_at, Standing, Sees, IsInUse, RunsTo, StopsAt, IsJointRun, IsPart, WasLetIn, Ends, Did, DidActs}
+use Rattle.pref_share.proofs.Common.{IsFoundInUse, IsWithin, StandsWithin, AreReports, AreTaken, IsFirstStopped, AreWorked, DidTask, IsFirstOf, Settles, report_of, Worked, Listed}
+use Rattle.std.specs.Option.{is_some}
+use Rattle.pref_share.specs.declared.run.Report.{Report}
+use Rattle.pref_share.proofs.PairLaws.{Pairs, choose, pairs_all, pairs_at, pairs_cut, pairs_length}
+use Rattle.pref_share.proofs.PrefixLaws.{prefix_self, prefix_trans}
+use Rattle.pref_share.proofs.RefusalReplies.{stops_in_use}
+use Rattle.pref_share.proofs.RunsLaws.{there, mapped, length_map, length_told, behind, given_at}
+
+sees_on : (o : Opening) (s t u : Standing) → Sees o s t → Sees o t u → Sees o s u
+sees_on o s t u a b = record {
+  further = prefix_trans s.seen t.seen u.seen a.further b.further;
+  legal = b.legal;
+  counted = b.counted ∙ a.counted;
+  same = b.same ∙ a.same;
+  query = b.query ∙ a.query;
+}
+
+-- why a client stopped that is found in use is so still, and where it had not stopped it is that it is in use
+ends_in_use : (o : Opening) (said : ℕ → Bool → Type 0) (s t : Standing) (rest : List Act) (stopped : Option ShareFault) → IsInUse o s (suc s.counter) t → Ends said s rest stopped
+    → Ends said t rest (option_or stopped (Some (ClientInUse (suc s.counter))))
+ends_in_use o said s t rest None in_use h = ((stops_in_use o s t (suc s.counter) in_use).1, inl h)
+ends_in_use o said s t rest (Some fault) in_use h = (stays fault h.0, subst (λ number. WasLetIn (said number) rest fault) (sym in_use.sees.same) h.1)
+  where
+    held : ℕ → Type 0
+    held client = said client false
+
+    stays : (fault : ShareFault) → StopsAt held s rest fault → StopsAt held t rest fault
+    stays (Core fault) h = h
+    stays (ClientInUse number) h = subst (λ n. (n ≡ suc t.counter) × HasCall t.seen t.number n) (sym h.0) (stops_in_use o s t (suc s.counter) in_use).1
+    stays (Held client) h = (h.0 ∙ sym in_use.sees.same, h.1, h.2)
+    stays Closed h = h
+
+-- a client that is found in use has stopped
+is_stopped : (stopped : Option ShareFault) (fault : ShareFault) → is_some (option_or stopped (Some fault)) ≡ true
+is_stopped None fault = refl
+is_stopped (Some other) fault = refl
+
+-- what a client did is so still where it is settled, which says then that it shares the history, or is in use
+did_settled : {J T : Type 0} (o : Opening) (says : ℕ → ℕ → Bool → Type 0) (took : T → List Reply → Type 0) (s : Standing) (acts : List Act) (history : List Op) (old new : Worked J T) → DidTask o says took s acts old → Settles o history old new
+    → DidTask o says took s acts new × StandsWithin o history new.client new.stopped
+did_settled {J} {T} o says took s acts history old new d (inl h) = (
+  subst (λ (w : Worked J T). DidTask o says took s acts w) (sym h.same) d,
+  subst (λ (w : Worked J T). StandsWithin o history w.client w.stopped) (sym h.same) (record { inside = h.is_in.inside; alone = inl h.is_in.alone }),
+)
+did_settled {J} {T} o says took s acts history old new (replies, taken, did) (inr h) = (
+  (
+    replies,
+    subst (λ (t : T). took t replies) (sym h.task) taken,
+    record {
+      done = did.done;
+      rest = did.rest;
+      in_order = did.in_order;
+      last = did.last;
+      runs = did.runs;
+      let_in = did.let_in;
+      since = sees_on o did.last old.client new.client did.since h.in_use.sees;
+      ends = subst (λ (x : Option ShareFault). Ends (λ client. says client (length did.done)) new.client did.rest x) (sym h.stopped) (ends_in_use o (λ client. says client (length did.done)) old.client new.client did.rest old.stopped h.in_use did.ends);
+    },
+  ),
+  record { inside = subst (λ (l : List Op). IsPrefix l history) (sym h.seen) (prefix_self history); alone = inr (ap is_some h.stopped ∙ is_stopped old.stopped (ClientInUse (suc old.client.counter)), h.seen, holds) },
+)
+  where
+    holds : HasCall history new.client.number (suc new.client.counter)
+    holds = let in_use = (stops_in_use o old.client new.client (suc old.client.counter) h.in_use).1 in subst (λ n. HasCall history new.client.number n) in_use.0 (subst (λ (l : List Op). HasCall l new.client.number (suc old.client.counter)) h.seen in_use.1)
+
+-- What came of all tasks, from what each worker did and what was found after the joins.
+pub are_worked : {A J T : Type 0} (o : Opening) (says : ℕ → ℕ → Bool → Type 0) (left : T → List Act) (took : T → T → List Reply → Type 0) (history : List Op) (client : A → Standing) (task : A → T) (jobs : List A) (before after : List (Worked J T))
+    (clients : List Standing) (tasks : List T) → map client jobs ≡ clients → map task jobs ≡ tasks → IsLegalFrom o history → length before ≡ length jobs → length after ≡ length before
+    → ((i : ℕ) (job : A) (d : Worked J T) → i < length jobs → DidTask o says (took (task (get_or jobs i job))) (client (get_or jobs i job)) (left (task (get_or jobs i job))) (get_or before i d))
+    → ((i : ℕ) (d : Worked J T) → i < length before → Settles o history (get_or before i d) (get_or after i d)) → AreWorked o says left took clients tasks after
+are_worked {A} {J} {T} o says left took history client task jobs before after clients tasks paired listed legal worked kept did settles = record {
+  history = history;
+  legal = legal;
+  each_worked = kept ∙ worked ∙ sym (length_map client jobs) ∙ ap length paired;
+  each = each;
+}
+  where
+    each : (i : ℕ) (s : Standing) (t : T) → slice_get clients i ≡ Some s → slice_get tasks i ≡ Some t → (w : Worked J T) × (slice_get after i ≡ Some w) × DidTask o says (took t) s (left t) w × StandsWithin o history w.client w.stopped
+    each i s t at listed_at =
+        let given = given_at client task jobs clients tasks paired listed i s t at listed_at in
+        let j : A = given.0 in
+        let short : i < length jobs = slice_get_within jobs i j given.1 in
+        let found = there after i (omega (arith, short, worked, kept)) in
+        let w : Worked J T = found.0 in
+        let old : Worked J T = get_or before i w in
+        let done : DidTask o says (took (task j)) (client j) (left (task j)) old = subst (λ (x : A). DidTask o says (took (task x)) (client x) (left (task x)) old) (get_or_from_slice_get jobs i j j given.1) (did i j w short) in
+        let mine : DidTask o says (took t) s (left t) old = subst (λ (x : T). DidTask o says (took x) s (left x) old) given.3 (subst (λ (x : Standing). DidTask o says (took (task j)) x (left (task j)) old) given.2 done) in
+        let settled : Settles o history old w = subst (λ (x : Worked J T). Settles o history old x) (get_or_from_slice_get after i w w found.1) (settles i w (omega (arith, short, worked))) in
+        let both = did_settled o says (took t) s (left t) history old w mine settled in
+        (w, found.1, both.0, both.1)
+
+-- what the lists of two kinds at one place are
+same_at : {A B C : Type 0} (f : A → C) (g : B → C) (xs : List A) (ys : List B) → map f xs ≡ map g ys → (i : ℕ) (x : A) (y : B) → slice_get xs i ≡ Some x → slice_get ys i ≡ Some y → f x ≡ g y
+same_at {A} {B} {C} f g xs ys same i x y x_at y_at =
+    let both : Some (f x) ≡ Some (g y) = sym (mapped f xs i x x_at) ∙ ap (λ (l : List C). slice_get l i) same ∙ mapped g ys i y y_at in cc both
+
+-- The reports of lists of acts.
+pub are_reports : {J : Type 0} (o : Opening) (says : ℕ → ℕ → Bool → Type 0) (left : Listed → List Act) (clients : List Standing) (acts : List (Vec Act)) (tasks : List Listed) (all : List (Worked J Listed)) (reports : List (Report J))
+    → map left tasks ≡ map (λ list. list.items) acts → reports ≡ map report_of all → AreWorked o says left (λ _ listed replies. listed.replies.items ≡ replies) clients tasks all → AreReports o says clients acts reports
+are_reports {J} o says left clients acts tasks all reports listed returned h = record {
+  history = h.history;
+  legal = h.legal;
+  reported = ap length returned ∙ length_map report_of all ∙ h.each_worked;
+  each = each;
+}
+  where
+    each : (i : ℕ) (s : Standing) (list : Vec Act) → slice_get clients i ≡ Some s → slice_get acts i ≡ Some list → (report : Report J) × (slice_get reports i ≡ Some report) × Did o says s list.items report × IsWithin o h.history report
+    each i s list at listed_at =
+        let short : i < length tasks = omega (arith, slice_get_within acts i list listed_at, ap length listed, length_map left tasks, length_map (λ (l : Vec Act). l.items) acts) in
+        let (t, t_at) = there tasks i short in
+        let same : left t ≡ list.items = same_at left (λ (l : Vec Act). l.items) tasks acts listed i t list t_at listed_at in
+        let (w, w_at, (replies, taken, did), within) = h.each i s t at t_at in (
+          report_of w,
+          ap (λ (l : List (Report J)). slice_get l i) returned ∙ mapped report_of all i w w_at,
+          subst (λ (l : List Act). DidActs o says s l w.client w.task.replies.items w.stopped) same (subst (λ (l : List Reply). DidActs o says s (left t) w.client l w.stopped) (sym taken) did),
+          within,
+        )
+
+-- The parts of all clients, where none stopped.
+joint : {J : Type 0} (o : Opening) (says : ℕ → ℕ → Bool → Type 0) (clients : List Standing) (lists : List (Vec Act)) (reports : List (Report J)) (out : List (Vec Reply))
+    → AreReports o says clients lists reports → All (λ r. r.stopped ≡ None) reports → out ≡ map (λ r. r.replies) reports → IsJointRun o clients lists out
+joint {J} o says clients lists reports out all none given = record {
+  history = all.history;
+  legal = all.legal;
+  lists = ap length given ∙ length_map (λ r. r.replies) reports ∙ all.reported;
+  each = part;
+}
+  where
+    part : (i : ℕ) (s : Standing) (list : Vec Act) → slice_get clients i ≡ Some s → slice_get lists i ≡ Some list → (returned : Vec Reply) × (slice_get out i ≡ Some returned) × IsPart o all.history s list.items returned.items
+    part i s list at listed_at =
+        let (r, r_at, did, within) = all.each i s list at listed_at in
+        let went_on : r.stopped ≡ None = subst (λ (x : Report J). x.stopped ≡ None) (get_or_from_slice_get reports i r r r_at) (All-get_or (λ (x : Report J). x.stopped ≡ None) reports i r (slice_get_within reports i r r_at) none) in
+        let nothing_left : did.rest ≡ [] = subst (λ (x : Option ShareFault). Ends (λ client. says client (length did.done)) r.client did.rest x) went_on did.ends in
+        let did_all : did.done ≡ list.items = sym (did.in_order ∙ ap (λ rest. did.done ++ rest) nothing_left ∙ append-nil did.done) in
+        let alone : calls_at o all.history r.client.number ≡ Some r.client.counter = ⊎_elim (λ e. e) (λ (x : IsFoundInUse all.history r.client r.stopped). let apart : true ≡ is_some {T = ShareFault} None = sym x.0 ∙ ap is_some went_on in absurd (cc)) within.alone in (
+          r.replies,
+          ap (λ (l : List (Vec Reply)). slice_get l i) given ∙ mapped (λ x. x.replies) reports i r r_at,
+          record {
+            last = did.last;
+            runs = subst (λ (l : List Act). RunsTo o s l r.replies.items did.last) did_all did.runs;
+            inside = prefix_trans did.last.seen r.client.seen all.history did.since.further within.inside;
+            alone = ap (calls_at o all.history) (sym did.since.same) ∙ alone ∙ ap Some did.since.counted;
+          },
+        )
+
+-- The joint run of lists of acts as tasks, in the replies that each of them took.
+pub joint_of_lists : (o : Opening) (clients : List Standing) (acts : List (Vec Act)) (tasks done : List Listed) (replies out : List (Vec Reply)) → AreTaken (λ _ listed took. listed.replies.items ≡ took) tasks done replies
+    → IsJointRun o clients acts replies → out ≡ map (λ listed. listed.replies) done → IsJointRun o clients acts out
+joint_of_lists o clients acts tasks done replies out taken run is = record {
+  history = run.history;
+  legal = run.legal;
+  lists = ap length is ∙ length_map (λ listed. listed.replies) done ∙ taken.tasks_done ∙ sym taken.lists ∙ run.lists;
+  each = each;
+}
+  where
+    each : (i : ℕ) (s : Standing) (list : Vec Act) → slice_get clients i ≡ Some s → slice_get acts i ≡ Some list → (returned : Vec Reply) × (slice_get out i ≡ Some returned) × IsPart o run.history s list.items returned.items
+    each i s list at listed_at =
+        let (returned, told_at, part) = run.each i s list at listed_at in
+        let short : i < length tasks = omega (arith, slice_get_within replies i returned told_at, taken.lists) in
+        let (first, first_at) = there tasks i short in
+        let (listed, done_at) = there done i (omega (arith, short, taken.tasks_done)) in
+        let (other, other_at, took) = taken.each i first listed first_at done_at in
+        let both : Some other ≡ Some returned = sym other_at ∙ told_at in
+        let same : other ≡ returned = cc both in (
+          listed.replies,
+          ap (λ (l : List (Vec Reply)). slice_get l i) is ∙ mapped (λ (x : Listed). x.replies) done i listed done_at,
+          subst (λ (l : List Reply). IsPart o run.history s list.items l) (sym (took ∙ ap (λ (v : Vec Reply). v.items) same)) part,
+        )
+
+-- Why the first of these clients stopped that did, as each client may stop: with these acts left, and held only where its gate may hold it.
+pub first_stops : {J : Type 0} (o : Opening) (says : ℕ → ℕ → Bool → Type 0) (clients : List Standing) (lists : List (Vec Act)) (reports : List (Report J)) (fault : ShareFault)
+    → AreReports o says clients lists reports → length lists ≡ length clients → IsFirstStopped reports fault → (s : Standing) × (rest : List Act) × (turn : ℕ) × StopsAt (λ client. says client turn false) s rest fault
+first_stops {J} o says clients lists reports fault all many first =
+    let place : ℕ = length first.before in
+    let here : slice_get reports place ≡ Some first.report = ap (λ (l : List (Report J)). slice_get l place) first.in_order ∙ behind first.before first.after first.report in
+    let short : place < length clients = omega (arith, slice_get_within reports place first.report here, all.reported) in
+    let client = there clients place short in
+    let list = there lists place (omega (arith, short, many)) in
+    let (r, r_at, did, within) = all.each place client.0 list.0 client.1 list.1 in
+    let found : Some r ≡ Some first.report = sym r_at ∙ here in
+    let same : r ≡ first.report = cc in
+    let stopped : r.stopped ≡ Some fault = ap (λ (x : Report J). x.stopped) same ∙ first.stopped in
+    (r.client, did.rest, length did.done, (subst (λ (x : Option ShareFault). Ends (λ client. says client (length did.done)) r.client did.rest x) stopped did.ends).0)
+
+-- Tasks have reports, whose replies are those that they took.
+module _ {J T X : Type 0} (o : Opening) (says : ℕ → ℕ → Bool → Type 0) (left : T → List Act) (took : T → T → List Reply → Type 0) (clients : List Standing) (acts : List (Vec Act)) (tasks : List T) (all : List (Worked J T)) (given : Vec X)
+    (listed : map (λ list. list.items) acts ≡ map left tasks) (many : length acts ≡ length clients) (h : AreWorked o says left took clients tasks all) where
+  -- the report of a task at its place
+  record Reports (i : ℕ) (w : Worked J T) (report : Report J) : Type 0 where
+    client : report.client ≡ w.client
+    stopped : report.stopped ≡ w.stopped
+    taken : (t : T) → slice_get tasks i ≡ Some t → took t w.task report.replies.items
+    did : (s : Standing) (list : Vec Act) → slice_get clients i ≡ Some s → slice_get acts i ≡ Some list → Did o says s list.items report
+    within : StandsWithin o h.history w.client w.stopped
+
+  as_many : length tasks ≡ length acts
+  as_many = omega (arith, ap length listed, length_map (λ (l : Vec Act). l.items) acts, length_map left tasks)
+
+  -- as many replies as there are acts fit in a list
+  abbrev held : (replies : List Reply) → length replies < 2 ^ 63 → Vec Reply
+  held replies few = record { ptr = given.ptr; len = length replies; cap = length replies; alloc = given.alloc; items = replies; ok = (refl, omega arith); small = few }
+
+  few_replies : (s t : Standing) (list : Vec Act) (stopped : Option ShareFault) (replies : List Reply) → DidActs o says s list.items t replies stopped → length replies < 2 ^ 63
+  few_replies s t list stopped replies did =
+      let returned = length_told o s did.last did.done replies did.runs in
+      let whole : length list.items ≡ length did.done + length did.rest = ap length did.in_order ∙ length-append did.done did.rest in
+      omega (arith, returned, whole, list.ok.0, list.ok.1, list.small)
+
+  report_at : (i : ℕ) (w : Worked J T) → slice_get all i ≡ Some w → (report : Report J) × Reports i w report
+  report_at i w at =
+      let short : i < length clients = omega (arith, slice_get_within all i w at, h.each_worked) in
+      let (s, s_at) = there clients i short in
+      let (list, l_at) = there acts i (omega (arith, short, many)) in
+      let (t, t_at) = there tasks i (omega (arith, short, many, as_many)) in
+      let same_acts : list.items ≡ left t = same_at (λ (l : Vec Act). l.items) left acts tasks listed i list t l_at t_at in
+      let (v, v_at, (replies, taken, did), within) = h.each i s t s_at t_at in
+      let both : Some v ≡ Some w = sym v_at ∙ at in
+      let same : v ≡ w = cc both in
+      let mine : DidActs o says s (left t) w.client replies w.stopped = subst (λ (x : Worked J T). DidActs o says s (left t) x.client replies x.stopped) same did in
+      let done : DidActs o says s list.items w.client replies w.stopped = subst (λ (l : List Act). DidActs o says s l w.client replies w.stopped) (sym same_acts) mine in
+      let report : Report J = record { client = w.client; replies = held replies (few_replies s w.client list w.stopped replies done); stopped = w.stopped } in (
+        report,
+        record {
+          client = refl;
+          stopped = refl;
+          taken = λ first first_at.
+              let t_both : Some t ≡ Some first = sym t_at ∙ first_at in
+              let t_same : t ≡ first = cc t_both in
+              subst (λ (x : T). took x w.task replies) t_same (subst (λ (x : Worked J T). took t x.task replies) same taken);
+          did = λ other_s other other_s_at other_at.
+              let s_both : Some s ≡ Some other_s = sym s_at ∙ other_s_at in
+              let s_same : s ≡ other_s = cc s_both in
+              let l_both : Some list ≡ Some other = sym l_at ∙ other_at in
+              let l_same : list ≡ other = cc l_both in
+              subst (λ (x : Vec Act). Did o says other_s x.items report) l_same (subst (λ (x : Standing). Did o says x list.items report) s_same done);
+          within = subst (λ (x : Worked J T). StandsWithin o h.history x.client x.stopped) same within;
+        },
+      )
+
+  returned : (reports : List (Report J)) × Pairs Reports all reports
+  returned = choose Reports all report_at
+
+  are_told : AreReports o says clients acts returned.0
+  are_told = record {
+    history = h.history;
+    legal = h.legal;
+    reported = pairs_length Reports all returned.0 returned.1 ∙ h.each_worked;
+    each = λ i s list at l_at.
+        let (w, w_at) = there all i (omega (arith, slice_get_within clients i s at, h.each_worked)) in
+        let (report, r_at, r) = pairs_at Reports all returned.0 returned.1 i w w_at in (
+          report,
+          r_at,
+          r.did s list at l_at,
+          subst (λ (x : Option ShareFault). StandsWithin o h.history report.client x) (sym r.stopped) (subst (λ (x : Standing). StandsWithin o h.history x w.stopped) (sym r.client) r.within),
+        );
+  }
+
+  -- why the first client stopped that did
+  pub tasks_refused : (fault : ShareFault) → IsFirstOf all fault → (reports : List (Report J)) × AreReports o says clients acts reports × IsFirstStopped reports fault
+  tasks_refused fault first =
+      let pairs = subst (λ (l : List (Worked J T)). Pairs Reports l returned.0) first.in_order returned.1 in
+      let (before, report, after, is, earlier, here) = pairs_cut Reports first.before first.worked first.after returned.0 pairs in (
+        returned.0,
+        are_told,
+        record {
+          before = before;
+          report = report;
+          after = after;
+          in_order = is;
+          went_on = pairs_all Reports (λ w. w.stopped ≡ None) (λ r. r.stopped ≡ None) (λ i w r paired none. paired.stopped ∙ none) first.before before earlier first.went_on;
+          stopped = here.stopped ∙ first.stopped;
+        },
+      )
+
+  -- the joint run of tasks of which none stopped
+  pub tasks_joint : (done : List T) → done ≡ map (λ w. w.task) all → All (λ w. w.stopped ≡ None) all → (replies : List (Vec Reply)) × AreTaken took tasks done replies × IsJointRun o clients acts replies
+  tasks_joint done are none =
+      let replies = map (λ (r : Report J). r.replies) returned.0 in
+      let all_done : length all ≡ length tasks = omega (arith, h.each_worked, many, as_many) in (
+        replies,
+        record {
+          lists = length_map (λ (r : Report J). r.replies) returned.0 ∙ pairs_length Reports all returned.0 returned.1 ∙ all_done;
+          tasks_done = ap length are ∙ length_map (λ w. w.task) all ∙ all_done;
+          each = λ i first task first_at at.
+              let (w, w_at) = there all i (omega (arith, slice_get_within tasks i first first_at, all_done)) in
+              let (report, r_at, r) = pairs_at Reports all returned.0 returned.1 i w w_at in
+              let here : slice_get done i ≡ Some w.task = ap (λ (l : List T). slice_get l i) are ∙ mapped (λ (w : Worked J T). w.task) all i w w_at in
+              let both : Some w.task ≡ Some task = sym here ∙ at in
+              let same : w.task ≡ task = cc both in
+              (report.replies, mapped (λ (r : Report J). r.replies) returned.0 i report r_at, subst (λ (t : T). took first t report.replies.items) same (r.taken first first_at));
+        },
+        joint o says clients acts returned.0 replies are_told (pairs_all Reports (λ w. w.stopped ≡ None) (λ r. r.stopped ≡ None) (λ i w r paired none. paired.stopped ∙ none) all returned.0 returned.1 none) refl,
+      )

@@ -1,0 +1,168 @@
+-- Runs of acts, one act longer, and what stands at a place of two lists.
+use Rattle.pref_share.proofs.Common.{◌≡◌, ℕ, zero, suc, ◌<◌, Bool, true, false, List, [], ◌∷◌, ◌++◌, ◌+◌, ◌^◌, length, map, get_or, Some, Result, Ok, slice_get, refl, sym, ap, ◌∙◌, subst, arith, inr}
+use Rattle.pref_share.proofs.Common.{⊎_elim, cases_eq, append_assoc, get_or-map, length-append, get_or_from_slice_get, slice_get_within, Vec, All, IfOk, Act, Reply, ShareFault, Core, ClientInUse}
+use Rattle.pref_share.proofs.Common.{Held, Closed, Sees, IsLegalFrom, Opening, Standing, StepsTo, Runs, none, then, RunsTo, StopsAt, nobody, DidActs, WasLetIn}
+use Rattle.pref_share.proofs.ActSteps.{sees_same}
+
+pub runs_more : (o : Opening) (s t u : Standing) (acts : List Act) (replies longer : List Reply) (act : Act) (reply : Reply) → RunsTo o s acts replies t → StepsTo o t act reply u → longer ≡ replies ++ reply ∷ [] → RunsTo o s (acts ++ act ∷ []) longer u
+runs_more o s t u acts replies longer act reply run step grown =
+    subst (λ (l : List Reply). RunsTo o s (acts ++ act ∷ []) l u) (sym grown) (record { stands = run.stands ++ u ∷ []; runs = then acts replies run.stands t act reply u run.runs step })
+
+-- each act has its reply
+pub length_told : (o : Opening) (s t : Standing) (acts : List Act) (replies : List Reply) → RunsTo o s acts replies t → length replies ≡ length acts
+length_told o s t acts replies run = go acts replies run.stands t run.runs
+  where
+    go : (acts : List Act) (replies : List Reply) (stands : List Standing) (u : Standing) → Runs o s acts replies stands u → length replies ≡ length acts
+    go _ _ _ _ none = refl
+    go _ _ _ _ (then acts replies stands t act reply u runs step) = length-append replies (reply ∷ []) ∙ ap (λ n. n + 1) (go acts replies stands t runs) ∙ sym (length-append acts (act ∷ []))
+
+-- acts leave a client its number
+pub same_number : (o : Opening) (s t : Standing) (acts : List Act) (replies : List Reply) → RunsTo o s acts replies t → t.number ≡ s.number
+same_number o s t acts replies run = go acts replies run.stands t run.runs
+  where
+    go : (acts : List Act) (replies : List Reply) (stands : List Standing) (u : Standing) → Runs o s acts replies stands u → u.number ≡ s.number
+    go _ _ _ _ none = refl
+    go _ _ _ _ (then acts replies stands t act reply u runs step) = step.same ∙ go acts replies stands t runs
+
+-- the gate let in one act more
+pub let_in_more : (said : ℕ → Bool → Type 0) (acts : List Act) (act : Act) → ((turn : ℕ) → turn < length acts → said turn true) → said (length acts) true → (turn : ℕ) → turn < length (acts ++ act ∷ []) → said turn true
+let_in_more said acts act before now turn lt =
+    ⊎_elim (λ (e : turn ≡ length acts). subst (λ n. said n true) (sym e) now) (λ (apart : turn ≡ length acts → ⊥). before turn (omega (arith, apart, lt, length-append acts (act ∷ [])))) (cases_eq turn (length acts))
+
+-- why a client stops before an act it does with more acts behind it, and with a gate
+pub stops_before : (held : ℕ → Type 0) (s : Standing) (act : Act) (more : List Act) (fault : ShareFault) → StopsAt nobody s (act ∷ []) fault → StopsAt held s (act ∷ more) fault
+stops_before held s act more (Core fault) h = h
+stops_before held s act more (ClientInUse number) h = h
+stops_before held s act more (Held client) h = absurd h.2
+stops_before held s act more Closed h = h
+
+pub was_let_in : (said : Bool → Type 0) (rest : List Act) (fault : ShareFault) → said true → WasLetIn said rest fault
+was_let_in said rest (Core fault) h = inr h
+was_let_in said rest (ClientInUse number) h = inr h
+was_let_in said rest (Held client) h = tt
+was_let_in said rest Closed h = inr h
+
+-- Where a client stands in its task, at the turn of the next act: it has done the first of the acts, and the task took the replies.
+pub record Goes {T : Type 0} (o : Opening) (says : ℕ → ℕ → Bool → Type 0) (left : T → List Act) (took : T → List Reply → Type 0) (s : Standing) (acts : List Act) (client : Standing) (task : T) (turn : ℕ) : Type 0 where
+  pub done : List Act
+  pub replies : List Reply
+  pub runs : RunsTo o s done replies client
+  pub in_order : acts ≡ done ++ left task
+  pub legal : IsLegalFrom o client.seen
+  pub taken : took task replies
+  pub turns : turn ≡ length done
+  pub let_in : (turn : ℕ) → turn < length done → says s.number turn true
+
+module _ {T : Type 0} (o : Opening) (says : ℕ → ℕ → Bool → Type 0) (left : T → List Act) (took : T → List Reply → Type 0) (s : Standing) (acts : List Act) where
+  abbrev Now : Standing → T → ℕ → Type 0
+  Now client task turn = Goes o says left took s acts client task turn
+
+  pub goes_first : (task : T) → acts ≡ left task → took task [] → IsLegalFrom o s.seen → Now s task 0
+  goes_first task same fresh legal = record {
+    done = [];
+    replies = [];
+    runs = record { stands = []; runs = none };
+    in_order = same;
+    legal = legal;
+    taken = fresh;
+    turns = refl;
+    let_in = λ turn lt. absurd (omega arith);
+  }
+
+  -- the next act came, and was answered
+  pub goes_more : (client next : Standing) (old came taken : T) (turn : ℕ) (act : Act) (reply : Reply) → Now client old turn → left old ≡ act ∷ left came → ((replies : List Reply) → took old replies → took came replies) → says s.number turn true
+      → StepsTo o client act reply next → left taken ≡ left came → ((replies : List Reply) → took came replies → took taken (replies ++ reply ∷ [])) → Now next taken (turn + 1)
+  goes_more client next old came taken turn act reply now comes kept said step same takes = record {
+    done = now.done ++ act ∷ [];
+    replies = now.replies ++ reply ∷ [];
+    runs = runs_more o s client next now.done now.replies (now.replies ++ reply ∷ []) act reply now.runs step refl;
+    in_order = now.in_order ∙ ap (λ rest. now.done ++ rest) (comes ∙ ap (λ rest. act ∷ rest) (sym same)) ∙ sym (append_assoc now.done (act ∷ []) (left taken));
+    legal = step.legal;
+    taken = takes now.replies (kept now.replies now.taken);
+    turns = ap (λ n. n + 1) now.turns ∙ sym (length-append now.done (act ∷ []));
+    let_in = let_in_more (says s.number) now.done act now.let_in (subst (λ n. says s.number n true) now.turns said);
+  }
+
+  -- it was held before the next act
+  pub goes_held : (client : Standing) (old came : T) (turn : ℕ) (act : Act) → Now client old turn → left old ≡ act ∷ left came → ((replies : List Reply) → took old replies → took came replies) → says s.number turn false
+      → (replies : List Reply) × took came replies × DidActs o says s acts client replies (Some (Held s.number))
+  goes_held client old came turn act now comes kept said = (
+    now.replies,
+    kept now.replies now.taken,
+    record {
+      done = now.done;
+      rest = act ∷ left came;
+      in_order = now.in_order ∙ ap (λ rest. now.done ++ rest) comes;
+      last = client;
+      runs = now.runs;
+      since = sees_same o client client now.legal refl;
+      let_in = now.let_in;
+      ends = ((sym (same_number o s client now.done now.replies now.runs), omega arith, subst (λ n. says s.number n false) now.turns said), tt);
+    },
+  )
+
+  -- the next act stopped it
+  pub goes_no_further : (client stopped : Standing) (old came : T) (turn : ℕ) (act : Act) (fault : ShareFault) → Now client old turn → left old ≡ act ∷ left came → ((replies : List Reply) → took old replies → took came replies) → says s.number turn true
+      → Sees o client stopped × StopsAt nobody stopped (act ∷ []) fault → (replies : List Reply) × took came replies × DidActs o says s acts stopped replies (Some fault)
+  goes_no_further client stopped old came turn act fault now comes kept said (sees, stops) =
+      let number : s.number ≡ stopped.number = sym (same_number o s client now.done now.replies now.runs) ∙ sym sees.same in
+      let said_here : says stopped.number (length now.done) true = subst (λ n. says n (length now.done) true) number (subst (λ n. says s.number n true) now.turns said) in (
+        now.replies,
+        kept now.replies now.taken,
+        record {
+          done = now.done;
+          rest = act ∷ left came;
+          in_order = now.in_order ∙ ap (λ rest. now.done ++ rest) comes;
+          last = client;
+          runs = now.runs;
+          since = sees;
+          let_in = now.let_in;
+          ends = (stops_before (λ client. says client (length now.done) false) stopped act (left came) fault stops, was_let_in (says stopped.number (length now.done)) (act ∷ left came) fault said_here);
+        },
+      )
+
+pub there : {B : Type 0} (l : List B) (i : ℕ) → i < length l → (b : B) × (slice_get l i ≡ Some b)
+there [] i lt = absurd (omega arith)
+there (x ∷ xs) zero lt = (x, refl)
+there (x ∷ xs) (suc i) lt = there xs i (omega arith)
+
+pub mapped : {B C : Type 0} (f : B → C) (l : List B) (i : ℕ) (x : B) → slice_get l i ≡ Some x → slice_get (map f l) i ≡ Some (f x)
+mapped f [] i x e = absurd (cc)
+mapped f (y ∷ ys) zero x e = let same : y ≡ x = cc in ap (λ z. Some (f z)) same
+mapped f (y ∷ ys) (suc i) x e = mapped f ys i x e
+
+pub length_map : {B C : Type 0} (f : B → C) (l : List B) → length (map f l) ≡ length l
+length_map f [] = refl
+length_map f (x ∷ xs) = ap suc (length_map f xs)
+
+-- what stands behind a beginning
+pub behind : {B : Type 0} (before after : List B) (x : B) → slice_get (before ++ x ∷ after) (length before) ≡ Some x
+behind [] after x = refl
+behind (y ∷ ys) after x = behind ys after x
+
+-- what the worker at a place was given
+pub given_at : {A B C : Type 0} (client : A → B) (acts : A → C) (jobs : List A) (clients : List B) (lists : List C) → map client jobs ≡ clients → map acts jobs ≡ lists
+    → (i : ℕ) (s : B) (list : C) → slice_get clients i ≡ Some s → slice_get lists i ≡ Some list → (job : A) × (slice_get jobs i ≡ Some job) × (client job ≡ s) × (acts job ≡ list)
+given_at {A} {B} {C} client acts jobs clients lists paired listed i s list at listed_at =
+    let within : i < length jobs = (let a = slice_get_within clients i s at in let b = ap length paired in let c = length_map client jobs in omega arith) in
+    let job = there jobs i within in
+    let j : A = job.0 in
+    let client_is : client j ≡ s = (let a : slice_get (map client jobs) i ≡ Some (client j) = mapped client jobs i j job.1 in let b : slice_get clients i ≡ Some (client j) = ap (λ (l : List B). slice_get l i) (sym paired) ∙ a in let e : Some (client j) ≡ Some s = sym b ∙ at in cc) in
+    let acts_is : acts j ≡ list = (let a : slice_get (map acts jobs) i ≡ Some (acts j) = mapped acts jobs i j job.1 in let b : slice_get lists i ≡ Some (acts j) = ap (λ (l : List C). slice_get l i) (sym listed) ∙ a in let e : Some (acts j) ≡ Some list = sym b ∙ listed_at in cc) in
+    (j, job.1, client_is, acts_is)
+
+-- what holds of all images holds so of what has them
+pub all_mapped : {A B : Type 0} (f : A → B) (P : B → Type 0) (xs : List A) (ys : List B) → map f xs ≡ ys → All P ys → All (λ x. P (f x)) xs
+all_mapped f P xs ys same all = λ i d lt. subst P (ap (λ l. get_or l i (f d)) (sym same) ∙ get_or-map f xs i d (f d) lt) (all i (f d) (omega (arith, lt, ap length same, length_map f xs)))
+
+-- what the results at a place say, all of which are there
+pub told_at : {A E : Type 0} (P : A → Type 0) (all : List (Result A E)) (xs : List A) → map Ok xs ≡ all → (i : ℕ) (d : A) → i < length xs → IfOk (get_or all i (Ok d)) P → P (get_or xs i d)
+told_at P all xs same i d lt h = let is = ap (λ l. get_or l i (Ok d)) (sym same) ∙ get_or-map Ok xs i d (Ok d) lt in rw is at h
+
+-- lists that a vector holds are short
+pub few_each : {A : Type 0} (f : A → List Act) (xs : List A) (acts : List (Vec Act)) → map f xs ≡ map (λ list. list.items) acts → All (λ x. length (f x) < 2 ^ 63) xs
+few_each f xs acts same = λ i d lt.
+    let (list, at) = there acts i (omega (arith, lt, ap length same, length_map f xs, length_map (λ (l : Vec Act). l.items) acts)) in
+    let here : get_or (map f xs) i (f d) ≡ list.items = get_or_from_slice_get (map f xs) i list.items (f d) (ap (λ (l : List (List Act)). slice_get l i) same ∙ mapped (λ (l : Vec Act). l.items) acts i list at) in
+    let is : f (get_or xs i d) ≡ list.items = sym (get_or-map f xs i d (f d) lt) ∙ here in
+    omega (arith, ap length is, list.ok.0, list.ok.1, list.small)

@@ -1,0 +1,378 @@
+-- What a client's counter and query are along the history that it sees.
+use Rattle.pref_share.proofs.Common.{◌≡◌, ℕ, suc, ◌^◌, ◌<◌, ◌≤◌, Bool, true, false, cond, nat_lt, ◌&&◌, ◌==◌, List, [], ◌∷◌, ◌++◌, length, Option, Some, None, is_some, Result, Ok, Err, refl, sym, ap}
+use Rattle.pref_share.proofs.Common.{◌∙◌, subst, arith, inl, inr, MatchResult, IfOk, IfErr, AllByRecursion, unwrap_or, Vec, IsPrefix, Call, Op, Added, Done, Full, ShareFault, CoreFault, State, Client}
+use Rattle.pref_share.proofs.Common.{Snapshot, is_change, calls_of, begun_of, begun_after, after, success_outcome, outcome, refusal, refusal_of, committed_of, Contents, StandsFor, Shows, ShowsBegin}
+use Rattle.pref_share.proofs.Common.{eqb-true, ran, same_number, IsLegalHistory, state_after, begin, NextIsNew, IsScanned, Answers, Scanned, begun_after-change, Opening, IsLegalFrom, HasCall}
+use Rattle.pref_share.proofs.Common.{MayFollow, history_of, contents_at, state_at, calls_at, first_state, Asking, Standing, Sees, Joins, Changes, Commits, RefusesChange, IsAnswer, own_refusal}
+use Rattle.pref_share.proofs.Common.{AsksOrNone, Asks, Stands, IsJoined, GivesNone, snapshot_at, outcome_or_refusal}
+use Rattle.pref_term.specs.Question.{Question}
+use Rattle.pref_sky.specs.declared.entry.Ranked.{Ranked}
+use Rattle.pref_core.specs.declared.store.caller.Caller.{Caller}
+use Rattle.pref_core.specs.declared.call.Call.TheVariants.{Commit, Begin, Finish, Abandon}
+use Rattle.pref_core.specs.declared.call.Outcome.{Outcome}
+use Rattle.pref_core.specs.declared.call.Outcome.TheVariants.{NoSuchRow}
+use Rattle.pref_core.specs.declared.changes.Change.{Change}
+use Rattle.pref_core.specs.declared.event.Committed.{Committed}
+use Rattle.pref_core.specs.Changes.{added_by}
+use Rattle.pref_core.specs.Stability.{is_end, ends_query}
+use Rattle.pref_core.specs.Scans.{Scan}
+use Rattle.pref_core.proofs.OutcomeLaws.{SameSeat, nobody, somebody, same_seat}
+use Rattle.pref_core.proofs.VisibleAfterOp.{begun_kept}
+use Rattle.pref_core.proofs.QueryLaws.{stays_on_its_way, begun_on_its_way, next_is_new_on_its_way, scanned_on_its_way, answers_the_begin}
+use Rattle.pref_share.proofs.PrefixLaws.{prefix_self, prefix_trans}
+use Rattle.pref_share.proofs.HistoryLaws.{legal-more, legal-prefix, legal_stands, legal_capacity, contents_at-append, state_at-append, history_rest, legal_is_history}
+use Rattle.pref_share.proofs.CallCounts.{IsGrown, caller, calls_own, begun_own, calls_grow, none_own, has_call, calls_few, idle_seat}
+
+-- what follows a beginning is a legal history there
+rest_history : (o : Opening) (xs ys : List Op) → IsLegalFrom o (xs ++ ys) → IsLegalHistory o.limits.capacity (state_at o xs) (history_of ys)
+rest_history o xs ys legal = history_rest o.limits.capacity (first_state o) xs ys (legal_is_history o (xs ++ ys) legal)
+
+none_ends : (client : ℕ) (ops : List Op) → AllByRecursion (λ op. (op.client == client) ≡ false) ops → AllByRecursion (λ op. ends_query client op ≡ false) ops
+none_ends client [] h = tt
+none_ends client (op ∷ ops) h = (ap (λ b. b && is_end op.call) h.0, none_ends client ops h.1)
+
+-- the history from the place where the client's count is known on
+record Onward (o : Opening) (number counter : ℕ) (at longer : List Op) : Type 0 where
+  rest : List Op
+  whole : at ++ rest ≡ longer
+  legal : IsLegalHistory o.limits.capacity (state_at o at) (history_of rest)
+  state : state_at o longer ≡ state_after o.limits.capacity (state_at o at) (history_of rest)
+  contents : contents_at o longer ≡ ran (contents_at o at) rest
+
+onward : (o : Opening) (number counter : ℕ) (at longer : List Op) → IsPrefix at longer → IsLegalFrom o longer → Onward o number counter at longer
+onward o number counter at longer p legal = record {
+  rest = p.0;
+  whole = p.1;
+  legal = rest_history o at p.0 (subst (IsLegalFrom o) (sym p.1) legal);
+  state = ap (state_at o) (sym p.1) ∙ state_at-append o at p.0;
+  contents = ap (contents_at o) (sym p.1) ∙ contents_at-append o at p.0;
+}
+
+-- the client's query at a longer history that holds none of its calls beyond those that it counts
+followed : (o : Opening) (number counter : ℕ) (at longer : List Op) (query : Option Asking) → IsLegalFrom o at → IsPrefix at longer → IsLegalFrom o longer → calls_at o at number ≡ Some counter → calls_at o longer number ≡ Some counter → AsksOrNone o at number query → AsksOrNone o longer number query
+followed o number counter at longer None legal p legal' was is h =
+    let on = onward o number counter at longer p legal' in
+    let none = none_own o.limits.capacity (state_at o at) on.rest number counter on.legal was (ap (λ s. calls_of s number) (sym on.state) ∙ is) in
+    ap (λ s. begun_of s number) on.state ∙ none.1 ∙ h
+followed o number counter at longer (Some asking) legal p legal' was is h =
+    let on = onward o number counter at longer p legal' in
+    let none = none_own o.limits.capacity (state_at o at) on.rest number counter on.legal was (ap (λ s. calls_of s number) (sym on.state) ∙ is) in
+    let kept = begun_kept (contents_at o at) (state_at o at) number (snapshot_at o asking.at_begin) (legal_stands o at legal) h.found in
+    record {
+      at_begin = prefix_trans asking.at_begin at longer h.at_begin p;
+      found = ap (λ s. begun_of s number) on.state ∙ none.1 ∙ h.found;
+      stamp = h.stamp;
+      way = subst (λ (c : Contents). Rattle.pref_core.specs.Queries.IsOnItsWay c.slots asking.scan) (sym on.contents)
+          (stays_on_its_way (contents_at o at) number asking.scan (kept.0 ∙ ap Some (sym h.stamp)) (subst (λ n. n ≤ (contents_at o at).stamp) (sym h.stamp) kept.1) on.rest (none_ends number on.rest none.0) h.way);
+    }
+
+pub moved_up : (o : Opening) (number counter : ℕ) (seen longer : List Op) (query : Option Asking) → Stands o number counter seen query → IsPrefix seen longer → IsLegalFrom o longer → calls_at o longer number ≡ Some counter → AsksOrNone o longer number query
+moved_up o number counter seen longer query h p legal is =
+    followed o number counter h.at longer query (legal-prefix o h.at seen h.before h.legal) (prefix_trans h.at seen longer h.before p) legal h.count is h.follows
+
+-- a new client
+pub stands_new : (o : Opening) (number : ℕ) (seen : List Op) → IsLegalFrom o seen → seen ≡ [] → (0 < number) × (number ≤ o.limits.clients) → Stands o number 0 seen None
+stands_new o number seen legal none one_of =
+    let at = idle_seat o.limits.clients number one_of.0 one_of.1 in
+    record {
+      legal = legal;
+      one_of = one_of;
+      at = [];
+      before = (seen, refl);
+      count = ap (λ (x : Option Client). elim x as (λ y. Option ℕ) [ None ↦ None | Some found ↦ Some found.calls ]) at;
+      follows = ap (λ (x : Option Client). elim x as (λ y. Option Snapshot) [ None ↦ None | Some found ↦ found.at_begin ]) at;
+    }
+
+-- a client that has seen more
+pub stands_seen : (o : Opening) (number counter : ℕ) (seen longer : List Op) (query : Option Asking) → Stands o number counter seen query → IsPrefix seen longer → IsLegalFrom o longer → Stands o number counter longer query
+stands_seen o number counter seen longer query h p legal = record {
+  legal = legal;
+  one_of = h.one_of;
+  at = h.at;
+  before = prefix_trans h.at seen longer h.before p;
+  count = h.count;
+  follows = h.follows;
+}
+
+-- the same, of all that it has seen
+stands_whole : (o : Opening) (number counter : ℕ) (seen : List Op) (query : Option Asking) → IsLegalFrom o seen → (0 < number) × (number ≤ o.limits.clients) → calls_at o seen number ≡ Some counter → AsksOrNone o seen number query → Stands o number counter seen query
+stands_whole o number counter seen query legal one_of count follows = record { legal = legal; one_of = one_of; at = seen; before = prefix_self seen; count = count; follows = follows }
+
+grown : (o : Opening) (number counter : ℕ) (seen longer : List Op) (query : Option Asking) → Stands o number counter seen query → IsPrefix seen longer → IsLegalFrom o longer → IsGrown (calls_at o longer number) counter
+grown o number counter seen longer query h p legal =
+    let on = onward o number counter h.at longer (prefix_trans h.at seen longer h.before p) legal in
+    let g = calls_grow o.limits.capacity (state_at o h.at) on.rest number counter on.legal h.count in
+    record { count = g.count; is = ap (λ s. calls_of s number) on.state ∙ g.is; more = g.more }
+
+-- where the whole history counts no more calls than the client, it holds just its calls, ..
+pub even : (o : Opening) (number counter last : ℕ) (seen whole : List Op) (query : Option Asking) → Stands o number counter seen query → IsPrefix seen whole → IsLegalFrom o whole → last ≡ unwrap_or (calls_at o whole number) 0 → last ≤ counter → calls_at o whole number ≡ Some counter
+even o number counter last seen whole query h p legal is le =
+    let g = grown o number counter seen whole query h p legal in
+    let more = g.more in
+    let same : last ≡ g.count = is ∙ ap (λ (x : Option ℕ). unwrap_or x 0) g.is in
+    let e : g.count ≡ counter = omega arith in
+    g.is ∙ ap Some e
+
+has_later : (xs ys : List Op) (client number : ℕ) → HasCall ys client number → HasCall (xs ++ ys) client number
+has_later [] ys client number h = h
+has_later (x ∷ xs) ys client number h =
+    let r = has_later xs ys client number h in
+    record { place = suc r.place; op = r.op; there = r.there; by = r.by; counted = r.counted }
+
+-- .. and else it holds the client's next call
+pub ahead : (o : Opening) (number counter last : ℕ) (seen whole : List Op) (query : Option Asking) → Stands o number counter seen query → IsPrefix seen whole → IsLegalFrom o whole → last ≡ unwrap_or (calls_at o whole number) 0 → counter < last → HasCall whole number (suc counter)
+ahead o number counter last seen whole query h p legal is more =
+    let on = onward o number counter h.at whole (prefix_trans h.at seen whole h.before p) legal in
+    let g = calls_grow o.limits.capacity (state_at o h.at) on.rest number counter on.legal h.count in
+    let same : last ≡ g.count = is ∙ ap (λ (x : Option ℕ). unwrap_or x 0) (ap (λ s. calls_of s number) on.state ∙ g.is) in
+    subst (λ l. HasCall l number (suc counter)) on.whole
+    (has_later h.at on.rest number (suc counter) (has_call o.limits.capacity (state_at o h.at) on.rest number counter (suc counter) g.count on.legal h.count (omega arith) g.is (omega arith)))
+
+-- a client makes no more calls than it may
+pub counter_small : (o : Opening) (number counter : ℕ) (seen : List Op) (query : Option Asking) → Stands o number counter seen query → counter ≤ 2 ^ 56
+counter_small o number counter seen query h =
+    let seat = idle_seat o.limits.clients number h.one_of.0 h.one_of.1 in
+    let zero_calls : calls_of (first_state o) number ≡ Some 0 = ap (λ (x : Option Client). elim x as (λ y. Option ℕ) [ None ↦ None | Some found ↦ Some found.calls ]) seat in
+    calls_few o.limits.capacity (first_state o) h.at number 0 counter (legal_is_history o h.at (legal-prefix o h.at seen h.before h.legal)) zero_calls (omega arith) h.count
+
+-- a call that joined
+record IsAdded (o : Opening) (old : Standing) (call : Call) (before seen : List Op) : Type 0 where
+  legal : IsLegalFrom o seen
+  legal_before : IsLegalFrom o before
+  further : IsPrefix before seen
+  state : state_at o seen ≡ after o.limits.capacity (state_at o before) old.number call
+  count : calls_at o seen old.number ≡ Some (suc old.counter)
+  at_begin : begun_of (state_at o seen) old.number ≡ begun_after (state_at o before) call (begun_of (state_at o before) old.number)
+  op : Op
+  contents : contents_at o seen ≡ ran (contents_at o before) (op ∷ [])
+  called : op.call ≡ call
+
+is_added : (o : Opening) (old : Standing) (call : Call) (returned : Outcome) (seen : List Op) (stamp : ℕ) → (j : IsJoined o old call returned seen stamp) → IsAdded o old call j.before seen
+is_added o old call returned seen stamp j =
+    let legal : IsLegalFrom o (j.before ++ j.op ∷ []) = legal-more o j.before j.op j.legal j.may in
+    let who = caller o.limits.capacity (state_at o j.before) j.op (rest_history o j.before (j.op ∷ []) legal).0 in
+    let client : j.op.client ≡ old.number = ap (λ n. n.client) j.is in
+    let number : j.op.number ≡ suc old.counter = ap (λ n. n.number) j.is in
+    let called : j.op.call ≡ call = ap (λ n. n.call) j.is in
+    let state : state_at o seen ≡ after o.limits.capacity (state_at o j.before) j.op.client j.op.call = ap (state_at o) j.ends ∙ state_at-append o j.before (j.op ∷ []) in
+    let s = state_at o j.before in
+    record {
+      legal = subst (IsLegalFrom o) (sym j.ends) legal;
+      legal_before = j.legal;
+      further = (j.op ∷ [], sym j.ends);
+      state = state ∙ (λ i. after o.limits.capacity s (client i) (called i));
+      count = ap (λ x. calls_of x old.number) state ∙ (ap (calls_of (after o.limits.capacity s j.op.client j.op.call)) (sym client) ∙ calls_own o.limits.capacity s j.op who ∙ ap Some number);
+      at_begin = ap (λ x. begun_of x old.number) state ∙ (ap (begun_of (after o.limits.capacity s j.op.client j.op.call)) (sym client) ∙ begun_own o.limits.capacity s j.op who ∙ (λ i. begun_after s (called i) (begun_of s (client i))));
+      op = j.op;
+      contents = ap (contents_at o) j.ends ∙ contents_at-append o j.before (j.op ∷ []);
+      called = called;
+    }
+
+change_ends_none : (call : Call) → is_change call ≡ true → is_end call ≡ false
+change_ends_none Finish h = absurd (cc)
+change_ends_none Abandon h = absurd (cc)
+change_ends_none call h = refl
+
+and_false : (b : Bool) → b && false ≡ false
+and_false true = refl
+and_false false = refl
+
+changed_follows : (o : Opening) (old : Standing) (call : Call) (seen : List Op) (query : Option Asking) (before : List Op) (a : IsAdded o old call before seen) → is_change call ≡ true → AsksOrNone o before old.number query → AsksOrNone o seen old.number query
+changed_follows o old call seen None before a change h = a.at_begin ∙ sym (begun_after-change (state_at o before) call (begun_of (state_at o before) old.number) change) ∙ h
+changed_follows o old call seen (Some asking) before a change h =
+    let kept = begun_kept (contents_at o before) (state_at o before) old.number (snapshot_at o asking.at_begin) (legal_stands o before a.legal_before) h.found in
+    let ends : ends_query old.number a.op ≡ false = ap (λ b. (a.op.client == old.number) && b) (ap is_end a.called ∙ change_ends_none call change) ∙ and_false (a.op.client == old.number) in
+    record {
+      at_begin = prefix_trans asking.at_begin before seen h.at_begin a.further;
+      found = a.at_begin ∙ sym (begun_after-change (state_at o before) call (begun_of (state_at o before) old.number) change) ∙ h.found;
+      stamp = h.stamp;
+      way = subst (λ (c : Contents). Rattle.pref_core.specs.Queries.IsOnItsWay c.slots asking.scan) (sym a.contents)
+          (stays_on_its_way (contents_at o before) old.number asking.scan (kept.0 ∙ ap Some (sym h.stamp)) (subst (λ n. n ≤ (contents_at o before).stamp) (sym h.stamp) kept.1) (a.op ∷ []) (ends, tt) h.way);
+    }
+
+-- the client after a change, ..
+pub stands_changed : (o : Opening) (old : Standing) (call : Call) (returned : Outcome) (seen : List Op) (stamp counter : ℕ) → Stands o old.number old.counter old.seen old.query → IsJoined o old call returned seen stamp → is_change call ≡ true → counter ≡ suc old.counter → Stands o old.number counter seen old.query
+stands_changed o old call returned seen stamp counter h j change up =
+    let a = is_added o old call returned seen stamp j in
+    let follows = moved_up o old.number old.counter old.seen j.before old.query h j.further j.legal j.alone in
+    stands_whole o old.number counter seen old.query a.legal h.one_of (a.count ∙ ap Some (sym up)) (changed_follows o old call seen old.query j.before a change follows)
+
+-- .. after a begin, ..
+pub stands_begun : (o : Opening) (old : Standing) (returned : Outcome) (seen : List Op) (stamp counter : ℕ) (ask : Question) → Stands o old.number old.counter old.seen old.query → IsJoined o old Begin returned seen stamp → counter ≡ suc old.counter
+    → Stands o old.number counter seen (Some (record { scan = begin ask stamp o.limits; at_begin = seen }))
+stands_begun o old returned seen stamp counter ask h j up =
+    let a = is_added o old Begin returned seen stamp j in
+    let same : snapshot_at o j.before ≡ snapshot_at o seen = ap (λ (s : State). record { table = s.table; commits = s.commits }) (sym a.state) in
+    stands_whole o old.number counter seen (Some (record { scan = begin ask stamp o.limits; at_begin = seen })) a.legal h.one_of (a.count ∙ ap Some (sym up))
+    (record {
+      at_begin = prefix_self seen;
+      found = a.at_begin ∙ ap Some same;
+      stamp = j.commits;
+      way = begun_on_its_way o.limits (contents_at o seen).slots ask stamp a.legal.allowed (legal_capacity o seen a.legal.fits);
+    })
+
+none_after : (state : State) (call : Call) (found : Option Snapshot) → is_end call ≡ true → begun_after state call found ≡ None
+none_after state Finish found h = refl
+none_after state Abandon found h = refl
+none_after state call found h = absurd (cc)
+
+-- .. and after its query ended
+pub stands_ended : (o : Opening) (old : Standing) (call : Call) (returned : Outcome) (seen : List Op) (stamp counter : ℕ) → Stands o old.number old.counter old.seen old.query → IsJoined o old call returned seen stamp → is_end call ≡ true → counter ≡ suc old.counter → Stands o old.number counter seen None
+stands_ended o old call returned seen stamp counter h j ends up =
+    let a = is_added o old call returned seen stamp j in
+    stands_whole o old.number counter seen None a.legal h.one_of (a.count ∙ ap Some (sym up)) (a.at_begin ∙ none_after (state_at o j.before) call (begun_of (state_at o j.before) old.number) ends)
+
+-- what the call tells
+pub joins : (o : Opening) (old new : Standing) (call : Call) (returned : Outcome) (seen : List Op) (stamp : ℕ) → own_refusal old call ≡ None → IsJoined o old call returned seen stamp → new.seen ≡ seen → new.counter ≡ suc old.counter → new.number ≡ old.number → Joins o old call returned new
+joins o old new call returned seen stamp accepted j same up number =
+    let told_is : j.op.outcome ≡ returned = ap (λ n. n.outcome) j.is in
+    let called : j.op.call ≡ call = ap (λ n. n.call) j.is in
+    record {
+      accepted = accepted;
+      before = j.before;
+      op = j.op;
+      further = j.further;
+      ends = same ∙ j.ends;
+      is = j.is;
+      alone = j.alone;
+      reply = sym told_is ∙ j.may.next.outcome ∙ (λ i. outcome (legal_capacity o j.before j.legal.fits i) (state_at o j.before) (called i));
+      legal = subst (IsLegalFrom o) (sym (same ∙ j.ends)) (legal-more o j.before j.op j.legal j.may);
+      counted = up;
+      same = number;
+    }
+
+end_is_done : (capacity : ℕ) (state : State) (call : Call) → is_end call ≡ true → outcome capacity state call ≡ Done
+end_is_done capacity state Finish h = refl
+end_is_done capacity state Abandon h = refl
+end_is_done capacity state call h = absurd (cc)
+
+-- the end of a query is done
+pub joins_as_done : (o : Opening) (old new : Standing) (call : Call) (returned : Outcome) → is_end call ≡ true → Joins o old call returned new → Joins o old call Done new
+joins_as_done o old new call returned ends j = subst (λ (t : Outcome). Joins o old call t new) (j.reply ∙ end_is_done o.limits.capacity (state_at o j.before) call ends) j
+
+-- the table at an open query's begin is what the slots show there
+shows_begun : (contents : Contents) (state : State) (client : ℕ) (snapshot : Snapshot) → StandsFor contents state → begun_of state client ≡ Some snapshot → Shows contents.slots snapshot.commits snapshot.table
+shows_begun contents state client snapshot h is = go (same_seat contents.slots contents.stamp contents.callers state.clients client h.clients) is
+  where
+    at : (b : Option ℕ) (f : Option Snapshot) → ShowsBegin contents.slots contents.stamp b f → f ≡ Some snapshot → Shows contents.slots snapshot.commits snapshot.table
+    at None None s e = absurd (cc)
+    at (Some stamp) (Some found) s e =
+        let same : found ≡ snapshot = cc in
+        subst (λ (x : Snapshot). Shows contents.slots x.commits x.table) same (subst (λ n. Shows contents.slots n found.table) s.0 s.2)
+    at None (Some found) s e = absurd s
+    at (Some stamp) None s e = absurd s
+
+    go : {a : Option Caller} {b : Option Client} → SameSeat contents.slots contents.stamp a b → elim b as (λ x. Option Snapshot) [ None ↦ None | Some found ↦ found.at_begin ] ≡ Some snapshot → Shows contents.slots snapshot.commits snapshot.table
+    go nobody e = absurd (cc)
+    go (somebody caller found s) e = at caller.at_begin found.at_begin s.at_begin e
+
+asks_shows : (o : Opening) (at : List Op) (number : ℕ) (asking : Asking) → IsLegalFrom o at → Asks o at number asking → Shows (contents_at o at).slots asking.scan.stamp (state_at o asking.at_begin).table
+asks_shows o at number asking legal h =
+    subst (λ n. Shows (contents_at o at).slots n (state_at o asking.at_begin).table) (sym h.stamp)
+    (shows_begun (contents_at o at) (state_at o at) number (snapshot_at o asking.at_begin) (legal_stands o at legal) h.found)
+
+-- the open query's answer is that of the table at its begin
+pub answers : (o : Opening) (number counter : ℕ) (seen : List Op) (asking : Asking) (result : Result (Vec Ranked) CoreFault) → Stands o number counter seen (Some asking) → Answers asking.scan result
+    → MatchResult result (λ ranked. IsAnswer o (record { number = number; counter = counter; seen = seen; query = Some asking }) ranked.items) (λ fault. GivesNone (record { number = number; counter = counter; seen = seen; query = Some asking }) fault)
+answers o number counter seen asking (Ok ranked) h returned =
+    let at_legal = legal-prefix o h.at seen h.before h.legal in
+    record {
+      asking = asking;
+      is_open = refl;
+      done = returned.0;
+      answer = answers_the_begin (contents_at o h.at).slots asking.scan (state_at o asking.at_begin).table ranked.items (asks_shows o h.at number asking at_legal h.follows) h.follows.way returned.0 returned.1;
+    }
+answers o number counter seen asking (Err fault) h (inl t) =
+    subst (GivesNone (record { number = number; counter = counter; seen = seen; query = Some asking })) (sym t.0) (record { asking = asking; is_open = refl; left_is = refl; some = t.1 })
+answers o number counter seen asking (Err fault) h (inr t) = subst (GivesNone (record { number = number; counter = counter; seen = seen; query = Some asking })) (sym t.0) (record { asking = asking; is_open = refl; done = t.1 })
+
+-- the next block is new to the open query, ..
+pub next_new : (o : Opening) (number counter : ℕ) (seen now : List Op) (asking : Asking) → Stands o number counter seen (Some asking) → IsPrefix seen now → IsLegalFrom o now → calls_at o now number ≡ Some counter → NextIsNew asking.scan (contents_at o now).slots
+next_new o number counter seen now asking h p legal is =
+    let asks = moved_up o number counter seen now (Some asking) h p legal is in
+    next_is_new_on_its_way (contents_at o now).slots asking.scan (state_at o asking.at_begin).table (asks_shows o now number asking legal asks) asks.way
+
+-- .. and a scan of it leaves the query on its way
+pub stands_scanned : (o : Opening) (number counter : ℕ) (seen now : List Op) (asking : Asking) (new : Scan) → Stands o number counter seen (Some asking) → IsPrefix seen now → IsLegalFrom o now → calls_at o now number ≡ Some counter → IsScanned asking.scan (contents_at o now).slots new
+    → Stands o number counter now (Some (record { scan = new; at_begin = asking.at_begin }))
+stands_scanned o number counter seen now asking new h p legal is scanned =
+    let asks = moved_up o number counter seen now (Some asking) h p legal is in
+    stands_whole o number counter now (Some (record { scan = new; at_begin = asking.at_begin })) legal h.one_of is
+    (record {
+      at_begin = asks.at_begin;
+      found = asks.found;
+      stamp = scanned.stamp ∙ asks.stamp;
+      way = scanned_on_its_way (contents_at o now).slots asking.scan new (state_at o asking.at_begin).table (asks_shows o now number asking legal asks) asks.way scanned;
+    })
+
+open_alike : (o : Opening) (number : ℕ) (at : List Op) (query : Option Asking) → AsksOrNone o at number query → is_some (begun_of (state_at o at) number) ≡ is_some query
+open_alike o number at None h = ap is_some h
+open_alike o number at (Some asking) h = ap is_some h.found
+
+-- the table refuses a call as the client's own counter and query do
+pub same_refusal : (o : Opening) (old : Standing) (at : List Op) (call : Call) → calls_at o at old.number ≡ Some old.counter → AsksOrNone o at old.number old.query → refusal (state_at o at) old.number call ≡ own_refusal old call
+same_refusal o old at call is h = λ i. refusal_of (is i) (open_alike o old.number at old.query h i) call
+
+-- a planned call that was added to the history
+pub joined : (o : Opening) (old : Standing) (call : Call) (history seen : List Op) (op : Op) (stamp : ℕ) → IsPrefix old.seen history → IsLegalFrom o history → calls_at o history old.number ≡ Some old.counter
+    → (op.client ≡ old.number) × (op.call ≡ call) × MayFollow o history op → seen ≡ history ++ op ∷ [] → stamp ≡ (state_at o seen).commits → IsJoined o old call op.outcome seen stamp
+joined o old call history seen op stamp p legal is plan ends commits =
+    let alike : calls_of (state_at o history) op.client ≡ Some old.counter = ap (calls_of (state_at o history)) plan.0 ∙ is in
+    let number : suc old.counter ≡ op.number = eqb-true _ _ (subst (λ n. same_number n op.number ≡ true) alike plan.2.next.number) in
+    record {
+      before = history;
+      op = op;
+      further = p;
+      legal = legal;
+      may = plan.2;
+      ends = ends;
+      is = (λ i. record { client = plan.0 i; number = sym number i; call = plan.1 i; outcome = op.outcome });
+      alone = is;
+      commits = commits;
+    }
+
+-- what a change tells by its outcome
+pub change_told : (o : Opening) (old new : Standing) (call : Call) (returned : Outcome) (result : Result Outcome ShareFault) → result ≡ outcome_or_refusal returned → Joins o old call returned new → new.query ≡ old.query
+    → IfOk result (λ done. Changes o old call done new) × IfErr result (λ fault. RefusesChange o old call fault new)
+change_told o old new call returned result e j q = subst (λ (r : Result Outcome ShareFault). IfOk r (λ done. Changes o old call done new) × IfErr r (λ fault. RefusesChange o old call fault new)) (sym e) (go returned j)
+  where
+    go : (t : Outcome) → Joins o old call t new → IfOk (outcome_or_refusal t) (λ done. Changes o old call done new) × IfErr (outcome_or_refusal t) (λ fault. RefusesChange o old call fault new)
+    go (Added id) j = ((j, q), tt)
+    go Done j = ((j, q), tt)
+    go (NoSuchRow id) j = (tt, (j, q))
+    go (Full needed) j = (tt, (j, q))
+
+-- what a commit tells that is done
+pub commit_told : (o : Opening) (old new : Standing) (commit : List Change) (outcome : Outcome) (returned : Committed) (next_id : ℕ) → Changes o old (Commit commit) outcome new → outcome ≡ success_outcome next_id (Commit commit)
+    → returned ≡ committed_of next_id commit → Commits o old commit returned new
+commit_told o old new commit outcome returned next_id joined is told_is = (
+  subst (λ (x : Outcome). Changes o old (Commit commit) x new) (is ∙ same_outcome (nat_lt 0 (added_by commit)) ∙ ap (λ (x : Committed). success_outcome x.first (Commit commit)) (sym told_is)) joined,
+  told_is ∙ ap (λ (id : ℕ). record { changes = length commit; first = id }) (same_first (nat_lt 0 (added_by commit))) ∙ ap (λ (x : Committed). committed_of x.first commit) (sym told_is),
+)
+  where
+    same_outcome : (adds : Bool) → cond adds (Added next_id) Done ≡ cond adds (Added (cond adds next_id 0)) Done
+    same_outcome true = refl
+    same_outcome false = refl
+
+    same_first : (adds : Bool) → cond adds next_id 0 ≡ cond adds (cond adds next_id 0) 0
+    same_first true = refl
+    same_first false = refl
+
+pub sees : (o : Opening) (old new : Standing) → IsPrefix old.seen new.seen → IsLegalFrom o new.seen → new.counter ≡ old.counter → new.number ≡ old.number → new.query ≡ old.query → Sees o old new
+sees o old new further legal counted same query = record { further = further; legal = legal; counted = counted; same = same; query = query }
+
+pub scanned : (o : Opening) (old new : Standing) (asking : Asking) (after : Scan) (left : ℕ) → old.query ≡ Some asking → new.query ≡ Some (record { scan = after; at_begin = asking.at_begin }) → left ≡ after.left → IsScanned asking.scan (contents_at o new.seen).slots after
+    → IsPrefix old.seen new.seen → IsLegalFrom o new.seen → calls_at o new.seen old.number ≡ Some old.counter → new.counter ≡ old.counter → new.number ≡ old.number → Scanned o old left new
+scanned o old new asking after left q query left_is scans further legal alone counted same = record {
+  asking = asking;
+  is_open = q;
+  after = after;
+  query = query;
+  left_is = left_is;
+  scans = scans;
+  further = further;
+  legal = legal;
+  alone = alone;
+  counted = counted;
+  same = same;
+}

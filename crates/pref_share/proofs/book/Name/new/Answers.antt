@@ -1,6 +1,0 @@
-use Rattle.pref_share.proofs.Common.{rules}
-use Rattle.pref_share.proofs.Adding.{starts}
-use Rattle.pref_share.proofs.book.Name.new.Goals as goal
-
-pub open-seen-requires : goal.open-seen-requires
-open-seen-requires c = (starts, search rules, search rules)

@@ -1,8 +1,0 @@
-use Rattle.pref_share.proofs.Common.{◌∙◌}
-use Rattle.pref_share.proofs.Keeps.{opens}
-use Rattle.pref_share.proofs.master.open_with.Goals as goal
-
-pub publish_as-writer-requires : goal.publish_as-writer-requires
-publish_as-writer-requires g c next is =
-    let x = c.args.writer.desk.shown.value in
-    opens _ _ x next (is ∙ c.requires.pending)

@@ -1,0 +1,101 @@
+use Rattle.pref_share.proofs.Common.{nat_lt, Some, true, ◌⊎◌, inl, ◌≡◌, ◌∷◌, List, [], length, drop, fold, sym, subst, ◌∙◌, ap, refl, manually_drop_value, Op, op_of, added, refusal, applied, Contents}
+use Rattle.pref_share.proofs.Common.{first_contents, contents_at, state_at, Published, stamped, HoldsHistory}
+use Rattle.pref_share.proofs.Common.{OutOfMemory}
+use Rattle.pref_core.specs.Planned.{boxed_op}
+use Rattle.pref_core.specs.Indexes.{IsIndexOf}
+use Rattle.pref_share.specs.SeenHistory.{IsAppended}
+use Rattle.pref_share.specs.declared.published.Stamp.{Stamp}
+use Rattle.pref_share.proofs.HistoryLaws.{contents_at-append, planned, unplanned}
+use Rattle.pref_share.proofs.ViewsLaws.{published_left, published_next}
+use Rattle.pref_share.proofs.publisher.Publisher.join.Goals as goal
+
+pub returns-in-Err-clause-refused : goal.returns-in-Err-clause-refused
+returns-in-Err-clause-refused g c =
+    let o = g.J.BoardBrand.opening in
+    let left : c.published_store-store.result.now ≡ contents_at o c.self.inside.history = rw (c.published_store-store.ensures, c.deref.ensures) (published_left o g.J.BoardBrand.book (manually_drop_value c.self.inside.writer).desk.shown.value c.self.inside.history c.self.invariant.3 c.self.invariant.2) in
+    subst (λ (l : List Op). (refusal (state_at o l) c.args.client c.args.call ≡ Some c.in-Err.fault) ⊎ ((c.in-Err.fault ≡ OutOfMemory) × (nat_lt 0 (added c.args.call) ≡ true))) c.self.view_is
+    (inl (ap (refusal (state_at o c.self.inside.history) c.args.client) (sym c.lend-lent.ensures) ∙ unplanned o c.self.inside.history c.published_store-store.result.now c.args.client c.lend-lent.result c.in-Err.fault c.self.invariant.0 left c.in-Err.ensures.state))
+
+pub look_up-requires : goal.look_up-requires
+look_up-requires g c =
+    let o = g.J.BoardBrand.opening in
+    let left : c.published_store-store.result.now ≡ contents_at o c.self.inside.history = rw (c.published_store-store.ensures, c.deref.ensures) (published_left o g.J.BoardBrand.book (manually_drop_value c.self.inside.writer).desk.shown.value c.self.inside.history c.self.invariant.3 c.self.invariant.2) in
+    subst (λ (s : Contents). IsIndexOf s c.self.inside.index) (sym left) c.self.invariant.1
+
+pub reindex-requires-clause-plan : goal.reindex-requires-clause-plan
+reindex-requires-clause-plan g c =
+    let plan = c.in-Ok.ensures.exact in
+    record { by = refl; what = refl; next = plan.next; fits = plan.fits }
+
+pub reindex-requires-clause-index : goal.reindex-requires-clause-index
+reindex-requires-clause-index g c =
+    let o = g.J.BoardBrand.opening in
+    let left : c.published_store-store.result.now ≡ contents_at o c.self.inside.history = rw (c.published_store-store.ensures, c.deref.ensures) (published_left o g.J.BoardBrand.book (manually_drop_value c.self.inside.writer).desk.shown.value c.self.inside.history c.self.invariant.3 c.self.invariant.2) in
+    subst (λ (s : Contents). IsIndexOf s c.self.inside.index) (sym left) c.self.invariant.1
+
+pub invariant_of-self : goal.invariant_of-self
+invariant_of-self g c =
+    let o = g.J.BoardBrand.opening in
+    let left : c.published_store-store.result.now ≡ contents_at o c.self.inside.history = rw (c.published_store-store.ensures, c.deref.ensures) (published_left o g.J.BoardBrand.book (manually_drop_value c.self.inside.writer).desk.shown.value c.self.inside.history c.self.invariant.3 c.self.invariant.2) in (
+      c.self.invariant.0,
+      subst (λ (s : Contents). IsIndexOf s c.reindex.new.index) left c.in_err-reindex.ensures.same,
+      c.self.invariant.2,
+      c.self.invariant.3,
+      c.self.invariant.4,
+      c.self.invariant.5,
+    )
+
+pub add-requires : goal.add-requires
+add-requires g c =
+    let o = g.J.BoardBrand.opening in
+    let left : c.published_store-store.result.now ≡ contents_at o c.self.inside.history = rw (c.published_store-store.ensures, c.deref.ensures) (published_left o g.J.BoardBrand.book (manually_drop_value c.self.inside.writer).desk.shown.value c.self.inside.history c.self.invariant.3 c.self.invariant.2) in
+    (planned o c.self.inside.history c.published_store-store.result.now c.args.client c.lend-lent.result (op_of c.in-Ok.op) c.self.invariant.0 left c.in-Ok.ensures.state).2
+
+pub replace_with-requires : goal.replace_with-requires
+replace_with-requires g c =
+    let o = g.J.BoardBrand.opening in
+    let left : c.published_store-store.result.now ≡ contents_at o c.self.inside.history = rw (c.published_store-store.ensures, c.deref.ensures) (published_left o g.J.BoardBrand.book (manually_drop_value c.self.inside.writer).desk.shown.value c.self.inside.history c.self.invariant.3 c.self.invariant.2) in
+    let x = (manually_drop_value c.self.inside.writer).desk.shown.value in
+    let op = c.in-Ok.op in
+    let stamp : Stamp = record { op = record { client = op.client; number = op.number; call = c.args.call; slots = op.slots; outcome = op.outcome }; len = c.len.result; seen = c.witness.result } in
+    let plan = planned o c.self.inside.history c.published_store-store.result.now c.args.client c.lend-lent.result (op_of op) c.self.invariant.0 left c.in-Ok.ensures.state in
+    let call : op.call.now ≡ c.args.call = plan.1 ∙ c.lend-lent.ensures in
+    let boxed : op_of op ≡ boxed_op stamp.op = λ i. record { client = op.client; number = op.number; call = call i; slots = op.slots; outcome = op.outcome } in
+    let log : stamp.seen.log ≡ c.add.new.self = c.witness.ensures.log ∙ c.whole-seen.ensures.same in
+    let stands : HoldsHistory (first_contents o) g.J.BoardBrand.book (stamped x stamp) =
+    published_next o g.J.BoardBrand.book x stamp (op_of op) c.self.inside.history boxed c.self.invariant.0 c.self.invariant.2 c.self.invariant.3 plan.2 (log ∙ c.add.ensures) (c.len.ensures.length ∙ ap length (sym c.witness.ensures.log)) c.witness.ensures.book in
+    rw (c.deref_mut-2.ensures.value, c.append.ensures.desk, c.append.ensures.pending, c.deref_mut.ensures.value, c.self.invariant.5) (c.self.invariant.4, stands)
+
+pub invariant_of-self-2 : goal.invariant_of-self-2
+invariant_of-self-2 g c =
+    let o = g.J.BoardBrand.opening in
+    let left : c.published_store-store.result.now ≡ contents_at o c.self.inside.history = rw (c.published_store-store.ensures, c.deref.ensures) (published_left o g.J.BoardBrand.book (manually_drop_value c.self.inside.writer).desk.shown.value c.self.inside.history c.self.invariant.3 c.self.invariant.2) in
+    let x = (manually_drop_value c.self.inside.writer).desk.shown.value in
+    let op = c.in-Ok.op in
+    let stamp : Stamp = record { op = record { client = op.client; number = op.number; call = c.args.call; slots = op.slots; outcome = op.outcome }; len = c.len.result; seen = c.witness.result } in
+    let plan = planned o c.self.inside.history c.published_store-store.result.now c.args.client c.lend-lent.result (op_of op) c.self.invariant.0 left c.in-Ok.ensures.state in
+    let call : op.call.now ≡ c.args.call = plan.1 ∙ c.lend-lent.ensures in
+    let boxed : op_of op ≡ boxed_op stamp.op = λ i. record { client = op.client; number = op.number; call = call i; slots = op.slots; outcome = op.outcome } in
+    let log : stamp.seen.log ≡ c.add.new.self = c.witness.ensures.log ∙ c.whole-seen.ensures.same in
+    let stands : HoldsHistory (first_contents o) g.J.BoardBrand.book (stamped x stamp) =
+    published_next o g.J.BoardBrand.book x stamp (op_of op) c.self.inside.history boxed c.self.invariant.0 c.self.invariant.2 c.self.invariant.3 plan.2 (log ∙ c.add.ensures) (c.len.ensures.length ∙ ap length (sym c.witness.ensures.log)) c.witness.ensures.book in
+    let folded : fold stamped c.deref_mut-2.result.now.desk.shown.value (drop c.deref_mut-2.result.now.behind c.deref_mut-2.result.now.log.items) ≡ stamped x stamp =
+    rw (c.deref_mut-2.ensures.value, c.append.ensures.desk, c.append.ensures.pending, c.deref_mut.ensures.value, c.self.invariant.5) refl in
+    let shown : c.replace_with.new.dest.desk.shown.value ≡ stamped x stamp = c.replace_with.ensures.1 ∙ folded in
+    let store : applied c.published_store-store.result.now (op_of op) ≡ contents_at o c.add.new.self =
+    ap (λ (s : Contents). applied s (op_of op)) left ∙ sym (contents_at-append o c.self.inside.history (op_of op ∷ [])) ∙ ap (contents_at o) (sym c.add.ensures) in (
+      c.whole-seen.ensures.legal,
+      subst (λ (s : Contents). IsIndexOf s c.reindex.new.index) store c.in_ok-reindex.ensures.after,
+      ap (λ (p : Published). p.seen.log) shown ∙ log,
+      subst (HoldsHistory (first_contents o) g.J.BoardBrand.book) (sym shown) stands,
+      rw (c.replace_with.ensures.0, c.deref_mut-2.ensures.value, c.append.ensures.desk, c.deref_mut.ensures.value) c.self.invariant.4,
+      c.replace_with.ensures.2,
+    )
+
+pub returns-clause-joined : goal.returns-clause-joined
+returns-clause-joined g c =
+    let o = g.J.BoardBrand.opening in
+    let left : c.published_store-store.result.now ≡ contents_at o c.self.inside.history = rw (c.published_store-store.ensures, c.deref.ensures) (published_left o g.J.BoardBrand.book (manually_drop_value c.self.inside.writer).desk.shown.value c.self.inside.history c.self.invariant.3 c.self.invariant.2) in
+    let plan = planned o c.self.inside.history c.published_store-store.result.now c.args.client c.lend-lent.result (op_of c.in-Ok.op) c.self.invariant.0 left c.in-Ok.ensures.state in
+    subst (λ (l : List Op). IsAppended o l c.args.client c.args.call c.in-Ok.op.outcome c.add.new.self) c.self.view_is
+    (record { op = op_of c.in-Ok.op; by = plan.0; what = plan.1 ∙ c.lend-lent.ensures; outcome = refl; may = plan.2; ends = c.add.ensures })

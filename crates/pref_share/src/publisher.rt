@@ -1,0 +1,292 @@
+//! What lies under the lock of a board: the whole history, an index of the rows that it leaves, and the writer that publishes it.
+//!
+//! ```text
+//!                     readers enter       the other copy      the writer's log
+//! between two calls   X: calls 1 to 7     Y: calls 1 to 6     7
+//! call 8 joins        X: calls 1 to 7     Y: calls 1 to 6     7 8
+//! no one is in Y      X: calls 1 to 7     Y: calls 1 to 8     8
+//! it is published     Y: calls 1 to 8     X: calls 1 to 7     8
+//! ```
+//!
+//! A reader that is in a copy keeps it from the writer until it leaves, and takes no lock: a call waits for those
+//! alone that went in before the last call was published. So each copy does each call, one before it is published
+//! and the other at the next call.
+
+ghost use Rattle.std.specs.Prelude.{◌≡◌, ◌++◌, ◌∷◌, ◌<◌, ◌⊎◌, [], drop, fold, nat_lt, true, Some, IfOk, IfErr};
+ghost use Rattle.std.specs.Option.{unwrap_or};
+ghost use mathlib.Core.List.{IsPrefix};
+ghost use Rattle.left_right.specs.Sides.{view};
+ghost use Rattle.pref_core.specs.declared.fault.CoreFault.TheVariants.{OutOfMemory};
+ghost use Rattle.pref_core.specs.Planned.{boxed_op};
+ghost use Rattle.pref_core.specs.State.{added, refusal};
+ghost use Rattle.pref_share.specs.SeenHistory.{IsAppended};
+ghost use Rattle.pref_share.specs.Openings.{IsLegalFrom, first_contents, contents_at, state_at, calls_at};
+ghost use Rattle.pref_share.specs.Views.{stamped, HoldsHistory, Knows};
+
+use crate::book::BoardBrand;
+use crate::history::{History, Prefix};
+use crate::published::{
+    GiveView, OpenStep, PublishStep, Published, Stamp, StoreReader, StoreWriter, TakeView,
+};
+use core::mem::replace_with;
+use pref_core::{BoxedCall, BoxedOp, CoreFault, Index, Outcome, Planned, SlotList, Store};
+use std::alloc::{AllocError, Global};
+use std::marker::Model;
+use std::mem::ManuallyDrop;
+use std::sync::Wait;
+
+/// The whole history, the index of the published store, and the writer: the published store, which is what the history leaves, is the
+/// copy that the writer has published. Contracts see the history.
+pub(crate) struct Publisher<J: BoardBrand> {
+    history: History<J>,
+    index: Index,
+    // A lock may hold only what is dropped or needs no drop; `close` takes the writer out.
+    writer: ManuallyDrop<StoreWriter>,
+}
+
+impl<J: BoardBrand> Model for Publisher<J> {
+    ghost use Rattle.std.specs.Prelude.{◌≡◌, List, [], drop};
+    ghost use Rattle.core.specs.Mem.{manually_drop_value};
+    ghost use Rattle.left_right.specs.Sides.{view as view_of};
+    ghost use Rattle.pref_core.specs.declared.call.Op.{Op};
+    ghost use Rattle.pref_core.specs.Indexes.{IsIndexOf};
+    ghost use Rattle.pref_share.specs.Openings.{IsLegalFrom, first_contents, contents_at};
+    ghost use Rattle.pref_share.specs.Views.{HoldsHistory, Knows};
+
+    ghost Value = { List Op };
+
+    ghost view = { λ m. m.history };
+
+    ghost invariant = { λ m. IsLegalFrom J.opening m.history × IsIndexOf (contents_at J.opening m.history) m.index × ((manually_drop_value m.writer).desk.shown.value.seen.log ≡ m.history) × HoldsHistory (first_contents J.opening) J.book (manually_drop_value m.writer).desk.shown.value × Knows (first_contents J.opening) J.book (view_of (manually_drop_value m.writer).desk.place) × (drop (manually_drop_value m.writer).behind (manually_drop_value m.writer).log.items ≡ []) };
+}
+
+/// Lets the writer know what the board opens with. What is pending changes nothing.
+fn open_with<R: Wait>(rt: &R, writer: StoreWriter) -> StoreWriter
+    requires pending { fold stamped writer.desk.shown.value (drop writer.behind writer.log.items) ≡ writer.desk.shown.value }
+    requires empty { writer.desk.shown.value.seen.log ≡ [] }
+    ensures knows { Knows writer.desk.shown.value.store writer.desk.shown.value.seen.book (view result.desk.place) }
+    ensures shown { result.desk.shown.value ≡ writer.desk.shown.value }
+    ensures pending { drop result.behind result.log.items ≡ [] }
+{
+    let (writer, opened) = writer.publish_as::<OpenStep, R>(rt);
+    let Ok(()) = opened else { unreachable!() };
+    writer
+}
+
+/// How many stamps that change nothing make the room.
+const KEPT: usize = 3;
+
+/// Makes room for the stamps of later calls, by stamps that change nothing. The room stays, so later calls need not grow it.
+fn with_room(mut writer: StoreWriter) -> Result<StoreWriter, StoreWriter>
+    requires empty { writer.desk.shown.value.len ≡ 0 }
+    requires pending { drop writer.behind writer.log.items ≡ [] }
+    ensures shown { IfOk result (λ w. w.desk.shown.value ≡ writer.desk.shown.value) }
+    ensures pending { IfOk result (λ w. fold stamped w.desk.shown.value (drop w.behind w.log.items) ≡ w.desk.shown.value) }
+{
+    for _ in 0..KEPT {
+        // An operation that no store lets in.
+        let nothing = BoxedOp {
+            client: 0,
+            number: 0,
+            call: BoxedCall::begin(),
+            slots: SlotList::NONE,
+            outcome: Outcome::Done,
+        };
+        let blank = Stamp {
+            op: nothing,
+            len: 0,
+            seen: writer.published().seen.again(),
+        };
+        if writer.append(blank).is_err() {
+            return Err(writer);
+        }
+    }
+    Ok(writer)
+}
+
+/// The store that readers take now.
+fn published_store(writer: &StoreWriter) -> &Store
+    ensures { result.now ≡ writer.now.desk.shown.value.store }
+{
+    &writer.published().store
+}
+
+/// Publishes what is pending.
+fn publish<J: BoardBrand, R: Wait>(rt: &R, writer: StoreWriter) -> StoreWriter
+    requires knows { Knows (first_contents J.opening) J.book (view writer.desk.place) }
+    requires stands { HoldsHistory (first_contents J.opening) J.book (fold stamped writer.desk.shown.value (drop writer.behind writer.log.items)) }
+    ensures view { view result.desk.place ≡ view writer.desk.place }
+    ensures shown { result.desk.shown.value ≡ fold stamped writer.desk.shown.value (drop writer.behind writer.log.items) }
+    ensures pending { drop result.behind result.log.items ≡ [] }
+{
+    let (writer, published) = writer.publish_as::<PublishStep, R>(rt);
+    let Ok(()) = published else { unreachable!() };
+    writer
+}
+
+/// Appends the stamp of an operation. Where there is no memory for it, waits until there is: the operation has joined the history.
+fn append<R: Wait>(rt: &R, writer: &mut StoreWriter, mut stamp: Stamp)
+    ensures desk { writer.new.desk ≡ writer.old.desk }
+    ensures pending { drop writer.new.behind writer.new.log.items ≡ drop writer.old.behind writer.old.log.items ++ stamp ∷ [] }
+{
+    for _ in rt.forever() {
+        match writer.append(stamp) {
+            Ok(()) => return,
+            Err(back) => stamp = back,
+        }
+    }
+    unreachable!()
+}
+
+impl<J: BoardBrand> Publisher<J> {
+    /// Publishes the store as it is opened, to this many readers.
+    pub(crate) fn open<R: Wait>(
+        rt: &R,
+        alloc: Global,
+        store: Store,
+        history: History<J>,
+        readers: u8,
+    ) -> Result<Publisher<J>, AllocError>
+        requires opening { store ≡ first_contents J.opening }
+        requires legal { IsLegalFrom J.opening [] }
+        requires history { history ≡ [] }
+        requires readers { 0 < readers }
+        ensures { IfOk result (λ m. m ≡ []) }
+    {
+        let index = Index::new(alloc, &store)?;
+        let second = Published {
+            store: store.copy(alloc)?,
+            len: 0,
+            seen: history.whole().witness(),
+        };
+        let first = Published {
+            store,
+            len: 0,
+            seen: second.seen.again(),
+        };
+        let writer = StoreWriter::new(alloc, first, second, readers as usize)?;
+        match with_room(writer) {
+            Ok(writer) => Ok(Publisher {
+                history,
+                index,
+                writer: unsafe { ManuallyDrop::new_unchecked(open_with(rt, writer)) },
+            }),
+            Err(writer) => {
+                drop(writer.take(rt));
+                Err(AllocError)
+            }
+        }
+    }
+
+    /// The published store: the published one, since between two calls nothing is pending.
+    fn store(&self) -> &Store
+        ensures left { result.now ≡ contents_at J.opening self.now }
+        ensures legal { IsLegalFrom J.opening self.now }
+    {
+        published_store(&*self.writer)
+    }
+
+    /// The history.
+    pub(crate) fn whole(&self) -> Prefix<J>
+        ensures same { result ≡ self.now }
+        ensures legal { IsLegalFrom J.opening self.now }
+    {
+        self.history.whole()
+    }
+
+    /// Shows that a beginning that was seen on this board begins the history.
+    pub(crate) fn check(&mut self, prefix: &Prefix<J>)
+        ensures same { self.new ≡ self.old }
+        ensures begins { IsPrefix prefix.now self.old }
+        ensures legal { IsLegalFrom J.opening self.old }
+    {
+        self.history.check(prefix);
+    }
+
+    /// How many calls this client has made.
+    pub(crate) fn last(&self, client: u8) -> u64
+        ensures { result ≡ unwrap_or (calls_at J.opening self.now client) 0 }
+    {
+        self.store().last(client)
+    }
+
+    /// How many commits there were.
+    pub(crate) fn stamp(&self) -> u64
+        ensures { result ≡ (state_at J.opening self.now).commits }
+    {
+        self.store().stamp()
+    }
+
+    /// A reader that knows the board.
+    pub(crate) fn reader(&mut self) -> Result<StoreReader, AllocError>
+        ensures kept { self.new ≡ self.old }
+        ensures knows { IfOk result (λ r. Knows (first_contents J.opening) J.book (view r.place)) }
+    {
+        let mut reader = self.writer.factory().reader()?;
+        reader.learn::<TakeView>(self.writer.tell::<GiveView>());
+        Ok(reader)
+    }
+
+    /// A call joins the history, and is published, planned by the index on the published store. It gives the outcome. `Err` is why it gets
+    /// no number, or that there is no memory for the places of new rows in the index, which only a call that adds a row meets; nothing
+    /// has changed then.
+    pub(crate) fn join<R: Wait>(
+        &mut self,
+        rt: &R,
+        alloc: Global,
+        client: u8,
+        call: BoxedCall,
+    ) -> Result<Outcome, CoreFault>
+        ensures joined { IfOk result (λ outcome. IsAppended J.opening self.old client call outcome self.new) }
+        ensures refused { IfErr result (λ fault. (refusal (state_at J.opening self.old) client call ≡ Some fault) ⊎ ((fault ≡ OutOfMemory) × (nat_lt 0 (added call) ≡ true))) }
+        ensures same { IfErr result (λ fault. self.new ≡ self.old) }
+    {
+        let lent = call.lend();
+        let store = published_store(&*self.writer);
+        let op = match store.look_up(&self.index, client, &lent) {
+            Ok(op) => op,
+            Err(fault) => return Err(fault),
+        };
+        store.reindex(alloc, &mut self.index, &op)?;
+        self.history.add(&op);
+        let Planned {
+            client,
+            number,
+            slots,
+            outcome,
+            call: _,
+        } = op;
+        let seen = self.history.whole();
+        let stamp = Stamp {
+            op: BoxedOp {
+                client,
+                number,
+                call,
+                slots,
+                outcome,
+            },
+            len: seen.len(),
+            seen: seen.witness(),
+        };
+        append(rt, &mut *self.writer, stamp);
+        replace_with(
+            &mut *self.writer,
+            rt,
+            |writer: StoreWriter, rt: &R| -> (StoreWriter, ())
+                requires { Knows (first_contents J.opening) J.book (view writer.desk.place) × HoldsHistory (first_contents J.opening) J.book (fold stamped writer.desk.shown.value (drop writer.behind writer.log.items)) }
+                ensures { (view result.0.desk.place ≡ view writer.desk.place) × (result.0.desk.shown.value ≡ fold stamped writer.desk.shown.value (drop writer.behind writer.log.items)) × (drop result.0.behind result.0.log.items ≡ []) }
+            { (publish::<J, R>(rt, writer), ()) },
+        );
+        Ok(outcome)
+    }
+
+    /// Readers take nothing from now on. Waits for those that are reading.
+    pub(crate) fn close<R: Wait>(self, rt: &R) {
+        let Publisher {
+            history: _history,
+            index: _index,
+            writer,
+        } = self;
+        drop(ManuallyDrop::into_inner(writer).take(rt));
+    }
+}

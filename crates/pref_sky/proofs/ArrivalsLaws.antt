@@ -1,0 +1,90 @@
+-- One entry more comes to parts, and what comes is put in order.
+use Rattle.pref_sky.proofs.Common.{Bor, ◌≡◌, ◌∙◌, ℕ, ◌≤◌, ◌<◌, ◌+◌, Bool, cond, inl, inr, List, [], ◌∷◌, ◌++◌, Vec, Global, get_or, length, map, refl, sym, ap, subst, arith, Called, IsPermutation}
+use Rattle.pref_sky.proofs.Common.{IsSortedByKeyClosure, nat_cmp, ordering_then, All, always_returns_same, map-append, All-push, sum_by-IsPermutation, sum_by-append, Mut, Entry, Item, Pool}
+use Rattle.pref_sky.proofs.Common.{signature_by, Arrival, AreDealt, IsArrival, KeepsAllBut, arrived, AreAllItems, AreInPool, HasGrown, IsItem, levels_at, parts_at, IsBehind, held_at}
+use Rattle.std.specs.Prelude.{count_by}
+use Rattle.pref_sky.proofs.MembersLaws.{all_among, in_either, in_left, in_right, map_agree_among}
+use Rattle.pref_sky.proofs.IdOrder.{same_if_permuted}
+use Rattle.pref_sky.proofs.PoolLaws.{entry_grown, item_grown, levels_grown, part_here}
+
+-- ---- what came stays where it is while the pool grows
+
+pub part_stays : (a b : Pool) → HasGrown a b → (parts : List (Vec (Vec Item Global) Global)) (n : ℕ) (part : Vec (Vec Item Global) Global) → AreInPool (signature_by a.scales) a.entries.items parts → n < length parts → part ≡ get_or parts n part
+    → levels_at b.entries.items part.items ≡ held_at n (parts_at a.entries.items parts)
+part_stays a b grown parts n part are inside is =
+    let here = subst (λ (p : Vec (Vec Item Global) Global). AreAllItems (signature_by a.scales) a.entries.items p.items) (sym is) (are n part inside) in
+    levels_grown a b grown part.items here ∙ sym (part_here a.entries.items parts n part inside is)
+
+module _ (over : Entry → Entry → Bool) (number : Entry → ℕ) (parts : List (List (List Entry))) where
+  -- an entry that was put into the pool for a part
+  pub arrival_here : (rule : Entry → ℕ) (pool : List Entry) (e : Entry) (levels : List (List Entry)) (x : Arrival) → levels ≡ held_at x.part parts → number e ≡ x.part → IsItem rule pool x.item → arrived pool x ≡ e
+      → x.start ≤ length levels → IsBehind over levels x.start e → IsArrival over rule number pool parts x
+  arrival_here rule pool e levels x here numbered is same within behind =
+      record {
+        part = ap number same ∙ numbered;
+        starts = record {
+          item = is;
+          within = subst (λ l. x.start ≤ length l) here within;
+          behind = subst (λ y. IsBehind over (held_at x.part parts) x.start y) (sym same) (subst (λ l. IsBehind over l x.start e) here behind);
+        };
+      }
+
+  module _ (a b : Pool) (grown : HasGrown a b) (arrivals : List Arrival) (are : All (IsArrival over (signature_by a.scales) number a.entries.items parts) arrivals) where
+    arrived_grown : (x : Arrival) → IsArrival over (signature_by a.scales) number a.entries.items parts x → arrived b.entries.items x ≡ arrived a.entries.items x
+    arrived_grown x is = entry_grown a b grown x.item.place is.starts.item.within
+
+    arrival_grown : (x : Arrival) → IsArrival over (signature_by a.scales) number a.entries.items parts x → IsArrival over (signature_by b.scales) number b.entries.items parts x
+    arrival_grown x is =
+        arrival_here (signature_by b.scales) b.entries.items (arrived a.entries.items x) (held_at x.part parts) x refl is.part (item_grown a b grown x.item is.starts.item) (arrived_grown x is) is.starts.within is.starts.behind
+
+    pub arrivals_push : (x : Arrival) → IsArrival over (signature_by b.scales) number b.entries.items parts x → All (IsArrival over (signature_by b.scales) number b.entries.items parts) (arrivals ++ x ∷ [])
+    arrivals_push x is = All-push (IsArrival over (signature_by b.scales) number b.entries.items parts) arrivals x (λ k d inside. arrival_grown (get_or arrivals k d) (are k d inside)) is
+
+    pub arrived_push : (x : Arrival) → map (arrived b.entries.items) (arrivals ++ x ∷ []) ≡ map (arrived a.entries.items) arrivals ++ arrived b.entries.items x ∷ []
+    arrived_push x =
+        let now = arrived b.entries.items in
+        map-append now arrivals (x ∷ [])
+        ∙ ap (λ l. l ++ now x ∷ []) (map_agree_among now (arrived a.entries.items) arrivals (λ y m. arrived_grown y (all_among (IsArrival over (signature_by a.scales) number a.entries.items parts) arrivals are y m)))
+
+-- ---- those that are not below the cut are kept
+
+module _ {below : Entry → Type 0} (entries kept : List Entry) (keeps : KeepsAllBut below entries kept) where
+  count_push : (p : Entry → Bool) (some : List Entry) (e : Entry) → count_by p (some ++ e ∷ []) ≡ count_by p some + count_by p (e ∷ [])
+  count_push p some e = sum_by-append (λ (x : Entry). cond (p x) 1 0) some (e ∷ [])
+
+  pub keeps_one : (e : Entry) → KeepsAllBut below (entries ++ e ∷ []) (kept ++ e ∷ [])
+  keeps_one e =
+      record {
+        within = λ x m. elim (in_either kept (e ∷ []) x m) [ inl old ↦ in_left entries (e ∷ []) x (keeps.within x old) | inr new ↦ in_right entries (e ∷ []) x new ];
+        covers = λ x m. elim (in_either entries (e ∷ []) x m) [
+          | inl old ↦ elim (keeps.covers x old) [ inl there ↦ inl (in_left kept (e ∷ []) x there) | inr low ↦ inr low ]
+          | inr new ↦ inl (in_right kept (e ∷ []) x new)
+        ];
+        counts = λ p. omega (arith, keeps.counts p, count_push p entries e, count_push p kept e);
+      }
+
+  pub drops_one : (e : Entry) → below e → KeepsAllBut below (entries ++ e ∷ []) kept
+  drops_one e low =
+      record {
+        within = λ x m. in_left entries (e ∷ []) x (keeps.within x m);
+        covers = λ x m. elim (in_either entries (e ∷ []) x m) [
+          | inl old ↦ keeps.covers x old
+          | inr new ↦ elim new [ inl same ↦ inr (subst below (sym same) low) | inr none ↦ absurd none ]
+        ];
+        counts = λ p. omega (arith, keeps.counts p, count_push p entries e);
+      }
+
+  pub keeps_moved : (moved : List Entry) → IsPermutation kept moved → KeepsAllBut below entries moved
+  keeps_moved moved permuted =
+      let same = same_if_permuted kept moved permuted in
+      record {
+        within = λ x m. keeps.within x (same.back x m);
+        covers = λ x m. elim (keeps.covers x m) [ inl there ↦ inl (same.there x there) | inr low ↦ inr low ];
+        counts = λ p. omega (arith, keeps.counts p, sum_by-IsPermutation (λ (x : Entry). cond (p x) 1 0) kept moved permuted);
+      }
+
+-- ---- what a sort by part, then start, ensures
+
+pub dealt_by_key : {F : Type 0} {g : Mut F (Bor Arrival × Unit {0}) (ℕ × ℕ)} {f : F} (arrivals : List Arrival) → IsSortedByKeyClosure g (λ x y. ordering_then (nat_cmp x.0 y.0) (nat_cmp x.1 y.1)) f arrivals
+    → ((a : Bor Arrival × Unit {0}) (r : ℕ × ℕ) (f' : F) → Called g f a r f' → (r ≡ (a.0.now.part, a.0.now.start)) × (f' ≡ f)) → AreDealt arrivals
+dealt_by_key {g = g} {f = f} arrivals by called = by (λ a. (a.part, a.start)) (always_returns_same g (λ a r. r ≡ (a.0.now.part, a.0.now.start)) f called)

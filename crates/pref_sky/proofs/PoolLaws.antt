@@ -1,0 +1,103 @@
+-- Items of a pool stay what they are where entries are put behind its own.
+use Rattle.pref_sky.proofs.Common.{◌≡◌, ◌∙◌, ℕ, zero, suc, ◌≤◌, ◌<◌, ◌+◌, List, [], ◌∷◌, ◌++◌, get_or, length, map, take, refl, sym, ap, subst, arith, append-nil, append_assoc, length-append, Bool}
+use Rattle.pref_sky.proofs.Common.{true, get_or_append_left, map-append, get_or-append_seam, All, Vec, Global, Entry, Item, Pool, AreAllItems, AreInPool, AreItems, HasGrown, IsItem, entries_at}
+use Rattle.pref_sky.proofs.Common.{entry_at, items_at, levels_at, parts_at, is_beaten, IsBehind, held_at, signature_by}
+use Rattle.pref_sky.proofs.Loops.{front_more}
+use Rattle.pref_sky.proofs.MembersLaws.{all_among, map_agree_among}
+use Rattle.pref_sky.proofs.PartItems.{Part, in_here, levels_of_at}
+
+module _ (a b : Pool) (grown : HasGrown a b) where
+  pub entry_grown : (place : ℕ) → place < length a.entries.items → entry_at b.entries.items place ≡ entry_at a.entries.items place
+  entry_grown place inside = ap (λ l. entry_at l place) grown.entries ∙ get_or_append_left a.entries.items grown.more (record { id = 0; row = [] }) place inside
+
+  pub item_grown : (x : Item) → IsItem (signature_by a.scales) a.entries.items x → IsItem (signature_by b.scales) b.entries.items x
+  item_grown x is =
+      record {
+        within = omega (arith, is.within, ap length grown.entries, length-append a.entries.items grown.more);
+        word = is.word;
+        signed = is.signed ∙ (ap (signature_by a.scales) (sym (entry_grown x.place is.within)) ∙ ap (λ scales. signature_by scales (entry_at b.entries.items x.place)) (sym grown.scales));
+      }
+
+  -- items of a pool, their levels and their parts are items of a longer pool
+  pub items_grown : (items : List Item) → AreItems (signature_by a.scales) a.entries.items items → AreItems (signature_by b.scales) b.entries.items items
+  items_grown items are = λ k d inside. item_grown (get_or items k d) (are k d inside)
+
+  pub all_items_grown : (levels : List (Vec Item Global)) → AreAllItems (signature_by a.scales) a.entries.items levels → AreAllItems (signature_by b.scales) b.entries.items levels
+  all_items_grown levels are = λ k d inside. items_grown (get_or levels k d).items (are k d inside)
+
+  pub in_pool_grown : (parts : List (Vec (Vec Item Global) Global)) → AreInPool (signature_by a.scales) a.entries.items parts → AreInPool (signature_by b.scales) b.entries.items parts
+  in_pool_grown parts are = λ k d inside. all_items_grown (get_or parts k d).items (are k d inside)
+
+  -- and their entries are the same there
+  pub entries_grown : (items : List Item) → AreItems (signature_by a.scales) a.entries.items items → entries_at b.entries.items items ≡ entries_at a.entries.items items
+  entries_grown items are =
+      map_agree_among (λ (item : Item). entry_at b.entries.items item.place) (λ (item : Item). entry_at a.entries.items item.place) items
+      (λ x m. entry_grown x.place (all_among (IsItem (signature_by a.scales) a.entries.items) items are x m).within)
+
+  pub levels_grown : (levels : List (Vec Item Global)) → AreAllItems (signature_by a.scales) a.entries.items levels → levels_at b.entries.items levels ≡ levels_at a.entries.items levels
+  levels_grown levels are =
+      map_agree_among (λ (level : Vec Item Global). entries_at b.entries.items level.items) (λ (level : Vec Item Global). entries_at a.entries.items level.items) levels
+      (λ v m. entries_grown v.items (all_among (λ (level : Vec Item Global). AreItems (signature_by a.scales) a.entries.items level.items) levels are v m))
+
+  pub parts_grown : (parts : List (Vec (Vec Item Global) Global)) → AreInPool (signature_by a.scales) a.entries.items parts → parts_at b.entries.items parts ≡ parts_at a.entries.items parts
+  parts_grown parts are =
+      map_agree_among (λ (part : Vec (Vec Item Global) Global). levels_at b.entries.items part.items) (λ (part : Vec (Vec Item Global) Global). levels_at a.entries.items part.items) parts
+      (λ v m. levels_grown v.items (all_among (λ (part : Vec (Vec Item Global) Global). AreAllItems (signature_by a.scales) a.entries.items part.items) parts are v m))
+
+  pub grown_then : (c : Pool) → HasGrown b c → HasGrown a c
+  grown_then c more =
+      record {
+        scales = more.scales ∙ grown.scales;
+        more = grown.more ++ more.more;
+        entries = more.entries ∙ (ap (λ l. l ++ more.more) grown.entries ∙ append_assoc a.entries.items grown.more more.more);
+      }
+
+pub grown_none : (a : Pool) → HasGrown a a
+grown_none a = record { scales = refl; more = []; entries = sym (append-nil a.entries.items) }
+
+-- one more result of a loop over a list, where those before stay what they were
+pub result_more : {A B E : Type 0} (was now : A → E) (f : B → E) (done : List A) (next : A) (all : List B) (i : ℕ) (x : B) → i < length all → x ≡ get_or all i x
+    → map now done ≡ map was done → map was done ≡ map f (take i all) → now next ≡ f x → map now (done ++ next ∷ []) ≡ map f (take (i + 1) all)
+result_more was now f done next all i x inside is stay before here =
+    map-append now done (next ∷ [])
+    ∙ (ap (λ l. l ++ now next ∷ []) (stay ∙ before)
+    ∙ (ap (λ y. map f (take i all) ++ y ∷ []) here
+    ∙ (sym (map-append f (take i all) (x ∷ [])) ∙ ap (map f) (sym (front_more all i x inside is)))))
+
+-- one more entry behind those of a pool
+pub entry_behind : (pool : List Entry) (e : Entry) (item : Item) → item.place ≡ length pool → entry_at (pool ++ e ∷ []) item.place ≡ e
+entry_behind pool e item behind = ap (entry_at (pool ++ e ∷ [])) behind ∙ get_or-append_seam pool e [] (record { id = 0; row = [] })
+
+-- no level is at a place behind the last
+pub no_level : (levels : List (Vec Item Global)) (n : ℕ) → length levels ≤ n → [] ≡ items_at n levels
+no_level [] n past = refl
+no_level (level ∷ behind) zero past = absurd (omega (arith, past))
+no_level (level ∷ behind) (suc n) past = no_level behind n (omega (arith, past))
+
+-- the entries of a level's items are those of the level
+pub entries_held : (pool : List Entry) (n : ℕ) (levels : List (Vec Item Global)) → entries_at pool (items_at n levels) ≡ held_at n (levels_at pool levels)
+entries_held pool n [] = refl
+entries_held pool zero (level ∷ behind) = refl
+entries_held pool (suc n) (level ∷ behind) = entries_held pool n behind
+
+level_here : (pool : List Entry) (levels : List (Vec Item Global)) (k : ℕ) (level : Vec Item Global) → k < length levels → level ≡ get_or levels k level → held_at k (levels_at pool levels) ≡ entries_at pool level.items
+level_here pool levels k level inside is = sym (entries_held pool k levels) ∙ ap (entries_at pool) (in_here k levels level inside is)
+
+pub part_here : (pool : List Entry) (parts : List Part) (k : ℕ) (part : Part) → k < length parts → part ≡ get_or parts k part → held_at k (parts_at pool parts) ≡ levels_at pool part.items
+part_here pool parts k part inside is = levels_of_at pool k parts ∙ ap (levels_at pool) (in_here k parts part inside is)
+
+-- what one of a level dominates is below it
+pub behind_level : (over : Entry → Entry → Bool) (pool : List Entry) (levels : List (Vec Item Global)) (k n : ℕ) (level : Vec Item Global) (e : Entry) → k < length levels → n ≡ suc k → level ≡ get_or levels k level
+    → is_beaten over (entries_at pool level.items) e ≡ true → IsBehind over (levels_at pool levels) n e
+behind_level over pool levels k n level e inside next is beaten =
+    λ j above. let same : j ≡ k = omega (arith, above, next) in
+    subst (λ m. is_beaten over (held_at m (levels_at pool levels)) e ≡ true) (sym same) (ap (λ l. is_beaten over l e) (level_here pool levels k level inside is) ∙ beaten)
+
+-- parts that hold nothing
+pub none_held : (pool : List Entry) (parts : List (Vec (Vec Item Global) Global)) → All (λ (part : Vec (Vec Item Global) Global). part.items ≡ []) parts → (n : ℕ) → held_at n (parts_at pool parts) ≡ []
+none_held pool [] none n = refl
+none_held pool (part ∷ others) none zero = ap (levels_at pool) (none 0 part (omega arith))
+none_held pool (part ∷ others) none (suc n) = none_held pool others (λ k d inside. none (suc k) d (omega (arith, inside))) n
+
+pub none_in_pool : (rule : Entry → ℕ) (pool : List Entry) (parts : List (Vec (Vec Item Global) Global)) → All (λ (part : Vec (Vec Item Global) Global). part.items ≡ []) parts → AreInPool rule pool parts
+none_in_pool rule pool parts none = λ k d inside. subst (AreAllItems rule pool) (sym (none k d inside)) (λ j level there. absurd (omega (arith, there)))

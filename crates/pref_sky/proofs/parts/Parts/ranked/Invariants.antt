@@ -1,5 +1,0 @@
-use Rattle.pref_sky.proofs.Common.{◌≡◌, parts_at, all_at, ranked_upto}
-use Rattle.pref_sky.proofs.parts.Parts.ranked.Given as goal
-
-abbrev pub invariant-loop-place : goal.invariant-loop-place
-invariant-loop-place l = l.ranked.items ≡ ranked_upto (all_at (parts_at l.self.pool.entries.items l.self.parts.items)) l.place

@@ -1,0 +1,326 @@
+-- Each text of the grammar is read to its end, and each state of reading can be completed.
+use Rattle.pref_term.proofs.Common.{◌≡◌, ℕ, ◌+◌, List, [], ◌∷◌, ◌++◌, Bool, true, false, Option, Some, None, refl, sym, ap, subst, ◌∙◌, append_assoc, append-nil, IfSome, AllByRecursion, bytes_eq}
+use Rattle.pref_term.proofs.Common.{str_to_ascii_lowercase, bytes_eq-Decides, left, right, left_brace, comma, star, ampersand, word, sign, finish, Keyword, best_word, by_word, CasedWord, skyline_word}
+use Rattle.pref_term.proofs.Common.{of_word, min_word, max_word, diff_word, letters_of, keyword_of, cased_letters, cased_in, cased_of, HeadText, best_head, top_level_head, at_least_head, head_leaves}
+use Rattle.pref_term.proofs.Common.{Direction, minimal, maximal, different, direction_word, DimText, dim_leaves, more_dims, group_leaves, more_columns, AskText, rated, skyline, IsWritten, IsText}
+use Rattle.pref_term.proofs.Common.{NumberText, BaseText, low_text, high_text, around_text, pos_text, PriorText, one_product, then_product, ProductText, one_factor, then_factor, UnaryText, negated}
+use Rattle.pref_term.proofs.Common.{grouped, reversed, based, Leaf, name, mark, opens, column_name, number_digits, count_digits, cased, last, signed_leaves, number_leaves, others_leaves, base_leaves}
+use Rattle.pref_term.proofs.Common.{prior_leaves, product_leaves, unary_leaves, ask_leaves, token_of, between_text, end_leaves, layered_text, SetText, list_leaves, set_leaves, more_sets, BaseKind}
+use Rattle.pref_term.proofs.Common.{low_kind, high_kind, around_kind, pos_kind, NumberHole, centre_of, first_of, next_of, BasePart, named, opened, columned, number_due, number_signed, centred, listed}
+use Rattle.pref_term.proofs.Common.{filled, PriorHole, whole, in_group, in_reverse, ProductHole, first_product, next_product, UnaryHole, first_factor, next_factor, in_minus, prior_depth}
+use Rattle.pref_term.proofs.Common.{product_depth, unary_depth, State, start, operand, reverse_named, reading, after, top_level_named, at_least_named, group_due, group_listed, skyline_named, dim_due}
+use Rattle.pref_term.proofs.Common.{dim_named, dims_listed, done, completed, outer, closed, ranked, in_whole, begun, of_named, listed_dim, directed, next, between_kind, start_of, end_of, least_of}
+use Rattle.pref_term.proofs.Common.{ranged, range_ended, layered_kind, NumberList, in_pos, in_set, closing, list_closed, stepped, set_due, sets_listed, with_set}
+use Rattle.pref_term.proofs.GrammarSound.{keyword_letters}
+
+-- reading these leaves leads from one state to the other
+abbrev pub Reads : State → List Leaf → State → Type 0
+Reads s [] m = s ≡ m
+Reads s (leaf ∷ leaves) m = (n : State) × (next s (token_of leaf) ≡ Some (leaf, n)) × Reads n leaves m
+
+pub reads_on : (s : State) (a b : List Leaf) (m n : State) → Reads s a m → Reads m b n → Reads s (a ++ b) n
+reads_on s [] b m n h k = subst (λ (x : State). Reads x b n) (sym h) k
+reads_on s (leaf ∷ a) b m n h k = (h.0, h.1, reads_on h.0 a b m n h.2 k)
+
+reads_number : (h : UnaryHole) (hole : NumberHole) (n : NumberText) → Reads (reading h (number_due hole)) (signed_leaves (least_of hole) n.negative n.digits) (reading h (filled hole n))
+reads_number h hole n = go n.negative n.digits
+  where
+    go : (negative : Bool) (ds : List ℕ) → Reads (reading h (number_due hole)) (signed_leaves (least_of hole) negative ds) (reading h (filled hole (record { negative = negative; digits = ds })))
+    go true ds = (_, refl, (_, refl, refl))
+    go false ds = (_, refl, refl)
+
+reads_others : (h : UnaryHole) (l : NumberList) (first : NumberText) (front ns : List NumberText) → Reads (reading h (listed l first front)) (others_leaves ns) (reading h (listed l first (front ++ ns)))
+reads_others h l first front [] = ap (λ ns. reading h (listed l first ns)) (sym (append-nil front))
+reads_others h l first front (n ∷ ns) =
+    let here = reading h (listed l first (front ++ n ∷ [])) in
+    let more = subst (λ (ms : List NumberText). Reads here (others_leaves ns) (reading h (listed l first ms))) (append_assoc front (n ∷ []) ns) (reads_others h l first (front ++ n ∷ []) ns) in
+    (_, refl, reads_on (reading h (number_due (next_of l first front))) (number_leaves n) (others_leaves ns) here _ (reads_number h (next_of l first front) n) more)
+
+-- the sign that closes a list of numbers ends it
+pub list_ends : (h : UnaryHole) (l : NumberList) (first : NumberText) (others : List NumberText) → next (reading h (listed l first others)) (sign (closing l)) ≡ Some (mark (closing l), stepped h (list_closed l first others))
+list_ends h (in_pos column) first others = refl
+list_ends h (in_set column sets) first others = refl
+
+reads_list : (h : UnaryHole) (l : NumberList) (first : NumberText) (others : List NumberText) → Reads (reading h (number_due (first_of l))) (list_leaves first others (closing l)) (stepped h (list_closed l first others))
+reads_list h l first others =
+    reads_on (reading h (number_due (first_of l))) (number_leaves first) (others_leaves others ++ mark (closing l) ∷ []) (reading h (listed l first [])) (stepped h (list_closed l first others))
+    (reads_number h (first_of l) first)
+    (reads_on (reading h (listed l first [])) (others_leaves others) (mark (closing l) ∷ []) (reading h (listed l first others)) (stepped h (list_closed l first others))
+    (reads_others h l first [] others) (_, list_ends h l first others, refl))
+
+reads_set : (h : UnaryHole) (column : List ℕ) (sets : List SetText) (s : SetText) → Reads (reading h (set_due column sets)) (set_leaves s) (reading h (with_set column sets s))
+reads_set h column sets s = (_, refl, reads_list h (in_set column sets) s.first s.others)
+
+reads_sets : (h : UnaryHole) (column : List ℕ) (first : SetText) (front ss : List SetText) → Reads (reading h (sets_listed column first front)) (more_sets ss) (reading h (sets_listed column first (front ++ ss)))
+reads_sets h column first front [] = ap (λ ss. reading h (sets_listed column first ss)) (sym (append-nil front))
+reads_sets h column first front (s ∷ ss) =
+    let here = reading h (sets_listed column first (front ++ s ∷ [])) in
+    let more = subst (λ (ts : List SetText). Reads here (more_sets ss) (reading h (sets_listed column first ts))) (append_assoc front (s ∷ []) ss) (reads_sets h column first (front ++ s ∷ []) ss) in
+    (_, refl, reads_on (reading h (set_due column (first ∷ front))) (set_leaves s) (more_sets ss) here _ (reads_set h column (first ∷ front) s) more)
+
+reads_base : (b : BaseText) (h : UnaryHole) → Reads (operand h) (base_leaves b) (completed h (based b))
+reads_base (low_text column) h = (_, refl, (_, refl, (_, refl, (_, refl, refl))))
+reads_base (high_text column) h = (_, refl, (_, refl, (_, refl, (_, refl, refl))))
+reads_base (around_text column centre) h =
+    let end = completed h (based (around_text column centre)) in
+    let number = reads_on (reading h (number_due (centre_of column))) (number_leaves centre) (mark right ∷ []) (reading h (centred column centre)) end (reads_number h (centre_of column) centre) (_, refl, refl) in
+    (_, refl, (_, refl, (_, refl, (_, refl, number))))
+reads_base (between_text column l r) h =
+    let end = completed h (based (between_text column l r)) in
+    let right_end = reads_on (reading h (number_due (end_of column l))) (end_leaves l r) (mark right ∷ []) (reading h (range_ended column l r)) end (reads_number h (end_of column l) r) (_, refl, refl) in
+    let behind = mark comma ∷ end_leaves l r ++ mark right ∷ [] in
+    let numbers = reads_on (reading h (number_due (start_of column))) (number_leaves l) behind (reading h (ranged column l)) end (reads_number h (start_of column) l) (_, refl, right_end) in
+    (_, refl, (_, refl, (_, refl, (_, refl, numbers))))
+reads_base (pos_text column first others) h = (_, refl, (_, refl, (_, refl, (_, refl, reads_list h (in_pos column) first others))))
+reads_base (layered_text column first others) h =
+    let end = completed h (based (layered_text column first others)) in
+    let more = reads_on (reading h (sets_listed column first [])) (more_sets others) (mark right ∷ []) (reading h (sets_listed column first others)) end (reads_sets h column first [] others) (_, refl, refl) in
+    let sets = reads_on (reading h (set_due column [])) (set_leaves first) (more_sets others ++ mark right ∷ []) (reading h (sets_listed column first [])) end (reads_set h column [] first) more in
+    (_, refl, (_, refl, (_, refl, (_, refl, sets))))
+
+pub ranked_goes_on : (h : PriorHole) (r : PriorText) → next (ranked h r) (sign ampersand) ≡ Some (mark ampersand, operand (first_factor (next_product h r)))
+ranked_goes_on h (one_product p) = refl
+ranked_goes_on h (then_product r p) = refl
+
+pub ranked_group : (h : UnaryHole) (r : PriorText) → next (ranked (in_group h) r) (sign right) ≡ Some (mark right, completed h (grouped r))
+ranked_group h (one_product p) = refl
+ranked_group h (then_product r p) = refl
+
+pub ranked_reverse : (h : UnaryHole) (r : PriorText) → next (ranked (in_reverse h) r) (sign right) ≡ Some (mark right, completed h (reversed r))
+ranked_reverse h (one_product p) = refl
+ranked_reverse h (then_product r p) = refl
+
+pub ranked_whole : (head : HeadText) (r : PriorText) → next (ranked (whole head) r) finish ≡ Some (last, done (rated head r []))
+ranked_whole head (one_product p) = refl
+ranked_whole head (then_product r p) = refl
+
+pub ranked_by : (head : HeadText) (r : PriorText) → next (ranked (whole head) r) (word (letters_of by_word)) ≡ Some (name by_word, group_due head r [])
+ranked_by head (one_product p) = refl
+ranked_by head (then_product r p) = refl
+
+mutual
+  pub reads_prior : (r : PriorText) (h : PriorHole) → Reads (operand (first_factor (first_product h))) (prior_leaves r (prior_depth h)) (ranked h r)
+  reads_prior (one_product p) h = reads_product p (first_product h)
+  reads_prior (then_product r p) h =
+      reads_on (operand (first_factor (first_product h))) (prior_leaves r (prior_depth h)) (mark ampersand ∷ product_leaves p (prior_depth h)) (ranked h r) (after (next_product h r) p)
+      (reads_prior r h)
+      (_, ranked_goes_on h r, reads_product p (next_product h r))
+
+  pub reads_product : (p : ProductText) (h : ProductHole) → Reads (operand (first_factor h)) (product_leaves p (product_depth h)) (after h p)
+  reads_product (one_factor u) h = reads_unary u (first_factor h)
+  reads_product (then_factor p u) h =
+      reads_on (operand (first_factor h)) (product_leaves p (product_depth h)) (mark star ∷ unary_leaves u (product_depth h)) (after h p) (after h (then_factor p u))
+      (reads_product p h)
+      (_, refl, reads_unary u (next_factor h p))
+
+  pub reads_unary : (u : UnaryText) (h : UnaryHole) → Reads (operand h) (unary_leaves u (unary_depth h)) (completed h u)
+  reads_unary (negated u) h = (_, refl, reads_unary u (in_minus h))
+  reads_unary (grouped r) h =
+      let term = reads_prior r (in_group h) in
+      (_, refl, reads_on (operand (first_factor (first_product (in_group h)))) (prior_leaves r (unary_depth h + 1)) (mark right ∷ []) (ranked (in_group h) r) (completed h (grouped r)) term (_, ranked_group h r, refl))
+  reads_unary (reversed r) h =
+      let term = reads_prior r (in_reverse h) in
+      (_, refl, (_, refl, reads_on (operand (first_factor (first_product (in_reverse h)))) (prior_leaves r (unary_depth h + 1)) (mark right ∷ []) (ranked (in_reverse h) r) (completed h (reversed r)) term (_, ranked_reverse h r, refl)))
+  reads_unary (based b) h = reads_base b h
+
+reads_head : (head : HeadText) → Reads start (head_leaves head) (operand (in_whole head))
+reads_head best_head = (_, refl, refl)
+reads_head (top_level_head count) = (_, refl, (_, refl, refl))
+reads_head (at_least_head count) = (_, refl, (_, refl, refl))
+
+reads_columns : (head : HeadText) (r : PriorText) (first : List ℕ) (front columns : List (List ℕ)) → Reads (group_listed head r first front) (more_columns columns ++ last ∷ []) (done (rated head r (first ∷ (front ++ columns))))
+reads_columns head r first front [] = (_, refl, ap (λ cs. done (rated head r (first ∷ cs))) (sym (append-nil front)))
+reads_columns head r first front (c ∷ cs) =
+    let more = reads_columns head r first (front ++ c ∷ []) cs in
+    (_, refl, (_, refl, subst (λ (xs : List (List ℕ)). Reads (group_listed head r first (front ++ c ∷ [])) (more_columns cs ++ last ∷ []) (done (rated head r (first ∷ xs)))) (append_assoc front (c ∷ []) cs) more))
+
+reads_group : (head : HeadText) (r : PriorText) (group : List (List ℕ)) → Reads (ranked (whole head) r) (group_leaves group ++ last ∷ []) (done (rated head r group))
+reads_group head r [] = (_, ranked_whole head r, refl)
+reads_group head r (c ∷ cs) = (_, ranked_by head r, (_, refl, reads_columns head r c [] cs))
+
+-- ---- words in any case
+
+differ : (x y : List ℕ) → bytes_eq x y ≡ false → x ≡ y → ⊥
+differ x y f e = let g : bytes_eq x y ≡ true = (bytes_eq-Decides x y).1 e in cc
+
+cased_itself : (k : CasedWord) → cased_in (cased_letters k) ≡ Some k
+cased_itself skyline_word = refl
+cased_itself _ = refl
+
+pub cased_found : (k : CasedWord) (letters : List ℕ) → IsWritten (cased k letters) → cased_of letters ≡ Some k
+cased_found k letters w = ap cased_in (sym w) ∙ cased_itself k
+
+keyword_no_skyline : (k : Keyword) → cased_letters skyline_word ≡ str_to_ascii_lowercase (letters_of k) → ⊥
+keyword_no_skyline best_word e = differ _ _ refl e
+keyword_no_skyline _ e = differ _ _ refl e
+
+-- `skyline` is no keyword
+pub no_keyword : (letters : List ℕ) → IsWritten (cased skyline_word letters) → keyword_of letters ≡ None
+no_keyword letters w = go (keyword_of letters) (keyword_letters letters)
+  where
+    go : (o : Option Keyword) → IfSome o (λ k. letters_of k ≡ letters) → o ≡ None
+    go None h = refl
+    go (Some k) h = absurd (keyword_no_skyline k (w ∙ ap str_to_ascii_lowercase (sym h)))
+
+reads_dim : (s o : List ℕ) (dims : List DimText) (d : DimText) → IsWritten (cased (direction_word d.direction) d.written) → Reads (dim_due s o dims) (dim_leaves d) (listed_dim s o dims d)
+reads_dim s o dims d w = (_, refl, (_, go d.direction w, refl))
+  where
+    go : (g : Direction) → IsWritten (cased (direction_word g) d.written) → directed s o dims d.column d.written (cased_of d.written) ≡ Some (cased (direction_word g) d.written, listed_dim s o dims (record { column = d.column; direction = g; written = d.written }))
+    go minimal w = ap (directed s o dims d.column d.written) (cased_found min_word d.written w)
+    go maximal w = ap (directed s o dims d.column d.written) (cased_found max_word d.written w)
+    go different w = ap (directed s o dims d.column d.written) (cased_found diff_word d.written w)
+
+reads_dims : (s o : List ℕ) (first : DimText) (front ds : List DimText) → AllByRecursion IsWritten (more_dims ds ++ last ∷ []) → Reads (dims_listed s o first front) (more_dims ds ++ last ∷ []) (done (skyline s o first (front ++ ds)))
+reads_dims s o first front [] w = (_, refl, ap (λ ds. done (skyline s o first ds)) (sym (append-nil front)))
+reads_dims s o first front (d ∷ ds) w =
+    let here = dims_listed s o first (front ++ d ∷ []) in
+    let more = subst (λ (xs : List DimText). Reads here (more_dims ds ++ last ∷ []) (done (skyline s o first xs))) (append_assoc front (d ∷ []) ds) (reads_dims s o first (front ++ d ∷ []) ds w.1.1.1) in
+    (_, refl, reads_on (dim_due s o (first ∷ front)) (dim_leaves d) (more_dims ds ++ last ∷ []) here _ (reads_dim s o (first ∷ front) d w.1.1.0) more)
+
+-- each text of the grammar is read to its end
+pub reads_ask : (a : AskText) → IsText a → Reads start (ask_leaves a) (done a)
+reads_ask (rated head r group) w =
+    reads_on start (head_leaves head) (prior_leaves r 0 ++ (group_leaves group ++ last ∷ [])) (operand (in_whole head)) (done (rated head r group))
+    (reads_head head)
+    (reads_on (operand (in_whole head)) (prior_leaves r 0) (group_leaves group ++ last ∷ []) (ranked (whole head) r) (done (rated head r group))
+    (reads_prior r (whole head)) (reads_group head r group))
+reads_ask (skyline s o first others) w =
+    let begins = ap (λ k. begun s k (cased_of s)) (no_keyword s w.0) ∙ ap (begun s None) (cased_found skyline_word s w.0) in
+    let dims = reads_on (dim_due s o []) (dim_leaves first) (more_dims others ++ last ∷ []) (dims_listed s o first []) (done (skyline s o first others)) (reads_dim s o [] first w.1.1.1.0) (reads_dims s o first [] others w.1.1.1.1) in
+    (skyline_named s, begins, (dim_due s o [], ap (of_named s o) (cased_found of_word o w.1.0), dims))
+
+-- ---- each state can be completed
+
+-- `x` and `0`, which serve to complete a text
+abbrev x_name : List ℕ
+x_name = 120 ∷ []
+
+abbrev zero_digits : List ℕ
+zero_digits = 48 ∷ []
+
+-- the reading can go on from here to the end of some text
+pub record CanEnd (s : State) : Type 0 where
+  pub leaves : List Leaf
+  pub tree : AskText
+  pub reads : Reads s leaves (done tree)
+
+-- one more leaf in front
+first_reads : (s : State) (leaf : Leaf) (m : State) → next s (token_of leaf) ≡ Some (leaf, m) → CanEnd m → CanEnd s
+first_reads s leaf m e c = record { leaves = leaf ∷ c.leaves; tree = c.tree; reads = (m, e, c.reads) }
+
+more_reads : (s : State) (leaves : List Leaf) (m : State) → Reads s leaves m → CanEnd m → CanEnd s
+more_reads s leaves m h c = record { leaves = leaves ++ c.leaves; tree = c.tree; reads = reads_on s leaves c.leaves m (done c.tree) h c.reads }
+
+after_ranked : (h : ProductHole) (p : ProductText) → after h p ≡ ranked (outer h) (closed h p)
+after_ranked (first_product h) p = refl
+after_ranked (next_product h r) p = refl
+
+mutual
+  ends_prior : (h : PriorHole) (r : PriorText) → CanEnd (ranked h r)
+  ends_prior (whole head) r = record { leaves = last ∷ []; tree = rated head r []; reads = (done (rated head r []), ranked_whole head r, refl) }
+  ends_prior (in_group h) r = first_reads (ranked (in_group h) r) (mark right) (completed h (grouped r)) (ranked_group h r) (ends_unary h (grouped r))
+  ends_prior (in_reverse h) r = first_reads (ranked (in_reverse h) r) (mark right) (completed h (reversed r)) (ranked_reverse h r) (ends_unary h (reversed r))
+
+  ends_product : (h : ProductHole) (p : ProductText) → CanEnd (after h p)
+  ends_product (first_product h) p = subst CanEnd (sym (after_ranked (first_product h) p)) (ends_prior h (one_product p))
+  ends_product (next_product h r) p = subst CanEnd (sym (after_ranked (next_product h r) p)) (ends_prior h (then_product r p))
+
+  ends_unary : (h : UnaryHole) (u : UnaryText) → CanEnd (completed h u)
+  ends_unary (first_factor h) u = ends_product h (one_factor u)
+  ends_unary (next_factor h p) u = ends_product h (then_factor p u)
+  ends_unary (in_minus h) u = ends_unary h (negated u)
+
+ends_operand : (h : UnaryHole) → CanEnd (operand h)
+ends_operand h = more_reads (operand h) (base_leaves (low_text x_name)) (completed h (based (low_text x_name))) (reads_base (low_text x_name) h) (ends_unary h (based (low_text x_name)))
+
+ends_sets : (h : UnaryHole) (column : List ℕ) (first : SetText) (others : List SetText) → CanEnd (reading h (sets_listed column first others))
+ends_sets h column first others = first_reads _ (mark right) (completed h (based (layered_text column first others))) refl (ends_unary h (based (layered_text column first others)))
+
+ends_closed : (h : UnaryHole) (l : NumberList) (first : NumberText) (others : List NumberText) → CanEnd (stepped h (list_closed l first others))
+ends_closed h (in_pos column) first others = ends_unary h (based (pos_text column first others))
+ends_closed h (in_set column []) first others = ends_sets h column (record { first = first; others = others }) []
+ends_closed h (in_set column (s ∷ ss)) first others = ends_sets h column s (ss ++ record { first = first; others = others } ∷ [])
+
+ends_listed : (h : UnaryHole) (l : NumberList) (first : NumberText) (others : List NumberText) → CanEnd (reading h (listed l first others))
+ends_listed h l first others = first_reads _ (mark (closing l)) (stepped h (list_closed l first others)) (list_ends h l first others) (ends_closed h l first others)
+
+ends_range : (h : UnaryHole) (column : List ℕ) (l r : NumberText) → CanEnd (reading h (range_ended column l r))
+ends_range h column l r = first_reads _ (mark right) (completed h (based (between_text column l r))) refl (ends_unary h (based (between_text column l r)))
+
+ends_range_due : (h : UnaryHole) (column : List ℕ) (l : NumberText) → CanEnd (reading h (number_due (end_of column l)))
+ends_range_due h column l = first_reads _ (number_digits (Some l) false zero_digits) (reading h (range_ended column l (record { negative = false; digits = zero_digits }))) refl (ends_range h column l (record { negative = false; digits = zero_digits }))
+
+ends_filled : (h : UnaryHole) (hole : NumberHole) (n : NumberText) → CanEnd (reading h (filled hole n))
+ends_filled h (centre_of column) n = first_reads _ (mark right) (completed h (based (around_text column n))) refl (ends_unary h (based (around_text column n)))
+ends_filled h (first_of l) n = ends_listed h l n []
+ends_filled h (start_of column) n = first_reads _ (mark comma) (reading h (number_due (end_of column n))) refl (ends_range_due h column n)
+ends_filled h (end_of column l) n = ends_range h column l n
+ends_filled h (next_of l first others) n = ends_listed h l first (others ++ n ∷ [])
+
+ends_due : (h : UnaryHole) (hole : NumberHole) → CanEnd (reading h (number_due hole))
+ends_due h hole = first_reads _ (number_digits (least_of hole) false zero_digits) (reading h (filled hole (record { negative = false; digits = zero_digits }))) refl (ends_filled h hole (record { negative = false; digits = zero_digits }))
+
+ends_set_due : (h : UnaryHole) (column : List ℕ) (sets : List SetText) → CanEnd (reading h (set_due column sets))
+ends_set_due h column sets = first_reads _ (mark left_brace) (reading h (number_due (first_of (in_set column sets)))) refl (ends_due h (first_of (in_set column sets)))
+
+-- behind a column of each kind of base term
+ends_columned : (h : UnaryHole) (k : BaseKind) (column : List ℕ) → CanEnd (reading h (columned k column))
+ends_columned h low_kind column = first_reads _ (mark right) (completed h (based (low_text column))) refl (ends_unary h (based (low_text column)))
+ends_columned h high_kind column = first_reads _ (mark right) (completed h (based (high_text column))) refl (ends_unary h (based (high_text column)))
+ends_columned h around_kind column = first_reads _ (mark comma) (reading h (number_due (centre_of column))) refl (ends_due h (centre_of column))
+ends_columned h between_kind column = first_reads _ (mark comma) (reading h (number_due (start_of column))) refl (ends_due h (start_of column))
+ends_columned h pos_kind column = first_reads _ (mark comma) (reading h (number_due (first_of (in_pos column)))) refl (ends_due h (first_of (in_pos column)))
+ends_columned h layered_kind column = first_reads _ (mark comma) (reading h (set_due column [])) refl (ends_set_due h column [])
+
+pub ends_part : (h : UnaryHole) (b : BasePart) → CanEnd (reading h b)
+ends_part h (named k) = first_reads _ (mark left) (reading h (opened k)) refl (first_reads _ (column_name x_name) (reading h (columned k x_name)) refl (ends_columned h k x_name))
+ends_part h (opened k) = first_reads _ (column_name x_name) (reading h (columned k x_name)) refl (ends_columned h k x_name)
+ends_part h (columned k column) = ends_columned h k column
+ends_part h (number_due n) = ends_due h n
+ends_part h (number_signed n) = first_reads _ (number_digits (least_of n) true zero_digits) (reading h (filled n (record { negative = true; digits = zero_digits }))) refl (ends_filled h n (record { negative = true; digits = zero_digits }))
+ends_part h (centred column centre) = ends_filled h (centre_of column) centre
+ends_part h (ranged column l) = ends_filled h (start_of column) l
+ends_part h (range_ended column l r) = ends_range h column l r
+ends_part h (listed l first others) = ends_listed h l first others
+ends_part h (set_due column sets) = ends_set_due h column sets
+ends_part h (sets_listed column first others) = ends_sets h column first others
+
+ends_listed_group : (head : HeadText) (r : PriorText) (first : List ℕ) (others : List (List ℕ)) → CanEnd (group_listed head r first others)
+ends_listed_group head r first others = record { leaves = last ∷ []; tree = rated head r (first ∷ others); reads = (done (rated head r (first ∷ others)), refl, refl) }
+
+ends_group : (head : HeadText) (r : PriorText) (columns : List (List ℕ)) → CanEnd (group_due head r columns)
+ends_group head r [] = first_reads _ (column_name x_name) (group_listed head r x_name []) refl (ends_listed_group head r x_name [])
+ends_group head r (c ∷ cs) = first_reads _ (column_name x_name) (group_listed head r c (cs ++ x_name ∷ [])) refl (ends_listed_group head r c (cs ++ x_name ∷ []))
+
+ends_dims : (s o : List ℕ) (first : DimText) (others : List DimText) → CanEnd (dims_listed s o first others)
+ends_dims s o first others = record { leaves = last ∷ []; tree = skyline s o first others; reads = (done (skyline s o first others), refl, refl) }
+
+ends_listed_dim : (s o : List ℕ) (dims : List DimText) (d : DimText) → CanEnd (listed_dim s o dims d)
+ends_listed_dim s o [] d = ends_dims s o d []
+ends_listed_dim s o (e ∷ es) d = ends_dims s o e (es ++ d ∷ [])
+
+ends_named_dim : (s o : List ℕ) (dims : List DimText) (column : List ℕ) → CanEnd (dim_named s o dims column)
+ends_named_dim s o dims column =
+    let d : DimText = record { column = column; direction = minimal; written = cased_letters min_word } in
+    first_reads _ (cased min_word (cased_letters min_word)) (listed_dim s o dims d) refl (ends_listed_dim s o dims d)
+
+ends_dim : (s o : List ℕ) (dims : List DimText) → CanEnd (dim_due s o dims)
+ends_dim s o dims = first_reads _ (column_name x_name) (dim_named s o dims x_name) refl (ends_named_dim s o dims x_name)
+
+-- each state but the end can be completed
+pub can_end : (s : State) → CanEnd s
+can_end start =
+    first_reads start (name best_word) (operand (in_whole best_head)) refl (ends_operand (in_whole best_head))
+can_end (operand h) = ends_operand h
+can_end (reverse_named h) = first_reads (reverse_named h) (opens (unary_depth h) left) (operand (first_factor (first_product (in_reverse h)))) refl (ends_operand (first_factor (first_product (in_reverse h))))
+can_end (reading h b) = ends_part h b
+can_end (after h p) = ends_product h p
+can_end top_level_named = first_reads top_level_named (count_digits zero_digits) (operand (in_whole (top_level_head zero_digits))) refl (ends_operand (in_whole (top_level_head zero_digits)))
+can_end at_least_named = first_reads at_least_named (count_digits zero_digits) (operand (in_whole (at_least_head zero_digits))) refl (ends_operand (in_whole (at_least_head zero_digits)))
+can_end (group_due head r columns) = ends_group head r columns
+can_end (group_listed head r first others) = ends_listed_group head r first others
+can_end (skyline_named s) = first_reads (skyline_named s) (cased of_word (cased_letters of_word)) (dim_due s (cased_letters of_word) []) refl (ends_dim s (cased_letters of_word) [])
+can_end (dim_due s o dims) = ends_dim s o dims
+can_end (dim_named s o dims column) = ends_named_dim s o dims column
+can_end (dims_listed s o first others) = ends_dims s o first others
+can_end (done a) = record { leaves = []; tree = a; reads = refl }

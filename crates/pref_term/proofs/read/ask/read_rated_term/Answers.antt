@@ -1,0 +1,36 @@
+use Rattle.pref_term.proofs.Common.{false≢true, ◌≡◌, false, rules, sym, subst, length, IfOk-weaker, ahead, operand, in_whole, preference_of, FitsWidth, Question, Asks}
+use Rattle.pref_term.proofs.LedLemmas.{err_exit}
+use Rattle.pref_term.proofs.AskLemmas.{rated_read, rated_prior_fails, rated_group_fails, is_ask, fits_width}
+use Rattle.pref_term.proofs.read.ask.read_rated_term.Goals as goal
+
+pub returns-in_err-term-clause-err : goal.returns-in_err-term-clause-err
+returns-in_err-term-clause-err c = err_exit _ _ c.from_residual.ensures.1 (λ head _. rated_prior_fails c.args.schema.now (ahead c.args.cursor) _ c.in_err-term.ensures.err head)
+
+pub returns-in_err-group-clause-err : goal.returns-in_err-group-clause-err
+returns-in_err-group-clause-err c =
+    let v = c.in_ok-term in
+    err_exit _ _ c.from_residual-in_err-group.ensures.1 (λ head _. rated_group_fails c.args.schema.now (ahead c.args.cursor) (ahead v.next) (preference_of v.term) _ v.ensures.ok c.in_err-group.ensures.err head)
+
+pub new-requires : goal.new-requires
+new-requires c =
+    let v = c.in_ok-term in
+    let g = c.in_ok-group in
+    is_ask c.args.schema.now (preference_of v.term) g.group.items c.args.mode v.ensures.ok.products.known g.ensures.ok.known c.requires false (λ h. absurd (false≢true h))
+
+pub returns-clause-ok : goal.returns-clause-ok
+returns-clause-ok c =
+    let v = c.in_ok-term in
+    let g = c.in_ok-group in
+    IfOk-weaker c.map_err.result (λ (a : Question). a ≡ record { preference = preference_of v.term; group = g.group.items; mode = c.args.mode; distinct = false }) _
+    (λ a is head e. subst (Asks c.args.schema.now (operand (in_whole head)) (ahead c.args.cursor)) (sym is)
+    (rated_read c.args.schema.now (ahead c.args.cursor) (ahead v.next) (preference_of v.term) g.group.items c.args.mode v.ensures.ok g.ensures.ok head e))
+    (search rules)
+
+pub returns-clause-known : goal.returns-clause-known
+returns-clause-known c =
+    let v = c.in_ok-term in
+    let g = c.in_ok-group in
+    IfOk-weaker c.map_err.result (λ (a : Question). a ≡ record { preference = preference_of v.term; group = g.group.items; mode = c.args.mode; distinct = false }) _
+    (λ a is. subst (FitsWidth (length c.args.schema.now)) (sym is)
+    (fits_width c.args.schema.now (preference_of v.term) g.group.items c.args.mode v.ensures.ok.products.known g.ensures.ok.known false))
+    (search rules)
