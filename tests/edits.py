@@ -6,13 +6,15 @@
 
 An edit of crates/CRATE/must-fail begins with three lines, which are its line of the page: `# promise: ` with what it breaks, `# shows: ` with
 how the mistake shows when the code runs, mostly a test that fails, and `# clause: ` with the clause that refuses it. An edit of tests/must-fail
-needs the first alone; its line is marked `release`. In each edit an `old:` has to stand once in its file, and what is named as a test or a script has to be there.
-Needs Python 3.9.
+needs the first alone; its line is marked `release`. In each edit an `old:` has to stand once in its file, and what is named as a test, a script,
+a function or a clause (contracts.py says how) has to be there. Needs Python 3.9.
 """
 import re
 import sys
 from dataclasses import dataclass
 from pathlib import Path
+
+import contracts
 
 TOP = Path(__file__).resolve().parent.parent
 PAGE = TOP / "docs/EDITS.md"
@@ -123,6 +125,7 @@ def faults(edit):
             yield f"its line `# {column}: ` has more than {MOST_IN_A_CELL} characters"
         if "|" in text:
             yield f"its line `# {column}: ` has a |, which ends a cell"
+    yield from contracts.faults(edit.crate, edit.said.get("clause", ""))
     shows = edit.said.get("shows", "")
     yield from (f"there is no test {crate}::{name}" for crate, name in TEST.findall(shows) if not is_test(crate, name))
     yield from (f"there is no script {name}" for name in SCRIPT.findall(shows) if not (TOP / f"tests/scripts/{name}.script").is_file())
