@@ -1,16 +1,17 @@
 #!/usr/bin/env python3
-"""Runs the tests, names what failed, and ends with a count of what passed and what failed.
+"""Runs the tests, names what failed, and ends with a count of what passed, what failed and what was skipped.
 
     python3 tests/run.py quick       for every change: the layout of the files, the lists of definitions and of edits, each test without its
                                      proof, the stored run, the scripts, the examples and what the documents show. The tests of the Python
                                      package run too, where the program is built or PREFQ_PROGRAM names one
-    python3 tests/run.py all         before a merge: every proof from nothing, the must-fail edits and the tests by `rt ci`; then the lists,
-                                     and each check over the built programs that takes seconds
-    python3 tests/run.py release     before a release: all that; then the edits of tests/must-fail, and whether each edit turns an answer
+    python3 tests/run.py all         before a merge: the proofs, the must-fail edits and the tests by `rt ci`, which proves from nothing what it has not passed
+                                     before on this machine, in just these files; then the lists, and each check over the built programs that takes seconds
+    python3 tests/run.py release     before a release: all that, every proof from nothing; then the edits of tests/must-fail, and whether each edit
+                                     turns an answer
 
 tests/quick.sh and tests/all.sh are short names of the first two. Needs the Rattle kit and Python 3.9, and but for `quick` a C compiler, on
 Linux. Tests of the Python package that need pandas, matplotlib, dask or Chromium are skipped, with a line that says so, where these are not
-installed. Leaves nothing behind but the folders out/, which git ignores.
+installed; they are counted apart from the checks, which pass without them. Leaves nothing behind but the folders out/, which git ignores.
 """
 import os
 import re
@@ -22,17 +23,22 @@ import tempfile
 import time
 import traceback
 from concurrent.futures import ThreadPoolExecutor
-from dataclasses import dataclass
+from dataclasses import dataclass, field
 from pathlib import Path
-from typing import Callable
+from typing import Callable, Optional
 
 TOP = Path(__file__).resolve().parent.parent
 PROGRAM = "crates/prefq/out/prefq"
 CHECKS_AT_ONCE = 2
 # More than any check takes. (`rt ci` by itself reckons with twice as much or more.)
 KILOBYTES_A_PROOF = 3_000_000
-BAD_EDIT = re.compile(r"rt: (.*): BAD EDIT")
+# Edits that show nothing, and that the kit lets pass: what it says of one, and what is said here.
+EMPTY_EDITS = {
+    re.compile(r"rt: (.*): BAD EDIT"): "no edit, since it cannot be applied, compiled or read",
+    re.compile(r"rt: (.*): refused, as it must be \(only by a limit of the prover"): "refused only by a limit of the prover, so by no clause",
+}
 PASSED = re.compile(r"(\d+) passed, \d+ failed")
+SKIPPED_TESTS = re.compile(r"\((\d+) tests\)$")
 LEFT_BY_HAND = """\
 left by hand (docs/CONTRIBUTING.md, "A release"):
 - the figures of docs/PERFORMANCE.md and the times of README.md, measured on this commit
@@ -43,16 +49,42 @@ left by hand (docs/CONTRIBUTING.md, "A release"):
 @dataclass
 class Check:
     name: str
-    # gets an empty folder and a file to write to; whether it passed
+    # gets an empty folder and a file to write to; whether it passed, None where it was skipped
     work: Callable
 
 
 @dataclass
 class Result:
     name: str
-    is_passed: bool
+    is_passed: Optional[bool]
     said: str
     seconds: int
+
+    def skipped(self):
+        """The lines that say what it skipped."""
+        return [line for line in self.said.splitlines() if line.startswith("skipped: ")]
+
+
+@dataclass
+class Count:
+    passed: int = 0
+    # the names of what failed
+    failed: list = field(default_factory=list)
+    # how many checks, or tests of checks
+    skipped: int = 0
+
+    def add(self, found):
+        for line in found.skipped():
+            tests = SKIPPED_TESTS.search(line)
+            self.skipped += int(tests[1]) if tests else 1
+        if found.is_passed:
+            self.passed += 1
+        elif found.is_passed is not None:
+            self.fail(found.name)
+
+    def fail(self, name):
+        self.failed.append(name)
+        say(f"FAILED: {name}")
 
 
 def run(log, *words, cwd=TOP):
@@ -151,7 +183,7 @@ def python_package(room, log):
     if os.environ.get("PREFQ_PROGRAM") or os.access(TOP / PROGRAM, os.X_OK):
         return run(log, "python/tests/run.sh")
     print(f"skipped: the tests of the Python package, since {PROGRAM} is not built and PREFQ_PROGRAM names no other", file=log)
-    return True
+    return None
 
 
 DEFINITIONS = ["python3", "tests/definitions.py"]
@@ -167,17 +199,13 @@ QUICK = [
 ]
 
 
-def quick():
-    """Shows what each check that failed said, and what one skipped. How many passed, and what failed."""
-    passed, failed = 0, []
+def quick(count):
+    """Shows what each check that failed said, and what others skipped."""
     for found in results(QUICK):
         if found.is_passed:
-            passed += 1
-            say(f"passed: {found.name}", *(line for line in found.said.splitlines() if line.startswith("skipped: ")))
-        else:
-            failed.append(found.name)
-            say(*found.said.splitlines(), f"FAILED: {found.name}")
-    return passed, failed
+            say(f"passed: {found.name}")
+        say(*(found.said.splitlines() if found.is_passed is False else found.skipped()))
+        count.add(found)
 
 
 # ---- all ----
@@ -216,30 +244,32 @@ def run_and_show(*words, **environment):
     return lines, running.returncode == 0
 
 
-def gate():
-    """How many passed `rt ci`, and what failed there: an edit that does not compile too, which shows nothing, and which `rt ci` passes over."""
-    lines, is_passed = run_and_show("rt", "ci", RT_JOBS=os.environ.get("RT_JOBS") or str(proofs_at_once()))
-    failed = [] if is_passed else ["rt ci"]
-    failed += [f"{found[1]}: no edit, since it does not compile" for found in map(BAD_EDIT.match, lines) if found]
-    count = PASSED.fullmatch(lines[-1]) if lines else None
-    if is_passed and not count:
-        failed.append("rt ci does not say how many passed")
-    return int(count[1]) if count else 0, failed
+def fail_empty_edits(count, lines):
+    for said, why in EMPTY_EDITS.items():
+        for found in filter(None, map(said.match, lines)):
+            count.fail(f"{found[1]}: {why}")
 
 
-def whole():
-    """Shows what each check said. How many passed, and what failed."""
+def gate(count, words):
+    lines, is_passed = run_and_show("rt", "ci", *words, RT_JOBS=os.environ.get("RT_JOBS") or str(proofs_at_once()))
+    if not is_passed:
+        count.fail("rt ci")
+    fail_empty_edits(count, lines)
+    closing = PASSED.fullmatch(lines[-1]) if lines else None
+    if closing:
+        count.passed += int(closing[1])
+    elif is_passed:
+        count.fail("rt ci does not say how many passed")
+
+
+def whole(count, *words):
+    """Shows what each check said. `rt ci` gets the words."""
     begun = time.monotonic()
-    passed, failed = gate()
+    gate(count, words)
     say(f"== rt ci took {minutes_since(begun)} minutes")
     for found in results(BUILT):
         say(f"== {found.name}", f"{found.said}== {found.seconds} seconds")
-        if found.is_passed:
-            passed += 1
-        else:
-            failed.append(found.name)
-            say(f"FAILED: {found.name}")
-    return passed, failed
+        count.add(found)
 
 
 def minutes_since(begun):
@@ -249,18 +279,18 @@ def minutes_since(begun):
 # ---- release ----
 
 
-def release():
-    """All, then what takes hours, shown as it comes. How many passed, and what failed."""
-    passed, failed = whole()
+def release(count):
+    """All, with nothing taken from earlier runs; then what takes hours, shown as it comes."""
+    whole(count, "--anew")
     for words in (["tests/wrong_edits.sh"], ["python3", "tests/edits_turn_answers.py"]):
         say(f"== {' '.join(words)}")
-        if run_and_show(*words)[1]:
-            passed += 1
+        lines, is_passed = run_and_show(*words)
+        fail_empty_edits(count, lines)
+        if is_passed:
+            count.passed += 1
         else:
-            failed.append(" ".join(words))
-            say(f"FAILED: {' '.join(words)}")
+            count.fail(" ".join(words))
     say(LEFT_BY_HAND)
-    return passed, failed
 
 
 def main():
@@ -274,14 +304,15 @@ def main():
     signal.signal(signal.SIGINT, signal.default_int_handler)
     sys.stdout.reconfigure(errors="replace")
     os.environ["PYTHONDONTWRITEBYTECODE"] = "1"
-    begun = time.monotonic()
-    passed, failed = kinds[sys.argv[1]]()
-    say(*(f"failed: {name}" for name in failed))
+    begun, count = time.monotonic(), Count()
+    kinds[sys.argv[1]](count)
+    say(*(f"failed: {name}" for name in count.failed))
+    counts = f"{count.passed} passed, {len(count.failed)} failed, {count.skipped} skipped"
     if sys.argv[1] == "quick":
-        say(f"{passed} passed, {len(failed)} failed, in {int(time.monotonic() - begun)} seconds")
+        say(f"{counts}, in {int(time.monotonic() - begun)} seconds")
     else:
-        say(f"all tests took {minutes_since(begun)} minutes", f"{passed} passed, {len(failed)} failed")
-    sys.exit(1 if failed else 0)
+        say(f"all tests took {minutes_since(begun)} minutes", counts)
+    sys.exit(1 if count.failed else 0)
 
 
 main()
