@@ -28,20 +28,22 @@ MOST_COMMANDS = 4
 
 
 class Histories(Scripts):
-    """Random scripts of few commands, in which a whole query is three of them."""
+    """Random scripts of few commands, in which a whole query is three of them, or four where the table has two blocks."""
 
     def __init__(self, random):
         super().__init__(random)
         self.clients = random.randint(2, 3)
         self.capacity = random.randint(1, 6)
-        self.block = self.capacity
+        self.blocks = random.randint(1, min(self.capacity, 2))
+        self.block = -(-self.capacity // self.blocks)
 
     def commands(self, client):
         found, wanted = [], self.random.randint(1, MOST_COMMANDS)
         while len(found) < wanted:
             found += self.random.choice([
                 [self.change()], [self.change()], [f"commit {self.change()}; {self.change()}"], ["room"], [f"get {self.id()}"],
-                [f"begin {self.question()}", "scan", "finish"], ["begin best low(" + self.column() + ")"],
+                [f"begin {self.question()}", *["scan"] * self.blocks, "finish"], [f"begin {self.question()}", "scan", "abandon"],
+                [f"begin best low({self.column()})"], ["scan"], ["abandon"],
             ])
         return [f"as {client} {command}" for command in found[:MOST_COMMANDS]]
 
