@@ -77,27 +77,19 @@ spent_or member system right early fault open_ e = go (nat_lt member.calls (2 ^ 
     go true h = open_ fault h
     go false h = let same : Spent ≡ fault = cc in ap (λ f. refused f system) same
 
-never_insert : (b : Bool) (row : Row) → refusal_by_query b (CallInsert row) ≡ None
-never_insert true row = refl
-never_insert false row = refl
-
-never_update : (b : Bool) (id : ℕ) (row : Row) → refusal_by_query b (CallUpdate id row) ≡ None
-never_update true id row = refl
-never_update false id row = refl
-
-never_delete : (b : Bool) (id : ℕ) → refusal_by_query b (CallDelete id) ≡ None
-never_delete true id = refl
-never_delete false id = refl
-
-never_commit : (b : Bool) (commit : List Change) → refusal_by_query b (CallCommit commit) ≡ None
-never_commit true commit = refl
-never_commit false commit = refl
+-- a change is not refused for the query
+never : (b : Bool) (call : Call) → is_change call ≡ true → refusal_by_query b call ≡ None
+never b CallBegin change = absurd (cc)
+never b CallFinish change = absurd (cc)
+never b CallAbandon change = absurd (cc)
+never true call change = refl
+never false call change = refl
 
 own_refused : (limits : Limits) (system : System) (client : ℕ) (member : Member) (act : Act) (call : Call) (fault : CoreFault) (q : Option Open) → call_of act ≡ Some call → refusal_of (Some member.calls) (is_some q) call ≡ Some fault → step_of limits system client member act q ≡ refused fault system
-own_refused limits system client member (Insert row) call fault q c e = spent_or member system _ (refusal_by_query (is_some q) (CallInsert row)) fault (λ f h. let never = never_insert (is_some q) row in absurd (cc (never, h))) (let same : call ≡ CallInsert row = cc in subst (λ k. refusal_of (Some member.calls) (is_some q) k ≡ Some fault) same e)
-own_refused limits system client member (Update id row) call fault q c e = spent_or member system _ (refusal_by_query (is_some q) (CallUpdate id row)) fault (λ f h. let never = never_update (is_some q) id row in absurd (cc (never, h))) (let same : call ≡ CallUpdate id row = cc in subst (λ k. refusal_of (Some member.calls) (is_some q) k ≡ Some fault) same e)
-own_refused limits system client member (Delete id) call fault q c e = spent_or member system _ (refusal_by_query (is_some q) (CallDelete id)) fault (λ f h. let never = never_delete (is_some q) id in absurd (cc (never, h))) (let same : call ≡ CallDelete id = cc in subst (λ k. refusal_of (Some member.calls) (is_some q) k ≡ Some fault) same e)
-own_refused limits system client member (Commit commit) call fault q c e = spent_or member system _ (refusal_by_query (is_some q) (CallCommit commit)) fault (λ f h. let never = never_commit (is_some q) commit in absurd (cc (never, h))) (let same : call ≡ CallCommit commit = cc in subst (λ k. refusal_of (Some member.calls) (is_some q) k ≡ Some fault) same e)
+own_refused limits system client member (Insert row) call fault q c e = spent_or member system _ (refusal_by_query (is_some q) (CallInsert row)) fault (λ f h. absurd (cc (never (is_some q) (CallInsert row) refl, h))) (let same : call ≡ CallInsert row = cc in subst (λ k. refusal_of (Some member.calls) (is_some q) k ≡ Some fault) same e)
+own_refused limits system client member (Update id row) call fault q c e = spent_or member system _ (refusal_by_query (is_some q) (CallUpdate id row)) fault (λ f h. absurd (cc (never (is_some q) (CallUpdate id row) refl, h))) (let same : call ≡ CallUpdate id row = cc in subst (λ k. refusal_of (Some member.calls) (is_some q) k ≡ Some fault) same e)
+own_refused limits system client member (Delete id) call fault q c e = spent_or member system _ (refusal_by_query (is_some q) (CallDelete id)) fault (λ f h. absurd (cc (never (is_some q) (CallDelete id) refl, h))) (let same : call ≡ CallDelete id = cc in subst (λ k. refusal_of (Some member.calls) (is_some q) k ≡ Some fault) same e)
+own_refused limits system client member (Commit commit) call fault q c e = spent_or member system _ (refusal_by_query (is_some q) (CallCommit commit)) fault (λ f h. absurd (cc (never (is_some q) (CallCommit commit) refl, h))) (let same : call ≡ CallCommit commit = cc in subst (λ k. refusal_of (Some member.calls) (is_some q) k ≡ Some fault) same e)
 own_refused limits system client member (Begin ask) call fault None c e = spent_or member system _ None fault (λ f h. absurd (cc)) (let same : call ≡ CallBegin = cc in subst (λ k. refusal_of (Some member.calls) false k ≡ Some fault) same e)
 own_refused limits system client member (Begin ask) call fault (Some query) c e = spent_or member system _ (Some QueryOpen) fault (λ f h. let f_is : QueryOpen ≡ f = cc in ap (λ x. refused x system) f_is) (let same : call ≡ CallBegin = cc in subst (λ k. refusal_of (Some member.calls) true k ≡ Some fault) same e)
 own_refused limits system client member ScanAct call fault q c e = absurd (cc)
@@ -242,19 +234,11 @@ refused_change o s t Room call returned fault j c a r = absurd (cc)
 -- whose begin is let in has no query, and whose end is has one
 idle : (calls : ℕ) (q : Option Asking) → refusal_of (Some calls) (is_some q) CallBegin ≡ None → q ≡ None
 idle calls None e = refl
-idle calls (Some asking) e = go (nat_lt calls (2 ^ 56)) e
-  where
-    go : (b : Bool) → cond b (Some QueryOpen) (Some Spent) ≡ None → Some asking ≡ None
-    go true h = absurd (cc)
-    go false h = absurd (cc)
+idle calls (Some asking) e = absurd (cc (subst (λ b. cond b (Some QueryOpen) (Some Spent) ≡ None) (let_in calls true CallBegin e) e))
 
 busy : (calls : ℕ) (q : Option Asking) → refusal_of (Some calls) (is_some q) CallAbandon ≡ None → (asking : Asking) × (q ≡ Some asking)
 busy calls (Some asking) e = (asking, refl)
-busy calls None e = go (nat_lt calls (2 ^ 56)) e
-  where
-    go : (b : Bool) → cond b (Some NoQuery) (Some Spent) ≡ None → (asking : Asking) × (None ≡ Some asking)
-    go true h = absurd (cc)
-    go false h = absurd (cc)
+busy calls None e = absurd (cc (subst (λ b. cond b (Some NoQuery) (Some Spent) ≡ None) (let_in calls false CallAbandon e) e))
 
 -- a query begins
 pub begun : (o : Opening) (s t : Standing) (ask : Question) (left : ℕ) → Begins o s ask left t → StepsTo o s (Begin ask) (Begun left) t

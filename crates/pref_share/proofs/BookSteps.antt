@@ -77,11 +77,7 @@ begins_moves v ask (c ∷ cs) log kept pre away =
         [],
         None,
         tt,
-        record {
-          first = stay 0 kept.first;
-          unused = (λ none. absurd (not_unused c.0 none));
-          spent = same_entries (c ∷ cs) ((used c.0, true) ∷ cs ++ (0, false) ∷ []) log kept stay;
-        },
+        record { first = stay 0 kept.first; unused = (λ none. absurd (not_unused c.0 none)); spent = same_entries (c ∷ cs) ((used c.0, true) ∷ cs ++ (0, false) ∷ []) log kept stay },
         inl (refl, refl),
         (refl, (λ none. kept.unused none)),
       ),
@@ -99,11 +95,7 @@ whole_moves v p ask may (c ∷ cs) log kept pre away =
         [],
         None,
         tt,
-        record {
-          first = stay 0 kept.first;
-          unused = (λ none. absurd (not_unused c.0 none));
-          spent = same_entries (c ∷ cs) ((used c.0, true) ∷ cs) log kept stay;
-        },
+        record { first = stay 0 kept.first; unused = (λ none. absurd (not_unused c.0 none)); spent = same_entries (c ∷ cs) ((used c.0, true) ∷ cs) log kept stay },
         inl (refl, refl),
         (refl, (λ before begins key. append-nil log ∙ alone (c ∷ cs) log before kept (prefix_trans before v log begins pre) (ap (λ k. (cell (c ∷ cs) k).1) key ∙ (away may).1))),
       ),
@@ -142,11 +134,7 @@ adds_moves v p ask may key (c ∷ cs) log kept pre away =
     )
 
 pub starts : IsKept ((0, true) ∷ (0, true) ∷ []) []
-starts = record {
-  first = (omega arith, refl);
-  unused = (λ none. refl);
-  spent = (λ before later e is. absurd (omega (arith, ap length is, length-append before (e ∷ later))));
-}
+starts = record { first = (omega arith, refl); unused = (λ none. refl); spent = (λ before later e is. absurd (omega (arith, ap length is, length-append before (e ∷ later)))) }
 
 pub ops_prefix : (xs ys : List Entry) → IsPrefix xs ys → IsPrefix (ops_of xs) (ops_of ys)
 ops_prefix xs ys p = (ops_of p.0, sym (map-append (λ e. e.op) xs p.0) ∙ ap ops_of p.1)

@@ -1,10 +1,9 @@
 -- How many calls each client has made along a legal history.
-use Rattle.pref_share.proofs.Common.{◌≡◌, ℕ, zero, suc, ◌+◌, ◌*◌, ◌^◌, ◌<◌, ◌≤◌, Bool, true, false, cond, ◌==◌, List, [], ◌∷◌, length, Option, Some, None, is_some, refl, sym, ap, ◌∙◌, subst, arith}
-use Rattle.pref_share.proofs.Common.{AllByRecursion, sum_by, ne_eqb, eqb-true, length-set, All-from_recursion, Call, Op, State, Client, Snapshot, seat, with_seat, is_change, succeeds, committed}
+use Rattle.pref_share.proofs.Common.{◌≡◌, ℕ, zero, suc, ◌+◌, ◌*◌, ◌^◌, ◌<◌, ◌≤◌, Bool, true, false, cond, ◌==◌, List, [], ◌∷◌, length, Option, Some, None, is_some, refl, sym, ap, ◌∙◌, subst, arith, ⊎_elim, cases_eq}
+use Rattle.pref_share.proofs.Common.{same_Some, AllByRecursion, sum_by, ne_eqb, eqb-true, length-set, All-from_recursion, Call, Op, State, Client, Snapshot, seat, with_seat, is_change, succeeds, committed}
 use Rattle.pref_share.proofs.Common.{counted, begun_after, outcome, after, calls_of, begun_of, refusal_of, idle_clients, same_number, IsLegalCall, IsLegalHistory, state_after, numbered_of}
 use Rattle.pref_share.proofs.Common.{seat-with_seat_same, seat-with_seat_other, HasCall, history_of}
 use Rattle.std.proofs.lemmas.List.Sums.{sum_by-le}
-use native.Mathlib.Decide.{ℕ_discrete}
 use Rattle.pref_core.proofs.BoundsLaws.{sum_by-set_suc, AllByRecursion-set, few_calls}
 
 pub after_clients : (n : ℕ) (s : State) (client : ℕ) (call : Call) → (after n s client call).clients ≡ counted s client call
@@ -73,11 +72,8 @@ pub record IsGrown (calls : Option ℕ) (least : ℕ) : Type 0 where
   pub is : calls ≡ Some count
   pub more : least ≤ count
 
-some_same : (a b : ℕ) → Some a ≡ Some b → a ≡ b
-some_same a b e = cc (e)
-
 own_number : (s : State) (op : Op) (client m : ℕ) → IsCaller s op → client ≡ op.client → calls_of s client ≡ Some m → op.number ≡ suc m
-own_number s op client m c e is = c.number ∙ ap suc (some_same _ _ (sym (ap calls_in (ap (λ k. seat k s.clients) e ∙ c.at)) ∙ is))
+own_number s op client m c e is = c.number ∙ ap suc (same_Some _ _ (sym (ap calls_in (ap (λ k. seat k s.clients) e ∙ c.at)) ∙ is))
 
 count_now : (n : ℕ) (s : State) (op : Op) (client m : ℕ) → IsCaller s op → client ≡ op.client → calls_of s client ≡ Some m → calls_of (after n s op.client op.call) client ≡ Some (suc m)
 count_now n s op client m c e is = ap (calls_of (after n s op.client op.call)) e ∙ calls_own n s op c ∙ ap Some (own_number s op client m c e is)
@@ -85,74 +81,39 @@ count_now n s op client m c e is = ap (calls_of (after n s op.client op.call)) e
 pub calls_grow : (n : ℕ) (s : State) (ops : List Op) (client m : ℕ) → IsLegalHistory n s (history_of ops) → calls_of s client ≡ Some m → IsGrown (calls_of (state_after n s (history_of ops)) client) m
 calls_grow n s [] client m legal is = record { count = m; is = is; more = omega arith }
 calls_grow n s (op ∷ ops) client m legal is =
-    go (ℕ_discrete client op.client)
-    (λ e. calls_grow n (after n s op.client op.call) ops client (suc m) legal.1 (count_now n s op client m (caller n s op legal.0) e is))
-    (λ apart. calls_grow n (after n s op.client op.call) ops client m legal.1 (calls_other n s client op apart ∙ is))
-  where
-    now : Option ℕ
-    now = calls_of (state_after n (after n s op.client op.call) (history_of ops)) client
-
-    go : Dec (client ≡ op.client) → (client ≡ op.client → IsGrown now (suc m)) → ((client ≡ op.client → ⊥) → IsGrown now m) → IsGrown now m
-    go (yes e) own other = let rest = own e in let more = rest.more in record { count = rest.count; is = rest.is; more = omega arith }
-    go (no apart) own other = other apart
+    ⊎_elim (λ (e : client ≡ op.client).
+    let rest = calls_grow n (after n s op.client op.call) ops client (suc m) legal.1 (count_now n s op client m (caller n s op legal.0) e is) in
+    let more = rest.more in
+    record { count = rest.count; is = rest.is; more = omega arith })
+    (λ (apart : client ≡ op.client → ⊥). calls_grow n (after n s op.client op.call) ops client m legal.1 (calls_other n s client op apart ∙ is)) (cases_eq client op.client)
 
 -- where a client's count stays, no call is its own, and its query stays
 pub none_own : (n : ℕ) (s : State) (ops : List Op) (client m : ℕ) → IsLegalHistory n s (history_of ops) → calls_of s client ≡ Some m → calls_of (state_after n s (history_of ops)) client ≡ Some m
     → AllByRecursion (λ op. (op.client == client) ≡ false) ops × (begun_of (state_after n s (history_of ops)) client ≡ begun_of s client)
 none_own n s [] client m legal is still = (tt, refl)
 none_own n s (op ∷ ops) client m legal is still =
-    go (ℕ_discrete client op.client) (λ apart. none_own n (after n s op.client op.call) ops client m legal.1 (calls_other n s client op apart ∙ is) still)
-  where
-    Rest : Type 0
-    Rest = AllByRecursion (λ op. (op.client == client) ≡ false) ops × (begun_of (state_after n (after n s op.client op.call) (history_of ops)) client ≡ begun_of (after n s op.client op.call) client)
+    ⊎_elim (λ (e : client ≡ op.client).
+    let rest = calls_grow n (after n s op.client op.call) ops client (suc m) legal.1 (count_now n s op client m (caller n s op legal.0) e is) in
+    let more = rest.more in
+    let same : m ≡ rest.count = same_Some _ _ (sym still ∙ rest.is) in
+    absurd (omega arith))
+    (λ (apart : client ≡ op.client → ⊥).
+    let rest = none_own n (after n s op.client op.call) ops client m legal.1 (calls_other n s client op apart ∙ is) still in
+    ((ne_eqb _ _ (λ (e : op.client ≡ client). apart (sym e)), rest.0), rest.1 ∙ begun_other n s client op apart)) (cases_eq client op.client)
 
-    go : Dec (client ≡ op.client) → ((client ≡ op.client → ⊥) → Rest) → AllByRecursion (λ op. (op.client == client) ≡ false) (op ∷ ops) × (begun_of (state_after n s (history_of (op ∷ ops))) client ≡ begun_of s client)
-    go (yes e) other =
-        let rest = calls_grow n (after n s op.client op.call) ops client (suc m) legal.1 (count_now n s op client m (caller n s op legal.0) e is) in
-        let more = rest.more in
-        let same : m ≡ rest.count = some_same _ _ (sym still ∙ rest.is) in
-        absurd (omega arith)
-    go (no apart) other = let rest = other apart in ((ne_eqb _ _ (λ (e : op.client ≡ client). apart (sym e)), rest.0), rest.1 ∙ begun_other n s client op apart)
-
-further : (op : Op) (ops : List Op) (client number : ℕ) → HasCall ops client number → HasCall (op ∷ ops) client number
+pub further : (op : Op) (ops : List Op) (client number : ℕ) → HasCall ops client number → HasCall (op ∷ ops) client number
 further op ops client number h = record { place = suc h.place; op = h.op; there = h.there; by = h.by; counted = h.counted }
 
 -- each call that the counts tell of stands in the history
 pub has_call : (n : ℕ) (s : State) (ops : List Op) (client m number last : ℕ) → IsLegalHistory n s (history_of ops) → calls_of s client ≡ Some m → m < number
     → calls_of (state_after n s (history_of ops)) client ≡ Some last → number ≤ last → HasCall ops client number
-has_call n s [] client m number last legal is low end high = let same : m ≡ last = some_same _ _ (sym is ∙ end) in absurd (omega arith)
+has_call n s [] client m number last legal is low end high = let same : m ≡ last = same_Some _ _ (sym is ∙ end) in absurd (omega arith)
 has_call n s (op ∷ ops) client m number last legal is low end high =
-    go (ℕ_discrete client op.client) (ℕ_discrete number (suc m))
-    (λ e later. has_call n (after n s op.client op.call) ops client (suc m) number last legal.1 (count_now n s op client m (caller n s op legal.0) e is) later end high)
-    (λ apart. has_call n (after n s op.client op.call) ops client m number last legal.1 (calls_other n s client op apart ∙ is) low end high)
-  where
-    above : (number ≡ suc m → ⊥) → suc m < number
-    above apart = omega (arith, apart)
-
-    go : Dec (client ≡ op.client) → Dec (number ≡ suc m) → (client ≡ op.client → suc m < number → HasCall ops client number) → ((client ≡ op.client → ⊥) → HasCall ops client number) → HasCall (op ∷ ops) client number
-    go (yes e) (yes here) own other = record { place = zero; op = op; there = refl; by = sym e; counted = own_number s op client m (caller n s op legal.0) e is ∙ sym here }
-    go (yes e) (no later) own other = further op ops client number (own e (above later))
-    go (no apart) which own other = further op ops client number (other apart)
-
--- no client makes more calls than it may
-pub calls_few : (n : ℕ) (s : State) (ops : List Op) (client m last : ℕ) → IsLegalHistory n s (history_of ops) → calls_of s client ≡ Some m → m ≤ 2 ^ 56 → calls_of (state_after n s (history_of ops)) client ≡ Some last → last ≤ 2 ^ 56
-calls_few n s [] client m last legal is few end = let same : m ≡ last = some_same _ _ (sym is ∙ end) in omega arith
-calls_few n s (op ∷ ops) client m last legal is few end =
-    go (ℕ_discrete client op.client)
-    (λ e. calls_few n (after n s op.client op.call) ops client (suc m) last legal.1 (count_now n s op client m (caller n s op legal.0) e is) (room e) end)
-    (λ apart. calls_few n (after n s op.client op.call) ops client m last legal.1 (calls_other n s client op apart ∙ is) few end)
-  where
-    room : client ≡ op.client → suc m ≤ 2 ^ 56
-    room e =
-        let c = caller n s op legal.0 in
-        let number = own_number s op client m c e is in
-        let counted = c.number in
-        let most = c.few in
-        omega arith
-
-    go : Dec (client ≡ op.client) → (client ≡ op.client → last ≤ 2 ^ 56) → ((client ≡ op.client → ⊥) → last ≤ 2 ^ 56) → last ≤ 2 ^ 56
-    go (yes e) own other = own e
-    go (no apart) own other = other apart
+    ⊎_elim (λ (e : client ≡ op.client).
+    ⊎_elim (λ (here : number ≡ suc m). record { place = zero; op = op; there = refl; by = sym e; counted = own_number s op client m (caller n s op legal.0) e is ∙ sym here })
+    (λ (later : number ≡ suc m → ⊥). further op ops client number (has_call n (after n s op.client op.call) ops client (suc m) number last legal.1 (count_now n s op client m (caller n s op legal.0) e is) (omega (arith, later)) end high))
+    (cases_eq number (suc m)))
+    (λ (apart : client ≡ op.client → ⊥). further op ops client number (has_call n (after n s op.client op.call) ops client m number last legal.1 (calls_other n s client op apart ∙ is) low end high)) (cases_eq client op.client)
 
 -- all calls of all clients
 abbrev total : State → ℕ
@@ -178,6 +139,22 @@ counts_one n s op c = subst (CountsOne s.clients) (sym (after_clients n s op.cli
     go None e = absurd (cc)
     go (Some found) e = let same : found ≡ c.who = cc in with_seat_counts s.clients op.client (one_more s op.call found) c.who c.at c.few (ap (λ (f : Client). suc f.calls) same)
 
+-- the clients stay, ..
+pub length-after : (n : ℕ) (s : State) (ops : List Op) → IsLegalHistory n s (history_of ops) → length (state_after n s (history_of ops)).clients ≡ length s.clients
+length-after n s [] legal = refl
+length-after n s (op ∷ ops) legal = length-after n (after n s op.client op.call) ops legal.1 ∙ (counts_one n s op (caller n s op legal.0)).long
+
+-- .. and none makes more calls than it may
+few_after : (n : ℕ) (s : State) (ops : List Op) → IsLegalHistory n s (history_of ops) → AllByRecursion (λ who. who.calls ≤ 2 ^ 56) s.clients → AllByRecursion (λ who. who.calls ≤ 2 ^ 56) (state_after n s (history_of ops)).clients
+few_after n s [] legal few = few
+few_after n s (op ∷ ops) legal few = few_after n (after n s op.client op.call) ops legal.1 ((counts_one n s op (caller n s op legal.0)).few few)
+
+few_calls_in : (clients : List Client) (client last : ℕ) → AllByRecursion (λ who. who.calls ≤ 2 ^ 56) clients → calls_in (seat client clients) ≡ Some last → last ≤ 2 ^ 56
+few_calls_in clients zero last few is = absurd (cc)
+few_calls_in [] (suc k) last few is = absurd (cc)
+few_calls_in (who ∷ clients) (suc zero) last few is = let most = few.0 in let same : who.calls ≡ last = cc in omega arith
+few_calls_in (who ∷ clients) (suc (suc k)) last few is = few_calls_in clients (suc k) last few.1 is
+
 -- no legal history is longer than all clients have numbers
 few_from : (n : ℕ) (s : State) (ops : List Op) → IsLegalHistory n s (history_of ops) → AllByRecursion (λ who. who.calls ≤ 2 ^ 56) s.clients → total s + length ops ≤ length s.clients * 2 ^ 56
 few_from n s [] legal few =
@@ -197,6 +174,10 @@ idle_few (suc n) = (omega arith, idle_few n)
 pub length-idle : (n : ℕ) → length (idle_clients n) ≡ n
 length-idle zero = refl
 length-idle (suc n) = ap suc (length-idle n)
+
+pub calls_few : (n clients : ℕ) (s : State) (ops : List Op) (client last : ℕ) → s.clients ≡ idle_clients clients → IsLegalHistory n s (history_of ops) → calls_of (state_after n s (history_of ops)) client ≡ Some last → last ≤ 2 ^ 56
+calls_few n clients s ops client last idle legal is =
+    few_calls_in (state_after n s (history_of ops)).clients client last (few_after n s ops legal (subst (AllByRecursion (λ who. who.calls ≤ 2 ^ 56)) (sym idle) (idle_few clients))) is
 
 pub few_ops : (n clients : ℕ) (s : State) (ops : List Op) → s.clients ≡ idle_clients clients → clients ≤ 8 → IsLegalHistory n s (history_of ops) → length ops ≤ 2 ^ 59
 few_ops n clients s ops is eight legal =

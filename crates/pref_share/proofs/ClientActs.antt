@@ -1,10 +1,11 @@
 -- The parts of all clients in a history, and the last act of each.
 use Rattle.pref_share.proofs.Common.{◌≡◌, ◌==◌, ℕ, suc, ◌<◌, ◌≤◌, cond, List, [], ◌∷◌, ◌++◌, length, Some, refl, sym, ap, ◌∙◌, subst, arith, ◌⊎◌, inl, inr, ⊎_elim, cases_eq, eq-eqb, ne_eqb}
 use Rattle.pref_share.proofs.Common.{length-append, IsPrefix, Op, Act, Reply, Opening, IsLegalFrom, calls_at, Standing, newcomer, StepsTo, Looks, Adds, Runs, none, then, RunsTo}
-use Rattle.pref_share.specs.ActReplies.{IsIn}
+use Rattle.std.proofs.lemmas.List.{same_from_push}
+use Rattle.pref_share.specs.SeenHistory.{IsIn}
 use Rattle.pref_share.proofs.PrefixLaws.{prefix_shorter, prefix_whole, prefix_length}
 use Rattle.pref_share.proofs.HistoryLaws.{legal-prefix}
-use Rattle.pref_share.proofs.LastCalls.{same_last, last_own, last_number, last_other, last_one_of, IsOneOf, grown_further, Counts, counts}
+use Rattle.pref_share.proofs.LastCalls.{last_own, last_number, last_other, last_one_of, IsOneOf, grown_further, Counts, counts}
 
 -- what a client did and was told, and how it stands after
 pub record Part : Type 0 where
@@ -100,10 +101,7 @@ without_looks o history number Holds rest more _ _ _ _ (then acts returned stand
     looked : u.seen ≡ history → Looks t u step.at → (IsIn o history t → Holds before) → Holds (longer before act reply u)
     looked whole looks shorter =
         let at_is : step.at ≡ history = sym looks.seen ∙ whole in
-        let is_in : IsIn o history t = record {
-          inside = subst (IsPrefix t.seen) at_is step.further;
-          alone = ap (calls_at o history) (sym step.same) ∙ h.alone ∙ ap Some looks.counted;
-        } in
+        let is_in : IsIn o history t = record { inside = subst (IsPrefix t.seen) at_is step.further; alone = ap (calls_at o history) (sym step.same) ∙ h.alone ∙ ap Some looks.counted } in
         more before act reply u (record { runs = record { stands = stands; runs = runs }; is_in = is_in }) (step, at_is, whole) (shorter is_in)
 
     go : (u.seen ≡ history) ⊎ (length u.seen < length history) → Looks t u step.at ⊎ Adds o t act u step.at → (IsIn o history t → Holds before) → Holds (longer before act reply u)
@@ -147,7 +145,7 @@ made_last o before op p legal h (joined last) = last
 
 -- .. answered where the history stood before it
 pub last_at : (o : Opening) (before : List Op) (op : Op) (number : ℕ) (p : Part) (last : IsLast o (before ++ op ∷ []) number p) → (last.step.at ≡ before) × (last.adds.op ≡ op)
-last_at o before op number p last = same_last last.step.at before last.adds.op op (sym last.adds.seen ∙ last.whole)
+last_at o before op number p last = same_from_push last.step.at before last.adds.op op (sym last.adds.seen ∙ last.whole)
 
 -- the parts of all others are in the history before it
 others_before : (o : Opening) (before : List Op) (op : Op) (number : ℕ) (p : Part) → (number ≡ op.client → ⊥) → Counts o number p.last → IsIn o (before ++ op ∷ []) p.last → LooksNoMore o (before ++ op ∷ []) number p → IsIn o before p.last
@@ -173,7 +171,4 @@ parts_before o before op parts legal h looks last = with_part-each (λ n x. IsOn
     (λ number apart one_of.
     let part = h number one_of in
     let p = parts number in
-    record {
-      runs = part.runs;
-      is_in = others_before o before op number p apart (counts o number one_of p.acts p.returned part.runs.stands p.last part.runs.runs) part.is_in (looks number one_of);
-    })
+    record { runs = part.runs; is_in = others_before o before op number p apart (counts o number one_of p.acts p.returned part.runs.stands p.last part.runs.runs) part.is_in (looks number one_of) })

@@ -3,9 +3,9 @@ pub use Rattle.std.proofs.Common.{◌&&◌, ◌*◌, ◌+◌, ◌++◌, ◌-◌,
 pub use Rattle.std.proofs.Common.{fold, get_or, inl, inr, is_some, length, map, nat_lt, refl, replicate, rules, set, slice_get, subst, suc, sym, take, true, zero, ℕ, ◌∙◌, ◌∷◌, ◌≡◌, ◌≢◌, ◌≤◌, ◌⊎◌}
 pub use Rattle.std.proofs.Common.{⊎_elim}
 pub use Rattle.std.proofs.lemmas.Bool.{cases_eq, eq-eqb, eqb-true, ne_eqb}
-pub use Rattle.std.proofs.lemmas.List.{append-nil, append_assoc, get_or-map, length-append, length-set, map-append}
+pub use Rattle.std.proofs.lemmas.List.{append-nil, append_assoc, get_or-map, length-append, length-map, length-set, map-append}
 pub use Rattle.std.proofs.lemmas.List.Elements.{All-from_recursion, All-get_or, All-nil, All-push, filter-append}
-pub use Rattle.std.proofs.lemmas.Option.{get_or_from_slice_get, slice_get_cases, slice_get_within}
+pub use Rattle.std.proofs.lemmas.Option.{get_or_from_slice_get, same_Some, slice_get_cases, slice_get_within}
 pub use Rattle.std.specs.Global.{Vec}
 pub use Rattle.std.specs.List.{All, AllByRecursion, filter, sum_by}
 pub use Rattle.std.specs.Option.{option_map, option_or, unwrap_or}
@@ -34,7 +34,7 @@ pub use Rattle.pref_core.specs.declared.event.Reply.{Reply}
 pub use Rattle.pref_core.specs.declared.fault.CoreFault.{CoreFault}
 pub use Rattle.pref_core.specs.declared.fault.CoreFault.TheVariants.{AllScanned, NoQuery, NoSuchClient, NoSuchRow, NoSuchRow as MissingRow, NotDone, OutOfMemory, QueryOpen, Spent}
 pub use Rattle.pref_share.specs.Clients.{Begins, Changes, Commits, Finishes, HasLeft, IsAnswer, IsInUse, Joins, RefusesCall, RefusesChange, RefusesFinish, Sees, asks_for_memory, own_refusal}
-pub use Rattle.pref_share.specs.SeenHistory.{Asks, AsksOrNone, GivesNone, IsAhead, IsJoined, MayJoin, Stands, outcome_or_refusal, snapshot_at}
+pub use Rattle.pref_share.specs.SeenHistory.{Asks, AsksOrNone, GivesNone, IsAhead, IsAppended, IsJoined, MayJoin, Stands, outcome_or_refusal, snapshot_at}
 pub use Rattle.pref_share.specs.Openings.{HasCall, IsLegalFrom, LegalIsHistory, MayFollow, Opening, calls_at, contents_at, first_contents, first_state, history_of, state_at}
 pub use Rattle.pref_share.specs.Reports.{AreReports, AreTaken, Did, DidActs, Ends, IsFirstStopped, IsFoundInUse, IsWithin, RefusesRun, StandsWithin, WasLetIn}
 pub use Rattle.pref_share.specs.Runs.{Adds, IsJointRun, IsPart, IsStep, Looks, Performs, Runs, RunsTo, StepsTo, StopsAt, call_of, member_of, nobody, none, open_of, step_by, then}

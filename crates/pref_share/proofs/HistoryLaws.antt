@@ -75,9 +75,6 @@ legal_is_history o ops legal =
     let opened = opens o legal.fits in
     subst (λ n. IsLegalHistory n (first_state o) (history_of ops)) opened.1 (ops_are_history (first_contents o) (first_state o) ops opened.0 legal.each).0
 
-pub contents_at-append : (o : Opening) (xs ys : List Op) → contents_at o (xs ++ ys) ≡ ran (contents_at o xs) ys
-contents_at-append o xs ys = ran-append (first_contents o) xs ys
-
 -- a beginning of a legal history is legal, and what follows is legal there
 pub legal-prefix : (o : Opening) (xs ys : List Op) → IsPrefix xs ys → IsLegalFrom o ys → IsLegalFrom o xs
 legal-prefix o xs ys p legal = record {

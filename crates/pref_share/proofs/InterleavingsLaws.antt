@@ -5,22 +5,19 @@ use Rattle.pref_share.specs.Interleavings.{Answered, JointRunsAreSequential}
 use Rattle.pref_share.proofs.PrefixLaws.{prefix_get}
 use Rattle.pref_share.proofs.LastCalls.{IsOneOf}
 use Rattle.pref_share.proofs.ClientActs.{Part, nothing_done, IsPartAt}
+use Rattle.pref_share.proofs.RunsLaws.{behind}
 use Rattle.pref_share.proofs.RunsReached.{Reached, acts_of-events, reached}
 
 pub length-newcomers : (n : ℕ) → length (newcomers n) ≡ n
 length-newcomers zero = refl
 length-newcomers (suc n) = omega (arith, length-append (newcomers n) (newcomer (suc n) ∷ []), length-newcomers n)
 
-at_end : {A : Type 0} (xs : List A) (x : A) → slice_get (xs ++ x ∷ []) (length xs) ≡ Some x
-at_end [] x = refl
-at_end (y ∷ xs) x = at_end xs x
-
 -- the clients stand in order of number
 pub newcomer_at : (n place : ℕ) → place < n → slice_get (newcomers n) place ≡ Some (newcomer (suc place))
 newcomer_at zero place l = absurd (omega arith)
 newcomer_at (suc n) place l =
     ⊎_elim (λ (e : place ≡ n). subst (λ k. slice_get (newcomers n ++ newcomer (suc n) ∷ []) k ≡ Some (newcomer (suc k))) (sym e)
-    (ap (slice_get (newcomers n ++ newcomer (suc n) ∷ [])) (sym (length-newcomers n)) ∙ at_end (newcomers n) (newcomer (suc n))))
+    (ap (slice_get (newcomers n ++ newcomer (suc n) ∷ [])) (sym (length-newcomers n)) ∙ behind (newcomers n) [] (newcomer (suc n))))
     (λ (apart : place ≡ n → ⊥). prefix_get (newcomers n) (newcomers (suc n)) place (newcomer (suc place)) (newcomer (suc n) ∷ [], refl) (newcomer_at n place (omega (arith, apart, l))))
     (cases_eq place n)
 

@@ -2,8 +2,8 @@
 use Rattle.pref_share.proofs.Common.{◌≡◌, ℕ, zero, suc, ◌<◌, ◌≤◌, List, [], ◌∷◌, ◌++◌, length, Option, Some, None, refl, sym, ap, ◌∙◌, subst, arith, inl, inr, ◌⊎◌, length-append, length-set}
 use Rattle.pref_share.proofs.Common.{slice_get_within, IsPrefix, Call, Op, Act, Reply, State, Client, seat, with_seat, after, calls_of, state_after, Opening, IsLegalFrom, history_of, first_state}
 use Rattle.pref_share.proofs.Common.{state_at, calls_at, Standing, newcomer, Looks, Adds, Runs, none, then}
-use Rattle.pref_share.proofs.HistoryLaws.{history_rest, legal_is_history, state_at-append}
-use Rattle.pref_share.proofs.CallCounts.{IsCaller, IsGrown, after_clients, caller, calls_own, calls_grow, idle_seat, length-idle, one_more, seat_other}
+use Rattle.pref_share.proofs.HistoryLaws.{history_rest, legal_is_history, legal-prefix, state_at-append}
+use Rattle.pref_share.proofs.CallCounts.{IsCaller, IsGrown, caller, calls_own, calls_grow, idle_seat, length-after, length-idle, seat_other}
 
 -- a list is empty, or has a last element
 pub last_of : {A : Type 0} (xs : List A) → (xs ≡ []) ⊎ ((before : List A) × (x : A) × (before ++ x ∷ [] ≡ xs))
@@ -13,13 +13,6 @@ last_of (x ∷ xs) = inr (go x xs)
     go : {A : Type 0} (x : A) (xs : List A) → (before : List A) × (y : A) × (before ++ y ∷ [] ≡ x ∷ xs)
     go x [] = ([], x, refl)
     go x (y ∷ ys) = let rest = go y ys in (x ∷ rest.0, rest.1, ap (λ l. x ∷ l) rest.2)
-
--- two lists that are the same have the same last element, and the same before it
-pub same_last : {A : Type 0} (xs ys : List A) (x y : A) → xs ++ x ∷ [] ≡ ys ++ y ∷ [] → (xs ≡ ys) × (x ≡ y)
-same_last [] [] x y e = (refl, cc (e))
-same_last [] (z ∷ ys) x y e = absurd (omega (arith, ap length e, length-append ys (y ∷ [])))
-same_last (z ∷ xs) [] x y e = absurd (omega (arith, ap length e, length-append xs (x ∷ [])))
-same_last (w ∷ xs) (z ∷ ys) x y e = let rest = same_last xs ys x y (cc (e)) in (cc (e, rest.0), rest.1)
 
 -- who made the last call
 pub last_caller : (o : Opening) (before : List Op) (op : Op) → IsLegalFrom o (before ++ op ∷ []) → IsCaller (state_at o before) op
@@ -44,21 +37,6 @@ last_other o before op client apart =
     ap (λ s. calls_of s client) (state_at-append o before (op ∷ []))
     ∙ ap (λ (found : Option Client). elim found as (λ x. Option ℕ) [ None ↦ None | Some who ↦ Some who.calls ]) (seat_other o.limits.capacity (state_at o before) client op.client op.call apart)
 
-length-with_seat : (client : ℕ) (new : Client) (clients : List Client) → length (with_seat client new clients) ≡ length clients
-length-with_seat zero new clients = refl
-length-with_seat (suc k) new clients = length-set clients k new
-
-length-after : (n : ℕ) (s : State) (client : ℕ) (call : Call) → length (after n s client call).clients ≡ length s.clients
-length-after n s client call = ap length (after_clients n s client call) ∙ go (seat client s.clients)
-  where
-    go : (found : Option Client) → length (elim found as (λ x. List Client) [ None ↦ s.clients | Some who ↦ with_seat client (one_more s call who) s.clients ]) ≡ length s.clients
-    go None = refl
-    go (Some who) = length-with_seat client (one_more s call who) s.clients
-
-length-state_after : (n : ℕ) (s : State) (ops : List Op) → length (state_after n s (history_of ops)).clients ≡ length s.clients
-length-state_after n s [] = refl
-length-state_after n s (op ∷ ops) = length-state_after n (after n s op.client op.call) ops ∙ length-after n s op.client op.call
-
 seated : (clients : List Client) (client : ℕ) (who : Client) → seat client clients ≡ Some who → (0 < client) × (client ≤ length clients)
 seated clients zero who e = absurd (cc)
 seated clients (suc k) who e = let within = slice_get_within clients k who e in (omega arith, omega arith)
@@ -71,7 +49,8 @@ pub last_one_of : (o : Opening) (before : List Op) (op : Op) → IsLegalFrom o (
 last_one_of o before op legal =
     let c = last_caller o before op legal in
     let within = seated (state_at o before).clients op.client c.who c.at in
-    let all : length (state_at o before).clients ≡ o.limits.clients = length-state_after o.limits.capacity (first_state o) before ∙ length-idle o.limits.clients in
+    let legal_before = legal_is_history o before (legal-prefix o before (before ++ op ∷ []) (op ∷ [], refl) legal) in
+    let all : length (state_at o before).clients ≡ o.limits.clients = length-after o.limits.capacity (first_state o) before legal_before ∙ length-idle o.limits.clients in
     (within.0, omega (arith, within.1, all))
 
 -- a count only grows
@@ -112,11 +91,7 @@ counts_added o number s t at act c same legal adds =
     let counted : t.counter ≡ suc s.counter = adds.counted in
     record {
       same = same ∙ c.same;
-      grown = record {
-        count = adds.op.number;
-        is = ap (λ l. calls_at o l number) adds.seen ∙ ap (calls_at o (at ++ adds.op ∷ [])) (sym (adds.by ∙ c.same)) ∙ own;
-        more = omega arith;
-      };
+      grown = record { count = adds.op.number; is = ap (λ l. calls_at o l number) adds.seen ∙ ap (calls_at o (at ++ adds.op ∷ [])) (sym (adds.by ∙ c.same)) ∙ own; more = omega arith };
     }
 
 -- after its acts a client's counts are right still

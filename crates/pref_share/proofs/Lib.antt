@@ -3,10 +3,8 @@ pub mod PrefixLaws
 pub mod BookSteps
 pub mod HistoryLaws
 pub mod CallCounts
-pub mod PrefixOrder
 pub mod ViewsLaws
 pub mod StandingLaws
-pub mod ListLaws
 pub mod ActSteps
 pub mod RefusalReplies
 pub mod RunsLaws

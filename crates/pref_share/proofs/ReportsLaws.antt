@@ -1,6 +1,6 @@
 -- The reports of clients, and what follows from them of the whole run.
-use Rattle.pref_share.proofs.Common.{◌≡◌, ℕ, suc, ◌<◌, ◌+◌, ◌^◌, Bool, true, false, List, [], ◌++◌, length, map, get_or, Option, Some, None, slice_get, refl, sym, ap, ◌∙◌, subst, arith, inl, inr}
-use Rattle.pref_share.proofs.Common.{⊎_elim, option_or, All, append-nil, length-append, All-get_or, slice_get_within, get_or_from_slice_get, Vec, IsPrefix, Op, Act, Reply, ShareFault, Core}
+use Rattle.pref_share.proofs.Common.{length-map, ◌≡◌, ℕ, suc, ◌<◌, ◌+◌, ◌^◌, Bool, true, false, List, [], ◌++◌, length, map, get_or, Option, Some, None, slice_get, refl, sym, ap, ◌∙◌, subst, arith, inl, inr}
+use Rattle.pref_share.proofs.Common.{same_Some, ⊎_elim, option_or, All, append-nil, length-append, All-get_or, slice_get_within, get_or_from_slice_get, Vec, IsPrefix, Op, Act, Reply, ShareFault, Core}
 use Rattle.pref_share.proofs.Common.{ClientInUse, Held, Closed, Opening, IsLegalFrom, HasCall, calls_at, Standing, Sees, IsInUse, RunsTo, StopsAt, IsJointRun, IsPart, WasLetIn, Ends, Did, DidActs}
 use Rattle.pref_share.proofs.Common.{IsFoundInUse, IsWithin, StandsWithin, AreReports, AreTaken, IsFirstStopped, AreWorked, DidTask, IsFirstOf, Settles, report_of, Worked, Listed}
 use Rattle.std.specs.Option.{is_some}
@@ -8,16 +8,10 @@ use Rattle.pref_share.specs.declared.run.Report.{Report}
 use Rattle.pref_share.proofs.PairLaws.{Pairs, choose, pairs_all, pairs_at, pairs_cut, pairs_length}
 use Rattle.pref_share.proofs.PrefixLaws.{prefix_self, prefix_trans}
 use Rattle.pref_share.proofs.RefusalReplies.{stops_in_use}
-use Rattle.pref_share.proofs.RunsLaws.{there, mapped, length_map, length_told, behind, given_at}
+use Rattle.pref_share.proofs.RunsLaws.{there, mapped, length_told, behind, given_at}
 
 sees_on : (o : Opening) (s t u : Standing) → Sees o s t → Sees o t u → Sees o s u
-sees_on o s t u a b = record {
-  further = prefix_trans s.seen t.seen u.seen a.further b.further;
-  legal = b.legal;
-  counted = b.counted ∙ a.counted;
-  same = b.same ∙ a.same;
-  query = b.query ∙ a.query;
-}
+sees_on o s t u a b = record { further = prefix_trans s.seen t.seen u.seen a.further b.further; legal = b.legal; counted = b.counted ∙ a.counted; same = b.same ∙ a.same; query = b.query ∙ a.query }
 
 -- why a client stopped that is found in use is so still, and where it had not stopped it is that it is in use
 ends_in_use : (o : Opening) (said : ℕ → Bool → Type 0) (s t : Standing) (rest : List Act) (stopped : Option ShareFault) → IsInUse o s (suc s.counter) t → Ends said s rest stopped
@@ -75,7 +69,7 @@ pub are_worked : {A J T : Type 0} (o : Opening) (says : ℕ → ℕ → Bool →
 are_worked {A} {J} {T} o says left took history client task jobs before after clients tasks paired listed legal worked kept did settles = record {
   history = history;
   legal = legal;
-  each_worked = kept ∙ worked ∙ sym (length_map client jobs) ∙ ap length paired;
+  each_worked = kept ∙ worked ∙ sym (length-map jobs client) ∙ ap length paired;
   each = each;
 }
   where
@@ -104,13 +98,13 @@ pub are_reports : {J : Type 0} (o : Opening) (says : ℕ → ℕ → Bool → Ty
 are_reports {J} o says left clients acts tasks all reports listed returned h = record {
   history = h.history;
   legal = h.legal;
-  reported = ap length returned ∙ length_map report_of all ∙ h.each_worked;
+  reported = ap length returned ∙ length-map all report_of ∙ h.each_worked;
   each = each;
 }
   where
     each : (i : ℕ) (s : Standing) (list : Vec Act) → slice_get clients i ≡ Some s → slice_get acts i ≡ Some list → (report : Report J) × (slice_get reports i ≡ Some report) × Did o says s list.items report × IsWithin o h.history report
     each i s list at listed_at =
-        let short : i < length tasks = omega (arith, slice_get_within acts i list listed_at, ap length listed, length_map left tasks, length_map (λ (l : Vec Act). l.items) acts) in
+        let short : i < length tasks = omega (arith, slice_get_within acts i list listed_at, ap length listed, length-map tasks left, length-map acts (λ (l : Vec Act). l.items)) in
         let (t, t_at) = there tasks i short in
         let same : left t ≡ list.items = same_at left (λ (l : Vec Act). l.items) tasks acts listed i t list t_at listed_at in
         let (w, w_at, (replies, taken, did), within) = h.each i s t at t_at in (
@@ -126,7 +120,7 @@ joint : {J : Type 0} (o : Opening) (says : ℕ → ℕ → Bool → Type 0) (cli
 joint {J} o says clients lists reports out all none given = record {
   history = all.history;
   legal = all.legal;
-  lists = ap length given ∙ length_map (λ r. r.replies) reports ∙ all.reported;
+  lists = ap length given ∙ length-map reports (λ r. r.replies) ∙ all.reported;
   each = part;
 }
   where
@@ -153,7 +147,7 @@ pub joint_of_lists : (o : Opening) (clients : List Standing) (acts : List (Vec A
 joint_of_lists o clients acts tasks done replies out taken run is = record {
   history = run.history;
   legal = run.legal;
-  lists = ap length is ∙ length_map (λ listed. listed.replies) done ∙ taken.tasks_done ∙ sym taken.lists ∙ run.lists;
+  lists = ap length is ∙ length-map done (λ listed. listed.replies) ∙ taken.tasks_done ∙ sym taken.lists ∙ run.lists;
   each = each;
 }
   where
@@ -164,8 +158,7 @@ joint_of_lists o clients acts tasks done replies out taken run is = record {
         let (first, first_at) = there tasks i short in
         let (listed, done_at) = there done i (omega (arith, short, taken.tasks_done)) in
         let (other, other_at, took) = taken.each i first listed first_at done_at in
-        let both : Some other ≡ Some returned = sym other_at ∙ told_at in
-        let same : other ≡ returned = cc both in (
+        let same : other ≡ returned = same_Some other returned (sym other_at ∙ told_at) in (
           listed.replies,
           ap (λ (l : List (Vec Reply)). slice_get l i) is ∙ mapped (λ (x : Listed). x.replies) done i listed done_at,
           subst (λ (l : List Reply). IsPart o run.history s list.items l) (sym (took ∙ ap (λ (v : Vec Reply). v.items) same)) part,
@@ -181,8 +174,7 @@ first_stops {J} o says clients lists reports fault all many first =
     let client = there clients place short in
     let list = there lists place (omega (arith, short, many)) in
     let (r, r_at, did, within) = all.each place client.0 list.0 client.1 list.1 in
-    let found : Some r ≡ Some first.report = sym r_at ∙ here in
-    let same : r ≡ first.report = cc in
+    let same : r ≡ first.report = same_Some r first.report (sym r_at ∙ here) in
     let stopped : r.stopped ≡ Some fault = ap (λ (x : Report J). x.stopped) same ∙ first.stopped in
     (r.client, did.rest, length did.done, (subst (λ (x : Option ShareFault). Ends (λ client. says client (length did.done)) r.client did.rest x) stopped did.ends).0)
 
@@ -198,7 +190,7 @@ module _ {J T X : Type 0} (o : Opening) (says : ℕ → ℕ → Bool → Type 0)
     within : StandsWithin o h.history w.client w.stopped
 
   as_many : length tasks ≡ length acts
-  as_many = omega (arith, ap length listed, length_map (λ (l : Vec Act). l.items) acts, length_map left tasks)
+  as_many = omega (arith, ap length listed, length-map acts (λ (l : Vec Act). l.items), length-map tasks left)
 
   -- as many replies as there are acts fit in a list
   abbrev held : (replies : List Reply) → length replies < 2 ^ 63 → Vec Reply
@@ -218,8 +210,7 @@ module _ {J T X : Type 0} (o : Opening) (says : ℕ → ℕ → Bool → Type 0)
       let (t, t_at) = there tasks i (omega (arith, short, many, as_many)) in
       let same_acts : list.items ≡ left t = same_at (λ (l : Vec Act). l.items) left acts tasks listed i list t l_at t_at in
       let (v, v_at, (replies, taken, did), within) = h.each i s t s_at t_at in
-      let both : Some v ≡ Some w = sym v_at ∙ at in
-      let same : v ≡ w = cc both in
+      let same : v ≡ w = same_Some v w (sym v_at ∙ at) in
       let mine : DidActs o says s (left t) w.client replies w.stopped = subst (λ (x : Worked J T). DidActs o says s (left t) x.client replies x.stopped) same did in
       let done : DidActs o says s list.items w.client replies w.stopped = subst (λ (l : List Act). DidActs o says s l w.client replies w.stopped) (sym same_acts) mine in
       let report : Report J = record { client = w.client; replies = held replies (few_replies s w.client list w.stopped replies done); stopped = w.stopped } in (
@@ -228,14 +219,11 @@ module _ {J T X : Type 0} (o : Opening) (says : ℕ → ℕ → Bool → Type 0)
           client = refl;
           stopped = refl;
           taken = λ first first_at.
-              let t_both : Some t ≡ Some first = sym t_at ∙ first_at in
-              let t_same : t ≡ first = cc t_both in
+              let t_same : t ≡ first = same_Some t first (sym t_at ∙ first_at) in
               subst (λ (x : T). took x w.task replies) t_same (subst (λ (x : Worked J T). took t x.task replies) same taken);
           did = λ other_s other other_s_at other_at.
-              let s_both : Some s ≡ Some other_s = sym s_at ∙ other_s_at in
-              let s_same : s ≡ other_s = cc s_both in
-              let l_both : Some list ≡ Some other = sym l_at ∙ other_at in
-              let l_same : list ≡ other = cc l_both in
+              let s_same : s ≡ other_s = same_Some s other_s (sym s_at ∙ other_s_at) in
+              let l_same : list ≡ other = same_Some list other (sym l_at ∙ other_at) in
               subst (λ (x : Vec Act). Did o says other_s x.items report) l_same (subst (λ (x : Standing). Did o says x list.items report) s_same done);
           within = subst (λ (x : Worked J T). StandsWithin o h.history x.client x.stopped) same within;
         },
@@ -283,14 +271,13 @@ module _ {J T X : Type 0} (o : Opening) (says : ℕ → ℕ → Bool → Type 0)
       let all_done : length all ≡ length tasks = omega (arith, h.each_worked, many, as_many) in (
         replies,
         record {
-          lists = length_map (λ (r : Report J). r.replies) returned.0 ∙ pairs_length Reports all returned.0 returned.1 ∙ all_done;
-          tasks_done = ap length are ∙ length_map (λ w. w.task) all ∙ all_done;
+          lists = length-map returned.0 (λ (r : Report J). r.replies) ∙ pairs_length Reports all returned.0 returned.1 ∙ all_done;
+          tasks_done = ap length are ∙ length-map all (λ w. w.task) ∙ all_done;
           each = λ i first task first_at at.
               let (w, w_at) = there all i (omega (arith, slice_get_within tasks i first first_at, all_done)) in
               let (report, r_at, r) = pairs_at Reports all returned.0 returned.1 i w w_at in
               let here : slice_get done i ≡ Some w.task = ap (λ (l : List T). slice_get l i) are ∙ mapped (λ (w : Worked J T). w.task) all i w w_at in
-              let both : Some w.task ≡ Some task = sym here ∙ at in
-              let same : w.task ≡ task = cc both in
+              let same : w.task ≡ task = same_Some w.task task (sym here ∙ at) in
               (report.replies, mapped (λ (r : Report J). r.replies) returned.0 i report r_at, subst (λ (t : T). took first t report.replies.items) same (r.taken first first_at));
         },
         joint o says clients acts returned.0 replies are_told (pairs_all Reports (λ w. w.stopped ≡ None) (λ r. r.stopped ≡ None) (λ i w r paired none. paired.stopped ∙ none) all returned.0 returned.1 none) refl,

@@ -1,10 +1,10 @@
 -- What a client's counter and query are along the history that it sees.
-use Rattle.pref_share.proofs.Common.{◌≡◌, ℕ, suc, ◌^◌, ◌<◌, ◌≤◌, Bool, true, false, cond, nat_lt, ◌&&◌, ◌==◌, List, [], ◌∷◌, ◌++◌, length, Option, Some, None, is_some, Result, Ok, Err, refl, sym, ap}
+use Rattle.pref_share.proofs.Common.{first_contents, ◌≡◌, ℕ, suc, ◌^◌, ◌<◌, ◌≤◌, Bool, true, false, cond, nat_lt, ◌&&◌, ◌==◌, List, [], ◌∷◌, ◌++◌, length, Option, Some, None, is_some, Result, Ok, Err, refl, sym, ap}
 use Rattle.pref_share.proofs.Common.{◌∙◌, subst, arith, inl, inr, MatchResult, IfOk, IfErr, AllByRecursion, unwrap_or, Vec, IsPrefix, Call, Op, Added, Done, Full, ShareFault, CoreFault, State, Client}
 use Rattle.pref_share.proofs.Common.{Snapshot, is_change, calls_of, begun_of, begun_after, after, success_outcome, outcome, refusal, refusal_of, committed_of, Contents, StandsFor, Shows, ShowsBegin}
 use Rattle.pref_share.proofs.Common.{eqb-true, ran, same_number, IsLegalHistory, state_after, begin, NextIsNew, IsScanned, Answers, Scanned, begun_after-change, Opening, IsLegalFrom, HasCall}
 use Rattle.pref_share.proofs.Common.{MayFollow, history_of, contents_at, state_at, calls_at, first_state, Asking, Standing, Sees, Joins, Changes, Commits, RefusesChange, IsAnswer, own_refusal}
-use Rattle.pref_share.proofs.Common.{AsksOrNone, Asks, Stands, IsJoined, GivesNone, snapshot_at, outcome_or_refusal}
+use Rattle.pref_share.proofs.Common.{AsksOrNone, Asks, Stands, IsAppended, IsJoined, GivesNone, snapshot_at, outcome_or_refusal}
 use Rattle.pref_term.specs.Question.{Question}
 use Rattle.pref_sky.specs.declared.entry.Ranked.{Ranked}
 use Rattle.pref_core.specs.declared.store.caller.Caller.{Caller}
@@ -20,8 +20,8 @@ use Rattle.pref_core.proofs.OutcomeLaws.{SameSeat, nobody, somebody, same_seat}
 use Rattle.pref_core.proofs.VisibleAfterOp.{begun_kept}
 use Rattle.pref_core.proofs.QueryLaws.{stays_on_its_way, begun_on_its_way, next_is_new_on_its_way, scanned_on_its_way, answers_the_begin}
 use Rattle.pref_share.proofs.PrefixLaws.{prefix_self, prefix_trans}
-use Rattle.pref_share.proofs.HistoryLaws.{legal-more, legal-prefix, legal_stands, legal_capacity, contents_at-append, state_at-append, history_rest, legal_is_history}
-use Rattle.pref_share.proofs.CallCounts.{IsGrown, caller, calls_own, begun_own, calls_grow, none_own, has_call, calls_few, idle_seat}
+use Rattle.pref_share.proofs.HistoryLaws.{legal-more, legal-prefix, legal_stands, legal_capacity, ran-append, state_at-append, history_rest, legal_is_history}
+use Rattle.pref_share.proofs.CallCounts.{IsGrown, further, caller, calls_own, begun_own, calls_grow, none_own, has_call, calls_few, idle_seat}
 
 -- what follows a beginning is a legal history there
 rest_history : (o : Opening) (xs ys : List Op) → IsLegalFrom o (xs ++ ys) → IsLegalHistory o.limits.capacity (state_at o xs) (history_of ys)
@@ -45,7 +45,7 @@ onward o number counter at longer p legal = record {
   whole = p.1;
   legal = rest_history o at p.0 (subst (IsLegalFrom o) (sym p.1) legal);
   state = ap (state_at o) (sym p.1) ∙ state_at-append o at p.0;
-  contents = ap (contents_at o) (sym p.1) ∙ contents_at-append o at p.0;
+  contents = ap (contents_at o) (sym p.1) ∙ ran-append (first_contents o) at p.0;
 }
 
 -- the client's query at a longer history that holds none of its calls beyond those that it counts
@@ -115,9 +115,7 @@ even o number counter last seen whole query h p legal is le =
 
 has_later : (xs ys : List Op) (client number : ℕ) → HasCall ys client number → HasCall (xs ++ ys) client number
 has_later [] ys client number h = h
-has_later (x ∷ xs) ys client number h =
-    let r = has_later xs ys client number h in
-    record { place = suc r.place; op = r.op; there = r.there; by = r.by; counted = r.counted }
+has_later (x ∷ xs) ys client number h = further x (xs ++ ys) client number (has_later xs ys client number h)
 
 -- .. and else it holds the client's next call
 pub ahead : (o : Opening) (number counter last : ℕ) (seen whole : List Op) (query : Option Asking) → Stands o number counter seen query → IsPrefix seen whole → IsLegalFrom o whole → last ≡ unwrap_or (calls_at o whole number) 0 → counter < last → HasCall whole number (suc counter)
@@ -131,41 +129,27 @@ ahead o number counter last seen whole query h p legal is more =
 -- a client makes no more calls than it may
 pub counter_small : (o : Opening) (number counter : ℕ) (seen : List Op) (query : Option Asking) → Stands o number counter seen query → counter ≤ 2 ^ 56
 counter_small o number counter seen query h =
-    let seat = idle_seat o.limits.clients number h.one_of.0 h.one_of.1 in
-    let zero_calls : calls_of (first_state o) number ≡ Some 0 = ap (λ (x : Option Client). elim x as (λ y. Option ℕ) [ None ↦ None | Some found ↦ Some found.calls ]) seat in
-    calls_few o.limits.capacity (first_state o) h.at number 0 counter (legal_is_history o h.at (legal-prefix o h.at seen h.before h.legal)) zero_calls (omega arith) h.count
+    calls_few o.limits.capacity o.limits.clients (first_state o) h.at number counter refl (legal_is_history o h.at (legal-prefix o h.at seen h.before h.legal)) h.count
 
 -- a call that joined
 record IsAdded (o : Opening) (old : Standing) (call : Call) (before seen : List Op) : Type 0 where
   legal : IsLegalFrom o seen
-  legal_before : IsLegalFrom o before
-  further : IsPrefix before seen
   state : state_at o seen ≡ after o.limits.capacity (state_at o before) old.number call
   count : calls_at o seen old.number ≡ Some (suc old.counter)
   at_begin : begun_of (state_at o seen) old.number ≡ begun_after (state_at o before) call (begun_of (state_at o before) old.number)
-  op : Op
-  contents : contents_at o seen ≡ ran (contents_at o before) (op ∷ [])
-  called : op.call ≡ call
 
 is_added : (o : Opening) (old : Standing) (call : Call) (returned : Outcome) (seen : List Op) (stamp : ℕ) → (j : IsJoined o old call returned seen stamp) → IsAdded o old call j.before seen
 is_added o old call returned seen stamp j =
-    let legal : IsLegalFrom o (j.before ++ j.op ∷ []) = legal-more o j.before j.op j.legal j.may in
-    let who = caller o.limits.capacity (state_at o j.before) j.op (rest_history o j.before (j.op ∷ []) legal).0 in
-    let client : j.op.client ≡ old.number = ap (λ n. n.client) j.is in
-    let number : j.op.number ≡ suc old.counter = ap (λ n. n.number) j.is in
-    let called : j.op.call ≡ call = ap (λ n. n.call) j.is in
-    let state : state_at o seen ≡ after o.limits.capacity (state_at o j.before) j.op.client j.op.call = ap (state_at o) j.ends ∙ state_at-append o j.before (j.op ∷ []) in
+    let added = j.appended in
+    let legal : IsLegalFrom o (j.before ++ added.op ∷ []) = legal-more o j.before added.op j.legal added.may in
+    let who = caller o.limits.capacity (state_at o j.before) added.op (rest_history o j.before (added.op ∷ []) legal).0 in
+    let state : state_at o seen ≡ after o.limits.capacity (state_at o j.before) added.op.client added.op.call = ap (state_at o) added.ends ∙ state_at-append o j.before (added.op ∷ []) in
     let s = state_at o j.before in
     record {
-      legal = subst (IsLegalFrom o) (sym j.ends) legal;
-      legal_before = j.legal;
-      further = (j.op ∷ [], sym j.ends);
-      state = state ∙ (λ i. after o.limits.capacity s (client i) (called i));
-      count = ap (λ x. calls_of x old.number) state ∙ (ap (calls_of (after o.limits.capacity s j.op.client j.op.call)) (sym client) ∙ calls_own o.limits.capacity s j.op who ∙ ap Some number);
-      at_begin = ap (λ x. begun_of x old.number) state ∙ (ap (begun_of (after o.limits.capacity s j.op.client j.op.call)) (sym client) ∙ begun_own o.limits.capacity s j.op who ∙ (λ i. begun_after s (called i) (begun_of s (client i))));
-      op = j.op;
-      contents = ap (contents_at o) j.ends ∙ contents_at-append o j.before (j.op ∷ []);
-      called = called;
+      legal = subst (IsLegalFrom o) (sym added.ends) legal;
+      state = state ∙ (λ i. after o.limits.capacity s (added.by i) (added.what i));
+      count = ap (λ x. calls_of x old.number) state ∙ (ap (calls_of (after o.limits.capacity s added.op.client added.op.call)) (sym added.by) ∙ calls_own o.limits.capacity s added.op who ∙ ap Some j.number);
+      at_begin = ap (λ x. begun_of x old.number) state ∙ (ap (begun_of (after o.limits.capacity s added.op.client added.op.call)) (sym added.by) ∙ begun_own o.limits.capacity s added.op who ∙ (λ i. begun_after s (added.what i) (begun_of s (added.by i))));
     }
 
 change_ends_none : (call : Call) → is_change call ≡ true → is_end call ≡ false
@@ -177,17 +161,20 @@ and_false : (b : Bool) → b && false ≡ false
 and_false true = refl
 and_false false = refl
 
-changed_follows : (o : Opening) (old : Standing) (call : Call) (seen : List Op) (query : Option Asking) (before : List Op) (a : IsAdded o old call before seen) → is_change call ≡ true → AsksOrNone o before old.number query → AsksOrNone o seen old.number query
-changed_follows o old call seen None before a change h = a.at_begin ∙ sym (begun_after-change (state_at o before) call (begun_of (state_at o before) old.number) change) ∙ h
-changed_follows o old call seen (Some asking) before a change h =
-    let kept = begun_kept (contents_at o before) (state_at o before) old.number (snapshot_at o asking.at_begin) (legal_stands o before a.legal_before) h.found in
-    let ends : ends_query old.number a.op ≡ false = ap (λ b. (a.op.client == old.number) && b) (ap is_end a.called ∙ change_ends_none call change) ∙ and_false (a.op.client == old.number) in
+changed_follows : (o : Opening) (old : Standing) (call : Call) (returned : Outcome) (seen : List Op) (stamp : ℕ) (query : Option Asking) (j : IsJoined o old call returned seen stamp) → is_change call ≡ true → AsksOrNone o j.before old.number query → AsksOrNone o seen old.number query
+changed_follows o old call returned seen stamp None j change h =
+    (is_added o old call returned seen stamp j).at_begin ∙ sym (begun_after-change (state_at o j.before) call (begun_of (state_at o j.before) old.number) change) ∙ h
+changed_follows o old call returned seen stamp (Some asking) j change h =
+    let added = j.appended in
+    let kept = begun_kept (contents_at o j.before) (state_at o j.before) old.number (snapshot_at o asking.at_begin) (legal_stands o j.before j.legal) h.found in
+    let ends : ends_query old.number added.op ≡ false = ap (λ b. (added.op.client == old.number) && b) (ap is_end added.what ∙ change_ends_none call change) ∙ and_false (added.op.client == old.number) in
+    let contents : contents_at o seen ≡ ran (contents_at o j.before) (added.op ∷ []) = ap (contents_at o) added.ends ∙ ran-append (first_contents o) j.before (added.op ∷ []) in
     record {
-      at_begin = prefix_trans asking.at_begin before seen h.at_begin a.further;
-      found = a.at_begin ∙ sym (begun_after-change (state_at o before) call (begun_of (state_at o before) old.number) change) ∙ h.found;
+      at_begin = prefix_trans asking.at_begin j.before seen h.at_begin (added.op ∷ [], sym added.ends);
+      found = (is_added o old call returned seen stamp j).at_begin ∙ sym (begun_after-change (state_at o j.before) call (begun_of (state_at o j.before) old.number) change) ∙ h.found;
       stamp = h.stamp;
-      way = subst (λ (c : Contents). Rattle.pref_core.specs.Queries.IsOnItsWay c.slots asking.scan) (sym a.contents)
-          (stays_on_its_way (contents_at o before) old.number asking.scan (kept.0 ∙ ap Some (sym h.stamp)) (subst (λ n. n ≤ (contents_at o before).stamp) (sym h.stamp) kept.1) (a.op ∷ []) (ends, tt) h.way);
+      way = subst (λ (c : Contents). Rattle.pref_core.specs.Queries.IsOnItsWay c.slots asking.scan) (sym contents)
+          (stays_on_its_way (contents_at o j.before) old.number asking.scan (kept.0 ∙ ap Some (sym h.stamp)) (subst (λ n. n ≤ (contents_at o j.before).stamp) (sym h.stamp) kept.1) (added.op ∷ []) (ends, tt) h.way);
     }
 
 -- the client after a change, ..
@@ -195,7 +182,7 @@ pub stands_changed : (o : Opening) (old : Standing) (call : Call) (returned : Ou
 stands_changed o old call returned seen stamp counter h j change up =
     let a = is_added o old call returned seen stamp j in
     let follows = moved_up o old.number old.counter old.seen j.before old.query h j.further j.legal j.alone in
-    stands_whole o old.number counter seen old.query a.legal h.one_of (a.count ∙ ap Some (sym up)) (changed_follows o old call seen old.query j.before a change follows)
+    stands_whole o old.number counter seen old.query a.legal h.one_of (a.count ∙ ap Some (sym up)) (changed_follows o old call returned seen stamp old.query j change follows)
 
 -- .. after a begin, ..
 pub stands_begun : (o : Opening) (old : Standing) (returned : Outcome) (seen : List Op) (stamp counter : ℕ) (ask : Question) → Stands o old.number old.counter old.seen old.query → IsJoined o old Begin returned seen stamp → counter ≡ suc old.counter
@@ -225,18 +212,17 @@ stands_ended o old call returned seen stamp counter h j ends up =
 -- what the call tells
 pub joins : (o : Opening) (old new : Standing) (call : Call) (returned : Outcome) (seen : List Op) (stamp : ℕ) → own_refusal old call ≡ None → IsJoined o old call returned seen stamp → new.seen ≡ seen → new.counter ≡ suc old.counter → new.number ≡ old.number → Joins o old call returned new
 joins o old new call returned seen stamp accepted j same up number =
-    let told_is : j.op.outcome ≡ returned = ap (λ n. n.outcome) j.is in
-    let called : j.op.call ≡ call = ap (λ n. n.call) j.is in
+    let added = j.appended in
     record {
       accepted = accepted;
       before = j.before;
-      op = j.op;
+      op = added.op;
       further = j.further;
-      ends = same ∙ j.ends;
-      is = j.is;
+      ends = same ∙ added.ends;
+      is = (λ i. record { client = added.by i; number = j.number i; call = added.what i; outcome = added.outcome i });
       alone = j.alone;
-      reply = sym told_is ∙ j.may.next.outcome ∙ (λ i. outcome (legal_capacity o j.before j.legal.fits i) (state_at o j.before) (called i));
-      legal = subst (IsLegalFrom o) (sym (same ∙ j.ends)) (legal-more o j.before j.op j.legal j.may);
+      reply = sym added.outcome ∙ added.may.next.outcome ∙ (λ i. outcome (legal_capacity o j.before j.legal.fits i) (state_at o j.before) (added.what i));
+      legal = subst (IsLegalFrom o) (sym (same ∙ added.ends)) (legal-more o j.before added.op j.legal added.may);
       counted = up;
       same = number;
     }
@@ -314,22 +300,17 @@ pub same_refusal : (o : Opening) (old : Standing) (at : List Op) (call : Call) �
 same_refusal o old at call is h = λ i. refusal_of (is i) (open_alike o old.number at old.query h i) call
 
 -- a planned call that was added to the history
-pub joined : (o : Opening) (old : Standing) (call : Call) (history seen : List Op) (op : Op) (stamp : ℕ) → IsPrefix old.seen history → IsLegalFrom o history → calls_at o history old.number ≡ Some old.counter
-    → (op.client ≡ old.number) × (op.call ≡ call) × MayFollow o history op → seen ≡ history ++ op ∷ [] → stamp ≡ (state_at o seen).commits → IsJoined o old call op.outcome seen stamp
-joined o old call history seen op stamp p legal is plan ends commits =
-    let alike : calls_of (state_at o history) op.client ≡ Some old.counter = ap (calls_of (state_at o history)) plan.0 ∙ is in
-    let number : suc old.counter ≡ op.number = eqb-true _ _ (subst (λ n. same_number n op.number ≡ true) alike plan.2.next.number) in
-    record {
-      before = history;
-      op = op;
-      further = p;
-      legal = legal;
-      may = plan.2;
-      ends = ends;
-      is = (λ i. record { client = plan.0 i; number = sym number i; call = plan.1 i; outcome = op.outcome });
-      alone = is;
-      commits = commits;
-    }
+pub joined : (o : Opening) (old : Standing) (call : Call) (returned : Outcome) (history seen : List Op) (stamp : ℕ) → IsPrefix old.seen history → IsLegalFrom o history → calls_at o history old.number ≡ Some old.counter
+    → IsAppended o history old.number call returned seen → stamp ≡ (state_at o seen).commits → IsJoined o old call returned seen stamp
+joined o old call returned history seen stamp p legal is added commits = record {
+  before = history;
+  further = p;
+  legal = legal;
+  appended = added;
+  number = sym (eqb-true _ _ (subst (λ n. same_number n added.op.number ≡ true) (ap (calls_of (state_at o history)) added.by ∙ is) added.may.next.number));
+  alone = is;
+  commits = commits;
+}
 
 -- what a change tells by its outcome
 pub change_told : (o : Opening) (old new : Standing) (call : Call) (returned : Outcome) (result : Result Outcome ShareFault) → result ≡ outcome_or_refusal returned → Joins o old call returned new → new.query ≡ old.query
@@ -360,19 +341,3 @@ commit_told o old new commit outcome returned next_id joined is told_is = (
 
 pub sees : (o : Opening) (old new : Standing) → IsPrefix old.seen new.seen → IsLegalFrom o new.seen → new.counter ≡ old.counter → new.number ≡ old.number → new.query ≡ old.query → Sees o old new
 sees o old new further legal counted same query = record { further = further; legal = legal; counted = counted; same = same; query = query }
-
-pub scanned : (o : Opening) (old new : Standing) (asking : Asking) (after : Scan) (left : ℕ) → old.query ≡ Some asking → new.query ≡ Some (record { scan = after; at_begin = asking.at_begin }) → left ≡ after.left → IsScanned asking.scan (contents_at o new.seen).slots after
-    → IsPrefix old.seen new.seen → IsLegalFrom o new.seen → calls_at o new.seen old.number ≡ Some old.counter → new.counter ≡ old.counter → new.number ≡ old.number → Scanned o old left new
-scanned o old new asking after left q query left_is scans further legal alone counted same = record {
-  asking = asking;
-  is_open = q;
-  after = after;
-  query = query;
-  left_is = left_is;
-  scans = scans;
-  further = further;
-  legal = legal;
-  alone = alone;
-  counted = counted;
-  same = same;
-}

@@ -1,4 +1,4 @@
--- The rule of the book of ops, and what a step shows. (this project)
+-- The rule of the book of ops, what a step shows, and the history that was reached. (this project)
 use Rattle.std.specs.Prelude.{ℕ, ◌≡◌, ◌<◌, true, List, [], ◌∷◌, ◌++◌, map, length}
 use mathlib.Core.List.{IsPrefix}
 use Rattle.logbook.specs.Pages.{Cell, cell, Step, View, Book, Named, may_make}
@@ -43,3 +43,8 @@ IsWhole s v found w = (w.1.0 ≡ v.1.0) × ((before : List Entry) → IsPrefix b
 -- the entry was added to what the pen comes after
 abbrev pub Adds : Step Entry → View Entry ℕ → ℕ → View Entry ℕ → Type 0
 Adds s v found w = (before : List Entry) → IsPrefix before v.0 → key_after before ≡ v.1.0.key → w.0 ≡ before ++ s.ask ∷ []
+
+-- the history, and the book that reached it
+pub record Reached : Type 0 where
+  pub log : List Op
+  pub book : Book

@@ -5,9 +5,7 @@ pub mod ClientReads
 pub mod Runs
 pub mod Reports
 pub mod Interleavings
-pub mod ActReplies
 pub mod TaskResults
 pub mod SeenHistory
-pub mod Reached
 pub mod Book
 pub mod Views

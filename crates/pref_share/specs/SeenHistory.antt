@@ -1,14 +1,15 @@
 -- No public contract cites this.
--- What the history that a client has seen says of its counter and its open query.
+-- What the history that a client has seen says of its counter and its open query, and what becomes of its calls.
 use Rattle.std.specs.Prelude.{◌≡◌, ℕ, suc, ◌<◌, ◌≤◌, List, [], ◌∷◌, ◌++◌, Option, Some, None, Result, Ok, Err}
 use mathlib.Core.List.{IsPrefix}
 use Rattle.pref_core.specs.declared.call.Call.{Call}
 use Rattle.pref_core.specs.declared.call.Op.{Op}
 use Rattle.pref_core.specs.declared.call.Outcome.{Outcome}
 use Rattle.pref_core.specs.declared.call.Outcome.TheVariants.{Added}
+use Rattle.pref_core.specs.declared.event.Reply.{Reply}
+use Rattle.pref_core.specs.declared.event.Reply.TheVariants.{Refused}
 use Rattle.pref_core.specs.declared.fault.CoreFault.{CoreFault}
 use Rattle.pref_core.specs.declared.fault.CoreFault.TheVariants.{NotDone, OutOfMemory}
-use Rattle.pref_core.specs.History.{numbered_of}
 use Rattle.pref_core.specs.State.{Snapshot, begun_of, refusal_by_outcome}
 use Rattle.pref_core.specs.Queries.{IsOnItsWay}
 use Rattle.pref_share.specs.declared.client.calls.Joining.{Joining}
@@ -56,12 +57,10 @@ pub record IsAppended (o : Opening) (before : List Op) (client : ℕ) (call : Ca
 -- A call of the client joined the history, which is this then, with this many commits.
 pub record IsJoined (o : Opening) (old : Standing) (call : Call) (returned : Outcome) (seen : List Op) (stamp : ℕ) : Type 0 where
   pub before : List Op
-  pub op : Op
   pub further : IsPrefix old.seen before
   pub legal : IsLegalFrom o before
-  pub may : MayFollow o before op
-  pub ends : seen ≡ before ++ op ∷ []
-  pub is : numbered_of op ≡ record { client = old.number; number = suc old.counter; call = call; outcome = returned }
+  pub appended : IsAppended o before old.number call returned seen
+  pub number : appended.op.number ≡ suc old.counter
   pub alone : calls_at o before old.number ≡ Some old.counter
   pub commits : stamp ≡ (state_at o seen).commits
 
@@ -90,3 +89,17 @@ abbrev pub GivesNone : Standing → CoreFault → Type 0
 GivesNone s (NotDone left) = HasLeft s left
 GivesNone s OutOfMemory = HasNoneLeft s
 GivesNone s fault = ⊥
+
+-- the reply that a refusal of the table is; any other stops the client
+abbrev pub reply_or_stop_core : CoreFault → Result Reply ShareFault
+reply_or_stop_core OutOfMemory = Err (Core OutOfMemory)
+reply_or_stop_core fault = Ok (Refused fault)
+
+abbrev pub reply_or_stop : ShareFault → Result Reply ShareFault
+reply_or_stop (Core fault) = reply_or_stop_core fault
+reply_or_stop fault = Err fault
+
+-- the client has seen a beginning of the history, which holds just the calls that it made
+pub record IsIn (o : Opening) (history : List Op) (s : Standing) : Type 0 where
+  pub inside : IsPrefix s.seen history
+  pub alone : calls_at o history s.number ≡ Some s.counter

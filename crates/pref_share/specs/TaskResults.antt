@@ -12,7 +12,7 @@ use Rattle.pref_share.specs.declared.run.Worked.{Worked}
 use Rattle.pref_share.specs.declared.task.Listed.{Listed}
 use Rattle.pref_share.specs.Openings.{Opening, IsLegalFrom}
 use Rattle.pref_share.specs.Clients.{IsInUse}
-use Rattle.pref_share.specs.ActReplies.{IsIn}
+use Rattle.pref_share.specs.SeenHistory.{IsIn}
 use Rattle.pref_share.specs.Reports.{DidActs, StandsWithin}
 use Rattle.pref_share.specs.Standing.{Standing}
 

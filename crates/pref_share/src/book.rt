@@ -65,8 +65,7 @@ impl Drop for Witness {
 }
 
 impl Model for Witness {
-    ghost use Rattle.pref_share.specs.Book.{ops_of};
-    ghost use Rattle.pref_share.specs.Reached.{Reached};
+    ghost use Rattle.pref_share.specs.Book.{Reached, ops_of};
 
     ghost Value = { Reached };
 

@@ -10,7 +10,7 @@ ghost use Rattle.left_right.specs.Sides.{view};
 ghost use Rattle.pref_share.specs.Openings.{IsLegalFrom, first_contents};
 ghost use Rattle.pref_share.specs.Standing.{newcomer};
 ghost use Rattle.pref_share.specs.Clients.{Sees, IsInUse};
-ghost use Rattle.pref_share.specs.ActReplies.{IsIn};
+ghost use Rattle.pref_share.specs.SeenHistory.{IsIn};
 ghost use Rattle.pref_share.specs.Views.{Knows};
 ghost use Rattle.pref_share.specs.declared.fault.ShareFault.TheVariants.{ClientInUse};
 

@@ -1,8 +1,7 @@
-use Rattle.pref_share.proofs.Common.{◌≡◌, ◌∙◌, ℕ, Bool, List, Err, IfErr, ⊎_elim, ap, arith, inl, inr, length, map, rules, subst, sym, Vec, Act, OutOfMemory, ShareFault, Core, RefusesRun, IsJointRun}
+use Rattle.pref_share.proofs.Common.{length-map, ◌≡◌, ◌∙◌, ℕ, Bool, List, Err, IfErr, ⊎_elim, ap, arith, inl, inr, length, map, rules, subst, sym, Vec, Act, OutOfMemory, ShareFault, Core, RefusesRun, IsJointRun}
 use Rattle.pref_share.proofs.Common.{IsFirstOf, Standing}
 use Rattle.pref_share.proofs.InterleavingsLaws.{joint_runs_are_sequential, length-newcomers}
 use Rattle.pref_share.proofs.ReportsLaws.{tasks_joint, tasks_refused}
-use Rattle.pref_share.proofs.RunsLaws.{length_map}
 use Rattle.pref_share.proofs.run.run_tasks.Goals as goal
 
 pub returns-clause-ran : goal.returns-clause-ran
@@ -11,7 +10,7 @@ returns-clause-ran g c = λ acts listed.
     let says : ℕ → ℕ → Bool → Type 0 = g.G.Gate.says c.args.gate.now in
     let clients = c.args.clients.items in
     let many : length acts ≡ length clients =
-    omega (arith, ap length listed, length_map (λ (list : Vec Act). list.items) acts, length_map g.T.Task.left c.args.tasks.items, c.requires.lists, c.args.tasks.ok.0, c.args.clients.ok.0) in
+    omega (arith, ap length listed, length-map acts (λ (list : Vec Act). list.items), length-map c.args.tasks.items g.T.Task.left, c.requires.lists, c.args.tasks.ok.0, c.args.clients.ok.0) in
     let (replies, taken, run) =
     tasks_joint o says g.T.Task.left g.T.Task.took clients acts c.args.tasks.items c.in_ok-worked.worked.items c.args.clients listed many c.in_ok-worked.ensures c.in_ok-done.done.items c.in_ok-done.ensures.all c.in_ok-done.ensures.done in
     let joint = subst (λ (l : List Standing). IsJointRun o l acts replies) c.requires.clients run in
@@ -27,7 +26,7 @@ returns-in_err-done-clause-refused g c =
     let fault = c.in_err-done.field-0.0 in
     let refused : Refused fault = λ acts listed.
     let many : length acts ≡ length clients =
-    omega (arith, ap length listed, length_map (λ (list : Vec Act). list.items) acts, length_map g.T.Task.left c.args.tasks.items, c.requires.lists, c.args.tasks.ok.0, c.args.clients.ok.0) in
+    omega (arith, ap length listed, length-map acts (λ (list : Vec Act). list.items), length-map c.args.tasks.items g.T.Task.left, c.requires.lists, c.args.tasks.ok.0, c.args.clients.ok.0) in
     ⊎_elim (λ (first : IsFirstOf c.in_ok-worked.worked.items fault). inr (tasks_refused o says g.T.Task.left g.T.Task.took clients acts c.args.tasks.items c.in_ok-worked.worked.items c.args.clients listed many c.in_ok-worked.ensures fault first))
     (λ (memory : fault ≡ Core OutOfMemory). inl memory) c.in_err-done.ensures.first in
     let is : c.from_residual-in_err-done.result ≡ Err fault = search rules in

@@ -1,12 +1,12 @@
-use Rattle.pref_share.proofs.Common.{◌≡◌, ◌++◌, ◌<◌, ◌^◌, ◌∙◌, ℕ, Bool, List, Result, Ok, [], ap, arith, drop, get_or, length, map, subst, sym, take, Worked, AreWorked, DidTask, Settles}
+use Rattle.pref_share.proofs.Common.{length-map, ◌≡◌, ◌++◌, ◌<◌, ◌^◌, ◌∙◌, ℕ, Bool, List, Result, Ok, [], ap, arith, drop, get_or, length, map, subst, sym, take, Worked, AreWorked, DidTask, Settles}
 use Rattle.std.proofs.Math.Seq.{take-append_seam}
 use Rattle.pref_share.specs.declared.run.Job.{Job}
 use Rattle.pref_share.proofs.ReportsLaws.{are_worked}
-use Rattle.pref_share.proofs.RunsLaws.{all_mapped, length_map, told_at}
+use Rattle.pref_share.proofs.RunsLaws.{all_mapped, told_at}
 use Rattle.pref_share.proofs.run.work_tasks.Goals as goal
 
 told_length : {A E : Type 0} (all : List (Result A E)) (xs : List A) → map Ok xs ≡ all → length xs ≡ length all
-told_length {A} {E} all xs same = sym (length_map {C = Result A E} Ok xs) ∙ ap length same
+told_length {A} {E} all xs same = sym (length-map {B = Result A E} xs Ok) ∙ ap length same
 
 pub work_all-requires-clause-fresh : goal.work_all-requires-clause-fresh
 work_all-requires-clause-fresh g c κs within = all_mapped (λ (job : Job g.row.J.Denot g.row.T.Denot). job.task) (λ task. g.T.Task.took task task []) c.in_ok-jobs.jobs.items c.args.tasks.items c.in_ok-jobs.ensures.tasks c.requires.fresh

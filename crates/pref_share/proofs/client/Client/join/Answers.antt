@@ -1,5 +1,4 @@
-use Rattle.pref_share.proofs.Common.{◌≡◌, List, Some, None, ⊎_elim, sym, subst, ◌∙◌, ap, unwrap_or, Op, refusal, state_at, calls_at, Standing, own_refusal, IsJoined}
-use Rattle.pref_share.specs.SeenHistory.{IsAppended}
+use Rattle.pref_share.proofs.Common.{◌≡◌, List, Some, None, ⊎_elim, sym, subst, ◌∙◌, ap, unwrap_or, Op, refusal, state_at, calls_at, Standing, own_refusal, IsAppended, IsJoined}
 use Rattle.pref_share.proofs.StandingLaws.{ahead, even, moved_up, same_refusal, joined}
 use Rattle.pref_share.proofs.client.Client.join.Goals as goal
 
@@ -36,8 +35,7 @@ returns-in-Ok-clause-joins g c =
     let history = c.deref_mut-publisher.result.now in
     let last : c.last.result ≡ unwrap_or (calls_at o history s.number) 0 = c.last.ensures ∙ ap (λ (l : List Op). unwrap_or (calls_at o l s.number) 0) c.check.ensures.same in
     let is = even o s.number s.counter c.last.result s.seen history s.asking c.self.invariant.2 c.check.ensures.begins c.check.ensures.legal last c.if-last-self.false in
-    let one = subst (λ (l : List Op). IsAppended o l s.number c.args.call c.in-Ok.outcome c.join.new.self) c.check.ensures.same c.in-Ok.ensures.joined in
+    let added = subst (λ (l : List Op). IsAppended o l s.number c.args.call c.in-Ok.outcome c.join.new.self) c.check.ensures.same c.in-Ok.ensures.joined in
     subst (λ (x : Standing). IsJoined o x c.args.call c.in-Ok.outcome c.whole-in-Ok.result c.stamp.result) c.self.view_is
-    (subst (λ returned. IsJoined o (record { number = s.number; counter = s.counter; seen = s.seen; query = s.asking }) c.args.call returned c.whole-in-Ok.result c.stamp.result) one.outcome
-    (joined o (record { number = s.number; counter = s.counter; seen = s.seen; query = s.asking }) c.args.call history c.whole-in-Ok.result one.op c.stamp.result c.check.ensures.begins c.check.ensures.legal is (one.by, one.what, one.may)
-    (c.whole-in-Ok.ensures.same ∙ one.ends) (c.stamp.ensures ∙ ap (λ (l : List Op). (state_at o l).commits) (sym c.whole-in-Ok.ensures.same))))
+    (joined o (record { number = s.number; counter = s.counter; seen = s.seen; query = s.asking }) c.args.call c.in-Ok.outcome history c.whole-in-Ok.result c.stamp.result c.check.ensures.begins c.check.ensures.legal is
+    (subst (λ (l : List Op). IsAppended o history s.number c.args.call c.in-Ok.outcome l) (sym c.whole-in-Ok.ensures.same) added) (c.stamp.ensures ∙ ap (λ (l : List Op). (state_at o l).commits) (sym c.whole-in-Ok.ensures.same)))

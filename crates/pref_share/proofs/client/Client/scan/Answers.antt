@@ -4,7 +4,7 @@ use Rattle.pref_sky.specs.declared.entry.Entry.{Entry}
 use Rattle.pref_sky.specs.Levels.{HaveDifferentIds, entry_of}
 use Rattle.pref_core.specs.Scans.{Scan, Reads, IsAdded}
 use Rattle.pref_share.proofs.HistoryLaws.{left_stands}
-use Rattle.pref_share.proofs.StandingLaws.{ahead, even, next_new, stands_seen, stands_scanned, sees, scanned}
+use Rattle.pref_share.proofs.StandingLaws.{ahead, even, next_new, stands_seen, stands_scanned, sees}
 use Rattle.pref_share.proofs.client.Client.scan.Given.{Over}
 use Rattle.pref_share.proofs.client.Client.scan.Goals.{After-deref}
 use Rattle.pref_share.proofs.client.Client.scan.Goals as goal
@@ -62,7 +62,7 @@ returns-in-Ok-add-clause-scanned g c =
     let r = is_read g (goal.at.returns-in-Ok-add-clause-scanned g c).After-deref in
     let added = subst (λ (l : List Entry). IsAdded c.asking.inside.query l c.add.new.self) r.is c.in-Ok-add.ensures.1 in
     rw (← (c.self.view_is))
-    (scanned g.J.BoardBrand.opening _ _ _ c.add.new.self c.in-Ok-add.left r.query refl c.in-Ok-add.ensures.0 added r.further r.legal r.alone refl refl)
+    (record { asking = _; is_open = r.query; after = c.add.new.self; query = refl; left_is = c.in-Ok-add.ensures.0; scans = added; further = r.further; legal = r.legal; alone = r.alone; counted = refl; same = refl })
 
 pub invariant_of-self-2 : goal.invariant_of-self-2
 invariant_of-self-2 g c =

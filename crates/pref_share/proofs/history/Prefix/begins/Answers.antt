@@ -1,6 +1,6 @@
 use Rattle.pref_share.proofs.Common.{List, ap, subst, refl, IsPrefix, Op}
 use lib.Dec.{leb}
-use Rattle.pref_share.proofs.PrefixOrder.{compared}
+use Rattle.pref_share.proofs.PrefixLaws.{compared}
 use Rattle.pref_share.proofs.history.Prefix.begins.Goals as goal
 
 pub returns-clause-cases : goal.returns-clause-cases

@@ -1,11 +1,10 @@
 use Rattle.pref_share.proofs.Common.{nat_lt, Some, true, ◌⊎◌, inl, ◌≡◌, ◌∷◌, List, [], length, drop, fold, sym, subst, ◌∙◌, ap, refl, manually_drop_value, Op, op_of, added, refusal, applied, Contents}
 use Rattle.pref_share.proofs.Common.{first_contents, contents_at, state_at, Published, stamped, HoldsHistory}
-use Rattle.pref_share.proofs.Common.{OutOfMemory}
+use Rattle.pref_share.proofs.Common.{IsAppended, OutOfMemory}
 use Rattle.pref_core.specs.Planned.{boxed_op}
 use Rattle.pref_core.specs.Indexes.{IsIndexOf}
-use Rattle.pref_share.specs.SeenHistory.{IsAppended}
 use Rattle.pref_share.specs.declared.published.Stamp.{Stamp}
-use Rattle.pref_share.proofs.HistoryLaws.{contents_at-append, planned, unplanned}
+use Rattle.pref_share.proofs.HistoryLaws.{ran-append, planned, unplanned}
 use Rattle.pref_share.proofs.ViewsLaws.{published_left, published_next}
 use Rattle.pref_share.proofs.publisher.Publisher.join.Goals as goal
 
@@ -83,7 +82,7 @@ invariant_of-self-2 g c =
     rw (c.deref_mut-2.ensures.value, c.append.ensures.desk, c.append.ensures.pending, c.deref_mut.ensures.value, c.self.invariant.5) refl in
     let shown : c.replace_with.new.dest.desk.shown.value ≡ stamped x stamp = c.replace_with.ensures.1 ∙ folded in
     let store : applied c.published_store-store.result.now (op_of op) ≡ contents_at o c.add.new.self =
-    ap (λ (s : Contents). applied s (op_of op)) left ∙ sym (contents_at-append o c.self.inside.history (op_of op ∷ [])) ∙ ap (contents_at o) (sym c.add.ensures) in (
+    ap (λ (s : Contents). applied s (op_of op)) left ∙ sym (ran-append (first_contents o) c.self.inside.history (op_of op ∷ [])) ∙ ap (contents_at o) (sym c.add.ensures) in (
       c.whole-seen.ensures.legal,
       subst (λ (s : Contents). IsIndexOf s c.reindex.new.index) store c.in_ok-reindex.ensures.after,
       ap (λ (p : Published). p.seen.log) shown ∙ log,

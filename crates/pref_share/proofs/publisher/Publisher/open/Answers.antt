@@ -2,7 +2,7 @@ use Rattle.pref_share.proofs.Common.{◌≡◌, [], length, sym, subst, ap, ◌�
 use Rattle.pref_share.proofs.Common.{Published}
 use Rattle.left_right.specs.Sides.{view}
 use Rattle.pref_core.specs.Indexes.{IsIndexOf}
-use Rattle.pref_share.specs.Reached.{Reached}
+use Rattle.pref_share.specs.Book.{Reached}
 use Rattle.pref_share.proofs.publisher.Publisher.open.Goals as goal
 
 pub invariant_of-result : goal.invariant_of-result
