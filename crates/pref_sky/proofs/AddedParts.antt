@@ -1,31 +1,23 @@
 -- What an addition makes of parts: each holds the levels of what it held and of what came to it.
 use Rattle.pref_sky.proofs.Common.{◌≡◌, ℕ, zero, suc, ◌≤◌, ◌+◌, ◌-◌, Bool, true, cond, not, inl, inr, ◌⊎◌, List, [], ◌∷◌, ◌++◌, length, take, drop, filter, map, eqb, refl, sym, ◌∙◌, ap, subst, arith}
-use Rattle.pref_sky.proofs.Common.{append-nil, Vec, Global, All, cases_Bool, length-map, map-append, take-map, drop-map, All-append, All-drop, All-take, filter-append, sum_by-append, IsStrictOrder}
-use Rattle.pref_sky.proofs.Common.{Arrival, Entry, Made, KeepsUpper, arrived, coming_to, best, is_beaten, rest, AreAllItems, AreInPool, AreItems, entries_at, levels_at, items_at, parts_at, Item}
-use Rattle.pref_sky.proofs.Common.{HaveDifferentIds, entry_of, levels, ArePartsMade, ArePut, IsPartMade, LeaveAlone, new_levels, IsBehind, IsMade, held_at, replaced, ArePartitionedBy, depth, is_in}
-use Rattle.pref_sky.proofs.Common.{ranked_parts, ranked_upto, Among, ◌<◌, both_ways, eq-eqb, eqb-true, false, list_any, AreComing, HaveArrived, IsArrival, StartsAt, partition_of, partitions_by}
+use Rattle.pref_sky.proofs.Common.{append-nil, Vec, Global, All, cases_Bool, length-map, map-append, take-map, drop-map, All-append, All-drop, All-take, filter-append, IsStrictOrder, Arrival, Entry}
+use Rattle.pref_sky.proofs.Common.{Made, KeepsUpper, arrived, coming_to, best, is_beaten, rest, AreAllItems, AreInPool, AreItems, entries_at, levels_at, items_at, parts_at, Item, HaveDifferentIds}
+use Rattle.pref_sky.proofs.Common.{entry_of, levels, ArePartsMade, ArePut, IsPartMade, LeaveAlone, new_levels, IsBehind, IsMade, held_at, replaced, ArePartitionedBy, depth, is_in, ranked_parts}
+use Rattle.pref_sky.proofs.Common.{ranked_upto, Among, ◌<◌, both_ways, eq-eqb, eqb-true, false, list_any, AreComing, HaveArrived, IsArrival, StartsAt, partition_of, partitions_by}
 use Rattle.pref_sky.proofs.LevelLaws.{first_differ}
-use Rattle.pref_sky.proofs.MembersLaws.{all_among, among_all, any_from, any_gives, from_filter}
-use Rattle.pref_sky.proofs.Merges.{different_filter}
-use Rattle.pref_sky.proofs.PartItems.{Part, all_held, in_pool_if, levels_of_at}
+use Rattle.pref_sky.proofs.ListLaws.{all_among, among_all, any_from, any_gives, from_filter, filter_agree_among, count_append}
+use Rattle.pref_sky.proofs.Merges.{different_filter, beaten_by_rest, comes_after}
+use Rattle.pref_sky.proofs.PoolLaws.{Part, all_held, in_pool_if, levels_of_at}
 use Rattle.pref_sky.proofs.PartitionsLaws.{IsWithin, depth_within, differ_after, hold_apart, hold_together, level_in_part, part_below, parted_after, within_depth}
 use Rattle.pref_sky.proofs.Ranks.{held_there, held_upto, levels_upto_is, within_if_same}
-use Rattle.pref_sky.proofs.AtLeastLaws.{filter_agree_among}
-use Rattle.pref_sky.proofs.Removals.{beaten_by_rest, comes_after}
 use Rattle.pref_sky.proofs.MadeItems.{taken_long}
-use Rattle.pref_sky.proofs.HeldLevels.{different_by_count}
-use Rattle.pref_sky.proofs.SortedLevels.{kept_levels}
+use Rattle.pref_sky.proofs.SortedLevels.{different_by_count, kept_levels}
 
 -- what a function makes of others in the place of some
 replaced_map : {A B : Type 0} (f : A → B) (n : ℕ) (others all : List A) → map f (replaced n others all) ≡ replaced n (map f others) (map f all)
 replaced_map f n others all =
-    let back = drop (n + length others) all in
-    let whole = map-append f (take n all ++ others) back in
-    let begun = map-append f (take n all) others in
-    let front = take-map f n all in
-    let last = drop-map f (n + length others) all in
-    let long = length-map others f in
-    cc
+    let back = n + length others in
+    cc (map-append f (take n all ++ others) (drop back all), map-append f (take n all) others, take-map f n all, drop-map f back all, length-map others f)
 
 -- nothing comes
 nothing_comes : (over : Entry → Entry → Bool) (cut : ℕ) (held : List (List Entry)) → IsMade over cut held held []
@@ -156,7 +148,7 @@ late over number within (suc c) old before different apart parted is x n low beh
 module _ (over : Entry → Entry → Bool) (number : Entry → ℕ) (cut : ℕ) (old : List (List (List Entry))) (entries kept : List Entry) (upper : KeepsUpper over cut number old entries kept) where
   pub some_differ : (held : List Entry) → HaveDifferentIds (held ++ entries) → HaveDifferentIds (held ++ kept)
   some_differ held different =
-      different_by_count held entries (held ++ kept) different (λ p. omega (arith, upper.counts p, sum_by-append (λ e. cond (p e) 1 0) held kept))
+      different_by_count held entries (held ++ kept) different (λ p. omega (arith, upper.counts p, count_append p held kept))
 
   pub upper_levels : IsStrictOrder over → IsWithin over number → (before : List Entry) → HaveDifferentIds (before ++ entries) → HaveDifferentIds (map entry_of (ranked_parts old) ++ entries) → ArePartitionedBy number old
       → ranked_parts old ≡ levels over before cut → levels over (before ++ kept) cut ≡ levels over (before ++ entries) cut

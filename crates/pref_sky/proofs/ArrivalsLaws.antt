@@ -1,10 +1,8 @@
 -- One entry more comes to parts, and what comes is put in order.
-use Rattle.pref_sky.proofs.Common.{Bor, ◌≡◌, ◌∙◌, ℕ, ◌≤◌, ◌<◌, ◌+◌, Bool, cond, inl, inr, List, [], ◌∷◌, ◌++◌, Vec, Global, get_or, length, map, refl, sym, ap, subst, arith, Called, IsPermutation}
-use Rattle.pref_sky.proofs.Common.{IsSortedByKeyClosure, nat_cmp, ordering_then, All, always_returns_same, map-append, All-push, sum_by-IsPermutation, sum_by-append, Mut, Entry, Item, Pool}
-use Rattle.pref_sky.proofs.Common.{signature_by, Arrival, AreDealt, IsArrival, KeepsAllBut, arrived, AreAllItems, AreInPool, HasGrown, IsItem, levels_at, parts_at, IsBehind, held_at}
-use Rattle.std.specs.Prelude.{count_by}
-use Rattle.pref_sky.proofs.MembersLaws.{all_among, in_either, in_left, in_right, map_agree_among}
-use Rattle.pref_sky.proofs.IdOrder.{same_if_permuted}
+use Rattle.pref_sky.proofs.Common.{Bor, ◌≡◌, ◌∙◌, ℕ, ◌≤◌, ◌<◌, Bool, cond, inl, inr, List, [], ◌∷◌, ◌++◌, Vec, Global, get_or, length, map, refl, sym, ap, subst, arith, Called, IsPermutation}
+use Rattle.pref_sky.proofs.Common.{IsSortedByKeyClosure, nat_cmp, ordering_then, All, always_returns_same, map-append, All-push, sum_by-IsPermutation, Mut, Entry, Item, Pool, signature_by, Arrival}
+use Rattle.pref_sky.proofs.Common.{AreDealt, IsArrival, KeepsAllBut, arrived, AreAllItems, AreInPool, HasGrown, IsItem, levels_at, parts_at, IsBehind, held_at}
+use Rattle.pref_sky.proofs.ListLaws.{all_among, in_either, in_left, in_right, map_agree_among, same_if_permuted, count_append}
 use Rattle.pref_sky.proofs.PoolLaws.{entry_grown, item_grown, levels_grown, part_here}
 
 -- ---- what came stays where it is while the pool grows
@@ -49,9 +47,6 @@ module _ (over : Entry → Entry → Bool) (number : Entry → ℕ) (parts : Lis
 -- ---- those that are not below the cut are kept
 
 module _ {below : Entry → Type 0} (entries kept : List Entry) (keeps : KeepsAllBut below entries kept) where
-  count_push : (p : Entry → Bool) (some : List Entry) (e : Entry) → count_by p (some ++ e ∷ []) ≡ count_by p some + count_by p (e ∷ [])
-  count_push p some e = sum_by-append (λ (x : Entry). cond (p x) 1 0) some (e ∷ [])
-
   pub keeps_one : (e : Entry) → KeepsAllBut below (entries ++ e ∷ []) (kept ++ e ∷ [])
   keeps_one e =
       record {
@@ -60,7 +55,7 @@ module _ {below : Entry → Type 0} (entries kept : List Entry) (keeps : KeepsAl
           | inl old ↦ elim (keeps.covers x old) [ inl there ↦ inl (in_left kept (e ∷ []) x there) | inr low ↦ inr low ]
           | inr new ↦ inl (in_right kept (e ∷ []) x new)
         ];
-        counts = λ p. omega (arith, keeps.counts p, count_push p entries e, count_push p kept e);
+        counts = λ p. omega (arith, keeps.counts p, count_append p entries (e ∷ []), count_append p kept (e ∷ []));
       }
 
   pub drops_one : (e : Entry) → below e → KeepsAllBut below (entries ++ e ∷ []) kept
@@ -71,7 +66,7 @@ module _ {below : Entry → Type 0} (entries kept : List Entry) (keeps : KeepsAl
           | inl old ↦ keeps.covers x old
           | inr new ↦ elim new [ inl same ↦ inr (subst below (sym same) low) | inr none ↦ absurd none ]
         ];
-        counts = λ p. omega (arith, keeps.counts p, count_push p entries e);
+        counts = λ p. omega (arith, keeps.counts p, count_append p entries (e ∷ []));
       }
 
   pub keeps_moved : (moved : List Entry) → IsPermutation kept moved → KeepsAllBut below entries moved

@@ -1,35 +1,19 @@
--- k levels always hold enough for an ask for at least k.
-use Rattle.pref_sky.proofs.Common.{◌≡◌, ℕ, zero, suc, ◌≤◌, Bool, true, false, cond, not, ◌&&◌, inl, inr, List, [], ◌∷◌, ◌++◌, map, length, ltb, refl, sym, ◌∙◌, ap, subst, arith, filter, append-nil}
-use Rattle.pref_sky.proofs.Common.{cases_lt, nat_tests, sum_by-cons, count_by-le-length, false_from_ne_true, length-map, entry_of, and_parts, and_from, not_from_false, lt-ltb, le-ltb, sum_by-append}
-use Rattle.pref_sky.proofs.Common.{length-filter, filter-append, IsStrictOrder, Row, Entry, Ranked, best, rest, in_order_of_id, at_level, levels, count_before, at_least, Among, length-filter_both}
-use Rattle.pref_sky.proofs.Bags.{sum_by-ones}
-use Rattle.pref_sky.proofs.MembersLaws.{in_filter, from_filter, in_map, from_map}
-use Rattle.pref_sky.proofs.Removals.{comes_after, comes_after_upto, unbeaten_over, best_of_rest_is}
-use Rattle.pref_sky.proofs.IdOrder.{one_passes, among_in_order, from_in_order}
-use Rattle.pref_sky.proofs.Merges.{is_at}
-use Rattle.pref_sky.proofs.Ranks.{from_upto, levels_upto_is}
+-- What an ask for at least k selects: k levels always hold enough, and of ranked entries in order of level those on the levels before one stand in front.
+use Rattle.pref_sky.proofs.Common.{◌≡◌, ℕ, zero, suc, ◌≤◌, Bool, true, false, not, ◌&&◌, inl, inr, List, [], ◌∷◌, ◌++◌, map, length, ltb, refl, sym, ◌∙◌, ap, subst, arith, filter, append-nil}
+use Rattle.pref_sky.proofs.Common.{cases_lt, nat_tests, count_by-le-length, false_from_ne_true, length-map, entry_of, and_parts, and_from, lt-ltb, le-ltb, length-filter, filter-append, IsStrictOrder}
+use Rattle.pref_sky.proofs.Common.{Row, Entry, Ranked, best, rest, in_order_of_id, at_level, levels, count_before, at_least, Among, length-filter_both, ◌<◌, ◌-◌, get_or, take, leb, IsNonDecreasingBy}
+use Rattle.pref_sky.proofs.Common.{IsPartitionPoint, IsPartitionedBy, get_or_append_left, get_or-append_right, get_or-map, length-append, count_by, filter_agree, in_same_group, IsPartitionedBy-ltb}
+use Rattle.pref_sky.proofs.ListLaws.{sum_by-ones, filter_agree_among, from_map, in_map, none_pass, one_passes, among_place, all_pass, count_filtered, fails_behind, filter_parted, passes_before}
+use Rattle.pref_sky.proofs.ListLaws.{count_append, count_cons}
+use Rattle.pref_sky.proofs.Merges.{comes_after, comes_after_upto, unbeaten_over, best_of_rest_is, is_at}
+use Rattle.pref_sky.proofs.IdOrder.{among_in_order, from_in_order}
+use Rattle.pref_sky.proofs.LineLaws.{on_level, to_level}
+use Rattle.pref_sky.proofs.Ranks.{one_level, from_upto, levels_upto_is}
 use Rattle.pref_sky.proofs.SortedLevels.{count_levels}
 
 -- an entry is over entries of its own group alone
 abbrev pub StaysInGroups : (Entry → Entry → Bool) → (Row → Row → Bool) → Type 0
 StaysInGroups over same = (a b : Entry) → over a b ≡ true → same a.row b.row ≡ true
-
--- the entries of level n + 1
-abbrev pub level_of : (Entry → Entry → Bool) → List Entry → ℕ → List Ranked
-level_of over all n = map (at_level (suc n)) (in_order_of_id (best over (rest over all n)))
-
--- an entry of level n + 1
-from_level : (over : Entry → Entry → Bool) (all : List Entry) (n : ℕ) (r : Ranked) → Among r (level_of over all n) → (e : Entry) × Among e all × (comes_after over all n e ≡ true) × (r ≡ at_level (suc n) e)
-from_level over all n r m =
-    let w = from_map (at_level (suc n)) (in_order_of_id (best over (rest over all n))) r m in
-    let b = subst (Among w.0) (best_of_rest_is over all n) (from_in_order (best over (rest over all n)) w.0 w.1) in
-    let f = from_filter (is_at over all n) all w.0 b in
-    (w.0, f.0, (and_parts (comes_after over all n w.0) (not (comes_after over all (suc n) w.0)) f.1).0, w.2)
-
-to_level : (over : Entry → Entry → Bool) (all : List Entry) (n : ℕ) (e : Entry) → Among e all → comes_after over all n e ≡ true → comes_after over all (suc n) e ≡ false → Among (at_level (suc n) e) (level_of over all n)
-to_level over all n e m after ended =
-    in_map (at_level (suc n)) (in_order_of_id (best over (rest over all n))) e (among_in_order (best over (rest over all n)) e
-    (subst (Among e) (sym (best_of_rest_is over all n)) (in_filter (is_at over all n) all e m (and_from (comes_after over all n e) (not (comes_after over all (suc n) e)) after (not_from_false (comes_after over all (suc n) e) ended)))))
 
 pub levels_upto : (over : Entry → Entry → Bool) (all : List Entry) (n : ℕ) (r : Ranked) → Among r (levels over all n) → r.level ≤ n
 levels_upto over all n r m =
@@ -42,41 +26,34 @@ enough_before over strict same within all n e after zero le = omega arith
 enough_before over strict same within all n e after (suc j) le =
     let test : Ranked → Bool = λ s. same s.row e.row && ltb s.level (suc n) in
     let top = unbeaten_over over strict (comes_after over all j) all e (comes_after_upto over all (suc j) n e le after) in
-    let one = one_passes test (level_of over all j) (at_level (suc j) top.0) (to_level over all j top.0 top.1 top.2 top.4)
+    let level = best over (rest over all j) in
+    let one = one_passes test (one_level (suc j) level) (at_level (suc j) top.0) (in_map (at_level (suc j)) (in_order_of_id level) top.0 (among_in_order level top.0 (to_level over all j top.0 top.1 top.2 top.4)))
     (and_from (same top.0.row e.row) (ltb (suc j) (suc n)) (within top.0 e top.3) (lt-ltb (suc j) (suc n) (omega arith))) in
-    omega (arith, enough_before over strict same within all n e after j (omega arith), one, sum_by-append (λ (s : Ranked). cond (test s) 1 0) (levels over all j) (level_of over all j))
-
--- two tests that agree among a list keep the same of it
-pub filter_agree_among : {E : Type 0} (p q : E → Bool) (xs : List E) → ((x : E) → Among x xs → p x ≡ q x) → filter p xs ≡ filter q xs
-filter_agree_among p q [] agree = refl
-filter_agree_among p q (x ∷ xs) agree =
-    ap (λ b. cond b (x ∷ filter p xs) (filter p xs)) (agree x (inl refl)) ∙ ap (λ l. cond (q x) (x ∷ l) l) (filter_agree_among p q xs (λ y m. agree y (inr m)))
-
-pub none_pass : {E : Type 0} (p : E → Bool) (xs : List E) → ((x : E) → Among x xs → p x ≡ false) → filter p xs ≡ []
-none_pass p [] none = refl
-none_pass p (x ∷ xs) none = ap (λ b. cond b (x ∷ filter p xs) (filter p xs)) (none x (inl refl)) ∙ none_pass p xs (λ y m. none y (inr m))
+    omega (arith, enough_before over strict same within all n e after j (omega arith), one, count_append test (levels over all j) (one_level (suc j) level))
 
 -- none of a level is on a lower one
 none_lower : (same : Row → Row → Bool) (n : ℕ) (xs : List Entry) (r : Ranked) → r.level ≤ n → count_before same (map (at_level n) xs) r ≡ 0
 none_lower same n [] r le = refl
 none_lower same n (x ∷ xs) r le =
-    grind (arith, nat_tests, le, none_lower same n xs r le, sum_by-cons (λ (s : Ranked). cond {A = ℕ} (same s.row r.row && ltb s.level r.level) 1 0) (at_level n x) (map (at_level n) xs))
+    grind (arith, nat_tests, le, none_lower same n xs r le, count_cons (λ (s : Ranked). same s.row r.row && ltb s.level r.level) (at_level n x) (map (at_level n) xs))
 
 -- a level past k changes nothing
 one_level_more : (over : Entry → Entry → Bool) → IsStrictOrder over → (same : Row → Row → Bool) → StaysInGroups over same → (all : List Entry) (k n : ℕ) → k ≤ n → at_least same k (levels over all (suc n)) ≡ at_least same k (levels over all n)
 one_level_more over strict same within all k n le =
     let some = levels over all n in
-    let more = level_of over all n in
+    let level = best over (rest over all n) in
+    let more = one_level (suc n) level in
     let few : List Ranked → Ranked → Bool = λ ranked r. ltb (count_before same ranked r) k in
     let agree : (r : Ranked) → Among r (some ++ more) → few (some ++ more) r ≡ few some r =
     λ r m.
-    let joined = sum_by-append (λ (s : Ranked). cond {A = ℕ} (same s.row r.row && ltb s.level r.level) 1 0) some more in
-    let whole : count_before same (some ++ more) r ≡ count_before same some r = omega (arith, joined, none_lower same (suc n) (in_order_of_id (best over (rest over all n))) r (levels_upto over all (suc n) r m)) in
+    let joined = count_append (λ (s : Ranked). same s.row r.row && ltb s.level r.level) some more in
+    let whole : count_before same (some ++ more) r ≡ count_before same some r = omega (arith, joined, none_lower same (suc n) (in_order_of_id level) r (levels_upto over all (suc n) r m)) in
     ap (λ c. ltb c k) whole in
     let below : (r : Ranked) → Among r more → few some r ≡ false =
     λ r m.
-    let w = from_level over all n r m in
-    ap (few some) w.3 ∙ le-ltb (count_before same some (at_level (suc n) w.0)) k (omega (arith, le, enough_before over strict same within all n w.0 w.2 n (omega arith))) in
+    let w = from_map (at_level (suc n)) (in_order_of_id level) r m in
+    let after = (on_level over all n w.0 (from_in_order level w.0 w.1)).0 in
+    ap (few some) w.2 ∙ le-ltb (count_before same some (at_level (suc n) w.0)) k (omega (arith, le, enough_before over strict same within all n w.0 after n (omega arith))) in
     filter_agree_among (few (some ++ more)) (few some) (some ++ more) agree
     ∙ (filter-append (few some) some more ∙ (ap (λ l. filter (few some) some ++ l) (none_pass (few some) more below) ∙ append-nil (filter (few some) some)))
 
@@ -129,7 +106,65 @@ enough over strict same within all k =
       | inr more ↦ past_k over strict same within all k (length all) more
     ]
 
--- all pass
-pub all_pass : {E : Type 0} (p : E → Bool) (xs : List E) → ((x : E) → Among x xs → p x ≡ true) → filter p xs ≡ xs
-all_pass p [] all = refl
-all_pass p (x ∷ xs) all = ap (λ b. cond b (x ∷ filter p xs) (filter p xs)) (all x (inl refl)) ∙ ap (λ l. x ∷ l) (all_pass p xs (λ y m. all y (inr m)))
+filter_front : {E : Type 0} (p : E → Bool) (xs : List E) (n : ℕ) → IsPartitionPoint (λ x. p x ≡ true) (λ x. p x ≡ false) xs n → filter p xs ≡ take n xs
+filter_front p xs n point = filter_parted p xs n (passes_before p xs n point) (fails_behind p xs n point)
+
+-- where what passes stands in front, a place is in front where fewer places are than pass
+place_passes : {E : Type 0} (p : E → Bool) (xs : List E) → IsPartitionedBy p xs → (k : ℕ) (d : E) → k < length xs → p (get_or xs k d) ≡ ltb k (count_by p xs)
+place_passes p [] parted k d inside = absurd (omega (arith, inside))
+place_passes p (x ∷ xs) parted zero d inside =
+    let here = count_cons p x xs in
+    elim (cases_lt 0 (count_by p xs)) [
+      | inl some ↦
+          let next : 0 < length xs = omega (arith, some, count_by-le-length p xs) in
+          grind (arith, nat_tests, here, some, place_passes p xs (λ i j e le l. parted (suc i) (suc j) e (omega (arith, le)) (omega (arith, l))) 0 d next, parted 0 1 d (omega arith) (omega (arith, next)))
+      | inr none ↦ grind (arith, nat_tests, here, none)
+    ]
+place_passes p (x ∷ xs) parted (suc k) d inside =
+    grind (arith, nat_tests, count_cons p x xs, place_passes p xs (λ i j e le l. parted (suc i) (suc j) e (omega (arith, le)) (omega (arith, l))) k d (omega (arith, inside)), parted 0 (suc k) d (omega arith) inside)
+
+-- the entries on the levels before that of an entry stand in front of where it begins
+pub count_in_front : (same : Row → Row → Bool) (xs : List Ranked) (r : Ranked) (n : ℕ) → IsPartitionPoint (λ (s : Ranked). ltb s.level r.level ≡ true) (λ (s : Ranked). ltb s.level r.level ≡ false) xs n
+    → count_before same xs r ≡ count_by (λ (s : Ranked). same s.row r.row) (take n xs)
+count_in_front same xs r n point =
+    sym (count_filtered (λ (s : Ranked). same s.row r.row) (λ (s : Ranked). ltb s.level r.level) xs) ∙ ap (count_by (λ (s : Ranked). same s.row r.row)) (filter_front (λ (s : Ranked). ltb s.level r.level) xs n point)
+
+-- levels are in order
+pub levels_sorted : (over : Entry → Entry → Bool) (all : List Entry) (n : ℕ) → IsNonDecreasingBy (λ (r : Ranked). r.level) (levels over all n)
+levels_sorted over all zero i j d le l = absurd (omega (arith, l))
+levels_sorted over all (suc n) i j d le l =
+    let front = levels over all n in
+    let level = in_order_of_id (best over (rest over all n)) in
+    elim (cases_lt j (length front)) [
+      | inl early ↦
+          let at_i = ap (λ (r : Ranked). r.level) (get_or_append_left front (map (at_level (suc n)) level) d i (omega (arith, le, early))) in
+          let at_j = ap (λ (r : Ranked). r.level) (get_or_append_left front (map (at_level (suc n)) level) d j early) in
+          omega (arith, at_i, at_j, levels_sorted over all n i j d le early)
+      | inr late ↦
+          let back = map (at_level (suc n)) level in
+          let inside : j - length front < length level = omega (arith, l, late, length-append front back, length-map level (at_level (suc n))) in
+          let at_j = ap (λ (r : Ranked). r.level) (get_or-append_right front back (length front) j d refl late ∙ get_or-map (at_level (suc n)) level (j - length front) (record { id = 0; row = [] }) d inside) in
+          omega (arith, at_j, levels_upto over all (suc n) (get_or (front ++ back) i d) (among_place (front ++ back) i d (omega (arith, le, l))))
+    ]
+
+module _ (xs : List Ranked) (sorted : IsNonDecreasingBy (λ (r : Ranked). r.level) xs) where
+  -- the levels up to that of the entry at a place are the first ones that hold one more than the place says
+  pub first_ranked : (place count : ℕ) (d : Ranked) → place < length xs
+      → IsPartitionPoint (λ (r : Ranked). leb r.level (get_or xs place d).level ≡ true) (λ (r : Ranked). leb r.level (get_or xs place d).level ≡ false) xs count
+      → take count xs ≡ at_least (in_same_group []) (suc place) xs
+  first_ranked place count d within point =
+      let last = (get_or xs place d).level in
+      let few : Ranked → Bool = λ r. ltb (count_before (in_same_group []) xs r) (suc place) in
+      let same : (r : Ranked) → few r ≡ leb r.level last =
+      λ r. grind (arith, nat_tests, place_passes (λ (s : Ranked). ltb s.level r.level) xs (IsPartitionedBy-ltb (λ (s : Ranked). s.level) xs r.level sorted) place d within) in
+      sym (filter_agree few (λ r. leb r.level last) same xs ∙ filter_front (λ (r : Ranked). leb r.level last) xs count point)
+
+-- all are told where they are fewer, and none where none is asked for
+pub all_ranked : (least : ℕ) (xs : List Ranked) → length xs < least → xs ≡ at_least (in_same_group []) least xs
+all_ranked least xs few =
+    let test : Ranked → Ranked → Bool = λ r s. ltb s.level r.level in
+    sym (all_pass (λ r. ltb (count_before (in_same_group []) xs r) least) xs (λ r m.
+    lt-ltb (count_before (in_same_group []) xs r) least (omega (arith, few, count_by-le-length (test r) xs))))
+
+pub none_ranked : (xs : List Ranked) → [] ≡ at_least (in_same_group []) 0 xs
+none_ranked xs = sym (none_pass (λ r. ltb (count_before (in_same_group []) xs r) 0) xs (λ r m. le-ltb (count_before (in_same_group []) xs r) 0 (omega arith)))

@@ -4,7 +4,7 @@ pub use Rattle.std.proofs.Common.{drop_of_length-le, eq-eqb, eqb, false, filter,
 pub use Rattle.std.proofs.Common.{map, max, nat_lt, not, pos, refl, rules, set, subst, suc, sym, take, true, vec_len, w64, zero, ◌||◌, ℕ, ℤ, ◌∙◌, ◌∷◌, ◌≡◌, ◌≤◌, ◌⊎◌}
 pub use Rattle.std.proofs.Math.Seq.{drop-append_seam, drop-cons, get_or-append_seam, take-append_seam, take-length}
 pub use Rattle.std.proofs.lemmas.Bool.{and_from, and_parts, and_right, both_ways, cases_Bool, cases_eq, cases_lt, cond-false, cond-true, cond_both, eqb-false, eqb-true, false_from_ne_true, false≢true}
-pub use Rattle.std.proofs.lemmas.Bool.{le-ltb, lt-ltb, ltb-false, ltb-true, not-true, not_from_false, or_cases, or_from, or_left, or_right}
+pub use Rattle.std.proofs.lemmas.Bool.{le-ltb, lt-ltb, ltb-false, ltb-true, not-true, not_from_false, or_cases, or_from}
 pub use Rattle.std.proofs.lemmas.Bool.Decides.{Decides-int_eq, nat_tests}
 pub use Rattle.std.proofs.lemmas.Fn.{always_returns_same}
 pub use Rattle.std.proofs.lemmas.List.{at_drop_more, drop-append-le, drop-map, drop_all, drop_more, get_or-append_right, get_or-drop, get_or-map, get_or-take, get_or_append_left, get_or_default}
@@ -24,19 +24,17 @@ pub use Rattle.std.specs.List.Sorted.{IsNonDecreasingBy, IsPartitionPoint, IsPar
 pub use Rattle.std.specs.Ordering.{int_eq, is_lt, nat_cmp, ordering_then}
 pub use Rattle.std.specs.Prelude.{All, IfSome, OnOk, bit_and, int_lt, min, slice_set}
 pub use Rattle.pref_sky.specs.Answers.{answer_of, at_least, count_before, count_upto, selected}
-pub use Rattle.pref_sky.specs.Arrivals.{AreComing, AreDealt, AreInOrderOfStart, HaveArrived, IsArrival, KeepsUpper, StartsAt, arrived, coming_to, deals_before}
+pub use Rattle.pref_sky.specs.Made.{AreComing, AreDealt, AreInOrderOfStart, HaveArrived, IsArrival, KeepsUpper, StartsAt, arrived, coming_to, deals_before, AreInOrderOfPart, AreLevelsMade}
+pub use Rattle.pref_sky.specs.Made.{ArePartsMade, ArePut, Fits, IsPartMade, LeaveAlone, new_levels}
 pub use Rattle.pref_sky.specs.Best.{IsAntichain, best, is_beaten, rest, without_best}
-pub use Rattle.pref_sky.specs.ChainOrders.{AreInOrder, AreSorted, comes_before, is_below, own_levels, own_order}
-pub use Rattle.pref_sky.specs.Items.{AreAllItems, AreInPool, AreItems, HasGrown, IsItem, entries_at, entry_at, is_word, item_order, items_at, levels_at, parts_at, place_order}
+pub use Rattle.pref_sky.specs.ChainOrders.{AreInOrder, AreSorted, comes_before, is_below, own_levels, own_order, AreLeveled, AreLowest, HoldsUpper}
+pub use Rattle.pref_sky.specs.Items.{AreAllItems, AreInPool, AreItems, HasGrown, IsItem, entries_at, entry_at, is_word, item_order, items_at, levels_at, parts_at, place_order, signature_by}
 pub use Rattle.pref_sky.specs.Layers.{StandsBehind, count_above, with_levels, with_last, with_level}
 pub use Rattle.pref_sky.specs.Levels.{HaveDifferentIds, at_level, entry_of, entry_order, held_after, in_order_of_id, levels, put_by_id}
-pub use Rattle.pref_sky.specs.Made.{AreInOrderOfPart, AreLevelsMade, ArePartsMade, ArePut, Fits, IsPartMade, LeaveAlone, new_levels}
 pub use Rattle.pref_sky.specs.Members.{Among}
-pub use Rattle.pref_sky.specs.Partials.{IsBehind, IsMade, KeepsAllBut, held_at, ranked_from, replaced}
-pub use Rattle.pref_sky.specs.Partitions.{ArePartitionedBy, all_at, depth, is_in, mixed_onto, partition_of, partitions_by, ranked_parts, ranked_upto}
+pub use Rattle.pref_sky.specs.Partials.{IsBehind, IsMade, KeepsAllBut, held_at, ranked_from, replaced, ArePartitionedBy, all_at, depth, is_in, mixed_onto, partition_of, partitions_by, ranked_parts}
+pub use Rattle.pref_sky.specs.Partials.{ranked_upto}
 pub use Rattle.pref_sky.specs.Passes.{IsClear, IsMet, IsDecided, Parted, Passes, Passing, Sifted}
-pub use Rattle.pref_sky.specs.Signatures.{signature_by}
-pub use Rattle.pref_sky.specs.Sorted.{AreLeveled, AreLowest, HoldsUpper}
 pub use Rattle.pref_sky.specs.StairLaws.{AreChain, HasOneCandidate, IsStairs, IsSwept, LevelsHoldAlike, LineHasLevels, OrderGroups, ServesGroups}
 pub use Rattle.pref_sky.specs.Stairs.{AreClassesOf, AreStairs, IsChain, IsInOrder, IsLine, are_level, better_in, by_row, comes_first, earlier_in, earlier_twin, first_within, in_turn, second_within}
 pub use Rattle.pref_sky.specs.Stairs.{tie_or_twin}

@@ -1,14 +1,78 @@
--- The order of items is strict, whatever their signatures are.
-use Rattle.pref_sky.proofs.Common.{◌≡◌, ◌<◌, ◌≤◌, ◌^◌, ℕ, true, ◌&&◌, List, length, ◌∙◌, ap, arith, ltb, eq-eqb, w64, and_parts, and_from, and_right, ltb-true, eqb-true, lt-ltb, bit_and, min}
-use Rattle.pref_sky.proofs.Common.{IsStrictOrder, RowOrder, is_within, Entry, Item, IsItem, entry_at, is_word, item_order, place_order, entry_order, AreItems, Parted, Suit, cases_Bool, entries_at}
-use Rattle.pref_sky.proofs.Common.{inl, inr, nat_lt, signature, sym, ◌++◌, ◌||◌}
+-- The order of items is strict, whatever their signatures are, and lists are parted into their best and the others by what their items stand for.
+use Rattle.pref_sky.proofs.Common.{◌≡◌, Bool, cond, not, inl, inr, List, ◌++◌, sym, ◌∙◌, ap, subst, arith, map, count_by, both_ways, not-true, map-append, IsAntichain, best, is_beaten, without_best}
+use Rattle.pref_sky.proofs.Common.{Parted, Among, ◌+◌, ◌<◌, ◌≤◌, ◌^◌, ℕ, true, ◌&&◌, length, ltb, eq-eqb, w64, and_parts, and_right, ltb-true, eqb-true, lt-ltb, bit_and, min, IsStrictOrder, RowOrder}
+use Rattle.pref_sky.proofs.Common.{is_within, Entry, Item, IsItem, entry_at, is_word, item_order, place_order, entry_order, AreItems, Suit, cases_Bool, entries_at, nat_lt, signature, ◌||◌, refl}
+use Rattle.std.proofs.lemmas.List.Folds.{fold-map}
 use Rattle.pref_term.specs.declared.signature.scale.Scale.{Scale}
 use Rattle.std.specs.Int.{bit_at, bit_not}
 use Rattle.std.proofs.lemmas.Nat.{and_le_l}
 use Rattle.std.proofs.lemmas.Nat.Bits.{bit_at_and, bit_at_not, bit_at-zero, bit_at-lt, same_from_bits_below}
-use Rattle.pref_sky.proofs.Removals.{same_answer}
-use Rattle.pref_sky.proofs.PartedLaws.{parted_map}
-use Rattle.pref_sky.proofs.MembersLaws.{all_among, among_all}
+use Rattle.pref_sky.proofs.ListLaws.{any_from, any_gives, in_filter, from_filter, from_map, in_left, in_map, SameMembers, same_answer, all_among, among_all}
+
+pub count_map : {E F : Type 0} (f : E → F) (p : F → Bool) (xs : List E) → count_by p (map f xs) ≡ count_by (λ x. p (f x)) xs
+count_map f p xs = fold-map (λ n y. n + cond (p y) 1 0) f 0 xs
+
+-- items by whose order what they stand for is ordered
+pub beaten_map : {E F : Type 0} (f : E → F) (below : E → E → Bool) (over : F → F → Bool) (all : List E) → ((x y : E) → Among x all → Among y all → below x y ≡ over (f x) (f y)) → (x : E) → Among x all → is_beaten over (map f all) (f x) ≡ is_beaten below all x
+beaten_map f below over all agree x m =
+    same_answer (is_beaten over (map f all) (f x)) (is_beaten below all x)
+    (λ h.
+    let w = any_gives (λ y. over y (f x)) (map f all) h in
+    let v = from_map f all w.0 w.1 in
+    any_from (λ y. below y x) all v.0 v.1 (agree v.0 x v.1 m ∙ (ap (λ z. over z (f x)) (sym v.2) ∙ w.2)))
+    (λ h.
+    let w = any_gives (λ y. below y x) all h in
+    any_from (λ y. over y (f x)) (map f all) (f w.0) (in_map f all w.0 w.1) (sym (agree w.0 x w.1 m) ∙ w.2))
+
+pub parted_map : {E F : Type 0} (f : E → F) (below : E → E → Bool) (over : F → F → Bool) (held items top others : List E) → ((x y : E) → Among x (held ++ items) → Among y (held ++ items) → below x y ≡ over (f x) (f y))
+    → Parted below held items top others → Parted over (map f held) (map f items) (map f top) (map f others)
+parted_map f below over held items top others agree p =
+    let all = held ++ items in
+    let joined : map f held ++ map f items ≡ map f all = sym (map-append f held items) in
+    let beaten = beaten_map f below over all agree in
+    let apart : IsAntichain over (map f held) → IsAntichain below held =
+    λ apart x y mx my. agree x y (in_left held items x mx) (in_left held items y my) ∙ apart (f x) (f y) (in_map f held x mx) (in_map f held y my) in
+    record {
+      within = λ y m. subst (Among y) (sym joined) (elim m [
+        | inl a ↦ let v = from_map f top y a in subst (λ z. Among z (map f all)) (sym v.2) (in_map f all v.0 (p.within v.0 (inl v.1)))
+        | inr a ↦ let v = from_map f others y a in subst (λ z. Among z (map f all)) (sym v.2) (in_map f all v.0 (p.within v.0 (inr v.1)))
+      ]);
+      covers = λ y m.
+          let v = from_map f all y (subst (Among y) joined m) in
+          elim (p.covers v.0 v.1) [ inl a ↦ inl (subst (λ z. Among z (map f top)) (sym v.2) (in_map f top v.0 a)) | inr a ↦ inr (subst (λ z. Among z (map f others)) (sym v.2) (in_map f others v.0 a)) ];
+      bag = λ q. omega (arith, count_map f q top, count_map f q others, p.bag (λ x. q (f x)), count_map f q all, ap (count_by q) joined);
+      unbeaten = λ h y m.
+          let v = from_map f top y m in
+          ap (λ l. is_beaten over l y) joined ∙ (ap (is_beaten over (map f all)) v.2 ∙ (beaten v.0 (p.within v.0 (inl v.1)) ∙ p.unbeaten (apart h) v.0 v.1));
+      beaten = λ h y m.
+          let v = from_map f others y m in
+          ap (λ l. is_beaten over l y) joined ∙ (ap (is_beaten over (map f all)) v.2 ∙ (beaten v.0 (p.within v.0 (inr v.1)) ∙ p.beaten (apart h) v.0 v.1));
+    }
+
+-- where none of the held ones dominates another, the two lists are the best and what is left without them
+module _ {E : Type 0} (over : E → E → Bool) (held items top others : List E) (p : Parted over held items top others) (apart : IsAntichain over held) where
+  pub best_are : SameMembers top (best over (held ++ items))
+  best_are =
+      record {
+        there = λ x m. in_filter (λ y. not (is_beaten over (held ++ items) y)) (held ++ items) x (p.within x (inl m)) (ap not (p.unbeaten apart x m));
+        back = λ x m.
+            let w = from_filter (λ y. not (is_beaten over (held ++ items) y)) (held ++ items) x m in
+            elim (p.covers x w.0) [ inl a ↦ a | inr a ↦ absurd (both_ways (is_beaten over (held ++ items) x) (not-true (is_beaten over (held ++ items) x) w.1) (p.beaten apart x a)) ];
+      }
+
+  pub others_are : SameMembers others (without_best over (held ++ items))
+  others_are =
+      record {
+        there = λ x m. in_filter (is_beaten over (held ++ items)) (held ++ items) x (p.within x (inr m)) (p.beaten apart x m);
+        back = λ x m.
+            let w = from_filter (is_beaten over (held ++ items)) (held ++ items) x m in
+            elim (p.covers x w.0) [ inl a ↦ absurd (both_ways (is_beaten over (held ++ items) x) (p.unbeaten apart x a) w.1) | inr a ↦ a ];
+      }
+
+-- tests of each of two, and of both, that hold of the first and the third where they hold of the first and the second, and of the second and the third
+tests_chain : (a b c first second whole ab bc ac : Bool) → (a ≡ true → b ≡ true → c ≡ true → first ≡ true → second ≡ true → whole ≡ true) → (ab ≡ true → bc ≡ true → ac ≡ true)
+    → (a && (b && (first && ab))) ≡ true → (b && (c && (second && bc))) ≡ true → (a && (c && (whole && ac))) ≡ true
+tests_chain a b c first second whole ab bc ac then over h k = grind (arith, then, over, h, k)
 
 pub place_order_is_strict : (order : RowOrder) (pool : List Entry) → IsStrictOrder (entry_order order) → IsStrictOrder (place_order order pool)
 place_order_is_strict order pool strict =
@@ -16,12 +80,7 @@ place_order_is_strict order pool strict =
     let over = λ (a b : ℕ). entry_order order (entry_at pool a) (entry_at pool b) in
     record {
       irreflexive = λ a. and_right (ltb a n) (ltb a n && over a a) (and_right (ltb a n) (over a a) (strict.irreflexive (entry_at pool a)));
-      transitive = λ a b c h k.
-          let first = and_parts (ltb a n) (ltb b n && over a b) h in
-          let second = and_parts (ltb b n) (ltb c n && over b c) k in
-          let ab = and_parts (ltb b n) (over a b) first.1 in
-          let bc = and_parts (ltb c n) (over b c) second.1 in
-          and_from (ltb a n) (ltb c n && over a c) first.0 (and_from (ltb c n) (over a c) bc.0 (strict.transitive (entry_at pool a) (entry_at pool b) (entry_at pool c) ab.1 bc.1));
+      transitive = λ a b c. tests_chain (ltb a n) (ltb b n) (ltb c n) true true true (over a b) (over b c) (over a c) (λ _ _ _ _ _. refl) (strict.transitive (entry_at pool a) (entry_at pool b) (entry_at pool c));
     }
 
 covered_if_within : (x y : ℕ) → y < 2 ^ 64 → is_within x y ≡ true → (i : ℕ) → i < 64 → bit_at x i ≤ bit_at y i
@@ -48,19 +107,14 @@ item_order_is_strict order pool entries_strict =
           let w = is_within a.signature a.signature in
           let o = over a.place a.place in
           and_right (is_word a) (is_word a && (w && o)) (and_right (is_word a) (w && o) (and_right w o (strict.irreflexive a.place)));
-      transitive = λ a b c h k.
-          let first = and_parts (is_word a) (is_word b && (is_within a.signature b.signature && over a.place b.place)) h in
-          let ab = and_parts (is_word b) (is_within a.signature b.signature && over a.place b.place) first.1 in
-          let ab_too = and_parts (is_within a.signature b.signature) (over a.place b.place) ab.1 in
-          let second = and_parts (is_word b) (is_word c && (is_within b.signature c.signature && over b.place c.place)) k in
-          let bc = and_parts (is_word c) (is_within b.signature c.signature && over b.place c.place) second.1 in
-          let bc_too = and_parts (is_within b.signature c.signature) (over b.place c.place) bc.1 in
-          and_from (is_word a) (is_word c && (is_within a.signature c.signature && over a.place c.place)) first.0
-          (and_from (is_word c) (is_within a.signature c.signature && over a.place c.place) bc.0
-          (and_from (is_within a.signature c.signature) (over a.place c.place)
-          (within_then a.signature b.signature c.signature (ltb-true a.signature (2 ^ 64) first.0) (ltb-true b.signature (2 ^ 64) ab.0) (ltb-true c.signature (2 ^ 64) bc.0) ab_too.0 bc_too.0)
-          (strict.transitive a.place b.place c.place ab_too.1 bc_too.1)));
+      transitive = λ a b c.
+          let w = λ (x y : Item). is_within x.signature y.signature in
+          tests_chain (is_word a) (is_word b) (is_word c) (w a b) (w b c) (w a c) (over a.place b.place) (over b.place c.place) (over a.place c.place)
+          (λ x y z. within_then a.signature b.signature c.signature (ltb-true a.signature (2 ^ 64) x) (ltb-true b.signature (2 ^ 64) y) (ltb-true c.signature (2 ^ 64) z)) (strict.transitive a.place b.place c.place);
     }
+
+tests_pass : (a b both first second ab : Bool) → a ≡ true → b ≡ true → first ≡ true → second ≡ true → (ab ≡ true → both ≡ true) → (a && (b && (both && (first && (second && ab))))) ≡ ab
+tests_pass a b both first second ab h k l m then = grind (arith, h, k, l, m, then)
 
 -- items that are signed by a rule which tells of the order are ordered as their entries are
 pub item_agrees : (order : RowOrder) (rule : Entry → ℕ) (pool : List Entry) → ((a b : Entry) → entry_order order a b ≡ true → is_within (rule a) (rule b) ≡ true) → (x y : Item) → IsItem rule pool x → IsItem rule pool y
@@ -69,21 +123,8 @@ item_agrees order rule pool tells x y first second =
     let n = length pool in
     let a = entry_at pool x.place in
     let b = entry_at pool y.place in
-    let over = entry_order order a b in
-    let places = ltb x.place n && (ltb y.place n && over) in
-    same_answer (item_order order pool x y) over
-    (λ h.
-    let words = and_parts (is_word x) (is_word y && (is_within x.signature y.signature && places)) h in
-    let word = and_parts (is_word y) (is_within x.signature y.signature && places) words.1 in
-    let signed = and_parts (is_within x.signature y.signature) places word.1 in
-    let there = and_parts (ltb x.place n) (ltb y.place n && over) signed.1 in
-    (and_parts (ltb y.place n) over there.1).1)
-    (λ h.
-    and_from (is_word x) (is_word y && (is_within x.signature y.signature && places)) (lt-ltb x.signature (2 ^ 64) first.word)
-    (and_from (is_word y) (is_within x.signature y.signature && places) (lt-ltb y.signature (2 ^ 64) second.word)
-    (and_from (is_within x.signature y.signature) places
-    (ap (λ s. is_within s y.signature) first.signed ∙ (ap (is_within (rule a)) second.signed ∙ tells a b h))
-    (and_from (ltb x.place n) (ltb y.place n && over) (lt-ltb x.place n first.within) (and_from (ltb y.place n) over (lt-ltb y.place n second.within) h)))))
+    tests_pass (is_word x) (is_word y) (is_within x.signature y.signature) (ltb x.place n) (ltb y.place n) (entry_order order a b) (lt-ltb x.signature (2 ^ 64) first.word) (lt-ltb y.signature (2 ^ 64) second.word)
+    (lt-ltb x.place n first.within) (lt-ltb y.place n second.within) (λ h. ap (λ s. is_within s y.signature) first.signed ∙ (ap (is_within (rule a)) second.signed ∙ tells a b h))
 
 -- ---- items of a pool that are signed by a rule which tells of the order: their entries are parted as they are
 

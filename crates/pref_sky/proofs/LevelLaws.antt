@@ -1,17 +1,30 @@
--- Laws of the levels, for the crates above: no entries have no levels, the order in which entries stand does not matter, and what is held has different ids.
-use Rattle.pref_sky.proofs.Common.{leb, ◌-◌, ◌≡◌, ℕ, zero, suc, ◌<◌, Bool, cond, not, ◌&&◌, List, [], ◌∷◌, ◌++◌, map, append_assoc, subst, refl, sym, ◌∙◌, ap, arith, append-nil, ◌==◌, ltb, flat_map}
-use Rattle.pref_sky.proofs.Common.{ltb-true, lt-ltb, nat_tests, sum_by-append, IsStrictOrder, Row, Best, TopLevel, AtLeast, Question, in_same_group, Entry, Ranked, best, rest, without_best, order_of}
-use Rattle.pref_sky.proofs.Common.{order_of_is_row_order, entry_order, HaveDifferentIds, in_order_of_id, at_level, entry_of, held_after, levels, count_before, count_upto, selected, answer_of}
-use Rattle.pref_sky.proofs.Common.{at_least, Among}
+-- Laws of the levels, for the crates above: no entries have no levels, the order in which entries stand does not matter, what is held has different ids, and of twins the first is best.
+use Rattle.pref_sky.proofs.Common.{not, ◌≡◌, false, List, arith, nat_tests, both_ways, false_from_ne_true, not-true, not_from_false, RowOrder, Entry, best, is_beaten, entry_order, Among, leb, ◌-◌, ℕ}
+use Rattle.pref_sky.proofs.Common.{zero, suc, ◌<◌, Bool, ◌&&◌, [], ◌∷◌, ◌++◌, map, append_assoc, subst, refl, sym, ◌∙◌, ap, append-nil, ◌==◌, ltb, flat_map, ltb-true, lt-ltb, IsStrictOrder, Row, Best}
+use Rattle.pref_sky.proofs.Common.{TopLevel, AtLeast, Question, in_same_group, Ranked, rest, without_best, order_of, order_of_is_row_order, HaveDifferentIds, in_order_of_id, at_level, entry_of}
+use Rattle.pref_sky.proofs.Common.{held_after, levels, count_before, count_upto, selected, answer_of, at_least}
+use Rattle.pref_sky.specs.Twins.{IsFirstOfTwins}
 use Rattle.pref_term.specs.declared.ask.Mode.{Mode}
-use Rattle.pref_sky.proofs.Removals.{comes_after}
-use Rattle.pref_sky.proofs.HeldLevels.{different_by_count}
-use Rattle.pref_sky.proofs.MembersLaws.{in_filter, from_filter}
-use Rattle.pref_sky.proofs.IdOrder.{SameMembers}
-use Rattle.pref_sky.proofs.Merges.{different_best, entry_order_is_strict, entry_order_stays_in_groups, same_by_level}
-use Rattle.pref_sky.proofs.SortedLevels.{count_levels, merge}
+use Rattle.pref_sky.proofs.ListLaws.{SameMembers, any_from, any_gives, count_and, count_within, from_filter, in_filter, count_append}
+use Rattle.pref_sky.proofs.Merges.{comes_after, different_best, entry_order_is_strict, entry_order_stays_in_groups, same_by_level}
+use Rattle.pref_sky.proofs.SortedLevels.{different_by_count, count_levels, merge}
 use Rattle.pref_sky.proofs.AtLeastLaws.{StaysInGroups, enough}
-pub use Rattle.pref_sky.proofs.CountLaws.{count_and, count_both, count_filtered, count_within}
+
+pub best_is_first : (order : RowOrder) (all : List Entry) (e : Entry) → Among e (best (entry_order order) all) → IsFirstOfTwins order all e
+best_is_first order all e m other there =
+    let over = entry_order order in
+    let w = from_filter (λ x. not (is_beaten over all x)) all e m in
+    let none : over other e ≡ false = false_from_ne_true (over other e) (λ h. both_ways (is_beaten over all e) (not-true (is_beaten over all e) w.1) (any_from (λ o. over o e) all other there h)) in
+    (grind (arith, none), λ twin. grind (arith, nat_tests, none, twin))
+
+pub first_is_best : (order : RowOrder) (all : List Entry) (e : Entry) → Among e all → IsFirstOfTwins order all e → Among e (best (entry_order order) all)
+first_is_best order all e m first =
+    let over = entry_order order in
+    in_filter (λ x. not (is_beaten over all x)) all e m
+    (not_from_false (is_beaten over all e) (false_from_ne_true (is_beaten over all e) (λ h.
+    let w = any_gives (λ o. over o e) all h in
+    let says = first w.0 w.1 in
+    grind (arith, nat_tests, w.2, says.0, says.1))))
 
 -- nothing is left of nothing
 rest_of_none : (over : Entry → Entry → Bool) (n : ℕ) → rest over [] n ≡ []
@@ -44,11 +57,11 @@ pub held_differ : (over : Entry → Entry → Bool) (before new : List Entry) (n
 held_differ over before new n different =
     let top = map entry_of (levels over before n) in
     different_by_count before new (top ++ new) different
-    (λ p. omega (arith, sum_by-append (λ e. cond (p e) 1 0) top new, count_levels over p before n, count_and p (λ e. not (comes_after over before n e)) before))
+    (λ p. omega (arith, count_append p top new, count_levels over p before n, count_and p (λ e. not (comes_after over before n e)) before))
 
 -- the first part of a list has different ids where all have
 pub first_differ : (xs ys : List Entry) → HaveDifferentIds (xs ++ ys) → HaveDifferentIds xs
-first_differ xs ys different = record { once = λ id. omega (arith, different.once id, sum_by-append (λ (e : Entry). cond (e.id == id) 1 0) xs ys) }
+first_differ xs ys different = record { once = λ id. omega (arith, different.once id, count_append (λ (e : Entry). e.id == id) xs ys) }
 
 -- the pieces after those before, one after the other
 cut_into : (over : Entry → Entry → Bool) → IsStrictOrder over → (cut : ℕ) (before : List Entry) (held : List Ranked) (pieces : List (List Entry)) → held ≡ levels over before cut

@@ -1,11 +1,9 @@
 -- Classes: alike entries are of one level, and one of each class has the levels. In a line an entry is of the level behind as many classes as dominate it.
 use Rattle.pref_sky.proofs.Common.{◌≡◌, ℕ, zero, suc, ◌≤◌, ◌+◌, Bool, true, false, cond, not, ◌&&◌, ◌||◌, inl, inr, List, [], ◌∷◌, ◌++◌, length, refl, sym, ◌∙◌, ap, subst, arith, count_by, cases_lt}
-use Rattle.pref_sky.proofs.Common.{both_ways, and_parts, and_from, false_from_ne_true, sum_by-cons, StandAlike, best, rest, LevelsHoldAlike, LineHasLevels, AreClassesOf, AreStairs, IsInOrder, IsLine}
-use Rattle.pref_sky.proofs.Common.{are_level, comes_first, in_turn, Among}
-use Rattle.pref_sky.proofs.CountLaws.{count_both}
-use Rattle.pref_sky.proofs.MembersLaws.{any_from, any_gives, in_filter, from_filter, in_right}
-use Rattle.pref_sky.proofs.IdOrder.{one_passes}
-use Rattle.pref_sky.proofs.Removals.{comes_after, comes_after_among_more, best_of_rest_is, same_answer}
+use Rattle.pref_sky.proofs.Common.{both_ways, and_parts, and_from, false_from_ne_true, StandAlike, best, rest, LevelsHoldAlike, LineHasLevels, AreClassesOf, AreStairs, IsInOrder, IsLine, are_level}
+use Rattle.pref_sky.proofs.Common.{comes_first, in_turn, Among}
+use Rattle.pref_sky.proofs.ListLaws.{count_both, any_from, any_gives, in_filter, from_filter, in_right, one_passes, same_answer, count_cons}
+use Rattle.pref_sky.proofs.Merges.{comes_after, comes_after_among_more, best_of_rest_is}
 use Rattle.pref_sky.proofs.StairLaws.{level_above, level_below}
 
 -- the entries of one level
@@ -78,13 +76,13 @@ module _ {E : Type 0} (over earlier better : E → E → Bool) (line : IsLine ov
       → (r : E) × Among r classes × (over r x ≡ true) × (count_by (λ s. over s x) classes ≤ suc (count_by (λ s. over s r) classes))
   last_over [] x rises some = absurd (omega (arith, some))
   last_over (e ∷ others) x rises some =
-      let here = sum_by-cons (λ s. cond (over s x) 1 0) e others in
+      let here = count_cons (λ s. over s x) e others in
       elim (cases_lt 0 (count_by (λ s. over s x) others)) [
         | inl more ↦
             let w = last_over others x rises.1 (omega (arith, more)) in
             let before = rises.0 w.0 w.1 in
             let stands : over e x ≡ true → over e w.0 ≡ true = λ h. grind (arith, h, before, w.2, line.is e x, line.is w.0 x, line.is e w.0, line.groups.between e w.0 x, line.groups.between x w.0 e) in
-            let there = sum_by-cons (λ s. cond (over s w.0) 1 0) e others in
+            let there = count_cons (λ s. over s w.0) e others in
             (w.0, inr w.1, w.2, grind (arith, here, there, stands, w.3))
         | inr none ↦
             let dominates : over e x ≡ true = grind (arith, here, none, some) in
@@ -151,9 +149,8 @@ module _ {E : Type 0} (over earlier better : E → E → Bool) (line : IsLine ov
         | inr none ↦ omega (arith, none)
       ]
   behind_front (e ∷ front) r back x rises group alike =
-      let before = rises.0 r (in_right front (r ∷ back) r (inl refl)) in
-      let dominates : over e r ≡ true = grind (arith, before, group e (inl refl), line.is e r) in
-      grind (arith, behind_front front r back x rises.1 (λ z m. group z (inr m)) alike, dominates, alike.above e, sum_by-cons (λ s. cond {A = ℕ} (over s x) 1 0) e (front ++ r ∷ back))
+      let dominates : over e r ≡ true = grind (arith, (rises.0 r (in_right front (r ∷ back) r (inl refl))), group e (inl refl), line.is e r) in
+      grind (arith, behind_front front r back x rises.1 (λ z m. group z (inr m)) alike, dominates, alike.above e, count_cons (λ s. over s x) e (front ++ r ∷ back))
 
   -- its place is its level
   level_of_place : (front : List E) (r : E) (back all : List E) → IsInOrder (in_turn earlier better) (front ++ r ∷ back) → AreClassesOf over (front ++ r ∷ back) all

@@ -1,13 +1,11 @@
 -- Levels of items that are made anew: what they stand for are the levels that an addition makes.
 use Rattle.pref_sky.proofs.Common.{◌≡◌, ℕ, suc, ◌≤◌, ◌<◌, ◌+◌, Bool, ◌⊎◌, inl, inr, List, [], ◌∷◌, ◌++◌, Vec, length, map, take, drop, get_or, refl, sym, ◌∙◌, ap, subst, arith, length-append}
-use Rattle.pref_sky.proofs.Common.{length-drop, append-nil, append_assoc, drop_all, drop-append-le, Global, All, get_or-drop, get_or_default, length-map, map-append, nil_from_length, take-append-drop}
-use Rattle.pref_sky.proofs.Common.{All-append, All-drop, All-push, All-take, IsNonDecreasingBy-drop, IsStrictOrder, RowOrder, Suit, Arrival, Entry, Item, AreInOrderOfStart, StartsAt, arrived}
-use Rattle.pref_sky.proofs.Common.{AreAllItems, AreItems, IsItem, entries_at, entry_at, item_order, items_at, levels_at, entry_order, IsBehind, IsMade, replaced, Parted, signature_by, Among}
-use Rattle.pref_sky.proofs.Common.{length-take-le, max}
+use Rattle.pref_sky.proofs.Common.{length-drop, append-nil, append_assoc, drop_all, drop-append-le, Global, All, get_or_default, length-map, map-append, nil_from_length, take-append-drop, All-append}
+use Rattle.pref_sky.proofs.Common.{All-drop, All-push, All-take, IsNonDecreasingBy-drop, IsStrictOrder, RowOrder, Suit, Arrival, Entry, Item, AreInOrderOfStart, StartsAt, arrived, AreAllItems}
+use Rattle.pref_sky.proofs.Common.{AreItems, IsItem, entries_at, entry_at, item_order, items_at, levels_at, entry_order, IsBehind, IsMade, replaced, Parted, signature_by, Among, length-take-le, max}
 use Rattle.pref_term.specs.declared.signature.scale.Scale.{Scale}
-use Rattle.pref_sky.proofs.MembersLaws.{all_among, among_all, from_map, in_map}
-use Rattle.pref_sky.proofs.PartItems.{all_held}
-use Rattle.pref_sky.proofs.PoolLaws.{entries_held}
+use Rattle.pref_sky.proofs.ListLaws.{all_among, among_all, from_map, in_map}
+use Rattle.pref_sky.proofs.PoolLaws.{all_held, entries_held}
 use Rattle.pref_sky.proofs.ItemsLaws.{entries_parted, parted_items, suit_tells}
 use Rattle.pref_sky.proofs.MadeLevels.{AreBehind, Making, making_begins, making_ends, making_more}
 
@@ -19,14 +17,6 @@ first_starts arrivals none some in_order k d inside = omega (arith, ap (λ (a : 
 pub first_inside : (over : Entry → Entry → Bool) (rule : Entry → ℕ) (pool : List Entry) (levels : List (Vec Item Global)) (arrivals : List Arrival) (none : Arrival) → 0 < length arrivals
     → All (StartsAt over rule pool (levels_at pool levels)) arrivals → (get_or arrivals 0 none).start ≤ length levels
 first_inside over rule pool levels arrivals none some starts = omega (arith, (starts 0 none some).within, length-map levels (λ (level : Vec Item Global). entries_at pool level.items))
-
--- those behind the first ones that start at a place
-pub start_later : (arrivals : List Arrival) (n place : ℕ) (none : Arrival) → n < length arrivals → ((get_or arrivals n none).start ≡ place → ⊥) → AreInOrderOfStart arrivals → All (λ (a : Arrival). place ≤ a.start) arrivals
-    → All (λ (a : Arrival). place < a.start) (drop n arrivals)
-start_later arrivals n place none within other in_order from k d inside =
-    let start = ap (λ (a : Arrival). a.start) (get_or_default arrivals n d none within) in
-    let there = ap (λ (a : Arrival). a.start) (get_or-drop n arrivals k d) in
-    omega (arith, start, there, other, from n d within, in_order n (n + k) d (omega arith) (omega (arith, inside, length-drop n arrivals)))
 
 -- the entries of arrivals
 arrived_items : (pool : List Entry) (arrivals : List Arrival) → entries_at pool (map (λ (a : Arrival). a.item) arrivals) ≡ map (arrived pool) arrivals
@@ -95,11 +85,9 @@ module _ (order : RowOrder) (strict : IsStrictOrder (entry_order order)) (scales
       let behind = drop count rest in
       let now_items : AreItems rule pool now =
       subst (AreItems rule pool) (sym pushed) (All-append (IsItem rule pool) down (map (λ (a : Arrival). a.item) here) so_far.down_items (arrival_items over rule pool old here (All-take (StartsAt over rule pool old) count rest so_far.starts))) in
-      let held_items = all_held (IsItem rule pool) levels are n in
-      let both = All-append (IsItem rule pool) held now held_items now_items in
+      let both = All-append (IsItem rule pool) held now (all_held (IsItem rule pool) levels are n) now_items in
       let each = parted_items order rule pool held now top.items others parted both in
       let entry : Item → Entry = λ item. entry_at pool item.place in
-      let held_is = entries_held pool n levels in
       let now_is : entries_at pool now ≡ entries_at pool down ++ map (arrived pool) here =
       ap (entries_at pool) pushed ∙ (map-append entry down (map (λ (a : Arrival). a.item) here) ∙ ap (λ l. entries_at pool down ++ l) (arrived_items pool here)) in
       let rest_is : map (arrived pool) rest ≡ map (arrived pool) here ++ map (arrived pool) behind = ap (map (arrived pool)) (sym (take-append-drop count rest)) ∙ map-append (arrived pool) here behind in
@@ -113,7 +101,7 @@ module _ (order : RowOrder) (strict : IsStrictOrder (entry_order order)) (scales
       let level : Making over cut (suc n) old (upto ++ entries_at pool top.items ∷ []) (map (arrived pool) arrivals) (entries_at pool others) (map (arrived pool) behind) =
       making_more over strict cut n old upto (map (arrived pool) arrivals) (entries_at pool down) (map (arrived pool) here) (map (arrived pool) behind) (entries_at pool top.items) (entries_at pool others) below
       (arrivals_behind over rule pool old (suc n) behind behind_starts (λ k d inside. omega (arith, later k d inside)))
-      (subst (λ l. Parted over l (entries_at pool down ++ map (arrived pool) here) (entries_at pool top.items) (entries_at pool others)) held_is
+      (subst (λ l. Parted over l (entries_at pool down ++ map (arrived pool) here) (entries_at pool top.items) (entries_at pool others)) (entries_held pool n levels)
       (subst (λ l. Parted over (entries_at pool held) l (entries_at pool top.items) (entries_at pool others)) now_is
       (entries_parted order rule pool held now top.items others (suit_tells order scales suit) both parted)))
       (subst (Making over cut n old upto (map (arrived pool) arrivals) (entries_at pool down)) rest_is so_far.making) in

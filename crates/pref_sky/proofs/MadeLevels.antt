@@ -1,18 +1,16 @@
 -- What an addition makes of levels: from the first one to which something comes, each new level is the best of the held one and of what comes to it.
-use Rattle.pref_sky.proofs.Common.{◌≡◌, ℕ, zero, suc, ◌≤◌, ◌<◌, ◌+◌, ◌-◌, Bool, true, cond, ◌⊎◌, inl, inr, List, [], ◌∷◌, ◌++◌, length, map, take, drop, get_or, refl, sym, ◌∙◌, ap, subst, arith}
-use Rattle.pref_sky.proofs.Common.{filter, append_assoc, length-append, length-take-le, count_by, sum_by, cases_lt, both_ways, get_or_append_left, get_or-append_right, get_or-drop, get_or-take}
-use Rattle.pref_sky.proofs.Common.{sum_by-append, sum_by-cons, sum_by_push, sum_by-take-drop, IsStrictOrder, Entry, IsAntichain, best, is_beaten, rest, without_best, HaveDifferentIds, entry_of, levels}
-use Rattle.pref_sky.proofs.Common.{IsBehind, IsMade, held_at, ranked_from, ranked_upto, Parted, Among}
-use Rattle.pref_sky.proofs.MembersLaws.{any_from, any_gives, in_filter, from_filter, in_left, in_right, in_either}
-use Rattle.pref_sky.proofs.Removals.{beaten_by_best, beaten_by_rest, best_of_rest_is, comes_after, comes_after_among_more, comes_after_upto, rest_is, same_chains}
-use Rattle.pref_sky.proofs.IdOrder.{SameMembers, among_in_order}
-use Rattle.pref_sky.proofs.Merges.{HoldsLevels, different_best, is_at, same_best}
-use Rattle.pref_sky.proofs.HeldLevels.{beaten_by_more, best_apart, best_of_same, best_without, different_by_count, left_without, same_behind, same_beside, same_sym, same_then, without_of_same}
-use Rattle.pref_sky.proofs.PartedLaws.{best_are, others_are}
+use Rattle.pref_sky.proofs.Common.{◌≡◌, ℕ, zero, suc, ◌≤◌, ◌<◌, ◌+◌, ◌-◌, Bool, true, ◌⊎◌, inl, inr, List, [], ◌∷◌, ◌++◌, length, map, take, drop, get_or, refl, sym, ◌∙◌, ap, subst, arith, filter}
+use Rattle.pref_sky.proofs.Common.{append_assoc, length-append, length-take-le, count_by, sum_by, cases_lt, both_ways, get_or_append_left, get_or-append_right, get_or-drop, get_or-take, sum_by-append}
+use Rattle.pref_sky.proofs.Common.{sum_by_push, sum_by-take-drop, IsStrictOrder, Entry, IsAntichain, best, is_beaten, rest, without_best, HaveDifferentIds, entry_of, levels, IsBehind, IsMade, held_at}
+use Rattle.pref_sky.proofs.Common.{ranked_from, ranked_upto, Parted, Among, append-nil, filter-append, filter_agree}
+use Rattle.pref_sky.proofs.ListLaws.{SameMembers, all_pass, any_from, any_gives, in_either, in_left, same_behind, same_beside, same_list, same_sym, same_then, count_append}
+use Rattle.pref_sky.proofs.Merges.{beaten_by_best, beaten_by_rest, best_of_rest_is, comes_after, comes_after_among_more, comes_after_upto, rest_is, same_chains, HoldsLevels, different_best, is_at}
+use Rattle.pref_sky.proofs.Merges.{same_best}
+use Rattle.pref_sky.proofs.IdOrder.{among_in_order}
+use Rattle.pref_sky.proofs.SortedLevels.{beaten_by_more, best_apart, best_of_same, best_without, different_by_count, left_without, without_of_same, best_with_top, without_with_top}
+use Rattle.pref_sky.proofs.ItemsLaws.{best_are, others_are}
 use Rattle.pref_sky.proofs.LevelLaws.{held_differ}
-use Rattle.pref_sky.proofs.LevelMerge.{best_with_top, without_with_top}
-use Rattle.pref_sky.proofs.RankedLevels.{count_joined, count_level, level_differs, one_level}
-use Rattle.pref_sky.proofs.Ranks.{held_there, held_upto, levels_upto_is, same_upto, within_if_same}
+use Rattle.pref_sky.proofs.Ranks.{count_behind, count_held, held_there, held_upto, level_differs, levels_upto_is, same_upto, within_if_same}
 
 -- the levels of a list up to a cut are held
 pub record Holds (over : Entry → Entry → Bool) (all : List Entry) (cut : ℕ) (held : List (List Entry)) : Type 0 where
@@ -71,7 +69,7 @@ AreBehind over held n later = (e : Entry) → Among e later → (start : ℕ) ×
 pub record Merging (over : Entry → Entry → Bool) (before coming : List Entry) (cut n : ℕ) (made : List (List Entry)) (down later : List Entry) : Type 0 where
   pub upto : n ≤ cut
   pub decided : (k : ℕ) → k < n → SameMembers (held_at k made) (best over (rest over (before ++ coming) k))
-  pub left : SameMembers (rest over (before ++ coming) n) ((down ++ later) ++ rest over before n)
+  pub left : SameMembers (rest over (before ++ coming) n) (rest over before n ++ (down ++ later))
 
 -- what comes is behind the first levels
 module _ (over : Entry → Entry → Bool) (strict : IsStrictOrder over) (before coming : List Entry) (cut first : ℕ) (old : List (List Entry)) (holds : Holds over before cut old) (starts : AreBehind over old first coming) where
@@ -94,50 +92,25 @@ module _ (over : Entry → Entry → Bool) (strict : IsStrictOrder over) (before
       let all = before ++ coming in
       let mine : SameMembers (held_at k old) (best over (rest over before k)) = record { there = λ x m. (holds.there k x m).1; back = λ x m. holds.back k x below m } in
       let same = same_best over strict before all first first_holds k (omega arith) in
-      same_then (held_at k old) (best over (rest over before k)) (best over (rest over all k)) mine
+      same_then mine
       (subst (λ l. SameMembers l (best over (rest over all k))) (sym (best_of_rest_is over before k)) (subst (SameMembers (filter (is_at over before k) before)) (sym (best_of_rest_is over all k)) same))
 
   merging_begins : (some : Entry) → Among some coming → Merging over before coming cut first (take first old) [] coming
   merging_begins some among =
       let all = before ++ coming in
       let chains = same_chains over strict before all first first_holds.within first_holds.kept first in
+      let chain = comes_after over all first in
       let s = starts some among in
       let reach = (behind_chain over strict before cut old holds s.0 some s.2).0 in
       record {
         upto = omega (arith, s.1, reach);
         decided = λ k front. subst (λ l. SameMembers l (best over (rest over all k))) (sym (held_taken first k old front)) (front_stays k front (omega (arith, front, s.1, reach)));
-        left = record {
-          there = λ x m.
-              let w = from_filter (comes_after over all first) all x (subst (Among x) (rest_is over all first) m) in
-              elim (in_either before coming x w.0) [
-                | inl is ↦
-                    in_right coming (rest over before first) x (subst (Among x) (sym (rest_is over before first)) (in_filter (comes_after over before first) before x is (chains x (omega arith) ∙ w.1)))
-                | inr new ↦ in_left coming (rest over before first) x new
-              ];
-          back = λ x m.
-              subst (Among x) (sym (rest_is over all first))
-              (elim (in_either coming (rest over before first) x m) [
-                | inl new ↦ in_filter (comes_after over all first) all x (in_right before coming x new) (sym (chains x (omega arith)) ∙ late x new)
-                | inr is ↦
-                    let w = from_filter (comes_after over before first) before x (subst (Among x) (rest_is over before first) is) in
-                    in_filter (comes_after over all first) all x (in_left before coming x w.0) (sym (chains x (omega arith)) ∙ w.1)
-              ]);
-        };
+        left = same_list
+            (rest_is over all first
+            ∙ (filter-append chain before coming
+            ∙ (ap (λ l. l ++ filter chain coming) (filter_agree chain (comes_after over before first) (λ x. sym (chains x (omega arith))) before ∙ sym (rest_is over before first))
+            ∙ ap (λ l. rest over before first ++ l) (all_pass chain coming (λ x m. sym (chains x (omega arith)) ∙ late x m)))));
       }
-
--- of three lists the second comes first
-second_first : (xs ys zs : List Entry) → SameMembers ((xs ++ ys) ++ zs) (ys ++ (xs ++ zs))
-second_first xs ys zs =
-    record {
-      there = λ e m. elim (in_either (xs ++ ys) zs e m) [
-        | inl front ↦ elim (in_either xs ys e front) [ inl x ↦ in_right ys (xs ++ zs) e (in_left xs zs e x) | inr y ↦ in_left ys (xs ++ zs) e y ]
-        | inr z ↦ in_right ys (xs ++ zs) e (in_right xs zs e z)
-      ];
-      back = λ e m. elim (in_either ys (xs ++ zs) e m) [
-        | inl y ↦ in_left (xs ++ ys) zs e (in_right xs ys e y)
-        | inr behind ↦ elim (in_either xs zs e behind) [ inl x ↦ in_left (xs ++ ys) zs e (in_left xs ys e x) | inr z ↦ in_right (xs ++ ys) zs e z ]
-      ];
-    }
 
 -- one level more is told
 merging_more : (over : Entry → Entry → Bool) → IsStrictOrder over → (before coming : List Entry) (cut n : ℕ) (old made : List (List Entry)) (down here later top others : List Entry) → n < cut → length made ≡ n → Holds over before cut old
@@ -148,21 +121,20 @@ merging_more over strict before coming cut n old made down here later top others
     let left = rest over before n in
     let held = held_at n old in
     let now = down ++ here in
-    let both = now ++ left in
+    let both = left ++ now in
     let apart : IsAntichain over held = λ x y mx my. best_apart over left x y (among_in_order (best over left) x (holds.there n x mx).1) (among_in_order (best over left) y (holds.there n y my).1) in
     let held_best : SameMembers held (best over left) = record { there = λ x among. (holds.there n x among).1; back = λ x among. holds.back n x below among } in
     let lower : (x : Entry) → Among x later → is_beaten over both x ≡ true =
     λ x among.
     let s = starts x among in
     let chain = (behind_chain over strict before cut old holds s.0 x s.2).1 in
-    beaten_by_more over left both x (in_right now left) (beaten_by_rest over before n x ∙ comes_after_upto over before (suc n) s.0 x s.1 chain) in
-    let whole : SameMembers (rest over all n) (later ++ both) =
-    same_then (rest over all n) ((now ++ later) ++ left) (later ++ both) (subst (λ l. SameMembers (rest over all n) (l ++ left)) (sym (append_assoc down here later)) m.left) (second_first now later left) in
+    beaten_by_more over left both x (in_left left now) (beaten_by_rest over before n x ∙ comes_after_upto over before (suc n) s.0 x s.1 chain) in
+    let whole : SameMembers (rest over all n) (both ++ later) =
+    subst (SameMembers (rest over all n)) (sym (append_assoc left now later ∙ ap (λ l. left ++ l) (append_assoc down here later))) m.left in
     let told_here : SameMembers top (best over (rest over all n)) =
-    same_then top (best over (held ++ now)) (best over (rest over all n)) (best_are over held now top others parted apart)
-    (same_then (best over (held ++ now)) (best over both) (best over (rest over all n)) (best_with_top over strict now left held held_best)
-    (same_then (best over both) (best over (later ++ both)) (best over (rest over all n)) (same_sym (best over (later ++ both)) (best over both) (best_without over strict later both lower))
-    (same_sym (best over (rest over all n)) (best over (later ++ both)) (best_of_same over (rest over all n) (later ++ both) whole)))) in
+    same_then (best_are over held now top others parted apart)
+    (same_then (best_with_top over strict left now held held_best)
+    (same_sym (subst (SameMembers (best over (rest over all n))) (best_without over strict both later lower) (best_of_same over (rest over all n) (both ++ later) whole)))) in
     let lost = without_best over left in
     record {
       upto = omega (arith, below);
@@ -175,13 +147,10 @@ merging_more over strict before coming cut n old made down here later top others
             subst (λ j. SameMembers (held_at j (made ++ top ∷ [])) (best over (rest over all j))) same (subst (λ l. SameMembers l (best over (rest over all n))) (sym at) told_here)
       ];
       left =
-          same_then (without_best over (rest over all n)) (later ++ without_best over both) ((others ++ later) ++ lost)
-          (same_then (without_best over (rest over all n)) (without_best over (later ++ both)) (later ++ without_best over both) (without_of_same over (rest over all n) (later ++ both) whole) (left_without over strict later both lower))
-          (same_then (later ++ without_best over both) (later ++ (others ++ lost)) ((others ++ later) ++ lost)
-          (same_behind later (without_best over both) (others ++ lost)
-          (same_then (without_best over both) (without_best over (held ++ now) ++ lost) (others ++ lost) (without_with_top over strict now left held held_best)
-          (same_beside (without_best over (held ++ now)) others lost (same_sym others (without_best over (held ++ now)) (others_are over held now top others parted apart)))))
-          (same_sym ((others ++ later) ++ lost) (later ++ (others ++ lost)) (second_first others later lost)));
+          subst (SameMembers (without_best over (rest over all n))) (append_assoc lost others later)
+          (same_then (subst (SameMembers (without_best over (rest over all n))) (left_without over strict both later lower) (without_of_same over (rest over all n) (both ++ later) whole))
+          (same_beside (without_best over both) (lost ++ others) later
+          (same_then (without_with_top over strict left now held held_best) (same_behind lost (without_best over (held ++ now)) others (same_sym (others_are over held now top others parted apart))))));
     }
 
 -- where nothing comes, what is left stays the same
@@ -208,9 +177,10 @@ module _ (over : Entry → Entry → Bool) (strict : IsStrictOrder over) (before
         | inl done ↦ absurd (omega (arith, past, below, done))
         | inr none ↦
             let all = before ++ coming in
-            let same : SameMembers (rest over all n) (rest over before n) = subst (λ l. SameMembers (rest over all n) (l ++ rest over before n)) (ap (λ l. l ++ later) none.0 ∙ none.1) m.left in
-            same_then (held_at k old) (best over (rest over before k)) (best over (rest over all k)) (record { there = λ x among. (holds.there k x among).1; back = λ x among. holds.back k x below among })
-            (same_sym (best over (rest over all k)) (best over (rest over before k)) (best_of_same over (rest over all k) (rest over before k) (rest_stays over all before n k past same)))
+            let same : SameMembers (rest over all n) (rest over before n) =
+            subst (SameMembers (rest over all n)) (ap (λ l. rest over before n ++ l) (ap (λ l. l ++ later) none.0 ∙ none.1) ∙ append-nil (rest over before n)) m.left in
+            same_then (record { there = λ x among. (holds.there k x among).1; back = λ x among. holds.back k x below among })
+            (same_sym (best_of_same over (rest over all k) (rest over before k) (rest_stays over all before n k past same)))
       ]
 
   new_level : (k : ℕ) → k < cut → SameMembers (held_at k (made ++ drop n old)) (best over (rest over (before ++ coming) k))
@@ -230,18 +200,6 @@ module _ (over : Entry → Entry → Bool) (strict : IsStrictOrder over) (before
         ];
         back = λ k e below. (new_level k below).back e;
       }
-
--- how many of a kind levels hold
-count_held : (p : Entry → Bool) (k : ℕ) (held : List (List Entry)) → count_by p (map entry_of (ranked_from k held)) ≡ sum_by (count_by p) held
-count_held p k [] = refl
-count_held p k (level ∷ behind) =
-    omega (arith, count_joined p (one_level k level) (ranked_from (suc k) behind), count_level p k level, count_held p (suc k) behind, sum_by-cons (count_by p) level behind)
-
-count_behind : (p : Entry → Bool) (n : ℕ) (held : List (List Entry)) → sum_by (count_by p) (drop n held) ≡ count_by p (held_at n held) + sum_by (count_by p) (drop (suc n) held)
-count_behind p zero [] = refl
-count_behind p zero (level ∷ behind) = sum_by-cons (count_by p) level behind
-count_behind p (suc n) [] = refl
-count_behind p (suc n) (level ∷ behind) = count_behind p n behind
 
 -- levels up to the n-th are there, where `down` came down to it, and `later` starts there or behind it
 pub record Making (over : Entry → Entry → Bool) (cut n : ℕ) (old made : List (List Entry)) (coming down later : List Entry) : Type 0 where
@@ -266,16 +224,7 @@ making_more over strict cut n old made coming down here later top others below s
     record {
       long = omega (arith, long, length-append made (top ∷ []));
       counts = λ p.
-          omega (
-            arith,
-            making.counts p,
-            parted.bag p,
-            sum_by-append (λ (e : Entry). cond (p e) 1 0) (held_at n old) (down ++ here),
-            sum_by-append (λ (e : Entry). cond (p e) 1 0) down here,
-            count_behind p n old,
-            sum_by-append (λ (e : Entry). cond (p e) 1 0) here later,
-            sum_by_push (count_by p) made top,
-          );
+          omega (arith, making.counts p, parted.bag p, count_append p (held_at n old) (down ++ here), count_append p down here, count_behind p n old, count_append p here later, sum_by_push (count_by p) made top);
       merging = λ before holds. merging_more over strict before coming cut n old made down here later top others below long holds starts parted (making.merging before holds);
     }
 

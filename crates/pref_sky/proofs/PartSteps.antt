@@ -1,12 +1,61 @@
--- The levels of parts are made anew, part by part, and put into the parts.
-use Rattle.pref_sky.proofs.Common.{◌≡◌, ℕ, ◌<◌, Bool, inl, inr, List, [], ◌∷◌, ◌++◌, length, take, drop, filter, set, ltb, eqb, sym, ◌∙◌, ap, subst, arith, refl, All, eqb-true, false_from_ne_true}
-use Rattle.pref_sky.proofs.Common.{lt-ltb, ltb-true, length-set, take-append-drop, All-drop, All-push, filter-append, Arrival, Entry, Made, AreComing, StartsAt, coming_to, levels_at, items_at}
-use Rattle.pref_sky.proofs.Common.{AreInOrderOfPart, AreLevelsMade, ArePut, IsPartMade, LeaveAlone, new_levels, replaced, Among}
-use Rattle.pref_sky.proofs.AtLeastLaws.{none_pass}
-use Rattle.pref_sky.proofs.MembersLaws.{all_among, among_all, in_left, in_right, in_either, from_filter}
-use Rattle.pref_sky.proofs.MergedLists.{in_order_across, in_order_joined}
-use Rattle.pref_sky.proofs.PartArrivals.{coming_are, dealt_behind}
-use Rattle.pref_sky.proofs.PartItems.{Levels, Part, in_set_here, in_set_other}
+-- The levels of parts are made anew, part by part, of the arrivals that come to each, and put into the parts.
+use Rattle.pref_sky.proofs.Common.{◌≡◌, ℕ, ◌≤◌, ◌<◌, ◌+◌, Bool, false, nat_tests, deals_before, eqb, eq-eqb, inl, inr, List, ◌++◌, length, get_or, take, drop, filter, sym, ◌∙◌, ap, subst, arith}
+use Rattle.pref_sky.proofs.Common.{length-take, length-drop, get_or-drop, All, IsNonDecreasingBy, eqb-true, false_from_ne_true, get_or-take, get_or_default, take-append-drop, filter-append}
+use Rattle.pref_sky.proofs.Common.{IsNonDecreasingBy-from_all_adjacent, Arrival, AreDealt, AreInOrderOfStart, coming_to, Among, [], ◌∷◌, set, ltb, refl, lt-ltb, ltb-true, length-set, All-drop}
+use Rattle.pref_sky.proofs.Common.{All-push, Entry, Made, AreComing, StartsAt, levels_at, items_at, AreInOrderOfPart, AreLevelsMade, ArePut, IsPartMade, LeaveAlone, new_levels, replaced}
+use Rattle.pref_sky.proofs.ListLaws.{all_among, filter_parted, from_filter, none_pass, among_all, in_left, in_right, in_either, in_order_across, in_order_joined}
+use Rattle.pref_sky.proofs.PoolLaws.{Levels, Part, in_set_here, in_set_other}
+
+-- the parts do not fall, nor do the starts within one
+parts_stay : (a b : Arrival) → deals_before b a ≡ false → a.part ≤ b.part
+parts_stay a b before = grind (arith, nat_tests, before)
+
+starts_stay : (a b : Arrival) → deals_before b a ≡ false → b.part ≡ a.part → a.start ≤ b.start
+starts_stay a b before same = grind (arith, nat_tests, before, same)
+
+pub dealt_by_part : (arrivals : List Arrival) → AreDealt arrivals → IsNonDecreasingBy (λ (a : Arrival). a.part) arrivals
+dealt_by_part arrivals dealt =
+    IsNonDecreasingBy-from_all_adjacent (λ (a : Arrival). a.part) arrivals (λ k d inside. parts_stay (get_or arrivals k d) (get_or arrivals (k + 1) d) (dealt k d (omega arith) inside))
+
+-- the first is of the first part
+pub first_part : (arrivals : List Arrival) (d : Arrival) → AreDealt arrivals → All (λ a. (get_or arrivals 0 d).part ≤ a.part) arrivals
+first_part arrivals d dealt k e inside =
+    let begins : 0 < length arrivals = omega (arith, inside) in
+    omega (arith, dealt_by_part arrivals dealt 0 k e (omega arith) inside, ap (λ (a : Arrival). a.part) (get_or_default arrivals 0 d e begins))
+
+pub dealt_behind : (arrivals : List Arrival) (n : ℕ) → AreDealt arrivals → AreDealt (drop n arrivals)
+dealt_behind arrivals n dealt k d from inside =
+    let there : (n + k) + 1 < length arrivals = omega (arith, inside, length-drop n arrivals) in
+    let next : n + (k + 1) ≡ (n + k) + 1 = omega arith in
+    ap (λ a. deals_before a (get_or (drop n arrivals) k d)) (get_or-drop n arrivals (k + 1) d ∙ ap (λ j. get_or arrivals j d) next)
+    ∙ (ap (deals_before (get_or arrivals ((n + k) + 1) d)) (get_or-drop n arrivals k d) ∙ dealt (n + k) d (omega arith) there)
+
+-- in order of start within one part
+pub by_start : (part : ℕ) (arrivals : List Arrival) (n : ℕ) → AreDealt arrivals → All (λ a. a.part ≡ part) (take n arrivals) → AreInOrderOfStart (take n arrivals)
+by_start part arrivals n dealt here =
+    IsNonDecreasingBy-from_all_adjacent (λ (a : Arrival). a.start) (take n arrivals)
+    (λ k d inside.
+    let short : k + 1 < n = omega (arith, inside, length-take n arrivals) in
+    let there : k + 1 < length arrivals = omega (arith, inside, length-take n arrivals) in
+    let next = get_or arrivals (k + 1) d in
+    let this = get_or arrivals k d in
+    let next_is : get_or (take n arrivals) (k + 1) d ≡ next = get_or-take n arrivals (k + 1) d short in
+    let this_is : get_or (take n arrivals) k d ≡ this = get_or-take n arrivals k d (omega (arith, short)) in
+    let same : next.part ≡ this.part =
+    omega (arith, ap (λ (a : Arrival). a.part) next_is, ap (λ (a : Arrival). a.part) this_is, here (k + 1) d inside, here k d (omega (arith, inside))) in
+    let stays : this.start ≤ next.start = starts_stay this next (dealt k d (omega arith) there) same in
+    omega (arith, ap (λ (a : Arrival). a.start) next_is, ap (λ (a : Arrival). a.start) this_is, stays))
+
+-- those of the first part are in front
+pub coming_in_front : (part : ℕ) (arrivals : List Arrival) (n : ℕ) → All (λ a. a.part ≡ part) (take n arrivals) → All (λ a. part < a.part) (drop n arrivals) → take n arrivals ≡ coming_to part arrivals
+coming_in_front part arrivals n here behind =
+    let mine : Arrival → Bool = λ a. eqb a.part part in
+    sym (filter_parted mine arrivals n (λ a m. eq-eqb a.part part (all_among (λ (b : Arrival). b.part ≡ part) (take n arrivals) here a m))
+    (λ a m. false_from_ne_true (mine a) (λ same. omega (arith, eqb-true a.part part same, all_among (λ (b : Arrival). part < b.part) (drop n arrivals) behind a m))))
+
+-- those that come to a part are of it
+pub coming_are : (part : ℕ) (arrivals : List Arrival) (a : Arrival) → Among a (coming_to part arrivals) → a.part ≡ part
+coming_are part arrivals a m = eqb-true a.part part (from_filter (λ (b : Arrival). eqb b.part part) arrivals a m).1
 
 -- what leaves a part alone does so without its last
 alone_before : (done : List Made) (made : Made) (part : ℕ) → LeaveAlone (done ++ made ∷ []) part → LeaveAlone done part

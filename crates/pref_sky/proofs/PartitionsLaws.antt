@@ -1,19 +1,15 @@
 -- Entries in parts: where an order compares within parts alone, each part holds the levels of its own entries.
 use Rattle.pref_sky.proofs.Common.{◌≡◌, ℕ, zero, suc, ◌≤◌, ◌<◌, ◌+◌, ◌^◌, ◌/◌, Bool, true, false, cond, not, ◌&&◌, ltb, inl, inr, List, ℤ, [], ◌∷◌, ◌++◌, length, map, refl, sym, ◌∙◌, ap, subst, arith}
-use Rattle.pref_sky.proofs.Common.{filter, eqb, eq-eqb, max, count_by, cases_Bool, cases_lt, eqb-true, not_from_false, and_parts, or_cases, Decides-int_eq, nat_tests, filter_agree, sum_by-append}
-use Rattle.pref_sky.proofs.Common.{length-filter, cell, in_same_group, RowOrder, StaysWithin, hash_with, Entry, best, is_beaten, rest, without_best, HaveDifferentIds, at_level, entry_of, entry_order}
-use Rattle.pref_sky.proofs.Common.{levels, held_at, ranked_from, ArePartitionedBy, all_at, depth, is_in, mixed_onto, partition_of, partitions_by, ranked_parts, ranked_upto, Among}
+use Rattle.pref_sky.proofs.Common.{filter, eqb, eq-eqb, max, count_by, cases_Bool, eqb-true, not_from_false, and_parts, or_cases, Decides-int_eq, nat_tests, filter_agree, length-filter, cell}
+use Rattle.pref_sky.proofs.Common.{in_same_group, RowOrder, StaysWithin, hash_with, Entry, best, is_beaten, rest, without_best, HaveDifferentIds, at_level, entry_of, entry_order, levels, held_at}
+use Rattle.pref_sky.proofs.Common.{ranked_from, ArePartitionedBy, all_at, depth, is_in, mixed_onto, partition_of, partitions_by, ranked_parts, ranked_upto, Among, take_all}
 use Rattle.std.proofs.Math.Bool.{and_comm}
 use Rattle.std.proofs.Math.Nat.{le-max_left, le-max_right, max-le}
-use Rattle.pref_sky.proofs.MembersLaws.{any_from, any_gives, in_filter, from_filter, in_left, in_right, in_either, from_map, in_map}
-use Rattle.pref_sky.proofs.IdOrder.{one_passes}
-use Rattle.pref_sky.proofs.Removals.{filter_filter, same_answer}
+use Rattle.pref_sky.proofs.ListLaws.{any_from, any_gives, in_filter, from_filter, in_left, in_right, in_either, from_map, in_map, filter_agree_among, none_pass, one_passes, filter_filter, same_answer}
+use Rattle.pref_sky.proofs.ListLaws.{count_both, count_and, count_filtered, count_append}
 use Rattle.pref_sky.proofs.Merges.{different_best, different_filter}
-use Rattle.pref_sky.proofs.AtLeastLaws.{filter_agree_among, none_pass}
-use Rattle.pref_sky.proofs.HeldLevels.{beaten_by_more, different_by_count}
-use Rattle.pref_sky.proofs.LevelLaws.{count_both, count_and, count_filtered}
-use Rattle.pref_sky.proofs.RankedLevels.{count_joined, count_level, level_differs, count_parts, one_level}
-use Rattle.pref_sky.proofs.Ranks.{held_there, held_upto, levels_upto_is, same_upto, to_upto, within_if_same}
+use Rattle.pref_sky.proofs.SortedLevels.{beaten_by_more, different_by_count}
+use Rattle.pref_sky.proofs.Ranks.{count_at, count_joined, count_level, held_there, held_upto, level_differs, levels_upto_is, one_level, same_upto, take_upto, to_upto, within_if_same}
 
 -- an entry is over entries of its own part alone
 abbrev pub IsWithin : (Entry → Entry → Bool) → (Entry → ℕ) → Type 0
@@ -91,55 +87,25 @@ abbrev pub total : (Entry → Bool) → List (List (List Entry)) → ℕ
 total p [] = 0
 total p (part ∷ others) = count_by p (map entry_of (ranked_from 1 part)) + total p others
 
-abbrev sum_upto : (ℕ → ℕ) → ℕ → ℕ
-sum_upto f zero = 0
-sum_upto f (suc n) = sum_upto f n + f n
+count_beside : (p : Entry → Bool) (f g : ℕ → List Entry) (n : ℕ)
+    → count_by p (map entry_of (ranked_upto (λ k. f k ++ g k) n)) ≡ count_by p (map entry_of (ranked_upto f n)) + count_by p (map entry_of (ranked_upto g n))
+count_beside p f g zero = refl
+count_beside p f g (suc n) =
+    let level : (h : ℕ → List Entry) → count_by p (map entry_of (ranked_upto h (suc n))) ≡ count_by p (map entry_of (ranked_upto h n)) + count_by p (h n) =
+    λ h. omega (arith, count_joined p (ranked_upto h n) (one_level (suc n) (h n)), count_level p (suc n) (h n)) in
+    omega (arith, count_beside p f g n, level (λ k. f k ++ g k), level f, level g, count_append p (f n) (g n))
 
-sum_same : (f g : ℕ → ℕ) → ((k : ℕ) → f k ≡ g k) → (n : ℕ) → sum_upto f n ≡ sum_upto g n
-sum_same f g same zero = refl
-sum_same f g same (suc n) = omega (arith, same n, sum_same f g same n)
-
-sum_beside : (f g : ℕ → ℕ) (n : ℕ) → sum_upto (λ k. f k + g k) n ≡ sum_upto f n + sum_upto g n
-sum_beside f g zero = refl
-sum_beside f g (suc n) = omega (arith, sum_beside f g n)
-
-sum_past : (f : ℕ → ℕ) (n m : ℕ) → ((k : ℕ) → n ≤ k → f k ≡ 0) → n ≤ m → sum_upto f m ≡ sum_upto f n
-sum_past f n zero none le = let same : 0 ≡ n = omega (arith, le) in ap (sum_upto f) same
-sum_past f n (suc m) none le =
-    elim (cases_lt m n) [
-      | inl last ↦ let same : suc m ≡ n = omega (arith, le, last) in ap (sum_upto f) same
-      | inr past ↦ omega (arith, sum_past f n m none past, none m past)
-    ]
-
-count_upto : (p : Entry → Bool) (level : ℕ → List Entry) (n : ℕ) → count_by p (map entry_of (ranked_upto level n)) ≡ sum_upto (λ k. count_by p (level k)) n
-count_upto p level zero = refl
-count_upto p level (suc n) = omega (arith, count_upto p level n, count_joined p (ranked_upto level n) (one_level (suc n) (level n)), count_level p (suc n) (level n))
-
-held_past : (p : Entry → Bool) (held : List (List Entry)) (k : ℕ) → length held ≤ k → count_by p (held_at k held) ≡ 0
-held_past p [] k le = refl
-held_past p (level ∷ behind) zero le = absurd (omega (arith, le))
-held_past p (level ∷ behind) (suc k) le = held_past p behind k (omega (arith, le))
-
-sum_of_all : (p : Entry → Bool) (parts : List (List (List Entry))) (n : ℕ) → depth parts ≤ n → sum_upto (λ k. count_by p (all_at parts k)) n ≡ total p parts
-sum_of_all p [] n le = sum_past (λ k. count_by p (all_at [] k)) 0 n (λ k above. refl) (omega arith)
-sum_of_all p (part ∷ others) n le =
-    let held = part in
-    let here : ℕ → ℕ = λ k. count_by p (held_at k held) in
-    let there : ℕ → ℕ = λ k. count_by p (all_at others k) in
-    let mine : length held ≤ n = omega (arith, le, le-max_left (length held) (depth others)) in
-    let theirs : depth others ≤ n = omega (arith, le, le-max_right (length held) (depth others)) in
-    omega (
-      arith,
-      sum_same (λ k. count_by p (all_at (part ∷ others) k)) (λ k. here k + there k) (λ k. sum_by-append (λ (e : Entry). cond (p e) 1 0) (held_at k held) (all_at others k)) n,
-      sum_beside here there n,
-      sum_past here (length held) n (held_past p held) mine,
-      count_upto p (λ k. held_at k held) (length held),
-      ap (λ l. count_by p (map entry_of l)) (held_upto held),
-      sum_of_all p others n theirs,
-    )
+count_levels : (p : Entry → Bool) (parts : List (List (List Entry))) (n : ℕ) → depth parts ≤ n → count_by p (map entry_of (ranked_upto (all_at parts) n)) ≡ total p parts
+count_levels p [] zero le = refl
+count_levels p [] (suc n) le = omega (arith, count_levels p [] n (omega arith), count_joined p (ranked_upto (all_at []) n) [])
+count_levels p (part ∷ others) n le =
+    let mine : length part ≤ n = omega (arith, le, le-max_left (length part) (depth others)) in
+    let theirs : depth others ≤ n = omega (arith, le, le-max_right (length part) (depth others)) in
+    let whole : ranked_upto (λ k. held_at k part) n ≡ ranked_from 1 part = sym (take_upto part n) ∙ ap (ranked_from 1) (take_all n part mine) in
+    omega (arith, count_beside p (λ k. held_at k part) (all_at others) n, ap (λ l. count_by p (map entry_of l)) whole, count_levels p others n theirs)
 
 pub count_all : (p : Entry → Bool) (parts : List (List (List Entry))) → count_by p (map entry_of (ranked_parts parts)) ≡ total p parts
-count_all p parts = count_upto p (all_at parts) (depth parts) ∙ sum_of_all p parts (depth parts) (omega arith)
+count_all p parts = count_levels p parts (depth parts) (omega arith)
 
 count_part : (p : Entry → Bool) (parts : List (List (List Entry))) (part : ℕ) → count_by p (map entry_of (ranked_from 1 (held_at part parts))) ≤ total p parts
 count_part p [] part = omega arith
@@ -149,8 +115,7 @@ count_part p (first ∷ others) (suc part) = omega (arith, count_part p others p
 count_level_of_all : (p : Entry → Bool) (parts : List (List (List Entry))) (k : ℕ) → count_by p (all_at parts k) ≤ total p parts
 count_level_of_all p [] k = omega arith
 count_level_of_all p (part ∷ others) k =
-    let held = part in
-    omega (arith, count_level_of_all p others k, sum_by-append (λ (e : Entry). cond (p e) 1 0) (held_at k held) (all_at others k), count_parts p k held)
+    omega (arith, count_level_of_all p others k, count_append p (held_at k part) (all_at others k), count_at p k part)
 
 pub part_differs : (parts : List (List (List Entry))) → HaveDifferentIds (map entry_of (ranked_parts parts)) → (part : ℕ) → HaveDifferentIds (map entry_of (ranked_from 1 (held_at part parts)))
 part_differs parts different part = record { once = λ id. omega (arith, different.once id, count_all (λ e. eqb e.id id) parts, count_part (λ e. eqb e.id id) parts part) }
@@ -209,6 +174,10 @@ module _ (over : Entry → Entry → Bool) (number : Entry → ℕ) (within : Is
       (omega (arith, w.0, within_depth parts part), to_all parts part k e w.1))
       ∙ sym (levels_upto_is over all cut)
 
+abbrev sum_upto : (ℕ → ℕ) → ℕ → ℕ
+sum_upto f zero = 0
+sum_upto f (suc n) = sum_upto f n + f n
+
 sum_first : (f : ℕ → ℕ) (n : ℕ) → sum_upto f (suc n) ≡ f 0 + sum_upto (λ k. f (suc k)) n
 sum_first f zero = omega arith
 sum_first f (suc n) = omega (arith, sum_first f n)
@@ -260,10 +229,9 @@ parted_after number old new coming parted more part r m =
       | inl here ↦ eqb-true (number (entry_of r)) part here
       | inr elsewhere ↦
           let other : Entry → Bool = λ e. not (is_in number part e) in
-          let held = map entry_of (ranked_from 1 (held_at part old)) in
           let now = map entry_of (ranked_from 1 (held_at part new)) in
           let one = one_passes other now (entry_of r) (in_map entry_of (ranked_from 1 (held_at part new)) r m) (not_from_false (is_in number part (entry_of r)) elsewhere) in
-          let none_held = none_counted other held (λ x among.
+          let none_held = none_counted other (map entry_of (ranked_from 1 (held_at part old))) (λ x among.
           let w = from_map entry_of (ranked_from 1 (held_at part old)) x among in
           ap not (eq-eqb (number x) part (ap number w.2 ∙ parted part w.0 w.1))) in
           let none_came = none_counted other (filter (is_in number part) coming) (λ x among. ap not (from_filter (is_in number part) coming x among).1) in

@@ -1,13 +1,69 @@
 -- The steps of passes, and what they keep true: nothing is lost, each pass settles more, what goes to the rest is dominated, and what is early at the end of a pass is best.
-use Rattle.pref_sky.proofs.Common.{◌≡◌, ℕ, ◌<◌, ◌≤◌, ◌+◌, Bool, true, false, cond, ◌⊎◌, inl, inr, List, [], ◌∷◌, ◌++◌, length, refl, sym, ◌∙◌, ap, subst, arith, length-append, sum_by, both_ways}
-use Rattle.pref_sky.proofs.Common.{cases_lt, false_from_ne_true, sum_by-append, sum_by-cons, IsStrictOrder, Item, IsAntichain, is_beaten, IsClear, Parted, Passing, Sifted, Among}
-use Rattle.pref_sky.proofs.Bags.{among_if, among_or, is_item, long_by, none_by, some_of, sum_by-ones}
-use Rattle.pref_sky.proofs.MembersLaws.{any_from, any_gives, in_left, in_either}
-use Rattle.pref_sky.proofs.Removals.{unbeaten_over}
+use Rattle.pref_sky.proofs.Common.{◌≡◌, ℕ, ◌<◌, ◌≤◌, ◌+◌, Bool, true, false, ◌&&◌, inl, inr, List, [], ◌∷◌, ◌++◌, length, sym, ◌∙◌, ap, arith, append-nil, append_assoc, get_or, swap_remove}
+use Rattle.pref_sky.proofs.Common.{IsPermutation, and_right, cases_lt, sum_by-IsPermutation, sum_by-cons, sum_by-append, sum_by-swap_remove, RowOrder, StandAlike, is_within, Entry, Item, IsAntichain}
+use Rattle.pref_sky.proofs.Common.{is_word, item_order, place_order, IsClear, IsDecided, Sifted, Among, cond, ◌⊎◌, refl, subst, length-append, sum_by, both_ways, false_from_ne_true, IsStrictOrder}
+use Rattle.pref_sky.proofs.Common.{is_beaten, Parted, Passing, nil_from_length}
+use Rattle.std.specs.List.{AllWithin}
+use Rattle.pref_sky.proofs.ListLaws.{in_either, any_from, any_none, in_left, among_if, among_or, is_item, long_by, none_by, some_of, sum_by-ones, count_append}
+use Rattle.pref_sky.proofs.Merges.{unbeaten_over}
 
-none_of_empty : {E : Type 0} (xs : List E) (x : E) → length xs ≡ 0 → Among x xs → ⊥
-none_of_empty [] x empty m = absurd m
-none_of_empty (y ∷ ys) x empty m = absurd (omega (arith, empty))
+-- the first so many of a list are clear
+abbrev pub AreClear : {E : Type 0} → (E → E → Bool) → List E → E → ℕ → Type 0
+AreClear over xs e n = AllWithin (λ x. (over x e ≡ false) × (over e x ≡ false)) xs 0 n
+
+-- and of some of it the signatures tell
+abbrev pub AreDecided : List Item → Item → ℕ → ℕ → Type 0
+AreDecided xs e from to = (k : ℕ) (d : Item) → from ≤ k → k < to → IsDecided e.signature (get_or xs k d)
+
+-- nothing went out so far
+pub sifted_none : (over : Item → Item → Bool) (e : Item) (old rest : List Item) → Sifted over e old old rest rest
+sifted_none over e old rest = record { gone = []; behind = sym (append-nil rest); bag = λ f. omega arith; below = λ x m. absurd m }
+
+-- where one of a list that is apart stands as an item does, all of it is clear of the item
+pub clear_if_alike : {E : Type 0} (over : E → E → Bool) (xs : List E) (y e : E) → Among y xs → StandAlike over y e → IsAntichain over xs → IsClear over xs e
+clear_if_alike over xs y e here alike apart x m = (sym (alike.above x) ∙ apart x y m here, sym (alike.below x) ∙ apart y x here m)
+
+-- one more goes out, that the item dominates: the last one takes its place
+pub sifted_more : (over : Item → Item → Bool) (e : Item) (old held start rest : List Item) (i : ℕ) (x : Item) → i < length held → x ≡ get_or held i x → over e x ≡ true
+    → Sifted over e old held start rest → Sifted over e old (swap_remove held i x) start (rest ++ x ∷ [])
+sifted_more over e old held start rest i x inside is above s =
+    record {
+      gone = s.gone ++ x ∷ [];
+      behind = ap (λ l. l ++ x ∷ []) s.behind ∙ append_assoc start s.gone (x ∷ []);
+      bag = λ f. omega (arith, s.bag f, sum_by-swap_remove f held i x inside, ap f is, sum_by-append f s.gone (x ∷ []), sum_by-cons f x []);
+      below = λ y m. elim (in_either s.gone (x ∷ []) y m) [ inl a ↦ s.below y a | inr b ↦ elim b [ inl this ↦ ap (over e) this ∙ above | inr void ↦ absurd void ] ];
+    }
+
+-- what was asked place by place stays so where the last one is moved to a later place
+pub clear_after_move : {E : Type 0} (over : E → E → Bool) (xs ys : List E) (e : E) (n long : ℕ) → n < long
+    → ((k : ℕ) (d : E) → (k ≡ n → ⊥) → k + 1 < long → get_or ys k d ≡ get_or xs k d)
+    → AreClear over xs e n → AreClear over ys e n
+clear_after_move over xs ys e n long inside same each k d from below =
+    let is = same k d (λ at. omega (arith, below, at)) (omega (arith, below, inside)) in
+    let both = each k d from below in
+    (ap (λ y. over y e) is ∙ both.0, ap (over e) is ∙ both.1)
+
+-- two of the list change places
+pub sifted_moved : (over : Item → Item → Bool) (e : Item) (old held start rest moved : List Item) → IsPermutation held moved → Sifted over e old held start rest → Sifted over e old moved start rest
+sifted_moved over e old held start rest moved permuted s =
+    record { gone = s.gone; behind = s.behind; bag = λ f. omega (arith, s.bag f, sum_by-IsPermutation f held moved permuted); below = s.below }
+
+-- items of which the signatures tell are clear
+told_is_clear : (order : RowOrder) (pool : List Entry) (x e : Item) → IsDecided e.signature x → (item_order order pool x e ≡ false) × (item_order order pool e x ≡ false)
+told_is_clear order pool x e decided =
+    let below : Bool = place_order order pool x.place e.place in
+    let above : Bool = place_order order pool e.place x.place in (
+      and_right (is_word x) (is_word e && (is_within x.signature e.signature && below)) (and_right (is_word e) (is_within x.signature e.signature && below) (ap (λ w. w && below) decided.0)),
+      and_right (is_word e) (is_word x && (is_within e.signature x.signature && above)) (and_right (is_word x) (is_within e.signature x.signature && above) (ap (λ w. w && above) decided.1)),
+    )
+
+pub clear_upto : (order : RowOrder) (pool : List Entry) (xs : List Item) (e : Item) (from to : ℕ) → AreClear (item_order order pool) xs e from
+    → AreDecided xs e from to → AreClear (item_order order pool) xs e to
+clear_upto order pool xs e from to clear decided k d low within =
+    elim (cases_lt k from) [
+      | inl before ↦ clear k d low before
+      | inr behind ↦ told_is_clear order pool (get_or xs k d) e (decided k d behind within)
+    ]
 
 -- what is among a list with one more
 or_last : {E : Type 0} (xs : List E) (e x : E) → Among x (xs ++ e ∷ []) → Among x xs ⊎ (x ≡ e)
@@ -21,10 +77,6 @@ apart_with_one over strict e P apart clear x y mx my =
       | inl a ↦ elim my [ inl b ↦ apart x y a b | inr same ↦ ap (over x) same ∙ (clear x a).0 ]
       | inr same ↦ ap (λ v. over v y) same ∙ elim my [ inl b ↦ (clear y b).1 | inr too ↦ ap (over e) too ∙ strict.irreflexive e ]
     ]
-
--- none of a list dominates an item where no answer says so
-unbeaten_if : {E : Type 0} (over : E → E → Bool) (xs : List E) (e : E) → ((x : E) → Among x xs → over x e ≡ false) → is_beaten over xs e ≡ false
-unbeaten_if over xs e none = false_from_ne_true (is_beaten over xs e) (λ h. let w = any_gives (λ x. over x e) xs h in both_ways (over w.0 e) (none w.0 w.1) w.2)
 
 module _ (over : Item → Item → Bool) (held : List Item) (window : ℕ) (input best : List Item) (before : ℕ) where
   -- what the next item dominates went out of the window
@@ -48,16 +100,16 @@ module _ (over : Item → Item → Bool) (held : List Item) (window : ℕ) (inpu
             let there : Among e input = among_if e input (omega (arith, p.bag (is_item e), some_of e (e ∷ left) (inl refl))) in
             let of_early : (x : Item) → Among x early_now → Among x early = λ x m. among_if x early (omega (arith, s.bag (is_item x), some_of x early_now m)) in
             let of_late : (x : Item) → Among x late_now → Among x late = λ x m. among_if x late (omega (arith, t.bag (is_item x), some_of x late_now m)) in
-            let old : (x : Item) → Among x early_now ⊎ Among x late_now → Among x early ⊎ Among x late = λ x m. elim m [ inl a ↦ inl (of_early x a) | inr b ↦ inr (of_late x b) ] in
+            let old : (x : Item) → Among x best ⊎ (Among x early_now ⊎ Among x late_now) → Among x best ⊎ (Among x early ⊎ Among x late) =
+            λ x m. elim m [ inl done ↦ inl done | inr there ↦ inr (elim there [ inl a ↦ inl (of_early x a) | inr b ↦ inr (of_late x b) ]) ] in
             record {
               beaten = λ x m. elim (in_either more t.gone x (subst (Among x) t.behind m)) [
                 | inl a ↦ elim (in_either rest s.gone x (subst (Among x) s.behind a)) [ inl b ↦ decided.beaten x b | inr b ↦ any_from (λ y. over y x) input e there (s.below x b) ]
                 | inr a ↦ any_from (λ y. over y x) input e there (t.below x a)
               ];
-              unbeaten = decided.unbeaten;
-              clear = λ x z m w. decided.clear x z m (elim w [ inl v ↦ inl (old z v) | inr v ↦ inr v ]);
               apart = λ x y mx my. decided.apart x y (old x mx) (old y my);
-              settled = λ x z mx mz. decided.settled x z (of_early x mx) mz;
+              settled = λ x m. decided.settled x (elim m [ inl done ↦ inl done | inr a ↦ inr (of_early x a) ]);
+              met = decided.met;
             };
       }
 
@@ -80,10 +132,9 @@ module _ (over : Item → Item → Bool) (held : List Item) (window : ℕ) (inpu
             among_if w input (elim top.1 [ inl a ↦ omega (arith, p.bag (is_item w), some_of w early a) | inr b ↦ omega (arith, p.bag (is_item w), some_of w late b) ]) in
             record {
               beaten = λ x a. elim (or_last rest e x a) [ inl old ↦ decided.beaten x old | inr same ↦ any_from (λ y. over y x) input w holds (ap (over w) same ∙ top.2) ];
-              unbeaten = decided.unbeaten;
-              clear = λ x z m v. decided.clear x z m (elim v [ inl u ↦ inl u | inr u ↦ inr (elim u [ inl a ↦ inl a | inr a ↦ inr (inr a) ]) ]);
               apart = decided.apart;
               settled = decided.settled;
+              met = λ x m z later. decided.met x m z (inr later);
             };
       }
 
@@ -91,10 +142,9 @@ module _ (over : Item → Item → Bool) (held : List Item) (window : ℕ) (inpu
   pub pass_overflows : (left early late overflow rest : List Item) (e : Item) → (IsAntichain over held → IsClear over early e) → (length late ≡ 0 → window ≤ length early)
       → Passing over held window input best (e ∷ left) before early late overflow rest → Passing over held window input best left before early late (overflow ++ e ∷ []) rest
   pass_overflows left early late overflow rest e is_clear full p =
-      let long = length-append overflow (e ∷ []) in
       record {
         bag = λ f. omega (arith, p.bag f, sum_by-cons f e left, sum_by-append f overflow (e ∷ []), sum_by-cons f e []);
-        fresh = λ h. omega (arith, h, long);
+        fresh = λ h. omega (arith, h, (length-append overflow (e ∷ [])));
         more = p.more;
         fits = p.fits;
         falls = λ h. elim (cases_lt 0 (length overflow)) [ inl some ↦ p.falls some | inr none ↦ let early_some = full (p.fresh (omega (arith, none))) in omega (arith, early_some, p.more) ];
@@ -102,19 +152,13 @@ module _ (over : Item → Item → Bool) (held : List Item) (window : ℕ) (inpu
             let decided = p.decided apart in
             record {
               beaten = decided.beaten;
-              unbeaten = decided.unbeaten;
-              clear = λ x z m v. elim v [
-                | inl u ↦ decided.clear x z m (inl u)
-                | inr u ↦ elim u [
-                  | inl a ↦ elim (or_last overflow e z a) [ inl old ↦ decided.clear x z m (inr (inl old)) | inr same ↦ decided.clear x z m (inr (inr (inl same))) ]
-                  | inr a ↦ decided.clear x z m (inr (inr (inr a)))
-                ]
-              ];
               apart = decided.apart;
-              settled = λ x z mx mz. elim (or_last overflow e z mz) [
-                | inl old ↦ decided.settled x z mx old
-                | inr same ↦ let clear = is_clear apart x mx in (ap (over x) same ∙ clear.0, ap (λ v. over v x) same ∙ clear.1)
+              settled = λ x m z mz. elim (or_last overflow e z mz) [
+                | inl old ↦ decided.settled x m z old
+                | inr same ↦ subst (λ v. (over v x ≡ false) × (over x v ≡ false)) (sym same)
+                    (elim m [ inl done ↦ decided.met x done e (inl refl) | inr a ↦ let clear = is_clear apart x a in (clear.1, clear.0) ])
               ];
+              met = λ x m z later. decided.met x m z (inr later);
             };
       }
 
@@ -132,10 +176,13 @@ module _ (over : Item → Item → Bool) (held : List Item) (window : ℕ) (inpu
         | inl j ↦ omega (arith, ap length j.0, ap length j.1, length-append early (e ∷ []), room)
         | inr j ↦ omega (arith, ap length j.0, ap length j.1, length-append late (e ∷ []), room)
       ] in
-      let from : (x : Item) → Among x early_now ⊎ Among x late_now → (Among x early ⊎ Among x late) ⊎ (x ≡ e) =
-      λ x m. elim joined [
-        | inl j ↦ elim m [ inl a ↦ elim (or_last early e x (subst (Among x) j.0 a)) [ inl old ↦ inl (inl old) | inr same ↦ inr same ] | inr b ↦ inl (inr (subst (Among x) j.1 b)) ]
-        | inr j ↦ elim m [ inl a ↦ inl (inl (subst (Among x) j.0 a)) | inr b ↦ elim (or_last late e x (subst (Among x) j.1 b)) [ inl old ↦ inl (inr old) | inr same ↦ inr same ] ]
+      let from : (x : Item) → Among x best ⊎ (Among x early_now ⊎ Among x late_now) → (Among x best ⊎ (Among x early ⊎ Among x late)) ⊎ (x ≡ e) =
+      λ x m. elim m [
+        | inl done ↦ inl (inl done)
+        | inr there ↦ elim joined [
+          | inl j ↦ elim there [ inl a ↦ elim (or_last early e x (subst (Among x) j.0 a)) [ inl old ↦ inl (inr (inl old)) | inr same ↦ inr same ] | inr b ↦ inl (inr (inr (subst (Among x) j.1 b))) ]
+          | inr j ↦ elim there [ inl a ↦ inl (inr (inl (subst (Among x) j.0 a))) | inr b ↦ elim (or_last late e x (subst (Among x) j.1 b)) [ inl old ↦ inl (inr (inr old)) | inr same ↦ inr same ] ]
+        ]
       ] in
       record {
         bag = λ f. omega (arith, p.bag f, bag f, sum_by-cons f e left, sum_by-cons f e []);
@@ -146,26 +193,23 @@ module _ (over : Item → Item → Bool) (held : List Item) (window : ℕ) (inpu
         decided = λ apart.
             let decided = p.decided apart in
             let clear = is_clear apart in
-            let both : (x : Item) → Among x early ⊎ Among x late → (over x e ≡ false) × (over e x ≡ false) = λ x m. elim m [ inl a ↦ clear.0 x a | inr b ↦ clear.1 x b ] in
+            let both : (x : Item) → Among x best ⊎ (Among x early ⊎ Among x late) → (over x e ≡ false) × (over e x ≡ false) =
+            λ x m. elim m [ inl done ↦ let met = decided.met x done e (inl refl) in (met.1, met.0) | inr there ↦ elim there [ inl a ↦ clear.0 x a | inr b ↦ clear.1 x b ] ] in
             record {
               beaten = decided.beaten;
-              unbeaten = decided.unbeaten;
-              clear = λ x z m v. elim v [
-                | inl u ↦ elim (from z u) [ inl old ↦ decided.clear x z m (inl old) | inr same ↦ decided.clear x z m (inr (inr (inl same))) ]
-                | inr u ↦ elim u [ inl a ↦ decided.clear x z m (inr (inl a)) | inr a ↦ decided.clear x z m (inr (inr (inr a))) ]
+              apart = λ x y mx my. apart_with_one over strict e (λ z. Among z best ⊎ (Among z early ⊎ Among z late)) decided.apart both x y (from x mx) (from y my);
+              settled = λ x m z mz. elim joined [
+                | inl j ↦ let gone = subst (Among z) (nil_from_length overflow j.2) mz in (absurd gone, absurd gone)
+                | inr j ↦ decided.settled x (elim m [ inl done ↦ inl done | inr a ↦ inr (subst (Among x) j.0 a) ]) z mz
               ];
-              apart = λ x y mx my. apart_with_one over strict e (λ z. Among z early ⊎ Among z late) decided.apart both x y (from x mx) (from y my);
-              settled = λ x z mx mz. elim joined [
-                | inl j ↦ let gone = none_of_empty overflow z j.2 mz in (absurd gone, absurd gone)
-                | inr j ↦ decided.settled x z (subst (Among x) j.0 mx) mz
-              ];
+              met = λ x m z later. decided.met x m z (inr later);
             };
       }
 
   -- a pass ends: what is early is best
-  pub pass_ends : (early late overflow rest : List Item) → IsStrictOrder over → 0 < window → Passing over held window input best [] before early late overflow rest
+  pub pass_ends : (early late overflow rest : List Item) → 0 < window → Passing over held window input best [] before early late overflow rest
       → Passing over held window input (best ++ early) overflow (length rest) late [] [] rest
-  pass_ends early late overflow rest strict some p =
+  pass_ends early late overflow rest some p =
       record {
         bag = λ f. let b = p.bag f in omega (arith, b, sum_by-append f best early);
         fresh = λ h. refl;
@@ -174,39 +218,13 @@ module _ (over : Item → Item → Bool) (held : List Item) (window : ℕ) (inpu
         falls = λ h. omega (arith, h);
         decided = λ apart.
             let decided = p.decided apart in
-            let below : (x : Item) → Among x early → (y : Item) → Among y input → (Among y rest → over y x ≡ false) → over y x ≡ false =
-            λ x mx y my others. elim (among_or y best) [
-              | inl a ↦ decided.clear y x a (inl (inl mx))
-              | inr no_best ↦ elim (among_or y early) [
-                | inl a ↦ decided.apart y x (inl a) (inl mx)
-                | inr no_early ↦ elim (among_or y late) [
-                  | inl a ↦ decided.apart y x (inr a) (inl mx)
-                  | inr no_late ↦ elim (among_or y overflow) [
-                    | inl a ↦ (decided.settled x y mx a).1
-                    | inr no_overflow ↦ others (among_if y rest (let b = p.bag (is_item y) in omega (arith, b, some_of y input my, no_best, no_early, no_late, no_overflow)))
-                  ]
-                ]
-              ]
-            ] in
-            let unbeaten : (x y : Item) → Among x early → Among y input → over y x ≡ false =
-            λ x y mx my. below x mx y my (λ r. false_from_ne_true (over y x) (λ above.
-            let t = unbeaten_over over strict (λ _. true) input y (decided.beaten y r) in
-            both_ways (over t.0 x) (below x mx t.0 t.1 (λ beaten. absurd (both_ways (is_beaten over input t.0) t.4 (decided.beaten t.0 beaten)))) (strict.transitive t.0 y x t.3 above))) in
+            let old : (x : Item) → Among x (best ++ early) ⊎ (Among x late ⊎ ⊥) → Among x best ⊎ (Among x early ⊎ Among x late) =
+            λ x m. elim m [ inl done ↦ elim (in_either best early x done) [ inl a ↦ inl a | inr b ↦ inr (inl b) ] | inr there ↦ elim there [ inl b ↦ inr (inr b) | inr none ↦ absurd none ] ] in
             record {
               beaten = decided.beaten;
-              unbeaten = λ x y m my. elim (in_either best early x m) [ inl old ↦ decided.unbeaten x y old my | inr new ↦ unbeaten x y new my ];
-              clear = λ x z m v. elim (in_either best early x m) [
-                | inl old ↦ elim v [
-                  | inl u ↦ elim u [ inl a ↦ decided.clear x z old (inl (inr a)) | inr a ↦ absurd a ]
-                  | inr u ↦ elim u [ inl a ↦ absurd a | inr a ↦ decided.clear x z old (inr (inl a)) ]
-                ]
-                | inr new ↦ elim v [
-                  | inl u ↦ elim u [ inl a ↦ decided.apart x z (inl new) (inr a) | inr a ↦ absurd a ]
-                  | inr u ↦ elim u [ inl a ↦ absurd a | inr a ↦ (decided.settled x z new a).0 ]
-                ]
-              ];
-              apart = λ x y mx my. elim mx [ inl a ↦ elim my [ inl b ↦ decided.apart x y (inr a) (inr b) | inr b ↦ absurd b ] | inr a ↦ absurd a ];
-              settled = λ x z mx mz. absurd mz;
+              apart = λ x y mx my. decided.apart x y (old x mx) (old y my);
+              settled = λ x m z none. absurd none;
+              met = λ x m. decided.settled x (in_either best early x m);
             };
       }
 
@@ -227,6 +245,7 @@ module _ (over : Item → Item → Bool) (held : List Item) (window : ℕ) (inpu
 -- all passes begin with a window that holds some
 pub passes_begin : (over : Item → Item → Bool) (held : List Item) (window : ℕ) (items : List Item) → length held < window → Passing over held window (held ++ items) [] items (length held) held [] [] []
 passes_begin over held window items room =
+    let early_alone : (x : Item) → ⊥ ⊎ (Among x held ⊎ ⊥) → Among x held = λ x m. elim m [ inl none ↦ absurd none | inr there ↦ elim there [ inl a ↦ a | inr none ↦ absurd none ] ] in
     record {
       bag = λ f. omega (arith, sum_by-append f held items);
       fresh = λ h. refl;
@@ -235,44 +254,47 @@ passes_begin over held window items room =
       falls = λ h. omega (arith, h);
       decided = λ apart. record {
         beaten = λ x m. absurd m;
-        unbeaten = λ x y m my. absurd m;
-        clear = λ x z m v. absurd m;
-        apart = λ x y mx my. elim mx [ inl a ↦ elim my [ inl b ↦ apart x y a b | inr b ↦ absurd b ] | inr a ↦ absurd a ];
-        settled = λ x z mx mz. absurd mz;
+        apart = λ x y mx my. apart x y (early_alone x mx) (early_alone y my);
+        settled = λ x m z none. absurd none;
+        met = λ x none. absurd none;
       };
     }
 
 -- all passes end: the best are told, and the others are the rest
-pub passes_end : (over : Item → Item → Bool) (held : List Item) (window : ℕ) (items best left : List Item) (before : ℕ) (early late overflow rest : List Item) → length left ≡ 0 → length early ≡ 0 → length late ≡ 0 → length overflow ≡ 0
+pub passes_end : (over : Item → Item → Bool) → IsStrictOrder over → (held : List Item) (window : ℕ) (items best left : List Item) (before : ℕ) (early late overflow rest : List Item) → length left ≡ 0 → length early ≡ 0 → length late ≡ 0 → length overflow ≡ 0
     → Passing over held window (held ++ items) best left before early late overflow rest → Parted over held items best rest
-passes_end over held window items best left before early late overflow rest left_none early_none late_none overflow_none p =
+passes_end over strict held window items best left before early late overflow rest left_none early_none late_none overflow_none p =
     let bag : (f : Item → ℕ) → sum_by f best + sum_by f rest ≡ sum_by f (held ++ items) =
     λ f. omega (arith, p.bag f, none_by f left left_none, none_by f early early_none, none_by f late late_none, none_by f overflow overflow_none) in
+    let all = held ++ items in
+    let covers : (x : Item) → Among x all → Among x best ⊎ Among x rest =
+    λ x m. elim (among_or x best) [ inl a ↦ inl a | inr none ↦ inr (among_if x rest (omega (arith, bag (is_item x), some_of x all m, none))) ] in
     record {
-      within = λ x m. among_if x (held ++ items) (elim m [ inl a ↦ omega (arith, bag (is_item x), some_of x best a) | inr b ↦ omega (arith, bag (is_item x), some_of x rest b) ]);
-      covers = λ x m. elim (among_or x best) [ inl a ↦ inl a | inr none ↦ inr (among_if x rest (omega (arith, bag (is_item x), some_of x (held ++ items) m, none))) ];
+      within = λ x m. among_if x all (elim m [ inl a ↦ omega (arith, bag (is_item x), some_of x best a) | inr b ↦ omega (arith, bag (is_item x), some_of x rest b) ]);
+      covers = covers;
       bag = λ q. bag (λ y. cond (q y) 1 0);
-      unbeaten = λ apart x m. unbeaten_if over (held ++ items) x (λ y my. (p.decided apart).unbeaten x y m my);
+      unbeaten = λ apart x m. false_from_ne_true (is_beaten over all x) (λ h.
+          let top = unbeaten_over over strict (λ _. true) all x h in
+          elim (covers top.0 top.1) [
+            | inl a ↦ both_ways (over top.0 x) ((p.decided apart).apart top.0 x (inl a) (inl m)) top.3
+            | inr b ↦ both_ways (is_beaten over all top.0) top.4 ((p.decided apart).beaten top.0 b)
+          ]);
       beaten = λ apart. (p.decided apart).beaten;
     }
 
 -- where no items come, those that were held are the best
 pub parted_held : (over : Item → Item → Bool) (held items : List Item) → length items ≡ 0 → Parted over held items held []
 parted_held over held items none =
-    let within : (x : Item) → Among x (held ++ items) → Among x held = λ x m. elim (in_either held items x m) [ inl a ↦ a | inr b ↦ absurd (none_of_empty items x none b) ] in
+    let within : (x : Item) → Among x (held ++ items) → Among x held = λ x m. elim (in_either held items x m) [ inl a ↦ a | inr b ↦ absurd (subst (Among x) (nil_from_length items none) b) ] in
     record {
       within = λ x m. elim m [ inl a ↦ in_left held items x a | inr b ↦ absurd b ];
       covers = λ x m. inl (within x m);
-      bag = λ q. omega (arith, sum_by-append (λ (y : Item). cond (q y) 1 0) held items, none_by (λ y. cond (q y) 1 0) items none);
-      unbeaten = λ apart x m. unbeaten_if over (held ++ items) x (λ y my. apart y x (within y my) m);
+      bag = λ q. omega (arith, count_append q held items, none_by (λ y. cond (q y) 1 0) items none);
+      unbeaten = λ apart x m. any_none (λ y. over y x) (held ++ items) (λ y my. apart y x (within y my) m);
       beaten = λ apart x m. absurd m;
     }
 
 -- what holds of lists holds of the same ones
 pub of_same_lists : {E : Type 0} (P : List E → List E → List E → List E → List E → List E → Type 0) (best left early late overflow rest best_now left_now early_now late_now overflow_now rest_now : List E)
     → best_now ≡ best → left_now ≡ left → early_now ≡ early → late_now ≡ late → overflow_now ≡ overflow → rest_now ≡ rest → P best left early late overflow rest → P best_now left_now early_now late_now overflow_now rest_now
-of_same_lists P best left early late overflow rest best_now left_now early_now late_now overflow_now rest_now b l e t o r p =
-    subst (λ v. P v left_now early_now late_now overflow_now rest_now) (sym b)
-    (subst (λ v. P best v early_now late_now overflow_now rest_now) (sym l)
-    (subst (λ v. P best left v late_now overflow_now rest_now) (sym e)
-    (subst (λ v. P best left early v overflow_now rest_now) (sym t) (subst (λ v. P best left early late v rest_now) (sym o) (subst (λ v. P best left early late overflow v) (sym r) p)))))
+of_same_lists P best left early late overflow rest best_now left_now early_now late_now overflow_now rest_now b l e t o r p = rw (b, l, e, t, o, r) p

@@ -1,10 +1,49 @@
--- Items of a pool stay what they are where entries are put behind its own.
-use Rattle.pref_sky.proofs.Common.{◌≡◌, ◌∙◌, ℕ, zero, suc, ◌≤◌, ◌<◌, ◌+◌, List, [], ◌∷◌, ◌++◌, get_or, length, map, take, refl, sym, ap, subst, arith, append-nil, append_assoc, length-append, Bool}
-use Rattle.pref_sky.proofs.Common.{true, get_or_append_left, map-append, get_or-append_seam, All, Vec, Global, Entry, Item, Pool, AreAllItems, AreInPool, AreItems, HasGrown, IsItem, entries_at}
-use Rattle.pref_sky.proofs.Common.{entry_at, items_at, levels_at, parts_at, is_beaten, IsBehind, held_at, signature_by}
-use Rattle.pref_sky.proofs.Loops.{front_more}
-use Rattle.pref_sky.proofs.MembersLaws.{all_among, map_agree_among}
-use Rattle.pref_sky.proofs.PartItems.{Part, in_here, levels_of_at}
+-- Items of a pool stay what they are where entries are put behind its own; the levels of a part, where those of one are changed.
+use Rattle.pref_sky.proofs.Common.{◌≡◌, ℕ, zero, suc, ◌<◌, List, [], ◌∷◌, length, get_or, set, refl, sym, ◌∙◌, ap, subst, arith, All, Vec, Global, Entry, Item, AreAllItems, AreInPool, levels_at}
+use Rattle.pref_sky.proofs.Common.{items_at, parts_at, held_at, ◌≤◌, ◌+◌, ◌++◌, map, take, append-nil, append_assoc, length-append, Bool, true, get_or_append_left, map-append, get_or-append_seam}
+use Rattle.pref_sky.proofs.Common.{Pool, AreItems, HasGrown, IsItem, entries_at, entry_at, is_beaten, IsBehind, signature_by, length-set, get_or-set_same}
+use Rattle.pref_sky.proofs.ListLaws.{front_more, all_among, map_agree_among}
+
+abbrev pub Levels : Type 0
+Levels = List (Vec Item Global)
+
+abbrev pub Part : Type 0
+Part = Vec (Vec Item Global) Global
+
+-- a part is at its place, and so is a level
+in_at : {E : Type 0} (n : ℕ) (all : List (Vec E Global)) (d : Vec E Global) → n < length all → items_at n all ≡ (get_or all n d).items
+in_at n [] d there = absurd (omega (arith, there))
+in_at zero (first ∷ behind) d there = refl
+in_at (suc n) (first ∷ behind) d there = in_at n behind d (omega (arith, there))
+
+pub in_here : {E : Type 0} (n : ℕ) (all : List (Vec E Global)) (one : Vec E Global) → n < length all → one ≡ get_or all n one → items_at n all ≡ one.items
+in_here {E = E} n all one there at = in_at n all one there ∙ ap (λ (v : Vec E Global). v.items) (sym at)
+
+-- what all have, all there have
+pub all_held : {E : Type 0} (P : E → Type 0) (all : List (Vec E Global)) → All (λ (v : Vec E Global). All P v.items) all → (n : ℕ) → All P (items_at n all)
+all_held P [] are n = λ k d inside. absurd (omega (arith, inside))
+all_held P (first ∷ behind) are zero = are 0 first (omega arith)
+all_held P (first ∷ behind) are (suc n) = all_held P behind (λ k d inside. are (suc k) d (omega (arith, inside))) n
+
+pub in_set_here : (n : ℕ) (parts : List Part) (part : Part) → n < length parts → items_at n (set parts n part) ≡ part.items
+in_set_here n parts part there = in_here n (set parts n part) part (omega (arith, there, length-set parts n part)) (sym (get_or-set_same parts n part part there))
+
+pub in_set_other : (n m : ℕ) (parts : List Part) (part : Part) → (m ≡ n → ⊥) → items_at m (set parts n part) ≡ items_at m parts
+in_set_other n m [] part other = refl
+in_set_other zero zero (first ∷ others) part other = absurd (other refl)
+in_set_other zero (suc m) (first ∷ others) part other = refl
+in_set_other (suc n) zero (first ∷ others) part other = refl
+in_set_other (suc n) (suc m) (first ∷ others) part other = in_set_other n m others part (λ same. other (omega (arith, same)))
+
+-- its entries
+pub levels_of_at : (pool : List Entry) (n : ℕ) (parts : List Part) → held_at n (parts_at pool parts) ≡ levels_at pool (items_at n parts)
+levels_of_at pool n [] = refl
+levels_of_at pool zero (part ∷ others) = refl
+levels_of_at pool (suc n) (part ∷ others) = levels_of_at pool n others
+
+-- items are of a pool where those of each part are
+pub in_pool_if : (rule : Entry → ℕ) (pool : List Entry) (parts : List Part) → ((n : ℕ) → n < length parts → AreAllItems rule pool (items_at n parts)) → AreInPool rule pool parts
+in_pool_if rule pool parts each = λ k d inside. subst (AreAllItems rule pool) (in_at k parts d inside) (each k inside)
 
 module _ (a b : Pool) (grown : HasGrown a b) where
   pub entry_grown : (place : ℕ) → place < length a.entries.items → entry_at b.entries.items place ≡ entry_at a.entries.items place

@@ -1,24 +1,51 @@
 -- The entries of some levels, each level in order of id: one list for each set of them.
-use Rattle.pref_sky.proofs.Common.{◌≡◌, ℕ, zero, suc, ◌<◌, ◌≤◌, ◌+◌, Bool, ◌⊎◌, inl, inr, List, [], ◌∷◌, ◌++◌, length, map, take, drop, ◌-◌, refl, sym, ◌∙◌, ap, subst, arith, append-nil, append_assoc}
-use Rattle.pref_sky.proofs.Common.{length-append, drop_of_length-le, cases_lt, IsNonDecreasingBy, IsPermutation, get_or-map, length-map, IsPermutation-map, take-length, Entry, Ranked, best, rest}
-use Rattle.pref_sky.proofs.Common.{HaveDifferentIds, in_order_of_id, at_level, entry_of, levels, ranked_from, held_at, ranked_upto, Among}
+use Rattle.pref_sky.proofs.Common.{◌≡◌, ℕ, zero, suc, ◌+◌, Bool, List, [], ◌∷◌, ◌++◌, map, take, drop, refl, sym, ◌∙◌, ap, arith, append_assoc, ◌==◌, count_by, map-append, Entry, Ranked}
+use Rattle.pref_sky.proofs.Common.{HaveDifferentIds, in_order_of_id, at_level, entry_of, ranked_from, held_at, ◌<◌, ◌≤◌, inl, inr, length, ◌-◌, subst, append-nil, length-append, drop_of_length-le}
+use Rattle.pref_sky.proofs.Common.{cases_lt, IsNonDecreasingBy, IsPermutation, get_or-map, length-map, IsPermutation-map, take-length, best, rest, levels, ranked_upto, Among, is_lt, ordering_then}
+use Rattle.pref_sky.proofs.Common.{nat_cmp, nat_tests, IsInOrder, sum_by, sum_by-cons, sum_by-take-drop}
+use Rattle.std.specs.Cmp.{IsStrictWeakOrder}
 use borrow.Rule.Slice.PartMut.{mid_of, post_of, put_mid}
-use Rattle.pref_sky.proofs.MembersLaws.{in_left, in_right, in_either, from_map, in_map}
-use Rattle.pref_sky.proofs.IdOrder.{Rises, RisesBy, rises_in_order, same_if_rise, same_if_permuted, sorted_is, among_in_order, from_in_order}
+use Rattle.pref_sky.proofs.IdOrder.{count_in_order, Rises, rises_in_order, same_if_in_order, sorted_is, among_in_order, from_in_order}
 use Rattle.pref_sky.proofs.Merges.{entries_at_level}
-use Rattle.pref_sky.proofs.CutLaws.{cut_at}
-use Rattle.pref_sky.proofs.RankedLevels.{one_level}
+use Rattle.pref_sky.proofs.ListLaws.{in_left, in_right, in_either, from_map, in_map, same_if_permuted, cut_at, count_append, in_order_joined}
 
--- one entry stands before another
-abbrev pub ComesBefore : Ranked → Ranked → Type 0
-ComesBefore r s = (r.level < s.level) ⊎ ((r.level ≡ s.level) × (r.id < s.id))
+-- one level, as it stands among the ranked entries
+abbrev pub one_level : ℕ → List Entry → List Ranked
+one_level n entries = map (at_level n) (in_order_of_id entries)
 
-pub one_way : (r s : Ranked) → ComesBefore r s → ComesBefore s r → ⊥
-one_way r s there back =
-    elim there [
-      | inl above ↦ elim back [ inl below ↦ omega (arith, above, below) | inr level ↦ omega (arith, above, level.0) ]
-      | inr level ↦ elim back [ inl below ↦ omega (arith, level.0, below) | inr also ↦ omega (arith, level.1, also.1) ]
-    ]
+pub count_joined : (p : Entry → Bool) (xs ys : List Ranked) → count_by p (map entry_of (xs ++ ys)) ≡ count_by p (map entry_of xs) + count_by p (map entry_of ys)
+count_joined p xs ys = ap (count_by p) (map-append entry_of xs ys) ∙ count_append p (map entry_of xs) (map entry_of ys)
+
+pub count_level : (p : Entry → Bool) (n : ℕ) (entries : List Entry) → count_by p (map entry_of (one_level n entries)) ≡ count_by p entries
+count_level p n entries = ap (count_by p) (entries_at_level n (in_order_of_id entries)) ∙ count_in_order p entries
+
+-- how many of a kind levels hold
+pub count_held : (p : Entry → Bool) (k : ℕ) (held : List (List Entry)) → count_by p (map entry_of (ranked_from k held)) ≡ sum_by (count_by p) held
+count_held p k [] = refl
+count_held p k (level ∷ behind) =
+    omega (arith, count_joined p (one_level k level) (ranked_from (suc k) behind), count_level p k level, count_held p (suc k) behind, sum_by-cons (count_by p) level behind)
+
+pub count_behind : (p : Entry → Bool) (n : ℕ) (held : List (List Entry)) → sum_by (count_by p) (drop n held) ≡ count_by p (held_at n held) + sum_by (count_by p) (drop (suc n) held)
+count_behind p zero [] = refl
+count_behind p zero (level ∷ behind) = sum_by-cons (count_by p) level behind
+count_behind p (suc n) [] = refl
+count_behind p (suc n) (level ∷ behind) = count_behind p n behind
+
+pub count_at : (p : Entry → Bool) (n : ℕ) (held : List (List Entry)) → count_by p (held_at n held) ≤ count_by p (map entry_of (ranked_from 1 held))
+count_at p n held = omega (arith, count_behind p n held, sum_by-take-drop (count_by p) held n, count_held p 1 held)
+
+pub level_differs : (n : ℕ) (held : List (List Entry)) → HaveDifferentIds (map entry_of (ranked_from 1 held)) → HaveDifferentIds (held_at n held)
+level_differs n held different = record { once = λ id. omega (arith, different.once id, count_at (λ (e : Entry). e.id == id) n held) }
+
+-- by level, then id
+abbrev pub ranks_before : Ranked → Ranked → Bool
+ranks_before r s = is_lt (ordering_then (nat_cmp r.level s.level) (nat_cmp r.id s.id))
+
+pub ranks_are_ordered : IsStrictWeakOrder ranks_before
+ranks_are_ordered = record {
+  one_way = λ r s h. grind (arith, nat_tests, h);
+  chain = λ r s t h k. grind (arith, nat_tests, h, k);
+}
 
 -- an entry of one of the first n levels
 pub record IsRanked (level : ℕ → List Entry) (n : ℕ) (r : Ranked) : Type 0 where
@@ -56,30 +83,22 @@ at_upto level n k e m =
     let entries_same : w.entry ≡ e = sym (ap entry_of w.is) in
     (omega (arith, w.below, same), subst (λ j. Among e (level j)) same (subst (λ x. Among x (level w.place)) entries_same w.there))
 
-pub rises_beside : {E : Type 0} (before : E → E → Type 0) (xs ys : List E) → RisesBy before xs → RisesBy before ys → ((x y : E) → Among x xs → Among y ys → before x y) → RisesBy before (xs ++ ys)
-rises_beside before [] ys rx ry apart = ry
-rises_beside before (x ∷ xs) ys rx ry apart = (
-  λ y m. elim (in_either xs ys y m) [ inl a ↦ rx.0 y a | inr b ↦ apart x y (inl refl) b ],
-  rises_beside before xs ys rx.1 ry (λ a b ma mb. apart a b (inr ma) mb),
-)
-
-level_rises : (n : ℕ) (xs : List Entry) → Rises xs → RisesBy ComesBefore (map (at_level n) xs)
+level_rises : (n : ℕ) (xs : List Entry) → Rises xs → IsInOrder ranks_before (map (at_level n) xs)
 level_rises n [] rises = tt
 level_rises n (x ∷ xs) rises = (
-  λ r m. let w = from_map (at_level n) xs r m in subst (ComesBefore (at_level n x)) (sym w.2) (inr (refl, rises.0 w.0 w.1)),
+  λ r m. let w = from_map (at_level n) xs r m in ap (ranks_before (at_level n x)) w.2 ∙ grind (arith, nat_tests, rises.0 w.0 w.1),
   level_rises n xs rises.1,
 )
 
-pub upto_rises : (level : ℕ → List Entry) (n : ℕ) → ((k : ℕ) → suc k ≤ n → HaveDifferentIds (level k)) → RisesBy ComesBefore (ranked_upto level n)
+pub upto_rises : (level : ℕ → List Entry) (n : ℕ) → ((k : ℕ) → suc k ≤ n → HaveDifferentIds (level k)) → IsInOrder ranks_before (ranked_upto level n)
 upto_rises level zero different = tt
 upto_rises level (suc n) different =
-    rises_beside ComesBefore (ranked_upto level n) (one_level (suc n) (level n)) (upto_rises level n (λ k le. different k (omega (arith, le)))) (level_rises (suc n) (in_order_of_id (level n)) (rises_in_order (level n) (different n (omega arith))))
+    in_order_joined ranks_before (ranked_upto level n) (one_level (suc n) (level n)) (upto_rises level n (λ k le. different k (omega (arith, le)))) (level_rises (suc n) (in_order_of_id (level n)) (rises_in_order (level n) (different n (omega arith))))
     (λ r s mr ms.
     let v = from_upto level n r mr in
     let w = from_map (at_level (suc n)) (in_order_of_id (level n)) s ms in
-    let low = ap (λ (t : Ranked). t.level) v.is in
-    let high = ap (λ (t : Ranked). t.level) w.2 in
-    inl (omega (arith, low, high, v.below)))
+    let above : r.level < s.level = omega (arith, ap (λ (t : Ranked). t.level) v.is, ap (λ (t : Ranked). t.level) w.2, v.below) in
+    grind (arith, nat_tests, above))
 
 -- what is of a level there is of the level here
 abbrev pub AreWithin : (ℕ → List Entry) → ℕ → (ℕ → List Entry) → ℕ → Type 0
@@ -94,7 +113,7 @@ members_within level other n m within r among =
 pub same_upto : (level other : ℕ → List Entry) (n m : ℕ) → ((k : ℕ) → HaveDifferentIds (level k)) → ((k : ℕ) → HaveDifferentIds (other k)) → AreWithin level n other m → AreWithin other m level n
     → ranked_upto level n ≡ ranked_upto other m
 same_upto level other n m different also there back =
-    same_if_rise ComesBefore one_way (ranked_upto level n) (ranked_upto other m) (upto_rises level n (λ k le. different k)) (upto_rises other m (λ k le. also k))
+    same_if_in_order ranks_before ranks_are_ordered.one_way (ranked_upto level n) (ranked_upto other m) (upto_rises level n (λ k le. different k)) (upto_rises other m (λ k le. also k))
     (record { there = members_within level other n m there; back = members_within other level m n back })
 
 -- where the lists are one, so are the levels

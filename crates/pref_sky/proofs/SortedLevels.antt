@@ -1,30 +1,134 @@
--- Lists with the same levels up to a cut, where the ids differ of what is of these: what is below may be left out, and may be there twice. So the levels up to a cut of a list are those of what is of these levels, with the others.
-use Rattle.pref_sky.proofs.Common.{◌≡◌, ℕ, zero, suc, ◌≤◌, Bool, true, false, cond, not, ltb, ◌&&◌, ◌||◌, ◌⊎◌, inl, inr, List, [], ◌∷◌, ◌++◌, map, refl, sym, ◌∙◌, ap, subst, arith, append_assoc}
-use Rattle.pref_sky.proofs.Common.{filter, ◌==◌, count_by, both_ways, false_from_ne_true, sum_by-append, sum_by-cons, IsProductOf, IsStrictOrder, RowOrder, ChainOrder, Entry, best, rest, is_below}
-use Rattle.pref_sky.proofs.Common.{own_levels, own_order, HaveDifferentIds, entry_of, entry_order, in_order_of_id, levels, HoldsUpper, Among}
-use Rattle.pref_sky.proofs.ChainOrdersLaws.{own_is_strict}
-use Rattle.pref_sky.proofs.HeldLevels.{different_by_count}
-use Rattle.pref_sky.proofs.MembersLaws.{in_left, in_right, in_either}
-use Rattle.pref_sky.proofs.IdOrder.{count_in_order}
-use Rattle.pref_sky.proofs.Removals.{comes_after, comes_after_less, comes_after_among_more, best_of_rest_is, early_stays, same_chains}
-use Rattle.pref_sky.proofs.Merges.{HoldsLevels, held_all, held_more, held_within, is_at, same_by_level}
-use Rattle.pref_sky.proofs.CountLaws.{count_and, count_filtered, count_split, count_within}
+-- Lists with the same members have the same best, and entries that others are over change nothing of these. Lists with the same levels up to a cut, where the ids differ of what is of these: what is below may be left out, and may be there twice.
+use Rattle.pref_sky.proofs.Common.{◌≡◌, ◌≤◌, ◌+◌, Bool, true, not, inl, inr, List, ◌++◌, sym, ◌∙◌, ap, arith, eqb, count_by, both_ways, not-true, IsStrictOrder, Entry, IsAntichain, best, is_beaten}
+use Rattle.pref_sky.proofs.Common.{without_best, HaveDifferentIds, in_order_of_id, Among, false, cases_Bool, not_from_false, false_from_ne_true, ◌||◌, append-nil, filter, filter-append, filter_agree}
+use Rattle.pref_sky.proofs.Common.{ℕ, zero, suc, ltb, ◌&&◌, ◌⊎◌, [], ◌∷◌, map, refl, subst, append_assoc, ◌==◌, IsProductOf, RowOrder, ChainOrder, rest, is_below, own_levels, own_order, entry_of}
+use Rattle.pref_sky.proofs.Common.{entry_order, levels, HoldsUpper}
+use Rattle.std.proofs.lemmas.List.Folds.{list_any-append}
+use Rattle.pref_sky.proofs.ListLaws.{SameMembers, all_pass, any_from, any_gives, from_filter, in_either, in_filter, in_left, in_right, none_pass, same_answer, same_kept, count_append, count_and}
+use Rattle.pref_sky.proofs.ListLaws.{count_filtered, count_split, count_within, count_cons}
+use Rattle.pref_sky.proofs.IdOrder.{from_in_order, count_in_order}
+use Rattle.pref_sky.proofs.StairLaws.{best_are_apart}
+use Rattle.pref_sky.proofs.Merges.{beaten_by_best, comes_after, comes_after_less, comes_after_among_more, best_of_rest_is, early_stays, same_chains, HoldsLevels, held_all, held_more, held_within}
+use Rattle.pref_sky.proofs.Merges.{is_at, same_by_level}
+use Rattle.pref_sky.proofs.ChainStairs.{own_is_strict}
+
+-- what is beaten by more
+pub beaten_by_more : (over : Entry → Entry → Bool) (some all : List Entry) (e : Entry) → ((x : Entry) → Among x some → Among x all) → is_beaten over some e ≡ true → is_beaten over all e ≡ true
+beaten_by_more over some all e within h = let w = any_gives (λ x. over x e) some h in any_from (λ x. over x e) all w.0 (within w.0 w.1) w.2
+
+pub same_beaten : (over : Entry → Entry → Bool) (xs ys : List Entry) → SameMembers xs ys → (e : Entry) → is_beaten over xs e ≡ is_beaten over ys e
+same_beaten over xs ys same e = same_answer (is_beaten over xs e) (is_beaten over ys e) (beaten_by_more over xs ys e same.there) (beaten_by_more over ys xs e same.back)
+
+-- the best of lists with the same members
+pub best_of_same : (over : Entry → Entry → Bool) (xs ys : List Entry) → SameMembers xs ys → SameMembers (best over xs) (best over ys)
+best_of_same over xs ys same =
+    same_kept (λ e. not (is_beaten over xs e)) (λ e. not (is_beaten over ys e)) xs ys (λ x m free. (same.there x m, ap not (sym (same_beaten over xs ys same x)) ∙ free)) (λ x m free. (same.back x m, ap not (same_beaten over xs ys same x) ∙ free))
+
+pub without_of_same : (over : Entry → Entry → Bool) (xs ys : List Entry) → SameMembers xs ys → SameMembers (without_best over xs) (without_best over ys)
+without_of_same over xs ys same =
+    same_kept (is_beaten over xs) (is_beaten over ys) xs ys (λ x m below. (same.there x m, sym (same_beaten over xs ys same x) ∙ below)) (λ x m below. (same.back x m, same_beaten over xs ys same x ∙ below))
+
+-- the best of a list are apart
+pub best_apart : (over : Entry → Entry → Bool) (xs : List Entry) → IsAntichain over (in_order_of_id (best over xs))
+best_apart over xs x y mx my = best_are_apart over xs x y (from_in_order (best over xs) x mx) (from_in_order (best over xs) y my)
+
+pub different_by_count : (xs ys zs : List Entry) → HaveDifferentIds (xs ++ ys) → ((p : Entry → Bool) → count_by p zs ≤ count_by p xs + count_by p ys) → HaveDifferentIds zs
+different_by_count xs ys zs different fewer = record { once = λ id. omega (arith, different.once id, fewer (λ (e : Entry). eqb e.id id), count_append (λ (e : Entry). eqb e.id id) xs ys) }
+
+-- entries that others are over change nothing of the best of the others, and are left with what these leave
+module _ (over : Entry → Entry → Bool) (strict : IsStrictOrder over) (others low : List Entry) (lower : (e : Entry) → Among e low → is_beaten over others e ≡ true) where
+  beaten_without : (e : Entry) → is_beaten over (others ++ low) e ≡ is_beaten over others e
+  beaten_without e =
+      same_answer (is_beaten over (others ++ low) e) (is_beaten over others e)
+      (λ h.
+      let w = any_gives (λ x. over x e) (others ++ low) h in
+      elim (in_either others low w.0 w.1) [
+        | inl other ↦ any_from (λ x. over x e) others w.0 other w.2
+        | inr below ↦ let v = any_gives (λ x. over x w.0) others (lower w.0 below) in any_from (λ x. over x e) others v.0 v.1 (strict.transitive v.0 w.0 e v.2 w.2)
+      ])
+      (beaten_by_more over others (others ++ low) e (in_left others low))
+
+  pub best_without : best over (others ++ low) ≡ best over others
+  best_without =
+      let test : Entry → Bool = λ e. not (is_beaten over (others ++ low) e) in
+      filter-append test others low
+      ∙ (ap (λ l. l ++ filter test low) (filter_agree test (λ e. not (is_beaten over others e)) (λ e. ap not (beaten_without e)) others)
+      ∙ (ap (λ l. best over others ++ l) (none_pass test low (λ e m. ap not (beaten_without e ∙ lower e m))) ∙ append-nil (best over others)))
+
+  pub left_without : without_best over (others ++ low) ≡ without_best over others ++ low
+  left_without =
+      let test = is_beaten over (others ++ low) in
+      filter-append test others low
+      ∙ (ap (λ l. l ++ filter test low) (filter_agree test (is_beaten over others) beaten_without others) ∙ ap (λ l. without_best over others ++ l) (all_pass test low (λ e m. beaten_without e ∙ lower e m)))
+
+-- entries come to a list, of which the best are at the top
+module _ (over : Entry → Entry → Bool) (strict : IsStrictOrder over) (left coming top : List Entry) (is : SameMembers top (best over left)) where
+  of_both : (x : Entry) → Among x (top ++ coming) → Among x (left ++ coming)
+  of_both x m =
+      elim (in_either top coming x m) [
+        | inl old ↦ in_left left coming x (from_filter (λ y. not (is_beaten over left y)) left x (is.there x old)).0
+        | inr new ↦ in_right left coming x new
+      ]
+
+  in_top : (x : Entry) → Among x left → is_beaten over left x ≡ false → Among x top
+  in_top x m free = is.back x (in_filter (λ y. not (is_beaten over left y)) left x m (not_from_false (is_beaten over left x) free))
+
+  -- where something of the list is over an entry, one of its best is
+  beaten_with_top : (e : Entry) → is_beaten over (left ++ coming) e ≡ is_beaten over (top ++ coming) e
+  beaten_with_top e =
+      list_any-append (λ x. over x e) left coming
+      ∙ (ap (λ b. b || is_beaten over coming e) (sym (same_beaten over top (best over left) is e ∙ beaten_by_best over strict left e)) ∙ sym (list_any-append (λ x. over x e) top coming))
+
+  -- the best of both are the best of the top and of what comes
+  pub best_with_top : SameMembers (best over (top ++ coming)) (best over (left ++ coming))
+  best_with_top =
+      same_kept (λ e. not (is_beaten over (top ++ coming) e)) (λ e. not (is_beaten over (left ++ coming) e)) (top ++ coming) (left ++ coming) (λ x m free. (of_both x m, ap not (beaten_with_top x) ∙ free))
+      (λ x m free.
+      let early : is_beaten over left x ≡ false =
+      false_from_ne_true (is_beaten over left x) (λ h. both_ways (is_beaten over (left ++ coming) x) (not-true (is_beaten over (left ++ coming) x) free) (beaten_by_more over left (left ++ coming) x (in_left left coming) h)) in (
+        elim (in_either left coming x m) [ inl old ↦ in_left top coming x (in_top x old early) | inr new ↦ in_right top coming x new ],
+        ap not (sym (beaten_with_top x)) ∙ free,
+      ))
+
+  -- what is left of both without their best: what is left of the list, and what goes down
+  pub without_with_top : SameMembers (without_best over (left ++ coming)) (without_best over left ++ without_best over (top ++ coming))
+  without_with_top =
+      let down = without_best over (top ++ coming) in
+      let lower = without_best over left in
+      let goes_down : (x : Entry) → Among x (top ++ coming) → is_beaten over (left ++ coming) x ≡ true → Among x (lower ++ down) =
+      λ x m beaten. in_right lower down x (in_filter (is_beaten over (top ++ coming)) (top ++ coming) x m (sym (beaten_with_top x) ∙ beaten)) in
+      record {
+        there = λ x m.
+            let w = from_filter (is_beaten over (left ++ coming)) (left ++ coming) x m in
+            elim (in_either left coming x w.0) [
+              | inl old ↦ elim (cases_Bool (is_beaten over left x)) [
+                | inl low ↦ in_left lower down x (in_filter (is_beaten over left) left x old low)
+                | inr free ↦ goes_down x (in_left top coming x (in_top x old free)) w.1
+              ]
+              | inr new ↦ goes_down x (in_right top coming x new) w.1
+            ];
+        back = λ x m. elim (in_either lower down x m) [
+          | inl low ↦
+              let w = from_filter (is_beaten over left) left x low in
+              in_filter (is_beaten over (left ++ coming)) (left ++ coming) x (in_left left coming x w.0) (beaten_by_more over left (left ++ coming) x (in_left left coming) w.1)
+          | inr gone ↦
+              let w = from_filter (is_beaten over (top ++ coming)) (top ++ coming) x gone in
+              in_filter (is_beaten over (left ++ coming)) (left ++ coming) x (of_both x w.0) (beaten_with_top x ∙ w.1)
+        ];
+      }
 
 count_never : {E : Type 0} (p : E → Bool) (xs : List E) → count_by (λ x. p x && false) xs ≡ 0
 count_never p [] = refl
-count_never p (x ∷ xs) = grind (arith, count_never p xs, sum_by-cons (λ y. cond {A = ℕ} (p y && false) 1 0) x xs)
+count_never p (x ∷ xs) = grind (arith, count_never p xs, count_cons (λ y. p y && false) x xs)
 
 -- the entries of the levels up to n are those that no chain of n stands over
 pub count_levels : (over : Entry → Entry → Bool) (p : Entry → Bool) (all : List Entry) (n : ℕ) → count_by p (map entry_of (levels over all n)) ≡ count_by (λ e. p e && not (comes_after over all n e)) all
 count_levels over p all zero = sym (count_never p all)
 count_levels over p all (suc n) =
-    let more = ap (count_by p) (held_more over all n) in
-    let joined = sum_by-append (λ e. cond (p e) 1 0) (map entry_of (levels over all n)) (in_order_of_id (filter (is_at over all n) all)) in
-    let level = count_in_order p (filter (is_at over all n) all) in
-    let filtered = count_filtered p (is_at over all n) all in
+    let joined = count_append p (map entry_of (levels over all n)) (in_order_of_id (filter (is_at over all n) all)) in
     let both = count_split (λ e. p e && not (comes_after over all n e)) (λ e. p e && is_at over all n e) (λ e. p e && not (comes_after over all (suc n) e)) all
     (λ e. grind (arith, comes_after_less over all n e)) in
-    omega (arith, more, joined, level, filtered, both, count_levels over p all n)
+    omega (arith, (ap (count_by p) (held_more over all n)), joined, (count_in_order p (filter (is_at over all n) all)), (count_filtered p (is_at over all n) all), both, count_levels over p all n)
 
 -- the ids of one of the levels differ
 pub bests_differ : (over : Entry → Entry → Bool) (all : List Entry) (cut : ℕ) → HaveDifferentIds (map entry_of (levels over all cut)) → (n : ℕ) → suc n ≤ cut → HaveDifferentIds (best over (rest over all n))
@@ -61,11 +165,10 @@ module _ (over : Entry → Entry → Bool) (strict : IsStrictOrder over) (cut : 
 
   all_differ : HaveDifferentIds (map entry_of (levels over (held ++ entries) cut))
   all_differ =
-      let top = map entry_of (levels over held cut) in
       let early : Entry → Bool = λ e. not (comes_after over (held ++ entries) cut e) in
-      different_by_count top entries (map entry_of (levels over (held ++ entries) cut)) different (λ p.
+      different_by_count (map entry_of (levels over held cut)) entries (map entry_of (levels over (held ++ entries) cut)) different (λ p.
       let old = count_within (λ e. p e && early e) (λ e. p e && not (comes_after over held cut e)) held (λ e h. grind (arith, h, later_still e)) in
-      omega (arith, count_levels over p (held ++ entries) cut, sum_by-append (λ e. cond (p e && early e) 1 0) held entries, old, count_levels over p held cut, count_and p early entries))
+      omega (arith, count_levels over p (held ++ entries) cut, count_append (λ e. p e && early e) held entries, old, count_levels over p held cut, count_and p early entries))
 
   -- the merge law: those of the levels stand for all that are held
   pub merge : levels over (map entry_of (levels over held cut) ++ entries) cut ≡ levels over (held ++ entries) cut
@@ -77,13 +180,7 @@ module _ (over : Entry → Entry → Bool) (strict : IsStrictOrder over) (cut : 
         kept = λ x m early. elim (in_either held entries x m) [ inl old ↦ in_left top entries x (held_all over held cut x old (later_still x early)) | inr new ↦ in_right top entries x new ];
       })
       (λ p.
-      omega (
-        arith,
-        sum_by-append (λ e. cond (p e) 1 0) top entries,
-        sum_by-append (λ e. cond (p e) 1 0) held entries,
-        count_levels over p held cut,
-        count_and p (λ e. not (comes_after over held cut e)) held,
-      )) all_differ
+      omega (arith, count_append p top entries, count_append p held entries, count_levels over p held cut, count_and p (λ e. not (comes_after over held cut e)) held)) all_differ
 
   -- those of them that are kept
   module _ (kept : List Entry) (within : (x : Entry) → Among x kept → Among x entries) (covers : (x : Entry) → Among x entries → Among x kept ⊎ (comes_after over held cut x ≡ true)) (fewer : (p : Entry → Bool) → count_by p kept ≤ count_by p entries) where
@@ -98,7 +195,7 @@ module _ (over : Entry → Entry → Bool) (strict : IsStrictOrder over) (cut : 
         }
 
     no_more : (p : Entry → Bool) → count_by p (held ++ kept) ≤ count_by p (held ++ entries)
-    no_more p = omega (arith, fewer p, sum_by-append (λ e. cond (p e) 1 0) held kept, sum_by-append (λ e. cond (p e) 1 0) held entries)
+    no_more p = omega (arith, fewer p, count_append p held kept, count_append p held entries)
 
     pub kept_differ : HaveDifferentIds (map entry_of (levels over (held ++ kept) cut))
     kept_differ = some_differ over strict (held ++ kept) (held ++ entries) cut kept_holds no_more all_differ

@@ -2,9 +2,8 @@
 use Rattle.pref_sky.proofs.Common.{◌≡◌, Bool, true, false, not, ◌||◌, inl, inr, List, [], ◌∷◌, ◌++◌, refl, sym, ◌∙◌, ap, subst, filter, arith, both_ways, false_from_ne_true, cond_both, IsStrictOrder}
 use Rattle.pref_sky.proofs.Common.{IsAntichain, best, is_beaten, IsChain, AreStairs, IsLine, IsInOrder, are_level, comes_first, in_turn, HasOneCandidate, IsSwept, ServesGroups, Among}
 use Rattle.std.proofs.lemmas.List.Folds.{list_any-append}
-use Rattle.pref_sky.proofs.MembersLaws.{any_from, any_gives, from_filter, in_left, in_right, in_either}
-use Rattle.pref_sky.proofs.MergedLists.{in_order_across, in_order_back, in_order_front}
-use Rattle.pref_sky.proofs.Removals.{beaten_by_best}
+use Rattle.pref_sky.proofs.ListLaws.{any_from, any_gives, any_none, from_filter, in_left, in_right, in_either, in_order_across, in_order_back, in_order_front}
+use Rattle.pref_sky.proofs.Merges.{beaten_by_best}
 
 -- one chain, and where that sees no difference another one
 pub chain_in_turn : {E : Type 0} (f g : E → E → Bool) → IsChain f → IsChain g → IsChain (in_turn f g)
@@ -71,37 +70,19 @@ module _ {E : Type 0} (over f s t : E → E → Bool) (stairs : AreStairs over f
 
   -- a stands for b, which is before it, where neither of the two dominates the other
   pub stands_for : (a b c : E) → f a b ≡ false → f c a ≡ false → over a b ≡ false → over b a ≡ false → over b c ≡ true → over a c ≡ true
-  stands_for a b c ab ca n m bc = grind (
-    arith,
-    stairs.is a b,
-    stairs.is b a,
-    stairs.is b c,
-    stairs.is a c,
-    stairs.first_is_chain.between b a c,
-    stairs.first_is_chain.between c b a,
-    stairs.second_is_chain.between b a c,
-    stairs.second_is_chain.between c b a,
-    stairs.second_is_chain.between a c b,
-    stairs.second_is_chain.strict.transitive b c a,
-    stairs.tie_is_chain.between b a c,
-  )
+  stands_for a b c ab ca n m bc =
+      let is = stairs.is in
+      let one = stairs.first_is_chain.between in
+      let two = stairs.second_is_chain.between in
+      grind (arith, is a b, is b a, is b c, is a c, one b a c, one c b a, two b a c, two c b a, two a c b, stairs.second_is_chain.strict.transitive b c a, stairs.tie_is_chain.between b a c)
 
   -- and is alike to what b is alike to
   alike_for : (a b c : E) → f a b ≡ false → f c a ≡ false → over a b ≡ false → over b a ≡ false → are_level (comes_first f s t) b c ≡ true → are_level (comes_first f s t) a c ≡ true
-  alike_for a b c ab ca n m bc = grind (
-    arith,
-    stairs.is a b,
-    stairs.is b a,
-    stairs.first_is_chain.between b a c,
-    stairs.first_is_chain.between c a b,
-    stairs.first_is_chain.between a b c,
-    stairs.first_is_chain.between c b a,
-    stairs.second_is_chain.between a b c,
-    stairs.second_is_chain.between c a b,
-    stairs.second_is_chain.between c b a,
-    stairs.tie_is_chain.between a b c,
-    stairs.tie_is_chain.between c a b,
-  )
+  alike_for a b c ab ca n m bc =
+      let one = stairs.first_is_chain.between in
+      let two = stairs.second_is_chain.between in
+      let tie = stairs.tie_is_chain.between in
+      grind (arith, stairs.is a b, stairs.is b a, one b a c, one c a b, one a b c, one c b a, two a b c, two c a b, two c b a, tie a b c, tie c a b)
 
   -- what does not come first does not dominate
   pub later : (a b : E) → comes_first f s t b a ≡ false → over b a ≡ false
@@ -109,8 +90,7 @@ module _ {E : Type 0} (over f s t : E → E → Bool) (stairs : AreStairs over f
 
   -- where all are worse in the first chain, none dominates
   none_beyond : (level : List E) (x : E) → ((z : E) → Among z level → f x z ≡ true) → is_beaten over level x ≡ false
-  none_beyond level x beyond =
-      false_from_ne_true (is_beaten over level x) (λ h. let w = any_gives (λ z. over z x) level h in both_ways (over w.0 x) (grind (arith, stairs.is w.0 x, beyond w.0 w.1)) w.2)
+  none_beyond level x beyond = any_none (λ z. over z x) level (λ z m. grind (arith, stairs.is z x, beyond z m))
 
   -- one candidate
   pub one_candidate : HasOneCandidate over f s t
@@ -141,8 +121,7 @@ module _ {E : Type 0} (over f s t : E → E → Bool) (stairs : AreStairs over f
   beaten_by_those_before : (front : List E) (x : E) (back : List E) → IsInOrder (comes_no_earlier f s t) (front ++ x ∷ back) → is_beaten over (front ++ x ∷ back) x ≡ is_beaten over front x
   beaten_by_those_before front x back ordered =
       let those = in_order_back (comes_no_earlier f s t) front (x ∷ back) ordered in
-      let none : is_beaten over back x ≡ false =
-      false_from_ne_true (is_beaten over back x) (λ h. let w = any_gives (λ z. over z x) back h in both_ways (over w.0 x) (later x w.0 (grind (arith, those.0 w.0 w.1))) w.2) in
+      let none : is_beaten over back x ≡ false = any_none (λ z. over z x) back (λ z m. later x z (grind (arith, those.0 z m))) in
       grind (arith, list_any-append (λ z. over z x) front (x ∷ back), none, strict_stairs.irreflexive x)
 
   -- so the last best one of those before x dominates it, or none of all does

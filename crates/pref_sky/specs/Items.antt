@@ -1,13 +1,18 @@
 -- No public contract cites this.
 -- Items: signatures, and places in a pool of entries.
-use Rattle.std.specs.Prelude.{◌≡◌, ◌<◌, Bool, ◌&&◌, nat_lt, ◌^◌, ℕ, zero, suc, List, [], ◌∷◌, ◌++◌, length, get_or, map, All, Vec}
+use Rattle.std.specs.Prelude.{ℕ, List, ◌≡◌, ◌<◌, Bool, ◌&&◌, nat_lt, ◌^◌, zero, suc, [], ◌∷◌, ◌++◌, length, get_or, map, All, Vec}
+use Rattle.pref_term.specs.declared.signature.scale.Scale.{Scale}
+use Rattle.pref_term.specs.Signatures.{signature, is_within}
+use Rattle.pref_sky.specs.declared.entry.Entry.{Entry}
 use Rattle.std.specs.Global.{Global}
 use Rattle.pref_term.specs.Order.{RowOrder}
-use Rattle.pref_term.specs.Signatures.{is_within}
-use Rattle.pref_sky.specs.declared.entry.Entry.{Entry}
 use Rattle.pref_sky.specs.declared.item.Item.{Item}
 use Rattle.pref_sky.specs.declared.pool.Pool.{Pool}
 use Rattle.pref_sky.specs.Levels.{entry_order}
+
+-- the signature of an entry by some scales
+abbrev pub signature_by : List Scale → Entry → ℕ
+signature_by scales e = signature scales e.row
 
 -- the entry at a place of a pool
 abbrev pub entry_at : List Entry → ℕ → Entry

@@ -6,14 +6,10 @@ pub mod Stairs
 pub mod StairLaws
 pub mod Windows
 pub mod Answers
-pub mod Signatures
 pub mod Items
 pub mod Layers
-pub mod ChainOrders
 pub mod Passes
-pub mod Partials
-pub mod Arrivals
 pub mod Made
-pub mod Sorted
-pub mod Partitions
+pub mod ChainOrders
+pub mod Partials
 pub mod PartialForms

@@ -6,7 +6,7 @@ use Rattle.pref_sky.specs.declared.partial.Held.{Held}
 use Rattle.pref_sky.specs.declared.partial.Held.TheVariants.{Nothing, Sorted, Partitioned}
 use Rattle.pref_sky.specs.ChainOrders.{own_levels}
 use Rattle.pref_sky.specs.Items.{parts_at}
-use Rattle.pref_sky.specs.Partitions.{ranked_parts}
+use Rattle.pref_sky.specs.Partials.{ranked_parts}
 
 -- the entries in it, in order of level, then id
 abbrev pub ranked_held : Held → List Ranked

@@ -1,11 +1,13 @@
 -- No public contract cites this.
--- Levels as lists of their entries, and what an addition makes of them.
-use Rattle.std.specs.Prelude.{◌≡◌, ◌≤◌, ◌+◌, ◌⊎◌, ℕ, zero, suc, List, [], ◌∷◌, ◌++◌, Bool, true, length, map, count_by, take, drop}
+-- Levels as lists of their entries, what an addition makes of them, and the parts in which a partial result holds its levels where rows are compared within groups alone: a group is in one part.
+use Rattle.std.specs.Prelude.{◌≡◌, ◌≤◌, ◌+◌, ◌⊎◌, ℕ, zero, suc, List, [], ◌∷◌, ◌++◌, Bool, true, length, map, count_by, take, drop, ◌/◌, ◌^◌, ◌==◌, ℤ, max}
 use Rattle.pref_sky.specs.declared.entry.Entry.{Entry}
 use Rattle.pref_sky.specs.declared.entry.Ranked.{Ranked}
 use Rattle.pref_sky.specs.Best.{is_beaten}
 use Rattle.pref_sky.specs.Levels.{HaveDifferentIds, at_level, entry_of, in_order_of_id, levels}
 use Rattle.pref_sky.specs.Members.{Among}
+use Rattle.pref_term.specs.Better.{cell}
+use Rattle.pref_term.specs.Signatures.{hash_with}
 
 -- the entries of levels of which the first is the n-th, in order of level, then id
 abbrev pub ranked_from : ℕ → List (List Entry) → List Ranked
@@ -36,3 +38,44 @@ IsBehind over levels n e = (k : ℕ) → suc k ≡ n → is_beaten over (held_at
 pub record IsMade (over : Entry → Entry → Bool) (cut : ℕ) (old new : List (List Entry)) (coming : List Entry) : Type 0 where
   pub counts : (p : Entry → Bool) → count_by p (map entry_of (ranked_from 1 new)) ≤ count_by p (map entry_of (ranked_from 1 old)) + count_by p coming
   pub merged : (before : List Entry) → HaveDifferentIds (before ++ coming) → ranked_from 1 old ≡ levels over before cut → ranked_from 1 new ≡ levels over (before ++ coming) cut
+
+-- a word with the values of these columns mixed into it
+abbrev pub mixed_onto : ℕ → List ℕ → List ℤ → ℕ
+mixed_onto word [] row = word
+mixed_onto word (col ∷ columns) row = mixed_onto (hash_with word (cell row col)) columns row
+
+-- the number of the part that holds an entry: its cells in these columns, mixed, tell it
+abbrev pub partition_of : List ℕ → Entry → ℕ
+partition_of columns e = mixed_onto 0 columns e.row / 2 ^ 54
+
+-- how many parts there are: one where no columns tell them apart
+abbrev pub partitions_by : List ℕ → ℕ
+partitions_by [] = 1
+partitions_by (col ∷ columns) = 1024
+
+-- is in the part of this number
+abbrev pub is_in : (Entry → ℕ) → ℕ → Entry → Bool
+is_in number part e = number e == part
+
+-- the entries at the level behind the first n, of all parts
+abbrev pub all_at : List (List (List Entry)) → ℕ → List Entry
+all_at [] n = []
+all_at (part ∷ others) n = held_at n part ++ all_at others n
+
+-- how many levels the deepest part has
+abbrev pub depth : List (List (List Entry)) → ℕ
+depth [] = 0
+depth (part ∷ others) = max (length part) (depth others)
+
+-- the entries of n levels, each level in order of id
+abbrev pub ranked_upto : (ℕ → List Entry) → ℕ → List Ranked
+ranked_upto level zero = []
+ranked_upto level (suc n) = ranked_upto level n ++ map (at_level (suc n)) (in_order_of_id (level n))
+
+-- the entries of all parts, in order of level, then id
+abbrev pub ranked_parts : List (List (List Entry)) → List Ranked
+ranked_parts parts = ranked_upto (all_at parts) (depth parts)
+
+-- each entry is in its part
+abbrev pub ArePartitionedBy : (Entry → ℕ) → List (List (List Entry)) → Type 0
+ArePartitionedBy number parts = (part : ℕ) (r : Ranked) → Among r (ranked_from 1 (held_at part parts)) → number (entry_of r) ≡ part

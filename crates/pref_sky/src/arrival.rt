@@ -1,12 +1,10 @@
 //! New entries of parts: each in its part, with the levels that it is seen to be below.
 
 ghost use Rattle.std.specs.Prelude.{◌≡◌, ◌≤◌, ◌<◌, All, length, IfOk};
-ghost use Rattle.pref_sky.specs.Arrivals.{HaveArrived};
-ghost use Rattle.pref_sky.specs.Items.{AreAllItems, AreInPool, HasGrown, levels_at};
+ghost use Rattle.pref_sky.specs.Made.{HaveArrived};
+ghost use Rattle.pref_sky.specs.Items.{AreAllItems, AreInPool, HasGrown, levels_at, signature_by};
 ghost use Rattle.pref_sky.specs.Levels.{entry_order};
-ghost use Rattle.pref_sky.specs.Partials.{IsBehind};
-ghost use Rattle.pref_sky.specs.Partitions.{partition_of, partitions_by};
-ghost use Rattle.pref_sky.specs.Signatures.{signature_by};
+ghost use Rattle.pref_sky.specs.Partials.{IsBehind, partition_of, partitions_by};
 
 use crate::entry::Entry;
 use crate::item::Item;

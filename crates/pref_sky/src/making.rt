@@ -16,12 +16,10 @@
 //! were.
 
 ghost use Rattle.std.specs.Prelude.{◌≡◌, ◌≤◌, ◌<◌, ◌++◌, ℕ, List, All, length, map, max, take, drop, vec_len, IfOk, OnOk};
-ghost use Rattle.pref_sky.specs.Arrivals.{AreInOrderOfStart, StartsAt};
-ghost use Rattle.pref_sky.specs.Items.{AreAllItems, items_at, levels_at};
-ghost use Rattle.pref_sky.specs.Made.{AreLevelsMade, Fits, new_levels};
+ghost use Rattle.pref_sky.specs.Made.{AreInOrderOfStart, AreLevelsMade, Fits, StartsAt, new_levels};
+ghost use Rattle.pref_sky.specs.Items.{AreAllItems, items_at, levels_at, signature_by};
 ghost use Rattle.pref_sky.specs.Levels.{entry_order};
 ghost use Rattle.pref_sky.specs.Partials.{replaced};
-ghost use Rattle.pref_sky.specs.Signatures.{signature_by};
 ghost use Rattle.pref_sky.specs.declared.arrival.Arrival.{Arrival};
 ghost use Rattle.pref_sky.specs.declared.entry.Entry.{Entry};
 ghost use Rattle.pref_term.specs.Signatures.{Suit};
@@ -43,7 +41,7 @@ pub(crate) struct Made {
 }
 
 /// The items at the level behind the first `place`: none where there is no such level.
-#[tactic(auto, using(crate::proofs::PartItems::in_here, crate::proofs::PoolLaws::no_level))]
+#[tactic(auto, using(crate::proofs::PoolLaws::in_here, crate::proofs::PoolLaws::no_level))]
 pub(crate) fn level_at(levels: &[Vec<Item>], place: usize) -> &[Item]
     ensures { result.now ≡ items_at place levels.now }
 {

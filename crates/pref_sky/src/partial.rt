@@ -1,10 +1,9 @@
 //! Partial results: the first levels of a list that is added piece by piece.
 
-ghost use Rattle.std.specs.Prelude.{◌≡◌, ◌<◌, ◌++◌, ◌^◌, [], List, length, map, IfOk};
+ghost use Rattle.std.specs.Prelude.{◌≡◌, ◌<◌, ◌++◌, ◌^◌, [], ℕ, Bool, List, length, map, IfOk, IfSome, OnErr, OnOk};
 ghost use Rattle.pref_sky.specs.PartialForms.{ranked_held};
 ghost use Rattle.pref_sky.specs.Levels.{HaveDifferentIds, entry_of, entry_order, levels};
-ghost use Rattle.pref_sky.specs.Partials.{ranked_from};
-ghost use Rattle.pref_sky.specs.Partitions.{ranked_parts};
+ghost use Rattle.pref_sky.specs.Partials.{ranked_from, ranked_parts};
 ghost use Rattle.pref_sky.specs.declared.entry.Entry.{Entry};
 
 use crate::chain_order::ChainOrder;
@@ -104,11 +103,6 @@ fn hold_anew<D: Dominance>(
 }
 
 impl Partial {
-    ghost use Rattle.std.specs.Prelude.{◌≡◌, ◌<◌, ◌++◌, ◌^◌, [], ℕ, Bool, length, map, List, IfOk, IfSome, OnOk, OnErr};
-    ghost use Rattle.pref_sky.specs.Levels.{HaveDifferentIds, entry_order, entry_of, levels};
-    ghost use Rattle.pref_sky.specs.Partials.{ranked_from};
-    ghost use Rattle.pref_sky.specs.declared.entry.Entry.{Entry};
-
     /// A partial result to which nothing was added: the levels of no entries. Takes no memory.
     #[tactic(auto, using(crate::proofs::LevelLaws::levels_of_none))]
     pub fn empty() -> Partial

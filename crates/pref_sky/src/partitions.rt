@@ -1,12 +1,10 @@
 //! Levels of entries in parts that the order never compares with each other.
 
 ghost use Rattle.std.specs.Prelude.{◌≡◌, ◌≤◌, ◌<◌, ◌++◌, ◌-◌, ◌^◌, [], ℕ, suc, List, All, length, map, take, drop, IfOk, OnOk, OnErr};
-ghost use Rattle.pref_sky.specs.Arrivals.{AreComing, AreDealt, HaveArrived, coming_to};
-ghost use Rattle.pref_sky.specs.Items.{AreInPool, AreItems, entries_at, parts_at};
-ghost use Rattle.pref_sky.specs.Made.{ArePartsMade, ArePut, FitIn};
+ghost use Rattle.pref_sky.specs.Made.{AreComing, AreDealt, ArePartsMade, ArePut, FitIn, HaveArrived, coming_to};
+ghost use Rattle.pref_sky.specs.Items.{AreInPool, AreItems, entries_at, parts_at, signature_by};
 ghost use Rattle.pref_sky.specs.Levels.{HaveDifferentIds, at_level, entry_of, entry_order, levels};
-ghost use Rattle.pref_sky.specs.Partitions.{ArePartitionedBy, all_at, depth, partition_of, partitions_by, ranked_parts};
-ghost use Rattle.pref_sky.specs.Signatures.{signature_by};
+ghost use Rattle.pref_sky.specs.Partials.{ArePartitionedBy, all_at, depth, partition_of, partitions_by, ranked_parts};
 ghost use Rattle.pref_sky.specs.declared.entry.Entry.{Entry};
 ghost use Rattle.pref_term.specs.Order.{StaysWithin};
 ghost use Rattle.pref_term.specs.Signatures.{Suit};
@@ -143,17 +141,6 @@ pub(crate) struct Partitions {
 }
 
 impl Partitions {
-    ghost use Rattle.std.specs.Prelude.{◌≡◌, ◌<◌, ◌++◌, [], List, All, map, IfOk, OnOk, OnErr};
-    ghost use Rattle.pref_sky.specs.Arrivals.{AreComing, HaveArrived};
-    ghost use Rattle.pref_sky.specs.Items.{parts_at};
-    ghost use Rattle.pref_sky.specs.Levels.{HaveDifferentIds, entry_of, entry_order, levels};
-    ghost use Rattle.pref_sky.specs.Made.{ArePartsMade};
-    ghost use Rattle.pref_sky.specs.Partitions.{ranked_parts};
-    ghost use Rattle.pref_sky.specs.Signatures.{signature_by};
-    ghost use Rattle.pref_sky.specs.declared.entry.Entry.{Entry};
-    ghost use Rattle.pref_term.specs.Order.{StaysWithin};
-    ghost use Rattle.pref_term.specs.Signatures.{Suit};
-
     /// Parts by these columns that hold nothing.
     fn new(alloc: Global, columns: &[usize]) -> Result<Partitions, AllocError>
         requires { All (λ col. col < 16) columns.now }

@@ -13,9 +13,8 @@
 
 ghost use Rattle.std.specs.Prelude.{◌≡◌, ◌++◌, ◌∷◌, [], true, ℕ, length, IfOk};
 ghost use Rattle.pref_sky.specs.Best.{is_beaten};
-ghost use Rattle.pref_sky.specs.Items.{AreAllItems, AreInPool, AreItems, HasGrown, IsItem, entries_at, levels_at, parts_at};
+ghost use Rattle.pref_sky.specs.Items.{AreAllItems, AreInPool, AreItems, HasGrown, IsItem, entries_at, levels_at, parts_at, signature_by};
 ghost use Rattle.pref_sky.specs.Levels.{entry_order};
-ghost use Rattle.pref_sky.specs.Signatures.{signature_by};
 ghost use Rattle.pref_sky.specs.declared.entry.Entry.{Entry};
 ghost use Rattle.pref_term.specs.Signatures.{Suit};
 

@@ -1,8 +1,7 @@
 //! Signatures of entries, by which most pairs are decided without a comparison.
 
 ghost use Rattle.std.specs.Prelude.{◌≡◌, IfOk};
-ghost use Rattle.pref_sky.specs.Items.{AreItems, entries_at};
-ghost use Rattle.pref_sky.specs.Signatures.{signature_by};
+ghost use Rattle.pref_sky.specs.Items.{AreItems, entries_at, signature_by};
 ghost use Rattle.pref_term.specs.Signatures.{Suit};
 
 use crate::entry::Entry;

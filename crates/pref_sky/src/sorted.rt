@@ -2,9 +2,8 @@
 //! asked for, and when many came, to drop those below the cut.
 
 ghost use Rattle.std.specs.Prelude.{◌≡◌, ◌≤◌, ◌<◌, ◌++◌, true, List, All, get_or, length, map, vec_len, IfOk, OnErr, OnOk};
-ghost use Rattle.pref_sky.specs.ChainOrders.{AreInOrder, is_below, own_levels};
+ghost use Rattle.pref_sky.specs.ChainOrders.{AreInOrder, AreInOrder-prop, AreLeveled, AreLowest, HoldsUpper, is_below, own_levels};
 ghost use Rattle.pref_sky.specs.Levels.{HaveDifferentIds, entry_of};
-ghost use Rattle.pref_sky.specs.Sorted.{AreInOrder-prop, AreLeveled, AreLowest, HoldsUpper};
 ghost use Rattle.pref_sky.specs.declared.entry.Entry.{Entry};
 ghost use Rattle.pref_sky.specs.declared.entry.Ranked.{Ranked};
 

@@ -1,7 +1,6 @@
 use Rattle.pref_sky.proofs.Common.{◌≡◌, ℕ, eqb-true, nil_from_length, List, [], length, sym, ◌∙◌, ap, subst, IfOk-weaker, IsNonDecreasingBy, order_of, order_of_is_row_order, in_same_group, AtLeast}
 use Rattle.pref_sky.proofs.Common.{Question, cut_of, Entry, Ranked, at_least, answer_of, selected, entry_order, levels}
-use Rattle.pref_sky.proofs.AtLeastLaws.{enough}
-use Rattle.pref_sky.proofs.FirstRanked.{levels_sorted}
+use Rattle.pref_sky.proofs.AtLeastLaws.{enough, levels_sorted}
 use Rattle.pref_sky.proofs.Merges.{entry_order_is_strict, entry_order_stays_in_groups}
 use Rattle.pref_sky.proofs.answers.answer.Goals as goal
 

@@ -1,12 +1,9 @@
-use Rattle.pref_sky.proofs.Common.{rules, ◌≡◌, ◌≤◌, length, length-take-le, IsNonDecreasingBy, ◌++◌, ◌∷◌, [], Bool, ℕ, get_or, map, take, sym, ◌∙◌, ap, subst, arith, ltb, le-ltb, false, true}
-use Rattle.pref_sky.proofs.Common.{map-append, in_same_group, Ranked, IsPartitionPoint, IsPartitionPoint-from_clause, count_before, IsPartitionedBy-ltb}
-use Rattle.pref_sky.proofs.FirstRanked.{count_in_front}
-use Rattle.pref_sky.proofs.Loops.{front_more}
+use Rattle.pref_sky.proofs.Common.{rules, ◌≡◌, ◌≤◌, length, IsNonDecreasingBy, ◌++◌, ◌∷◌, [], Bool, ℕ, map, take, sym, ◌∙◌, ap, subst, arith, ltb, false, true, map-append, in_same_group, Ranked}
+use Rattle.pref_sky.proofs.Common.{IsPartitionPoint, IsPartitionPoint-from_clause, count_before, IsPartitionedBy-ltb}
+use Rattle.pref_sky.proofs.AtLeastLaws.{count_in_front}
+use Rattle.pref_sky.proofs.ListLaws.{front_more}
 use Rattle.pref_sky.proofs.answers.choose.Goals.{then-level-entry, else-level-entry}
 use Rattle.pref_sky.proofs.answers.choose.Goals as goal
-
-pub loop-entry-init : goal.loop-entry-init
-loop-entry-init c = (omega arith, λ sorted. (((λ k d low l. absurd (omega (arith, l))), (λ k d low l. le-ltb (get_or c.args.ranked.now k d).level 0 (omega arith))), c.in_ok-chosen.ensures.items))
 
 pub loop-entry-preserved : goal.loop-entry-preserved
 loop-entry-preserved c =
@@ -35,10 +32,3 @@ loop-entry-preserved c =
                 ∙ (ap (λ b. map few (take i ranked) ++ b ∷ []) here ∙ (sym (map-append few (take i ranked) (x ∷ [])) ∙ ap (map few) (sym (front_more ranked i x c.loop-entry-test.true c.entry-item.is))))),
           ),
     )
-
-pub slice_bounds-has_fewer-end : goal.slice_bounds-has_fewer-end
-slice_bounds-has_fewer-end c =
-    let above = c.if-level-entry.above in
-    let ranked = c.args.ranked.now in
-    let within : above ≤ length ranked = elim c.if-level-entry.branch [ then-level-entry w ↦ omega (arith, w.above-is, w.partition_point-above.ensures.bound) | else-level-entry w ↦ omega (arith, w.above-is, c.loop-entry.invariant.0) ] in
-    sym (length-take-le above ranked within)

@@ -1,6 +1,6 @@
 use Rattle.pref_sky.proofs.Common.{◌≡◌, ◌≤◌, ◌<◌, Bool, false, map, length, get_or, sym, ◌∙◌, ap, arith, length-set, get_or-map, get_or_default, [], Ranked, FiltersInPlace-more_no}
 use Rattle.pref_sky.proofs.Common.{FiltersInPlace-more_set}
-use Rattle.pref_sky.proofs.MovedToFront.{same_there}
+use Rattle.pref_sky.proofs.ListLaws.{same_there}
 use Rattle.pref_sky.proofs.answers.keep.Goals.{then-chosen-place, else-chosen-place}
 use Rattle.pref_sky.proofs.answers.keep.Goals as goal
 
@@ -10,7 +10,6 @@ loop-place-preserved c =
     let flags = c.args.chosen.now in
     let ys = c.loop-place.ranked.items in
     let place = c.loop-place.place in
-    let count = c.loop-place.count in
     let inv = c.loop-place.invariant in
     let few : c.min-place-end.result ≤ c.len.result = grind arith in
     let inside : place < length ys = omega (arith, c.loop-place-test.true, few, c.len.ensures, c.args.ranked.now.ok.0, inv.long) in
@@ -22,7 +21,7 @@ loop-place-preserved c =
           let x : Ranked = w.index.result.now in
           rw (w.ranked-is, w.count-is) (record {
             behind = omega (arith, inv.behind);
-            long = length-set ys count x ∙ inv.long;
+            long = length-set ys c.loop-place.count x ∙ inv.long;
             moved = λ test by. FiltersInPlace-more_set (inv.moved test by) inside (decided test x by w.index.ensures ∙ w.if-chosen-place.true) w.index.ensures;
           })
       | else-chosen-place w ↦

@@ -1,6 +1,6 @@
 use Rattle.pref_sky.proofs.Common.{rules, ◌≡◌, ◌<◌, ◌-◌, suc, [], leb, true, false, List, length, sym, ◌∙◌, ap, subst, arith, IsNonDecreasingBy, IsPartitionPoint, IsPartitionPoint-from_clause}
 use Rattle.pref_sky.proofs.Common.{IsPartitionedBy-leb, in_same_group, Ranked, at_least}
-use Rattle.pref_sky.proofs.FirstRanked.{all_ranked, first_ranked, none_ranked}
+use Rattle.pref_sky.proofs.AtLeastLaws.{all_ranked, first_ranked, none_ranked}
 use Rattle.pref_sky.proofs.answers.keep_first_levels.Goals as goal
 
 pub returns-then-least-eq0 : goal.returns-then-least-eq0
@@ -10,8 +10,7 @@ returns-then-least-eq0 c sorted =
 
 pub returns-else-least-len : goal.returns-else-least-len
 returns-else-least-len c sorted =
-    let xs = c.args.ranked.now.items in
-    all_ranked c.args.least xs (omega (arith, c.if-least-len.false, c.len.ensures, c.args.ranked.now.ok.0))
+    all_ranked c.args.least c.args.ranked.now.items (omega (arith, c.if-least-len.false, c.len.ensures, c.args.ranked.now.ok.0))
 
 pub returns-then-least-len : goal.returns-then-least-len
 returns-then-least-len c sorted =

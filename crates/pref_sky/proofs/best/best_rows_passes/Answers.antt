@@ -2,10 +2,9 @@ use Rattle.pref_sky.proofs.Common.{rules, ◌≡◌, ◌==◌, ◌++◌, [], ◌
 use Rattle.pref_sky.proofs.Common.{Entry, Item, best, AreItems, entries_at, entry_at, HaveDifferentIds, entry_order, Parted, signature_by}
 use Rattle.pref_sky.proofs.Merges.{different_best}
 use Rattle.pref_sky.proofs.IdOrder.{same_in_order, sorted_is}
-use Rattle.pref_sky.proofs.PartedLaws.{best_are}
+use Rattle.pref_sky.proofs.ItemsLaws.{best_are, entries_parted, parted_items, suit_tells}
 use Rattle.pref_sky.proofs.best.best_rows_passes.Given.{Over}
 use Rattle.pref_sky.proofs.best.best_rows_passes.Goals.{After-deref-item-items}
-use Rattle.pref_sky.proofs.ItemsLaws.{entries_parted, parted_items, suit_tells}
 use Rattle.pref_sky.proofs.best.best_rows_passes.Goals as goal
 
 -- the best items are some of the entries
@@ -23,8 +22,7 @@ bounds-entries-item g c = (best_are_items g (goal.at.bounds-entries-item g c).Af
 
 pub offset_bounds-entries-item : goal.offset_bounds-entries-item
 offset_bounds-entries-item g c =
-    let inside = (best_are_items g (goal.at.offset_bounds-entries-item g c).After-deref-item-items c.loop-item.item-index (record { signature = 0; place = 0 }) c.loop-item-test.true).within in
-    omega (arith, inside)
+    omega (arith, ((best_are_items g (goal.at.offset_bounds-entries-item g c).After-deref-item-items c.loop-item.item-index (record { signature = 0; place = 0 }) c.loop-item-test.true).within))
 
 -- one more entry is taken
 pub loop-item-preserved : goal.loop-item-preserved

@@ -1,7 +1,6 @@
 use Rattle.pref_sky.proofs.Common.{◌≡◌, ◌∙◌, ◌+◌, ◌++◌, ◌∷◌, [], ℕ, Vec, Global, sym, ap, subst, take, add-one, get_or_read, Ranked, own_order, entry_at, StandsBehind, with_levels, at_level}
-use Rattle.pref_sky.proofs.ChainOrdersLaws.{own_are_stairs, stands_behind}
-use Rattle.pref_sky.proofs.LayersLaws.{AreLasts, lasts_more, lasts_stay, next_chain}
-use Rattle.pref_sky.proofs.RankedEntries.{listed_as_it_was, listed_more}
+use Rattle.pref_sky.proofs.ChainStairs.{own_are_stairs, stands_behind}
+use Rattle.pref_sky.proofs.LayersLaws.{AreLasts, lasts_more, lasts_stay, next_chain, listed_as_it_was, listed_more}
 use Rattle.pref_sky.proofs.layers.with_levels.Goals.{then-above-order+in_ok-note_last+in_ok-push, else-above-order}
 use Rattle.pref_sky.proofs.layers.with_levels.Goals as goal
 

@@ -1,10 +1,13 @@
 use Rattle.pref_sky.proofs.Common.{◌≡◌, ◌≤◌, ◌<◌, ◌⊎◌, inl, inr, ◌++◌, map, get_or, length, drop, vec_len, sym, ◌∙◌, ap, subst, arith, both_ways, eqb-true, All, Arrival, AreAllItems, item_order}
 use Rattle.pref_sky.proofs.Common.{items_at, entry_order, Parted, signature_by}
-use Rattle.pref_sky.proofs.MembersLaws.{among_place}
+use Rattle.pref_sky.proofs.ListLaws.{among_place}
 use Rattle.pref_sky.proofs.Merges.{entry_order_is_strict}
 use Rattle.pref_sky.proofs.MadeItems.{MakingItems, first_inside, first_starts, making_items_begin, making_items_end, making_items_more}
 use Rattle.pref_sky.proofs.making.made_of.Goals.{then-each_level-test+else-not-is_empty, then-is_empty, else-is_empty, else-each_level-test}
 use Rattle.pref_sky.proofs.making.made_of.Goals as goal
+
+abbrev none : Arrival
+none = record { part = 0; start = 0; item = record { signature = 0; place = 0 } }
 
 pub each_level-init : goal.each_level-init
 each_level-init g c =
@@ -14,7 +17,6 @@ each_level-init g c =
     let pool = c.args.pool.now.entries.items in
     let arrivals = c.args.arrivals.now in
     let levels = c.args.levels.now in
-    let none : Arrival = record { part = 0; start = 0; item = record { signature = 0; place = 0 } } in
     let first : Arrival = get_or arrivals 0 none in
     let made = c.in_ok-made.made in
     let long : length made.items ≡ first.start = c.in_ok-made.ensures.long in
@@ -33,7 +35,6 @@ each_level-preserved g c =
     let pool = c.args.pool.now.entries.items in
     let arrivals = c.args.arrivals.now in
     let levels = c.args.levels.now in
-    let none : Arrival = record { part = 0; start = 0; item = record { signature = 0; place = 0 } } in
     let first : Arrival = get_or arrivals 0 none in
     let inv = c.each_level.invariant in
     let made = c.each_level.made.items in
@@ -68,7 +69,6 @@ returns-clause-made g c =
     let pool = c.args.pool.now.entries.items in
     let arrivals = c.args.arrivals.now in
     let levels = c.args.levels.now in
-    let none : Arrival = record { part = 0; start = 0; item = record { signature = 0; place = 0 } } in
     let first : Arrival = get_or arrivals 0 none in
     let made = c.each_level.made in
     let down = c.each_level.down in

@@ -1,6 +1,6 @@
 use Rattle.pref_sky.proofs.Common.{rules, ◌≡◌, true, false, IsPartitionPoint, IsPartitionPoint-from_clause, comes_before, Entry}
-use Rattle.pref_sky.proofs.ChainOrdersLaws.{before_is_chain}
-use Rattle.pref_sky.proofs.MergedLists.{fails_behind, parted_by_entry, passes_before}
+use Rattle.pref_sky.proofs.ChainStairs.{before_is_chain}
+use Rattle.pref_sky.proofs.ListLaws.{fails_behind, passes_before, parted_by_entry}
 use Rattle.pref_sky.proofs.merging.count_before.Goals as goal
 
 -- those in front of the place come before the entry, and those behind it don't
@@ -13,7 +13,7 @@ cut c =
     (parted_by_entry (comes_before order) (before_is_chain order) entries entry c.requires) (λ a r f k. search rules)
 
 pub returns-clause-front : goal.returns-clause-front
-returns-clause-front c = passes_before (λ (e : Entry). comes_before c.args.order.now e c.args.entry.now) c.args.entries.now c.partition_point.result (cut c) c.partition_point.ensures.bound
+returns-clause-front c = passes_before (λ (e : Entry). comes_before c.args.order.now e c.args.entry.now) c.args.entries.now c.partition_point.result (cut c)
 
 pub returns-clause-back : goal.returns-clause-back
-returns-clause-back c = fails_behind (λ (e : Entry). comes_before c.args.order.now e c.args.entry.now) c.args.entries.now c.partition_point.result (cut c) c.partition_point.ensures.bound
+returns-clause-back c = fails_behind (λ (e : Entry). comes_before c.args.order.now e c.args.entry.now) c.args.entries.now c.partition_point.result (cut c)

@@ -1,14 +1,12 @@
 use Rattle.pref_sky.proofs.Common.{◌≡◌, ◌∙◌, ◌++◌, ◌+◌, [], ◌∷◌, true, false, not, take, drop, sym, ap, subst, append_assoc, take-append-drop, IsPermutation, drop_more, Entry, AreInOrder}
 use Rattle.pref_sky.proofs.Common.{comes_before, Among}
-use Rattle.pref_sky.proofs.ChainOrdersLaws.{before_is_chain}
-use Rattle.pref_sky.proofs.Loops.{front_more}
-use Rattle.pref_sky.proofs.MergedLists.{below_later, in_order_back, merged_more, moved_more}
+use Rattle.pref_sky.proofs.ChainStairs.{before_is_chain}
+use Rattle.pref_sky.proofs.ListLaws.{front_more, below_later, in_order_back, merged_more, moved_more}
 use Rattle.pref_sky.proofs.merging.merge.Goals as goal
 
 pub count_before-requires : goal.count_before-requires
 count_before-requires c =
-    let order = c.args.order.now in
-    in_order_back (λ a b. not (comes_before order b a)) c.loop-entry.all.items c.loop-entry.rest.now c.loop-entry.invariant.sorted
+    in_order_back (λ a b. not (comes_before c.args.order.now b a)) c.loop-entry.all.items c.loop-entry.rest.now c.loop-entry.invariant.sorted
 
 pub loop-entry-preserved : goal.loop-entry-preserved
 loop-entry-preserved c =

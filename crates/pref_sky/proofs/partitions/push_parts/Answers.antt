@@ -1,7 +1,6 @@
 use Rattle.pref_sky.proofs.Common.{◌≡◌, ◌∙◌, ◌+◌, ◌++◌, suc, List, Vec, Global, drop, map, sym, ap, subst, append_assoc, add-one, at_drop_more, map-append, Item, AreAllItems, AreItems, IsItem}
 use Rattle.pref_sky.proofs.Common.{entries_at, levels_at, parts_at, at_level, held_at, all_at}
-use Rattle.pref_sky.proofs.PartItems.{all_held}
-use Rattle.pref_sky.proofs.PoolLaws.{entries_held}
+use Rattle.pref_sky.proofs.PoolLaws.{all_held, entries_held}
 use Rattle.pref_sky.proofs.partitions.push_parts.Goals as goal
 
 pub push_items-requires : goal.push_items-requires

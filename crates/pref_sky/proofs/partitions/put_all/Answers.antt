@@ -1,8 +1,7 @@
 use Rattle.pref_sky.proofs.Common.{◌≡◌, ◌<◌, ◌++◌, ◌∷◌, [], length, ap, arith, subst, sym, ◌∙◌, append_assoc, inl, refl, ltb, AreInOrderOfPart, Fits, new_levels, replaced, Made, items_at, Among}
 use Rattle.std.specs.Vec.Iter.{into_iter_items}
-use Rattle.pref_sky.proofs.MembersLaws.{all_among, in_left, in_right}
-use Rattle.pref_sky.proofs.MergedLists.{in_order_front}
-use Rattle.pref_sky.proofs.PartItems.{in_here}
+use Rattle.pref_sky.proofs.ListLaws.{all_among, in_left, in_right, in_order_front}
+use Rattle.pref_sky.proofs.PoolLaws.{in_here}
 use Rattle.pref_sky.proofs.PartSteps.{putting_more, still_there}
 use Rattle.pref_sky.proofs.partitions.put_all.Goals as goal
 

@@ -42,9 +42,7 @@ each_pass-init g c =
 
 pub each_pass-preserved : goal.each_pass-preserved
 each_pass-preserved g c =
-    let row_order = g.D.Dominance.order c.args.dominance.now in
-    let over = item_order row_order c.args.pool.now in
-    let strict = item_order_is_strict row_order c.args.pool.now (entry_order_is_strict row_order (g.met.D.Dominance.laws c.args.dominance.now)) in
+    let over = item_order (g.D.Dominance.order c.args.dominance.now) c.args.pool.now in
     let inv = c.each_pass.invariant in
     let held = c.args.held.now in
     let all = held ++ c.args.items.now in
@@ -62,9 +60,8 @@ each_pass-preserved g c =
     let next : Passes over held room all c.end_pass.new.best.items c.in_ok-input-2.input.items (length end.rest.items) now =
     of_same_lists (λ best left. Passing over held room all best left (length end.rest.items)) (best ++ end.early.items) end.overflow.items end.late.items [] [] end.rest.items
     c.end_pass.new.best.items c.in_ok-input-2.input.items now.early.items now.late.items now.overflow.items now.rest.items s.best s.next s.early s.late s.overflow s.rest
-    (pass_ends over held room all best inv.before end.early.items end.late.items end.overflow.items end.rest.items strict wide passed) in
+    (pass_ends over held room all best inv.before end.early.items end.late.items end.overflow.items end.rest.items wide passed) in
     let rest = ap length s.rest in
-    let found = ap length s.best in
     record {
       before = length end.rest.items;
       passed = next;
@@ -72,7 +69,7 @@ each_pass-preserved g c =
       overflow = ap length s.overflow;
       empty = λ h. ap length s.early ∙ passed.fresh (ap length (sym s.next) ∙ h);
       settled = omega (arith, rest);
-      count = omega (arith, more, found, length-append best end.early.items, inv.count);
+      count = omega (arith, more, (ap length s.best), length-append best end.early.items, inv.count);
       begins = λ h. absurd (omega (arith, h));
       unsettled = omega (arith, pass_long over held room all c.end_pass.new.best.items (length end.rest.items) c.in_ok-input-2.input.items now.early.items now.late.items now.overflow.items now.rest.items next, rest);
     }
@@ -95,9 +92,11 @@ each_pass-smaller g c =
 
 pub returns-clause-parted : goal.returns-clause-parted
 returns-clause-parted g c =
-    let over = item_order (g.D.Dominance.order c.args.dominance.now) c.args.pool.now in
+    let order = g.D.Dominance.order c.args.dominance.now in
+    let over = item_order order c.args.pool.now in
+    let strict = item_order_is_strict order c.args.pool.now (entry_order_is_strict order (g.met.D.Dominance.laws c.args.dominance.now)) in
     let inv = c.each_pass.invariant in
     let a = c.each_pass.pass in
     let none : length c.each_pass.input.items ≡ 0 = omega (arith, eqb-true (vec_len c.each_pass.input) 0 (sym c.is_empty-in-each_pass.ensures ∙ c.each_pass-test.false), c.each_pass.input.ok.0) in
-    passes_end over c.args.held.now c.saturating_add-room.result c.args.items.now c.each_pass.best.items c.each_pass.input.items inv.before a.early.items a.late.items a.overflow.items a.rest.items
+    passes_end over strict c.args.held.now c.saturating_add-room.result c.args.items.now c.each_pass.best.items c.each_pass.input.items inv.before a.early.items a.late.items a.overflow.items a.rest.items
     none (inv.empty none) inv.late inv.overflow inv.passed

@@ -1,9 +1,8 @@
 use Rattle.pref_sky.proofs.Common.{◌≡◌, ◌∙◌, ◌<◌, ◌+◌, ◌/◌, true, length, sym, ap, subst, arith, vec_len, Vec, Global, swap_remove, get_or_default, IsPermutation-swap, is_better, is_worse, is_same}
-use Rattle.pref_sky.proofs.Common.{Item, item_order, Among, Sifted}
-use Rattle.pref_sky.proofs.Bags.{among_if, is_item, some_of}
-use Rattle.pref_sky.proofs.MembersLaws.{among_place, any_from}
-use Rattle.pref_sky.proofs.IdOrder.{same_if_permuted}
-use Rattle.pref_sky.proofs.SiftedLaws.{AreClear, AreDecided, clear_if_alike, clear_after_move, clear_by_place, clear_more, clear_upto, sifted_more, sifted_moved, sifted_none}
+use Rattle.pref_sky.proofs.Common.{Item, item_order, Among, Sifted, false}
+use Rattle.std.proofs.lemmas.List.Elements.{AllWithin-more, at_read}
+use Rattle.pref_sky.proofs.ListLaws.{all_among, among_if, is_item, some_of, among_place, any_from, same_if_permuted}
+use Rattle.pref_sky.proofs.PassesLaws.{AreClear, AreDecided, clear_if_alike, clear_after_move, clear_upto, sifted_more, sifted_moved}
 use Rattle.pref_sky.proofs.passes.sift.Goals.{in-Worse+in_ok-push-in-Worse, in-Neither}
 use Rattle.pref_sky.proofs.passes.sift.Goals as goal
 
@@ -16,8 +15,7 @@ returns-in-Same g c = (
       let held = c.each.held.items in
       let y = c.index.result.now in
       let inside : c.each.place < length held = omega (arith, c.each-test.true, c.len.ensures, c.each.held.ok.0) in
-      let s = c.each.invariant.sifted in
-      let back : (x : Item) → Among x held → Among x c.args.held.now.items = λ x m. among_if x c.args.held.now.items (omega (arith, s.bag (is_item x), some_of x held m)) in
+      let back : (x : Item) → Among x held → Among x c.args.held.now.items = λ x m. among_if x c.args.held.now.items (omega (arith, c.each.invariant.sifted.bag (is_item x), some_of x held m)) in
       clear_if_alike over held y c.args.item.now (subst (λ z. Among z held) (sym c.index.ensures) (among_place held c.each.place y inside)) (c.compare_items.ensures.stand_alike (ap is_same c.in-Same.is))
       (λ a b ma mb. apart a b (back a ma) (back b mb)),
 )
@@ -37,21 +35,6 @@ returns-in-Better g c =
           (sym c.compare_items.ensures.better ∙ ap is_better c.in-Better.is),
     )
 
--- the first places are told by the signatures
-pub each-init : goal.each-init
-each-init g c =
-    let order = g.D.Dominance.order c.args.dominance.now in
-    let pool = c.args.pool.now in
-    let item = c.args.item.now in
-    let held = c.args.held.now.items in
-    let place = c.next_open-place.result in
-    let decided : AreDecided held item 0 place = subst (λ l. AreDecided l item 0 place) c.deref.ensures.value c.next_open-place.ensures.decided in
-    record {
-      inside = omega (arith, c.next_open-place.ensures.within.1, ap length c.deref.ensures.value);
-      sifted = sifted_none (item_order order pool) item held c.args.rest.now.items;
-      clear = clear_upto order pool held item 0 place (λ k d within. absurd (omega (arith, within))) decided;
-    }
-
 -- one goes out, which the item dominates, or the item is clear of one more
 pub each-preserved : goal.each-preserved
 each-preserved g c =
@@ -62,7 +45,6 @@ each-preserved g c =
     let old = c.args.held.now.items in
     let start = c.args.rest.now.items in
     let held = c.each.held.items in
-    let rest = c.each.rest.items in
     let i = c.each.place in
     let met = c.match-compare_items in
     let inside : i < length held = omega (arith, c.each-test.true, c.len.ensures, c.each.held.ok.0) in
@@ -72,7 +54,7 @@ each-preserved g c =
           let x = w.swap_remove-beaten.result in
           let is : x ≡ c.index.result.now = w.swap_remove-beaten.ensures.value ∙ (get_or_default held i x c.index.result.now inside ∙ sym c.index.ensures) in
           let above : over item x ≡ true = ap (over item) is ∙ (sym c.compare_items.ensures.worse ∙ ap is_worse w.in-Worse.is) in
-          let more = sifted_more over item old held start rest i x inside w.swap_remove-beaten.ensures.value above c.each.invariant.sifted in
+          let more = sifted_more over item old held start c.each.rest.items i x inside w.swap_remove-beaten.ensures.value above c.each.invariant.sifted in
           let held_is : met.held.items ≡ swap_remove held i x = ap (λ (v : Vec Item Global). v.items) w.held-is ∙ w.swap_remove-beaten.ensures.items in
           let clear = clear_after_move over held w.swap_remove-beaten.new.self.items item i (vec_len c.each.held) (omega (arith, c.each-test.true, c.len.ensures)) w.swap_remove-beaten.ensures.by_index.1 c.each.invariant.clear in (
             subst (λ l. Sifted over item old l start met.rest.items) (sym held_is)
@@ -80,7 +62,9 @@ each-preserved g c =
             subst (λ n. AreClear over met.held.items item n) (sym w.place-is) (subst (λ (v : Vec Item Global). AreClear over v.items item i) (sym w.held-is) clear),
           )
       | in-Neither w ↦
-          let clear = clear_more over held item i c.index.result.now inside c.index.ensures (sym c.compare_items.ensures.better ∙ ap is_better w.in-Neither.is) (sym c.compare_items.ensures.worse ∙ ap is_worse w.in-Neither.is) c.each.invariant.clear in (
+          let IsApart : Item → Type 0 = λ x. (over x item ≡ false) × (over item x ≡ false) in
+          let apart : IsApart c.index.result.now = (sym c.compare_items.ensures.better ∙ ap is_better w.in-Neither.is, sym c.compare_items.ensures.worse ∙ ap is_worse w.in-Neither.is) in
+          let clear = AllWithin-more IsApart held 0 i c.each.invariant.clear (at_read held IsApart i c.index.result.now inside c.index.ensures apart) in (
             subst (λ (v : Vec Item Global). Sifted over item old v.items start met.rest.items) (sym w.held-is)
                 (subst (λ (v : Vec Item Global). Sifted over item old held start v.items) (sym w.rest-is) c.each.invariant.sifted),
             subst (λ n. AreClear over met.held.items item n) (sym w.place-is) (subst (λ (v : Vec Item Global). AreClear over v.items item (i + 1)) (sym w.held-is) clear),
@@ -97,4 +81,4 @@ each-preserved g c =
 pub returns : goal.returns
 returns g c =
     let over = item_order (g.D.Dominance.order c.args.dominance.now) c.args.pool.now in
-    (c.each.invariant.sifted, λ apart. clear_by_place over c.each.held.items c.args.item.now c.each.place (omega (arith, c.each-test.false, c.len.ensures, c.each.held.ok.0)) c.each.invariant.clear)
+    (c.each.invariant.sifted, λ apart. all_among (λ x. (over x c.args.item.now ≡ false) × (over c.args.item.now x ≡ false)) c.each.held.items (λ k d inside. c.each.invariant.clear k d (omega arith) (omega (arith, inside, c.each-test.false, c.len.ensures, c.each.held.ok.0))))

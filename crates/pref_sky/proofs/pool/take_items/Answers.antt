@@ -1,15 +1,6 @@
-use Rattle.pref_sky.proofs.Common.{◌≡◌, ◌∙◌, ◌<◌, ◌+◌, ◌∷◌, ◌++◌, [], get_or, length, take, sym, ap, subst, arith, get_or_default, All-push, Entry, Item, AreItems, IsItem, entries_at, entry_at}
-use Rattle.pref_sky.proofs.Common.{signature_by}
-use Rattle.pref_sky.proofs.PoolLaws.{entries_grown, entry_behind, grown_none, grown_then, items_grown, result_more}
+use Rattle.pref_sky.proofs.Common.{◌≡◌, ◌∙◌, ◌<◌, ◌+◌, ◌∷◌, ◌++◌, [], get_or, length, take, sym, ap, subst, get_or_default, All-push, Entry, Item, AreItems, IsItem, entries_at, entry_at, signature_by}
+use Rattle.pref_sky.proofs.PoolLaws.{entries_grown, entry_behind, grown_then, items_grown, result_more}
 use Rattle.pref_sky.proofs.pool.take_items.Goals as goal
-
-pub loop-item-init : goal.loop-item-init
-loop-item-init c =
-    record {
-      grown = grown_none c.args.pool.now;
-      items = λ k d inside. absurd (omega (arith, inside, ap length c.in_ok-taken.ensures.items));
-      entries = ap (entries_at c.args.pool.now.entries.items) c.in_ok-taken.ensures.items;
-    }
 
 pub loop-item-preserved : goal.loop-item-preserved
 loop-item-preserved c =

@@ -1,19 +1,6 @@
-use Rattle.pref_sky.proofs.Common.{◌≡◌, ◌∙◌, ◌+◌, ◌∷◌, ◌++◌, [], Vec, length, take, sym, ap, subst, arith, All-push, Global, Item, AreAllItems, AreItems, entries_at, levels_at, signature_by}
-use Rattle.pref_sky.proofs.PoolLaws.{all_items_grown, grown_none, grown_then, levels_grown, result_more}
+use Rattle.pref_sky.proofs.Common.{◌≡◌, ◌∙◌, ◌+◌, ◌∷◌, ◌++◌, [], Vec, take, sym, ap, subst, All-push, Global, Item, AreAllItems, AreItems, entries_at, levels_at, signature_by}
+use Rattle.pref_sky.proofs.PoolLaws.{all_items_grown, grown_then, levels_grown, result_more}
 use Rattle.pref_sky.proofs.pool.take_levels.Goals as goal
-
-pub take_items-requires : goal.take_items-requires
-take_items-requires c =
-    let rule = c.requires.0 in
-    (rule, subst (AreItems rule c.args.entries.now) (sym c.deref.ensures.value) (subst (λ (v : Vec Item Global). AreItems rule c.args.entries.now v.items) (sym c.level-item.is) (c.requires.1 c.loop-level.level-index c.level-item.result c.loop-level-test.true)))
-
-pub loop-level-init : goal.loop-level-init
-loop-level-init c =
-    record {
-      grown = grown_none c.args.pool.now;
-      items = λ k d inside. absurd (omega (arith, inside, ap length c.in_ok-taken.ensures.items));
-      entries = ap (levels_at c.args.pool.now.entries.items) c.in_ok-taken.ensures.items;
-    }
 
 pub loop-level-preserved : goal.loop-level-preserved
 loop-level-preserved c =

@@ -1,21 +1,7 @@
 use Rattle.pref_sky.proofs.Common.{◌≡◌, ◌∙◌, ◌+◌, ◌∷◌, ◌++◌, [], Vec, length, length-append, take, sym, ap, subst, arith, All-push, Global, Item, AreInPool, AreAllItems, levels_at, parts_at}
 use Rattle.pref_sky.proofs.Common.{signature_by}
-use Rattle.pref_sky.proofs.PoolLaws.{grown_none, grown_then, in_pool_grown, parts_grown, result_more}
+use Rattle.pref_sky.proofs.PoolLaws.{grown_then, in_pool_grown, parts_grown, result_more}
 use Rattle.pref_sky.proofs.pool.take_parts.Goals as goal
-
-pub take_levels-requires : goal.take_levels-requires
-take_levels-requires c =
-    let rule = c.requires.0 in
-    (rule, subst (AreAllItems rule c.args.entries.now) (sym c.deref.ensures.value) (subst (λ (v : Vec (Vec Item Global) Global). AreAllItems rule c.args.entries.now v.items) (sym c.part-item.is) (c.requires.1 c.loop-part.part-index c.part-item.result c.loop-part-test.true)))
-
-pub loop-part-init : goal.loop-part-init
-loop-part-init c =
-    record {
-      long = ap length c.in_ok-taken.ensures.items;
-      grown = grown_none c.args.pool.now;
-      items = λ k d inside. absurd (omega (arith, inside, ap length c.in_ok-taken.ensures.items));
-      entries = ap (parts_at c.args.pool.now.entries.items) c.in_ok-taken.ensures.items;
-    }
 
 pub loop-part-preserved : goal.loop-part-preserved
 loop-part-preserved c =

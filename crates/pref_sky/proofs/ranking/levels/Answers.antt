@@ -4,6 +4,5 @@ use Rattle.pref_sky.proofs.ranking.levels.Goals as goal
 -- what was empty holds the levels of what was added
 pub returns : goal.returns
 returns g c =
-    let over = entry_order (g.D.Dominance.order c.args.dominance.now) in
-    let added = c.in_ok-add.ensures.ok [] c.requires.ids (c.empty-partial.ensures.levels over c.args.cut) in
+    let added = c.in_ok-add.ensures.ok [] c.requires.ids (c.empty-partial.ensures.levels (entry_order (g.D.Dominance.order c.args.dominance.now)) c.args.cut) in
     IfOk-weaker c.ranked.result _ _ (λ ranked is. is ∙ added) c.ranked.ensures

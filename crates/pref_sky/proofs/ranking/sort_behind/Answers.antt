@@ -12,9 +12,8 @@ returns c front level entries different long is =
     let after = c.sort_unstable_by_key.new.self in
     let slice_is : slice ≡ front ++ map (at_level level) entries = c.deref_mut.ensures.value ∙ is in
     let sorted = IsNonDecreasingBy-from_sort_by_key (λ (r : Ranked). r.id) _ c.sort_unstable_by_key.ensures.sorted (λ a r q k. search rules) in
-    let written = sorted_behind level start front entries slice after different long slice_is c.sort_unstable_by_key.ensures.permutation sorted in
     let count = length slice - start in
     let post = post_of start count slice in
     let whole : length (put_mid start count slice after) ≡ vec_len old =
     omega (arith, length-append (take start slice) (after ++ post), length-append after post, length-take start slice, length-drop start slice, length-take count (drop start slice), length-drop count (drop start slice), c.sort_unstable_by_key.ensures.len, c.deref_mut.ensures.len, c.requires) in
-    with_items_is old (put_mid start count slice after) whole ∙ written
+    with_items_is old (put_mid start count slice after) whole ∙ (sorted_behind level start front entries slice after different long slice_is c.sort_unstable_by_key.ensures.permutation sorted)

@@ -1,5 +1,5 @@
 use Rattle.pref_sky.proofs.Common.{rules}
-use Rattle.pref_sky.proofs.ChainOrdersLaws.{in_order_from_sort_by}
+use Rattle.pref_sky.proofs.ChainStairs.{in_order_from_sort_by}
 use Rattle.pref_sky.proofs.chain_order.ChainOrder.sort.Goals as goal
 
 pub returns : goal.returns

@@ -10,10 +10,7 @@ if_done (Err e) then done = tt
 -- the chains say what the order says
 pub returns-then-is_of-clause-ok : goal.returns-then-is_of-clause-ok
 returns-then-is_of-clause-ok g c = λ before apart is.
-    let row_order = g.D.Dominance.order c.args.dominance.now in
-    let order = c.in-Sorted.sorted.pruned.order in
-    let entries = c.args.entries.now in
     let new = c.add.new.self in
-    let says = says_its_levels row_order order c.args.cut (c.is_of.ensures c.if-is_of.true) in
-    if_done c.add.result (λ done. ap (λ (o : ChainOrder). own_levels o (new.pruned.entries.items ++ new.recent.items)) c.add.ensures.order ∙ (done ∙ sym (says (before ++ entries))))
+    let says = says_its_levels (g.D.Dominance.order c.args.dominance.now) c.in-Sorted.sorted.pruned.order c.args.cut (c.is_of.ensures c.if-is_of.true) in
+    if_done c.add.result (λ done. ap (λ (o : ChainOrder). own_levels o (new.pruned.entries.items ++ new.recent.items)) c.add.ensures.order ∙ (done ∙ sym (says (before ++ c.args.entries.now))))
     (c.add.ensures.ok before apart (sym (sym c.self.view_is ∙ ap ranked_held c.in-Sorted.is) ∙ (is ∙ says before)))

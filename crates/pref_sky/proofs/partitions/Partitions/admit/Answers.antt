@@ -1,4 +1,5 @@
-use Rattle.pref_sky.proofs.Common.{◌∙◌, ◌<◌, ◌^◌, map, sym, subst, IfOk-weaker, Suit, HaveArrived, HaveDifferentIds, entry_of, entry_order, ArePartitionedBy, depth, partition_of, ranked_parts, signature_by}
+use Rattle.pref_sky.proofs.Common.{◌∙◌, ◌<◌, ◌^◌, map, sym, subst, IfOk-weaker, Suit, HaveArrived, HaveDifferentIds, entry_of, entry_order, ArePartitionedBy, depth, partition_of, ranked_parts}
+use Rattle.pref_sky.proofs.Common.{signature_by}
 use Rattle.pref_sky.proofs.PoolLaws.{in_pool_grown, parts_grown}
 use Rattle.pref_sky.proofs.partitions.Partitions.admit.Goals as goal
 
@@ -25,12 +26,11 @@ returns-clause-same g c =
 pub returns-clause-arrivals : goal.returns-clause-arrivals
 returns-clause-arrivals g c =
     let order = g.D.Dominance.order c.args.dominance.now in
-    let s = c.renew.new.self in
     let now = c.arrivals_of.new.pool in
     let pool = now.entries.items in
     let rule = signature_by now.scales in
     IfOk-weaker c.arrivals_of.result _ _ (λ arrivals came. (
       subst (Suit order) (sym c.arrivals_of.ensures.grown.scales) (c.in_ok-renew.ensures {u = tt}).suit,
-      subst (λ l. HaveArrived (entry_order order) rule c.args.cut l pool s.parts.items c.args.entries.now arrivals.items) c.deref.ensures.value
+      subst (λ l. HaveArrived (entry_order order) rule c.args.cut l pool c.renew.new.self.parts.items c.args.entries.now arrivals.items) c.deref.ensures.value
           (subst (λ l. HaveArrived (entry_order order) rule c.args.cut c.deref.result.now pool l c.args.entries.now arrivals.items) c.deref-2.ensures.value came),
     )) c.arrivals_of.ensures.arrivals

@@ -1,20 +1,17 @@
 use Rattle.pref_sky.proofs.Common.{◌≡◌, ◌<◌, length, get_or, drop, arith, subst, sym, ◌∙◌, refl, false, eqb, eqb-false, AreInOrderOfStart, StartsAt, levels_at, items_at, entry_order, AreLevelsMade}
 use Rattle.pref_sky.proofs.Common.{signature_by, Arrival, All}
-use Rattle.pref_sky.proofs.MembersLaws.{among_place}
-use Rattle.pref_sky.proofs.PartArrivals.{by_start, first_part}
-use Rattle.pref_sky.proofs.PartItems.{in_here}
-use Rattle.pref_sky.proofs.PartSteps.{MakingParts, front_of_part, front_starts, making_more, part_made}
+use Rattle.pref_sky.proofs.ListLaws.{among_place}
+use Rattle.pref_sky.proofs.PartSteps.{by_start, first_part, MakingParts, front_of_part, front_starts, making_more, part_made}
+use Rattle.pref_sky.proofs.PoolLaws.{in_here}
 use Rattle.pref_sky.proofs.partitions.Partitions.made.Goals as goal
 
-none : Arrival
+abbrev none : Arrival
 none = record { part = 0; start = 0; item = record { signature = 0; place = 0 } }
 
 pub count_coming-requires-clause-first : goal.count_coming-requires-clause-first
-unfolding none
 count_coming-requires-clause-first g c = first_part c.each_part.rest.now none c.each_part.invariant.coming.dealt
 
 pub made_of-requires-clause-start : goal.made_of-requires-clause-start
-unfolding none
 made_of-requires-clause-start g c =
     let over = entry_order (g.D.Dominance.order c.args.dominance.now) in
     let rule = signature_by c.args.self.now.pool.scales in
@@ -30,7 +27,6 @@ made_of-requires-clause-start g c =
     (front_starts over c.args.cut rule pool parts c.args.arrivals.now rest c.each_part.all.items inv part c.count_coming.result c.deref.result.now there c.count_coming.ensures.coming)
 
 pub made_of-requires-clause-in_order : goal.made_of-requires-clause-in_order
-unfolding none
 made_of-requires-clause-in_order g c =
     let rest = c.each_part.rest.now in
     let inv = c.each_part.invariant in
@@ -41,7 +37,6 @@ made_of-requires-clause-in_order g c =
     (items_at part c.args.self.now.parts.items) refl c.count_coming.ensures.coming))
 
 pub each_part-preserved : goal.each_part-preserved
-unfolding none
 each_part-preserved g c =
     let over = entry_order (g.D.Dominance.order c.args.dominance.now) in
     let cut = c.args.cut in

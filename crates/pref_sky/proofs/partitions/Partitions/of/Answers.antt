@@ -34,7 +34,6 @@ each_piece-smaller g c =
 pub each_piece-preserved : goal.each_piece-preserved
 each_piece-preserved g c =
     let order = g.D.Dominance.order c.args.dominance.now in
-    let over = entry_order order in
     let inv = c.each_piece.invariant in
     let piece = c.split_at.result.0.now in
     let others = c.split_at.result.1.now in
@@ -49,7 +48,7 @@ each_piece-preserved g c =
           let behind : before ++ entries ≡ ((before ++ inv.done) ++ piece) ++ others =
           ap (λ l. before ++ l) whole ∙ (sym (append_assoc before (inv.done ++ piece) others) ∙ ap (λ l. l ++ others) (sym (append_assoc before inv.done piece))) in
           let differ = first_differ ((before ++ inv.done) ++ piece) others (subst HaveDifferentIds behind different) in
-          c.in_ok-add.ensures.ok (before ++ inv.done) differ (inv.holds before different none) ∙ ap (λ l. levels over l c.args.cut) (append_assoc before inv.done piece);
+          c.in_ok-add.ensures.ok (before ++ inv.done) differ (inv.holds before different none) ∙ ap (λ l. levels (entry_order order) l c.args.cut) (append_assoc before inv.done piece);
     }
 
 -- nothing is left
@@ -57,9 +56,8 @@ pub returns : goal.returns
 returns g c =
     record {
       ok = λ before different nothing.
-          let over = entry_order (g.D.Dominance.order c.args.dominance.now) in
           let inv = c.each_piece.invariant in
           let none : c.each_piece.rest.now ≡ [] = nil_from_length c.each_piece.rest.now (eqb-true (length c.each_piece.rest.now) 0 (sym c.is_empty.ensures ∙ c.each_piece-test.false)) in
           let whole : c.args.entries.now ≡ inv.done = inv.whole ∙ (ap (λ l. inv.done ++ l) none ∙ append-nil inv.done) in
-          inv.holds before different nothing ∙ ap (λ l. levels over (before ++ l) c.args.cut) (sym whole);
+          inv.holds before different nothing ∙ ap (λ l. levels (entry_order (g.D.Dominance.order c.args.dominance.now)) (before ++ l) c.args.cut) (sym whole);
     }

@@ -1,6 +1,6 @@
 use Rattle.pref_sky.proofs.Common.{◌≡◌, ◌∙◌, ◌++◌, suc, length, map, sym, ap, subst, arith, add-one, AreInPool, parts_at, at_level, all_at, ranked_upto, signature_by}
 use Rattle.pref_sky.proofs.PartitionsLaws.{all_differ}
-use Rattle.pref_sky.proofs.RankedLevels.{one_level}
+use Rattle.pref_sky.proofs.Ranks.{one_level}
 use Rattle.pref_sky.proofs.partitions.Partitions.ranked.Goals as goal
 
 pub push_parts-requires-clause-items : goal.push_parts-requires-clause-items

@@ -1,6 +1,6 @@
 use Rattle.pref_sky.proofs.Common.{◌≡◌, ◌∙◌, List, [], drop, get_or, take, sym, ap, subst, take-append-drop, is_better, Entry, Item, IsItem, entries_at, entry_at, entry_order, signature_by, Among}
 use Rattle.pref_sky.proofs.Common.{get_or_default}
-use Rattle.pref_sky.proofs.MembersLaws.{all_among, among_place, any_from, in_left, in_map}
+use Rattle.pref_sky.proofs.ListLaws.{all_among, among_place, any_from, in_left, in_map}
 use Rattle.pref_sky.proofs.pool.Pool.dominates.Goals as goal
 
 pub returns-in-Better : goal.returns-in-Better

@@ -1,6 +1,6 @@
 use Rattle.pref_sky.proofs.Common.{◌≡◌, ◌∙◌, ◌+◌, ◌++◌, [], ◌∷◌, true, take, Vec, Global, sym, ap, subst, append_assoc, Entry, is_below, HoldsUpper}
 use Rattle.pref_sky.proofs.ArrivalsLaws.{drops_one, keeps_one}
-use Rattle.pref_sky.proofs.Loops.{front_more}
+use Rattle.pref_sky.proofs.ListLaws.{front_more}
 use Rattle.pref_sky.proofs.sorted.Pruned.keep_others.Goals.{then-not-dominates+then-dominates, then-not-dominates+else-dominates+in_ok-push, else-not-dominates}
 use Rattle.pref_sky.proofs.sorted.Pruned.keep_others.Goals as goal
 
@@ -9,7 +9,6 @@ loop-entry-preserved c =
     let order = c.args.self.now.order in
     let sorted = c.args.self.now.entries.items in
     let entries = c.args.entries.now in
-    let recent = c.args.recent.now.items in
     let i = c.loop-entry.entry-index in
     let e = c.entry-item.result in
     let inv = c.loop-entry.invariant in
@@ -20,7 +19,7 @@ loop-entry-preserved c =
       | then-not-dominates+then-dominates w ↦ (inv.0, ap (λ (v : Vec Entry Global). v.items) w.recent-is ∙ inv.1, leaves (w.dominates-then-not-dominates.ensures w.if-dominates.true))
       | then-not-dominates+else-dominates+in_ok-push w ↦ (
         inv.0 ++ e ∷ [],
-        ap (λ (v : Vec Entry Global). v.items) w.recent-is ∙ ((w.in_ok-push.ensures {u = tt}).items ∙ (ap (λ l. l ++ e ∷ []) inv.1 ∙ append_assoc recent inv.0 (e ∷ []))),
+        ap (λ (v : Vec Entry Global). v.items) w.recent-is ∙ ((w.in_ok-push.ensures {u = tt}).items ∙ (ap (λ l. l ++ e ∷ []) inv.1 ∙ append_assoc c.args.recent.now.items inv.0 (e ∷ []))),
         subst (λ l. HoldsUpper order sorted l (inv.0 ++ e ∷ [])) (sym more) (keeps_one (take i entries) inv.0 inv.2 e),
       )
       | else-not-dominates w ↦ (inv.0, ap (λ (v : Vec Entry Global). v.items) w.recent-is ∙ inv.1, leaves (c.dominates.ensures w.if-not-dominates.false))

@@ -1,5 +1,5 @@
 use Rattle.pref_sky.proofs.Common.{◌≡◌, ◌∙◌, ◌++◌, ◌<◌, length, get_or, map, sym, ap, subst, append-nil, All, Ranked, AreInOrder, own_levels, entry_of, AreLeveled, AreLowest}
-use Rattle.pref_sky.proofs.RankedEntries.{found_in_order, found_levels, found_lowest}
+use Rattle.pref_sky.proofs.LayersLaws.{found_in_order, found_levels, found_lowest}
 use Rattle.pref_sky.proofs.sorted.Pruned.prune.Goals as goal
 
 pub invariant_of-self : goal.invariant_of-self

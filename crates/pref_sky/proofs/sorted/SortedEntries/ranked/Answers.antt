@@ -1,5 +1,5 @@
 use Rattle.pref_sky.proofs.Common.{rules, ◌++◌, subst, AreLeveled}
-use Rattle.pref_sky.proofs.RankedEntries.{found_ranked, sorted_by_rank}
+use Rattle.pref_sky.proofs.LayersLaws.{found_ranked, sorted_by_rank}
 use Rattle.pref_sky.proofs.sorted.SortedEntries.ranked.Goals as goal
 
 pub returns : goal.returns

@@ -1,8 +1,7 @@
 use Rattle.pref_sky.proofs.Common.{rules, ◌≡◌, ◌+◌, ◌∙◌, inr, Bool, true, false, not, [], ◌∷◌, ◌++◌, cond, filter, length, sym, ap, subst, arith, is_ok, length-append, filter-append, Entry, is_beaten}
 use Rattle.pref_sky.proofs.Common.{entry_order}
 use Rattle.pref_sky.specs.Windows.{WindowState, joined, not_below, window_entries}
-use Rattle.pref_sky.proofs.RetainLaws.{filter_from_retain_at}
-use Rattle.pref_sky.proofs.WindowsLaws.{unbeaten_both, filtered_whole, held_of, joined_early, joined_late}
+use Rattle.pref_sky.proofs.WindowsLaws.{filter_from_retain_at, unbeaten_both, filtered_whole, held_of, joined_early, joined_late}
 use Rattle.pref_sky.proofs.window.Window.offer.Goals as goal
 
 -- nothing went out of a full window
@@ -31,17 +30,7 @@ returns-then-len-self-clause-outcome g c =
     )
 
 pub returns-then-len-self-clause-as_before : goal.returns-then-len-self-clause-as_before
-returns-then-len-self-clause-as_before g c =
-    let over = entry_order (g.D.Dominance.order c.args.dominance.now) in
-    let e = c.args.entry in
-    let a = c.self.inside in
-    let p : Entry → Bool = λ w. not (over e w) in
-    let early : c.retain.new.self.items ≡ filter p a.early.items = filter_from_retain_at _ p _ (λ x b q r. (search rules, search rules)) a.early.items _ c.retain.ensures.filtered in
-    let late : c.retain-2.new.self.items ≡ filter p a.late.items = filter_from_retain_at _ p _ (λ x b q r. (search rules, search rules)) a.late.items _ c.retain-2.ensures.filtered in
-    let full : length (filter p a.early.items) + length (filter p a.late.items) ≡ a.size =
-    omega (arith, ap length early, ap length late, c.if-len-self.true, c.len.ensures, c.len-2.ensures, c.retain.new.self.ok.0, c.retain-2.new.self.ok.0) in
-    let whole = filtered_whole p a.early.items a.late.items a.size full (omega (arith, c.self.invariant.within, a.early.ok.0, a.late.ok.0)) in
-    inr (ap (λ l. l ++ c.retain-2.new.self.items) (early ∙ whole.0) ∙ (ap (λ l. a.early.items ++ l) (late ∙ whole.1) ∙ ap window_entries c.self.view_is))
+returns-then-len-self-clause-as_before g c = inr (ap window_entries (returns-then-len-self-clause-outcome g c).3)
 
 pub returns-then-self-clause-outcome : goal.returns-then-self-clause-outcome
 returns-then-self-clause-outcome g c =

@@ -1,0 +1,382 @@
+-- What is among a list, what tests keep and count of it, where it is cut, and lists in an order.
+use Rattle.pref_sky.proofs.Common.{◌≡◌, ℕ, suc, zero, ◌<◌, Bool, true, false, cond, ◌⊎◌, inl, inr, List, [], ◌∷◌, ◌++◌, refl, sym, ◌∙◌, ap, subst, arith, filter, get_or, length, map, list_any, All}
+use Rattle.pref_sky.proofs.Common.{or_cases, cond_both, false≢true, both_ways, cases_Bool, cond-true, cond-false, ◌≤◌, ◌+◌, ◌&&◌, count_by, and_parts, filter_agree, length-filter, sum_by-cons}
+use Rattle.pref_sky.proofs.Common.{sum_by-le-sum_by, eqb, eq-eqb, sum_by, and_from, eqb-true, Item, Among, nil_from_length, take, take_more, drop, take-append_seam, drop-append_seam, append-nil}
+use Rattle.pref_sky.proofs.Common.{get_or-drop, filter_more, ◌||◌, IsPermutation-sym, Contains-permutation, IsPermutation, IsPartitionPoint, length-take, length-drop, get_or-take, take-append-drop}
+use Rattle.pref_sky.proofs.Common.{filter-append, get_or_default, IsNonDecreasingBy, sum_by-append, not, append_assoc, IsPartitionedBy, cases_lt, IsPermutation-cons, IsPermutation-middle}
+use Rattle.pref_sky.proofs.Common.{IsPermutation-to_front, IsPermutation-trans, IsChain, IsInOrder}
+use Rattle.std.proofs.lemmas.List.Folds.{list_any_at, list_any_none}
+pub use Rattle.pref_sky.specs.Members.{Among, SameMembers}
+
+-- what stands at a place of a list is among it
+pub among_place : {E : Type 0} (xs : List E) (j : ℕ) (d : E) → j < length xs → Among (get_or xs j d) xs
+among_place [] j d l = absurd (omega (arith, l))
+among_place (x ∷ xs) zero d l = inl refl
+among_place (x ∷ xs) (suc j) d l = inr (among_place xs j d (omega (arith, l)))
+
+pub place_of : {E : Type 0} (xs : List E) (x d : E) → Among x xs → (k : ℕ) × (k < length xs) × (get_or xs k d ≡ x)
+place_of [] x d m = absurd m
+place_of (y ∷ ys) x d m =
+    elim m [
+      | inl e ↦ (0, omega arith, sym e)
+      | inr r ↦ let w = place_of ys x d r in (suc w.0, omega (arith, w.1), w.2)
+    ]
+
+-- a test that one of the list passes
+pub any_from : {E : Type 0} (p : E → Bool) (xs : List E) (x : E) → Among x xs → p x ≡ true → list_any p xs ≡ true
+any_from p xs x m t = let w = place_of xs x x m in list_any_at p xs w.0 x w.1 (ap p w.2 ∙ t)
+
+pub any_gives : {E : Type 0} (p : E → Bool) (xs : List E) → list_any p xs ≡ true → (x : E) × Among x xs × (p x ≡ true)
+any_gives p [] h = absurd (false≢true h)
+any_gives p (y ∷ ys) h =
+    elim (or_cases (p y) (list_any p ys) h) [
+      | inl e ↦ (y, inl refl, e)
+      | inr r ↦ let w = any_gives p ys r in (w.0, inr w.1, w.2)
+    ]
+
+pub any_none : {E : Type 0} (p : E → Bool) (xs : List E) → ((x : E) → Among x xs → p x ≡ false) → list_any p xs ≡ false
+any_none p xs none = list_any_none p xs (λ k d inside. none (get_or xs k d) (among_place xs k d inside))
+
+-- what passes a filter
+pub in_filter : {E : Type 0} (p : E → Bool) (xs : List E) (x : E) → Among x xs → p x ≡ true → Among x (filter p xs)
+in_filter p [] x m t = m
+in_filter p (y ∷ ys) x m t =
+    elim m [
+      | inl e ↦ cond_both (p y) (y ∷ filter p ys) (filter p ys) (Among x) (λ h. inl e) (λ h. absurd (both_ways (p y) h (ap p (sym e) ∙ t)))
+      | inr r ↦ let deeper = in_filter p ys x r t in cond_both (p y) (y ∷ filter p ys) (filter p ys) (Among x) (λ h. inr deeper) (λ h. deeper)
+    ]
+
+pub from_filter : {E : Type 0} (p : E → Bool) (xs : List E) (x : E) → Among x (filter p xs) → Among x xs × (p x ≡ true)
+from_filter p [] x m = absurd m
+from_filter {E = E} p (y ∷ ys) x m =
+    let at : (l : List E) → cond (p y) (y ∷ filter p ys) (filter p ys) ≡ l → Among x l = λ l e. subst (Among x) e m in
+    elim (cases_Bool (p y)) [
+      | inl e ↦
+          elim (at (y ∷ filter p ys) (cond-true (p y) (y ∷ filter p ys) (filter p ys) e)) [
+            | inl h ↦ (inl h, ap p h ∙ e)
+            | inr r ↦ let w = from_filter p ys x r in (inr w.0, w.1)
+          ]
+      | inr e ↦
+          let w = from_filter p ys x (at (filter p ys) (cond-false (p y) (y ∷ filter p ys) (filter p ys) e)) in (inr w.0, w.1)
+    ]
+
+-- two tests that agree among a list keep the same of it
+pub filter_agree_among : {E : Type 0} (p q : E → Bool) (xs : List E) → ((x : E) → Among x xs → p x ≡ q x) → filter p xs ≡ filter q xs
+filter_agree_among p q [] agree = refl
+filter_agree_among p q (x ∷ xs) agree =
+    ap (λ b. cond b (x ∷ filter p xs) (filter p xs)) (agree x (inl refl)) ∙ ap (λ l. cond (q x) (x ∷ l) l) (filter_agree_among p q xs (λ y m. agree y (inr m)))
+
+pub none_pass : {E : Type 0} (p : E → Bool) (xs : List E) → ((x : E) → Among x xs → p x ≡ false) → filter p xs ≡ []
+none_pass p [] none = refl
+none_pass p (x ∷ xs) none = ap (λ b. cond b (x ∷ filter p xs) (filter p xs)) (none x (inl refl)) ∙ none_pass p xs (λ y m. none y (inr m))
+
+pub all_pass : {E : Type 0} (p : E → Bool) (xs : List E) → ((x : E) → Among x xs → p x ≡ true) → filter p xs ≡ xs
+all_pass p [] all = refl
+all_pass p (x ∷ xs) all = ap (λ b. cond b (x ∷ filter p xs) (filter p xs)) (all x (inl refl)) ∙ ap (λ l. x ∷ l) (all_pass p xs (λ y m. all y (inr m)))
+
+-- what is among two lists joined
+pub in_left : {E : Type 0} (xs ys : List E) (x : E) → Among x xs → Among x (xs ++ ys)
+in_left [] ys x m = absurd m
+in_left (y ∷ xs) ys x m = elim m [ inl e ↦ inl e | inr r ↦ inr (in_left xs ys x r) ]
+
+pub in_right : {E : Type 0} (xs ys : List E) (x : E) → Among x ys → Among x (xs ++ ys)
+in_right [] ys x m = m
+in_right (y ∷ xs) ys x m = inr (in_right xs ys x m)
+
+pub in_either : {E : Type 0} (xs ys : List E) (x : E) → Among x (xs ++ ys) → Among x xs ⊎ Among x ys
+in_either [] ys x m = inr m
+in_either (y ∷ xs) ys x m =
+    elim m [
+      | inl e ↦ inl (inl e)
+      | inr r ↦ elim (in_either xs ys x r) [ inl a ↦ inl (inr a) | inr b ↦ inr b ]
+    ]
+
+-- what is among the results of a function
+pub from_map : {E F : Type 0} (f : E → F) (xs : List E) (y : F) → Among y (map f xs) → (x : E) × Among x xs × (y ≡ f x)
+from_map f [] y m = absurd m
+from_map f (x ∷ xs) y m = elim m [ inl e ↦ (x, inl refl, e) | inr r ↦ let w = from_map f xs y r in (w.0, inr w.1, w.2) ]
+
+pub in_map : {E F : Type 0} (f : E → F) (xs : List E) (x : E) → Among x xs → Among (f x) (map f xs)
+in_map f [] x m = absurd m
+in_map f (y ∷ ys) x m = elim m [ inl same ↦ inl (ap f same) | inr later ↦ inr (in_map f ys x later) ]
+
+-- two functions that agree among a list
+pub map_agree_among : {E F : Type 0} (f g : E → F) (xs : List E) → ((x : E) → Among x xs → f x ≡ g x) → map f xs ≡ map g xs
+map_agree_among f g [] agree = refl
+map_agree_among f g (x ∷ xs) agree = ap (λ y. y ∷ map f xs) (agree x (inl refl)) ∙ ap (λ l. g x ∷ l) (map_agree_among f g xs (λ y m. agree y (inr m)))
+
+-- what all of a list have, each that is among it has
+pub all_among : {E : Type 0} (P : E → Type 0) (xs : List E) → All P xs → (x : E) → Among x xs → P x
+all_among P xs all x m = let w = place_of xs x x m in subst P w.2 (all w.0 x w.1)
+
+pub among_all : {E : Type 0} (P : E → Type 0) (xs : List E) → ((x : E) → Among x xs → P x) → All P xs
+among_all P xs each = λ k d inside. each (get_or xs k d) (among_place xs k d inside)
+
+pub same_answer : (a b : Bool) → (a ≡ true → b ≡ true) → (b ≡ true → a ≡ true) → a ≡ b
+same_answer true b f g = sym (f refl)
+same_answer false true f g = g refl
+same_answer false false f g = refl
+
+pub any_filter : {E : Type 0} (p q : E → Bool) (xs : List E) → list_any q (filter p xs) ≡ list_any (λ x. p x && q x) xs
+any_filter p q [] = refl
+any_filter p q (x ∷ xs) =
+    elim (p x) as (λ b. list_any q (cond b (x ∷ filter p xs) (filter p xs)) ≡ ((b && q x) || list_any (λ y. p y && q y) xs)) [
+      | true ↦ ap (λ t. q x || t) (any_filter p q xs)
+      | false ↦ any_filter p q xs
+    ]
+
+pub filter_filter : {E : Type 0} (p q : E → Bool) (xs : List E) → filter q (filter p xs) ≡ filter (λ x. p x && q x) xs
+filter_filter p q [] = refl
+filter_filter p q (x ∷ xs) =
+    elim (p x) as (λ b. filter q (cond b (x ∷ filter p xs) (filter p xs)) ≡ cond (b && q x) (x ∷ filter (λ y. p y && q y) xs) (filter (λ y. p y && q y) xs)) [
+      | true ↦ ap (λ l. cond (q x) (x ∷ l) l) (filter_filter p q xs)
+      | false ↦ filter_filter p q xs
+    ]
+
+-- how many pass a test
+pub count_append : {E : Type 0} (p : E → Bool) (xs ys : List E) → count_by p (xs ++ ys) ≡ count_by p xs + count_by p ys
+count_append p xs ys = sum_by-append (λ x. cond (p x) 1 0) xs ys
+
+pub count_cons : {E : Type 0} (p : E → Bool) (x : E) (xs : List E) → count_by p (x ∷ xs) ≡ cond (p x) 1 0 + count_by p xs
+count_cons p x xs = sum_by-cons (λ y. cond (p y) 1 0) x xs
+
+pub one_passes : {E : Type 0} (p : E → Bool) (xs : List E) (x : E) → Among x xs → p x ≡ true → 1 ≤ count_by p xs
+one_passes p [] x m t = absurd m
+one_passes p (y ∷ ys) x m t =
+    elim m [
+      | inl e ↦ let passes = ap (λ b. cond {A = ℕ} b 1 0) (ap p (sym e) ∙ t) in omega (arith, passes, count_cons p y ys)
+      | inr r ↦ omega (arith, one_passes p ys x r t, count_cons p y ys)
+    ]
+
+-- one list in another order
+pub same_if_permuted : {E : Type 0} (xs ys : List E) → IsPermutation xs ys → SameMembers xs ys
+same_if_permuted xs ys moved =
+    record {
+      there = λ x m. let w = Contains-permutation xs ys x moved (place_of xs x x m) in subst (λ y. Among y ys) w.2 (among_place ys w.0 x w.1);
+      back = λ x m. let w = Contains-permutation ys xs x (IsPermutation-sym xs ys moved) (place_of ys x x m) in subst (λ y. Among y xs) w.2 (among_place xs w.0 x w.1);
+    }
+
+-- tests keep the same of two lists where what passes the one is in the other list and passes there
+pub same_kept : {E : Type 0} (p q : E → Bool) (xs ys : List E) → ((x : E) → Among x xs → p x ≡ true → Among x ys × (q x ≡ true)) → ((x : E) → Among x ys → q x ≡ true → Among x xs × (p x ≡ true)) → SameMembers (filter p xs) (filter q ys)
+same_kept p q xs ys there back =
+    record {
+      there = λ x m. let w = from_filter p xs x m in let v = there x w.0 w.1 in in_filter q ys x v.0 v.1;
+      back = λ x m. let w = from_filter q ys x m in let v = back x w.0 w.1 in in_filter p xs x v.0 v.1;
+    }
+
+-- lists with the same members
+pub same_list : {E : Type 0} {xs ys : List E} → xs ≡ ys → SameMembers xs ys
+same_list same = record { there = λ x. subst (Among x) same; back = λ x. subst (Among x) (sym same) }
+
+pub same_sym : {E : Type 0} {xs ys : List E} → SameMembers xs ys → SameMembers ys xs
+same_sym same = record { there = same.back; back = same.there }
+
+pub same_then : {E : Type 0} {xs ys zs : List E} → SameMembers xs ys → SameMembers ys zs → SameMembers xs zs
+same_then a b = record { there = λ x m. b.there x (a.there x m); back = λ x m. a.back x (b.back x m) }
+
+pub same_beside : {E : Type 0} (xs ys zs : List E) → SameMembers xs ys → SameMembers (xs ++ zs) (ys ++ zs)
+same_beside xs ys zs same =
+    record {
+      there = λ x m. elim (in_either xs zs x m) [ inl a ↦ in_left ys zs x (same.there x a) | inr b ↦ in_right ys zs x b ];
+      back = λ x m. elim (in_either ys zs x m) [ inl a ↦ in_left xs zs x (same.back x a) | inr b ↦ in_right xs zs x b ];
+    }
+
+pub same_behind : {E : Type 0} (xs ys zs : List E) → SameMembers ys zs → SameMembers (xs ++ ys) (xs ++ zs)
+same_behind xs ys zs same =
+    record {
+      there = λ x m. elim (in_either xs ys x m) [ inl a ↦ in_left xs zs x a | inr b ↦ in_right xs zs x (same.there x b) ];
+      back = λ x m. elim (in_either xs zs x m) [ inl a ↦ in_left xs ys x a | inr b ↦ in_right xs ys x (same.back x b) ];
+    }
+
+-- where each that passes p passes q, no more pass p
+pub count_within : {E : Type 0} (p q : E → Bool) (xs : List E) → ((x : E) → p x ≡ true → q x ≡ true) → count_by p xs ≤ count_by q xs
+count_within p q xs within = sum_by-le-sum_by (λ x. cond (p x) 1 0) (λ x. cond (q x) 1 0) xs (λ x. grind (arith, within x))
+
+pub count_and : {E : Type 0} (p q : E → Bool) (xs : List E) → count_by (λ x. p x && q x) xs ≤ count_by p xs
+count_and p q xs = count_within (λ x. p x && q x) p xs (λ x h. (and_parts (p x) (q x) h).0)
+
+pub count_filtered : {E : Type 0} (p q : E → Bool) (xs : List E) → count_by p (filter q xs) ≡ count_by (λ x. p x && q x) xs
+count_filtered p q xs =
+    sym (length-filter p (filter q xs)) ∙ (ap length (filter_filter q p xs ∙ filter_agree (λ x. q x && p x) (λ x. p x && q x) (λ x. grind arith) xs) ∙ length-filter (λ x. p x && q x) xs)
+
+pub count_filter : {E : Type 0} (p q : E → Bool) (xs : List E) → count_by p (filter q xs) ≤ count_by p xs
+count_filter p q xs = omega (arith, count_filtered p q xs, count_and p q xs)
+
+-- two tests of which an entry passes one at most, and then a third
+pub count_both : {E : Type 0} (p q r : E → Bool) (xs : List E) → ((x : E) → cond (p x) 1 0 + cond (q x) 1 0 ≤ cond (r x) 1 0) → count_by p xs + count_by q xs ≤ count_by r xs
+count_both p q r [] each = omega arith
+count_both p q r (x ∷ xs) each =
+    omega (arith, each x, count_both p q r xs each, count_cons p x xs, count_cons q x xs, count_cons r x xs)
+
+-- and just where it passes the third
+pub count_split : {E : Type 0} (p q r : E → Bool) (xs : List E) → ((x : E) → cond {A = ℕ} (p x) 1 0 + cond (q x) 1 0 ≡ cond (r x) 1 0) → count_by p xs + count_by q xs ≡ count_by r xs
+count_split p q r [] each = omega arith
+count_split p q r (x ∷ xs) each =
+    omega (arith, each x, count_split p q r xs each, count_cons p x xs, count_cons q x xs, count_cons r x xs)
+
+abbrev same_item : Item → Item → Bool
+same_item x y = eqb x.signature y.signature && eqb x.place y.place
+
+-- counts one item
+abbrev pub is_item : Item → Item → ℕ
+is_item x y = cond (same_item x y) 1 0
+
+pub some_of : (x : Item) (xs : List Item) → Among x xs → 0 < sum_by (is_item x) xs
+some_of x xs m = one_passes (same_item x) xs x m (and_from (eqb x.signature x.signature) (eqb x.place x.place) (eq-eqb x.signature x.signature refl) (eq-eqb x.place x.place refl))
+
+pub among_or : (x : Item) (xs : List Item) → Among x xs ⊎ (sum_by (is_item x) xs ≡ 0)
+among_or x [] = inr refl
+among_or x (y ∷ ys) =
+    elim (cases_Bool (same_item x y)) [
+      | inl is ↦
+          let both = and_parts (eqb x.signature y.signature) (eqb x.place y.place) is in
+          let signature : x.signature ≡ y.signature = eqb-true x.signature y.signature both.0 in
+          let place : x.place ≡ y.place = eqb-true x.place y.place both.1 in
+          inl (inl (ap (λ s. record { signature = s; place = x.place }) signature ∙ ap (λ p. record { signature = y.signature; place = p }) place))
+      | inr other ↦
+          elim (among_or x ys) [
+            | inl m ↦ inl (inr m)
+            | inr none ↦ inr (sum_by-cons (is_item x) y ys ∙ omega (arith, none, ap (λ b. cond {A = ℕ} b 1 0) other))
+          ]
+    ]
+
+pub among_if : (x : Item) (xs : List Item) → 0 < sum_by (is_item x) xs → Among x xs
+among_if x xs some = elim (among_or x xs) [ inl m ↦ m | inr none ↦ absurd (omega (arith, some, none)) ]
+
+pub none_by : {E : Type 0} (f : E → ℕ) (xs : List E) → length xs ≡ 0 → sum_by f xs ≡ 0
+none_by f xs none = ap (sum_by f) (nil_from_length xs none)
+
+pub sum_by-ones : {E : Type 0} (xs : List E) → sum_by (λ _. 1) xs ≡ length xs
+sum_by-ones [] = refl
+sum_by-ones (x ∷ xs) = omega (arith, sum_by-cons (λ _. 1) x xs, sum_by-ones xs)
+
+pub long_by : {E : Type 0} (xs ys zs : List E) → ((f : E → ℕ) → sum_by f xs + sum_by f ys ≡ sum_by f zs) → length xs + length ys ≡ length zs
+long_by xs ys zs bag = omega (arith, bag (λ _. 1), sum_by-ones xs, sum_by-ones ys, sum_by-ones zs)
+
+-- the front of a list, with one more
+pub front_more : {E : Type 0} (xs : List E) (i : ℕ) (x : E) → i < length xs → x ≡ get_or xs i x → take (i + 1) xs ≡ take i xs ++ x ∷ []
+front_more xs i x within is = take_more xs i x within ∙ ap (λ y. take i xs ++ y ∷ []) (sym is)
+
+pub cut_at : {E : Type 0} (zs front back : List E) (n : ℕ) → zs ≡ front ++ back → n ≡ length front → (take n zs ≡ front) × (drop n zs ≡ back)
+cut_at zs front back n whole long = (
+  ap (λ m. take m zs) long ∙ (ap (take (length front)) whole ∙ take-append_seam front back),
+  ap (λ m. drop m zs) long ∙ (ap (drop (length front)) whole ∙ drop-append_seam front back),
+)
+
+-- lists that are the same from a place on have the same element there
+pub same_there : {E : Type 0} (xs ys : List E) (i : ℕ) (d : E) → drop i ys ≡ drop i xs → get_or ys i d ≡ get_or xs i d
+same_there xs ys i d same =
+    let here : i + 0 ≡ i = omega arith in
+    ap (λ k. get_or ys k d) (sym here) ∙ (sym (get_or-drop i ys 0 d) ∙ (ap (λ l. get_or l 0 d) same ∙ (get_or-drop i xs 0 d ∙ ap (λ k. get_or xs k d) here)))
+
+module _ {E : Type 0} (p : E → Bool) (xs : List E) (i : ℕ) (d : E) (inside : i < length xs) where
+  pub leaves : p (get_or xs i d) ≡ false → filter p (take (i + 1) xs) ≡ filter p (take i xs)
+  leaves out = filter_more p xs i d inside ∙ (ap (λ b. filter p (take i xs) ++ cond b (get_or xs i d ∷ []) []) out ∙ append-nil (filter p (take i xs)))
+
+  pub stays : p (get_or xs i d) ≡ true → filter p (take (i + 1) xs) ≡ filter p (take i xs) ++ get_or xs i d ∷ []
+  stays kept = filter_more p xs i d inside ∙ ap (λ b. filter p (take i xs) ++ cond b (get_or xs i d ∷ []) []) kept
+
+-- what stands before a place where a test changes, and behind it
+pub passes_before : {E : Type 0} (p : E → Bool) (xs : List E) (n : ℕ) → IsPartitionPoint (λ x. p x ≡ true) (λ x. p x ≡ false) xs n → (x : E) → Among x (take n xs) → p x ≡ true
+passes_before p xs n point x m =
+    let at = place_of (take n xs) x x m in
+    let below : at.0 < n = omega (arith, at.1, length-take n xs) in
+    ap p (sym at.2 ∙ get_or-take n xs at.0 x below) ∙ point.0 at.0 x (omega arith) below
+
+pub fails_behind : {E : Type 0} (p : E → Bool) (xs : List E) (n : ℕ) → IsPartitionPoint (λ x. p x ≡ true) (λ x. p x ≡ false) xs n → (x : E) → Among x (drop n xs) → p x ≡ false
+fails_behind p xs n point x m =
+    let at = place_of (drop n xs) x x m in
+    let inside : n + at.0 < length xs = omega (arith, at.1, length-drop n xs) in
+    ap p (sym at.2 ∙ get_or-drop n xs at.0 x) ∙ point.1 (n + at.0) x (omega arith) inside
+
+-- where what passes a test stands in front of a place, and what fails it behind, that is what passes
+pub filter_parted : {E : Type 0} (p : E → Bool) (xs : List E) (n : ℕ) → ((x : E) → Among x (take n xs) → p x ≡ true) → ((x : E) → Among x (drop n xs) → p x ≡ false) → filter p xs ≡ take n xs
+filter_parted p xs n passes fails =
+    let back = drop n xs in
+    ap (filter p) (sym (take-append-drop n xs))
+    ∙ (filter-append p (take n xs) back
+    ∙ (ap (λ l. l ++ filter p back) (all_pass p (take n xs) passes) ∙ (ap (λ l. take n xs ++ l) (none_pass p back fails) ∙ append-nil (take n xs))))
+
+-- where a list is in order of a number, and one has another than the least, all from there on are above that
+pub later_behind : {E : Type 0} (number : E → ℕ) (xs : List E) (n least : ℕ) (none : E) → n < length xs → (number (get_or xs n none) ≡ least → ⊥) → IsNonDecreasingBy number xs → All (λ x. least ≤ number x) xs
+    → All (λ x. least < number x) (drop n xs)
+later_behind number xs n least none within other in_order from k d inside =
+    let start = ap number (get_or_default xs n d none within) in
+    let there = ap number (get_or-drop n xs k d) in
+    omega (arith, start, there, other, from n d within, in_order n (n + k) d (omega arith) (omega (arith, inside, length-drop n xs)))
+
+-- ---- lists in an order, one behind the other
+
+pub in_order_joined : {E : Type 0} (le : E → E → Bool) (xs ys : List E) → IsInOrder le xs → IsInOrder le ys → ((a b : E) → Among a xs → Among b ys → le a b ≡ true) → IsInOrder le (xs ++ ys)
+in_order_joined le [] ys first second across = second
+in_order_joined le (x ∷ xs) ys first second across = (
+  λ z m. elim (in_either xs ys z m) [ inl near ↦ first.0 z near | inr far ↦ across x z (inl refl) far ],
+  in_order_joined le xs ys first.1 second (λ a b ma mb. across a b (inr ma) mb),
+)
+
+-- one entry more in its place
+pub in_order_with : {E : Type 0} (le : E → E → Bool) (xs ys : List E) (e : E) → IsInOrder le (xs ++ ys) → ((a : E) → Among a xs → le a e ≡ true) → ((b : E) → Among b ys → le e b ≡ true) → IsInOrder le (xs ++ e ∷ ys)
+in_order_with le [] ys e h to from = (from, h)
+in_order_with le (x ∷ xs) ys e h to from = (
+  λ z m. elim (in_either xs (e ∷ ys) z m) [
+    | inl near ↦ h.0 z (in_left xs ys z near)
+    | inr far ↦ elim far [ inl same ↦ ap (le x) same ∙ to x (inl refl) | inr behind ↦ h.0 z (in_right xs ys z behind) ]
+  ],
+  in_order_with le xs ys e h.1 (λ a m. to a (inr m)) from,
+)
+
+pub in_order_front : {E : Type 0} (le : E → E → Bool) (xs ys : List E) → IsInOrder le (xs ++ ys) → IsInOrder le xs
+in_order_front le [] ys h = tt
+in_order_front le (x ∷ xs) ys h = ((λ z m. h.0 z (in_left xs ys z m)), in_order_front le xs ys h.1)
+
+pub in_order_back : {E : Type 0} (le : E → E → Bool) (xs ys : List E) → IsInOrder le (xs ++ ys) → IsInOrder le ys
+in_order_back le [] ys h = h
+in_order_back le (x ∷ xs) ys h = in_order_back le xs ys h.1
+
+pub in_order_across : {E : Type 0} (le : E → E → Bool) (xs ys : List E) → IsInOrder le (xs ++ ys) → (a b : E) → Among a xs → Among b ys → le a b ≡ true
+in_order_across le [] ys h a b ma mb = absurd ma
+in_order_across le (x ∷ xs) ys h a b ma mb = elim ma [ inl same ↦ ap (λ v. le v b) same ∙ h.0 b (in_right xs ys b mb) | inr later ↦ in_order_across le xs ys h.1 a b later mb ]
+
+pub in_order_at : {E : Type 0} (le : E → E → Bool) (xs : List E) (i j : ℕ) (d : E) → IsInOrder le xs → i < j → j < length xs → le (get_or xs i d) (get_or xs j d) ≡ true
+in_order_at le [] i j d h before inside = absurd (omega (arith, inside))
+in_order_at le (x ∷ xs) i zero d h before inside = absurd (omega (arith, before))
+in_order_at le (x ∷ xs) zero (suc j) d h before inside = h.0 (get_or xs j d) (among_place xs j d (omega (arith, inside)))
+in_order_at le (x ∷ xs) (suc i) (suc j) d h before inside = in_order_at le xs i j d h.1 (omega (arith, before)) (omega (arith, inside))
+
+module _ {E : Type 0} (before : E → E → Bool) (chain : IsChain before) where
+  -- in a list in order those that come before an entry stand in front of the others
+  pub parted_by_entry : (xs : List E) (e : E) → IsInOrder (λ a b. not (before b a)) xs → IsPartitionedBy (λ x. before x e) xs
+  parted_by_entry xs e ordered i j d le inside passes =
+      elim (cases_lt i j) [
+        | inl less ↦ let far = in_order_at (λ a b. not (before b a)) xs i j d ordered less inside in chain.between (get_or xs j d) (get_or xs i d) e passes (grind (arith, far))
+        | inr past ↦ let same : i ≡ j = omega (arith, le, past) in ap (λ k. before (get_or xs k d) e) same ∙ passes
+      ]
+
+  -- one entry more is merged, behind those that come before it
+  module _ (all front back : List E) (e : E) (later : List E) (sorted : IsInOrder (λ a b. not (before b a)) (all ++ (front ++ back))) (coming : IsInOrder (λ a b. not (before b a)) (e ∷ later))
+      (below : (a b : E) → Among a all → Among b (e ∷ later) → before b a ≡ false) (passed : (x : E) → Among x front → before x e ≡ true) (left : (x : E) → Among x back → before x e ≡ false) where
+    pub merged_more : IsInOrder (λ a b. not (before b a)) ((all ++ front) ++ e ∷ back)
+    merged_more =
+        in_order_with (λ a b. not (before b a)) (all ++ front) back e (subst (IsInOrder (λ a b. not (before b a))) (sym (append_assoc all front back)) sorted)
+        (λ a m. elim (in_either all front a m) [
+          | inl old ↦ ap not (below a e old (inl refl))
+          | inr new ↦ grind (arith, passed a new, chain.strict.transitive a e a, chain.strict.irreflexive a)
+        ])
+        (λ b m. ap not (left b m))
+
+    -- and the others come no earlier
+    pub below_later : (a b : E) → Among a ((all ++ front) ++ e ∷ []) → Among b later → before b a ≡ false
+    below_later a b m k =
+        let far = coming.0 b k in
+        elim (in_either (all ++ front) (e ∷ []) a m) [
+          | inl there ↦ elim (in_either all front a there) [ inl old ↦ below a b old (inr k) | inr new ↦ grind (arith, passed a new, far, chain.strict.transitive b a e) ]
+          | inr last ↦ elim last [ inl same ↦ grind (arith, far, ap (before b) same) | inr none ↦ absurd none ]
+        ]
+
+-- and no entry is lost
+pub moved_more : {E : Type 0} (before all front back : List E) (e : E) → IsPermutation before (all ++ (front ++ back)) → IsPermutation (before ++ e ∷ []) ((all ++ front) ++ e ∷ back)
+moved_more before all front back e moved =
+    let placed = all ++ front in
+    let kept = IsPermutation-cons e before (placed ++ back) (subst (IsPermutation before) (sym (append_assoc all front back)) moved) in
+    IsPermutation-trans (before ++ e ∷ []) (e ∷ before) (placed ++ e ∷ back) (IsPermutation-to_front before e)
+    (IsPermutation-trans (e ∷ before) (e ∷ (placed ++ back)) (placed ++ e ∷ back) kept (IsPermutation-sym (placed ++ e ∷ back) (e ∷ (placed ++ back)) (IsPermutation-middle placed e back)))
