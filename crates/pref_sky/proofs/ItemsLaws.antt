@@ -1,7 +1,7 @@
 -- The order of items is strict, whatever their signatures are, and lists are parted into their best and the others by what their items stand for.
 use Rattle.pref_sky.proofs.Common.{◌≡◌, Bool, cond, not, inl, inr, List, ◌++◌, sym, ◌∙◌, ap, subst, arith, map, count_by, both_ways, not-true, map-append, IsAntichain, best, is_beaten, without_best}
-use Rattle.pref_sky.proofs.Common.{Parted, Among, ◌+◌, ◌<◌, ◌≤◌, ◌^◌, ℕ, true, ◌&&◌, length, ltb, eq-eqb, w64, and_parts, and_right, ltb-true, eqb-true, lt-ltb, bit_and, min, IsStrictOrder, RowOrder}
-use Rattle.pref_sky.proofs.Common.{is_within, Entry, Item, IsItem, entry_at, is_word, item_order, place_order, entry_order, AreItems, Suit, cases_Bool, entries_at, nat_lt, signature, ◌||◌, refl}
+use Rattle.pref_sky.proofs.Common.{Parted, Among, ◌+◌, ◌<◌, ◌≤◌, ◌^◌, ℕ, true, ◌&&◌, length, ltb, eq-eqb, w64, and_right, ltb-true, eqb-true, lt-ltb, bit_and, min, IsStrictOrder, RowOrder, is_within}
+use Rattle.pref_sky.proofs.Common.{Entry, Item, IsItem, entry_at, is_word, item_order, place_order, entry_order, AreItems, Suit, entries_at, signature, refl}
 use Rattle.std.proofs.lemmas.List.Folds.{fold-map}
 use Rattle.pref_term.specs.declared.signature.scale.Scale.{Scale}
 use Rattle.std.specs.Int.{bit_at, bit_not}
@@ -103,10 +103,7 @@ item_order_is_strict order pool entries_strict =
     let strict = place_order_is_strict order pool entries_strict in
     let over = place_order order pool in
     record {
-      irreflexive = λ a.
-          let w = is_within a.signature a.signature in
-          let o = over a.place a.place in
-          and_right (is_word a) (is_word a && (w && o)) (and_right (is_word a) (w && o) (and_right w o (strict.irreflexive a.place)));
+      irreflexive = λ a. grind (arith, strict.irreflexive a.place);
       transitive = λ a b c.
           let w = λ (x y : Item). is_within x.signature y.signature in
           tests_chain (is_word a) (is_word b) (is_word c) (w a b) (w b c) (w a c) (over a.place b.place) (over b.place c.place) (over a.place c.place)
@@ -130,12 +127,7 @@ item_agrees order rule pool tells x y first second =
 
 -- signatures by scales that suit an order tell of it
 pub suit_tells : (order : RowOrder) (scales : List Scale) → Suit order scales → (a b : Entry) → entry_order order a b ≡ true → is_within (signature scales a.row) (signature scales b.row) ≡ true
-suit_tells order scales suit a b h =
-    elim (cases_Bool (order.over a.row b.row)) [
-      | inl over ↦ suit.over a.row b.row over
-      | inr none ↦
-          suit.twin a.row b.row (and_parts (order.twin a.row b.row) (nat_lt a.id b.id) (ap (λ c. c || (order.twin a.row b.row && nat_lt a.id b.id)) (sym none) ∙ h)).0
-    ]
+suit_tells order scales suit a b h = grind (arith, h, suit.over a.row b.row, suit.twin a.row b.row)
 
 -- what items are parted into are items too
 pub parted_items : (order : RowOrder) (rule : Entry → ℕ) (pool : List Entry) (held items top others : List Item) → Parted (item_order order pool) held items top others → AreItems rule pool (held ++ items)

@@ -1,5 +1,5 @@
 -- Classes: alike entries are of one level, and one of each class has the levels. In a line an entry is of the level behind as many classes as dominate it.
-use Rattle.pref_sky.proofs.Common.{◌≡◌, ℕ, zero, suc, ◌≤◌, ◌+◌, Bool, true, false, cond, not, ◌&&◌, ◌||◌, inl, inr, List, [], ◌∷◌, ◌++◌, length, refl, sym, ◌∙◌, ap, subst, arith, count_by, cases_lt}
+use Rattle.pref_sky.proofs.Common.{◌≡◌, ℕ, zero, suc, ◌≤◌, ◌+◌, Bool, true, false, cond, not, ◌&&◌, inl, inr, List, [], ◌∷◌, ◌++◌, length, refl, sym, ◌∙◌, ap, subst, arith, count_by, cases_lt}
 use Rattle.pref_sky.proofs.Common.{both_ways, and_parts, and_from, false_from_ne_true, StandAlike, best, rest, LevelsHoldAlike, LineHasLevels, AreClassesOf, AreStairs, IsInOrder, IsLine, are_level}
 use Rattle.pref_sky.proofs.Common.{comes_first, in_turn, Among}
 use Rattle.pref_sky.proofs.ListLaws.{count_both, any_from, any_gives, in_filter, from_filter, in_right, one_passes, same_answer, count_cons}
@@ -49,17 +49,15 @@ chains_of_classes over classes all are n x =
 
 -- which are alike
 stairs_alike : {E : Type 0} (over f s t : E → E → Bool) → AreStairs over f s t → (a b : E) → are_level (comes_first f s t) a b ≡ true → StandAlike over a b
-stairs_alike {E = E} over f s t stairs a b level =
+stairs_alike over f s t stairs a b level =
     let first : are_level f a b ≡ true = grind (arith, level) in
     let second : are_level s a b ≡ true = grind (arith, level) in
     let tie : are_level t a b ≡ true = grind (arith, level) in
-    let fa : (c : E) → f c a ≡ f c b = λ c. level_above f stairs.first_is_chain a b c first in
-    let fb : (c : E) → f a c ≡ f b c = λ c. level_below f stairs.first_is_chain a b c first in
-    let sa : (c : E) → s c a ≡ s c b = λ c. level_above s stairs.second_is_chain a b c second in
-    let sb : (c : E) → s a c ≡ s b c = λ c. level_below s stairs.second_is_chain a b c second in
+    let one = stairs.first_is_chain in
+    let two = stairs.second_is_chain in
     record {
-      above = λ c. stairs.is c a ∙ ((λ i. (not (fb c i) && not (sb c i)) && (fa c i || (sa c i || level_above t stairs.tie_is_chain a b c tie i))) ∙ sym (stairs.is c b));
-      below = λ c. stairs.is a c ∙ ((λ i. (not (fa c i) && not (sa c i)) && (fb c i || (sb c i || level_below t stairs.tie_is_chain a b c tie i))) ∙ sym (stairs.is b c));
+      above = λ c. grind (arith, first, second, tie, stairs.is c a, stairs.is c b, level_above f one a b c, level_below f one a b c, level_above s two a b c, level_below s two a b c, level_above t stairs.tie_is_chain a b c);
+      below = λ c. grind (arith, first, second, tie, stairs.is a c, stairs.is b c, level_above f one a b c, level_below f one a b c, level_above s two a b c, level_below s two a b c, level_below t stairs.tie_is_chain a b c);
     }
 
 module _ {E : Type 0} (over earlier better : E → E → Bool) (line : IsLine over earlier better) where

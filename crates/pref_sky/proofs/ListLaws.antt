@@ -1,10 +1,10 @@
 -- What is among a list, what tests keep and count of it, where it is cut, and lists in an order.
 use Rattle.pref_sky.proofs.Common.{◌≡◌, ℕ, suc, zero, ◌<◌, Bool, true, false, cond, ◌⊎◌, inl, inr, List, [], ◌∷◌, ◌++◌, refl, sym, ◌∙◌, ap, subst, arith, filter, get_or, length, map, list_any, All}
-use Rattle.pref_sky.proofs.Common.{or_cases, cond_both, false≢true, both_ways, cases_Bool, cond-true, cond-false, ◌≤◌, ◌+◌, ◌&&◌, count_by, and_parts, filter_agree, length-filter, sum_by-cons}
-use Rattle.pref_sky.proofs.Common.{sum_by-le-sum_by, eqb, eq-eqb, sum_by, and_from, eqb-true, Item, Among, nil_from_length, take, take_more, drop, take-append_seam, drop-append_seam, append-nil}
-use Rattle.pref_sky.proofs.Common.{get_or-drop, filter_more, ◌||◌, IsPermutation-sym, Contains-permutation, IsPermutation, IsPartitionPoint, length-take, length-drop, get_or-take, take-append-drop}
-use Rattle.pref_sky.proofs.Common.{filter-append, get_or_default, IsNonDecreasingBy, sum_by-append, not, append_assoc, IsPartitionedBy, cases_lt, IsPermutation-cons, IsPermutation-middle}
-use Rattle.pref_sky.proofs.Common.{IsPermutation-to_front, IsPermutation-trans, IsChain, IsInOrder}
+use Rattle.pref_sky.proofs.Common.{or_cases, cond_both, false≢true, both_ways, cases_Bool, ◌≤◌, ◌+◌, ◌&&◌, count_by, and_parts, filter_agree, length-filter, sum_by-cons, sum_by-le-sum_by, eqb, eq-eqb}
+use Rattle.pref_sky.proofs.Common.{sum_by, and_from, eqb-true, Item, Among, nil_from_length, take, take_more, drop, take-append_seam, drop-append_seam, append-nil, get_or-drop, filter_more, ◌||◌}
+use Rattle.pref_sky.proofs.Common.{IsPermutation-sym, Contains-permutation, IsPermutation, IsPartitionPoint, length-take, length-drop, get_or-take, take-append-drop, filter-append, get_or_default}
+use Rattle.pref_sky.proofs.Common.{IsNonDecreasingBy, sum_by-append, not, append_assoc, IsPartitionedBy, cases_lt, IsPermutation-cons, IsPermutation-middle, IsPermutation-to_front}
+use Rattle.pref_sky.proofs.Common.{IsPermutation-trans, IsChain, IsInOrder}
 use Rattle.std.proofs.lemmas.List.Folds.{list_any_at, list_any_none}
 pub use Rattle.pref_sky.specs.Members.{Among, SameMembers}
 
@@ -48,17 +48,10 @@ in_filter p (y ∷ ys) x m t =
 
 pub from_filter : {E : Type 0} (p : E → Bool) (xs : List E) (x : E) → Among x (filter p xs) → Among x xs × (p x ≡ true)
 from_filter p [] x m = absurd m
-from_filter {E = E} p (y ∷ ys) x m =
-    let at : (l : List E) → cond (p y) (y ∷ filter p ys) (filter p ys) ≡ l → Among x l = λ l e. subst (Among x) e m in
-    elim (cases_Bool (p y)) [
-      | inl e ↦
-          elim (at (y ∷ filter p ys) (cond-true (p y) (y ∷ filter p ys) (filter p ys) e)) [
-            | inl h ↦ (inl h, ap p h ∙ e)
-            | inr r ↦ let w = from_filter p ys x r in (inr w.0, w.1)
-          ]
-      | inr e ↦
-          let w = from_filter p ys x (at (filter p ys) (cond-false (p y) (y ∷ filter p ys) (filter p ys) e)) in (inr w.0, w.1)
-    ]
+from_filter p (y ∷ ys) x m =
+    cond_both (p y) (y ∷ filter p ys) (filter p ys) (λ l. Among x l → Among x (y ∷ ys) × (p x ≡ true))
+    (λ passes here. elim here [ inl e ↦ (inl e, ap p e ∙ passes) | inr r ↦ let w = from_filter p ys x r in (inr w.0, w.1) ])
+    (λ fails later. let w = from_filter p ys x later in (inr w.0, w.1)) m
 
 -- two tests that agree among a list keep the same of it
 pub filter_agree_among : {E : Type 0} (p q : E → Bool) (xs : List E) → ((x : E) → Among x xs → p x ≡ q x) → filter p xs ≡ filter q xs

@@ -1,8 +1,8 @@
 -- Entries in parts: where an order compares within parts alone, each part holds the levels of its own entries.
 use Rattle.pref_sky.proofs.Common.{◌≡◌, ℕ, zero, suc, ◌≤◌, ◌<◌, ◌+◌, ◌^◌, ◌/◌, Bool, true, false, cond, not, ◌&&◌, ltb, inl, inr, List, ℤ, [], ◌∷◌, ◌++◌, length, map, refl, sym, ◌∙◌, ap, subst, arith}
-use Rattle.pref_sky.proofs.Common.{filter, eqb, eq-eqb, max, count_by, cases_Bool, eqb-true, not_from_false, and_parts, or_cases, Decides-int_eq, nat_tests, filter_agree, length-filter, cell}
-use Rattle.pref_sky.proofs.Common.{in_same_group, RowOrder, StaysWithin, hash_with, Entry, best, is_beaten, rest, without_best, HaveDifferentIds, at_level, entry_of, entry_order, levels, held_at}
-use Rattle.pref_sky.proofs.Common.{ranked_from, ArePartitionedBy, all_at, depth, is_in, mixed_onto, partition_of, partitions_by, ranked_parts, ranked_upto, Among, take_all}
+use Rattle.pref_sky.proofs.Common.{filter, eqb, eq-eqb, max, count_by, cases_Bool, eqb-true, not_from_false, and_parts, Decides-int_eq, nat_tests, filter_agree, length-filter, cell, in_same_group}
+use Rattle.pref_sky.proofs.Common.{RowOrder, StaysWithin, hash_with, Entry, best, is_beaten, rest, without_best, HaveDifferentIds, at_level, entry_of, entry_order, levels, held_at, ranked_from}
+use Rattle.pref_sky.proofs.Common.{ArePartitionedBy, all_at, depth, is_in, mixed_onto, partition_of, partitions_by, ranked_parts, ranked_upto, Among, take_all}
 use Rattle.std.proofs.Math.Bool.{and_comm}
 use Rattle.std.proofs.Math.Nat.{le-max_left, le-max_right, max-le}
 use Rattle.pref_sky.proofs.ListLaws.{any_from, any_gives, in_filter, from_filter, in_left, in_right, in_either, from_map, in_map, filter_agree_among, none_pass, one_passes, filter_filter, same_answer}
@@ -25,11 +25,7 @@ same_mixed word (col ∷ columns) a b same =
 -- rows of one group are in one part
 pub is_within : (order : RowOrder) (columns : List ℕ) → StaysWithin order columns → IsWithin (entry_order order) (partition_of columns)
 is_within order columns within a b above =
-    let same : in_same_group columns a.row b.row ≡ true =
-    elim (or_cases (order.over a.row b.row) _ above) [
-      | inl over ↦ within.over a.row b.row over
-      | inr twins ↦ within.twin a.row b.row (and_parts (order.twin a.row b.row) _ twins).0
-    ] in
+    let same : in_same_group columns a.row b.row ≡ true = grind (arith, above, within.over a.row b.row, within.twin a.row b.row) in
     ap (λ word. word / 2 ^ 54) (same_mixed 0 columns a.row b.row same)
 
 swapped : {E : Type 0} (p q : E → Bool) (xs : List E) → filter p (filter q xs) ≡ filter q (filter p xs)

@@ -1,8 +1,7 @@
 -- The steps of passes, and what they keep true: nothing is lost, each pass settles more, what goes to the rest is dominated, and what is early at the end of a pass is best.
-use Rattle.pref_sky.proofs.Common.{◌≡◌, ℕ, ◌<◌, ◌≤◌, ◌+◌, Bool, true, false, ◌&&◌, inl, inr, List, [], ◌∷◌, ◌++◌, length, sym, ◌∙◌, ap, arith, append-nil, append_assoc, get_or, swap_remove}
-use Rattle.pref_sky.proofs.Common.{IsPermutation, and_right, cases_lt, sum_by-IsPermutation, sum_by-cons, sum_by-append, sum_by-swap_remove, RowOrder, StandAlike, is_within, Entry, Item, IsAntichain}
-use Rattle.pref_sky.proofs.Common.{is_word, item_order, place_order, IsClear, IsDecided, Sifted, Among, cond, ◌⊎◌, refl, subst, length-append, sum_by, both_ways, false_from_ne_true, IsStrictOrder}
-use Rattle.pref_sky.proofs.Common.{is_beaten, Parted, Passing, nil_from_length}
+use Rattle.pref_sky.proofs.Common.{◌≡◌, ℕ, ◌<◌, ◌≤◌, ◌+◌, Bool, true, false, inl, inr, List, [], ◌∷◌, ◌++◌, length, sym, ◌∙◌, ap, arith, append-nil, append_assoc, get_or, swap_remove, IsPermutation}
+use Rattle.pref_sky.proofs.Common.{cases_lt, sum_by-IsPermutation, sum_by-cons, sum_by-append, sum_by-swap_remove, RowOrder, StandAlike, Entry, Item, IsAntichain, item_order, IsClear, IsDecided}
+use Rattle.pref_sky.proofs.Common.{Sifted, Among, cond, ◌⊎◌, refl, subst, length-append, sum_by, both_ways, false_from_ne_true, IsStrictOrder, is_beaten, Parted, Passing, nil_from_length}
 use Rattle.std.specs.List.{AllWithin}
 use Rattle.pref_sky.proofs.ListLaws.{in_either, any_from, any_none, in_left, among_if, among_or, is_item, long_by, none_by, some_of, sum_by-ones, count_append}
 use Rattle.pref_sky.proofs.Merges.{unbeaten_over}
@@ -50,12 +49,7 @@ sifted_moved over e old held start rest moved permuted s =
 
 -- items of which the signatures tell are clear
 told_is_clear : (order : RowOrder) (pool : List Entry) (x e : Item) → IsDecided e.signature x → (item_order order pool x e ≡ false) × (item_order order pool e x ≡ false)
-told_is_clear order pool x e decided =
-    let below : Bool = place_order order pool x.place e.place in
-    let above : Bool = place_order order pool e.place x.place in (
-      and_right (is_word x) (is_word e && (is_within x.signature e.signature && below)) (and_right (is_word e) (is_within x.signature e.signature && below) (ap (λ w. w && below) decided.0)),
-      and_right (is_word e) (is_word x && (is_within e.signature x.signature && above)) (and_right (is_word x) (is_within e.signature x.signature && above) (ap (λ w. w && above) decided.1)),
-    )
+told_is_clear order pool x e decided = (grind (arith, decided.0), grind (arith, decided.1))
 
 pub clear_upto : (order : RowOrder) (pool : List Entry) (xs : List Item) (e : Item) (from to : ℕ) → AreClear (item_order order pool) xs e from
     → AreDecided xs e from to → AreClear (item_order order pool) xs e to

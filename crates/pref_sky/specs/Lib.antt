@@ -7,7 +7,6 @@ pub mod StairLaws
 pub mod Windows
 pub mod Answers
 pub mod Items
-pub mod Layers
 pub mod Passes
 pub mod Made
 pub mod ChainOrders

@@ -13,8 +13,7 @@
 //! level does. So (5, 6) is compared with (4, 5), which dominates it, and with (3, 8), which does not.
 
 ghost use Rattle.std.specs.Prelude.{◌≡◌, ◌<◌, ◌≤◌, ◌-◌, ◌+◌, true, false, All, IfOk, OnOk, get_or, length};
-ghost use Rattle.pref_sky.specs.ChainOrders.{AreInOrder, own_order};
-ghost use Rattle.pref_sky.specs.Layers.{StandsBehind, with_levels, with_last};
+ghost use Rattle.pref_sky.specs.ChainOrders.{AreInOrder, StandsBehind, own_order, with_last, with_levels};
 
 use crate::chain_order::ChainOrder;
 use crate::entry::{Entry, Ranked};

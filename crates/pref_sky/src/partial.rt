@@ -191,3 +191,22 @@ impl Partial {
         }
     }
 }
+
+/// The entries of the levels 1 to `cut`, in order of level, then id.
+///
+/// Cost and memory: those of [`Partial::add`] of all entries, and of [`Partial::ranked`]. `Err` is out of memory.
+pub fn levels<D: Dominance>(
+    alloc: Global,
+    dominance: &D,
+    window: usize,
+    cut: u32,
+    entries: &[Entry],
+) -> Result<Vec<Ranked>, AllocError>
+    requires window { 0 < window }
+    requires ids { HaveDifferentIds entries.now }
+    ensures { IfOk result (λ ranked. ranked.items ≡ levels (entry_order (D.order dominance.now)) entries.now cut) }
+{
+    let mut partial = Partial::empty();
+    partial.add(alloc, dominance, window, cut, entries)?;
+    partial.ranked(alloc)
+}

@@ -1,11 +1,12 @@
 //! Levels of entries in parts that the order never compares with each other.
 
-ghost use Rattle.std.specs.Prelude.{◌≡◌, ◌≤◌, ◌<◌, ◌++◌, ◌-◌, ◌^◌, [], ℕ, suc, List, All, length, map, take, drop, IfOk, OnOk, OnErr};
+ghost use Rattle.std.specs.Prelude.{◌≡◌, ◌≤◌, ◌<◌, ◌++◌, ◌-◌, ◌^◌, [], ℕ, suc, List, All, length, map, take, drop, vec_len, IfOk, OnErr, OnOk};
 ghost use Rattle.pref_sky.specs.Made.{AreComing, AreDealt, ArePartsMade, ArePut, FitIn, HaveArrived, coming_to};
 ghost use Rattle.pref_sky.specs.Items.{AreInPool, AreItems, entries_at, parts_at, signature_by};
-ghost use Rattle.pref_sky.specs.Levels.{HaveDifferentIds, at_level, entry_of, entry_order, levels};
+ghost use Rattle.pref_sky.specs.Levels.{HaveDifferentIds, at_level, entry_of, entry_order, in_order_of_id, levels};
 ghost use Rattle.pref_sky.specs.Partials.{ArePartitionedBy, all_at, depth, partition_of, partitions_by, ranked_parts};
 ghost use Rattle.pref_sky.specs.declared.entry.Entry.{Entry};
+ghost use Rattle.pref_sky.specs.declared.entry.Ranked.{Ranked};
 ghost use Rattle.pref_term.specs.Order.{StaysWithin};
 ghost use Rattle.pref_term.specs.Signatures.{Suit};
 
@@ -14,7 +15,6 @@ use crate::entry::{Entry, Ranked};
 use crate::item::Item;
 use crate::making::{Made, level_at, made_of, put};
 use crate::pool::{Pool, next_look, take_parts};
-use crate::ranking::sort_behind;
 use pref_term::Dominance;
 use std::alloc::{AllocError, Global};
 
@@ -124,6 +124,15 @@ fn push_parts(
         push_items(ranked, place as u32 + 1, pool, level_at(levels, place))?;
     }
     Ok(())
+}
+
+/// Sorts the entries from a place on, which are of one level, by id. Takes no memory.
+fn sort_behind(ranked: &mut Vec<Ranked>, start: usize)
+    requires { start ≤ vec_len ranked.old }
+    ensures { (front : List Ranked) (level : ℕ) (entries : List Entry) → HaveDifferentIds entries → length front ≡ start
+        → ranked.old.items ≡ front ++ map (at_level level) entries → ranked.new.items ≡ front ++ map (at_level level) (in_order_of_id entries) }
+{
+    ranked[start..].sort_unstable_by_key(|entry| entry.id);
 }
 
 /// Levels of entries, in parts by the cells of some columns. The entries of all are in one pool.

@@ -2,7 +2,7 @@ use Rattle.pref_sky.proofs.Common.{rules, ◌≡◌, ◌++◌, ◌-◌, length, 
 use Rattle.pref_sky.proofs.Common.{Ranked, at_level}
 use borrow.Rule.Slice.PartMut.{post_of, put_mid}
 use Rattle.pref_sky.proofs.Ranks.{sorted_behind}
-use Rattle.pref_sky.proofs.ranking.sort_behind.Goals as goal
+use Rattle.pref_sky.proofs.partitions.sort_behind.Goals as goal
 
 pub returns : goal.returns
 returns c front level entries different long is =

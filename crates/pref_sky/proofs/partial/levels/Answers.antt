@@ -1,5 +1,5 @@
 use Rattle.pref_sky.proofs.Common.{[], ◌∙◌, IfOk-weaker, entry_order}
-use Rattle.pref_sky.proofs.ranking.levels.Goals as goal
+use Rattle.pref_sky.proofs.partial.levels.Goals as goal
 
 -- what was empty holds the levels of what was added
 pub returns : goal.returns
