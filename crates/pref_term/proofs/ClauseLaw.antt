@@ -1,5 +1,5 @@
 -- What is shown of a clause that keeps one of equal rows spells it; and so does what is shown of any ask.
-use Rattle.pref_term.proofs.Common.{◌≡◌, ◌<◌, ◌≤◌, ℕ, List, [], ◌∷◌, ◌++◌, map, Bool, true, false, cond, Some, Ok, length, refl, sym, ap, ◌∙◌, append_assoc, codes, fold, AllByRecursion, option_map}
+use Rattle.pref_term.proofs.Common.{[], ◌≡◌, ◌<◌, ◌≤◌, ℕ, List, ◌∷◌, ◌++◌, map, Bool, true, false, cond, Some, Ok, length, refl, sym, ap, ◌∙◌, append_assoc, codes, fold, AllByRecursion, option_map}
 use Rattle.pref_term.proofs.Common.{recursion_from_All, is_name_byte, schema_of, comma, Token, word, sign, Placed, tokens_of, minimal, maximal, different, direction_word, DimText, AskText, skyline}
 use Rattle.pref_term.proofs.Common.{Leaf, mark, column_name, cased, last, IsWritten, dim_leaves, more_dims, ask_leaves, says_distinct, plain, column, low, high, Preference, scored, pareto, prior}
 use Rattle.pref_term.proofs.Common.{reverse, Question, FitsWidth, IsAsk, IsClause, IsDimension, IsSkyline, asked, Names, Spells, IsGood, tokens_in, tokens_on, orders_of, groups_of, product_of}
@@ -38,8 +38,8 @@ named_lexed (c ∷ cs) b bs rest h k e =
     ∙ ap (λ ts. word (c ∷ cs) ∷ ts) (place_free 0 1 0 ((b ∷ bs) ++ rest) ∙ word_lexed b bs rest k e))
 
 dim_lexed : (names : Names) (p : Preference) (rest : List ℕ) → IsDimension p → CanShow names p → Ends is_name_byte rest → lexed (shown_dims names p ++ rest) ≡ word (dim_of names p).column ∷ word (dim_of names p).written ∷ lexed rest
-dim_lexed names (scored (low col)) rest d h e = named_lexed (name_at names col) 109 (105 ∷ 110 ∷ []) rest h.0 (refl, (refl, (refl, tt))) e
-dim_lexed names (scored (high col)) rest d h e = named_lexed (name_at names col) 109 (97 ∷ 120 ∷ []) rest h.0 (refl, (refl, (refl, tt))) e
+dim_lexed names (scored (low col)) rest d h e = named_lexed (name_at names col) 109 (105 ∷ 110 ∷ []) rest h.0.0 (refl, (refl, (refl, tt))) e
+dim_lexed names (scored (high col)) rest d h e = named_lexed (name_at names col) 109 (97 ∷ 120 ∷ []) rest h.0.0 (refl, (refl, (refl, tt))) e
 dim_lexed names p rest d h e = absurd d
 
 clause_lexed : (names : Names) (p : Preference) (ds : List DimText) (rest : List ℕ) → IsClause p → CanShow names p → Ends is_name_byte rest → lexed rest ≡ tokens_on (more_dims ds ++ last ∷ [])
@@ -115,8 +115,8 @@ dim_written names (scored (high col)) d h = (tt, refl)
 dim_written names p d h = absurd d
 
 dim_good : (names : Names) (p : Preference) → IsDimension p → CanShow names p → OfDim (IsGood names) (dim_of names p)
-dim_good names (scored (low col)) d h = (column_fine names col h, refl)
-dim_good names (scored (high col)) d h = (column_fine names col h, refl)
+dim_good names (scored (low col)) d h = (column_fine names col h.0, refl)
+dim_good names (scored (high col)) d h = (column_fine names col h.0, refl)
 dim_good names p d h = absurd d
 
 diffs_written : (names : Names) (cs : List ℕ) → AllByRecursion (OfDim IsWritten) (map (diff_dim names) cs)
@@ -130,8 +130,8 @@ diffs_good names (c ∷ cs) h = ((column_fine names c h.0, refl), diffs_good nam
 -- ---- its meaning
 
 dim_order : (names : Names) (p : Preference) (ds : List DimText) → IsDimension p → CanShow names p → orders_of names (dim_of names p ∷ ds) ≡ p ∷ orders_of names ds
-dim_order names (scored (low col)) ds d h = ap (λ c. scored (low c) ∷ orders_of names ds) (column_same names col h)
-dim_order names (scored (high col)) ds d h = ap (λ c. scored (high c) ∷ orders_of names ds) (column_same names col h)
+dim_order names (scored (low col)) ds d h = ap (λ c. scored (low c) ∷ orders_of names ds) (column_same names col h.0)
+dim_order names (scored (high col)) ds d h = ap (λ c. scored (high c) ∷ orders_of names ds) (column_same names col h.0)
 dim_order names p ds d h = absurd d
 
 -- the product of its MIN and MAX columns is the preference again, since that is left-grouped

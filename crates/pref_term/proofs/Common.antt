@@ -36,15 +36,15 @@ pub use Rattle.pref_term.specs.Grammar.{minimal, more_columns, more_dims, more_s
 pub use Rattle.pref_term.specs.Grammar.{pos_text, pos_word, prior_leaves, product_leaves, rated, reverse_word, reversed, set_leaves, signed_leaves, skyline, skyline_word, then_factor, then_product}
 pub use Rattle.pref_term.specs.Grammar.{token_of, top_level_head, top_level_word, unary_leaves}
 pub use Rattle.pref_term.specs.Keys.{by_key, by_keys, from_zero, is_number, is_product, key_for, keyed, leading, opposed}
-pub use Rattle.pref_term.specs.ReaderResults.{Asks, AsksClause, AsksClauseNothing, AsksNothing, AsksWhole, AsksWholeNothing, Fails, FailsBase, FailsClause, FailsColumn, FailsColumns, FailsCount, FailsDim}
-pub use Rattle.pref_term.specs.ReaderResults.{FailsDirection, FailsEnd, FailsGroup, FailsGrouping, FailsNumber, FailsNumbers, FailsOf, FailsOpened, FailsPrior, FailsProduct, FailsSets, FailsUnary, Goes}
-pub use Rattle.pref_term.specs.ReaderResults.{IsBehindDistinct, IsColumn, IsKnown, IsNoDigits, IsNoWord, IsOther, IsTermOf, NotNext, Passes, PassesOf, ReadsBase, ReadsClause, ReadsColumns, ReadsDim, ReadsDims}
-pub use Rattle.pref_term.specs.ReaderResults.{ReadsEnd, ReadsFactors, ReadsGroup, ReadsGrouping, ReadsNumber, ReadsNumbers, ReadsOpened, ReadsPrior, ReadsProduct, ReadsProducts, ReadsReverse, ReadsSets}
-pub use Rattle.pref_term.specs.ReaderResults.{ReadsSome, ReadsSomeColumns, ReadsSomeSets, ReadsUnary, TakesColumn, TakesCount, TakesDirection, WantsColumn, WantsCount, first_place, list_hole, with_order}
-pub use Rattle.pref_term.specs.ReaderResults.{word_ahead}
 pub use Rattle.pref_term.specs.Order.{is_better, is_same, is_worse}
 pub use Rattle.pref_term.specs.Preference.{Base, Preference, around, between, high, layered, low, one_of, pareto, preference_of, prior, reverse, scored}
 pub use Rattle.pref_term.specs.Question.{FitsWidth, IsAsk, IsClause, IsCount, IsDimension, IsSkyline, Question, alike, cut_of, is_count}
+pub use Rattle.pref_term.specs.ReaderResults.{Asks, AsksClause, AsksClauseNothing, AsksNothing, AsksWhole, AsksWholeNothing, Fails, FailsBase, FailsClause, FailsColumn, FailsColumns, FailsCount}
+pub use Rattle.pref_term.specs.ReaderResults.{FailsDim, FailsDirection, FailsEnd, FailsGroup, FailsGrouping, FailsNumber, FailsNumbers, FailsOf, FailsOpened, FailsPrior, FailsProduct, FailsSets}
+pub use Rattle.pref_term.specs.ReaderResults.{FailsUnary, Goes, IsBehindDistinct, IsColumn, IsKnown, IsNoDigits, IsNoWord, IsOther, IsTermOf, NotNext, Passes, PassesOf, ReadsBase, ReadsClause}
+pub use Rattle.pref_term.specs.ReaderResults.{ReadsColumns, ReadsDim, ReadsDims, ReadsEnd, ReadsFactors, ReadsGroup, ReadsGrouping, ReadsNumber, ReadsNumbers, ReadsOpened, ReadsPrior, ReadsProduct}
+pub use Rattle.pref_term.specs.ReaderResults.{ReadsProducts, ReadsReverse, ReadsSets, ReadsSome, ReadsSomeColumns, ReadsSomeSets, ReadsUnary, TakesColumn, TakesCount, TakesDirection, WantsColumn}
+pub use Rattle.pref_term.specs.ReaderResults.{WantsCount, first_place, list_hole, with_order, word_ahead}
 pub use Rattle.pref_term.specs.Reading.{BaseKind, BasePart, BaseStep, NumberHole, NumberList, PriorHole, ProductHole, State, UnaryHole, after, around_kind, at_least_named, base_next, before_dim}
 pub use Rattle.pref_term.specs.Reading.{before_prior, before_product, before_unary, begun, between_kind, carried, centre_of, centred, closed, closing, columned, completed, dim_due, dim_named}
 pub use Rattle.pref_term.specs.Reading.{dims_listed, directed, done, end_of, ended, filled, finished, first_factor, first_of, first_product, group_due, group_listed, grouped_by, high_kind}
@@ -55,10 +55,10 @@ pub use Rattle.pref_term.specs.Reading.{skyline_named, start, start_of, stepped,
 pub use Rattle.pref_term.specs.SeenTokens.{IsFront, seen}
 pub use Rattle.pref_term.specs.Shown.{IsShownAs, held, held_nests, is_composed, is_prior, more_names, name_at, nests, shown, shown_base, shown_diffs, shown_dims, shown_group, shown_mode, shown_set}
 pub use Rattle.pref_term.specs.Shown.{shown_sets, shown_term, shown_values, worked_names}
-pub use Rattle.pref_term.specs.Signatures.{Suit, bits_by, is_within, hash_with, scale_column, signature, signed_onto, with_bit}
+pub use Rattle.pref_term.specs.Signatures.{Suit, bits_by, hash_with, is_within, scale_column, signature, signed_onto, with_bit}
 pub use Rattle.pref_term.specs.Spells.{Faults, FirstFault, HasOwnFault, IsGood, IsUnexpected, LacksOrder, Names, OwnFault, Spells, Starts, UnlessMemory, bad_count, base_meaning, below, column_at}
 pub use Rattle.pref_term.specs.Spells.{empty_range, group_by, groups_of, last_place, mode_of, number_range, number_value, order_by, orders_of, own_fault, prior_meaning, product_meaning, product_of}
-pub use Rattle.pref_term.specs.Spells.{question, set_value, signed_value, tokens_in, tokens_on, reported, reported_at, too_deep, unary_meaning, unknown_column}
+pub use Rattle.pref_term.specs.Spells.{question, reported, reported_at, set_value, signed_value, tokens_in, tokens_on, too_deep, unary_meaning, unknown_column}
 pub use Rattle.pref_term.specs.Token.{Placed, Sign, Token, ampersand, comma, digits, finish, left, left_brace, minus, more_bytes, other, right, right_brace, sign, sign_or_other, star, token_from}
 pub use Rattle.pref_term.specs.Token.{tokens_from, tokens_of, word}
 pub use Rattle.pref_term.specs.TwinLaws.{clause_twins, twins_alike}

@@ -1,13 +1,13 @@
 -- What the parts of the reader promise, from the tokens that they take.
 use Rattle.pref_term.proofs.Common.{◌≡◌, ℕ, ℤ, Bor, List, [], ◌∷◌, ◌++◌, map, Bool, true, false, cond, Some, None, Result, Ok, Err, refl, sym, ap, subst, ◌∙◌, fits_cell, Sign, left, right}
 use Rattle.pref_term.proofs.Common.{right_brace, comma, minus, Token, word, digits, sign, Placed, based, NumberText, low_text, high_text, around_text, pos_text, Leaf, mark, column_name, number_digits}
-use Rattle.pref_term.proofs.Common.{between_text, Names, UnlessMemory, own_fault, signed_value, number_value, column_at, number_range, below, empty_range, reported, reported_at, OwnFault, BaseKind, low_kind}
-use Rattle.pref_term.proofs.Common.{high_kind, around_kind, pos_kind, layered_kind, centre_of, first_of, named, opened, columned, number_due, number_signed, centred, listed, filled, NumberHole}
-use Rattle.pref_term.proofs.Common.{UnaryHole, State, reading, completed, run, led, judged, next, between_kind, start_of, end_of, least_of, ranged, range_ended, NumberList, in_pos, in_set, closing}
-use Rattle.pref_term.proofs.Common.{list_closed, stepped, seen, ahead, taken, behind_token, Cursor, Lexeme, Digits, Goes, Fails, IsOther, NotNext, Passes, WantsColumn, TakesColumn, ReadsOpened}
-use Rattle.pref_term.proofs.Common.{IsNoWord, FailsColumn, FailsOpened, ReadsNumber, ReadsSome, ReadsNumbers, ReadsBase, FailsNumber, FailsNumbers, FailsBase, list_hole, ReadsEnd, FailsEnd}
-use Rattle.pref_term.proofs.Common.{first_place, TermFault, Unexpected, OutOfMemory, EmptyRange, NumberRange, All, FitsSigned, ◌≢◌, IsErrAnd, IfErr, unwrap_or, int_lt, Option, scored, low, high}
-use Rattle.pref_term.proofs.Common.{around, one_of, between, all_ascii_digits, map-append, All-append, All-cons, All-nil}
+use Rattle.pref_term.proofs.Common.{between_text, Names, UnlessMemory, own_fault, signed_value, number_value, column_at, number_range, below, empty_range, reported, reported_at, OwnFault, BaseKind}
+use Rattle.pref_term.proofs.Common.{low_kind, high_kind, around_kind, pos_kind, layered_kind, centre_of, first_of, named, opened, columned, number_due, number_signed, centred, listed, filled}
+use Rattle.pref_term.proofs.Common.{NumberHole, UnaryHole, State, reading, completed, run, led, judged, next, between_kind, start_of, end_of, least_of, ranged, range_ended, NumberList, in_pos, in_set}
+use Rattle.pref_term.proofs.Common.{closing, list_closed, stepped, seen, ahead, taken, behind_token, Cursor, Lexeme, Digits, Goes, Fails, IsOther, NotNext, Passes, WantsColumn, TakesColumn}
+use Rattle.pref_term.proofs.Common.{ReadsOpened, IsNoWord, FailsColumn, FailsOpened, ReadsNumber, ReadsSome, ReadsNumbers, ReadsBase, FailsNumber, FailsNumbers, FailsBase, list_hole, ReadsEnd}
+use Rattle.pref_term.proofs.Common.{FailsEnd, first_place, TermFault, Unexpected, OutOfMemory, EmptyRange, NumberRange, All, FitsSigned, ◌≢◌, IsErrAnd, IfErr, unwrap_or, int_lt, Option, scored, low}
+use Rattle.pref_term.proofs.Common.{high, around, one_of, between, all_ascii_digits, map-append, All-append, All-cons, All-nil}
 use Rattle.pref_table.specs.Columns.{column_of}
 use Rattle.pref_term.proofs.GrammarComplete.{list_ends}
 use Rattle.pref_term.proofs.TokenLemmas.{digits_taken}

@@ -1,21 +1,20 @@
 -- What is shown of an ask that keeps all equal rows spells it.
-use Rattle.pref_term.proofs.Common.{◌≡◌, ◌<◌, ◌≤◌, ◌^◌, ◌+◌, ℕ, ℤ, pos, negsuc, suc, List, [], ◌∷◌, ◌++◌, map, true, cond, Some, None, Ok, length, refl, sym, ap, ◌∙◌, append_assoc, arith, int_lt}
+use Rattle.pref_term.proofs.Common.{[], ◌≡◌, ◌<◌, ◌≤◌, ◌^◌, ◌+◌, ℕ, ℤ, pos, negsuc, suc, List, ◌∷◌, ◌++◌, map, true, cond, Some, None, Ok, length, refl, sym, ap, ◌∙◌, append_assoc, arith, int_lt}
 use Rattle.pref_term.proofs.Common.{false, FitsSigned, decimal, is_none, codes, AllByRecursion, is_ascii_digit, all_ascii_digits, digits_value-decimal, digits_decimal, decimal_nonempty}
 use Rattle.pref_term.proofs.Common.{recursion_from_All, nat_tests, left, right, star, ampersand, minus, comma, tokens_of, Sign, right_brace, PriorText, one_product, then_product, then_factor, grouped}
-use Rattle.pref_term.proofs.Common.{AskText, rated, mark, column_name, count_digits, last, head_leaves, more_columns, group_leaves, number_leaves, others_leaves, base_leaves, prior_leaves}
-use Rattle.pref_term.proofs.Common.{product_leaves, unary_leaves, end_leaves, list_leaves, set_leaves, more_sets, schema_of, fits_cell, and_parts, column, ReadsBelow, IsWritableSet, IsWritableBase}
-use Rattle.pref_term.proofs.Common.{IsWritable, Question, FitsWidth, IsCount, is_count, cut_of, IsAsk, Names, Spells, IsGood, own_fault, number_value, mode_of, column_at, unknown_column, number_range}
-use Rattle.pref_term.proofs.Common.{bad_count, below, empty_range, Base, low, high, around, one_of, Preference, scored, pareto, prior, reverse, between, layered, is_prior, is_composed, held_nests}
-use Rattle.pref_term.proofs.Common.{nests, name_at, shown_term, shown_mode, shown_group, shown, shown_dims, shown_diffs, Mode, Best, TopLevel, AtLeast}
+use Rattle.pref_term.proofs.Common.{AskText, rated, mark, column_name, count_digits, head_leaves, more_columns, group_leaves, number_leaves, others_leaves, base_leaves, prior_leaves, product_leaves}
+use Rattle.pref_term.proofs.Common.{unary_leaves, end_leaves, list_leaves, set_leaves, more_sets, schema_of, fits_cell, and_parts, column, ReadsBelow, IsWritableSet, IsWritableBase, IsWritable}
+use Rattle.pref_term.proofs.Common.{Question, FitsWidth, IsCount, is_count, cut_of, IsAsk, Names, Spells, IsGood, own_fault, mode_of, column_at, unknown_column, number_range, bad_count, below}
+use Rattle.pref_term.proofs.Common.{empty_range, Base, low, high, around, one_of, Preference, scored, pareto, prior, reverse, between, layered, is_prior, is_composed, held_nests, nests, name_at}
+use Rattle.pref_term.proofs.Common.{shown_term, shown_mode, shown_group, shown, shown_dims, shown_diffs, Mode, Best, TopLevel, AtLeast, Option, is_name_byte, IsWritten, Leaf, NumberText}
+use Rattle.pref_term.proofs.Common.{number_digits, signed_leaves}
 use Rattle.std.specs.Int.{w64}
-use Rattle.pref_term.proofs.ShownNames.{IsWordText, IsNamed, is_named}
-use Rattle.pref_term.proofs.ShownLemmas.{AreInRange, CanShowBase, CanShow, leaves_text, leaves_text-append, head_text, head_shown, group_shown, columns_same, number_text, base_text, Shape, factor}
-use Rattle.pref_term.proofs.ShownLemmas.{product, ranked, as_prior, as_product, as_factor, shape_of, shape_leaves, prior_same, number_same, meaning_same, prior_text, text_shown, own_numerals}
-use Rattle.pref_term.proofs.ShownLemmas.{CanShowSet, set_text}
-use Rattle.pref_term.proofs.SpellsLaws.{good_both}
+use Rattle.pref_term.proofs.ShownNames.{IsNamed, is_named}
+use Rattle.pref_term.proofs.ShownLemmas.{AreInRange, CanShow, leaves_text, leaves_text-append, head_text, head_shown, group_shown, columns_same, number_text, base_text, Shape, factor, product, ranked}
+use Rattle.pref_term.proofs.ShownLemmas.{as_prior, as_product, as_factor, shape_of, shape_leaves, prior_same, number_same, meaning_same, prior_text, text_shown, own_numerals, set_text}
 use Rattle.pref_term.proofs.CycleLemmas.{depth_good}
 use Rattle.pref_term.proofs.DistinctLemmas.{head_said, plain_tokens}
-use Rattle.pref_term.proofs.ShownTokens.{lexed, IsDigitsText, FineHead, FineNumbers, FineBase, FinePrior, FineProduct, FineUnary, said, rated_lexed, rated_written, FineSet}
+use Rattle.pref_term.proofs.ShownTokens.{lexed, IsDigitsText, said, rated_lexed, Ends, Apart, apart_both, rated_all, spelled_written}
 
 digits_text : (ds : List ℕ) → all_ascii_digits ds ≡ true → 0 < length ds → IsDigitsText ds
 digits_text [] h n = absurd (omega arith)
@@ -32,213 +31,171 @@ number_fine : (v : ℤ) → FitsSigned w64 v → IsDigitsText (number_text v).di
 number_fine (pos n) h = let small : n < 2 ^ 64 = omega (arith, h.sfits) in decimal_text n small
 number_fine (negsuc n) h = let small : suc n < 2 ^ 64 = omega (arith, h.sfits) in decimal_text (suc n) small
 
-numbers_fine : (vs : List ℤ) → AreInRange vs → FineNumbers (map number_text vs)
-numbers_fine [] h = tt
-numbers_fine (v ∷ vs) h = (number_fine v h.0, numbers_fine vs h.1)
-
-set_fine : (set : List ℤ) → CanShowSet set → FineSet (set_text set)
-set_fine [] h = absurd h
-set_fine (v ∷ vs) h = (number_fine v h.0, numbers_fine vs h.1)
-
-sets_fine : (sets : List (List ℤ)) → AllByRecursion CanShowSet sets → AllByRecursion FineSet (map set_text sets)
-sets_fine [] h = tt
-sets_fine (s ∷ ss) h = (set_fine s h.0, sets_fine ss h.1)
-
-base_fine : (names : Names) (b : Base) → CanShowBase names b → FineBase (base_text names b)
-base_fine names (low col) h = h.0
-base_fine names (high col) h = h.0
-base_fine names (around col centre) h = (h.0.0, number_fine centre h.1)
-base_fine names (between col l r) h = (h.0.0, number_fine l h.1, number_fine r h.2)
-base_fine names (one_of col []) h = absurd h
-base_fine names (one_of col (v ∷ vs)) h = (h.0.0, (number_fine v h.1.0, numbers_fine vs h.1.1))
-base_fine names (layered col []) h = absurd h
-base_fine names (layered col (s ∷ ss)) h = (h.0.0, sets_fine (s ∷ ss) h.1)
-
-abbrev FineShape : Shape → Type 0
-FineShape (factor u) = FineUnary u
-FineShape (product p) = FineProduct p
-FineShape (ranked r) = FinePrior r
-
-fine_prior : (s : Shape) → FineShape s → FinePrior (as_prior s)
-fine_prior (factor u) h = h
-fine_prior (product p) h = h
-fine_prior (ranked r) h = h
-
-fine_product : (s : Shape) → FineShape s → FineProduct (as_product s)
-fine_product (factor u) h = h
-fine_product (product p) h = h
-fine_product (ranked r) h = h
-
-fine_factor : (s : Shape) → FineShape s → FineUnary (as_factor s)
-fine_factor (factor u) h = h
-fine_factor (product p) h = h
-fine_factor (ranked r) h = h
-
-shape_fine : (names : Names) (p : Preference) → CanShow names p → FineShape (shape_of names p)
-shape_fine names (scored b) h = base_fine names b h
-shape_fine names (pareto p q) h = (fine_product (shape_of names p) (shape_fine names p h.0), fine_factor (shape_of names q) (shape_fine names q h.1))
-shape_fine names (prior p q) h = (fine_prior (shape_of names p) (shape_fine names p h.0), fine_product (shape_of names q) (shape_fine names q h.1))
-shape_fine names (reverse p) h = fine_factor (shape_of names p) (shape_fine names p h)
-
--- ---- no leaf has a fault of its own
-
-pub column_fine : (names : Names) (col : ℕ) → IsNamed names col → own_fault names (column_name (name_at names col)) ≡ None
-column_fine names col h = ap (λ o. cond (is_none o) (Some unknown_column) None) h.1
-
-range_fine : (v : ℤ) → FitsSigned w64 v → fits_cell (number_value (number_text v)) ≡ true
-range_fine v h = ap fits_cell (number_same v h) ∙ fits v h
-  where
-    fits : (v : ℤ) → FitsSigned w64 v → fits_cell v ≡ true
-    fits (pos n) h = grind (arith, nat_tests, h.sfits)
-    fits (negsuc n) h = grind (arith, nat_tests, h.sfits)
-
-end_good : (names : Names) (l v : ℤ) → FitsSigned w64 l → FitsSigned w64 v → int_lt v l ≡ false → AllByRecursion (IsGood names) (end_leaves (number_text l) (number_text v))
-end_good names l v hl hv ordered = go v hv (below_none v hv ordered)
-  where
-    below_none : (v : ℤ) → FitsSigned w64 v → int_lt v l ≡ false → below (Some (number_text l)) (number_value (number_text v)) ≡ None
-    below_none v hv e = ap (λ b. cond b (Some empty_range) None) (ap (λ x. int_lt x (number_value (number_text l))) (number_same v hv) ∙ (ap (λ x. int_lt v x) (number_same l hl) ∙ e))
-
-    go : (v : ℤ) → FitsSigned w64 v → below (Some (number_text l)) (number_value (number_text v)) ≡ None → AllByRecursion (IsGood names) (end_leaves (number_text l) (number_text v))
-    go (pos n) h e = (ap (λ b. cond b (below (Some (number_text l)) (number_value (number_text (pos n)))) (Some number_range)) (range_fine (pos n) h) ∙ e, tt)
-    go (negsuc n) h e = (refl, (ap (λ b. cond b (below (Some (number_text l)) (number_value (number_text (negsuc n)))) (Some number_range)) (range_fine (negsuc n) h) ∙ e, tt))
-
-number_good : (names : Names) (v : ℤ) → FitsSigned w64 v → AllByRecursion (IsGood names) (number_leaves (number_text v))
-number_good names (pos n) h = (ap (λ b. cond b None (Some number_range)) (range_fine (pos n) h), tt)
-number_good names (negsuc n) h = (refl, (ap (λ b. cond b None (Some number_range)) (range_fine (negsuc n) h), tt))
-
-numbers_good : (names : Names) (vs : List ℤ) → AreInRange vs → AllByRecursion (IsGood names) (others_leaves (map number_text vs))
-numbers_good names [] h = tt
-numbers_good names (v ∷ vs) h = (refl, good_both names (number_leaves (number_text v)) (others_leaves (map number_text vs)) (number_good names v h.0) (numbers_good names vs h.1))
-
-list_good : (names : Names) (v : ℤ) (vs : List ℤ) (closing : Sign) → AreInRange (v ∷ vs) → AllByRecursion (IsGood names) (list_leaves (number_text v) (map number_text vs) closing)
-list_good names v vs closing h =
-    good_both names (number_leaves (number_text v)) (others_leaves (map number_text vs) ++ mark closing ∷ []) (number_good names v h.0)
-    (good_both names (others_leaves (map number_text vs)) (mark closing ∷ []) (numbers_good names vs h.1) (refl, tt))
-
-set_good : (names : Names) (set : List ℤ) → CanShowSet set → AllByRecursion (IsGood names) (set_leaves (set_text set))
-set_good names [] h = absurd h
-set_good names (v ∷ vs) h = (refl, list_good names v vs right_brace h)
-
-sets_good : (names : Names) (sets : List (List ℤ)) → AllByRecursion CanShowSet sets → AllByRecursion (IsGood names) (more_sets (map set_text sets))
-sets_good names [] h = tt
-sets_good names (s ∷ ss) h = (refl, good_both names (set_leaves (set_text s)) (more_sets (map set_text ss)) (set_good names s h.0) (sets_good names ss h.1))
-
-base_good : (names : Names) (b : Base) → CanShowBase names b → AllByRecursion (IsGood names) (base_leaves (base_text names b))
-base_good names (low col) h = (refl, (refl, (column_fine names col h, (refl, tt))))
-base_good names (high col) h = (refl, (refl, (column_fine names col h, (refl, tt))))
-base_good names (around col centre) h =
-    let number = good_both names (number_leaves (number_text centre)) (mark right ∷ []) (number_good names centre h.1) (refl, tt) in
-    (refl, (refl, (column_fine names col h.0, (refl, number))))
-base_good names (between col l r) h =
-    let right_end = good_both names (end_leaves (number_text l) (number_text r)) (mark right ∷ []) (end_good names l r h.1 h.2 h.3) (refl, tt) in
-    let behind = mark comma ∷ end_leaves (number_text l) (number_text r) ++ mark right ∷ [] in
-    (refl, (refl, (column_fine names col h.0, (refl, good_both names (number_leaves (number_text l)) behind (number_good names l h.1) (refl, right_end)))))
-base_good names (one_of col []) h = absurd h
-base_good names (one_of col (v ∷ vs)) h = (refl, (refl, (column_fine names col h.0, (refl, list_good names v vs right h.1))))
-base_good names (layered col []) h = absurd h
-base_good names (layered col (s ∷ ss)) h =
-    let more = good_both names (more_sets (map set_text ss)) (mark right ∷ []) (sets_good names ss h.1.1) (refl, tt) in
-    (refl, (refl, (column_fine names col h.0, (refl, good_both names (set_leaves (set_text s)) (more_sets (map set_text ss) ++ mark right ∷ []) (set_good names s h.1.0) more))))
-
--- what is shown within so many open nestings has no fault
-abbrev GoodWithin : Names → Preference → Type 0
-GoodWithin names p = (depth : ℕ) → nests p + depth ≤ 64 → AllByRecursion (IsGood names) (shape_leaves (shape_of names p) depth)
-
-good_prior : (names : Names) (s : Shape) (depth : ℕ) → AllByRecursion (IsGood names) (shape_leaves s depth) → AllByRecursion (IsGood names) (prior_leaves (as_prior s) depth)
-good_prior names (factor u) depth h = h
-good_prior names (product p) depth h = h
-good_prior names (ranked r) depth h = h
-
-good_within : (names : Names) (r : PriorText) (depth : ℕ) → depth < 64 → AllByRecursion (IsGood names) (prior_leaves r (depth + 1)) → AllByRecursion (IsGood names) (unary_leaves (grouped r) depth)
-good_within names r depth h k = (depth_good names depth left h, good_both names (prior_leaves r (depth + 1)) (mark right ∷ []) k (refl, tt))
-
-good_product : (names : Names) (p : Preference) (depth : ℕ) → GoodWithin names p → held_nests (is_prior p) (nests p) + depth ≤ 64 → AllByRecursion (IsGood names) (product_leaves (as_product (shape_of names p)) depth)
-good_product names (scored b) depth g h = g depth h
-good_product names (pareto p q) depth g h = g depth h
-good_product names (prior p q) depth g h = good_within names (then_product (as_prior (shape_of names p)) (as_product (shape_of names q))) depth (omega arith) (g (depth + 1) (omega arith))
-good_product names (reverse p) depth g h = g depth h
-
-good_factor : (names : Names) (p : Preference) (depth : ℕ) → GoodWithin names p → held_nests (is_composed p) (nests p) + depth ≤ 64 → AllByRecursion (IsGood names) (unary_leaves (as_factor (shape_of names p)) depth)
-good_factor names (scored b) depth g h = g depth h
-good_factor names (pareto p q) depth g h = good_within names (one_product (then_factor (as_product (shape_of names p)) (as_factor (shape_of names q)))) depth (omega arith) (g (depth + 1) (omega arith))
-good_factor names (prior p q) depth g h = good_within names (then_product (as_prior (shape_of names p)) (as_product (shape_of names q))) depth (omega arith) (g (depth + 1) (omega arith))
-good_factor names (reverse p) depth g h = g depth h
-
-good_shape : (names : Names) (p : Preference) → CanShow names p → GoodWithin names p
-good_shape names (scored b) h depth k = base_good names b h
-good_shape names (pareto p q) h depth k =
-    let x : held_nests (is_prior p) (nests p) + depth ≤ 64 = omega arith in
-    let y : held_nests (is_composed q) (nests q) + depth ≤ 64 = omega arith in
-    good_both names (product_leaves (as_product (shape_of names p)) depth) (mark star ∷ unary_leaves (as_factor (shape_of names q)) depth)
-    (good_product names p depth (good_shape names p h.0) x) (refl, good_factor names q depth (good_shape names q h.1) y)
-good_shape names (prior p q) h depth k =
-    let x : nests p + depth ≤ 64 = omega arith in
-    let y : held_nests (is_prior q) (nests q) + depth ≤ 64 = omega arith in
-    good_both names (prior_leaves (as_prior (shape_of names p)) depth) (mark ampersand ∷ product_leaves (as_product (shape_of names q)) depth)
-    (good_prior names (shape_of names p) depth (good_shape names p h.0 depth x)) (refl, good_product names q depth (good_shape names q h.1) y)
-good_shape names (reverse p) h depth k =
-    (depth_good names depth minus (omega arith), good_factor names p (depth + 1) (good_shape names p h) (omega arith))
-
--- ---- the head and the group
+-- ---- the leaves of what is shown
 
 count_small : (k : ℕ) → IsCount k → k < 2 ^ 64
 count_small k h = omega (arith, h.0, h.1)
 
-head_fine : (m : Mode) → IsCount (cut_of m) → FineHead (head_text m)
-head_fine Best h = tt
-head_fine (TopLevel k) h = decimal_text k (count_small k h)
-head_fine (AtLeast k) h = decimal_text k (count_small k h)
+module _ (names : Names) where
+  pub column_fine : (col : ℕ) → IsNamed names col → own_fault names (column_name (name_at names col)) ≡ None
+  column_fine col h = ap (λ o. cond (is_none o) (Some unknown_column) None) h.1
 
-count_fine : (names : Names) (k : ℕ) → IsCount k → own_fault names (count_digits (decimal k)) ≡ None
-count_fine names k h =
-    let e : is_count k ≡ true = grind (arith, nat_tests, h.0, h.1) in
-    ap (λ n. cond (is_count n) None (Some bad_count)) (digits_value-decimal own_numerals k (count_small k h)) ∙ ap (λ b. cond b None (Some bad_count)) e
+  number_good : (least : Option NumberText) (v : ℤ) → FitsSigned w64 v → below least v ≡ None → own_fault names (number_digits least (number_text v).negative (number_text v).digits) ≡ None
+  number_good least v h above =
+      ap (λ x. cond (fits_cell x) (below least x) (Some number_range)) (number_same v h) ∙ (ap (λ b. cond b (below least v) (Some number_range)) (fits v h) ∙ above)
+    where
+      fits : (v : ℤ) → FitsSigned w64 v → fits_cell v ≡ true
+      fits (pos n) h = grind (arith, nat_tests, h.sfits)
+      fits (negsuc n) h = grind (arith, nat_tests, h.sfits)
 
-head_good : (names : Names) (m : Mode) → IsCount (cut_of m) → AllByRecursion (IsGood names) (head_leaves (head_text m))
-head_good names Best h = (refl, tt)
-head_good names (TopLevel k) h = (refl, (count_fine names k h, tt))
-head_good names (AtLeast k) h = (refl, (count_fine names k h, tt))
+  apart_number : (least : Option NumberText) (v : ℤ) (rest : List ℕ) → FitsSigned w64 v → below least v ≡ None → Ends is_ascii_digit rest → Apart names (signed_leaves least (number_text v).negative (number_text v).digits) rest
+  apart_number least (pos n) rest h above e = (number_fine (pos n) h, number_good least (pos n) h above, e, tt)
+  apart_number least (negsuc n) rest h above e = (tt, refl, tt, (number_fine (negsuc n) h, number_good least (negsuc n) h above, e, tt))
+
+  apart_others : (vs : List ℤ) (rest : List ℕ) → AreInRange vs → Ends is_ascii_digit rest → Apart names (others_leaves (map number_text vs)) rest
+  apart_others [] rest h e = tt
+  apart_others (v ∷ vs) rest h e = (
+    tt,
+    refl,
+    tt,
+    apart_both names (number_leaves (number_text v)) (others_leaves (map number_text vs)) rest
+        (apart_number None v (leaves_text (others_leaves (map number_text vs)) ++ rest) h.0 refl (ends vs)) (apart_others vs rest h.1 e),
+  )
+    where
+      ends : (vs : List ℤ) → Ends is_ascii_digit (leaves_text (others_leaves (map number_text vs)) ++ rest)
+      ends [] = e
+      ends (w ∷ ws) = refl
+
+  -- numbers, and a sign that no digit begins
+  apart_list : (v : ℤ) (vs : List ℤ) (closing : Sign) (rest : List ℕ) → AreInRange (v ∷ vs) → Ends is_ascii_digit (leaves_text (mark closing ∷ []) ++ rest) → Apart names (list_leaves (number_text v) (map number_text vs) closing) rest
+  apart_list v vs closing rest h e =
+      apart_both names (number_leaves (number_text v)) (others_leaves (map number_text vs) ++ mark closing ∷ []) rest
+      (apart_number None v (leaves_text (others_leaves (map number_text vs) ++ mark closing ∷ []) ++ rest) h.0 refl (ends vs))
+      (apart_both names (others_leaves (map number_text vs)) (mark closing ∷ []) rest (apart_others vs (leaves_text (mark closing ∷ []) ++ rest) h.1 e) (tt, refl, tt, tt))
+    where
+      ends : (vs : List ℤ) → Ends is_ascii_digit (leaves_text (others_leaves (map number_text vs) ++ mark closing ∷ []) ++ rest)
+      ends [] = e
+      ends (w ∷ ws) = refl
+
+  apart_set : (set : List ℤ) (rest : List ℕ) → IsWritableSet set → Apart names (set_leaves (set_text set)) rest
+  apart_set [] rest h = absurd (h.0 refl)
+  apart_set (v ∷ vs) rest h = (tt, refl, tt, apart_list v vs right_brace rest (recursion_from_All (FitsSigned w64) (v ∷ vs) h.1) refl)
+
+  apart_sets : (sets : List (List ℤ)) (rest : List ℕ) → AllByRecursion IsWritableSet sets → Apart names (more_sets (map set_text sets)) rest
+  apart_sets [] rest h = tt
+  apart_sets (s ∷ ss) rest h =
+      (tt, refl, tt, apart_both names (set_leaves (set_text s)) (more_sets (map set_text ss)) rest (apart_set s (leaves_text (more_sets (map set_text ss)) ++ rest) h.0) (apart_sets ss rest h.1))
+
+  -- the parenthesis behind the word of a base term, its column, and what is behind that
+  opened : (col : ℕ) (leaves : List Leaf) (rest : List ℕ) → IsNamed names col → Ends is_name_byte (leaves_text leaves ++ rest) → Apart names leaves rest → Apart names (mark left ∷ column_name (name_at names col) ∷ leaves) rest
+  opened col leaves rest h e k = (tt, refl, tt, (h.0, column_fine col h, e, k))
+
+  apart_base : (b : Base) (rest : List ℕ) → IsNamed names (column b) → IsWritableBase b → Apart names (base_leaves (base_text names b)) rest
+  apart_base (low col) rest h w = (tt, refl, refl, opened col (mark right ∷ []) rest h refl (tt, refl, tt, tt))
+  apart_base (high col) rest h w = (tt, refl, refl, opened col (mark right ∷ []) rest h refl (tt, refl, tt, tt))
+  apart_base (around col centre) rest h w =
+      let number = apart_both names (number_leaves (number_text centre)) (mark right ∷ []) rest (apart_number None centre (codes ")" ++ rest) w refl refl) (tt, refl, tt, tt) in
+      (tt, refl, refl, opened col (mark comma ∷ number_leaves (number_text centre) ++ mark right ∷ []) rest h refl (tt, refl, tt, number))
+  apart_base (between col l r) rest h w =
+      let above = ap (λ x. cond (int_lt r x) (Some empty_range) None) (number_same l w.0) ∙ ap (λ b. cond b (Some empty_range) None) w.2 in
+      let right_end = apart_both names (end_leaves (number_text l) (number_text r)) (mark right ∷ []) rest (apart_number (Some (number_text l)) r (codes ")" ++ rest) w.1 above refl) (tt, refl, tt, tt) in
+      let behind = mark comma ∷ end_leaves (number_text l) (number_text r) ++ mark right ∷ [] in
+      let numbers = apart_both names (number_leaves (number_text l)) behind rest (apart_number None l (leaves_text behind ++ rest) w.0 refl refl) (tt, refl, tt, right_end) in
+      (tt, refl, refl, opened col (mark comma ∷ number_leaves (number_text l) ++ behind) rest h refl (tt, refl, tt, numbers))
+  apart_base (one_of col []) rest h w = absurd (w.0 refl)
+  apart_base (one_of col (v ∷ vs)) rest h w =
+      let numbers = apart_list v vs right rest (recursion_from_All (FitsSigned w64) (v ∷ vs) w.1) refl in
+      (tt, refl, refl, opened col (mark comma ∷ list_leaves (number_text v) (map number_text vs) right) rest h refl (tt, refl, tt, numbers))
+  apart_base (layered col []) rest h w = absurd (w.0 refl)
+  apart_base (layered col (s ∷ ss)) rest h w =
+      let each = recursion_from_All IsWritableSet (s ∷ ss) w.1 in
+      let behind = more_sets (map set_text ss) ++ mark right ∷ [] in
+      let more = apart_both names (more_sets (map set_text ss)) (mark right ∷ []) rest (apart_sets ss (codes ")" ++ rest) each.1) (tt, refl, tt, tt) in
+      let sets = apart_both names (set_leaves (set_text s)) behind rest (apart_set s (leaves_text behind ++ rest) each.0) more in
+      (tt, refl, refl, opened col (mark comma ∷ set_leaves (set_text s) ++ behind) rest h refl (tt, refl, tt, sets))
+
+  -- within so many open nestings, whatever follows
+  abbrev ApartWithin : Preference → Type 0
+  ApartWithin p = (depth : ℕ) (rest : List ℕ) → nests p + depth ≤ 64 → Apart names (shape_leaves (shape_of names p) depth) rest
+
+  apart_prior : (s : Shape) (depth : ℕ) (rest : List ℕ) → Apart names (shape_leaves s depth) rest → Apart names (prior_leaves (as_prior s) depth) rest
+  apart_prior (factor u) depth rest h = h
+  apart_prior (product p) depth rest h = h
+  apart_prior (ranked r) depth rest h = h
+
+  apart_nesting : (r : PriorText) (depth : ℕ) (rest : List ℕ) → depth < 64 → Apart names (prior_leaves r (depth + 1)) (codes ")" ++ rest) → Apart names (unary_leaves (grouped r) depth) rest
+  apart_nesting r depth rest h k = (tt, depth_good names depth left h, tt, apart_both names (prior_leaves r (depth + 1)) (mark right ∷ []) rest k (tt, refl, tt, tt))
+
+  apart_product : (p : Preference) (depth : ℕ) (rest : List ℕ) → ApartWithin p → held_nests (is_prior p) (nests p) + depth ≤ 64 → Apart names (product_leaves (as_product (shape_of names p)) depth) rest
+  apart_product (scored b) depth rest g h = g depth rest h
+  apart_product (pareto p q) depth rest g h = g depth rest h
+  apart_product (prior p q) depth rest g h = apart_nesting (then_product (as_prior (shape_of names p)) (as_product (shape_of names q))) depth rest (omega arith) (g (depth + 1) (codes ")" ++ rest) (omega arith))
+  apart_product (reverse p) depth rest g h = g depth rest h
+
+  apart_factor : (p : Preference) (depth : ℕ) (rest : List ℕ) → ApartWithin p → held_nests (is_composed p) (nests p) + depth ≤ 64 → Apart names (unary_leaves (as_factor (shape_of names p)) depth) rest
+  apart_factor (scored b) depth rest g h = g depth rest h
+  apart_factor (pareto p q) depth rest g h = apart_nesting (one_product (then_factor (as_product (shape_of names p)) (as_factor (shape_of names q)))) depth rest (omega arith) (g (depth + 1) (codes ")" ++ rest) (omega arith))
+  apart_factor (prior p q) depth rest g h = apart_nesting (then_product (as_prior (shape_of names p)) (as_product (shape_of names q))) depth rest (omega arith) (g (depth + 1) (codes ")" ++ rest) (omega arith))
+  apart_factor (reverse p) depth rest g h = g depth rest h
+
+  apart_shape : (p : Preference) → CanShow names p → ApartWithin p
+  apart_shape (scored b) h depth rest k = apart_base b rest h.0 h.1
+  apart_shape (pareto p q) h depth rest k =
+      let x : held_nests (is_prior p) (nests p) + depth ≤ 64 = omega arith in
+      let y : held_nests (is_composed q) (nests q) + depth ≤ 64 = omega arith in
+      let behind = mark star ∷ unary_leaves (as_factor (shape_of names q)) depth in
+      apart_both names (product_leaves (as_product (shape_of names p)) depth) behind rest
+      (apart_product p depth (leaves_text behind ++ rest) (apart_shape p h.0) x) (tt, refl, tt, apart_factor q depth rest (apart_shape q h.1) y)
+  apart_shape (prior p q) h depth rest k =
+      let x : nests p + depth ≤ 64 = omega arith in
+      let y : held_nests (is_prior q) (nests q) + depth ≤ 64 = omega arith in
+      let behind = mark ampersand ∷ product_leaves (as_product (shape_of names q)) depth in
+      apart_both names (prior_leaves (as_prior (shape_of names p)) depth) behind rest
+      (apart_prior (shape_of names p) depth (leaves_text behind ++ rest) (apart_shape p h.0 depth (leaves_text behind ++ rest) x)) (tt, refl, tt, apart_product q depth rest (apart_shape q h.1) y)
+  apart_shape (reverse p) h depth rest k =
+      (tt, depth_good names depth minus (omega arith), tt, apart_factor p (depth + 1) rest (apart_shape p h) (omega arith))
+
+  count_fine : (k : ℕ) → IsCount k → own_fault names (count_digits (decimal k)) ≡ None
+  count_fine k h =
+      let e : is_count k ≡ true = grind (arith, nat_tests, h.0, h.1) in
+      ap (λ n. cond (is_count n) None (Some bad_count)) (digits_value-decimal own_numerals k (count_small k h)) ∙ ap (λ b. cond b None (Some bad_count)) e
+
+  apart_head : (m : Mode) (rest : List ℕ) → IsCount (cut_of m) → Apart names (head_leaves (head_text m)) rest
+  apart_head Best rest h = (tt, refl, tt, tt)
+  apart_head (TopLevel k) rest h = (tt, refl, tt, (decimal_text k (count_small k h), count_fine k h, tt, tt))
+  apart_head (AtLeast k) rest h = (tt, refl, tt, (decimal_text k (count_small k h), count_fine k h, tt, tt))
+
+  columns_end : (cs : List ℕ) → Ends is_name_byte (leaves_text (more_columns (map (name_at names) cs)) ++ [])
+  columns_end [] = tt
+  columns_end (c ∷ cs) = refl
+
+  apart_columns : (cs : List ℕ) → AllByRecursion (IsNamed names) cs → Apart names (more_columns (map (name_at names) cs)) []
+  apart_columns [] h = tt
+  apart_columns (c ∷ cs) h = (tt, refl, tt, (h.0.0, column_fine c h.0, columns_end cs, apart_columns cs h.1))
+
+  apart_group : (cs : List ℕ) → AllByRecursion (IsNamed names) cs → Apart names (group_leaves (map (name_at names) cs)) []
+  apart_group [] h = tt
+  apart_group (c ∷ cs) h = apart_columns (c ∷ cs) h
+
+  apart_said : (q : Question) → IsCount (cut_of q.mode) → CanShow names q.preference → AllByRecursion (IsNamed names) q.group → nests q.preference ≤ 64
+      → Apart names (said (head_text q.mode) (as_prior (shape_of names q.preference)) (map (name_at names) q.group)) []
+  apart_said q count can columns deep =
+      let room : nests q.preference + 0 ≤ 64 = omega arith in
+      let group = group_leaves (map (name_at names) q.group) in
+      let term = prior_leaves (as_prior (shape_of names q.preference)) 0 in
+      apart_both names (head_leaves (head_text q.mode)) (term ++ group) [] (apart_head q.mode (leaves_text (term ++ group) ++ []) count)
+      (apart_both names term group [] (apart_prior (shape_of names q.preference) 0 (leaves_text group ++ []) (apart_shape q.preference can 0 (leaves_text group ++ []) room)) (apart_group q.group columns))
 
 head_same : (m : Mode) → IsCount (cut_of m) → mode_of (head_text m) ≡ m
 head_same Best h = refl
 head_same (TopLevel k) h = ap TopLevel (digits_value-decimal own_numerals k (count_small k h))
 head_same (AtLeast k) h = ap AtLeast (digits_value-decimal own_numerals k (count_small k h))
 
-columns_fine : (names : Names) (cs : List ℕ) → AllByRecursion (IsNamed names) cs → AllByRecursion IsWordText (map (name_at names) cs)
-columns_fine names [] h = tt
-columns_fine names (c ∷ cs) h = (h.0.0, columns_fine names cs h.1)
-
-columns_good : (names : Names) (cs : List ℕ) → AllByRecursion (IsNamed names) cs → AllByRecursion (IsGood names) (more_columns (map (name_at names) cs))
-columns_good names [] h = tt
-columns_good names (c ∷ cs) h = (refl, (column_fine names c h.0, columns_good names cs h.1))
-
-group_good : (names : Names) (cs : List ℕ) → AllByRecursion (IsNamed names) cs → AllByRecursion (IsGood names) (group_leaves (map (name_at names) cs))
-group_good names [] h = tt
-group_good names (c ∷ cs) h = (refl, (column_fine names c h.0, columns_good names cs h.1))
-
 -- ---- what can be shown is what contracts see of an ask over the columns of a schema
 
-can_show_set : (set : List ℤ) → IsWritableSet set → CanShowSet set
-can_show_set [] w = absurd (w.0 refl)
-can_show_set (v ∷ vs) w = recursion_from_All (FitsSigned w64) (v ∷ vs) w.1
-
-can_show_sets : (sets : List (List ℤ)) → AllByRecursion IsWritableSet sets → AllByRecursion CanShowSet sets
-can_show_sets [] w = tt
-can_show_sets (s ∷ ss) w = (can_show_set s w.0, can_show_sets ss w.1)
-
 module _ (names : Names) (each : (col : ℕ) → col < length names → IsNamed names col) where
-  can_show_base : (b : Base) → IsWritableBase b → column b < length names → CanShowBase names b
-  can_show_base (low col) w k = each col k
-  can_show_base (high col) w k = each col k
-  can_show_base (around col centre) w k = (each col k, w)
-  can_show_base (between col l r) w k = (each col k, w.0, w.1, w.2)
-  can_show_base (layered col []) w k = absurd (w.0 refl)
-  can_show_base (layered col (s ∷ ss)) w k = (each col k, can_show_sets (s ∷ ss) (recursion_from_All IsWritableSet (s ∷ ss) w.1))
-  can_show_base (one_of col []) w k = absurd (w.0 refl)
-  can_show_base (one_of col (v ∷ vs)) w k = (each col k, recursion_from_All (FitsSigned w64) (v ∷ vs) w.1)
-
   pub can_show : (p : Preference) → IsWritable p → ReadsBelow (length names) p → CanShow names p
-  can_show (scored b) w k = can_show_base b w k
+  can_show (scored b) w k = (each (column b) k, w)
   can_show (pareto p q) w k = (can_show p w.0 k.0, can_show q w.1 k.1)
   can_show (prior p q) w k = (can_show p w.0 k.0, can_show q w.1 k.1)
   can_show (reverse p) w k = can_show p w k
@@ -279,18 +236,14 @@ plain_spells names q schema ask all width deep short =
     let term = as_prior shape in
     let group = map (name_at names) q.group in
     let head = head_text q.mode in
-    let fine = fine_prior shape (shape_fine names q.preference can) in
-    let room : nests q.preference + 0 ≤ 64 = omega arith in
-    let lexed_is = ap lexed (sym (tree_text names q can all)) ∙ rated_lexed head term group (head_fine q.mode ask.count) fine (columns_fine names q.group columns) in
+    let apart = apart_said names q ask.count can columns deep in
+    let lexed_is = ap lexed (sym (tree_text names q can all)) ∙ rated_lexed names head term group apart in
     record {
       tree = shown_tree names q;
-      written = rated_written head term group (head_fine q.mode ask.count) fine (columns_fine names q.group columns);
+      written = rated_all names head term group apart IsWritten (λ leaf h _. spelled_written leaf h) tt;
       short = short;
       tokens = plain_tokens (tokens_of (shown names q)) _ lexed_is (head_said head term group (tokens_of (shown names q)) lexed_is);
-      good =
-          good_both names (head_leaves head) (prior_leaves term 0 ++ (group_leaves group ++ last ∷ [])) (head_good names q.mode ask.count)
-          (good_both names (prior_leaves term 0) (group_leaves group ++ last ∷ []) (good_prior names shape 0 (good_shape names q.preference can 0 room))
-          (good_both names (group_leaves group) (last ∷ []) (group_good names q.group columns) (refl, tt)));
+      good = rated_all names head term group apart (IsGood names) (λ leaf _ k. k) refl;
       meaning =
           ap (λ p. Some (record { preference = p; group = map (column_at names) group; mode = mode_of head; distinct = false })) (prior_same shape names ∙ meaning_same names q.preference can)
           ∙ (ap (λ cs. Some (record { preference = q.preference; group = cs; mode = mode_of head; distinct = false })) (columns_same names q.group columns)

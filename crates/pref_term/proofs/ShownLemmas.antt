@@ -1,5 +1,5 @@
 -- What is shown is a text of the grammar with the meaning of what was shown.
-use Rattle.pref_term.proofs.Common.{◌≡◌, ◌<◌, ◌^◌, ◌+◌, ℕ, ℤ, pos, negsuc, suc, List, [], ◌∷◌, ◌++◌, map, true, false, refl, sym, ap, ◌∙◌, append_assoc, append-nil, arith, int_lt, codes, unwrap_or}
+use Rattle.pref_term.proofs.Common.{[], ◌≡◌, ◌<◌, ◌^◌, ◌+◌, ℕ, ℤ, pos, negsuc, suc, List, ◌∷◌, ◌++◌, map, true, false, refl, sym, ap, ◌∙◌, append_assoc, append-nil, arith, codes, unwrap_or}
 use Rattle.pref_term.proofs.Common.{FitsSigned, neg_ℤ, decimal, AllByRecursion, all_ascii_digits, digits_value-decimal, Sign, left, right, comma, star, ampersand, minus, left_brace, right_brace}
 use Rattle.pref_term.proofs.Common.{Keyword, best_word, low_word, high_word, around_word, pos_word, reverse_word, top_level_word, at_least_word, by_word, NumberText, BaseText, low_text, high_text}
 use Rattle.pref_term.proofs.Common.{around_text, pos_text, PriorText, one_product, then_product, ProductText, one_factor, then_factor, UnaryText, negated, grouped, based, HeadText, best_head}
@@ -7,7 +7,7 @@ use Rattle.pref_term.proofs.Common.{top_level_head, at_least_head, Leaf, name, m
 use Rattle.pref_term.proofs.Common.{prior_leaves, product_leaves, unary_leaves, head_leaves, more_columns, group_leaves, between_word, between_text, end_leaves, layered_word, layered_text, SetText}
 use Rattle.pref_term.proofs.Common.{list_leaves, set_leaves, more_sets, Names, number_value, set_value, column_at, base_meaning, prior_meaning, product_meaning, unary_meaning, Base, low, high, around}
 use Rattle.pref_term.proofs.Common.{one_of, Preference, scored, pareto, prior, reverse, between, layered, name_at, shown_values, shown_set, shown_sets, shown_base, is_prior, is_composed, held}
-use Rattle.pref_term.proofs.Common.{shown_term, shown_mode, more_names, shown_group, Mode, Best, TopLevel, AtLeast}
+use Rattle.pref_term.proofs.Common.{shown_term, shown_mode, more_names, shown_group, Mode, Best, TopLevel, AtLeast, recursion_from_All, column, IsWritableBase, IsWritableSet}
 use Rattle.std.specs.Fmt.{signed_decimal}
 use Rattle.std.specs.Int.{w64}
 use Rattle.std.specs.Str.Parse.{digits_value}
@@ -20,24 +20,9 @@ use Rattle.pref_term.proofs.ShownNames.{IsNamed}
 abbrev pub AreInRange : List ℤ → Type 0
 AreInRange values = AllByRecursion (FitsSigned w64) values
 
--- a set that has values, all of 64 bits
-abbrev pub CanShowSet : List ℤ → Type 0
-CanShowSet [] = ⊥
-CanShowSet (v ∷ vs) = AreInRange (v ∷ vs)
-
-abbrev pub CanShowBase : Names → Base → Type 0
-CanShowBase names (low col) = IsNamed names col
-CanShowBase names (high col) = IsNamed names col
-CanShowBase names (around col centre) = IsNamed names col × FitsSigned w64 centre
-CanShowBase names (between col l r) = IsNamed names col × FitsSigned w64 l × FitsSigned w64 r × (int_lt r l ≡ false)
-CanShowBase names (one_of col []) = ⊥
-CanShowBase names (one_of col (v ∷ vs)) = IsNamed names col × AreInRange (v ∷ vs)
-CanShowBase names (layered col []) = ⊥
-CanShowBase names (layered col (s ∷ ss)) = IsNamed names col × AllByRecursion CanShowSet (s ∷ ss)
-
--- its columns have names, its numbers are of 64 bits and its sets aren't empty
+-- its columns have names, and it is one that a text can write
 abbrev pub CanShow : Names → Preference → Type 0
-CanShow names (scored b) = CanShowBase names b
+CanShow names (scored b) = IsNamed names (column b) × IsWritableBase b
 CanShow names (pareto p q) = CanShow names p × CanShow names q
 CanShow names (prior p q) = CanShow names p × CanShow names q
 CanShow names (reverse p) = CanShow names p
@@ -169,29 +154,30 @@ numbers_same : (vs : List ℤ) → AreInRange vs → map number_value (map numbe
 numbers_same [] h = refl
 numbers_same (v ∷ vs) h = ap (λ x. x ∷ map number_value (map number_text vs)) (number_same v h.0) ∙ ap (λ xs. v ∷ xs) (numbers_same vs h.1)
 
-set_same : (set : List ℤ) → CanShowSet set → set_value (set_text set) ≡ set
-set_same [] h = absurd h
-set_same (v ∷ vs) h = numbers_same (v ∷ vs) h
+set_same : (set : List ℤ) → IsWritableSet set → set_value (set_text set) ≡ set
+set_same [] h = absurd (h.0 refl)
+set_same (v ∷ vs) h = numbers_same (v ∷ vs) (recursion_from_All (FitsSigned w64) (v ∷ vs) h.1)
 
-sets_same : (sets : List (List ℤ)) → AllByRecursion CanShowSet sets → map set_value (map set_text sets) ≡ sets
+sets_same : (sets : List (List ℤ)) → AllByRecursion IsWritableSet sets → map set_value (map set_text sets) ≡ sets
 sets_same [] h = refl
 sets_same (s ∷ ss) h = ap (λ x. x ∷ map set_value (map set_text ss)) (set_same s h.0) ∙ ap (λ xs. s ∷ xs) (sets_same ss h.1)
 
-base_same : (names : Names) (b : Base) → CanShowBase names b → base_meaning names (base_text names b) ≡ b
-base_same names (low col) h = ap low (column_same names col h)
-base_same names (high col) h = ap high (column_same names col h)
-base_same names (around col centre) h = ap (λ c. around c (number_value (number_text centre))) (column_same names col h.0) ∙ ap (around col) (number_same centre h.1)
-base_same names (between col l r) h =
-    ap (λ c. between c (number_value (number_text l)) (number_value (number_text r))) (column_same names col h.0)
-    ∙ (ap (λ v. between col v (number_value (number_text r))) (number_same l h.1) ∙ ap (between col l) (number_same r h.2))
-base_same names (one_of col []) h = absurd h
-base_same names (one_of col (v ∷ vs)) h = ap (λ c. one_of c (map number_value (map number_text (v ∷ vs)))) (column_same names col h.0) ∙ ap (one_of col) (numbers_same (v ∷ vs) h.1)
-base_same names (layered col []) h = absurd h
-base_same names (layered col (s ∷ ss)) h = ap (λ c. layered c (map set_value (map set_text (s ∷ ss)))) (column_same names col h.0) ∙ ap (layered col) (sets_same (s ∷ ss) h.1)
+base_same : (names : Names) (b : Base) → IsNamed names (column b) → IsWritableBase b → base_meaning names (base_text names b) ≡ b
+base_same names (low col) h w = ap low (column_same names col h)
+base_same names (high col) h w = ap high (column_same names col h)
+base_same names (around col centre) h w = ap (λ c. around c (number_value (number_text centre))) (column_same names col h) ∙ ap (around col) (number_same centre w)
+base_same names (between col l r) h w =
+    ap (λ c. between c (number_value (number_text l)) (number_value (number_text r))) (column_same names col h)
+    ∙ (ap (λ v. between col v (number_value (number_text r))) (number_same l w.0) ∙ ap (between col l) (number_same r w.1))
+base_same names (one_of col []) h w = absurd (w.0 refl)
+base_same names (one_of col (v ∷ vs)) h w = ap (λ c. one_of c (set_value (set_text (v ∷ vs)))) (column_same names col h) ∙ ap (one_of col) (set_same (v ∷ vs) w)
+base_same names (layered col []) h w = absurd (w.0 refl)
+base_same names (layered col (s ∷ ss)) h w =
+    ap (λ c. layered c (map set_value (map set_text (s ∷ ss)))) (column_same names col h) ∙ ap (layered col) (sets_same (s ∷ ss) (recursion_from_All IsWritableSet (s ∷ ss) w.1))
 
 -- the tree has the meaning of what is shown
 pub meaning_same : (names : Names) (p : Preference) → CanShow names p → shape_meaning (shape_of names p) names ≡ p
-meaning_same names (scored b) h = ap scored (base_same names b h)
+meaning_same names (scored b) h = ap scored (base_same names b h.0 h.1)
 meaning_same names (pareto p q) h =
     ap (λ x. pareto x (unary_meaning (as_factor (shape_of names q)) names)) (product_same (shape_of names p) names ∙ meaning_same names p h.0)
     ∙ ap (pareto p) (factor_same (shape_of names q) names ∙ meaning_same names q h.1)
@@ -230,18 +216,18 @@ list_shown v vs closing =
     ∙ ap (λ ys. signed_decimal v ++ ys)
     (leaves_text-append (others_leaves (map number_text vs)) (mark closing ∷ []) ∙ (ap (λ ys. ys ++ (sign_text closing ++ [])) (values_shown vs) ∙ ap (λ ys. shown_values vs ++ ys) (append-nil (sign_text closing)))))
 
-set_shown : (set : List ℤ) → CanShowSet set → leaves_text (set_leaves (set_text set)) ≡ shown_set set
-set_shown [] h = absurd h
+set_shown : (set : List ℤ) → IsWritableSet set → leaves_text (set_leaves (set_text set)) ≡ shown_set set
+set_shown [] h = absurd (h.0 refl)
 set_shown (v ∷ vs) h = ap (λ xs. codes "{" ++ xs) (list_shown v vs right_brace)
 
-sets_shown : (sets : List (List ℤ)) → AllByRecursion CanShowSet sets → leaves_text (more_sets (map set_text sets)) ≡ shown_sets sets
+sets_shown : (sets : List (List ℤ)) → AllByRecursion IsWritableSet sets → leaves_text (more_sets (map set_text sets)) ≡ shown_sets sets
 sets_shown [] h = refl
 sets_shown (s ∷ ss) h =
     ap (λ xs. codes ", " ++ xs) (leaves_text-append (set_leaves (set_text s)) (more_sets (map set_text ss)))
     ∙ (ap (λ xs. codes ", " ++ (xs ++ leaves_text (more_sets (map set_text ss)))) (set_shown s h.0)
     ∙ ap (λ xs. codes ", " ++ (shown_set s ++ xs)) (sets_shown ss h.1))
 
-base_shown : (names : Names) (b : Base) → CanShowBase names b → leaves_text (base_leaves (base_text names b)) ≡ shown_base names b
+base_shown : (names : Names) (b : Base) → IsWritableBase b → leaves_text (base_leaves (base_text names b)) ≡ shown_base names b
 base_shown names (low col) h = simp append_assoc
 base_shown names (high col) h = simp append_assoc
 base_shown names (around col centre) h =
@@ -254,15 +240,16 @@ base_shown names (between col l r) h =
     ∙ (ap (λ ys. ys ++ leaves_text (mark comma ∷ end_leaves (number_text l) (number_text r) ++ mark right ∷ [])) (number_shown l)
     ∙ ap (λ ys. signed_decimal l ++ (codes ", " ++ ys)) (leaves_text-append (end_leaves (number_text l) (number_text r)) (mark right ∷ []) ∙ ap (λ ys. ys ++ codes ")") (end_shown l r))))
     ∙ simp append_assoc
-base_shown names (one_of col []) h = absurd h
+base_shown names (one_of col []) h = absurd (h.0 refl)
 base_shown names (one_of col (v ∷ vs)) h =
     ap (λ xs. codes "pos(" ++ (name_at names col ++ (codes ", " ++ xs))) (list_shown v vs right) ∙ simp append_assoc
-base_shown names (layered col []) h = absurd h
+base_shown names (layered col []) h = absurd (h.0 refl)
 base_shown names (layered col (s ∷ ss)) h =
+    let each = recursion_from_All IsWritableSet (s ∷ ss) h.1 in
     ap (λ xs. codes "layered(" ++ (name_at names col ++ (codes ", " ++ xs)))
     (leaves_text-append (set_leaves (set_text s)) (more_sets (map set_text ss) ++ mark right ∷ [])
-    ∙ (ap (λ ys. ys ++ leaves_text (more_sets (map set_text ss) ++ mark right ∷ [])) (set_shown s h.1.0)
-    ∙ ap (λ ys. shown_set s ++ ys) (leaves_text-append (more_sets (map set_text ss)) (mark right ∷ []) ∙ ap (λ ys. ys ++ codes ")") (sets_shown ss h.1.1))))
+    ∙ (ap (λ ys. ys ++ leaves_text (more_sets (map set_text ss) ++ mark right ∷ [])) (set_shown s each.0)
+    ∙ ap (λ ys. shown_set s ++ ys) (leaves_text-append (more_sets (map set_text ss)) (mark right ∷ []) ∙ ap (λ ys. ys ++ codes ")") (sets_shown ss each.1))))
     ∙ simp append_assoc
 
 abbrev pub Shows : Names → Preference → Type 0
@@ -290,7 +277,7 @@ factor_text names (reverse p) h depth = h depth
 
 -- the text of the tree is what is shown
 pub text_shown : (names : Names) (p : Preference) → CanShow names p → Shows names p
-text_shown names (scored b) h depth = base_shown names b h
+text_shown names (scored b) h depth = base_shown names b h.1
 text_shown names (pareto p q) h depth =
     leaves_text-append (product_leaves (as_product (shape_of names p)) depth) (mark star ∷ unary_leaves (as_factor (shape_of names q)) depth)
     ∙ (ap (λ xs. xs ++ (codes " * " ++ leaves_text (unary_leaves (as_factor (shape_of names q)) depth))) (product_text names p (text_shown names p h.0) depth)

@@ -1,8 +1,8 @@
 -- Reading answers as the grammar says: the ask that is spelled, or the first fault.
 use Rattle.pref_term.proofs.Common.{◌≡◌, ℕ, List, [], ◌∷◌, ◌++◌, Option, Some, None, Result, Ok, Err, refl, sym, ap, subst, ◌∙◌, append_assoc, append-nil, ◌⊎◌, inl, inr, IfSome, MatchResult}
 use Rattle.pref_term.proofs.Common.{AllByRecursion, map-append, Token, finish, Placed, PriorText, AskText, rated, skyline, IsText, IsWritten, Leaf, token_of, ask_leaves, Names, tokens_in, tokens_on}
-use Rattle.pref_term.proofs.Common.{IsGood, own_fault, OwnFault, Starts, reported, reported_at, last_place, IsUnexpected, HasOwnFault, FirstFault, State, start, reading, after, group_listed, dims_listed}
-use Rattle.pref_term.proofs.Common.{done, read_of, next, run, led, judged, ended, PriorHole, whole, finished, BasePart, named, base_next, outer, closed, TermFault, Unexpected}
+use Rattle.pref_term.proofs.Common.{IsGood, own_fault, OwnFault, Starts, reported, reported_at, last_place, IsUnexpected, HasOwnFault, FirstFault, State, start, reading, after, group_listed}
+use Rattle.pref_term.proofs.Common.{dims_listed, done, read_of, next, run, led, judged, ended, PriorHole, whole, finished, BasePart, named, base_next, outer, closed, TermFault, Unexpected}
 use Rattle.pref_term.proofs.GrammarSound.{next_grows, Grows}
 use Rattle.pref_term.proofs.GrammarComplete.{Reads, reads_on, reads_ask, can_end}
 
