@@ -1,6 +1,6 @@
 -- The names that the proofs of this crate share, passed on from one place. Declares nothing.
-pub use Rattle.std.proofs.Common.{◌*◌, ◌+◌, ◌++◌, ◌-◌, ◌<◌, Bool, Bor, Err, Global, List, None, Ok, Option, Result, Some, Vec, [], ◌^◌, add-one, add-zero, ap, append_assoc, arith, drop, false, get_or}
-pub use Rattle.std.proofs.Common.{inl, inr, length, map, negsuc, pos, refl, replicate, set, subst, suc, sym, take, true, unwrap_or, w64, zero, ℕ, ℤ, ◌∙◌, ◌∷◌, ◌≡◌, ◌≢◌, ◌≤◌, ◌⊎◌}
+pub use Rattle.std.proofs.Common.{◌*◌, ◌+◌, ◌++◌, ◌-◌, ◌<◌, Bool, Bor, Err, Global, List, None, Ok, Option, Result, Some, Vec, [], ◌^◌, add-one, add-zero, ap, append_assoc, arith, below_more, drop}
+pub use Rattle.std.proofs.Common.{false, get_or, inl, inr, length, map, negsuc, pos, refl, replicate, set, subst, suc, sym, take, true, unwrap_or, w64, zero, ℕ, ℤ, ◌∙◌, ◌∷◌, ◌≡◌, ◌≢◌, ◌≤◌, ◌⊎◌}
 pub use Rattle.std.proofs.Math.ListN.{drop_of_length-le}
 pub use Rattle.std.proofs.lemmas.Bool.{and_right, cond_both, eq-eqb, eqb-false, eqb-true, false≢true, le-leb, le-ltb, lt-ltb, ltb-false, ltb-true, ne_eqb}
 pub use Rattle.std.proofs.lemmas.Int.{to_z-of_z}
@@ -13,7 +13,7 @@ pub use Rattle.std.specs.List.{list_any, onto_first, position, position_or_len, 
 pub use Rattle.std.specs.Prelude.{◌&&◌, ◌==◌, IfSome, if◌then◌else◌, nat_lt, neg_ℤ, not, slice_get, ◌||◌}
 pub use Rattle.std.specs.Str.{all_ascii_digits, bytes_eq}
 pub use Rattle.std.specs.Str.Parse.{digits_value, digits_value_after, signed_digits_value, starts_with_minus, without_leading_sign}
-pub use Rattle.csv.specs.Machine.{Read, ends_at_end, ends_with, field_after, fields_after, in_field, is_end, start_field, start_record, step}
+pub use Rattle.csv.specs.Machine.{Read, after_end, ends_at_end, ends_with, field_after, fields_after, in_field, is_end, start_field, start_record, step}
 pub use Rattle.csv.specs.Reading.{ExplainsRead, ReadRecord, Ready, default_config, error_kind, is_bom, is_flexible, records, source_of, stops_reader}
 pub use Rattle.csv.specs.Records.{fields_of}
 pub use Rattle.csv.specs.declared.parser.State.{State}

@@ -2,7 +2,7 @@
 use Rattle.pref_table.proofs.Common.{◌≡◌, ◌∙◌, ℕ, ◌+◌, ◌-◌, ◌<◌, ◌≤◌, ◌*◌, ◌^◌, Bool, true, false, List, [], ◌∷◌, length, take, drop, get_or, sym, ap, refl, arith, add-one, zero, suc, Ok, ℤ, pos}
 use Rattle.pref_table.proofs.Common.{nat_lt, ◌==◌, prefix_len, suffix_len, all_ascii_digits, digits_value, starts_with_minus, without_leading_sign, eqb-false, eqb-true, le-leb, lt-ltb, ltb-true}
 use Rattle.pref_table.proofs.Common.{ltb-false, ne_eqb, get_or-drop, get_or-take, length-drop, length-take-le, take_all, fits_cell, is_blank, number_of, signed_by, without_blanks, ArePlain, IsPlain}
-use Rattle.pref_table.proofs.Common.{is_comma}
+use Rattle.pref_table.proofs.Common.{is_comma, below_more}
 use Rattle.std.specs.Char.{is_ascii_digit}
 use Rattle.std.proofs.Math.Nat.{pow-le-pow_right, pow-suc}
 use Rattle.std.proofs.lemmas.Int.Digits.{digits_value_more}
@@ -59,13 +59,7 @@ digit_more text place value inside digit so_far new here =
     omega (arith, last, one)
 
 pub digits_more : (text : List ℕ) (place : ℕ) → AreDigits text place → IsDigit (get_or text place 0) → AreDigits text (place + 1)
-digits_more text place so_far digit k h = by (nat_lt k place) refl
-  where
-    by : (earlier : Bool) → nat_lt k place ≡ earlier → IsDigit (get_or text k 0)
-    by true b = so_far k (ltb-true k place b)
-    by false b =
-        let same : k ≡ place = omega (arith, ltb-false k place b) in
-        rw same digit
+digits_more text place = below_more (λ k. IsDigit (get_or text k 0)) place
 
 -- a field that neither begins nor ends with a blank
 no_blanks : (field : List ℕ) → 0 < length field → is_blank (get_or field 0 0) ≡ false → is_blank (get_or field (length field - 1) 0) ≡ false → field ≡ without_blanks field

@@ -3,7 +3,7 @@ use Rattle.pref_table.proofs.Common.{◌≡◌, ◌∙◌, ℕ, zero, suc, ◌+�
 use Rattle.pref_table.proofs.Common.{Err, ℤ, sym, ap, refl, arith, inl, inr, append_assoc, ◌==◌, onto_first, slice_split, eq-eqb, eqb-true, ne_eqb, append-nil, drop_more, get_or-take}
 use Rattle.pref_table.proofs.Common.{get_or_append_left, length-append, length-take, take-append-drop, take_all, drop_of_length-le, length-slice_split, Read, ends_at_end, in_field, next_record}
 use Rattle.pref_table.proofs.Common.{start_field, step, default_config, is_bom, records, records_from, strip_bom, State, IsCutAtLine, IsLineBefore, IsLineEnd, IsPlainLine, header_names, rows_with}
-use Rattle.pref_table.proofs.Common.{◌>>=◌, ArePlain, IsPlain, is_comma, table_of_records, TableFault}
+use Rattle.pref_table.proofs.Common.{◌>>=◌, ArePlain, IsPlain, is_comma, table_of_records, TableFault, cond_both, start_record}
 use Rattle.memchr.specs.Find.{IsFirstByte, is_byte}
 use Rattle.pref_table.proofs.RecordsFacts.{next-facts, next-shorter, records-none, records-some}
 use Rattle.pref_table.proofs.TablesFacts.{table-names, table-rows}
@@ -136,11 +136,9 @@ records-feed xs =
 
 -- behind a carriage return a record begins as at the start of a text
 starts-after_return : (byte : ℕ) → step default_config st.AfterCr byte ≡ step default_config st.StartRecord byte
-starts-after_return byte = by (byte == 10) refl
-  where
-    by : (feed : Bool) → (byte == 10) ≡ feed → step default_config st.AfterCr byte ≡ step default_config st.StartRecord byte
-    by true e = let is : byte ≡ 10 = eqb-true byte 10 e in rw is refl
-    by false e = rw e refl
+starts-after_return byte =
+    cond_both (byte == 10) (st.StartRecord, act.Skip) (start_record default_config byte) (λ q. q ≡ start_record default_config byte)
+    (λ feed. let is : byte ≡ 10 = eqb-true byte 10 feed in rw is refl) (λ _. refl)
 
 next-after_return : (xs : List ℕ) → next_record default_config st.AfterCr [] [] xs ≡ next_record default_config st.StartRecord [] [] xs
 unfolding next_record
@@ -225,16 +223,13 @@ strip-feed [] = refl
 strip-feed (a ∷ []) = refl
 strip-feed (a ∷ b ∷ rest) = refl
 
-strip-none : strip_bom [] ≡ []
-unfolding strip_bom
-strip-none = refl
-
 pub strip-header : (text header after : List ℕ) → IsLineBefore text header after → strip_bom text ≡ text → strip_bom header ≡ header
 strip-header text header after (inl parts) h = strip-front header after (rw parts at h)
 strip-header text header after (inr parts) h = strip-front header (13 ∷ after) (rw parts at h)
 
 pub strip-line_end : (after : List ℕ) → IsLineEnd after → strip_bom after ≡ after
-strip-line_end after (inl none) = rw none strip-none
+unfolding strip_bom
+strip-line_end after (inl none) = rw none refl
 strip-line_end after (inr (left, feed)) = rw feed (strip-feed left)
 
 pub line-whole : (line : List ℕ) → IsLineBefore line line []

@@ -1,7 +1,7 @@
 -- The first record of a text, whose bytes are gone through one by one.
 use Rattle.pref_table.proofs.Common.{◌≡◌, ◌∙◌, ℕ, suc, ◌+◌, ◌<◌, ◌≤◌, Bool, true, false, List, [], ◌∷◌, ◌++◌, length, drop, get_or, Some, sym, ap, refl, arith, ◌⊎◌, inl, inr, ◌==◌, drop_more}
 use Rattle.pref_table.proofs.Common.{length-append, drop_of_length-le, Read, ends_at_end, ends_with, fields_after, field_after, in_field, is_end, next_record, step, default_config, records}
-use Rattle.pref_table.proofs.Common.{records_from, State, BytesReader, HasLeft, IsNarrow, IsNext, IsWide, ReadsFirst, ReadsNext, state_at}
+use Rattle.pref_table.proofs.Common.{records_from, State, BytesReader, HasLeft, IsNarrow, IsNext, IsWide, ReadsFirst, ReadsNext, state_at, cond_both, after_end}
 use Rattle.std.specs.Bool.{MatchBool}
 use Rattle.std.specs.Borrow.{Bor}
 use Rattle.csv.specs.declared.parser.Action.{Action}
@@ -79,38 +79,23 @@ is_inside st.StartField = true
 is_inside st.InField = true
 is_inside st.InQuoted = true
 is_inside st.AfterQuote = true
-is_inside st.StartRecord = false
-is_inside st.InEscape = false
-is_inside st.InComment = false
-is_inside st.AfterCr = false
+is_inside _ = false
 
 -- a byte inside a record ends it or stays inside
 abbrev Stays : State × Action → Type 0
 Stays does = is_end does.1 ≡ false → is_inside does.0 ≡ true
 
 stays-in_field : (byte : ℕ) → Stays (in_field default_config byte)
-stays-in_field byte = by (byte == 44) (ends_with default_config.terminator byte) refl refl
-  where
-    by : (comma ends : Bool) → (byte == 44) ≡ comma → ends_with default_config.terminator byte ≡ ends → Stays (in_field default_config byte)
-    by true ends c e goes = rw c refl
-    by false true c e goes = cc (rw (c, e) at goes)
-    by false false c e goes = rw (c, e) refl
+stays-in_field byte =
+    cond_both (byte == 44) (st.StartField, act.EndField) _ Stays (λ _ _. refl)
+    (λ _. cond_both (ends_with default_config.terminator byte) (after_end default_config.terminator byte, act.EndRecord) (st.InField, act.Copy) Stays (λ _ goes. cc goes) (λ _ _. refl))
 
 stays : (s : State) (byte : ℕ) → is_inside s ≡ true → Stays (step default_config s byte)
-stays s byte inside = by s (byte == 34) refl inside
-  where
-    by : (s : State) (quote : Bool) → (byte == 34) ≡ quote → is_inside s ≡ true → Stays (step default_config s byte)
-    by st.StartField true q inside goes = rw q refl
-    by st.StartField false q inside goes = rw q (stays-in_field byte (rw q at goes))
-    by st.InField quote q inside goes = stays-in_field byte goes
-    by st.InQuoted true q inside goes = rw q refl
-    by st.InQuoted false q inside goes = rw q refl
-    by st.AfterQuote true q inside goes = rw q refl
-    by st.AfterQuote false q inside goes = rw q (stays-in_field byte (rw q at goes))
-    by st.StartRecord quote q inside goes = cc inside
-    by st.InEscape quote q inside goes = cc inside
-    by st.InComment quote q inside goes = cc inside
-    by st.AfterCr quote q inside goes = cc inside
+stays st.StartField byte inside = cond_both (byte == 34) (st.InQuoted, act.Skip) (in_field default_config byte) Stays (λ _ _. refl) (λ _. stays-in_field byte)
+stays st.InField byte inside = stays-in_field byte
+stays st.InQuoted byte inside = cond_both (byte == 34) (st.AfterQuote, act.Skip) (st.InQuoted, act.Copy) Stays (λ _ _. refl) (λ _ _. refl)
+stays st.AfterQuote byte inside = cond_both (byte == 34) (st.InQuoted, act.Copy) (in_field default_config byte) Stays (λ _ _. refl) (λ _. stays-in_field byte)
+stays _ byte inside = cc inside
 
 ends-at_end : (s : State) → is_inside s ≡ true → ends_at_end s ≡ true
 ends-at_end st.StartRecord inside = cc inside
