@@ -2,8 +2,7 @@
 use Rattle.pref_table.proofs.Common.{◌≡◌, ◌∙◌, ℕ, ◌+◌, ◌-◌, ◌<◌, ◌≤◌, ◌*◌, ◌^◌, Bool, true, false, List, [], ◌∷◌, length, take, drop, get_or, sym, ap, refl, arith, add-one, zero, suc, Ok, ℤ, pos}
 use Rattle.pref_table.proofs.Common.{nat_lt, ◌==◌, prefix_len, suffix_len, all_ascii_digits, digits_value, starts_with_minus, without_leading_sign, eqb-false, eqb-true, le-leb, lt-ltb, ltb-true}
 use Rattle.pref_table.proofs.Common.{ltb-false, ne_eqb, get_or-drop, get_or-take, length-drop, length-take-le, take_all, fits_cell, is_blank, number_of, signed_by, without_blanks, ArePlain, IsPlain}
-use Rattle.pref_table.proofs.Common.{is_comma, below_more}
-use Rattle.std.specs.Char.{is_ascii_digit}
+use Rattle.pref_table.proofs.Common.{below_more}
 use Rattle.std.proofs.Math.Nat.{pow-le-pow_right, pow-suc}
 use Rattle.std.proofs.lemmas.Int.Digits.{digits_value_more}
 use Rattle.std.proofs.lemmas.List.Sums.{prefix_len-drop_no, suffix_len-take_no}
@@ -19,12 +18,11 @@ IsDigit byte = (48 ≤ byte) × (byte < 58)
 abbrev pub AreDigits : List ℕ → ℕ → Type 0
 AreDigits text count = (k : ℕ) → k < count → IsDigit (get_or text k 0)
 
-is_digit : (byte : ℕ) → IsDigit byte → is_ascii_digit byte ≡ true
-is_digit byte (low, high) = rw (le-leb 48 byte low, le-leb byte 57 (omega arith)) refl
-
 all_digits : (ds : List ℕ) → AreDigits ds (length ds) → all_ascii_digits ds ≡ true
 all_digits [] h = refl
-all_digits (d ∷ ds) h = rw (is_digit d (h 0 (omega arith)), all_digits ds (λ k b. h (suc k) (omega arith))) refl
+all_digits (d ∷ ds) h =
+    let (low, high) = h 0 (omega arith) in
+    rw (le-leb 48 d low, le-leb d 57 (omega arith), all_digits ds (λ k b. h (suc k) (omega arith))) refl
 
 -- a sign or a digit
 abbrev IsSigned : ℕ → Type 0
@@ -32,9 +30,6 @@ IsSigned byte = (43 ≤ byte) × (byte < 58) × (byte ≡ 44 → ⊥)
 
 not_blank : (byte : ℕ) → IsSigned byte → is_blank byte ≡ false
 not_blank byte (low, high, _) = rw (ne_eqb byte 32 (λ e. absurd (omega arith)), ne_eqb byte 9 (λ e. absurd (omega arith))) refl
-
-not_comma : (byte : ℕ) → IsSigned byte → is_comma byte ≡ false
-not_comma byte (low, high, other) = ne_eqb byte 44 other
 
 digit_signed : (byte : ℕ) → IsDigit byte → IsSigned byte
 digit_signed byte (low, high) = (omega arith, high, λ e. absurd (omega arith))
@@ -105,8 +100,8 @@ field_ends line number size some inside reads signed comma = record {
   some = some;
   inside = inside;
   reads = reads;
-  cut = λ more. cut_at line size more (λ k h. not_comma _ (signed k h)) (comma more);
-  last = λ whole. cut_none line (λ k h. not_comma _ (signed k (omega arith)));
+  cut = λ more. cut_at line size more (λ k h. ne_eqb _ 44 (signed k h).2) (comma more);
+  last = λ whole. cut_none line (λ k h. ne_eqb _ 44 (signed k (omega arith)).2);
   plain = line_plain line size signed comma;
 }
 

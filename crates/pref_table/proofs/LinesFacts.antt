@@ -50,18 +50,6 @@ abbrev Ends : List ℕ → State → List ℕ → Type 0
 Ends after ended left = (s : State) → IsInRecord s → (fields : List (List ℕ)) (field : List ℕ)
     → next_record default_config s fields field after ≡ Some (fields ++ (field ∷ []), ended, left)
 
-ends-text : Ends [] st.StartRecord []
-unfolding next_record
-ends-text s inside fields field = rw inside.ends refl
-
-ends-feed : (left : List ℕ) → Ends (10 ∷ left) st.StartRecord left
-unfolding next_record
-ends-feed left s inside fields field = rw inside.feed refl
-
-ends-return : (left : List ℕ) → Ends (13 ∷ left) st.AfterCr left
-unfolding next_record
-ends-return left s inside fields field = rw inside.return refl
-
 -- from a state with these fields and bytes, the rest of a line is read as the fields that its commas cut
 abbrev ReadsOn : List ℕ → List ℕ → State → List ℕ → State → Type 0
 ReadsOn line after ended left s = (fields : List (List ℕ)) (field : List ℕ)
@@ -140,32 +128,27 @@ starts-after_return byte =
     cond_both (byte == 10) (st.StartRecord, act.Skip) (start_record default_config byte) (λ q. q ≡ start_record default_config byte)
     (λ feed. let is : byte ≡ 10 = eqb-true byte 10 feed in rw is refl) (λ _. refl)
 
-next-after_return : (xs : List ℕ) → next_record default_config st.AfterCr [] [] xs ≡ next_record default_config st.StartRecord [] [] xs
-unfolding next_record
-next-after_return [] = refl
-next-after_return (byte ∷ rest) = rw (starts-after_return byte) refl
-
 pub records-after_return : (n : ℕ) (after : List ℕ) → length after < n → records_from default_config n st.AfterCr after ≡ records default_config after
-unfolding records_from
+unfolding records_from next_record
 records-after_return zero after enough = absurd (omega arith)
-records-after_return (suc n) after enough = rw (next-after_return after) (records-of (suc n) after enough)
+records-after_return (suc n) [] enough = records-of (suc n) [] enough
+records-after_return (suc n) (byte ∷ rest) enough = rw (starts-after_return byte) (records-of (suc n) (byte ∷ rest) enough)
 
 -- a plain line is the first record of a text that begins with it
 records-line : (line after : List ℕ) → IsPlainLine line → IsLineEnd after → records default_config (line ++ after) ≡ slice_split is_comma line ∷ records default_config after
+unfolding next_record
 records-line line after plain (inl none) =
-    rw none (records-first (line ++ []) (slice_split is_comma line) st.StartRecord [] (records default_config []) (reads-record line [] st.StartRecord [] plain ends-text) (λ n h. records-of n [] h))
+    rw none (records-first (line ++ []) (slice_split is_comma line) st.StartRecord [] (records default_config [])
+    (reads-record line [] st.StartRecord [] plain (λ s inside fields field. rw inside.ends refl)) (λ n h. records-of n [] h))
 records-line line after plain (inr (left, feed)) =
     rw feed (records-first (line ++ 10 ∷ left) (slice_split is_comma line) st.StartRecord left (records default_config (10 ∷ left))
-    (reads-record line (10 ∷ left) st.StartRecord left plain (ends-feed left)) (λ n h. records-of n left h ∙ sym (records-feed left)))
+    (reads-record line (10 ∷ left) st.StartRecord left plain (λ s inside fields field. rw inside.feed refl)) (λ n h. records-of n left h ∙ sym (records-feed left)))
 
 records-return : (line after : List ℕ) → IsPlainLine line → IsLineEnd after → records default_config (line ++ 13 ∷ after) ≡ slice_split is_comma line ∷ records default_config after
+unfolding next_record
 records-return line after plain ends =
     records-first (line ++ 13 ∷ after) (slice_split is_comma line) st.AfterCr after (records default_config after)
-    (reads-record line (13 ∷ after) st.AfterCr after plain (ends-return after)) (λ n h. records-after_return n after h)
-
-records-alone : (line : List ℕ) → IsPlainLine line → records default_config line ≡ slice_split is_comma line ∷ []
-unfolding next_record records_from
-records-alone line plain = rw (append-nil line) at (records-line line [] plain (inl refl))
+    (reads-record line (13 ∷ after) st.AfterCr after plain (λ s inside fields field. rw inside.return refl)) (λ n h. records-after_return n after h)
 
 records-cut : (text line after : List ℕ) → IsLineBefore text line after → IsPlainLine line → IsLineEnd after → records default_config text ≡ slice_split is_comma line ∷ records default_config after
 records-cut text line after (inl parts) plain ends = rw parts (records-line line after plain ends)
@@ -194,7 +177,8 @@ records-none_left after (inr (byte ∷ more, feed)) few = absurd (omega (arith, 
 -- the table of a plain header and the lines under it
 module _ (header lines : List ℕ) (plain : IsPlainLine header) (ends : IsLineEnd lines) where
   same_names : header_names (records default_config (header ++ lines)) ≡ header_names (records default_config header)
-  same_names = ap header_names (records-line header lines plain ends) ∙ sym (ap header_names (records-alone header plain))
+  unfolding next_record records_from
+  same_names = ap header_names (records-line header lines plain ends) ∙ sym (ap header_names (rw (append-nil header) at (records-line header [] plain (inl refl))))
 
   pub table-no_names : (fault : TableFault) → header_names (records default_config header) ≡ Err fault → table_of_records (records default_config (header ++ lines)) ≡ Err fault
   table-no_names fault h = table-names (records default_config (header ++ lines)) fault (same_names ∙ h)

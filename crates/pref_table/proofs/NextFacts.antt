@@ -109,9 +109,8 @@ more-ended _ fields field ends = cc ends
 
 no-fewer : (action : Action) (fields : List (List ℕ)) (field : List ℕ) → length fields ≤ length (fields_after action fields field)
 no-fewer act.EndRecord fields field = omega (arith, length-append fields (field ∷ []))
-no-fewer act.Skip fields field = omega arith
-no-fewer act.Copy fields field = omega arith
 no-fewer act.EndField fields field = omega (arith, length-append fields (field ∷ []))
+no-fewer _ fields field = omega arith
 
 -- so a record that was begun ends, with one field more at least
 ends-later : (xs : List ℕ) (s : State) (fields : List (List ℕ)) (field : List ℕ) → is_inside s ≡ true → (p : Read) × (next_record default_config s fields field xs ≡ Some p) × (length fields < length p.0)
