@@ -10,7 +10,7 @@ pub use Rattle.std.proofs.lemmas.List.Splits.{length-slice_split, slice_split_fi
 pub use Rattle.std.proofs.lemmas.Option.{get_or_from_slice_get, slice_get-get_or}
 pub use Rattle.std.proofs.lemmas.Result.{err_from_is_err_and}
 pub use Rattle.std.specs.List.{list_any, onto_first, position, position_or_len, prefix_len, slice_split, suffix_len}
-pub use Rattle.std.specs.Prelude.{◌&&◌, ◌==◌, IfSome, if◌then◌else◌, nat_lt, neg_ℤ, not, slice_get, ◌||◌}
+pub use Rattle.std.specs.Prelude.{◌&&◌, ◌==◌, IfSome, if◌then◌else◌, nat_lt, not, slice_get, ◌||◌}
 pub use Rattle.std.specs.Str.{all_ascii_digits, bytes_eq}
 pub use Rattle.std.specs.Str.Parse.{digits_value, digits_value_after, signed_digits_value, starts_with_minus, without_leading_sign}
 pub use Rattle.csv.specs.Machine.{Read, after_end, ends_at_end, ends_with, field_after, fields_after, in_field, is_end, start_field, start_record, step}

@@ -23,12 +23,6 @@ start_field-plain byte (quote, _, _) = rw (ne_eqb byte 34 quote) refl
 start_record-plain : (byte : ℕ) → IsPlain byte → step default_config st.StartRecord byte ≡ in_field default_config byte
 start_record-plain byte (quote, return, feed) = rw (ne_eqb byte 13 return, ne_eqb byte 10 feed, ne_eqb byte 34 quote) refl
 
-inside_field : IsInRecord st.InField
-inside_field = record { plain = λ byte h. refl; feed = refl; return = refl; ends = refl }
-
-before_field : IsInRecord st.StartField
-before_field = record { plain = start_field-plain; feed = refl; return = refl; ends = refl }
-
 -- the fields of a line, of which the first goes on from these bytes
 abbrev going_on : List ℕ → List (List ℕ) → List (List ℕ)
 going_on field [] = field ∷ []
@@ -66,10 +60,10 @@ reads-byte byte line after ended left s (quote, return, feed) taken more fields 
         let at : step default_config s byte ≡ (st.StartField, act.EndField) = taken ∙ rw e refl in
         let parts : (fields ++ field ∷ []) ++ going_on [] (slice_split is_comma line) ≡ fields ++ ((field ++ []) ∷ slice_split is_comma line) =
         rw (going_on-start (slice_split is_comma line) (split-some line), append-nil field) (append_assoc fields (field ∷ []) (slice_split is_comma line)) in
-        rw (at, e) (more st.StartField before_field (fields ++ field ∷ []) [] ∙ ap (λ (t : List (List ℕ)). Some (t, ended, left)) parts)
+        rw (at, e) (more st.StartField (record { plain = start_field-plain; feed = refl; return = refl; ends = refl }) (fields ++ field ∷ []) [] ∙ ap (λ (t : List (List ℕ)). Some (t, ended, left)) parts)
     by false e =
         let at : step default_config s byte ≡ (st.InField, act.Copy) = taken ∙ rw (e, ne_eqb byte 13 return, ne_eqb byte 10 feed) refl in
-        rw (at, e) (more st.InField inside_field fields (field ++ byte ∷ [])
+        rw (at, e) (more st.InField (record { plain = λ byte h. refl; feed = refl; return = refl; ends = refl }) fields (field ++ byte ∷ [])
         ∙ ap (λ (t : List (List ℕ)). Some (fields ++ t, ended, left)) (going_on-byte field byte (slice_split is_comma line)))
 
 reads-line : (line after : List ℕ) (ended : State) (left : List ℕ) → ArePlain line → Ends after ended left → (s : State) → IsInRecord s → ReadsOn line after ended left s
@@ -192,20 +186,17 @@ module _ (header lines : List ℕ) (plain : IsPlainLine header) (ends : IsLineEn
 -- no byte order mark begins a text that begins one without, nor what begins at a line's end
 strip-front : (xs ys : List ℕ) → strip_bom (xs ++ ys) ≡ xs ++ ys → strip_bom xs ≡ xs
 unfolding strip_bom
-strip-front [] ys h = refl
-strip-front (a ∷ []) ys h = refl
-strip-front (a ∷ b ∷ []) ys h = refl
 strip-front (a ∷ b ∷ c ∷ rest) ys h = by (is_bom a b c) refl h
   where
     by : (mark : Bool) → is_bom a b c ≡ mark → strip_bom (a ∷ b ∷ c ∷ rest ++ ys) ≡ a ∷ b ∷ c ∷ rest ++ ys → strip_bom (a ∷ b ∷ c ∷ rest) ≡ a ∷ b ∷ c ∷ rest
     by true e h = absurd (omega (arith, ap length (rw e at h)))
     by false e h = rw e refl
+strip-front _ ys h = refl
 
 strip-feed : (xs : List ℕ) → strip_bom (10 ∷ xs) ≡ 10 ∷ xs
 unfolding strip_bom
-strip-feed [] = refl
-strip-feed (a ∷ []) = refl
 strip-feed (a ∷ b ∷ rest) = refl
+strip-feed _ = refl
 
 pub strip-header : (text header after : List ℕ) → IsLineBefore text header after → strip_bom text ≡ text → strip_bom header ≡ header
 strip-header text header after (inl parts) h = strip-front header after (rw parts at h)
@@ -215,9 +206,6 @@ pub strip-line_end : (after : List ℕ) → IsLineEnd after → strip_bom after 
 unfolding strip_bom
 strip-line_end after (inl none) = rw none refl
 strip-line_end after (inr (left, feed)) = rw feed (strip-feed left)
-
-pub line-whole : (line : List ℕ) → IsLineBefore line line []
-line-whole line = inl (sym (append-nil line))
 
 -- a byte of a line that the text begins with
 line-byte : (text line end : List ℕ) (size k : ℕ) → take size text ≡ line ++ end → k < length line → (k < size) × (get_or text k 0 ≡ get_or line k 0)

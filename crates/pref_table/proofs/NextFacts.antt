@@ -21,9 +21,6 @@ pub record Stands (text : List ℕ) (at : ℕ) (s : State) (count : ℕ) : Type 
   pub same : next_record default_config st.StartRecord [] [] text ≡ next_record default_config s fields field (drop at text)
   pub counted : length fields ≡ count
 
-pub stands-first : (text : List ℕ) → Stands text 0 st.StartRecord 0
-stands-first text = record { fields = []; field = []; same = refl; counted = refl }
-
 -- one byte further
 stepped : (text : List ℕ) (at : ℕ) (s next : State) (count total : ℕ) (action : Action) → at < length text → step default_config s (get_or text at 0) ≡ (next, action) → is_end action ≡ false
     → ((fields : List (List ℕ)) (field : List ℕ) → length fields ≡ count → length (fields_after action fields field) ≡ total) → Stands text at s count → Stands text (at + 1) next total

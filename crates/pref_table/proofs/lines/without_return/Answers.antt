@@ -1,5 +1,5 @@
-use Rattle.pref_table.proofs.LinesFacts.{line-whole}
+use Rattle.pref_table.proofs.Common.{sym, inl, append-nil}
 use Rattle.pref_table.proofs.lines.without_return.Goals as goal
 
 pub returns : goal.returns
-returns c = line-whole c.args.line.now
+returns c = inl (sym (append-nil c.args.line.now))

@@ -1,10 +1,10 @@
-use Rattle.pref_table.proofs.Common.{◌≡◌, ◌+◌, ◌-◌, [], arith, drop, length, take, length-drop, take_all, drop_of_length-le, state_at}
-use Rattle.pref_table.proofs.NextFacts.{narrow-ended, narrow-last, nothing-left, outside-none, stands-comma, stands-first, stands-goes, wide}
+use Rattle.pref_table.proofs.Common.{◌≡◌, ◌+◌, ◌-◌, [], refl, arith, drop, length, take, length-drop, take_all, drop_of_length-le, state_at}
+use Rattle.pref_table.proofs.NextFacts.{narrow-ended, narrow-last, nothing-left, outside-none, stands-comma, stands-goes, wide}
 use Rattle.pref_table.proofs.records.next_in.Goals.{in-Goes, in-EndsField+else-fields-eq-MAX_COLUMNS}
 use Rattle.pref_table.proofs.records.next_in.Goals as goal
 
 pub loop-at-init : goal.loop-at-init
-loop-at-init c = (stands-first c.args.text.now, omega arith)
+loop-at-init c = (record { fields = []; field = []; same = refl; counted = refl }, omega arith)
 
 pub overflow_add-fields : goal.overflow_add-fields
 overflow_add-fields c = omega (arith, c.loop-at.invariant.1)
