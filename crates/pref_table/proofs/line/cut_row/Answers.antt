@@ -1,6 +1,6 @@
-use Rattle.pref_table.proofs.Common.{ap, Ok, ◌≡◌, ◌∙◌, ◌+◌, ◌<◌, length, refl, sym, arith, w64, slice_split, to_z-of_z, length-set, length-slice_split, err_from_is_err_and, is_comma}
+use Rattle.pref_table.proofs.Common.{ap, Ok, ◌≡◌, ◌∙◌, ◌+◌, ◌<◌, length, refl, sym, arith, w64, slice_split, to_z-of_z, length-slice_split, err_from_is_err_and, is_comma}
 use Rattle.pref_table.proofs.NumberedFacts.{all_from-none}
-use Rattle.pref_table.proofs.RowsFacts.{cell-read, cells_fail, cells_more, line_cut, row_of-all, row_of-fault, row_of-width, zeros_more}
+use Rattle.pref_table.proofs.RowsFacts.{cell-read, cells_fail, line_cut, read_more, row_of-all, row_of-fault, row_of-width}
 use Rattle.pref_table.proofs.line.cut_row.Goals as goal
 
 pub returns-then-count_commas-width : goal.returns-then-count_commas-width
@@ -9,7 +9,7 @@ returns-then-count_commas-width c =
     (λ e. c.if-count_commas-width.true (omega (arith, e, length-slice_split is_comma c.args.line.now))))
 
 pub loop-col-init : goal.loop-col-init
-loop-col-init c = record { size = search arith; seen = all_from-none _ 1; zeros = refl; left = λ _. search arith }
+loop-col-init c = record { read = record { size = search arith; seen = all_from-none _ 1; zeros = refl }; left = λ _. search arith }
 
 pub returns-in_err-number : goal.returns-in_err-number
 returns-in_err-number c =
@@ -21,7 +21,7 @@ returns-in_err-number c =
     let fault = sym first.is in
     let p = err_from_is_err_and c.from_residual.result c.from_residual.ensures.1 in
     rw (p.1, p.2) (sym (row_of-fault (length c.args.schema.now) 0 fields _ (omega (arith, commas))
-    (cells_fail 0 fields c.loop-col.cells c.loop-col.col first.field _ inside cut.0 c.loop-col.invariant.seen fault)))
+    (cells_fail 0 fields c.loop-col.cells c.loop-col.col first.field _ inside cut.0 c.loop-col.invariant.read.seen fault)))
 
 pub loop-col-preserved : goal.loop-col-preserved
 loop-col-preserved c =
@@ -34,9 +34,7 @@ loop-col-preserved c =
     let number = c.in_ok-number.number in
     let whole = to_z-of_z w64 number (cell-read 0 (c.loop-col.col + 1) first.field number cell) in
     rw whole (record {
-      size = length-set _ _ _ ∙ c.loop-col.invariant.size;
-      seen = cells_more 0 fields c.loop-col.cells c.loop-col.col first.field number inside (omega (arith, c.loop-col.invariant.size)) cut.0 c.loop-col.invariant.seen cell;
-      zeros = zeros_more c.loop-col.cells c.loop-col.col number c.loop-col.invariant.zeros;
+      read = read_more 0 fields c.loop-col.cells c.loop-col.col first.field number inside (omega arith) cut.0 cell c.loop-col.invariant.read;
       left = cut.1;
     })
 
@@ -46,6 +44,6 @@ returns c =
     let commas = length-slice_split is_comma c.args.line.now in
     let width = c.width-width.result in
     let done : c.loop-col.col ≡ width = omega arith in
-    let seen = rw done at c.loop-col.invariant.seen in
+    let read = rw done at c.loop-col.invariant.read in
     let size : length fields ≡ width = omega (arith, commas) in
-    ap Ok c.of_cells.ensures ∙ rw (← c.width-width.ensures.value) (sym (row_of-all width 0 fields c.loop-col.cells size (omega (arith, c.loop-col.invariant.size)) seen (rw done at c.loop-col.invariant.zeros)))
+    ap Ok c.of_cells.ensures ∙ rw (← c.width-width.ensures.value) (sym (row_of-all width 0 fields c.loop-col.cells size (omega arith) read))
