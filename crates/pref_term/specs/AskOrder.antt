@@ -4,7 +4,8 @@ use Rattle.std.specs.Prelude.{◌&&◌}
 use Rattle.pref_term.specs.Better.{better, in_same_group, same}
 use Rattle.pref_term.specs.Order.{IsRowOrder, IsStrictOrder, RowOrder, StandAlike}
 use Rattle.std.proofs.lemmas.Bool.{and_from, and_parts}
-use Rattle.pref_term.specs.OrderLaws.{over_not_self, over_on, alike_above, alike_below}
+use Rattle.std.specs.Cmp.Derive.{one_truth}
+use Rattle.pref_term.specs.OrderLaws.{question_order}
 use Rattle.pref_term.specs.Question.{Question, IsAsk, alike, over, twins}
 use Rattle.pref_term.specs.TwinLaws.{clause_twins, twins_alike, twins_back, twins_have_twins, twins_on}
 
@@ -14,11 +15,17 @@ order_of q = record { over = over q; twin = twins q }
 
 -- no row dominates itself, and dominance is transitive
 pub order_of_is_strict : (q : Question) → IsStrictOrder (order_of q).over
-order_of_is_strict q = record { irreflexive = over_not_self q; transitive = over_on q }
+order_of_is_strict q = record { irreflexive = (question_order q).not_self; transitive = (question_order q).on }
 
 -- rows of one group that are the same are alike in it
 pub order_of_alike : (q : Question) (a b : List ℤ) → alike q a b ≡ true → StandAlike (order_of q).over a b
-order_of_alike q a b h = record { above = λ c. alike_above q a b c h; below = λ c. alike_below q a b c h }
+order_of_alike q a b h =
+    let order = question_order q in
+    let back = order.alike_back a b h in
+    record {
+      above = λ c. one_truth (over q c a) (over q c b) (λ k. order.before_alike c a b k h) (λ k. order.before_alike c b a k back);
+      below = λ c. one_truth (over q a c) (over q b c) (λ k. order.alike_before b a c back k) (λ k. order.alike_before a b c h k);
+    }
 
 -- it is a row order: its twins are of one group, and the same
 pub order_of_is_row_order : (q : Question) → IsRowOrder (order_of q)

@@ -4,9 +4,8 @@ use Rattle.std.proofs.Common.{◌≡◌, ℤ, ℕ, List, [], ◌∷◌, Bool, tr
 use Rattle.std.specs.Prelude.{◌&&◌, ◌||◌, int_lt}
 use Rattle.std.specs.Ordering.{int_eq}
 use Rattle.std.proofs.lemmas.Int.{ints}
-use Rattle.std.proofs.lemmas.Bool.{and_from, and_parts, and_right, or_cases, or_left, or_right}
+use Rattle.std.proofs.lemmas.Bool.{and_from, and_parts, or_cases, or_left, or_right}
 use Rattle.std.proofs.lemmas.Bool.Decides.{Decides-int_eq}
-use Rattle.std.specs.Cmp.Derive.{one_truth}
 use Rattle.pref_term.specs.Preference.{Preference, scored, pareto, prior, reverse}
 use Rattle.pref_term.specs.Better.{cell, score, same, better, in_same_group}
 use Rattle.pref_term.specs.Question.{Question, alike, over}
@@ -192,16 +191,6 @@ group_on (col ∷ cols) a b c h k =
     ((Decides-int_eq (cell a col) (cell c col)).1 ((Decides-int_eq (cell a col) (cell b col)).0 x.0 ∙ (Decides-int_eq (cell b col) (cell c col)).0 y.0))
     (group_on cols a b c x.1 y.1)
 
--- no row dominates itself
-pub over_not_self : (q : Question) (a : List ℤ) → over q a a ≡ false
-over_not_self q a = and_right (in_same_group q.group a a) (better q.preference a a) ((better_order q.preference).not_self a)
-
-pub over_on : (q : Question) (a b c : List ℤ) → over q a b ≡ true → over q b c ≡ true → over q a c ≡ true
-over_on q a b c h k =
-    let x = and_parts (in_same_group q.group a b) (better q.preference a b) h in
-    let y = and_parts (in_same_group q.group b c) (better q.preference b c) k in
-    and_from (in_same_group q.group a c) (better q.preference a c) (group_on q.group a b c x.0 y.0) ((better_order q.preference).on a b c x.1 y.1)
-
 pub group_back : (cols : List ℕ) (a b : List ℤ) → in_same_group cols a b ≡ true → in_same_group cols b a ≡ true
 group_back [] a b h = refl
 group_back (col ∷ cols) a b h =
@@ -209,27 +198,22 @@ group_back (col ∷ cols) a b h =
     and_from (int_eq (cell b col) (cell a col)) (in_same_group cols b a)
     ((Decides-int_eq (cell b col) (cell a col)).1 (sym ((Decides-int_eq (cell a col) (cell b col)).0 x.0))) (group_back cols a b x.1)
 
-alike_back : (q : Question) (a b : List ℤ) → alike q a b ≡ true → alike q b a ≡ true
-alike_back q a b h =
-    let x = and_parts (in_same_group q.group a b) (same q.preference a b) h in
-    and_from (in_same_group q.group b a) (same q.preference b a) (group_back q.group a b x.0) ((better_order q.preference).alike_back a b x.1)
+group_self : (cols : List ℕ) (a : List ℤ) → in_same_group cols a a ≡ true
+group_self [] a = refl
+group_self (col ∷ cols) a = and_from (int_eq (cell a col) (cell a col)) (in_same_group cols a a) ((Decides-int_eq (cell a col) (cell a col)).1 refl) (group_self cols a)
 
-over_alike : (q : Question) (a b c : List ℤ) → alike q a b ≡ true → over q c a ≡ true → over q c b ≡ true
-over_alike q a b c h k =
-    let t = and_parts (in_same_group q.group a b) (same q.preference a b) h in
-    let x = and_parts (in_same_group q.group c a) (better q.preference c a) k in
-    and_from (in_same_group q.group c b) (better q.preference c b) (group_on q.group c a b x.0 t.0) ((better_order q.preference).before_alike c a b x.1 t.1)
+-- rows of one group are alike
+groups_order : (cols : List ℕ) → IsOrder (λ a b. false) (in_same_group cols)
+groups_order cols = record {
+  alike_self = group_self cols;
+  alike_back = group_back cols;
+  alike_on = group_on cols;
+  not_self = λ a. refl;
+  on = λ a b c h k. h;
+  alike_before = λ a b c h k. k;
+  before_alike = λ a b c h k. h;
+}
 
-alike_over : (q : Question) (a b c : List ℤ) → alike q a b ≡ true → over q b c ≡ true → over q a c ≡ true
-alike_over q a b c h k =
-    let t = and_parts (in_same_group q.group a b) (same q.preference a b) h in
-    let x = and_parts (in_same_group q.group b c) (better q.preference b c) k in
-    and_from (in_same_group q.group a c) (better q.preference a c) (group_on q.group a b c t.0 x.0) ((better_order q.preference).alike_before a b c t.1 x.1)
-
--- what dominates one of two rows of a group that are the same dominates the other
-pub alike_above : (q : Question) (a b c : List ℤ) → alike q a b ≡ true → over q c a ≡ over q c b
-alike_above q a b c h = one_truth (over q c a) (over q c b) (over_alike q a b c h) (over_alike q b a c (alike_back q a b h))
-
--- and they dominate the same rows
-pub alike_below : (q : Question) (a b c : List ℤ) → alike q a b ≡ true → over q a c ≡ over q b c
-alike_below q a b c h = one_truth (over q a c) (over q b c) (alike_over q b a c (alike_back q a b h)) (alike_over q a b c h)
+-- what a question says of its rows
+pub question_order : (q : Question) → IsOrder (over q) (alike q)
+question_order q = prior_order (groups_order q.group) (better_order q.preference)
