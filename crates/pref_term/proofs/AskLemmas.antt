@@ -1,14 +1,14 @@
 -- What the parts of the reader promise that read what stands around a term, and skyline clauses.
 use Rattle.pref_term.proofs.Common.{◌≡◌, ℕ, List, [], ◌∷◌, ◌++◌, length, map, Bool, true, false, Option, Some, None, Ok, refl, sym, ap, subst, ◌∙◌, append-nil, ◌≢◌, All, IfSome, cond, unwrap_or}
-use Rattle.pref_term.proofs.Common.{All-append, All-nil, comma, Token, word, digits, sign, finish, Placed, Keyword, best_word, top_level_word, at_least_word, by_word, keyword_of, skyline_word}
-use Rattle.pref_term.proofs.Common.{of_word, cased_of, Direction, minimal, maximal, different, direction_word, DimText, HeadText, best_head, top_level_head, at_least_head, PriorText, one_product}
-use Rattle.pref_term.proofs.Common.{then_product, AskText, rated, name, mark, column_name, count_digits, cased, last, Names, own_fault, column_at, mode_of, order_by, group_by, orders_of, groups_of}
-use Rattle.pref_term.proofs.Common.{product_of, bad_count, State, start, operand, whole, in_whole, ranked, top_level_named, at_least_named, group_due, skyline_named, dim_due, dim_named, group_listed}
-use Rattle.pref_term.proofs.Common.{dims_listed, run, done, listed_column, listed_dim, directed, begun, of_named, grouped_by, next, meant, Goes, Fails, Passes, IsNoWord, IsKnown, IsTermOf, IsColumn}
-use Rattle.pref_term.proofs.Common.{NotNext, IsOther, WantsColumn, TakesColumn, FailsColumn, ReadsPrior, FailsPrior, Asks, AsksNothing, IsNoDigits, WantsCount, TakesCount, FailsCount}
-use Rattle.pref_term.proofs.Common.{ReadsSomeColumns, ReadsColumns, FailsColumns, ReadsGrouping, FailsGrouping, TakesDirection, FailsDirection, ReadsDim, FailsDim, with_order, ReadsDims, ReadsClause}
-use Rattle.pref_term.proofs.Common.{FailsClause, PassesOf, FailsOf, AsksClause, AsksClauseNothing, Preference, scored, low, high, pareto, prior, reverse, ReadsBelow, IsWritable, Question, FitsWidth}
-use Rattle.pref_term.proofs.Common.{IsAsk, IsSkyline, IsCount, is_count, cut_of, Mode, Best, TopLevel, AtLeast, TermFault}
+use Rattle.pref_term.proofs.Common.{All-append, comma, Token, word, digits, sign, finish, Placed, Keyword, best_word, top_level_word, at_least_word, by_word, keyword_of, skyline_word, of_word}
+use Rattle.pref_term.proofs.Common.{cased_of, Direction, minimal, maximal, different, direction_word, DimText, HeadText, best_head, top_level_head, at_least_head, PriorText, one_product, then_product}
+use Rattle.pref_term.proofs.Common.{AskText, rated, name, mark, column_name, count_digits, cased, last, Names, column_at, mode_of, order_by, group_by, orders_of, groups_of, product_of, bad_count}
+use Rattle.pref_term.proofs.Common.{State, start, operand, whole, in_whole, ranked, top_level_named, at_least_named, group_due, skyline_named, dim_due, dim_named, group_listed, dims_listed, run, done}
+use Rattle.pref_term.proofs.Common.{listed_column, listed_dim, directed, begun, of_named, grouped_by, next, meant, Goes, Fails, Passes, IsNoWord, IsKnown, IsTermOf, IsColumn, NotNext, IsOther}
+use Rattle.pref_term.proofs.Common.{WantsColumn, TakesColumn, ReadsPrior, Asks, AsksNothing, IsNoDigits, WantsCount, TakesCount, FailsCount, ReadsSomeColumns, ReadsColumns, FailsColumns}
+use Rattle.pref_term.proofs.Common.{ReadsGrouping, FailsGrouping, TakesDirection, FailsDirection, ReadsDim, FailsDim, with_order, ReadsDims, ReadsClause, FailsClause, PassesOf, AsksClauseNothing}
+use Rattle.pref_term.proofs.Common.{Preference, scored, low, high, pareto, prior, reverse, ReadsBelow, IsWritable, Question, FitsWidth, IsAsk, IsSkyline, IsCount, cut_of, Mode, Best, TopLevel}
+use Rattle.pref_term.proofs.Common.{AtLeast, TermFault}
 use Rattle.std.specs.Str.Parse.{digits_value}
 use Rattle.std.proofs.lemmas.List.Sums.{fold-append}
 use Rattle.std.proofs.lemmas.Grind.{flat_map-append}
@@ -20,7 +20,7 @@ ended names ts us s m a h c e p = let g = goes_then names s m (done a) ts us [] 
 
 -- ---- a column of a group
 
-wants_group : (head : HeadText) (r : PriorText) (some : List (List ℕ)) → WantsColumn (group_due head r some) (λ letters. listed_column head r some letters)
+pub wants_group : (head : HeadText) (r : PriorText) (some : List (List ℕ)) → WantsColumn (group_due head r some) (λ letters. listed_column head r some letters)
 wants_group head r some = record { takes = λ letters. refl; only = only }
   where
     only : (t : Token) → IsNoWord t → next (group_due head r some) t ≡ None
@@ -49,15 +49,8 @@ group_stuck head r (c ∷ cs) letters = group_listed_stuck head r c (cs ++ lette
 
 -- ---- the columns of a group
 
-pub columns_none : (names : Names) (ts : List Placed) → ReadsSomeColumns names ts [] ts
-columns_none names ts = record { some = []; meaning = refl; known = All-nil (IsKnown names); goes = λ head r p. (p, refl) }
-
 column_is : (names : Names) (letters : List ℕ) (col : ℕ) → IsColumn names letters col → column_at names letters ≡ col
 column_is names letters col h = ap (λ o. unwrap_or o 0) h.place
-
-pub columns_fail : (names : Names) (ts us : List Placed) (columns : List ℕ) (f : TermFault) → ReadsSomeColumns names ts columns us → FailsColumn names us f → FailsColumns names ts f
-columns_fail names ts us columns f r h head p =
-    goes_fails names _ _ ts us f (r.goes head p) (h (group_due head p r.some) (λ letters. listed_column head p r.some letters) (wants_group head p r.some))
 
 -- one column more, and what is behind it
 module _ (names : Names) (ts us vs : List Placed) (columns : List ℕ) (col : ℕ) (r : ReadsSomeColumns names ts columns us) (t : TakesColumn names us col vs) where
@@ -118,7 +111,7 @@ goes_asks names s m ts us q h k p = let a = h p in ap (meant names false) a.1 �
 goes_asks_nothing : (names : Names) (s m : State) (ts us : List Placed) (f : TermFault) → Goes names s ts m us → AsksNothing names m us f → AsksNothing names s ts f
 goes_asks_nothing names s m ts us f h k = unless_map f (λ k p. let a = h p in ap (meant names false) a.1 ∙ k a.0) k
 
-fails_asks : (names : Names) (s : State) (ts : List Placed) (f : TermFault) → Fails names s ts f → AsksNothing names s ts f
+pub fails_asks : (names : Names) (s : State) (ts : List Placed) (f : TermFault) → Fails names s ts f → AsksNothing names s ts f
 fails_asks names s ts f h = unless_map f (λ k p. ap (meant names false) (k p)) h
 
 pub rated_read : (names : Names) (ts us : List Placed) (p : Preference) (group : List ℕ) (mode : Mode) → ReadsPrior names 0 ts p us → ReadsGrouping names us group → (head : HeadText) → mode_of head ≡ mode → Asks names (operand (in_whole head)) ts (record { preference = p; group = group; mode = mode; distinct = false })
@@ -129,16 +122,13 @@ rated_read names ts us p group mode r g head e =
     ∙ (ap (λ x. Ok (record { preference = p; group = x; mode = mode_of head; distinct = false })) g.meaning
     ∙ ap (λ x. Ok (record { preference = p; group = group; mode = x; distinct = false })) e)))
 
-pub rated_prior_fails : (names : Names) (ts : List Placed) (f : TermFault) → FailsPrior names 0 ts f → (head : HeadText) → AsksNothing names (operand (in_whole head)) ts f
-rated_prior_fails names ts f h head = fails_asks names _ ts f (h (whole head) refl)
-
 pub rated_group_fails : (names : Names) (ts us : List Placed) (p : Preference) (f : TermFault) → ReadsPrior names 0 ts p us → FailsGrouping names us f → (head : HeadText) → AsksNothing names (operand (in_whole head)) ts f
 rated_group_fails names ts us p f r g head =
     fails_asks names _ ts f (goes_fails names _ _ ts us f (r.products.goes (whole head) refl) (g r.stops r.stops_too head r.products.tree))
 
 -- ---- dimensions
 
-wants_dim : (s o : List ℕ) (some : List DimText) → WantsColumn (dim_due s o some) (λ letters. dim_named s o some letters)
+pub wants_dim : (s o : List ℕ) (some : List DimText) → WantsColumn (dim_due s o some) (λ letters. dim_named s o some letters)
 wants_dim s o some = record { takes = λ letters. refl; only = only }
   where
     only : (t : Token) → IsNoWord t → next (dim_due s o some) t ≡ None
@@ -152,10 +142,6 @@ direction_next : (s o : List ℕ) (some : List DimText) (column letters : List �
 direction_next s o some column letters minimal = refl
 direction_next s o some column letters maximal = refl
 direction_next s o some column letters different = refl
-
-direction_goes : (names : Names) (ts us : List Placed) (d : Direction) (s o : List ℕ) (some : List DimText) (column : List ℕ) → (t : TakesDirection ts d us) → Goes names (dim_named s o some column) ts (listed_dim s o some (dim_of column d t.letters)) us
-direction_goes names ts us d s o some column t =
-    passes_goes names (word t.letters) ts us _ _ (cased (direction_word d) t.letters) t.passes (ap (directed s o some column t.letters) t.found ∙ direction_next s o some column t.letters d) refl
 
 dim_comma : (s o : List ℕ) (some : List DimText) (d : DimText) → next (listed_dim s o some d) (sign comma) ≡ Some (mark comma, dim_due s o (some ++ d ∷ []))
 dim_comma s o [] d = refl
@@ -176,20 +162,15 @@ dim_read names ts us vs col d t g =
       dim = dim_of t.letters d g.letters;
       said = refl;
       found = t.found;
-      goes = λ s o some. goes_then names _ (dim_named s o some t.letters) _ ts us vs (column_goes names ts us col _ _ (wants_dim s o some) t) (direction_goes names us vs d s o some t.letters g);
+      goes = λ s o some. goes_then names _ (dim_named s o some t.letters) _ ts us vs (column_goes names ts us col _ _ (wants_dim s o some) t)
+          (passes_goes names (word g.letters) us vs _ _ (cased (direction_word d) g.letters) g.passes (ap (directed s o some t.letters g.letters) g.found ∙ direction_next s o some t.letters g.letters d) refl);
     }
-
-pub dim_column_fails : (names : Names) (ts : List Placed) (f : TermFault) → FailsColumn names ts f → FailsDim names ts f
-dim_column_fails names ts f h s o some = h (dim_due s o some) (λ letters. dim_named s o some letters) (wants_dim s o some)
 
 pub dim_direction_fails : (names : Names) (ts us : List Placed) (col : ℕ) (f : TermFault) → TakesColumn names ts col us → FailsDirection us f → FailsDim names ts f
 dim_direction_fails names ts us col f t h s o some =
     goes_fails names _ _ ts us f (column_goes names ts us col _ _ (wants_dim s o some) t) (h names s o some t.letters)
 
 -- ---- some dimensions
-
-pub dims_none : (names : Names) (ts : List Placed) → ReadsDims names ts None [] ts
-dims_none names ts = record { dims = []; product_is = refl; group_is = refl; product_known = tt; group_known = All-nil (IsKnown names); goes = λ s o p. (p, refl) }
 
 product_more : (orders : List Preference) (d : Direction) (col : ℕ) → product_of (orders ++ order_by d col) ≡ with_order (product_of orders) d col
 product_more [] minimal col = refl
@@ -222,9 +203,6 @@ groups_more : (names : Names) (dims : List DimText) (dim : DimText) (group : Lis
 groups_more names dims dim group d col e f g =
     flat_map-append (λ x. group_by x.direction (column_at names x.column)) dims (dim ∷ []) ∙ (ap (λ xs. groups_of names dims ++ xs) (append-nil (group_by dim.direction (column_at names dim.column)))
     ∙ (ap (λ x. x ++ group_by dim.direction (column_at names dim.column)) e ∙ (ap (λ x. group ++ group_by x (column_at names dim.column)) f ∙ ap (λ x. group ++ group_by d x) g)))
-
-pub dims_fail : (names : Names) (ts us : List Placed) (product : Option Preference) (group : List ℕ) (f : TermFault) → ReadsDims names ts product group us → FailsDim names us f → FailsClause names ts f
-dims_fail names ts us product group f r l s o = goes_fails names _ _ ts us f (r.goes s o) (l s o r.dims)
 
 -- one dimension more, and what is behind it
 module _ (names : Names) (ts us vs : List Placed) (product : Option Preference) (group : List ℕ) (col : ℕ) (d : Direction) (r : ReadsDims names ts product group us) (l : ReadsDim names us col d vs) where
@@ -263,14 +241,8 @@ module _ (names : Names) (ts us vs : List Placed) (product : Option Preference) 
 of_goes : (names : Names) (s : List ℕ) (ts us : List Placed) → (c : PassesOf ts us) → Goes names (skyline_named s) ts (dim_due s c.0 []) us
 of_goes names s ts us c = passes_goes names (word c.0) ts us (skyline_named s) (dim_due s c.0 []) (cased of_word c.0) c.2 (ap (of_named s c.0) c.1) refl
 
-pub clause_read : (names : Names) (ts us : List Placed) (q : Question) → PassesOf ts us → AsksClause names false us q → (s : List ℕ) → Asks names (skyline_named s) ts q
-clause_read names ts us q c h s = goes_asks names _ _ ts us q (of_goes names s ts us c) (h s c.0)
-
 pub clause_faults : (names : Names) (ts us : List Placed) (f : TermFault) → PassesOf ts us → AsksClauseNothing names false us f → (s : List ℕ) → AsksNothing names (skyline_named s) ts f
 clause_faults names ts us f c h s = goes_asks_nothing names _ _ ts us f (of_goes names s ts us c) (h s c.0)
-
-pub of_fails : (names : Names) (ts : List Placed) (f : TermFault) → FailsOf ts f → (s : List ℕ) → AsksNothing names (skyline_named s) ts f
-of_fails names ts f h s = fails_asks names _ ts f (h names s)
 
 -- ---- the first word
 
@@ -278,17 +250,11 @@ skyline_goes : (names : Names) (letters : List ℕ) (ts us : List Placed) → Pa
 skyline_goes names letters ts us c e f =
     passes_goes names (word letters) ts us start (skyline_named letters) (cased skyline_word letters) c (ap (λ k. begun letters k (cased_of letters)) e ∙ ap (begun letters None) f) refl
 
-pub skyline_read : (names : Names) (letters : List ℕ) (ts us : List Placed) (q : Question) → Passes (word letters) ts us → keyword_of letters ≡ None → cased_of letters ≡ Some skyline_word → ((s : List ℕ) → Asks names (skyline_named s) us q) → Asks names start ts q
-skyline_read names letters ts us q c e f h = goes_asks names start (skyline_named letters) ts us q (skyline_goes names letters ts us c e f) (h letters)
-
 pub skyline_fails : (names : Names) (letters : List ℕ) (ts us : List Placed) (g : TermFault) → Passes (word letters) ts us → keyword_of letters ≡ None → cased_of letters ≡ Some skyline_word → ((s : List ℕ) → AsksNothing names (skyline_named s) us g) → AsksNothing names start ts g
 skyline_fails names letters ts us g c e f h = goes_asks_nothing names start (skyline_named letters) ts us g (skyline_goes names letters ts us c e f) (h letters)
 
-best_goes : (names : Names) (letters : List ℕ) (ts us : List Placed) → Passes (word letters) ts us → keyword_of letters ≡ Some best_word → Goes names start ts (operand (in_whole best_head)) us
-best_goes names letters ts us c e = passes_goes names (word letters) ts us start (operand (in_whole best_head)) (name best_word) c (ap (λ k. begun letters k (cased_of letters)) e) refl
-
 pub best_fails : (names : Names) (letters : List ℕ) (ts us : List Placed) (f : TermFault) → Passes (word letters) ts us → keyword_of letters ≡ Some best_word → ((head : HeadText) → mode_of head ≡ Best → AsksNothing names (operand (in_whole head)) us f) → AsksNothing names start ts f
-best_fails names letters ts us f c e h = goes_asks_nothing names start _ ts us f (best_goes names letters ts us c e) (h best_head refl)
+best_fails names letters ts us f c e h = goes_asks_nothing names start _ ts us f (passes_goes names (word letters) ts us start _ (name best_word) c (ap (λ k. begun letters k (cased_of letters)) e) refl) (h best_head refl)
 
 -- ---- a word and a count
 
@@ -330,13 +296,10 @@ unfolding count_named
 count_word_goes names levels letters ts us c e = passes_goes names (word letters) ts us start top_level_named (name top_level_word) c (ap (λ k. begun letters k (cased_of letters)) e) refl
 count_word_goes names rows letters ts us c e = passes_goes names (word letters) ts us start at_least_named (name at_least_word) c (ap (λ k. begun letters k (cased_of letters)) e) refl
 
-count_good : (names : Names) (ds : List ℕ) → is_count (digits_value 10 ds) ≡ true → own_fault names (count_digits ds) ≡ None
-count_good names ds h = ap (λ b. cond b None (Some bad_count)) h
-
 count_goes : (names : Names) (k : CountKind) (letters : List ℕ) (ts us vs : List Placed) (n : ℕ) → Passes (word letters) ts us → keyword_of letters ≡ Some (count_word k) → (t : TakesCount us n vs) → Goes names start ts (operand (in_whole (count_head k t.digits_are))) vs
 count_goes names k letters ts us vs n c e t =
     goes_then names start (count_named k) _ ts us vs (count_word_goes names k letters ts us c e)
-    (passes_goes names (digits t.digits_are) us vs (count_named k) _ (count_digits t.digits_are) t.passes ((wants_count k).takes t.digits_are) (count_good names t.digits_are t.good))
+    (passes_goes names (digits t.digits_are) us vs (count_named k) _ (count_digits t.digits_are) t.passes ((wants_count k).takes t.digits_are) (ap (λ b. cond b None (Some bad_count)) t.good))
 
 mode_said : (k : CountKind) (ds : List ℕ) (n : ℕ) → digits_value 10 ds ≡ n → mode_of (count_head k ds) ≡ count_mode k n
 mode_said levels ds n e = ap TopLevel e

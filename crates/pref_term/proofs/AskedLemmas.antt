@@ -4,7 +4,7 @@ use Rattle.pref_term.proofs.Common.{inr, arith, MatchResult, IfOk, IfErr, nat_te
 use Rattle.pref_term.proofs.Common.{without_third, AskText, rated, skyline, Preference, Best, option_map, ◌&&◌, codes, false≢true, Names, Spells, Faults, LacksOrder, FirstFault, UnlessMemory}
 use Rattle.pref_term.proofs.Common.{question, product_of, orders_of, groups_of, Question, FitsWidth, start, run, ordered, meant, asked, TermFault, TooLong, NoMinOrMax, AsksWhole, AsksWholeNothing}
 use Rattle.pref_term.proofs.LedLemmas.{unless_map}
-use Rattle.pref_term.proofs.SpellsLaws.{Finishes, Due, Spelt, Answers, run_answers, reached_start, spelt_run, fault_run}
+use Rattle.pref_term.proofs.SpellsLaws.{Finishes, Due, Spelt, Answers, run_answers, spelt_run, fault_run}
 
 -- ---- the tokens of a text end with its end
 
@@ -42,7 +42,7 @@ finishes_plain ts h = go (says_distinct ts) refl
     go false e = h
 
 text_answers : (names : Names) (text : List ℕ) → Answers names (plain (tokens_of text)) (run names (plain (tokens_of text)) 0 start)
-text_answers names text = run_answers names (plain (tokens_of text)) [] start (reached_start names) (go (plain (tokens_of text)) (finishes_plain (tokens_of text) (tokens_finish 0 0 text)))
+text_answers names text = run_answers names (plain (tokens_of text)) [] start (record { leaves = []; reads = refl; played = refl; good = tt }) (go (plain (tokens_of text)) (finishes_plain (tokens_of text) (tokens_finish 0 0 text)))
   where
     go : (ts : List Placed) → Finishes ts → Due ts start
     go [] h = absurd h
@@ -133,20 +133,15 @@ one_fault names text f g s t = let a = fault_asked names text f s in let b = fau
 
 -- ---- what the reader promises
 
-pub ok_spells : (names : Names) (text : List ℕ) (q : Question) → asked names text ≡ Ok q → Spells names text q
-ok_spells names text q e = subst (IsAnswer names text) e (asked_answer names text)
+module _ (names : Names) (text : List ℕ) (ts : List Placed) (e : ts ≡ tokens_of text) (short : length text ≤ 4096) where
+  pub read_exact : (r : Result Question TermFault) → IfOk r (AsksWhole names ts) → IfErr r (AsksWholeNothing names ts) → MatchResult r (λ a. asked names text ≡ Ok a) (λ f. UnlessMemory f (asked names text ≡ Err f))
+  read_exact (Ok a) h k = asked_short names text short ∙ subst (λ (us : List Placed). AsksWhole names us a) e h
+  read_exact (Err f) h k = unless_map f (λ is. asked_short names text short ∙ is) (subst (λ (us : List Placed). AsksWholeNothing names us f) e k)
 
-pub err_faults : (names : Names) (text : List ℕ) (f : TermFault) → asked names text ≡ Err f → Faults names text f
-err_faults names text f e = subst (IsAnswer names text) e (asked_answer names text)
+  pub read_ok : (r : Result Question TermFault) → IfOk r (AsksWhole names ts) → IfErr r (AsksWholeNothing names ts) → IfOk r (FitsWidth (length names)) → IfOk r (λ a. Spells names text a × FitsWidth (length names) a)
+  read_ok (Ok a) h k known = (subst (IsAnswer names text) (read_exact (Ok a) h k) (asked_answer names text), known)
+  read_ok (Err f) h k known = tt
 
-pub read_exact : (names : Names) (text : List ℕ) (r : Result Question TermFault) → length text ≤ 4096 → IfOk r (AsksWhole names (tokens_of text)) → IfErr r (AsksWholeNothing names (tokens_of text)) → MatchResult r (λ a. asked names text ≡ Ok a) (λ f. UnlessMemory f (asked names text ≡ Err f))
-read_exact names text (Ok a) short h k = asked_short names text short ∙ h
-read_exact names text (Err f) short h k = unless_map f (λ e. asked_short names text short ∙ e) k
-
-pub read_ok : (names : Names) (text : List ℕ) (r : Result Question TermFault) → MatchResult r (λ a. asked names text ≡ Ok a) (λ f. UnlessMemory f (asked names text ≡ Err f)) → IfOk r (FitsWidth (length names)) → IfOk r (λ a. Spells names text a × FitsWidth (length names) a)
-read_ok names text (Ok a) e h = (ok_spells names text a e, h)
-read_ok names text (Err f) e h = tt
-
-pub read_err : (names : Names) (text : List ℕ) (r : Result Question TermFault) → MatchResult r (λ a. asked names text ≡ Ok a) (λ f. UnlessMemory f (asked names text ≡ Err f)) → IfErr r (λ f. UnlessMemory f (Faults names text f))
-read_err names text (Ok a) e = tt
-read_err names text (Err f) e = unless_map f (err_faults names text f) e
+  pub read_err : (r : Result Question TermFault) → IfOk r (AsksWhole names ts) → IfErr r (AsksWholeNothing names ts) → IfErr r (λ f. UnlessMemory f (Faults names text f))
+  read_err (Ok a) h k = tt
+  read_err (Err f) h k = unless_map f (λ (is : asked names text ≡ Err f). subst (IsAnswer names text) is (asked_answer names text)) (read_exact (Err f) h k)

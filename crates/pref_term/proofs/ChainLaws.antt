@@ -2,7 +2,7 @@
 use Rattle.pref_term.proofs.Common.{◌≡◌, ◌<◌, ℤ, Bool, true, false, not, if◌then◌else◌, List, [], ◌∷◌, ◌++◌, refl, sym, ap, ◌∙◌, ◌&&◌, false≢true, append-nil, All-append, All-nil, All-same}
 use Rattle.pref_term.proofs.Common.{in_same_group, AreChainsOf, AreInRow, IsProductOf, by_chain, by_chains, chain_keys, is_chain, is_paired, keys_behind, ReadsBelow, order_of}
 use Rattle.pref_term.proofs.Common.{order_of_twins_are_alike, by_key, key_for, is_better, is_same, and_parts, Preference, scored, pareto, prior, reverse, Question, IsAsk, alike, in_priority}
-use Rattle.pref_term.proofs.Common.{in_product, walked, Key, Relation, Better, Same}
+use Rattle.pref_term.proofs.Common.{in_product, walked, Key, Relation, Better, Same, cond_both}
 use Rattle.pref_term.specs.declared.chains.Chains.{Chains}
 use Rattle.pref_term.specs.declared.chains.Role.{Role}
 use Rattle.pref_term.specs.declared.chains.Role.TheVariants.{First, Second, Tie}
@@ -113,10 +113,6 @@ chains_law : (p : Preference) (chains : Chains) (a b : List ℤ) → AreChainsOf
 unfolding by_lists
 chains_law p chains a b h = (λ i. by_lists (h.first i) (h.second i) (h.tie i) a b) ∙ paired_law p false a b h.paired
 
-either_in_row : (chain : Bool) (keys others : List Key) → AreInRow keys → AreInRow others → AreInRow (if chain then keys else others)
-either_in_row true keys others h k = h
-either_in_row false keys others h k = k
-
 behind_in_row : (role : Role) (keys : List Key) → AreInRow keys → AreInRow (keys_behind role keys)
 behind_in_row First keys h = All-nil (λ key. key.col < 16)
 behind_in_row Second keys h = All-nil (λ key. key.col < 16)
@@ -132,7 +128,7 @@ keys_in_row (pareto p q) Second s h = keys_in_row q Second s h.1
 keys_in_row (pareto p q) Tie s h = All-nil (λ key. key.col < 16)
 keys_in_row (prior p q) role s h =
     All-append (λ key. key.col < 16) (chain_keys p role s) _ (keys_in_row p role s h.0)
-    (either_in_row (is_chain p) (chain_keys q role s) (keys_behind role (chain_keys q First s)) (keys_in_row q role s h.1) (behind_in_row role (chain_keys q First s) (keys_in_row q First s h.1)))
+    (cond_both (is_chain p) (chain_keys q role s) (keys_behind role (chain_keys q First s)) AreInRow (λ _. keys_in_row q role s h.1) (λ _. behind_in_row role (chain_keys q First s) (keys_in_row q First s h.1)))
 keys_in_row (reverse p) role s h = keys_in_row p role (not s) h
 
 -- ---- the law

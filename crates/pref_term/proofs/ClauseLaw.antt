@@ -1,11 +1,10 @@
 -- What is shown of a clause that keeps one of equal rows spells it; and so does what is shown of any ask.
 use Rattle.pref_term.proofs.Common.{[], ◌≡◌, ◌<◌, ◌≤◌, ℕ, List, ◌∷◌, ◌++◌, map, Bool, true, false, cond, Some, Ok, length, refl, sym, ap, ◌∙◌, append_assoc, codes, fold, AllByRecursion, option_map}
 use Rattle.pref_term.proofs.Common.{recursion_from_All, is_name_byte, schema_of, comma, Token, word, sign, Placed, tokens_of, minimal, maximal, different, direction_word, DimText, AskText, skyline}
-use Rattle.pref_term.proofs.Common.{Leaf, mark, column_name, cased, last, IsWritten, dim_leaves, more_dims, ask_leaves, says_distinct, plain, column, low, high, Preference, scored, pareto, prior}
-use Rattle.pref_term.proofs.Common.{reverse, Question, FitsWidth, IsAsk, IsClause, IsDimension, IsSkyline, asked, Names, Spells, IsGood, tokens_in, tokens_on, orders_of, groups_of, product_of}
-use Rattle.pref_term.proofs.Common.{question, name_at, nests, shown_mode, shown_term, shown_group, shown_dims, shown_diffs, shown, Best}
+use Rattle.pref_term.proofs.Common.{Leaf, mark, column_name, cased, last, IsWritten, dim_leaves, more_dims, ask_leaves, says_distinct, plain, column, low, high, Preference, scored, pareto, Question}
+use Rattle.pref_term.proofs.Common.{FitsWidth, IsAsk, IsClause, IsDimension, IsSkyline, Names, Spells, IsGood, tokens_in, tokens_on, orders_of, groups_of, product_of, question, name_at, nests}
+use Rattle.pref_term.proofs.Common.{shown_mode, shown_term, shown_group, shown_dims, shown_diffs, shown, Best}
 use Rattle.pref_term.proofs.ShownNames.{IsWordText, IsNamed, is_named}
-use Rattle.pref_term.proofs.AskedLemmas.{spelled_asked}
 use Rattle.pref_term.proofs.ShownLemmas.{CanShow, column_same}
 use Rattle.pref_term.proofs.ShownTokens.{lexed, Ends, place_free, word_lexed, sign_lexed}
 use Rattle.pref_term.proofs.ShowLaw.{all_named, can_show, column_fine, plain_spells}
@@ -52,8 +51,7 @@ clause_lexed names (pareto p q) ds rest c h e is =
     ∙ clause_lexed names p (dim_of names q ∷ ds) (codes ", " ++ behind) c.0 h.0 refl
     (sign_lexed comma behind
     ∙ ap (λ ts. sign comma ∷ ts) (dim_lexed names q rest c.1 h.1 e ∙ ap (λ ts. word (dim_of names q).column ∷ word (dim_of names q).written ∷ ts) is))
-clause_lexed names (prior p q) ds rest c h e is = absurd c
-clause_lexed names (reverse p) ds rest c h e is = absurd c
+clause_lexed names _ ds rest c h e is = absurd c
 
 diffs_end : (names : Names) (cs : List ℕ) → Ends is_name_byte (shown_diffs names cs)
 diffs_end names [] = tt
@@ -106,8 +104,7 @@ dims_all : (names : Names) (P : Leaf → Type 0) → ((p : Preference) → IsDim
     → AllByRecursion (OfDim P) (first_dim names p ∷ later_dims names p ds)
 dims_all names P each (scored t) ds c h k = (each (scored t) c h, k)
 dims_all names P each (pareto p q) ds c h k = dims_all names P each p (dim_of names q ∷ ds) c.0 h.0 (each q c.1 h.1, k)
-dims_all names P each (prior p q) ds c h k = absurd c
-dims_all names P each (reverse p) ds c h k = absurd c
+dims_all names P each _ ds c h k = absurd c
 
 dim_written : (names : Names) (p : Preference) → IsDimension p → CanShow names p → OfDim IsWritten (dim_of names p)
 dim_written names (scored (low col)) d h = (tt, refl)
@@ -139,8 +136,7 @@ clause_product : (names : Names) (p : Preference) (ds : List DimText) → IsClau
 clause_product names (scored t) ds c h = ap product_of (dim_order names (scored t) ds c h)
 clause_product names (pareto p q) ds c h =
     clause_product names p (dim_of names q ∷ ds) c.0 h.0 ∙ ap (λ os. Some (fold pareto p os)) (dim_order names q ds c.1 h.1)
-clause_product names (prior p q) ds c h = absurd c
-clause_product names (reverse p) ds c h = absurd c
+clause_product names _ ds c h = absurd c
 
 dim_groups : (names : Names) (p : Preference) (ds : List DimText) → IsDimension p → groups_of names (dim_of names p ∷ ds) ≡ groups_of names ds
 dim_groups names (scored (low col)) ds d = refl
@@ -150,8 +146,7 @@ dim_groups names p ds d = absurd d
 clause_groups : (names : Names) (p : Preference) (ds : List DimText) → IsClause p → groups_of names (first_dim names p ∷ later_dims names p ds) ≡ groups_of names ds
 clause_groups names (scored t) ds c = dim_groups names (scored t) ds c
 clause_groups names (pareto p q) ds c = clause_groups names p (dim_of names q ∷ ds) c.0 ∙ dim_groups names q ds c.1
-clause_groups names (prior p q) ds c = absurd c
-clause_groups names (reverse p) ds c = absurd c
+clause_groups names _ ds c = absurd c
 
 diffs_orders : (names : Names) (cs : List ℕ) → orders_of names (map (diff_dim names) cs) ≡ []
 diffs_orders names [] = refl
@@ -174,13 +169,10 @@ module _ (names : Names) (q : Question) (keeps : q.distinct ≡ true) (clause : 
   abbrev tree : AskText
   tree = skyline (codes "skyline") (codes "of") (first_dim names q.preference) later
 
-  text_is : shown names q ≡ codes "skyline of distinct " ++ (shown_dims names q.preference ++ shown_diffs names q.group)
-  text_is = ap (λ b. cond b (codes "skyline of distinct " ++ (shown_dims names q.preference ++ shown_diffs names q.group)) (shown_mode q.mode ++ shown_term names q.preference ++ shown_group names q.group)) keeps
-
   said : (says_distinct (tokens_of (shown names q)) ≡ true) × (tokens_in (plain (tokens_of (shown names q))) ≡ tokens_on (ask_leaves tree))
   said =
       said_tokens (tokens_of (shown names q)) (first_dim names q.preference).column (first_dim names q.preference).written (tokens_on (more_dims later ++ last ∷ []))
-      (ap lexed text_is
+      (ap (λ b. lexed (cond b (codes "skyline of distinct " ++ (shown_dims names q.preference ++ shown_diffs names q.group)) (shown_mode q.mode ++ shown_term names q.preference ++ shown_group names q.group))) keeps
       ∙ (words_lexed (shown_dims names q.preference ++ shown_diffs names q.group)
       ∙ ap (λ ts. word (codes "skyline") ∷ word (codes "of") ∷ word (codes "distinct") ∷ ts)
       (clause_lexed names q.preference diffs (shown_diffs names q.group) clause.preference can (diffs_end names q.group) (diffs_lexed names q.group columns))))
@@ -218,7 +210,3 @@ shown_spells names q schema ask width deep short = go q.distinct refl
         clause_spells names q keeps (ask.clause keeps) (can_show names each q.preference ask.writable width.preference)
         (all_named names each q.group (recursion_from_All (λ col. col < length names) q.group width.group)) short
     go false all = plain_spells names q schema ask all width deep short
-
--- so it is the ask that the text asks
-pub shown_asked : (names : Names) (q : Question) → schema_of names ≡ Ok names → IsAsk q → FitsWidth (length names) q → nests q.preference ≤ 64 → length (shown names q) ≤ 4096 → asked names (shown names q) ≡ Ok q
-shown_asked names q schema ask width deep short = spelled_asked names (shown names q) q (shown_spells names q schema ask width deep short)

@@ -3,7 +3,7 @@ pub use Rattle.std.proofs.Common.{◌%◌, ◌*◌, ◌+◌, ◌++◌, ◌-◌, 
 pub use Rattle.std.proofs.Common.{false, get_or, if◌then◌else◌, inl, inr, length, map, nat_le, nat_lt, negsuc, not, of_z, pos, refl, rules, subst, suc, sym, take, tests, to_z, true, w64, zero, ℕ, ℤ}
 pub use Rattle.std.proofs.Common.{◌∙◌, ◌∷◌, ◌≡◌, ◌≤◌, ◌⊎◌}
 pub use Rattle.std.proofs.Math.Seq.{drop-append_seam, drop-cons, take-append_seam, take-length}
-pub use Rattle.std.proofs.lemmas.Bool.{and_from, and_parts, and_right, false≢true, ltb-false, not-true, or_parts}
+pub use Rattle.std.proofs.lemmas.Bool.{and_from, and_parts, and_right, cond_both, false≢true, ltb-false, not-true, or_parts}
 pub use Rattle.std.proofs.lemmas.Bool.Decides.{Decides-int_eq, nat_tests, not_from_Decides}
 pub use Rattle.std.proofs.lemmas.Fmt.{decimal_digit, decimal_nonempty, digits_decimal, digits_value-decimal}
 pub use Rattle.std.proofs.lemmas.Int.{ints, to_z-of_z}
@@ -40,11 +40,11 @@ pub use Rattle.pref_term.specs.Order.{is_better, is_same, is_worse}
 pub use Rattle.pref_term.specs.Preference.{Base, Preference, around, between, high, layered, low, one_of, pareto, preference_of, prior, reverse, scored}
 pub use Rattle.pref_term.specs.Question.{FitsWidth, IsAsk, IsClause, IsCount, IsDimension, IsSkyline, Question, alike, cut_of, is_count}
 pub use Rattle.pref_term.specs.ReaderResults.{Asks, AsksClause, AsksClauseNothing, AsksNothing, AsksWhole, AsksWholeNothing, Fails, FailsBase, FailsClause, FailsColumn, FailsColumns, FailsCount}
-pub use Rattle.pref_term.specs.ReaderResults.{FailsDim, FailsDirection, FailsEnd, FailsGroup, FailsGrouping, FailsNumber, FailsNumbers, FailsOf, FailsOpened, FailsPrior, FailsProduct, FailsSets}
-pub use Rattle.pref_term.specs.ReaderResults.{FailsUnary, Goes, IsBehindDistinct, IsColumn, IsKnown, IsNoDigits, IsNoWord, IsOther, IsTermOf, NotNext, Passes, PassesOf, ReadsBase, ReadsClause}
-pub use Rattle.pref_term.specs.ReaderResults.{ReadsColumns, ReadsDim, ReadsDims, ReadsEnd, ReadsFactors, ReadsGroup, ReadsGrouping, ReadsNumber, ReadsNumbers, ReadsOpened, ReadsPrior, ReadsProduct}
-pub use Rattle.pref_term.specs.ReaderResults.{ReadsProducts, ReadsReverse, ReadsSets, ReadsSome, ReadsSomeColumns, ReadsSomeSets, ReadsUnary, TakesColumn, TakesCount, TakesDirection, WantsColumn}
-pub use Rattle.pref_term.specs.ReaderResults.{WantsCount, first_place, list_hole, with_order, word_ahead}
+pub use Rattle.pref_term.specs.ReaderResults.{FailsDim, FailsDirection, FailsEnd, FailsGroup, FailsGrouping, FailsNumber, FailsNumbers, FailsOpened, FailsPrior, FailsProduct, FailsSets, FailsUnary}
+pub use Rattle.pref_term.specs.ReaderResults.{Goes, IsBehindDistinct, IsColumn, IsKnown, IsNoDigits, IsNoWord, IsOther, IsTermOf, NotNext, Passes, PassesOf, ReadsBase, ReadsClause, ReadsColumns}
+pub use Rattle.pref_term.specs.ReaderResults.{ReadsDim, ReadsDims, ReadsEnd, ReadsFactors, ReadsGroup, ReadsGrouping, ReadsNumber, ReadsNumbers, ReadsOpened, ReadsPrior, ReadsProduct, ReadsProducts}
+pub use Rattle.pref_term.specs.ReaderResults.{ReadsReverse, ReadsSets, ReadsSome, ReadsSomeColumns, ReadsSomeSets, ReadsUnary, TakesColumn, TakesCount, TakesDirection, WantsColumn, WantsCount}
+pub use Rattle.pref_term.specs.ReaderResults.{first_place, list_hole, with_order, word_ahead}
 pub use Rattle.pref_term.specs.Reading.{BaseKind, BasePart, BaseStep, NumberHole, NumberList, PriorHole, ProductHole, State, UnaryHole, after, around_kind, at_least_named, base_next, before_dim}
 pub use Rattle.pref_term.specs.Reading.{before_prior, before_product, before_unary, begun, between_kind, carried, centre_of, centred, closed, closing, columned, completed, dim_due, dim_named}
 pub use Rattle.pref_term.specs.Reading.{dims_listed, directed, done, end_of, ended, filled, finished, first_factor, first_of, first_product, group_due, group_listed, grouped_by, high_kind}

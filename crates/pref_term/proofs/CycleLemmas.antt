@@ -1,11 +1,11 @@
 -- What the parts of the reader that call each other promise.
 use Rattle.pref_term.proofs.Common.{◌≡◌, ◌<◌, ◌+◌, ℕ, List, [], ◌∷◌, Bor, Result, true, cond, Some, None, nat_lt, refl, sym, ap, subst, ◌∙◌, arith, ◌≢◌, IfOk, IfErr, IfOk-weaker, nat_tests, Sign}
-use Rattle.pref_term.proofs.Common.{left, right, star, ampersand, minus, Token, word, sign, Placed, reverse_word, keyword_of, based, grouped, reversed, negated, one_factor, then_factor, PriorText}
-use Rattle.pref_term.proofs.Common.{one_product, then_product, name, mark, opens, Names, own_fault, too_deep, unary_meaning, product_meaning, BaseKind, low_kind, kind_word, named, UnaryHole, in_minus}
+use Rattle.pref_term.proofs.Common.{left, right, star, ampersand, minus, Token, word, sign, Placed, reverse_word, keyword_of, based, grouped, reversed, negated, then_factor, PriorText, one_product}
+use Rattle.pref_term.proofs.Common.{then_product, name, mark, opens, Names, own_fault, too_deep, unary_meaning, product_meaning, BaseKind, low_kind, kind_word, named, UnaryHole, in_minus}
 use Rattle.pref_term.proofs.Common.{first_factor, next_factor, first_product, next_product, in_group, in_reverse, unary_depth, State, operand, reverse_named, reading, after, ranked, next}
 use Rattle.pref_term.proofs.Common.{operand_word, Goes, Fails, IsOther, Passes, ReadsBase, ReadsUnary, ReadsFactors, ReadsProducts, ReadsProduct, ReadsPrior, ReadsGroup, ReadsReverse, FailsBase}
 use Rattle.pref_term.proofs.Common.{FailsUnary, FailsGroup, FailsProduct, FailsPrior, ahead, taken, Preference, pareto, prior, reverse, preference_of, Cursor, Lexeme, Word, Term, TermFault}
-use Rattle.pref_term.proofs.GrammarComplete.{ranked_goes_on, ranked_group, ranked_reverse}
+use Rattle.pref_term.proofs.GrammarComplete.{ranked_goes_on, ranked_right}
 use Rattle.pref_term.proofs.LedLemmas.{goes_then, goes_fails, passes_goes, stuck_fails, taken_is, if_err_map}
 
 -- ---- nestings
@@ -67,8 +67,8 @@ group_read names inside ts us vs p r c =
       tree = q.tree;
       meaning = q.meaning;
       known = q.known;
-      goes = λ h e. goes_then names _ _ _ ts us vs (q.goes (in_group h) e) (passes_goes names (sign right) us vs _ _ (mark right) c (ranked_group h q.tree) refl);
-      goes_reversed = λ h e. goes_then names _ _ _ ts us vs (q.goes (in_reverse h) e) (passes_goes names (sign right) us vs _ _ (mark right) c (ranked_reverse h q.tree) refl);
+      goes = λ h e. goes_then names _ _ _ ts us vs (q.goes (in_group h) e) (passes_goes names (sign right) us vs _ _ (mark right) c (ranked_right (in_group h) q.tree) refl);
+      goes_reversed = λ h e. goes_then names _ _ _ ts us vs (q.goes (in_reverse h) e) (passes_goes names (sign right) us vs _ _ (mark right) c (ranked_right (in_reverse h) q.tree) refl);
     }
 
 pub group_end_fails : (names : Names) (inside : ℕ) (ts us : List Placed) (p : Preference) (f : TermFault) → ReadsPrior names inside ts p us → IsOther (sign right) us f → FailsGroup names inside ts f
@@ -88,27 +88,20 @@ by_kind : (h : UnaryHole) (k : BaseKind) → operand_word h (Some (kind_word k))
 by_kind h low_kind = refl
 by_kind h _ = refl
 
-word_goes : (names : Names) (letters : List ℕ) (k : BaseKind) (ts us : List Placed) (h : UnaryHole) → Passes (word letters) ts us → keyword_of letters ≡ Some (kind_word k) → Goes names (operand h) ts (reading h (named k)) us
-word_goes names letters k ts us h c e = passes_goes names (word letters) ts us (operand h) (reading h (named k)) (name (kind_word k)) c (ap (operand_word h) e ∙ by_kind h k) refl
-
-base_read : (names : Names) (depth : ℕ) (letters : List ℕ) (k : BaseKind) (ts us vs : List Placed) (p : Preference) → Passes (word letters) ts us → keyword_of letters ≡ Some (kind_word k) → ReadsBase names k us p vs → ReadsUnary names depth ts p vs
-base_read names depth letters k ts us vs p c e r =
-    record { tree = based r.tree; meaning = r.meaning; known = r.known; goes = λ h _. goes_then names _ _ _ ts us vs (word_goes names letters k ts us h c e) (r.goes h) }
-
-base_fails : (names : Names) (depth : ℕ) (letters : List ℕ) (k : BaseKind) (ts us : List Placed) (f : TermFault) → Passes (word letters) ts us → keyword_of letters ≡ Some (kind_word k) → FailsBase names k us f → FailsUnary names depth ts f
-base_fails names depth letters k ts us f c e r h _ = goes_fails names _ _ ts us f (word_goes names letters k ts us h c e) (r h)
-
 -- a base term behind the word that was taken
 module _ (names : Names) (depth : ℕ) (k : BaseKind) (ts : List Placed) (t : Lexeme) (letters : Bor (List ℕ)) (e : ts ≡ taken t) (f : t.token ≡ Word letters) (word_is : keyword_of letters.now ≡ Some (kind_word k))
     (r : Result (Term × Cursor) TermFault) where
+  word_goes : (h : UnaryHole) → Goes names (operand h) ts (reading h (named k)) (ahead t.next)
+  word_goes h =
+      passes_goes names (word letters.now) ts (ahead t.next) (operand h) (reading h (named k)) (name (kind_word k)) (t.at, taken_is ts t _ e f) (ap (operand_word h) word_is ∙ by_kind h k) refl
+
   pub taken_base_read : IfOk r (λ x. ReadsBase names k (ahead t.next) (preference_of x.0) (ahead x.1)) → IfOk r (λ x. ReadsUnary names depth ts (preference_of x.0) (ahead x.1))
   taken_base_read read =
-      IfOk-weaker r _ _ (λ x h. base_read names depth letters.now k ts (ahead t.next) (ahead x.1) (preference_of x.0) (t.at, taken_is ts t _ e f) word_is h) read
+      IfOk-weaker r (λ x. ReadsBase names k (ahead t.next) (preference_of x.0) (ahead x.1)) _
+      (λ x b. record { tree = based b.tree; meaning = b.meaning; known = b.known; goes = λ h _. goes_then names _ _ _ ts (ahead t.next) (ahead x.1) (word_goes h) (b.goes h) }) read
 
   pub taken_base_fails : IfErr r (FailsBase names k (ahead t.next)) → IfErr r (FailsUnary names depth ts)
-  taken_base_fails fails =
-      if_err_map r
-      (λ fault h. base_fails names depth letters.now k ts (ahead t.next) fault (t.at, taken_is ts t _ e f) word_is h) fails
+  taken_base_fails fails = if_err_map r (λ fault b h _. goes_fails names _ _ ts (ahead t.next) fault (word_goes h) (b h)) fails
 
 pub word_reverse_read : (names : Names) (depth : ℕ) (letters : List ℕ) (ts us vs : List Placed) (p : Preference) → Passes (word letters) ts us → keyword_of letters ≡ Some reverse_word → ReadsReverse names depth us p vs → ReadsUnary names depth ts p vs
 word_reverse_read names depth letters ts us vs p c e r =
@@ -120,9 +113,6 @@ word_reverse_read names depth letters ts us vs p c e r =
     }
 
 -- ---- products and priors
-
-pub one_factor_read : (names : Names) (depth : ℕ) (ts us : List Placed) (p : Preference) → ReadsUnary names depth ts p us → ReadsFactors names depth ts p us
-one_factor_read names depth ts us p r = record { tree = one_factor r.tree; meaning = r.meaning; known = r.known; goes = λ h e. r.goes (first_factor h) e }
 
 pub more_factors : (names : Names) (depth : ℕ) (ts us vs ws : List Placed) (p q : Preference) → ReadsFactors names depth ts p us → Passes (sign star) us vs → ReadsUnary names depth vs q ws → ReadsFactors names depth ts (pareto p q) ws
 more_factors names depth ts us vs ws p q r c u =
@@ -136,9 +126,6 @@ more_factors names depth ts us vs ws p q r c u =
 pub more_factors_fail : (names : Names) (depth : ℕ) (ts us vs : List Placed) (p : Preference) (f : TermFault) → ReadsFactors names depth ts p us → Passes (sign star) us vs → FailsUnary names depth vs f → FailsProduct names depth ts f
 more_factors_fail names depth ts us vs p f r c u h e =
     goes_fails names _ _ ts vs f (goes_then names _ _ _ ts us vs (r.goes h e) (passes_goes names (sign star) us vs (after h r.tree) (operand (next_factor h r.tree)) (mark star) c refl refl)) (u (next_factor h r.tree) e)
-
-pub one_product_read : (names : Names) (depth : ℕ) (ts us : List Placed) (p : Preference) → ReadsProduct names depth ts p us → ReadsProducts names depth ts p us
-one_product_read names depth ts us p r = let q = r.factors in record { tree = one_product q.tree; meaning = q.meaning; known = q.known; goes = λ h e. q.goes (first_product h) e }
 
 pub more_products : (names : Names) (depth : ℕ) (ts us vs ws : List Placed) (p q : Preference) → ReadsProducts names depth ts p us → Passes (sign ampersand) us vs → ReadsProduct names depth vs q ws → ReadsProducts names depth ts (prior p q) ws
 more_products names depth ts us vs ws p q r c u =

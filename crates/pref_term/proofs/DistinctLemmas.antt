@@ -4,8 +4,8 @@ use Rattle.pref_term.proofs.Common.{bytes_eq, str_to_ascii_lowercase, bytes_eq-D
 use Rattle.pref_term.proofs.Common.{cased_letters, cased_of, cased, IsWritten, Direction, minimal, maximal, different, DimText, HeadText, PriorText, AskText, rated, skyline, best_head, top_level_head}
 use Rattle.pref_term.proofs.Common.{at_least_head, ask_leaves, IsText, is_in_any_case, is_distinct_ahead, says_distinct, without_third, plain, is_word, Names, column_at, order_by, orders_of}
 use Rattle.pref_term.proofs.Common.{groups_of, product_of, tokens_in, tokens_on, IsGood, Spells, question, meant, ordered, start, skyline_named, dim_due, begun, of_named, run, word_ahead}
-use Rattle.pref_term.proofs.Common.{AsksWholeNothing, AsksClause, AsksClauseNothing, IsBehindDistinct, ReadsClause, FailsClause, Preference, scored, pareto, Question, IsClause, IsDimension, Best}
-use Rattle.pref_term.proofs.Common.{TermFault, NoMinOrMax, and_from, and_right}
+use Rattle.pref_term.proofs.Common.{AsksWholeNothing, AsksClause, AsksClauseNothing, IsBehindDistinct, ReadsClause, Preference, scored, pareto, Question, IsClause, IsDimension, Best, TermFault}
+use Rattle.pref_term.proofs.Common.{NoMinOrMax, and_from, and_right}
 use Rattle.pref_term.proofs.GrammarComplete.{cased_found, no_keyword}
 use Rattle.pref_term.proofs.LedLemmas.{run_step, unless_map}
 use Rattle.pref_term.specs.declared.front.Token as code
@@ -65,9 +65,6 @@ pub clause_asks_nothing : (names : Names) (distinct : Bool) (ts : List Placed) (
 clause_asks_nothing names distinct ts group r s o k =
     ap (meant names distinct) (r.goes s o k)
     ∙ ap (λ x. ordered (option_map (λ p. record { preference = p; group = groups_of names (r.first ∷ r.others); mode = Best; distinct = distinct }) x)) r.product_is
-
-pub clause_fails : (names : Names) (distinct : Bool) (ts : List Placed) (f : TermFault) → FailsClause names ts f → AsksClauseNothing names distinct ts f
-clause_fails names distinct ts f h s o = unless_map f (λ k p. ap (meant names distinct) (k p)) (h s o)
 
 -- the product of MIN and MAX columns is that of a clause
 clause_on : (p : Preference) (ps : List Preference) → IsClause p → AllByRecursion IsDimension ps → IsClause (fold pareto p ps)

@@ -10,7 +10,7 @@ use Rattle.pref_term.proofs.Common.{low_kind, high_kind, around_kind, pos_kind, 
 use Rattle.pref_term.proofs.Common.{filled, PriorHole, whole, in_group, in_reverse, ProductHole, first_product, next_product, UnaryHole, first_factor, next_factor, in_minus, prior_depth}
 use Rattle.pref_term.proofs.Common.{product_depth, unary_depth, State, start, operand, reverse_named, reading, after, top_level_named, at_least_named, group_due, group_listed, skyline_named, dim_due}
 use Rattle.pref_term.proofs.Common.{dim_named, dims_listed, done, completed, outer, closed, ranked, in_whole, begun, of_named, listed_dim, directed, next, between_kind, start_of, end_of, least_of}
-use Rattle.pref_term.proofs.Common.{ranged, range_ended, layered_kind, NumberList, in_pos, in_set, closing, list_closed, stepped, set_due, sets_listed, with_set}
+use Rattle.pref_term.proofs.Common.{ranged, range_ended, layered_kind, NumberList, in_pos, in_set, closing, list_closed, stepped, set_due, sets_listed, with_set, parted}
 use Rattle.pref_term.proofs.GrammarSound.{keyword_letters}
 
 -- reading these leaves leads from one state to the other
@@ -82,13 +82,9 @@ pub ranked_goes_on : (h : PriorHole) (r : PriorText) → next (ranked h r) (sign
 ranked_goes_on h (one_product p) = refl
 ranked_goes_on h (then_product r p) = refl
 
-pub ranked_group : (h : UnaryHole) (r : PriorText) → next (ranked (in_group h) r) (sign right) ≡ Some (mark right, completed h (grouped r))
-ranked_group h (one_product p) = refl
-ranked_group h (then_product r p) = refl
-
-pub ranked_reverse : (h : UnaryHole) (r : PriorText) → next (ranked (in_reverse h) r) (sign right) ≡ Some (mark right, completed h (reversed r))
-ranked_reverse h (one_product p) = refl
-ranked_reverse h (then_product r p) = refl
+pub ranked_right : (h : PriorHole) (r : PriorText) → next (ranked h r) (sign right) ≡ parted h r
+ranked_right h (one_product p) = refl
+ranked_right h (then_product r p) = refl
 
 pub ranked_whole : (head : HeadText) (r : PriorText) → next (ranked (whole head) r) finish ≡ Some (last, done (rated head r []))
 ranked_whole head (one_product p) = refl
@@ -117,10 +113,10 @@ mutual
   reads_unary (negated u) h = (_, refl, reads_unary u (in_minus h))
   reads_unary (grouped r) h =
       let term = reads_prior r (in_group h) in
-      (_, refl, reads_on (operand (first_factor (first_product (in_group h)))) (prior_leaves r (unary_depth h + 1)) (mark right ∷ []) (ranked (in_group h) r) (completed h (grouped r)) term (_, ranked_group h r, refl))
+      (_, refl, reads_on (operand (first_factor (first_product (in_group h)))) (prior_leaves r (unary_depth h + 1)) (mark right ∷ []) (ranked (in_group h) r) (completed h (grouped r)) term (_, ranked_right (in_group h) r, refl))
   reads_unary (reversed r) h =
       let term = reads_prior r (in_reverse h) in
-      (_, refl, (_, refl, reads_on (operand (first_factor (first_product (in_reverse h)))) (prior_leaves r (unary_depth h + 1)) (mark right ∷ []) (ranked (in_reverse h) r) (completed h (reversed r)) term (_, ranked_reverse h r, refl)))
+      (_, refl, (_, refl, reads_on (operand (first_factor (first_product (in_reverse h)))) (prior_leaves r (unary_depth h + 1)) (mark right ∷ []) (ranked (in_reverse h) r) (completed h (reversed r)) term (_, ranked_right (in_reverse h) r, refl)))
   reads_unary (based b) h = reads_base b h
 
 reads_head : (head : HeadText) → Reads start (head_leaves head) (operand (in_whole head))
@@ -218,8 +214,8 @@ after_ranked (next_product h r) p = refl
 mutual
   ends_prior : (h : PriorHole) (r : PriorText) → CanEnd (ranked h r)
   ends_prior (whole head) r = record { leaves = last ∷ []; tree = rated head r []; reads = (done (rated head r []), ranked_whole head r, refl) }
-  ends_prior (in_group h) r = first_reads (ranked (in_group h) r) (mark right) (completed h (grouped r)) (ranked_group h r) (ends_unary h (grouped r))
-  ends_prior (in_reverse h) r = first_reads (ranked (in_reverse h) r) (mark right) (completed h (reversed r)) (ranked_reverse h r) (ends_unary h (reversed r))
+  ends_prior (in_group h) r = first_reads (ranked (in_group h) r) (mark right) (completed h (grouped r)) (ranked_right (in_group h) r) (ends_unary h (grouped r))
+  ends_prior (in_reverse h) r = first_reads (ranked (in_reverse h) r) (mark right) (completed h (reversed r)) (ranked_right (in_reverse h) r) (ends_unary h (reversed r))
 
   ends_product : (h : ProductHole) (p : ProductText) → CanEnd (after h p)
   ends_product (first_product h) p = subst CanEnd (sym (after_ranked (first_product h) p)) (ends_prior h (one_product p))
@@ -247,13 +243,11 @@ ends_listed h l first others = first_reads _ (mark (closing l)) (stepped h (list
 ends_range : (h : UnaryHole) (column : List ℕ) (l r : NumberText) → CanEnd (reading h (range_ended column l r))
 ends_range h column l r = first_reads _ (mark right) (completed h (based (between_text column l r))) refl (ends_unary h (based (between_text column l r)))
 
-ends_range_due : (h : UnaryHole) (column : List ℕ) (l : NumberText) → CanEnd (reading h (number_due (end_of column l)))
-ends_range_due h column l = first_reads _ (number_digits (Some l) false zero_digits) (reading h (range_ended column l (record { negative = false; digits = zero_digits }))) refl (ends_range h column l (record { negative = false; digits = zero_digits }))
-
 ends_filled : (h : UnaryHole) (hole : NumberHole) (n : NumberText) → CanEnd (reading h (filled hole n))
 ends_filled h (centre_of column) n = first_reads _ (mark right) (completed h (based (around_text column n))) refl (ends_unary h (based (around_text column n)))
 ends_filled h (first_of l) n = ends_listed h l n []
-ends_filled h (start_of column) n = first_reads _ (mark comma) (reading h (number_due (end_of column n))) refl (ends_range_due h column n)
+ends_filled h (start_of column) n = first_reads _ (mark comma) (reading h (number_due (end_of column n))) refl
+    (first_reads _ (number_digits (Some n) false zero_digits) (reading h (range_ended column n (record { negative = false; digits = zero_digits }))) refl (ends_range h column n (record { negative = false; digits = zero_digits })))
 ends_filled h (end_of column l) n = ends_range h column l n
 ends_filled h (next_of l first others) n = ends_listed h l first (others ++ n ∷ [])
 

@@ -1,16 +1,16 @@
 -- What was read up to a state grows by the leaf of each token.
 use Rattle.pref_term.proofs.Common.{◌≡◌, ℕ, List, [], ◌∷◌, ◌++◌, Bool, true, false, Option, Some, None, cond, refl, sym, ap, subst, ◌∙◌, append_assoc, append-nil, IfSome, find, bytes_eq}
 use Rattle.pref_term.proofs.Common.{str_to_ascii_lowercase, bytes_eq-Decides, left, right, comma, star, ampersand, minus, left_brace, right_brace, Token, word, digits, sign, finish, Keyword}
-use Rattle.pref_term.proofs.Common.{best_word, low_word, high_word, around_word, pos_word, reverse_word, top_level_word, at_least_word, by_word, CasedWord, skyline_word, of_word, min_word, max_word}
-use Rattle.pref_term.proofs.Common.{diff_word, letters_of, outer_words, base_words, keyword_of, cased_letters, cased_of, HeadText, minimal, maximal, different, DimText, dim_leaves, more_dims}
-use Rattle.pref_term.proofs.Common.{more_columns, IsWritten, NumberText, PriorText, ProductText, UnaryText, negated, grouped, reversed, based, Leaf, name, mark, column_name, cased, number_leaves}
-use Rattle.pref_term.proofs.Common.{others_leaves, base_leaves, prior_leaves, product_leaves, unary_leaves, token_of, between_word, signed_leaves, layered_word, SetText, set_leaves, more_sets}
-use Rattle.pref_term.proofs.Common.{low_kind, high_kind, around_kind, pos_kind, NumberHole, centre_of, first_of, next_of, BasePart, named, opened, columned, number_due, number_signed, centred, listed}
-use Rattle.pref_term.proofs.Common.{hole_leaves, part_leaves, BaseStep, part, whole_base, filled, base_next, PriorHole, whole, in_group, in_reverse, ProductHole, first_product, next_product}
-use Rattle.pref_term.proofs.Common.{UnaryHole, first_factor, next_factor, in_minus, prior_depth, product_depth, unary_depth, before_prior, before_product, before_unary, State, start, operand}
-use Rattle.pref_term.proofs.Common.{reverse_named, reading, after, top_level_named, at_least_named, group_due, group_listed, skyline_named, dim_due, dim_named, dims_listed, before_dim, read_of}
-use Rattle.pref_term.proofs.Common.{completed, outer, closed, begun, of_named, listed_column, listed_dim, directed, grouped_by, operand_word, carried, parted, finished, next, between_kind, start_of}
-use Rattle.pref_term.proofs.Common.{end_of, least_of, ranged, range_ended, layered_kind, in_pos, in_set, set_due, sets_listed, with_set}
+use Rattle.pref_term.proofs.Common.{best_word, top_level_word, at_least_word, by_word, CasedWord, skyline_word, of_word, min_word, max_word, diff_word, letters_of, outer_words, base_words, keyword_of}
+use Rattle.pref_term.proofs.Common.{cased_letters, cased_of, HeadText, minimal, maximal, different, DimText, dim_leaves, more_dims, more_columns, IsWritten, NumberText, PriorText, ProductText}
+use Rattle.pref_term.proofs.Common.{UnaryText, negated, grouped, reversed, based, Leaf, name, mark, column_name, cased, number_leaves, others_leaves, base_leaves, prior_leaves, product_leaves}
+use Rattle.pref_term.proofs.Common.{unary_leaves, token_of, signed_leaves, layered_word, SetText, set_leaves, more_sets, low_kind, high_kind, around_kind, pos_kind, NumberHole, centre_of, first_of}
+use Rattle.pref_term.proofs.Common.{next_of, BasePart, named, opened, columned, number_due, number_signed, centred, listed, hole_leaves, part_leaves, BaseStep, part, whole_base, filled, base_next}
+use Rattle.pref_term.proofs.Common.{PriorHole, whole, in_group, in_reverse, ProductHole, first_product, next_product, UnaryHole, first_factor, next_factor, in_minus, prior_depth, product_depth}
+use Rattle.pref_term.proofs.Common.{unary_depth, before_prior, before_product, before_unary, State, start, operand, reverse_named, reading, after, top_level_named, at_least_named, group_due}
+use Rattle.pref_term.proofs.Common.{group_listed, skyline_named, dim_due, dim_named, dims_listed, before_dim, read_of, completed, outer, closed, begun, of_named, listed_column, listed_dim, directed}
+use Rattle.pref_term.proofs.Common.{grouped_by, operand_word, carried, parted, finished, next, between_kind, start_of, end_of, least_of, ranged, range_ended, layered_kind, in_pos, in_set, set_due}
+use Rattle.pref_term.proofs.Common.{sets_listed, with_set}
 
 -- one more number at the end of a list of them
 pub others_more : (ns : List NumberText) (n : NumberText) → others_leaves (ns ++ n ∷ []) ≡ others_leaves ns ++ mark comma ∷ number_leaves n
@@ -146,14 +146,12 @@ grouped_by_grows (whole head) r (Some by_word) letters e = (ap word e, simp appe
 grouped_by_grows _ r _ letters e = tt
 
 operand_word_grows : (h : UnaryHole) (o : Option Keyword) (letters : List ℕ) → IfSome o (λ k. letters_of k ≡ letters) → IfSome (operand_word h o) (λ r. Grows (before_unary h) (word letters) r.0 (read_of r.1))
-operand_word_grows h (Some low_word) letters e = (ap word e, refl, tt)
-operand_word_grows h (Some high_word) letters e = (ap word e, refl, tt)
-operand_word_grows h (Some around_word) letters e = (ap word e, refl, tt)
-operand_word_grows h (Some between_word) letters e = (ap word e, refl, tt)
-operand_word_grows h (Some pos_word) letters e = (ap word e, refl, tt)
-operand_word_grows h (Some layered_word) letters e = (ap word e, refl, tt)
-operand_word_grows h (Some reverse_word) letters e = (ap word e, refl, tt)
-operand_word_grows h _ letters e = tt
+operand_word_grows h None letters e = tt
+operand_word_grows h (Some best_word) letters e = tt
+operand_word_grows h (Some top_level_word) letters e = tt
+operand_word_grows h (Some at_least_word) letters e = tt
+operand_word_grows h (Some by_word) letters e = tt
+operand_word_grows h (Some _) letters e = (ap word e, refl, tt)
 
 carried_grows : (h : UnaryHole) (b : BasePart) (t : Token) (o : Option (Leaf × BaseStep)) → IfSome o (λ r. Grows (part_leaves b) t r.0 (step_leaves r.1)) → IfSome (carried h o) (λ r. Grows (before_unary h ++ part_leaves b) t r.0 (read_of r.1))
 carried_grows h b t None e = tt

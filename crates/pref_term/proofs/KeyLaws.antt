@@ -131,7 +131,7 @@ keys-append [] ys a b = refl
 keys-append (x ∷ xs) ys a b = ap (in_product (by_key x a b)) (keys-append xs ys a b) ∙ sym (product-assoc (by_key x a b) (by_keys xs a b) (by_keys ys a b))
 
 -- of a product they are the whole order
-leading_law : (p : Preference) (s : Bool) (a b : List ℤ) → is_product p ≡ true → by_keys (leading p s) a b ≡ directed s p a b
+pub leading_law : (p : Preference) (s : Bool) (a b : List ℤ) → is_product p ≡ true → by_keys (leading p s) a b ≡ directed s p a b
 leading_law (scored t) s a b h = product_same (by_key (key_for t s) a b) ∙ key_law t s a b
 leading_law (pareto p q) s a b h =
     let both = and_parts (is_product p) (is_product q) h in
@@ -139,6 +139,3 @@ leading_law (pareto p q) s a b h =
     ∙ ((λ i. in_product (leading_law p s a b both.0 i) (leading_law q s a b both.1 i)) ∙ sym (directed_product s p q a b))
 leading_law (prior p q) s a b h = absurd (false≢true h)
 leading_law (reverse p) s a b h = leading_law p (not s) a b h ∙ directed_reverse s p a b
-
-pub product_law : (p : Preference) (a b : List ℤ) → is_product p ≡ true → by_keys (leading p false) a b ≡ walked p a b
-product_law p a b h = leading_law p false a b h

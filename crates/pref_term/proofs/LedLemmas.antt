@@ -79,12 +79,9 @@ wants_opened h k = record { takes = λ letters. refl; only = only }
     only (word letters) n = absurd n
     only _ n = refl
 
-named_only : (h : UnaryHole) (k : BaseKind) (u : Token) → u ≢ sign left → next (reading h (named k)) u ≡ None
+pub named_only : (h : UnaryHole) (k : BaseKind) (u : Token) → u ≢ sign left → next (reading h (named k)) u ≡ None
 named_only h k (sign left) ne = absurd (ne refl)
 named_only h k _ ne = refl
-
-pub opened_other : (names : Names) (ts : List Placed) (f : TermFault) → IsOther (sign left) ts f → FailsOpened names ts f
-opened_other names ts f o h k = other_fails names (sign left) ts f (reading h (named k)) o (named_only h k)
 
 pub opened_fails : (names : Names) (ts us : List Placed) (f : TermFault) → Passes (sign left) ts us → FailsColumn names us f → FailsOpened names ts f
 opened_fails names ts us f c r h k =
@@ -261,9 +258,6 @@ module _ (close : Sign) (ts us vs : List Placed) (values : List ℤ) (v : ℤ) (
   pub some_stuck : (f : TermFault) → NotNext (sign close) vs → IsOther (sign comma) vs f → FailsNumbers close ts f
   some_stuck f nr nc names h l e = goes_fails names _ _ ts vs f (all_goes names h l e) (neither_fails names (sign comma) (sign close) vs f _ nc nr (list_stuck h l r.some n.number close e))
 
-pub some_fails : (close : Sign) (ts us : List Placed) (values : List ℤ) (f : TermFault) → ReadsSome close ts values us → FailsNumber us f → FailsNumbers close ts f
-some_fails close ts us values f r n names h l e = goes_fails names _ _ ts us f (r.goes names h l e) (n names h (list_hole l r.some))
-
 -- ---- base terms
 
 pub column_is : (names : Names) (letters : List ℕ) (col : ℕ) → column_of names letters ≡ Some col → column_at names letters ≡ col
@@ -324,10 +318,6 @@ pos_read names ts us vs ws col set r c n =
     }
 
 -- and their faults
-pub around_number_fails : (names : Names) (ts us vs : List Placed) (col : ℕ) (f : TermFault) → ReadsOpened names ts col us → Passes (sign comma) us vs → FailsNumber vs f → FailsBase names around_kind ts f
-around_number_fails names ts us vs col f r c n h =
-    goes_fails names _ _ ts vs f (sign_behind names ts us vs _ _ (reading h (number_due (centre_of r.letters))) comma (r.goes h around_kind) c refl) (n names h (centre_of r.letters))
-
 pub around_end_fails : (names : Names) (ts us vs ws : List Placed) (col : ℕ) (centre : ℤ) (f : TermFault) → ReadsOpened names ts col us → Passes (sign comma) us vs → ReadsNumber vs centre ws → IsOther (sign right) ws f → FailsBase names around_kind ts f
 around_end_fails names ts us vs ws col centre f r c n o h =
     goes_fails names _ _ ts ws f
@@ -341,10 +331,6 @@ ranged_goes_on h column l _ ne = refl
 pub range_closes : (h : UnaryHole) (column : List ℕ) (l r : NumberText) (u : Token) → u ≢ sign right → next (reading h (range_ended column l r)) u ≡ None
 range_closes h column l r (sign right) ne = absurd (ne refl)
 range_closes h column l r _ ne = refl
-
-pub between_left_fails : (names : Names) (ts us vs : List Placed) (col : ℕ) (f : TermFault) → ReadsOpened names ts col us → Passes (sign comma) us vs → FailsNumber vs f → FailsBase names between_kind ts f
-between_left_fails names ts us vs col f r c n h =
-    goes_fails names _ _ ts vs f (sign_behind names ts us vs _ _ (reading h (number_due (start_of r.letters))) comma (r.goes h between_kind) c refl) (n names h (start_of r.letters))
 
 pub between_comma_fails : (names : Names) (ts us vs ws : List Placed) (col : ℕ) (l : ℤ) (f : TermFault) → ReadsOpened names ts col us → Passes (sign comma) us vs → ReadsNumber vs l ws → IsOther (sign comma) ws f → FailsBase names between_kind ts f
 between_comma_fails names ts us vs ws col l f r c n o h =
@@ -360,7 +346,3 @@ pub between_end_fails : (names : Names) (ts us vs ws xs ys : List Placed) (col :
 between_end_fails names ts us vs ws xs ys col l r f o c n d m e h =
     goes_fails names _ _ ts ys f (goes_then names _ _ _ ts xs ys (range_goes names ts us vs ws xs col l o c n d h) (m.goes names h o.letters n.number n.value_is))
     (other_fails names (sign right) ys f _ e (range_closes h o.letters n.number m.number))
-
-pub pos_numbers_fails : (names : Names) (ts us vs : List Placed) (col : ℕ) (f : TermFault) → ReadsOpened names ts col us → Passes (sign comma) us vs → FailsNumbers right vs f → FailsBase names pos_kind ts f
-pos_numbers_fails names ts us vs col f r c n h =
-    goes_fails names _ _ ts vs f (sign_behind names ts us vs _ _ (reading h (number_due (first_of (in_pos r.letters)))) comma (r.goes h pos_kind) c refl) (n names h (in_pos r.letters) refl)

@@ -1,7 +1,7 @@
 -- What the parts of the reader of `layered` promise, from the tokens that they take.
 use Rattle.pref_term.proofs.Common.{◌≡◌, ℕ, ℤ, List, [], ◌∷◌, ◌++◌, map, Some, None, refl, ap, subst, ◌∙◌, All, ◌≢◌, All-append, All-nil, left_brace, right, right_brace, comma, Token, sign, Placed}
 use Rattle.pref_term.proofs.Common.{layered_text, SetText, mark, Names, set_value, layered_kind, in_set, first_of, number_due, set_due, sets_listed, with_set, UnaryHole, reading, next, Goes, IsOther}
-use Rattle.pref_term.proofs.Common.{NotNext, Passes, ReadsOpened, ReadsNumbers, FailsNumbers, ReadsSomeSets, ReadsSets, FailsSets, ReadsBase, FailsBase, scored, layered, IsWritableSet, TermFault}
+use Rattle.pref_term.proofs.Common.{NotNext, Passes, ReadsOpened, ReadsNumbers, FailsNumbers, ReadsSomeSets, ReadsSets, FailsSets, ReadsBase, scored, layered, IsWritableSet, TermFault}
 use Rattle.pref_term.proofs.LedLemmas.{all_one, column_is, cons_not_none, goes_then, goes_fails, mapped_more, neither_fails, other_fails, sign_behind}
 
 -- ---- a set and the sign behind it
@@ -86,7 +86,3 @@ layered_read names ts us vs ws col sets r c n =
       known = (r.found.known, (subst (λ (sets : List (List ℤ)). sets ≢ []) n.values_are cons_not_none, n.fits));
       goes = λ h. goes_then names _ _ _ ts vs ws (sign_behind names ts us vs _ _ (reading h (set_due r.letters [])) comma (r.goes h layered_kind) c refl) (n.goes names h r.letters);
     }
-
-pub layered_sets_fails : (names : Names) (ts us vs : List Placed) (col : ℕ) (f : TermFault) → ReadsOpened names ts col us → Passes (sign comma) us vs → FailsSets vs f → FailsBase names layered_kind ts f
-layered_sets_fails names ts us vs col f r c n h =
-    goes_fails names _ _ ts vs f (sign_behind names ts us vs _ _ (reading h (set_due r.letters [])) comma (r.goes h layered_kind) c refl) (n names h r.letters)

@@ -2,7 +2,7 @@
 use Rattle.pref_term.proofs.Common.{[], ◌≡◌, ◌<◌, ◌≤◌, ◌^◌, ◌+◌, ℕ, ℤ, pos, negsuc, suc, List, ◌∷◌, ◌++◌, map, true, cond, Some, None, Ok, length, refl, sym, ap, ◌∙◌, append_assoc, arith, int_lt}
 use Rattle.pref_term.proofs.Common.{false, FitsSigned, decimal, is_none, codes, AllByRecursion, is_ascii_digit, all_ascii_digits, digits_value-decimal, digits_decimal, decimal_nonempty}
 use Rattle.pref_term.proofs.Common.{recursion_from_All, nat_tests, left, right, star, ampersand, minus, comma, tokens_of, Sign, right_brace, PriorText, one_product, then_product, then_factor, grouped}
-use Rattle.pref_term.proofs.Common.{AskText, rated, mark, column_name, count_digits, head_leaves, more_columns, group_leaves, number_leaves, others_leaves, base_leaves, prior_leaves, product_leaves}
+use Rattle.pref_term.proofs.Common.{rated, mark, column_name, count_digits, head_leaves, more_columns, group_leaves, number_leaves, others_leaves, base_leaves, prior_leaves, product_leaves}
 use Rattle.pref_term.proofs.Common.{unary_leaves, end_leaves, list_leaves, set_leaves, more_sets, schema_of, fits_cell, and_parts, column, ReadsBelow, IsWritableSet, IsWritableBase, IsWritable}
 use Rattle.pref_term.proofs.Common.{Question, FitsWidth, IsCount, is_count, cut_of, IsAsk, Names, Spells, IsGood, own_fault, mode_of, column_at, unknown_column, number_range, bad_count, below}
 use Rattle.pref_term.proofs.Common.{empty_range, Base, low, high, around, one_of, Preference, scored, pareto, prior, reverse, between, layered, is_prior, is_composed, held_nests, nests, name_at}
@@ -10,8 +10,8 @@ use Rattle.pref_term.proofs.Common.{shown_term, shown_mode, shown_group, shown, 
 use Rattle.pref_term.proofs.Common.{number_digits, signed_leaves}
 use Rattle.std.specs.Int.{w64}
 use Rattle.pref_term.proofs.ShownNames.{IsNamed, is_named}
-use Rattle.pref_term.proofs.ShownLemmas.{AreInRange, CanShow, leaves_text, leaves_text-append, head_text, head_shown, group_shown, columns_same, number_text, base_text, Shape, factor, product, ranked}
-use Rattle.pref_term.proofs.ShownLemmas.{as_prior, as_product, as_factor, shape_of, shape_leaves, prior_same, number_same, meaning_same, prior_text, text_shown, own_numerals, set_text}
+use Rattle.pref_term.proofs.ShownLemmas.{AreInRange, CanShow, leaves_text, leaves_text-append, head_text, head_shown, group_shown, columns_same, number_text, base_text, Shape, factor, as_prior}
+use Rattle.pref_term.proofs.ShownLemmas.{as_product, as_factor, shape_of, shape_leaves, prior_same, number_same, meaning_same, prior_text, text_shown, own_numerals, set_text}
 use Rattle.pref_term.proofs.CycleLemmas.{depth_good}
 use Rattle.pref_term.proofs.DistinctLemmas.{head_said, plain_tokens}
 use Rattle.pref_term.proofs.ShownTokens.{lexed, IsDigitsText, said, rated_lexed, Ends, Apart, apart_both, rated_all, spelled_written}
@@ -120,23 +120,19 @@ module _ (names : Names) where
 
   apart_prior : (s : Shape) (depth : ℕ) (rest : List ℕ) → Apart names (shape_leaves s depth) rest → Apart names (prior_leaves (as_prior s) depth) rest
   apart_prior (factor u) depth rest h = h
-  apart_prior (product p) depth rest h = h
-  apart_prior (ranked r) depth rest h = h
+  apart_prior _ depth rest h = h
 
   apart_nesting : (r : PriorText) (depth : ℕ) (rest : List ℕ) → depth < 64 → Apart names (prior_leaves r (depth + 1)) (codes ")" ++ rest) → Apart names (unary_leaves (grouped r) depth) rest
   apart_nesting r depth rest h k = (tt, depth_good names depth left h, tt, apart_both names (prior_leaves r (depth + 1)) (mark right ∷ []) rest k (tt, refl, tt, tt))
 
   apart_product : (p : Preference) (depth : ℕ) (rest : List ℕ) → ApartWithin p → held_nests (is_prior p) (nests p) + depth ≤ 64 → Apart names (product_leaves (as_product (shape_of names p)) depth) rest
-  apart_product (scored b) depth rest g h = g depth rest h
-  apart_product (pareto p q) depth rest g h = g depth rest h
   apart_product (prior p q) depth rest g h = apart_nesting (then_product (as_prior (shape_of names p)) (as_product (shape_of names q))) depth rest (omega arith) (g (depth + 1) (codes ")" ++ rest) (omega arith))
-  apart_product (reverse p) depth rest g h = g depth rest h
+  apart_product _ depth rest g h = g depth rest h
 
   apart_factor : (p : Preference) (depth : ℕ) (rest : List ℕ) → ApartWithin p → held_nests (is_composed p) (nests p) + depth ≤ 64 → Apart names (unary_leaves (as_factor (shape_of names p)) depth) rest
-  apart_factor (scored b) depth rest g h = g depth rest h
   apart_factor (pareto p q) depth rest g h = apart_nesting (one_product (then_factor (as_product (shape_of names p)) (as_factor (shape_of names q)))) depth rest (omega arith) (g (depth + 1) (codes ")" ++ rest) (omega arith))
   apart_factor (prior p q) depth rest g h = apart_nesting (then_product (as_prior (shape_of names p)) (as_product (shape_of names q))) depth rest (omega arith) (g (depth + 1) (codes ")" ++ rest) (omega arith))
-  apart_factor (reverse p) depth rest g h = g depth rest h
+  apart_factor _ depth rest g h = g depth rest h
 
   apart_shape : (p : Preference) → CanShow names p → ApartWithin p
   apart_shape (scored b) h depth rest k = apart_base b rest h.0 h.1
@@ -204,14 +200,7 @@ module _ (names : Names) (each : (col : ℕ) → col < length names → IsNamed 
   all_named [] h = tt
   all_named (c ∷ cs) h = (each c h.0, all_named cs h.1)
 
--- the tree of a shown question
-abbrev shown_tree : Names → Question → AskText
-shown_tree names q = rated (head_text q.mode) (as_prior (shape_of names q.preference)) (map (name_at names) q.group)
-
 -- where all equal rows are kept, a question is shown as a term
-shown_plain : (names : Names) (q : Question) → q.distinct ≡ false → shown names q ≡ shown_mode q.mode ++ shown_term names q.preference ++ shown_group names q.group
-shown_plain names q all = ap (λ b. cond b (codes "skyline of distinct " ++ (shown_dims names q.preference ++ shown_diffs names q.group)) (shown_mode q.mode ++ shown_term names q.preference ++ shown_group names q.group)) all
-
 tree_text : (names : Names) (q : Question) → CanShow names q.preference → q.distinct ≡ false → leaves_text (said (head_text q.mode) (as_prior (shape_of names q.preference)) (map (name_at names) q.group)) ≡ shown names q
 tree_text names q h all =
     let head = head_leaves (head_text q.mode) in
@@ -224,7 +213,7 @@ tree_text names q h all =
     ∙ (ap (λ xs. xs ++ leaves_text group) (prior_text (shape_of names q.preference) 0 ∙ text_shown names q.preference h 0)
     ∙ ap (λ xs. shown_term names q.preference ++ xs) (group_shown names q.group)))
     ∙ (sym (append_assoc (shown_mode q.mode) (shown_term names q.preference) (shown_group names q.group))
-    ∙ sym (shown_plain names q all))))
+    ∙ sym (ap (λ b. cond b (codes "skyline of distinct " ++ (shown_dims names q.preference ++ shown_diffs names q.group)) (shown_mode q.mode ++ shown_term names q.preference ++ shown_group names q.group)) all))))
 
 -- where the shown text keeps the limits of length and nesting, it spells what was shown
 pub plain_spells : (names : Names) (q : Question) → schema_of names ≡ Ok names → IsAsk q → q.distinct ≡ false → FitsWidth (length names) q → nests q.preference ≤ 64 → length (shown names q) ≤ 4096 → Spells names (shown names q) q
@@ -239,7 +228,7 @@ plain_spells names q schema ask all width deep short =
     let apart = apart_said names q ask.count can columns deep in
     let lexed_is = ap lexed (sym (tree_text names q can all)) ∙ rated_lexed names head term group apart in
     record {
-      tree = shown_tree names q;
+      tree = rated head term group;
       written = rated_all names head term group apart IsWritten (λ leaf h _. spelled_written leaf h) tt;
       short = short;
       tokens = plain_tokens (tokens_of (shown names q)) _ lexed_is (head_said head term group (tokens_of (shown names q)) lexed_is);

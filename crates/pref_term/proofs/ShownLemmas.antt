@@ -127,18 +127,15 @@ shape_meaning (ranked r) names = prior_meaning r names
 
 pub prior_same : (s : Shape) (names : Names) → prior_meaning (as_prior s) names ≡ shape_meaning s names
 prior_same (factor u) names = refl
-prior_same (product p) names = refl
-prior_same (ranked r) names = refl
+prior_same _ names = refl
 
 product_same : (s : Shape) (names : Names) → product_meaning (as_product s) names ≡ shape_meaning s names
 product_same (factor u) names = refl
-product_same (product p) names = refl
-product_same (ranked r) names = refl
+product_same _ names = refl
 
 factor_same : (s : Shape) (names : Names) → unary_meaning (as_factor s) names ≡ shape_meaning s names
 factor_same (factor u) names = refl
-factor_same (product p) names = refl
-factor_same (ranked r) names = refl
+factor_same _ names = refl
 
 pub own_numerals : IsNumeralModel (λ ds. all_ascii_digits ds ≡ true) (digits_value 10)
 own_numerals = numerals_by_value (λ ds. all_ascii_digits ds ≡ true) tells_all_ascii_digits
@@ -260,20 +257,16 @@ parentheses r depth text h = ap (λ xs. codes "(" ++ xs) (leaves_text-append (pr
 
 pub prior_text : (s : Shape) (depth : ℕ) → leaves_text (prior_leaves (as_prior s) depth) ≡ leaves_text (shape_leaves s depth)
 prior_text (factor u) depth = refl
-prior_text (product p) depth = refl
-prior_text (ranked r) depth = refl
+prior_text _ depth = refl
 
 product_text : (names : Names) (p : Preference) → Shows names p → (depth : ℕ) → leaves_text (product_leaves (as_product (shape_of names p)) depth) ≡ held (is_prior p) (shown_term names p)
-product_text names (scored b) h depth = h depth
-product_text names (pareto p q) h depth = h depth
 product_text names (prior p q) h depth = parentheses (then_product (as_prior (shape_of names p)) (as_product (shape_of names q))) depth _ (h (depth + 1))
-product_text names (reverse p) h depth = h depth
+product_text names _ h depth = h depth
 
 factor_text : (names : Names) (p : Preference) → Shows names p → (depth : ℕ) → leaves_text (unary_leaves (as_factor (shape_of names p)) depth) ≡ held (is_composed p) (shown_term names p)
-factor_text names (scored b) h depth = h depth
 factor_text names (pareto p q) h depth = parentheses (one_product (then_factor (as_product (shape_of names p)) (as_factor (shape_of names q)))) depth _ (h (depth + 1))
 factor_text names (prior p q) h depth = parentheses (then_product (as_prior (shape_of names p)) (as_product (shape_of names q))) depth _ (h (depth + 1))
-factor_text names (reverse p) h depth = h depth
+factor_text names _ h depth = h depth
 
 -- the text of the tree is what is shown
 pub text_shown : (names : Names) (p : Preference) → CanShow names p → Shows names p

@@ -1,10 +1,10 @@
 -- The text of leaves has their tokens again.
 use Rattle.pref_term.proofs.Common.{[], ◌≡◌, ◌≤◌, ◌+◌, ℕ, zero, suc, List, ◌∷◌, ◌++◌, Bool, true, false, cond, length, take, drop, refl, sym, ap, subst, ◌∙◌, append_assoc, append-nil, arith, codes}
 use Rattle.pref_term.proofs.Common.{is_ascii_alphabetic, is_ascii_digit, prefix_len, AllByRecursion, take-append_seam, drop-append_seam, length-append, map-append, nat_tests, is_name_byte, is_blank}
-use Rattle.pref_term.proofs.Common.{Sign, left, right, comma, star, ampersand, minus, left_brace, right_brace, Token, word, digits, sign, sign_or_other, more_bytes, token_from, tokens_from, Keyword}
-use Rattle.pref_term.proofs.Common.{best_word, low_word, high_word, around_word, pos_word, reverse_word, top_level_word, at_least_word, by_word, letters_of, PriorText, HeadText, rated, Leaf, name}
-use Rattle.pref_term.proofs.Common.{mark, opens, column_name, number_digits, count_digits, cased, last, IsWritten, prior_leaves, head_leaves, group_leaves, ask_leaves, token_of, between_word}
-use Rattle.pref_term.proofs.Common.{layered_word, tokens_in, tokens_on, IsGood, Names}
+use Rattle.pref_term.proofs.Common.{Sign, comma, star, ampersand, Token, word, digits, sign, sign_or_other, more_bytes, token_from, tokens_from, Keyword, best_word, low_word, high_word, around_word}
+use Rattle.pref_term.proofs.Common.{pos_word, reverse_word, top_level_word, at_least_word, by_word, letters_of, PriorText, HeadText, rated, Leaf, name, mark, opens, column_name, number_digits}
+use Rattle.pref_term.proofs.Common.{count_digits, cased, last, IsWritten, prior_leaves, head_leaves, group_leaves, ask_leaves, token_of, between_word, layered_word, tokens_in, tokens_on, IsGood}
+use Rattle.pref_term.proofs.Common.{Names}
 use Rattle.pref_term.proofs.ShownNames.{IsWordText}
 use Rattle.pref_term.proofs.TokenLemmas.{told_passed}
 use Rattle.pref_term.proofs.ShownLemmas.{leaf_text, leaves_text, sign_text, word_text, leaves_text-append}
@@ -86,14 +86,10 @@ digits_lexed b bs rest h f =
     run_lexed b bs rest (digits (b ∷ bs)) (digit_plain b h.0) run e
 
 pub sign_lexed : (s : Sign) (rest : List ℕ) → lexed (sign_text s ++ rest) ≡ sign s ∷ lexed rest
-sign_lexed left rest = ap (λ ts. sign left ∷ ts) (place_free 0 1 0 rest)
-sign_lexed right rest = ap (λ ts. sign right ∷ ts) (place_free 0 1 0 rest)
-sign_lexed minus rest = ap (λ ts. sign minus ∷ ts) (place_free 0 1 0 rest)
-sign_lexed left_brace rest = ap (λ ts. sign left_brace ∷ ts) (place_free 0 1 0 rest)
-sign_lexed right_brace rest = ap (λ ts. sign right_brace ∷ ts) (place_free 0 1 0 rest)
 sign_lexed comma rest = ap (λ ts. sign comma ∷ ts) (place_free 0 2 0 rest)
 sign_lexed star rest = ap (λ ts. sign star ∷ ts) (place_free 0 3 0 rest)
 sign_lexed ampersand rest = ap (λ ts. sign ampersand ∷ ts) (place_free 0 3 0 rest)
+sign_lexed s rest = ap (λ ts. sign s ∷ ts) (place_free 0 1 0 rest)
 
 -- ---- leaves that are words, digits and signs, have no fault of their own, and stand apart
 

@@ -22,36 +22,25 @@ fits Neither = false
 better_fits : (r : Relation) → is_better r ≡ true → fits r ≡ true
 unfolding fits
 better_fits Better h = refl
-better_fits Worse h = h
-better_fits Same h = refl
-better_fits Neither h = h
+better_fits _ h = cc
 
 same_fits : (r : Relation) → is_same r ≡ true → fits r ≡ true
 unfolding fits
-same_fits Better h = refl
-same_fits Worse h = h
 same_fits Same h = refl
-same_fits Neither h = h
+same_fits _ h = cc
 
 product_fits : (r s : Relation) → fits (in_product r s) ≡ true → (fits r ≡ true) × (fits s ≡ true)
 unfolding fits
-product_fits Better Better h = (refl, refl)
-product_fits Better Worse h = (refl, h)
-product_fits Better Same h = (refl, refl)
-product_fits Better Neither h = (refl, h)
-product_fits Worse Better h = (h, refl)
-product_fits Worse Worse h = (h, h)
-product_fits Worse Same h = (h, refl)
-product_fits Worse Neither h = (h, h)
 product_fits Same s h = (refl, h)
 product_fits Neither s h = absurd (false≢true h)
+product_fits Better Better h = (refl, refl)
+product_fits Worse Better h = (h, refl)
+product_fits _ _ h = (cc, cc)
 
 priority_fits : (r s : Relation) → fits (in_priority r s) ≡ true → fits r ≡ true
 unfolding fits
 priority_fits Better s h = refl
-priority_fits Worse s h = h
-priority_fits Same s h = refl
-priority_fits Neither s h = h
+priority_fits _ s h = cc
 
 scores_fit : (x y : ℤ) → fits (by_scores x y) ≡ true → int_lt y x ≡ false
 unfolding fits

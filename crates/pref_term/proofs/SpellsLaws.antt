@@ -45,9 +45,6 @@ pub reads_written : (s : State) (leaves : List Leaf) (m : State) → Reads s lea
 reads_written s [] m h = tt
 reads_written s (leaf ∷ leaves) m h = ((next_gives s (token_of leaf) leaf h.0 h.1).2, reads_written h.0 leaves m h.2)
 
-pub read_text : (leaves : List Leaf) (tree : AskText) → Reads start leaves (done tree) → IsText tree
-read_text leaves tree h = subst (AllByRecursion IsWritten) (sym (reads_grow start leaves (done tree) h)) (reads_written start leaves (done tree) h)
-
 -- a reading in two parts
 pub record Halfway (s : State) (a b : List Leaf) (n : State) : Type 0 where
   pub mid : State
@@ -86,9 +83,6 @@ pub record Reached (names : Names) (before : List Placed) (s : State) : Type 0 w
   pub played : tokens_on leaves ≡ tokens_in before
   pub good : AllByRecursion (IsGood names) leaves
 
-pub reached_start : (names : Names) → Reached names [] start
-reached_start names = record { leaves = []; reads = refl; played = refl; good = tt }
-
 -- one token more
 pub reached_more : (names : Names) (before : List Placed) (s : State) (t : Placed) (leaf : Leaf) (m : State) → Reached names before s → next s t.token ≡ Some (leaf, m) → own_fault names leaf ≡ None → Reached names (before ++ t ∷ []) m
 reached_more names before s t leaf m r e own =
@@ -105,11 +99,12 @@ starts : (leaves : List Leaf) (s : State) → Reads start leaves s → Starts le
 starts leaves s r =
     let c = can_end s in
     let all = reads_on start leaves c.leaves s (done c.tree) r c.reads in
+    let whole = reads_grow start (leaves ++ c.leaves) (done c.tree) all in
     record {
       tree = c.tree;
-      written = read_text (leaves ++ c.leaves) c.tree all;
+      written = subst (AllByRecursion IsWritten) (sym whole) (reads_written start (leaves ++ c.leaves) (done c.tree) all);
       rest = c.leaves;
-      whole = reads_grow start (leaves ++ c.leaves) (done c.tree) all;
+      whole = whole;
     }
 
 -- where no rule leads on, no text of the grammar goes on

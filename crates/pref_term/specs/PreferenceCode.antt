@@ -73,8 +73,7 @@ mode_of (inr (inr k)) = AtLeast k
 
 pub mode_again : (m : Mode) → mode_of (mode_parts m) ≡ m
 mode_again Best = refl
-mode_again (TopLevel k) = refl
-mode_again (AtLeast k) = refl
+mode_again _ = refl
 
 abbrev coded_mode : Coded Mode
 coded_mode = code_by (ℕ ⊎ (ℕ ⊎ ℕ)) (coded⊎ coded_ℕ (coded⊎ coded_ℕ coded_ℕ)) mode_parts mode_of mode_again

@@ -78,8 +78,7 @@ clause_equal : (p : Preference) (a b : List ℤ) → IsClause p → same p a b �
 clause_equal (scored t) a b c = dimension_equal (scored t) a b c
 clause_equal (pareto p q) a b c =
     ap (λ x. x && same q a b) (clause_equal p a b c.0) ∙ (ap (λ x. in_same_group (columns_in p) a b && x) (dimension_equal q a b c.1) ∙ sym (group_append (columns_in p) (columns_in q) a b))
-clause_equal (prior p q) a b c = absurd c
-clause_equal (reverse p) a b c = absurd c
+clause_equal _ a b c = absurd c
 
 -- so twins of a clause are the rows of one group that are the same
 pub clause_twins : (q : Question) (a b : List ℤ) → IsClause q.preference → alike q a b ≡ in_same_group (q.group ++ columns_in q.preference) a b

@@ -1,5 +1,5 @@
 use Rattle.pref_term.proofs.Common.{◌≡◌, ◌<◌, true, false, ap, sym, ◌∙◌, All-same, by_keys, is_number, is_better, is_same, is_worse, preference_of, walked}
-use Rattle.pref_term.proofs.KeyLaws.{leading_in_row, leading_numbers, product_law}
+use Rattle.pref_term.proofs.KeyLaws.{leading_in_row, leading_numbers, leading_law}
 use Rattle.pref_term.proofs.WalkLaws.{walked-better, walked-same, walked-worse}
 use Rattle.pref_term.proofs.ask.Ask.compare_in_group.Goals as goal
 
@@ -18,7 +18,7 @@ by_a_walk : (c : goal.After-compare_by_keys) → c.compare_by_keys.result ≡ wa
 by_a_walk c =
     c.compare_by_keys.ensures
     ∙ (ap (λ keys. by_keys keys c.args.a.now c.args.b.now) (c.deref.ensures.value ∙ c.self.invariant.1)
-    ∙ product_law (preference_of c.self.inside.term) c.args.a.now c.args.b.now (sym c.self.invariant.2 ∙ c.if-self.true))
+    ∙ leading_law (preference_of c.self.inside.term) false c.args.a.now c.args.b.now (sym c.self.invariant.2 ∙ c.if-self.true))
 
 pub returns-then-self-clause-better : goal.returns-then-self-clause-better
 returns-then-self-clause-better c =

@@ -1,6 +1,6 @@
-use Rattle.pref_term.proofs.Common.{Some, sym, ap, ◌∙◌, IfOk-weaker, ahead}
+use Rattle.pref_term.proofs.Common.{Some, sym, ap, ◌∙◌, ahead}
 use Rattle.pref_term.proofs.LedLemmas.{err_exit, if_err_map}
-use Rattle.pref_term.proofs.AskLemmas.{levels, rows, best_fails, count_fails, count_behind_fails, skyline_read, skyline_fails, of_fails, clause_read, clause_faults}
+use Rattle.pref_term.proofs.AskLemmas.{levels, rows, best_fails, count_fails, count_behind_fails, skyline_fails, clause_faults, fails_asks}
 use Rattle.pref_term.proofs.read.ask.ask.Goals as goal
 
 pub returns-in_err-k-in-Some-TopLevel-clause-err : goal.returns-in_err-k-in-Some-TopLevel-clause-err
@@ -37,15 +37,7 @@ pub returns-in_err-behind-in-None-clause-err : goal.returns-in_err-behind-in-Non
 returns-in_err-behind-in-None-clause-err c =
     let w = c.in_ok-letters in
     err_exit _ _ c.from_residual-in_err-behind-in-None.ensures.1 (skyline_fails c.args.schema.now w.letters.now (ahead c.args.cursor) (ahead w.word.next) _ (w.word.at, w.ensures.ok) (sym c.in-None.ensures) (sym c.in-Some-Skyline.ensures ∙ ap Some c.in-Some-Skyline.field-0-is)
-    (of_fails c.args.schema.now (ahead w.word.next) _ c.in_err-behind-in-None.ensures.err))
-
-pub returns-in_ok-behind-in-None-clause-ok : goal.returns-in_ok-behind-in-None-clause-ok
-returns-in_ok-behind-in-None-clause-ok c =
-    let w = c.in_ok-letters in
-    IfOk-weaker c.clause_ask.result _ _
-    (λ a h. skyline_read c.args.schema.now w.letters.now (ahead c.args.cursor) (ahead w.word.next) a (w.word.at, w.ensures.ok) (sym c.in-None.ensures) (sym c.in-Some-Skyline.ensures ∙ ap Some c.in-Some-Skyline.field-0-is)
-    (clause_read c.args.schema.now (ahead w.word.next) (ahead c.in_ok-behind-in-None.behind) a c.in_ok-behind-in-None.ensures.ok h))
-    c.clause_ask.ensures.ok
+    (λ s. fails_asks c.args.schema.now _ (ahead w.word.next) _ (c.in_err-behind-in-None.ensures.err c.args.schema.now s)))
 
 pub returns-in_ok-behind-in-None-clause-err : goal.returns-in_ok-behind-in-None-clause-err
 returns-in_ok-behind-in-None-clause-err c =

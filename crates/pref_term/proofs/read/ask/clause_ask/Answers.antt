@@ -1,11 +1,12 @@
 use Rattle.pref_term.proofs.Common.{rules, ◌≡◌, Option, refl, sym, subst, length, arith, ◌∷◌, option_map, IfOk-weaker, ahead, preference_of, AsksClause, ReadsClause, FitsWidth, Question, Best, Term}
-use Rattle.pref_term.proofs.LedLemmas.{err_exit}
+use Rattle.pref_term.proofs.Common.{meant, ap}
+use Rattle.pref_term.proofs.LedLemmas.{err_exit, unless_map}
 use Rattle.pref_term.proofs.AskLemmas.{is_ask, fits_width}
-use Rattle.pref_term.proofs.DistinctLemmas.{clause_asks, clause_asks_nothing, clause_fails, product_is_clause}
+use Rattle.pref_term.proofs.DistinctLemmas.{clause_asks, clause_asks_nothing, product_is_clause}
 use Rattle.pref_term.proofs.read.ask.clause_ask.Goals as goal
 
 pub returns-in_err-product-clause-err : goal.returns-in_err-product-clause-err
-returns-in_err-product-clause-err c = err_exit _ _ c.from_residual.ensures.1 (clause_fails c.args.schema.now c.args.distinct (ahead c.args.cursor) _ c.in_err-product.ensures.err)
+returns-in_err-product-clause-err c = err_exit _ _ c.from_residual.ensures.1 (λ s o. unless_map c.in_err-product.field-0.0 (λ k p. ap (meant c.args.schema.now c.args.distinct) (k p)) (c.in_err-product.ensures.err s o))
 
 pub new-requires : goal.new-requires
 new-requires c =

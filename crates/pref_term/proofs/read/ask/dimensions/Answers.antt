@@ -1,13 +1,16 @@
-use Rattle.pref_term.proofs.Common.{List, ℕ, None, sym, subst, ◌∙◌, option_map, finish, ahead, preference_of, NotNext, ReadsDims}
-use Rattle.pref_term.proofs.LedLemmas.{err_exit}
-use Rattle.pref_term.proofs.AskLemmas.{dims_none, dims_more, dims_all, dims_stuck, dims_fail, reads_dims, reads_clause}
+use Rattle.pref_term.proofs.Common.{List, ℕ, None, sym, subst, ◌∙◌, option_map, finish, ahead, preference_of, NotNext, ReadsDims, All-nil, IsKnown, [], refl}
+use Rattle.pref_term.proofs.LedLemmas.{err_exit, goes_fails}
+use Rattle.pref_term.proofs.AskLemmas.{dims_more, dims_all, dims_stuck, reads_dims, reads_clause}
 use Rattle.pref_term.proofs.read.ask.dimensions.Goals as goal
 
 pub loop-clause-init : goal.loop-clause-init
-loop-clause-init c = subst (λ (xs : List ℕ). ReadsDims c.args.schema.now (ahead c.args.cursor) None xs (ahead c.args.cursor)) (sym c.new.ensures.items) (dims_none c.args.schema.now (ahead c.args.cursor))
+loop-clause-init c = subst (λ (xs : List ℕ). ReadsDims c.args.schema.now (ahead c.args.cursor) None xs (ahead c.args.cursor)) (sym c.new.ensures.items)
+    (record { dims = []; product_is = refl; group_is = refl; product_known = tt; group_known = All-nil (IsKnown c.args.schema.now); goes = λ s o p. (p, refl) })
 
 pub returns-in_err-dimension-clause-err : goal.returns-in_err-dimension-clause-err
-returns-in_err-dimension-clause-err c = err_exit _ _ c.from_residual.ensures.1 (dims_fail c.args.schema.now _ (ahead c.loop-clause.place) _ _ _ c.loop-clause.invariant c.in_err-dimension.ensures.err)
+returns-in_err-dimension-clause-err c =
+    let r = c.loop-clause.invariant in
+    err_exit _ _ c.from_residual.ensures.1 (λ s o. goes_fails c.args.schema.now _ _ (ahead c.args.cursor) (ahead c.loop-clause.place) _ (r.goes s o) (c.in_err-dimension.ensures.err s o r.dims))
 
 pub returns-then-ends-clause-ok : goal.returns-then-ends-clause-ok
 returns-then-ends-clause-ok c =

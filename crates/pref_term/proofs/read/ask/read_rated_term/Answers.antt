@@ -1,10 +1,10 @@
-use Rattle.pref_term.proofs.Common.{false≢true, ◌≡◌, false, rules, sym, subst, length, IfOk-weaker, ahead, operand, in_whole, preference_of, FitsWidth, Question, Asks}
+use Rattle.pref_term.proofs.Common.{false≢true, ◌≡◌, false, rules, sym, subst, length, IfOk-weaker, ahead, operand, in_whole, preference_of, FitsWidth, Question, Asks, whole, refl}
 use Rattle.pref_term.proofs.LedLemmas.{err_exit}
-use Rattle.pref_term.proofs.AskLemmas.{rated_read, rated_prior_fails, rated_group_fails, is_ask, fits_width}
+use Rattle.pref_term.proofs.AskLemmas.{rated_read, rated_group_fails, is_ask, fits_width, fails_asks}
 use Rattle.pref_term.proofs.read.ask.read_rated_term.Goals as goal
 
 pub returns-in_err-term-clause-err : goal.returns-in_err-term-clause-err
-returns-in_err-term-clause-err c = err_exit _ _ c.from_residual.ensures.1 (λ head _. rated_prior_fails c.args.schema.now (ahead c.args.cursor) _ c.in_err-term.ensures.err head)
+returns-in_err-term-clause-err c = err_exit _ _ c.from_residual.ensures.1 (λ head _. fails_asks c.args.schema.now _ (ahead c.args.cursor) _ (c.in_err-term.ensures.err (whole head) refl))
 
 pub returns-in_err-group-clause-err : goal.returns-in_err-group-clause-err
 returns-in_err-group-clause-err c =

@@ -1,12 +1,14 @@
 use Rattle.pref_term.proofs.Common.{ahead, ReadsBase, FailsEnd, first_place, between_kind, end_of, EmptyRange, ◌≡◌, w64, rules, to_z, of_z, int_lt, ℤ, ap, sym, subst, ◌∙◌, to_z-of_z, scored, between}
-use Rattle.pref_term.proofs.LedLemmas.{between_read, column_end_fails, between_left_fails, between_comma_fails, between_right_fails, between_end_fails, end_read, end_refused, err_exit}
+use Rattle.pref_term.proofs.Common.{reading, number_due, start_of, comma, refl}
+use Rattle.pref_term.proofs.LedLemmas.{between_read, column_end_fails, between_comma_fails, between_right_fails, between_end_fails, end_read, end_refused, err_exit, goes_fails, sign_behind}
 use Rattle.pref_term.proofs.read.base_term.between.Goals as goal
 
 pub returns-in_err-inside-clause-err : goal.returns-in_err-inside-clause-err
 returns-in_err-inside-clause-err c = err_exit _ _ c.from_residual-in_err-inside.ensures.1 (column_end_fails c.args.schema.now between_kind _ (ahead c.in_ok-col.next) c.in_ok-col.col _ c.in_ok-col.ensures.ok c.in_err-inside.ensures.err)
 
 pub returns-in_err-left-clause-err : goal.returns-in_err-left-clause-err
-returns-in_err-left-clause-err c = err_exit _ _ c.from_residual-in_err-left.ensures.1 (between_left_fails c.args.schema.now _ (ahead c.in_ok-col.next) (ahead c.in_ok-inside.inside) c.in_ok-col.col _ c.in_ok-col.ensures.ok c.in_ok-inside.ensures.ok c.in_err-left.ensures.err)
+returns-in_err-left-clause-err c = err_exit _ _ c.from_residual-in_err-left.ensures.1 (λ h. goes_fails c.args.schema.now _ _ (ahead c.args.cursor) (ahead c.in_ok-inside.inside) _
+    (sign_behind c.args.schema.now (ahead c.args.cursor) (ahead c.in_ok-col.next) (ahead c.in_ok-inside.inside) _ _ (reading h (number_due (start_of c.in_ok-col.ensures.ok.letters))) comma (c.in_ok-col.ensures.ok.goes h between_kind) c.in_ok-inside.ensures.ok refl) (c.in_err-left.ensures.err c.args.schema.now h (start_of c.in_ok-col.ensures.ok.letters)))
 
 pub returns-in_err-beside-clause-err : goal.returns-in_err-beside-clause-err
 returns-in_err-beside-clause-err c = err_exit _ _ c.from_residual-in_err-beside.ensures.1 (between_comma_fails c.args.schema.now _ (ahead c.in_ok-col.next) (ahead c.in_ok-inside.inside) (ahead c.in_ok-left.behind) c.in_ok-col.col c.in_ok-left.left _ c.in_ok-col.ensures.ok c.in_ok-inside.ensures.ok c.in_ok-left.ensures.ok c.in_err-beside.ensures.err)

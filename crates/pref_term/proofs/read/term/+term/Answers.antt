@@ -1,8 +1,8 @@
 use Rattle.pref_term.proofs.Common.{ℕ, List, Some, arith, sym, ap, subst, ◌∙◌, length, IfOk-weaker, Placed, low_kind, high_kind, around_kind, between_kind, pos_kind, layered_kind, ahead, FailsUnary}
-use Rattle.pref_term.proofs.Common.{ReadsReverse, ReadsUnary, ReadsGroup, ReadsFactors, ReadsProducts, Preference, preference_of}
+use Rattle.pref_term.proofs.Common.{ReadsReverse, ReadsUnary, ReadsGroup, ReadsFactors, ReadsProducts, Preference, preference_of, one_product, one_factor, first_product, first_factor}
 use Rattle.pref_term.proofs.LedLemmas.{err_exit, taken_is}
-use Rattle.pref_term.proofs.CycleLemmas.{group_read, group_end_fails, one_factor_read, more_factors, more_factors_fail, one_product_read, more_products, more_products_fail, minus_read, minus_fails}
-use Rattle.pref_term.proofs.CycleLemmas.{left_read, reverse_read, taken_base_read, taken_base_fails, word_reverse_read}
+use Rattle.pref_term.proofs.CycleLemmas.{group_read, group_end_fails, more_factors, more_factors_fail, more_products, more_products_fail, minus_read, minus_fails, left_read, reverse_read}
+use Rattle.pref_term.proofs.CycleLemmas.{taken_base_read, taken_base_fails, word_reverse_read}
 use Rattle.pref_term.proofs.read.term.+term.Goals as goal
 
 pub group-returns-in_err-rest-clause-err : goal.group-returns-in_err-rest-clause-err
@@ -16,7 +16,7 @@ pub prior-loop-taken-init : goal.prior-loop-taken-init
 prior-loop-taken-init t c =
     let v = c.in_ok-term in
     record {
-      so_far = one_product_read c.args.schema.now c.args.depth _ (ahead v.place) (preference_of v.term) v.ensures.ok;
+      so_far = let q = v.ensures.ok.factors in record { tree = one_product q.tree; meaning = q.meaning; known = q.known; goes = λ h e. q.goes (first_product h) e };
       stops = v.ensures.ok.stops;
       shorter = omega (arith, v.ensures.shorter);
     }
@@ -41,7 +41,7 @@ pub product-loop-taken-init : goal.product-loop-taken-init
 product-loop-taken-init t c =
     let v = c.in_ok-term in
     record {
-      so_far = one_factor_read c.args.schema.now c.args.depth _ (ahead v.place) (preference_of v.term) v.ensures.ok;
+      so_far = let r = v.ensures.ok in record { tree = one_factor r.tree; meaning = r.meaning; known = r.known; goes = λ h e. r.goes (first_factor h) e };
       shorter = omega (arith, v.ensures.shorter);
     }
 
