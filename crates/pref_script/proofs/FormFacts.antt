@@ -38,13 +38,13 @@ module _ (digit : ℕ) (rest : List ℕ) (blank : is_blank digit ≡ false) wher
   unfolding after_word
   digit_after = ap (λ (b : Bool). after_blanks (drop (cond (not b) (suc (position_or_len is_blank (32 ∷ rest))) 0) (digit ∷ 32 ∷ rest))) blank ∙ after_one rest
 
+-- what the line says, and the client that it names
 client_in : (digit : ℕ) (rest : List ℕ) → IsInRange 48 57 digit → is_ascii_digit digit ≡ true → said_in (97 ∷ 115 ∷ 32 ∷ digit ∷ 32 ∷ rest) ≡ said_by_client (digit - 48) (after_blanks rest)
 unfolding said_in
 client_in digit rest range is =
     let blank = digit_not_blank digit range in
     rw (as_word digit rest blank, as_after digit rest blank, digit_word digit rest blank, digit_after digit rest blank, digit_number digit range is) refl
 
--- it names the client
 named_in : (digit : ℕ) (rest : List ℕ) → IsInRange 48 57 digit → is_ascii_digit digit ≡ true → client_named (97 ∷ 115 ∷ 32 ∷ digit ∷ 32 ∷ rest) ≡ Some (digit - 48)
 unfolding client_named
 named_in digit rest range is =
@@ -52,22 +52,13 @@ named_in digit rest range is =
     rw (as_word digit rest blank, as_after digit rest blank, digit_word digit rest blank, digit_number digit range is) refl
 
 pub client_at : (line : List ℕ) → 5 ≤ length line → get_or line 0 0 ≡ 97 → get_or line 1 0 ≡ 115 → get_or line 2 0 ≡ 32 → IsInRange 48 57 (get_or line 3 0) → is_ascii_digit (get_or line 3 0) ≡ true → get_or line 4 0 ≡ 32
-    → said_in line ≡ said_by_client (get_or line 3 0 - 48) (after_blanks (drop 5 line))
+    → (said_in line ≡ said_by_client (get_or line 3 0 - 48) (after_blanks (drop 5 line))) × (client_named line ≡ Some (get_or line 3 0 - 48))
 client_at [] few = absurd (omega (arith, few))
 client_at (a ∷ []) few = absurd (omega (arith, few))
 client_at (a ∷ s ∷ []) few = absurd (omega (arith, few))
 client_at (a ∷ s ∷ blank ∷ []) few = absurd (omega (arith, few))
 client_at (a ∷ s ∷ blank ∷ digit ∷ []) few = absurd (omega (arith, few))
-client_at (a ∷ s ∷ blank ∷ digit ∷ end ∷ rest) few = λ at0 at1 at2 range is at4. rw (at0, at1, at2, at4) (client_in digit rest range is)
-
-pub named_at : (line : List ℕ) → 5 ≤ length line → get_or line 0 0 ≡ 97 → get_or line 1 0 ≡ 115 → get_or line 2 0 ≡ 32 → IsInRange 48 57 (get_or line 3 0) → is_ascii_digit (get_or line 3 0) ≡ true → get_or line 4 0 ≡ 32
-    → client_named line ≡ Some (get_or line 3 0 - 48)
-named_at [] few = absurd (omega (arith, few))
-named_at (a ∷ []) few = absurd (omega (arith, few))
-named_at (a ∷ s ∷ []) few = absurd (omega (arith, few))
-named_at (a ∷ s ∷ blank ∷ []) few = absurd (omega (arith, few))
-named_at (a ∷ s ∷ blank ∷ digit ∷ []) few = absurd (omega (arith, few))
-named_at (a ∷ s ∷ blank ∷ digit ∷ end ∷ rest) few = λ at0 at1 at2 range is at4. rw (at0, at1, at2, at4) (named_in digit rest range is)
+client_at (a ∷ s ∷ blank ∷ digit ∷ end ∷ rest) few = λ at0 at1 at2 range is at4. rw (at0, at1, at2, at4) (client_in digit rest range is, named_in digit rest range is)
 
 -- a line names the client whose command it is
 pub said_named : (line : List ℕ) (client : ℕ) (what : Said) → said_in line ≡ Some (client, what) → client_named line ≡ Some client

@@ -204,7 +204,3 @@ refused_live limits source sink ahead why (Err fault.NoEnd) opens (same, all) = 
 refused_live limits source sink ahead why (Err (fault.Table w)) opens (same, all) = same_fault limits source sink ahead why (fault.Table w) opens (cc) all
 refused_live limits source sink ahead why (Err (fault.Opening w)) opens (same, all) = same_fault limits source sink ahead why (fault.Opening w) opens (cc) all
 refused_live limits source sink ahead why (Err (fault.Threads w)) opens (same, all) = same_fault limits source sink ahead why (fault.Threads w) opens (cc) all
-
--- what was opened is no fault of a writer
-pub no_write : (limits : Limits) (source : Source) (ahead : ReadAhead) (why : RunFault) → OpensLive limits source ahead (Err why) → why ≡ fault.Write → ⊥
-no_write limits source ahead why opens is = subst (λ (w : RunFault). OpensLive limits source ahead (Err w)) is opens

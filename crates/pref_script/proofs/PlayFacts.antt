@@ -6,13 +6,6 @@ use Rattle.pref_core.specs.declared.event.Reply.{Reply}
 use Rattle.pref_script.specs.Playing.{Plays, PrintsAll, printed_from}
 use Rattle.pref_script.proofs.ScriptFacts.{lines_none}
 
--- no command
-pub plays_none : (width : ℕ) (running : Running) (text : List ℕ) → Plays width running [] text text running
-plays_none width running text = record {
-  limits = refl;
-  plays = λ system h. record { next = system; stands = h; goes_on = λ more. refl };
-}
-
 -- a refused line
 pub plays_refused : (width : ℕ) (running : Running) (number : ℕ) (why : Refusal) (old new : List ℕ) → new ≡ old ++ refused_line number why → Plays width running (refused number why ∷ []) old new running
 unfolding command_lines accepted_events
@@ -47,10 +40,6 @@ pub record PlayingFrom (width : ℕ) (limits : Limits) (system : System) (all : 
 pub record Playing (width : ℕ) (first : Running) (all : List Command) (text : List ℕ) (now : Running) (rest : List Command) : Type 0 where
   pub limits : now.limits ≡ first.limits
   pub from : (system : System) → StandsForSystem first system → PlayingFrom width first.limits system all text now rest
-
--- before the first command
-pub playing_start : (width : ℕ) (first : Running) (all : List Command) (text : List ℕ) → text ≡ [] → Playing width first all text first all
-playing_start width first all text none = rw none (record { limits = refl; from = λ system h. record { next = system; stands = h; whole = refl } })
 
 -- some commands more
 playing_more : (width : ℕ) (first now after : Running) (all commands rest : List Command) (text new : List ℕ) → Playing width first all text now (commands ++ rest) → Plays width now commands text new after → Playing width first all new after rest

@@ -50,9 +50,6 @@ pub record Seen (rest left : List ℕ) (count : ℕ) : Type 0 where
   pub size : count ≤ length (raw_lines rest)
   pub few : count + length left ≤ length rest
 
-pub seen_none : (rest : List ℕ) → Seen rest rest 0
-seen_none rest = record { lines = refl; before = below_none (λ k. is_end_line (get_or (raw_lines rest) k []) ≡ false); text = refl; size = omega arith; few = omega arith }
-
 pub seen_more : (rest left raw tail : List ℕ) (count : ℕ) → Seen rest left count → raw_lines left ≡ raw ∷ raw_lines tail → left ≡ raw ++ tail → 0 < length raw
     → is_end_line raw ≡ false → Seen rest tail (count + 1)
 seen_more rest left raw tail count seen cut parts some other =
