@@ -1,9 +1,9 @@
 -- A client's part of a script, one line at a time.
 use Rattle.pref_script.proofs.Common.{◌≡◌, ◌≢◌, ◌∙◌, ℕ, suc, zero, ◌+◌, ◌<◌, ◌≤◌, ◌^◌, Bool, true, false, List, [], ◌∷◌, ◌++◌, length, map, slice_get, Option, Some, None, Result, Ok, Err, refl, sym}
 use Rattle.pref_script.proofs.Common.{ap, arith, append_assoc, subst, inl, inr, string_bytes, All, list_all, Vec, append-nil, length-append, is_blank, Event, AcceptsLeft, AllAccepted, AreParts, ArePartsUpTo}
-use Rattle.pref_script.proofs.Common.{FirstAct, HasReplied, IsAccepted, IsFound, IsPart, IsRead, WholeAccept, WholeAcceptAll, AreActs, acts_in, acts_left, accepted_events, act_of, commands_in, commands_of}
-use Rattle.pref_script.proofs.Common.{event_of, Said, client_named, said_in, raw_lines, without_line_end, reply_lines, texts, clients_lines, unowned_lines, Refusal, Part}
-use Rattle.pref_script.proofs.Common.{◌==◌, NamesNone, cases_lt, cond, drop, drop_all, drop_more, eq-eqb, eqb-false, eqb-true, get_or, get_or_append_left, is_number, length-set, lines_in, lines_left, lines_of, map-append, ne_eqb, set, vec_len}
+use Rattle.pref_script.proofs.Common.{FirstAct, HasReplied, IsAccepted, IsFound, IsGiven, AllGiven, IsPart, AreActs, acts_in, acts_left, accepted_events, act_of, commands_in, commands_of}
+use Rattle.pref_script.proofs.Common.{event_of, Said, client_named, said_in, raw_lines, without_line_end, reply_lines, texts, clients_lines, unowned_line, unowned_lines, Refusal, Part}
+use Rattle.pref_script.proofs.Common.{◌==◌, NamesNone, cases_lt, drop, drop_all, drop_more, eqb-false, eqb-true, get_or, get_or_append_left, length-set, lines_in, lines_left, map-append, set, vec_len}
 use Rattle.std.proofs.Common.{Bor}
 use Rattle.std.proofs.lemmas.Grind.{get_or-set_at}
 use Rattle.std.proofs.lemmas.List.{get_or-set_other, get_or_push}
@@ -13,6 +13,7 @@ use Rattle.pref_core.specs.declared.event.Reply.{Reply}
 use Rattle.pref_share.specs.Interleavings.{acts_of}
 use Rattle.pref_share.specs.Reports.{AreTaken}
 use Rattle.pref_share.proofs.RunsLaws.{there}
+use Rattle.pref_script.specs.ClientParts.{IsWhole}
 use Rattle.pref_script.specs.declared.command.Refusal.TheVariants.{NotCommand}
 use Rattle.pref_script.specs.declared.parts.Found.{Found}
 use Rattle.pref_script.proofs.ClientFacts.{acts-append, acts-few, acts-other, acts-own}
@@ -103,58 +104,19 @@ acts-line names client raw more =
     let events = accepted_events-append first rest ∙ ap (λ (t : List Event). accepted_events first ++ t) (events-any_number names 1 0 more) in
     ap (acts_of client) events ∙ acts-append client (accepted_events first) (accepted_events (commands_of names 0 more))
 
--- a client's number
-number-is : (client : ℕ) (number : Option ℕ) → is_number client number ≡ true → number ≡ Some client
-number-is client None is = cc is
-number-is client (Some number) is = ap Some (eqb-true number client is)
+-- a line that does not name the client is nothing to it, among others
+acts-unnamed : (names : List (List ℕ)) (client : ℕ) (before : List (List ℕ)) (raw : List ℕ) (left : List (List ℕ)) → client_named (without_line_end raw) ≢ Some client
+    → acts_in names client (before ++ raw ∷ left) ≡ acts_in names client (before ++ left)
+acts-unnamed names client [] raw left other = acts-line names client raw left ∙ ap (λ (acts : List Act). acts ++ acts_in names client left) (first-unnamed names client (without_line_end raw) other)
+acts-unnamed names client (first ∷ before) raw left other =
+    acts-line names client first (before ++ raw ∷ left)
+    ∙ ap (λ (acts : List Act). acts_of client (accepted_events (commands_in names 0 (without_line_end first))) ++ acts) (acts-unnamed names client before raw left other)
+    ∙ sym (acts-line names client first (before ++ left))
 
-number-none : (client : ℕ) (number : Option ℕ) → is_number client number ≡ false → number ≢ Some client
-number-none client None isnt same = cc same
-number-none client (Some number) isnt same =
-    let own : number ≡ client = cc same in
-    eqb-false number client isnt own
-
-number-isnt : (client : ℕ) (number : Option ℕ) → (number ≡ Some client → ⊥) → is_number client number ≡ false
-number-isnt client None other = refl
-number-isnt client (Some number) other = ne_eqb number client (λ same. other (ap Some same))
-
--- a line is one of those that name a client, or is none of them
-lines-own : (client : ℕ) (raw : List ℕ) (more : List (List ℕ)) → client_named (without_line_end raw) ≡ Some client → lines_of client (raw ∷ more) ≡ raw ∷ lines_of client more
-lines-own client raw more named = ap (λ (own : Bool). cond own (raw ∷ lines_of client more) (lines_of client more)) (ap (is_number client) named ∙ eq-eqb client client refl)
-
-lines-other : (client : ℕ) (raw : List ℕ) (more : List (List ℕ)) → (client_named (without_line_end raw) ≡ Some client → ⊥) → lines_of client (raw ∷ more) ≡ lines_of client more
-lines-other client raw more other = ap (λ (own : Bool). cond own (raw ∷ lines_of client more) (lines_of client more)) (number-isnt client (client_named (without_line_end raw)) other)
-
--- a client's acts come from the lines that name it
-acts-of_named : (names : List (List ℕ)) (client : ℕ) (raws : List (List ℕ)) → acts_in names client (lines_of client raws) ≡ acts_in names client raws
-acts-of_named names client [] = refl
-acts-of_named names client (raw ∷ more) = by (is_number client (client_named (without_line_end raw))) refl (acts-of_named names client more)
-  where
-    line : List Act
-    line = acts_of client (accepted_events (commands_in names 0 (without_line_end raw)))
-
-    by : (own : Bool) → is_number client (client_named (without_line_end raw)) ≡ own → acts_in names client (lines_of client more) ≡ acts_in names client more
-        → acts_in names client (lines_of client (raw ∷ more)) ≡ acts_in names client (raw ∷ more)
-    by true is rest =
-        ap (acts_in names client) (lines-own client raw more (number-is client (client_named (without_line_end raw)) is))
-        ∙ acts-line names client raw (lines_of client more) ∙ ap (λ (acts : List Act). line ++ acts) rest ∙ sym (acts-line names client raw more)
-    by false is rest =
-        let other : client_named (without_line_end raw) ≢ Some client = number-none client (client_named (without_line_end raw)) is in
-        ap (acts_in names client) (lines-other client raw more other) ∙ rest
-        ∙ ap (λ (acts : List Act). acts ++ acts_in names client more) (sym (first-unnamed names client (without_line_end raw) other)) ∙ sym (acts-line names client raw more)
-
--- and no other line of its can be refused
-accepted-of_named : (names : List (List ℕ)) (client : ℕ) (raws : List (List ℕ)) → AllAccepted names client (lines_of client raws) → AllAccepted names client raws
-accepted-of_named names client [] all = tt
-accepted-of_named names client (raw ∷ more) all = by (is_number client (client_named (without_line_end raw))) refl (accepted-of_named names client more)
-  where
-    by : (own : Bool) → is_number client (client_named (without_line_end raw)) ≡ own → (AllAccepted names client (lines_of client more) → AllAccepted names client more) → AllAccepted names client (raw ∷ more)
-    by true is rest =
-        let both = subst (AllAccepted names client) (lines-own client raw more (number-is client (client_named (without_line_end raw)) is)) all in
-        (both.0, rest both.1)
-    by false is rest =
-        let other : client_named (without_line_end raw) ≢ Some client = number-none client (client_named (without_line_end raw)) is in
-        (λ named. absurd (other named), rest (subst (AllAccepted names client) (lines-other client raw more other) all))
+accepted-unnamed : (names : List (List ℕ)) (client : ℕ) (before : List (List ℕ)) (raw : List ℕ) (left : List (List ℕ)) → client_named (without_line_end raw) ≢ Some client
+    → AllAccepted names client (before ++ left) → AllAccepted names client (before ++ raw ∷ left)
+accepted-unnamed names client [] raw left other all = (λ named. absurd (other named), all)
+accepted-unnamed names client (first ∷ before) raw left other all = (all.0, accepted-unnamed names client before raw left other all.1)
 
 -- the acts that a line is found to be
 abbrev acts_found : Found → List Act
@@ -254,7 +216,7 @@ returned-nothing part = record { client = refl; schema = refl; text = sym (appen
 pub none-are : (names raws : List (List ℕ)) → ArePartsUpTo names raws raws []
 none-are names raws place part here = cc here
 
-pub are-more : (names raws : List (List ℕ)) (parts : List Part) (part : Part) → ArePartsUpTo names raws raws parts → part.schema.now ≡ names → part.client ≡ suc (length parts) → lines_in part ≡ [] → part.read ≡ 0
+pub are-more : (names raws : List (List ℕ)) (parts : List Part) (part : Part) → ArePartsUpTo names raws raws parts → part.schema.now ≡ names → part.client ≡ suc (length parts) → lines_left part ≡ [] → part.read ≡ 0
     → string_bytes part.text ≡ [] → ArePartsUpTo names raws raws (parts ++ part ∷ [])
 are-more names raws parts part are schema client lines read returned place other here = elim (cases_lt place (length parts)) [
   | inl inside ↦
@@ -263,7 +225,7 @@ are-more names raws parts part are schema client lines read returned place other
   | inr past ↦
       let last : length parts ≡ place = omega (arith, past, slice_get_within (parts ++ part ∷ []) place other here, length-append parts (part ∷ [])) in
       let same : part ≡ other = sym (get_or_push parts part part place last) ∙ get_or_from_slice_get (parts ++ part ∷ []) place other part here in
-      subst (IsPart names raws raws (suc place)) same (record { schema = schema; number = client ∙ ap suc last; lines = ap (λ (l : List (List ℕ)). l ++ lines_of (suc place) raws) lines; unread = read; returned = returned })
+      subst (IsPart names raws raws (suc place)) same (record { schema = schema; number = client ∙ ap suc last; acts = ap (λ (l : List (List ℕ)). acts_in names (suc place) (l ++ raws)) lines; accepted = subst (λ (l : List (List ℕ)). AllAccepted names (suc place) (l ++ raws)) lines; unread = read; returned = returned })
 ]
 
 -- a line more
@@ -275,18 +237,27 @@ pub parts-all : (names raws : List (List ℕ)) (left : List ℕ) (parts : List P
 parts-all names raws [] parts are none = subst (λ (lines : List (List ℕ)). ArePartsUpTo names raws lines parts) lines_none are
 parts-all names raws (x ∷ xs) parts are none = absurd (omega arith)
 
+pub given-none : (clients : ℕ) (left : List ℕ) → length left ≡ 0 → AllGiven clients (raw_lines left)
+given-none clients [] none = rw lines_none tt
+given-none clients (x ∷ xs) none = absurd (omega arith)
+
 -- a line is given to the part of the client that it names
-part-next : (names raws left : List (List ℕ)) (raw : List ℕ) (client : ℕ) (part : Part) → IsPart names raws (raw ∷ left) client part → (client_named (without_line_end raw) ≡ Some client → ⊥) → IsPart names raws left client part
+part-next : (names raws left : List (List ℕ)) (raw : List ℕ) (client : ℕ) (part : Part) → IsPart names raws (raw ∷ left) client part → client_named (without_line_end raw) ≢ Some client → IsPart names raws left client part
 part-next names raws left raw client part is other = record {
   schema = is.schema;
   number = is.number;
-  lines = ap (λ (l : List (List ℕ)). lines_in part ++ l) (sym (lines-other client raw left other)) ∙ is.lines;
+  acts = sym (acts-unnamed names client (lines_left part) raw left other) ∙ is.acts;
+  accepted = λ all. is.accepted (accepted-unnamed names client (lines_left part) raw left other all);
   unread = is.unread;
   returned = is.returned;
 }
 
 pub given-nobody : (names raws left : List (List ℕ)) (raw : List ℕ) (parts : List Part) → NamesNone (length parts) (without_line_end raw) → ArePartsUpTo names raws (raw ∷ left) parts → ArePartsUpTo names raws left parts
 given-nobody names raws left raw parts nobody are place part here = part-next names raws left raw (suc place) part (are place part here) (nobody place (slice_get_within parts place part here))
+
+-- no line of a part was read
+lines-unread : (part : Part) → part.read ≡ 0 → lines_left part ≡ lines_in part
+lines-unread part unread = ap (λ (n : ℕ). map (λ (r : Bor (List ℕ)). r.now) (drop n part.lines.items)) unread
 
 same-place : (spot place : ℕ) → Some (suc spot) ≡ Some (suc place) → spot ≡ place
 same-place spot place same =
@@ -304,12 +275,17 @@ given-here names raws left raw parts place old new inside held named schema clie
     was : IsPart names raws (raw ∷ left) (suc place) old
     was = are place old (slice_get_read parts (length parts) place old refl inside held)
 
+    whole : lines_left old ++ raw ∷ left ≡ lines_left new ++ left
+    whole =
+        ap (λ (l : List (List ℕ)). l ++ raw ∷ left) (lines-unread old was.unread) ∙ sym (append_assoc (lines_in old) (raw ∷ []) left)
+        ∙ ap (λ (l : List (List ℕ)). l ++ left) (sym lines ∙ sym (lines-unread new (read ∙ was.unread)))
+
     more : IsPart names raws left (suc place) new
     more = record {
       schema = schema ∙ was.schema;
       number = client ∙ was.number;
-      lines = ap (λ (l : List (List ℕ)). l ++ lines_of (suc place) left) lines ∙ append_assoc (lines_in old) (raw ∷ []) (lines_of (suc place) left)
-          ∙ ap (λ (l : List (List ℕ)). lines_in old ++ l) (sym (lines-own (suc place) raw left named)) ∙ was.lines;
+      acts = ap (acts_in names (suc place)) (sym whole) ∙ was.acts;
+      accepted = λ all. was.accepted (subst (AllAccepted names (suc place)) (sym whole) all);
       unread = read ∙ was.unread;
       returned = text ∙ was.returned;
     }
@@ -328,7 +304,7 @@ given-here names raws left raw parts place old new inside held named schema clie
 
 -- all lines were given to the parts: these are the acts of each
 pub part-acts : (names raws : List (List ℕ)) (client : ℕ) (part : Part) → IsPart names raws [] client part → acts_left part ≡ acts_in names client raws
-part-acts names raws client part is = rw (is.schema, is.number, is.unread) (ap (acts_in names client) (sym (append-nil (lines_in part)) ∙ is.lines) ∙ acts-of_named names client raws)
+part-acts names raws client part is = rw (is.schema, is.number) (ap (acts_in names client) (sym (append-nil (lines_left part))) ∙ is.acts)
 
 pub parts-few : (names : List (List ℕ)) (text : List ℕ) (parts : List Part) → length text < 2 ^ 63 → AreParts names (raw_lines text) parts → All (λ part. length (acts_left part) < 2 ^ 63) parts
 parts-few names text parts short are i d within =
@@ -415,28 +391,39 @@ parts-shown names text parts done replies are taken = parts-returned names 1 don
     let wrote : string_bytes part.text ≡ string_bytes first.text ++ texts (reply_lines (length first.schema.now) first.client) returned.items = has.text in
     rw (is.returned, is.schema, is.number ∙ number, same) at wrote)
 
--- no line of a client whose part is whole was refused
-pub whole-accept : (names : List (List ℕ)) (text : List ℕ) (parts done : List Part) (replies : List (Vec Reply)) → AreParts names (raw_lines text) parts → AreTaken HasReplied parts done replies → WholeAcceptAll names done (raw_lines text)
-whole-accept names text parts done replies are taken place part part_at whole =
-    let inside : place < length parts = omega (arith, slice_get_within done place part part_at, taken.tasks_done) in
-    let (first, first_at) = there parts place inside in
+-- no line that names a client whose part is whole was refused
+whole-accepts : (names : List (List ℕ)) (text : List ℕ) (parts done : List Part) (replies : List (Vec Reply)) → AreParts names (raw_lines text) parts → AreTaken HasReplied parts done replies → All IsWhole done
+    → (place : ℕ) → place < length done → AllAccepted names (suc place) (raw_lines text)
+whole-accepts names text parts done replies are taken all place inside =
+    let (first, first_at) = there parts place (omega (arith, inside, taken.tasks_done)) in
+    let (part, part_at) = there done place inside in
     let (returned, told_at, has) = taken.each place first part first_at part_at in
     let is = are place first first_at in
+    let whole : IsWhole part = subst IsWhole (get_or_from_slice_get done place part part part_at) (all place part inside) in
     let none : lines_left part ≡ [] = lines-none part (omega (arith, whole.through)) in
     let accepts : AllAccepted first.schema.now first.client (lines_left first) = has.accepted whole.accepted (subst (AllAccepted part.schema.now part.client) (sym none) tt) in
-    let named : AllAccepted names (suc place) (lines_in first) = rw (is.schema, is.number, is.unread) at accepts in
-    accepted-of_named names (suc place) (raw_lines text) (subst (AllAccepted names (suc place)) (sym (append-nil (lines_in first)) ∙ is.lines) named)
+    let left : AllAccepted names (suc place) (lines_left first) = rw (is.schema, is.number) at accepts in
+    is.accepted (subst (AllAccepted names (suc place)) (sym (append-nil (lines_left first))) left)
 
--- the first line of some, and those behind it
-pub accept-first : (names : List (List ℕ)) (parts : List Part) (left raw tail : List ℕ) → WholeAcceptAll names parts (raw_lines left) → raw_lines left ≡ raw ∷ raw_lines tail → WholeAccept names parts (without_line_end raw)
-accept-first names parts left raw tail all cut place part here whole = (rw cut at (all place part here whole)).0
-
-pub accept-rest : (names : List (List ℕ)) (parts : List Part) (left raw tail : List ℕ) → WholeAcceptAll names parts (raw_lines left) → raw_lines left ≡ raw ∷ raw_lines tail → WholeAcceptAll names parts (raw_lines tail)
-accept-rest names parts left raw tail all cut place part here whole = (rw cut at (all place part here whole)).1
-
--- a line of a client whose part is whole is none of nobody's
-pub unowned-read : (width : ℕ) (names : List (List ℕ)) (parts : List Part) (number : ℕ) (line out : List ℕ) → WholeAccept names parts line → IsRead parts line → out ≡ out ++ unowned_lines (length parts) width (commands_in names number line)
-unowned-read width names parts number line out accept read = elim (accept read.place read.part read.here read.whole read.named) [
-  | inl blank ↦ unowned-blank (length parts) width names number line out blank
-  | inr (event, said, own) ↦ unowned-own (length parts) width names number line out read.place event said own (slice_get_within parts read.place read.part read.here)
+-- a line that was given to a part, and that is not refused, is none of nobody's
+unowned-given : (clients width : ℕ) (names : List (List ℕ)) (number : ℕ) (raw : List ℕ) → IsGiven clients raw → ((place : ℕ) → place < clients → IsAccepted names (suc place) (without_line_end raw))
+    → unowned_lines clients width (commands_in names number (without_line_end raw)) ≡ []
+unowned-given clients width names number raw (inl blank) accept = sym (unowned-blank clients width names number (without_line_end raw) [] blank)
+unowned-given clients width names number raw (inr (place, inside, named)) accept = elim (accept place inside named) [
+  | inl blank ↦ sym (unowned-blank clients width names number (without_line_end raw) [] blank)
+  | inr (event, said, own) ↦ sym (unowned-own clients width names number (without_line_end raw) [] place event said own inside)
 ]
+
+all-given : (clients width : ℕ) (names : List (List ℕ)) (number : ℕ) (raws : List (List ℕ)) → AllGiven clients raws → ((place : ℕ) → place < clients → AllAccepted names (suc place) raws)
+    → unowned_lines clients width (commands_of names number raws) ≡ []
+unfolding commands_of texts
+all-given clients width names number [] given accept = refl
+all-given clients width names number (raw ∷ more) given accept =
+    texts-append (unowned_line clients width) (commands_in names number (without_line_end raw)) (commands_of names (number + 1) more)
+    ∙ ap (λ (t : List ℕ). t ++ unowned_lines clients width (commands_of names (number + 1) more)) (unowned-given clients width names number raw given.0 (λ place inside. (accept place inside).0))
+    ∙ all-given clients width names (number + 1) more given.1 (λ place inside. (accept place inside).1)
+
+-- no line belongs to nobody, where each was given to a part and all parts are whole
+pub unowned-none : (names : List (List ℕ)) (text : List ℕ) (number : ℕ) (parts done : List Part) (replies : List (Vec Reply)) → AreParts names (raw_lines text) parts → AreTaken HasReplied parts done replies
+    → AllGiven (length done) (raw_lines text) → All IsWhole done → unowned_lines (length done) (length names) (commands_of names number (raw_lines text)) ≡ []
+unowned-none names text number parts done replies are taken given whole = all-given (length done) (length names) names number (raw_lines text) given (whole-accepts names text parts done replies are taken whole)

@@ -1,19 +1,20 @@
 -- What a script is told whose clients run on threads.
-use Rattle.pref_script.proofs.Common.{◌≡◌, ◌∙◌, ℕ, ◌+◌, ◌<◌, ◌≤◌, ◌^◌, arith, map, Bool, List, ◌++◌, length, refl, sym, ap, subst, Result, Ok, Err, IfErr, ◌⊎◌, inl, inr, ℤ, Vec, string_bytes, Limits}
-use Rattle.pref_script.proofs.Common.{AreParts, HasReplied, WholeAcceptAll, acts_left, accepted_events, commands_of, Script, ScriptFault, script_of, script_with, IsOpeningOf, share_fault, raw_lines}
+use Rattle.pref_script.proofs.Common.{◌≡◌, ◌∙◌, ℕ, ◌+◌, ◌<◌, ◌≤◌, ◌^◌, arith, map, Bool, List, ◌++◌, length, refl, sym, ap, subst, Result, Ok, Err, IfErr, ◌⊎◌, inl, inr, ℤ, Vec, string_bytes, All, [], Limits}
+use Rattle.pref_script.proofs.Common.{AllGiven, AreParts, HasReplied, acts_left, accepted_events, commands_of, Script, ScriptFault, script_of, script_with, IsOpeningOf, share_fault, raw_lines}
 use Rattle.pref_script.proofs.Common.{texts, Sink, Wrote, AreActs, ClosesOrStops, HoldsNobody, PrintsOnThreads, StopsClients, WereStopped, always_open, opening_of, unowned_lines, RunFault, Part}
 use Rattle.std.specs.declared.marker.Brand.{Brand}
 use Rattle.pref_core.specs.declared.event.Act.{Act}
 use Rattle.pref_core.specs.declared.fault.CoreFault.{CoreFault}
 use Rattle.pref_share.specs.Openings.{Opening}
-use Rattle.pref_share.specs.Reports.{RanTasks}
+use Rattle.pref_share.specs.Reports.{AreTaken, RanTasks}
 use Rattle.pref_share.specs.Standing.{newcomers}
 use Rattle.pref_share.specs.declared.fault.ShareFault.{ShareFault}
 use Rattle.pref_share.proofs.InterleavingsLaws.{length-newcomers}
 use Rattle.pref_share.proofs.ReportsLaws.{first_stops}
+use Rattle.pref_script.specs.ClientParts.{IsWhole}
 use Rattle.pref_script.specs.declared.reading.Opening.{Opening as OpeningRead}
 use Rattle.pref_script.proofs.OutputFacts.{first-least, script-core-fault, script-ok}
-use Rattle.pref_script.proofs.PartFacts.{acts_from, acts-listed, are-acts, parts-shown, whole-accept}
+use Rattle.pref_script.proofs.PartFacts.{acts_from, acts-listed, are-acts, parts-shown, unowned-none}
 use Rattle.pref_core.specs.declared.fault.CoreFault.TheVariants as core
 use Rattle.pref_share.specs.declared.fault.ShareFault.TheVariants as share
 use Rattle.pref_script.specs.declared.fault.RunFault.TheVariants as fault
@@ -94,12 +95,15 @@ module _ (limits : Limits) (says : ℕ → ℕ → Bool → Type 0) (bytes : Lis
       by (inl (many, full)) = rw full (script-core-fault limits bytes read.parts (r.schema, r.rows.items) (core.Full (length r.rows.items)) read.cut read.table (λ _. refl) (inr many))
       by (inr (room, stops)) = tells-stopped limits says bytes r read room acts owned why (stops acts listed)
 
-  -- no line of a client whose part is whole was refused
-  pub tells-whole : (o : Opening) (done shown : List Part) → ((acts : List (Vec Act)) → map (λ list. list.items) acts ≡ map acts_left parts.items → RanTasks o HasReplied acts parts.items done) → shown ≡ done
-      → WholeAcceptAll r.schema shown (raw_lines r.text.commands.now)
-  tells-whole o done shown ran all =
+  -- no line belongs to nobody, where each was given to a part and all parts are whole
+  pub tells-none : (o : Opening) (done shown : List Part) → AllGiven limits.clients (raw_lines r.text.commands.now)
+      → ((acts : List (Vec Act)) → map (λ list. list.items) acts ≡ map acts_left parts.items → RanTasks o HasReplied acts parts.items done) → shown ≡ done → All IsWhole shown
+      → unowned_lines (length shown) (length r.schema) (commands_of r.schema r.text.first (raw_lines r.text.commands.now)) ≡ []
+  tells-none o done shown given ran same whole =
       let run = ran acts listed in
-      subst (λ (l : List Part). WholeAcceptAll r.schema l (raw_lines r.text.commands.now)) (sym all) (whole-accept r.schema r.text.commands.now parts.items done run.replies are run.taken)
+      let many : limits.clients ≡ length shown = sym (ap length same ∙ run.taken.tasks_done ∙ count) in
+      unowned-none r.schema r.text.commands.now r.text.first parts.items shown run.replies are (subst (λ (l : List Part). AreTaken HasReplied parts.items l run.replies) (sym same) run.taken)
+      (subst (λ (clients : ℕ). AllGiven clients (raw_lines r.text.commands.now)) many given) whole
 
   -- the output of a joint run
   pub tells-joint : (rows : List (List ℤ)) (done shown printed : List Part) (unowned text : List ℕ) → rows ≡ r.rows.items → (limits.capacity < length rows → ⊥)

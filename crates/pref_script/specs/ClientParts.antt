@@ -20,15 +20,6 @@ use Rattle.pref_script.specs.declared.parts.Part.{Part}
 abbrev pub acts_in : List (List ℕ) → ℕ → List (List ℕ) → List Act
 acts_in names client raws = acts_of client (accepted_events (commands_of names 0 raws))
 
--- whether this is the client's number
-abbrev pub is_number : ℕ → Option ℕ → Bool
-is_number client None = false
-is_number client (Some number) = number == client
-
--- the lines that name a client
-abbrev pub lines_of : ℕ → List (List ℕ) → List (List ℕ)
-lines_of client raws = filter (λ raw. is_number client (client_named (without_line_end raw))) raws
-
 -- the act of a client in a line, where it has one
 abbrev pub FirstAct : List (List ℕ) → ℕ → List ℕ → Option Act → Type 0
 FirstAct names client line None = acts_of client (accepted_events (commands_in names 0 line)) ≡ []
@@ -78,11 +69,13 @@ pub record IsWhole (part : Part) : Type 0 where
   pub through : part.read ≡ vec_len part.lines
   pub accepted : part.refused ≡ false
 
--- a client's part before its first line is read, where it has the lines that name the client but for those that are left
+-- A client's part before its first line is read: with the lines that are left to be given, its lines have the acts of the client in all
+-- lines, and where none of these is refused, none of all is.
 pub record IsPart (names raws left : List (List ℕ)) (client : ℕ) (part : Part) : Type 0 where
   pub schema : part.schema.now ≡ names
   pub number : part.client ≡ client
-  pub lines : lines_in part ++ lines_of client left ≡ lines_of client raws
+  pub acts : acts_in names client (lines_left part ++ left) ≡ acts_in names client raws
+  pub accepted : AllAccepted names client (lines_left part ++ left) → AllAccepted names client raws
   pub unread : part.read ≡ 0
   pub returned : string_bytes part.text ≡ []
 
@@ -98,18 +91,11 @@ AreParts names raws parts = ArePartsUpTo names raws [] parts
 abbrev pub NamesNone : ℕ → List ℕ → Type 0
 NamesNone clients line = (place : ℕ) → place < clients → client_named line ≡ Some (suc place) → ⊥
 
--- a line of each client whose part is whole is not refused
-abbrev pub WholeAccept : List (List ℕ) → List Part → List ℕ → Type 0
-WholeAccept names parts line = (place : ℕ) (part : Part) → slice_get parts place ≡ Some part → IsWhole part → IsAccepted names (suc place) line
+-- a line is blank, or it names one of this many clients
+abbrev pub IsGiven : ℕ → List ℕ → Type 0
+IsGiven clients raw = (list_all is_blank (without_line_end raw) ≡ true) ⊎ ((place : ℕ) × (place < clients) × (client_named (without_line_end raw) ≡ Some (suc place)))
 
--- nor is any of these
-abbrev pub WholeAcceptAll : List (List ℕ) → List Part → List (List ℕ) → Type 0
-WholeAcceptAll names parts raws = (place : ℕ) (part : Part) → slice_get parts place ≡ Some part → IsWhole part → AllAccepted names (suc place) raws
-
--- a line names a client whose part is whole
-pub record IsRead (parts : List Part) (line : List ℕ) : Type 0 where
-  pub place : ℕ
-  pub part : Part
-  pub here : slice_get parts place ≡ Some part
-  pub whole : IsWhole part
-  pub named : client_named line ≡ Some (suc place)
+-- so is each of these
+abbrev pub AllGiven : ℕ → List (List ℕ) → Type 0
+AllGiven clients [] = Unit {0}
+AllGiven clients (raw ∷ more) = IsGiven clients raw × AllGiven clients more

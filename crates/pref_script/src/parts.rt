@@ -1,6 +1,6 @@
 //! What each client of a script does on a thread of its own: its lines, one after the other.
-ghost use Rattle.std.specs.Prelude.{◌≡◌, ◌<◌, ◌++◌, ◌∷◌, [], true, length, string_bytes, suc, IfOk, MatchOption, OnOk, Some};
-ghost use Rattle.pref_script.specs.ClientParts.{ArePartsUpTo, AreParts, IsFound, IsWhole, NamesNone};
+ghost use Rattle.std.specs.Prelude.{◌≡◌, ◌<◌, ◌++◌, ◌∷◌, [], true, length, string_bytes, suc, All, IfOk, MatchOption, OnOk, Some};
+ghost use Rattle.pref_script.specs.ClientParts.{AllGiven, ArePartsUpTo, AreParts, IsFound, IsGiven, IsWhole, NamesNone};
 ghost use Rattle.pref_script.specs.Forms.{client_named};
 ghost use Rattle.pref_script.specs.Script.{raw_lines};
 ghost use Rattle.pref_script.specs.Text.{texts};
@@ -28,7 +28,7 @@ pub struct Part<'script> {
 
 impl Part<'_> {
     /// Whether all lines that name the client were its acts, and none is left.
-    pub fn is_whole(&self) -> bool
+    fn is_whole(&self) -> bool
         ensures { result ≡ true → IsWhole self.now }
     {
         self.read == self.lines.len() && !self.refused
@@ -106,7 +106,7 @@ fn empty_parts(alloc: Global, schema: &Schema, clients: u8) -> Result<Vec<Part<'
 }
 
 /// The place of the client that a line names among this many clients, where it is one of them.
-pub fn place_named(clients: usize, line: &[u8]) -> Option<usize>
+fn place_named(clients: usize, line: &[u8]) -> Option<usize>
     ensures { MatchOption result (NamesNone clients line.now) (λ place. (place < clients) × (client_named line.now ≡ Some (suc place))) }
 {
     let number = usize::from(client_named(line)?);
@@ -117,35 +117,57 @@ pub fn place_named(clients: usize, line: &[u8]) -> Option<usize>
     }
 }
 
-/// Gives a line to the part of the client that it names, where it is one of these.
-fn give_line<'script>(parts: &mut Vec<Part<'script>>, raw: &'script [u8]) -> Result<(), AllocError>
+/// Gives a line to the part of the client that it names, where it is one of these. Returns whether the line went there, or is blank.
+fn give_line<'script>(
+    parts: &mut Vec<Part<'script>>,
+    raw: &'script [u8],
+) -> Result<bool, AllocError>
     ensures count { OnOk result (length parts.new.items ≡ length parts.old.items) }
     ensures parts { OnOk result ((names : _) (raws : _) (left : _) → ArePartsUpTo names raws (raw.now ∷ left) parts.old.items → ArePartsUpTo names raws left parts.new.items) }
+    ensures given { IfOk result (λ given. given ≡ true → IsGiven (length parts.old.items) raw.now) }
 {
-    if let Some(place) = place_named(parts.len(), line_text(raw)) {
+    let line = line_text(raw);
+    if let Some(place) = place_named(parts.len(), line) {
         parts[place].lines.push(raw)?;
+        return Ok(true);
     }
-    Ok(())
+    Ok(is_blank_line(line))
 }
 
-/// The part of each of this many clients, before its first line is read.
+/// The part of each of this many clients, before its first line is read, and whether each line that is not blank went to one of them.
 pub fn client_parts<'script>(
     alloc: Global,
     schema: &'script Schema,
     clients: u8,
     lines: &'script [u8],
-) -> Result<Vec<Part<'script>>, AllocError>
-    ensures count { IfOk result (λ parts. length parts.items ≡ clients) }
-    ensures parts { IfOk result (λ parts. AreParts schema.now (raw_lines lines.now) parts.items) }
+) -> Result<(Vec<Part<'script>>, bool), AllocError>
+    ensures count { IfOk result (λ split. length split.0.items ≡ clients) }
+    ensures parts { IfOk result (λ split. AreParts schema.now (raw_lines lines.now) split.0.items) }
+    ensures given { IfOk result (λ split. split.1 ≡ true → AllGiven clients (raw_lines lines.now)) }
 {
     let mut parts = empty_parts(alloc, schema, clients)?;
+    let mut all_given = true;
     let mut left = lines;
     while !left.is_empty() {
         let (raw, tail) = cut_line(left);
-        give_line(&mut parts, raw)?;
+        if !give_line(&mut parts, raw)? {
+            all_given = false;
+        }
         left = tail;
     }
-    Ok(parts)
+    Ok((parts, all_given))
+}
+
+/// Whether all these parts are whole.
+pub fn are_whole(parts: &[Part<'_>]) -> bool
+    ensures { result ≡ true → All IsWhole parts.now }
+{
+    for part in parts {
+        if !part.is_whole() {
+            return false;
+        }
+    }
+    true
 }
 
 /// Appends the texts of all parts, in order of the clients.

@@ -90,7 +90,7 @@ pub fn run_threads<R: Threads + Wait + Sync, G: Gate + Sync>(
     ensures { PrintsOnThreads setup (G.says gate.now) bytes.now (in_bytes result) }
 {
     let Opening { schema, rows, text } = read_opening(alloc, bytes)?;
-    let parts = client_parts(alloc, &schema, setup.clients(), text.commands)?;
+    let (parts, all_given) = client_parts(alloc, &schema, setup.clients(), text.commands)?;
     let done = joint_parts::<Brand, R, G>(
         rt,
         alloc,
@@ -100,7 +100,7 @@ pub fn run_threads<R: Threads + Wait + Sync, G: Gate + Sync>(
         parts,
         gate,
     )?;
-    let mut out = unowned_text(alloc, &schema, done.as_slice(), text)?;
+    let mut out = unowned_text(alloc, &schema, done.as_slice(), all_given, text)?;
     push_parts(&mut out, done.as_slice())?;
     Ok(out)
 }

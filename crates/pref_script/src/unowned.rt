@@ -1,8 +1,8 @@
 //! The lines of a script that belong to none of its clients.
-ghost use Rattle.std.specs.Prelude.{◌≡◌, ◌≤◌, ◌<◌, ◌+◌, ◌^◌, ◌++◌, [], true, IfErr, IfOk, OnOk, if◌then◌else◌, length, string_bytes};
+ghost use Rattle.std.specs.Prelude.{◌≡◌, ◌≤◌, ◌<◌, ◌+◌, ◌^◌, ◌++◌, [], true, All, IfErr, IfOk, OnOk, if◌then◌else◌, length, string_bytes};
 ghost use Rattle.pref_core.specs.declared.event.Reply.TheVariants.{Refused};
 ghost use Rattle.pref_core.specs.declared.fault.CoreFault.TheVariants.{NoSuchClient};
-ghost use Rattle.pref_script.specs.ClientParts.{IsRead, WholeAccept, WholeAcceptAll};
+ghost use Rattle.pref_script.specs.ClientParts.{IsWhole};
 ghost use Rattle.pref_script.specs.Commands.{commands_in, commands_of};
 ghost use Rattle.pref_script.specs.Script.{raw_lines};
 ghost use Rattle.pref_script.specs.Text.{reply_lines};
@@ -10,7 +10,7 @@ ghost use Rattle.pref_script.specs.Threads.{is_client, unowned_lines};
 
 use crate::command::{Stop, read_event};
 use crate::fault::RunFault;
-use crate::parts::{Part, place_named};
+use crate::parts::{Part, are_whole};
 use crate::script::{ScriptText, cut_line, is_blank_line, line_text};
 use crate::text::{push_refused, push_reply};
 use pref_core::{CoreFault, Reply};
@@ -63,55 +63,36 @@ fn push_unowned(
     Ok(())
 }
 
-/// Whether a line names a client whose part is whole, so that it is one of its acts.
-fn is_read(parts: &[Part<'_>], line: &[u8]) -> bool
-    ensures { result ≡ true → IsRead parts.now line.now }
-{
-    match place_named(parts.len(), line) {
-        Some(place) => parts[place].is_whole(),
-        None => false,
-    }
-}
-
-/// Appends what is printed for a line that belongs to no client, where these are the clients' parts. A line that names a client whose
-/// part is whole is not read again.
-fn push_if_unowned(
-    alloc: Global,
-    schema: &Schema,
-    parts: &[Part<'_>],
-    number: u64,
-    line: &[u8],
-    out: &mut String,
-) -> Result<(), RunFault>
-    requires { WholeAccept schema.now parts.now line.now }
-    ensures returned { OnOk result (string_bytes out.new ≡ string_bytes out.old ++ unowned_lines (length parts.now) (length schema.now) (commands_in schema.now number line.now)) }
-    ensures memory { IfErr result (λ fault. fault ≡ RunFault.Memory) }
-{
-    if is_read(parts, line) {
-        return Ok(());
-    }
-    push_unowned(alloc, schema, parts.len(), number, line, out)
-}
-
 /// The text of the lines that belong to no client, in order of the script: refused ones, and those of clients that do not exist. These are the
-/// clients' parts once their acts are done.
+/// clients' parts once their acts are done. If each line went to a part and all parts are whole, there are no such lines.
 pub fn unowned_text(
     alloc: Global,
     schema: &Schema,
     parts: &[Part<'_>],
+    all_given: bool,
     script: ScriptText<'_>,
 ) -> Result<String, RunFault>
     requires few { script.first + length script.commands.now < 2 ^ 64 }
-    requires whole { WholeAcceptAll schema.now parts.now (raw_lines script.commands.now) }
+    requires none { all_given ≡ true → All IsWhole parts.now → unowned_lines (length parts.now) (length schema.now) (commands_of schema.now script.first (raw_lines script.commands.now)) ≡ [] }
     ensures returned { IfOk result (λ text. string_bytes text ≡ unowned_lines (length parts.now) (length schema.now) (commands_of schema.now script.entry.first (raw_lines script.entry.commands.now))) }
     ensures memory { IfErr result (λ fault. fault ≡ RunFault.Memory) }
 {
     let mut text = String::new(alloc);
+    if all_given && are_whole(parts) {
+        return Ok(text);
+    }
     let mut left = script.commands;
     let mut number = script.first;
     while !left.is_empty() {
         let (raw, tail) = cut_line(left);
-        push_if_unowned(alloc, schema, parts, number, line_text(raw), &mut text)?;
+        push_unowned(
+            alloc,
+            schema,
+            parts.len(),
+            number,
+            line_text(raw),
+            &mut text,
+        )?;
         number += 1;
         left = tail;
     }

@@ -146,11 +146,16 @@ fn a_gate_that_answers_false_stops_the_run(rt: HostRuntime) -> Result<(), Fail> 
 #[test]
 fn a_run_on_threads_writes_the_replies_or_the_line_of_a_fault(rt: HostRuntime) -> Result<(), Fail> {
     let setup = defaults()?;
-    let cases: [(&[u8], Result<(), RunFault>, &[u8]); 3] = [
+    let cases: [(&[u8], Result<(), RunFault>, &[u8]); 4] = [
         (
             b"table\nx\n3\nend\nas 2 get 1\nas 1 jump\nas 1 room",
             Ok(()),
             b"line 6 refused: command\n1 room 1023\n2 row 1: 3\n",
+        ),
+        (
+            b"table\nx\n3\nend\nas 2 get 1\n\nas 9 room\nas 1 room",
+            Ok(()),
+            b"9 refused 1: no such client\n1 room 1023\n2 row 1: 3\n",
         ),
         (
             b"table\nx\n3\n",

@@ -2,15 +2,15 @@ use Rattle.pref_script.proofs.Common.{◌∙◌, ap, arith, refl, sym, Part, cli
 use Rattle.pref_script.proofs.PartFacts.{given-here, given-nobody, lines-push}
 use Rattle.pref_script.proofs.parts.give_line.Goals as goal
 
-pub returns-in_ok-push-clause-parts : goal.returns-in_ok-push-clause-parts
-returns-in_ok-push-clause-parts c = λ names raws left are.
+pub returns-in-Some-clause-parts : goal.returns-in-Some-clause-parts
+returns-in-Some-clause-parts c = λ names raws left are.
     let parts = c.args.parts.now in
     let old = c.index_mut.result.now in
     let new : Part = record { schema = old.schema; client = old.client; lines = c.push.new.self; read = old.read; text = old.text; refused = old.refused } in
     given-here names raws left c.args.raw.now parts.items c.in-Some.place old new (omega (arith, c.in-Some.ensures.0, c.len.ensures, parts.ok.0)) c.index_mut.ensures.value
-    (ap client_named (sym c.line_text.ensures) ∙ c.in-Some.ensures.1) refl refl (lines-push old.lines.items c.push.new.self.items c.args.raw c.in_ok-push.ensures.items) refl refl are
+    (ap client_named (sym c.line_text-line.ensures) ∙ c.in-Some.ensures.1) refl refl (lines-push old.lines.items c.push.new.self.items c.args.raw c.in_ok-push.ensures.items) refl refl are
 
-pub returns-in_default-clause-parts : goal.returns-in_default-clause-parts
-returns-in_default-clause-parts c = λ names raws left are.
+pub returns-clause-parts : goal.returns-clause-parts
+returns-clause-parts c = λ names raws left are.
     let parts = c.args.parts.now in
-    given-nobody names raws left c.args.raw.now parts.items (λ place inside named. c.in_default.ensures place (omega (arith, inside, c.len.ensures, parts.ok.0)) (ap client_named c.line_text.ensures ∙ named)) are
+    given-nobody names raws left c.args.raw.now parts.items (λ place inside named. c.in_default.ensures place (omega (arith, inside, c.len.ensures, parts.ok.0)) (ap client_named c.line_text-line.ensures ∙ named)) are

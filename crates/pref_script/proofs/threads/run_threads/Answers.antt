@@ -1,6 +1,6 @@
 use Rattle.pref_script.proofs.Common.{◌∙◌, arith, err_from_is_err_and}
 use Rattle.pref_script.proofs.PartFacts.{parts-few}
-use Rattle.pref_script.proofs.ThreadsFacts.{commands-short, tells-fault, tells-joint, tells-refused, tells-whole}
+use Rattle.pref_script.proofs.ThreadsFacts.{commands-short, tells-fault, tells-joint, tells-none, tells-refused}
 use Rattle.pref_script.proofs.threads.run_threads.Goals as goal
 
 pub returns-in_err-schema : goal.returns-in_err-schema
@@ -12,11 +12,11 @@ pub joint_parts-requires-clause-few : goal.joint_parts-requires-clause-few
 joint_parts-requires-clause-few g c κs within =
     let short = commands-short c.args.bytes.now c.in_ok-schema.field-0 c.in_ok-schema.ensures.read c.in_ok-schema.ensures.few (omega arith) in parts-few _ _ _ short c.in_ok-parts.ensures.parts
 
-pub unowned_text-requires-clause-whole : goal.unowned_text-requires-clause-whole
-unowned_text-requires-clause-whole g c =
+pub unowned_text-requires-clause-none : goal.unowned_text-requires-clause-none
+unowned_text-requires-clause-none g c = λ given whole.
     let short = commands-short c.args.bytes.now c.in_ok-schema.field-0 c.in_ok-schema.ensures.read c.in_ok-schema.ensures.few (omega arith) in
-    tells-whole c.args.setup (g.G.Gate.says c.args.gate.now) c.args.bytes.now c.in_ok-schema.field-0 c.in_ok-schema.ensures.read c.in_ok-parts.parts (c.in_ok-parts.ensures.count ∙ c.clients.ensures.value) c.in_ok-parts.ensures.parts short
-    _ _ _ c.in_ok-done.ensures.ran c.as_slice-2.ensures.value
+    tells-none c.args.setup (g.G.Gate.says c.args.gate.now) c.args.bytes.now c.in_ok-schema.field-0 c.in_ok-schema.ensures.read c.in_ok-parts.parts (c.in_ok-parts.ensures.count ∙ c.clients.ensures.value) c.in_ok-parts.ensures.parts short
+    _ _ _ (rw c.clients.ensures.value at c.in_ok-parts.ensures.given given) c.in_ok-done.ensures.ran c.as_slice-2.ensures.value whole
 
 pub returns-in_err-done : goal.returns-in_err-done
 returns-in_err-done g c =

@@ -1,20 +1,14 @@
 use Rattle.pref_script.proofs.Common.{ap, arith, length, length-append}
 use Rattle.pref_script.proofs.CommandFacts.{unowned-all, unowned-more}
-use Rattle.pref_script.proofs.PartFacts.{accept-first, accept-rest}
 use Rattle.pref_script.proofs.unowned.unowned_text.Goals as goal
-
-pub push_if_unowned-requires : goal.push_if_unowned-requires
-push_if_unowned-requires c =
-    rw c.line_text.ensures (accept-first c.args.schema.now c.args.parts.now c.loop-left.left.now c.cut_line.result.0.now c.cut_line.result.1.now c.loop-left.invariant.whole c.cut_line.ensures.lines)
 
 pub loop-left-preserved : goal.loop-left-preserved
 loop-left-preserved c =
     let raw = c.cut_line.result.0.now in
     let tail = c.cut_line.result.1.now in
-    let returned = rw c.line_text.ensures at c.in_ok-push_if_unowned.ensures.returned in
+    let returned = rw c.line_text.ensures at c.in_ok-push_unowned.ensures.returned in
     record {
       few = omega (arith, c.loop-left.invariant.few, ap length c.cut_line.ensures.whole, length-append raw tail, c.cut_line.ensures.some);
-      whole = accept-rest c.args.schema.now c.args.parts.now c.loop-left.left.now raw tail c.loop-left.invariant.whole c.cut_line.ensures.lines;
       returned = unowned-more (length c.args.parts.now) (length c.args.schema.now) c.args.schema.now c.loop-left.number c.loop-left.left.now raw tail _ _ _ c.loop-left.invariant.returned c.cut_line.ensures.lines returned;
     }
 
