@@ -328,12 +328,7 @@ first_missing source old new why is some = by why is
     by fault.TooLarge (read, long) = (read, too_long long, none)
     by fault.Read is = (is, none)
     by fault.Memory is = (is, none)
-    by fault.Write never = absurd never
-    by fault.NoTable never = absurd never
-    by fault.NoEnd never = absurd never
-    by (fault.Table why) never = absurd never
-    by (fault.Opening why) never = absurd never
-    by (fault.Threads why) never = absurd never
+    by why never = absurd never
 
 -- a line behind it was not read
 pub next_missing : (source : Source) (mid : Option (List ℕ)) (old now new : ReadAhead) (start stop count : ℕ) (why : RunFault) → ReadBehind source.had mid old now → (IsLittle 0 (unread old) → IsLittle stop (unread now)) → BlockAt now start stop count
@@ -347,9 +342,4 @@ next_missing source mid old now new start stop count why first little so_far is 
     by fault.TooLarge (read, long) = (behind_more source.had mid source.left old now new first read, block_too_long mid source.left now new start stop count so_far read long, none)
     by fault.Read is = (is, none)
     by fault.Memory is = (is, none)
-    by fault.Write never = absurd never
-    by fault.NoTable never = absurd never
-    by fault.NoEnd never = absurd never
-    by (fault.Table why) never = absurd never
-    by (fault.Opening why) never = absurd never
-    by (fault.Threads why) never = absurd never
+    by why never = absurd never

@@ -1,6 +1,6 @@
 -- The commands of a script, one line at a time.
 use Rattle.pref_script.proofs.Common.{◌≡◌, ◌∙◌, ℕ, suc, ◌+◌, ◌<◌, ◌≤◌, Bool, true, false, List, [], ◌∷◌, ◌++◌, length, refl, sym, ap, arith, append_assoc, Result, Ok, Err, ◌==◌, cond, nat_le, nat_lt}
-use Rattle.pref_script.proofs.Common.{if◌then◌else◌, list_all, onto_first, slice_split, and_from, le-leb, lt-ltb, append-nil, length-append, is_blank, Event, Command, refused, runs, accepted_events}
+use Rattle.pref_script.proofs.Common.{if◌then◌else◌, list_all, onto_first, slice_split, and_from, le-leb, lt-ltb, append-nil, length-append, is_blank, Event, Command, refused, runs, accepted_events, command_of}
 use Rattle.pref_script.proofs.Common.{commands_in, commands_of, event_of, is_line_feed, raw_lines, with_line_feeds, without_line_end, refused_line, reply_lines, texts, is_client, unowned_line}
 use Rattle.pref_script.proofs.Common.{unowned_lines, Refusal}
 use Rattle.pref_core.specs.declared.event.Reply.TheVariants.{Refused as NotThere}
@@ -15,34 +15,35 @@ accepted_events-append [] ys = refl
 accepted_events-append (refused number why ∷ xs) ys = accepted_events-append xs ys
 accepted_events-append (runs event ∷ xs) ys = ap (λ (t : List Event). event ∷ t) (accepted_events-append xs ys)
 
--- the number of a line is nothing to its event
-events-numbered : (names : List (List ℕ)) (n m : ℕ) (line : List ℕ) → accepted_events (commands_in names n line) ≡ accepted_events (commands_in names m line)
+-- the event of a line: of one that is not blank, where it is not refused; the number of the line is nothing to it
+abbrev pub event_in : Bool → Result Event Refusal → List Event
+event_in true said = []
+event_in false (Ok event) = event ∷ []
+event_in false (Err why) = []
+
+pub events-in : (names : List (List ℕ)) (number : ℕ) (line : List ℕ) → accepted_events (commands_in names number line) ≡ event_in (list_all is_blank line) (event_of names line)
 unfolding accepted_events
-events-numbered names n m line = by (list_all is_blank line) (event_of names line) refl refl
+events-in names number line = by (list_all is_blank line) (event_of names line)
   where
-    by : (blank : Bool) (said : Result Event Refusal) → list_all is_blank line ≡ blank → event_of names line ≡ said → accepted_events (commands_in names n line) ≡ accepted_events (commands_in names m line)
-    by true said e f = rw e refl
-    by false (Ok event) e f = rw (e, f) refl
-    by false (Err why) e f = rw (e, f) refl
+    by : (blank : Bool) (said : Result Event Refusal) → accepted_events (if blank then [] else command_of number said ∷ []) ≡ event_in blank said
+    by true said = refl
+    by false (Ok event) = refl
+    by false (Err why) = refl
 
 pub events-any_number : (names : List (List ℕ)) (n m : ℕ) (raws : List (List ℕ)) → accepted_events (commands_of names n raws) ≡ accepted_events (commands_of names m raws)
 unfolding commands_of
 events-any_number names n m [] = refl
 events-any_number names n m (raw ∷ more) =
     accepted_events-append (commands_in names n (without_line_end raw)) (commands_of names (n + 1) more)
-    ∙ ap (λ (t : List Event). t ++ accepted_events (commands_of names (n + 1) more)) (events-numbered names n m (without_line_end raw))
+    ∙ ap (λ (t : List Event). t ++ accepted_events (commands_of names (n + 1) more)) (events-in names n (without_line_end raw) ∙ sym (events-in names m (without_line_end raw)))
     ∙ ap (λ (t : List Event). accepted_events (commands_in names m (without_line_end raw)) ++ t) (events-any_number names (n + 1) (m + 1) more)
     ∙ sym (accepted_events-append (commands_in names m (without_line_end raw)) (commands_of names (m + 1) more))
 
 -- a line has one event at most
-events-of_line : (names : List (List ℕ)) (number : ℕ) (line : List ℕ) → length (accepted_events (commands_in names number line)) ≤ 1
-unfolding accepted_events
-events-of_line names number line = by (list_all is_blank line) (event_of names line) refl refl
-  where
-    by : (blank : Bool) (said : Result Event Refusal) → list_all is_blank line ≡ blank → event_of names line ≡ said → length (accepted_events (commands_in names number line)) ≤ 1
-    by true said e f = rw e (omega arith)
-    by false (Ok event) e f = rw (e, f) (omega arith)
-    by false (Err why) e f = rw (e, f) (omega arith)
+event_in-few : (blank : Bool) (said : Result Event Refusal) → length (event_in blank said) ≤ 1
+event_in-few true said = omega arith
+event_in-few false (Ok event) = omega arith
+event_in-few false (Err why) = omega arith
 
 events-of_lines : (names : List (List ℕ)) (number : ℕ) (raws : List (List ℕ)) → length (accepted_events (commands_of names number raws)) ≤ length raws
 unfolding commands_of accepted_events
@@ -50,7 +51,7 @@ events-of_lines names number [] = omega arith
 events-of_lines names number (raw ∷ more) =
     let line = commands_in names number (without_line_end raw) in
     let rest = commands_of names (number + 1) more in
-    omega (arith, ap length (accepted_events-append line rest), length-append (accepted_events line) (accepted_events rest), events-of_line names number (without_line_end raw), events-of_lines names (number + 1) more)
+    omega (arith, ap length (accepted_events-append line rest), length-append (accepted_events line) (accepted_events rest), ap length (events-in names number (without_line_end raw)), event_in-few (list_all is_blank (without_line_end raw)) (event_of names (without_line_end raw)), events-of_lines names (number + 1) more)
 
 -- what follows the last line feed is one line at most
 last-few : (part : List ℕ) → length (with_line_feeds (part ∷ [])) ≤ 1

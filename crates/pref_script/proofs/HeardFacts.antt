@@ -1,35 +1,15 @@
 -- A script that is heard line by line.
-use Rattle.pref_script.proofs.Common.{◌≡◌, ◌∙◌, ℕ, suc, ◌+◌, ◌^◌, ◌<◌, true, false, Bool, List, [], ◌∷◌, ◌++◌, length, take, drop, ap, refl, sym, subst, arith, append_assoc, add-zero, Option, Some}
-use Rattle.pref_script.proofs.Common.{None, Result, Ok, inl, inr, nat_lt, Appends-trans, Consumes-trans, Consumes-whole, ltb-true, lt-ltb, append-nil, drop-append-le, drop_all, get_or_append_left}
+use Rattle.pref_script.proofs.Common.{◌≡◌, ◌∙◌, ℕ, suc, ◌+◌, ◌^◌, ◌<◌, true, List, [], ◌∷◌, ◌++◌, length, take, drop, ap, refl, sym, subst, arith, append_assoc, add-zero, Option, Some}
+use Rattle.pref_script.proofs.Common.{None, Result, Ok, inl, inr, Appends-trans, Consumes-trans, Consumes-whole, lt-ltb, append-nil, drop-append-le, drop_all, get_or_append_left}
 use Rattle.pref_script.proofs.Common.{length-append, length-drop, take-append-drop, take-append-le, take-append-add, fails_before_first, passes_at_first, position_or_len_is, Appends, Consumes}
-use Rattle.pref_script.proofs.Common.{IsAtEnd, after_first, before_first, concat, position_or_len, IfSome, IsOk, Limits, opened, Command, accepted_events, commands_in, commands_of, HeardScript, Hears}
+use Rattle.pref_script.proofs.Common.{IsAtEnd, position_or_len, IfSome, IsOk, Limits, opened, Command, accepted_events, commands_in, commands_of, HeardScript, Hears}
 use Rattle.pref_script.proofs.Common.{EndsWithLine, IsHeard, IsTooLong, NoneLeft, RanLive, StopsEarly, StopsInLine, PrintsNext, PrintsLine, names_of, next_number, command_lines, output, output_of}
-use Rattle.pref_script.proofs.Common.{script_of, IsLittle, IsLong, ReadBehind, ReadSome, between, is_at_end, unread, Sink, Source, WroteAll, WroteBeginning, Parts, is_end_line, is_table_line}
+use Rattle.pref_script.proofs.Common.{script_of, IsLittle, IsLong, ReadBehind, ReadSome, between, is_at_end, unread, Sink, Source, WroteAll, WroteBeginning, Parts, is_end_line}
 use Rattle.pref_script.proofs.Common.{parts_of, raw_lines, without_line_end, RunFault, LiveTable, ReadAhead}
 use Rattle.pref_script.specs.Playing.{printed_from}
 use Rattle.pref_script.proofs.BlockFacts.{first_too_long, long_among}
 use Rattle.pref_script.proofs.LineFacts.{ends_more, front_is, line_at, little_later, little_left, some_none}
-use Rattle.pref_script.proofs.OutputFacts.{script-ok}
-
--- how a script with a table block is cut
-pub record IsCut (lines : List (List ℕ)) (parts : Parts) : Type 0 where
-  pub first : List ℕ
-  pub rest : List (List ℕ)
-  pub lines_are : lines ≡ first ∷ rest
-  pub table : is_table_line first ≡ true
-  pub inside : position_or_len is_end_line rest < length rest
-  pub parts_are : ◌≡◌ {A = Parts} (record { table = concat (before_first is_end_line rest); commands = after_first is_end_line rest; first = position_or_len is_end_line rest + 3 }) parts
-
-pub cut_of : (lines : List (List ℕ)) (parts : Parts) → parts_of lines ≡ Ok parts → IsCut lines parts
-cut_of [] parts h = absurd (cc)
-cut_of (first ∷ rest) parts h = by (is_table_line first) (nat_lt (position_or_len is_end_line rest) (length rest)) refl refl
-  where
-    by : (table end : Bool) → is_table_line first ≡ table → nat_lt (position_or_len is_end_line rest) (length rest) ≡ end → IsCut (first ∷ rest) parts
-    by false end t e = absurd (let no = rw t at h in cc)
-    by true false t e = absurd (let no = rw (t, e) at h in cc)
-    by true true t e =
-        let is = rw (t, e) at h in
-        record { first = first; rest = rest; lines_are = refl; table = t; inside = ltb-true (position_or_len is_end_line rest) (length rest) e; parts_are = cc }
+use Rattle.pref_script.proofs.OutputFacts.{cut_of, script-ok}
 
 -- the parts of a script, some command lines more
 with_lines : List (List ℕ) → Parts → Result Parts RunFault

@@ -6,9 +6,9 @@ use Rattle.pref_script.proofs.Common.{next_number, ScriptFault, fault_text, scri
 use Rattle.pref_script.proofs.Common.{WroteBeginning, Wrote, Parts, block_lines, is_end_line, parts_of, raw_lines, RunFault, LiveTable, ReadAhead}
 use Rattle.pref_script.specs.declared.live.TableBlock.{TableBlock}
 use Rattle.pref_script.proofs.BlockFacts.{all_read, hears_part, little_at_first}
-use Rattle.pref_script.proofs.HeardFacts.{cut_of, had_all, heard_too_long, hears_next, parts_more, since, stops_early, stops_writing}
+use Rattle.pref_script.proofs.HeardFacts.{had_all, heard_too_long, hears_next, parts_more, since, stops_early, stops_writing}
 use Rattle.pref_script.proofs.LineFacts.{little_left}
-use Rattle.pref_script.proofs.OutputFacts.{script-parts}
+use Rattle.pref_script.proofs.OutputFacts.{cut_of, script-parts}
 use Rattle.pref_script.proofs.RunFacts.{nothing-written}
 use Rattle.pref_script.specs.declared.fault.RunFault.TheVariants as fault
 
@@ -35,10 +35,7 @@ refused_block limits source old new fault.NoEnd none fresh (read, heard, lacks) 
 refused_block limits source old new fault.TooLarge none fresh (read, long, heard) = (had_all source.had source.left (unread new) IsTooLong (all_read source.had source.left old new none read) long, heard none)
 refused_block limits source old new fault.Read none fresh (failed, heard) = (failed, heard none)
 refused_block limits source old new fault.Memory none fresh (fits, heard) = heard none
-refused_block limits source old new fault.Write none fresh (never, heard) = absurd never
-refused_block limits source old new (fault.Table why) none fresh (never, heard) = absurd never
-refused_block limits source old new (fault.Opening why) none fresh (never, heard) = absurd never
-refused_block limits source old new (fault.Threads why) none fresh (never, heard) = absurd never
+refused_block limits source old new why none fresh never = absurd never.0
 
 -- the parts of what was read, where lines of their own follow the block
 block_with : (block : TableBlock) (ahead : ReadAhead) (more : List ℕ) → IsBlock block ahead → EndsWithLine (take block.end (unread ahead))
@@ -57,14 +54,11 @@ block_alone block ahead is all = ap (λ (t : List ℕ). parts_of (raw_lines t)) 
 opening_refused : (limits : Limits) (source : Source) (new : ReadAhead) (why : RunFault) (bytes : List ℕ) → HeardNone source → Consumes source.had source.left bytes
     → ((more : List ℕ) → ScriptFault why (script_of limits (bytes ++ more))) ⊎ IsAtEnd source.left × ScriptFault why (script_of limits bytes) → OpensLive limits source new (Err why)
 opening_refused limits source new fault.Memory bytes heard consumed is = heard
-opening_refused limits source new fault.NoTable bytes heard consumed is = (heard, bytes, consumed, is)
-opening_refused limits source new fault.NoEnd bytes heard consumed is = (heard, bytes, consumed, is)
-opening_refused limits source new (fault.Table why) bytes heard consumed is = (heard, bytes, consumed, is)
-opening_refused limits source new (fault.Opening why) bytes heard consumed is = (heard, bytes, consumed, is)
 opening_refused limits source new fault.Read bytes heard consumed is = absurd (elim is [ inl all ↦ all [] | inr last ↦ last.1 ])
 opening_refused limits source new fault.Write bytes heard consumed is = absurd (elim is [ inl all ↦ all [] | inr last ↦ last.1 ])
 opening_refused limits source new fault.TooLarge bytes heard consumed is = absurd (elim is [ inl all ↦ all [] | inr last ↦ last.1 ])
 opening_refused limits source new (fault.Threads why) bytes heard consumed is = absurd (elim is [ inl all ↦ all [] | inr last ↦ last.1 ])
+opening_refused limits source new why bytes heard consumed is = (heard, bytes, consumed, is)
 
 -- the lines of a script that has no command lines are those of its block
 block_whole : (lines : List (List ℕ)) (parts : Parts) → parts_of lines ≡ Ok parts → parts.commands ≡ [] → block_lines lines ≡ lines
@@ -144,11 +138,7 @@ turn_failed limits had held source sink old new before after fault.Read so_far (
 turn_failed limits had held source sink old new before after fault.TooLarge so_far (line, some, kept) =
     (heard_too_long limits had source old new before so_far.text so_far.hears line.0 line.1, stopped limits had held source sink old before so_far some kept)
 turn_failed limits had held source sink old new before after fault.Memory so_far (some, kept) = stopped limits had held source sink old before so_far some kept
-turn_failed limits had held source sink old new before after fault.NoTable so_far never = absurd never
-turn_failed limits had held source sink old new before after fault.NoEnd so_far never = absurd never
-turn_failed limits had held source sink old new before after (fault.Table why) so_far never = absurd never
-turn_failed limits had held source sink old new before after (fault.Opening why) so_far never = absurd never
-turn_failed limits had held source sink old new before after (fault.Threads why) so_far never = absurd never
+turn_failed limits had held source sink old new before after why so_far never = absurd never
 
 -- how much was read where the table was refused
 none_heard : (limits : Limits) (source : Source) (ahead : ReadAhead) (why : RunFault) → OpensLive limits source ahead (Err why) → HeardNone source
@@ -157,10 +147,7 @@ none_heard limits source ahead fault.TooLarge (long, heard) = heard
 none_heard limits source ahead fault.Memory heard = heard
 none_heard limits source ahead fault.Write never = absurd never
 none_heard limits source ahead (fault.Threads why) never = absurd never
-none_heard limits source ahead fault.NoTable shows = shows.0
-none_heard limits source ahead fault.NoEnd shows = shows.0
-none_heard limits source ahead (fault.Table why) shows = shows.0
-none_heard limits source ahead (fault.Opening why) shows = shows.0
+none_heard limits source ahead why shows = shows.0
 
 -- the table was refused, and that was written
 refused_with : (limits : Limits) (source : Source) (sink : Sink) (ahead : ReadAhead) (why : RunFault) → OpensLive limits source ahead (Err why) → WroteAll sink (fault_text why) → RanLive limits source sink (Err why)
@@ -169,10 +156,7 @@ refused_with limits source sink ahead fault.TooLarge (long, heard) wrote = (long
 refused_with limits source sink ahead fault.Memory heard wrote = inl (heard, nothing-written sink.held sink.holds wrote)
 refused_with limits source sink ahead fault.Write never wrote = absurd never
 refused_with limits source sink ahead (fault.Threads why) never wrote = absurd never
-refused_with limits source sink ahead fault.NoTable shows wrote = (shows, wrote)
-refused_with limits source sink ahead fault.NoEnd shows wrote = (shows, wrote)
-refused_with limits source sink ahead (fault.Table why) shows wrote = (shows, wrote)
-refused_with limits source sink ahead (fault.Opening why) shows wrote = (shows, wrote)
+refused_with limits source sink ahead why shows wrote = (shows, wrote)
 
 -- of a refusal's line a beginning was written
 none_begun : (limits : Limits) (source : Source) (sink : Sink) → HeardNone source → sink.failed ≡ true → WroteBeginning sink [] → RanLive limits source sink (Err fault.Write)
@@ -184,10 +168,7 @@ refused_write limits source sink ahead fault.TooLarge (long, heard) failed part 
 refused_write limits source sink ahead fault.Memory heard failed part = none_begun limits source sink heard failed part
 refused_write limits source sink ahead fault.Write never failed part = absurd never
 refused_write limits source sink ahead (fault.Threads why) never failed part = absurd never
-refused_write limits source sink ahead fault.NoTable shows failed part = (failed, inr (inr (fault.NoTable, shows, part)))
-refused_write limits source sink ahead fault.NoEnd shows failed part = (failed, inr (inr (fault.NoEnd, shows, part)))
-refused_write limits source sink ahead (fault.Table why) shows failed part = (failed, inr (inr (fault.Table why, shows, part)))
-refused_write limits source sink ahead (fault.Opening why) shows failed part = (failed, inr (inr (fault.Opening why, shows, part)))
+refused_write limits source sink ahead why shows failed part = (failed, inr (inr (why, shows, part)))
 
 -- a refused table, by what was written of its line
 same_fault : (limits : Limits) (source : Source) (sink : Sink) (ahead : ReadAhead) (why other : RunFault) → OpensLive limits source ahead (Err why) → why ≡ other → WroteAll sink (fault_text why) → RanLive limits source sink (Err other)
@@ -197,10 +178,4 @@ pub refused_live : (limits : Limits) (source : Source) (sink : Sink) (ahead : Re
 refused_live limits source sink ahead why (Ok done) opens (ok, all) = absurd (cc)
 refused_live limits source sink ahead why (Err fault.Write) opens (failed, part) = refused_write limits source sink ahead why opens failed part
 refused_live limits source sink ahead why (Err fault.Memory) opens kept = inl (none_heard limits source ahead why opens, kept)
-refused_live limits source sink ahead why (Err fault.Read) opens (same, all) = same_fault limits source sink ahead why fault.Read opens (cc) all
-refused_live limits source sink ahead why (Err fault.TooLarge) opens (same, all) = same_fault limits source sink ahead why fault.TooLarge opens (cc) all
-refused_live limits source sink ahead why (Err fault.NoTable) opens (same, all) = same_fault limits source sink ahead why fault.NoTable opens (cc) all
-refused_live limits source sink ahead why (Err fault.NoEnd) opens (same, all) = same_fault limits source sink ahead why fault.NoEnd opens (cc) all
-refused_live limits source sink ahead why (Err (fault.Table w)) opens (same, all) = same_fault limits source sink ahead why (fault.Table w) opens (cc) all
-refused_live limits source sink ahead why (Err (fault.Opening w)) opens (same, all) = same_fault limits source sink ahead why (fault.Opening w) opens (cc) all
-refused_live limits source sink ahead why (Err (fault.Threads w)) opens (same, all) = same_fault limits source sink ahead why (fault.Threads w) opens (cc) all
+refused_live limits source sink ahead why (Err other) opens (same, all) = same_fault limits source sink ahead why other opens (cc) all

@@ -1,5 +1,5 @@
 -- The output of a script, part by part.
-use Rattle.pref_script.proofs.Common.{◌≡◌, ◌∙◌, ℕ, ◌+◌, ◌<◌, ◌≤◌, List, [], ◌∷◌, length, ap, arith, refl, Ok, Err, Bool, true, false, ◌⊎◌, inl, inr, Result, cases_lt, le-ltb, lt-ltb, Global, IfErr}
+use Rattle.pref_script.proofs.Common.{◌≡◌, ◌∙◌, ℕ, ◌+◌, ◌<◌, ◌≤◌, List, [], ◌∷◌, length, ap, arith, refl, Ok, Err, Bool, true, false, ◌⊎◌, inl, inr, Result, cases_lt, le-ltb, lt-ltb, ltb-true, after_first, before_first, concat, Global, IfErr}
 use Rattle.pref_script.proofs.Common.{IfOk, String, nat_lt, string_bytes, position_or_len, Fails, Table, table_of, Limits, Script, ScriptFault, PrintsOutput, in_bytes, output_of, script_of}
 use Rattle.pref_script.proofs.Common.{script_with, core_fault, table_fault, Parts, is_end_line, is_table_line, parts_of, raw_lines, RunFault}
 use Rattle.pref_table.specs.declared.fault.TableFault.{TableFault}
@@ -19,18 +19,32 @@ parts-faults (first ∷ rest) why h = by (is_table_line first) (nat_lt (position
     by true false e f h = inr (cc (rw (e, f) at h))
     by true true e f h = cc (rw (e, f) at h)
 
+-- how a script with a table block is cut
+pub record IsCut (lines : List (List ℕ)) (parts : Parts) : Type 0 where
+  pub first : List ℕ
+  pub rest : List (List ℕ)
+  pub lines_are : lines ≡ first ∷ rest
+  pub table : is_table_line first ≡ true
+  pub inside : position_or_len is_end_line rest < length rest
+  pub parts_are : ◌≡◌ {A = Parts} (record { table = concat (before_first is_end_line rest); commands = after_first is_end_line rest; first = position_or_len is_end_line rest + 3 }) parts
+
+pub cut_of : (lines : List (List ℕ)) (parts : Parts) → parts_of lines ≡ Ok parts → IsCut lines parts
+cut_of [] parts h = absurd (cc)
+cut_of (first ∷ rest) parts h = by (is_table_line first) (nat_lt (position_or_len is_end_line rest) (length rest)) refl refl
+  where
+    by : (table end : Bool) → is_table_line first ≡ table → nat_lt (position_or_len is_end_line rest) (length rest) ≡ end → IsCut (first ∷ rest) parts
+    by false end t e = absurd (let no = rw t at h in cc)
+    by true false t e = absurd (let no = rw (t, e) at h in cc)
+    by true true t e =
+        let is = rw (t, e) at h in
+        record { first = first; rest = rest; lines_are = refl; table = t; inside = ltb-true (position_or_len is_end_line rest) (length rest) e; parts_are = cc }
+
 -- a script's first command line follows two lines at least
 pub first-least : (raws : List (List ℕ)) (parts : Parts) → parts_of raws ≡ Ok parts → 3 ≤ parts.first
-first-least [] parts h = cc h
-first-least (first ∷ rest) parts h = by (is_table_line first) (nat_lt (position_or_len is_end_line rest) (length rest)) refl refl h
-  where
-    by : (table end : Bool) → is_table_line first ≡ table → nat_lt (position_or_len is_end_line rest) (length rest) ≡ end → parts_of (first ∷ rest) ≡ Ok parts
-        → 3 ≤ parts.first
-    by false end e f h = cc (rw e at h)
-    by true false e f h = cc (rw (e, f) at h)
-    by true true e f h =
-        let number : position_or_len is_end_line rest + 3 ≡ parts.first = cc (rw (e, f) at h) in
-        omega (arith, number)
+first-least raws parts h =
+    let cut = cut_of raws parts h in
+    let number : position_or_len is_end_line cut.rest + 3 ≡ parts.first = ap (λ (p : Parts). p.first) cut.parts_are in
+    omega (arith, number)
 
 pub script-parts : (limits : Limits) (bytes : List ℕ) (why : RunFault) → parts_of (raw_lines bytes) ≡ Err why → script_of limits bytes ≡ Err why
 unfolding script_of

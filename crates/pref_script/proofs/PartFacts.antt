@@ -17,7 +17,7 @@ use Rattle.pref_script.specs.ClientParts.{IsWhole}
 use Rattle.pref_script.specs.declared.command.Refusal.TheVariants.{NotCommand}
 use Rattle.pref_script.specs.declared.parts.Found.{Found}
 use Rattle.pref_script.proofs.ClientFacts.{acts-append, acts-few, acts-other, acts-own}
-use Rattle.pref_script.proofs.CommandFacts.{accepted_events-append, events-any_number, events-few, unowned-blank, unowned-own}
+use Rattle.pref_script.proofs.CommandFacts.{accepted_events-append, event_in, events-any_number, events-in, events-few, unowned-blank, unowned-own}
 use Rattle.pref_script.proofs.FormFacts.{said_named}
 use Rattle.pref_script.proofs.ScriptFacts.{lines_none}
 use Rattle.pref_script.proofs.TextFacts.{texts-append}
@@ -25,28 +25,24 @@ use Rattle.pref_script.specs.declared.parts.Found.TheVariants as found
 
 -- what the event of a line is to a client
 first-blank : (names : List (List ℕ)) (client : ℕ) (line : List ℕ) → list_all is_blank line ≡ true → FirstAct names client line None
-unfolding accepted_events
-first-blank names client line blank = rw blank refl
+first-blank names client line blank = rw (events-in names 0 line, blank) refl
 
 first-refused : (names : List (List ℕ)) (client : ℕ) (line : List ℕ) (why : Refusal) → event_of names line ≡ Err why → FirstAct names client line None
-unfolding accepted_events
-first-refused names client line why said = by (list_all is_blank line) refl
+first-refused names client line why said = rw (events-in names 0 line, said) (by (list_all is_blank line))
   where
-    by : (blank : Bool) → list_all is_blank line ≡ blank → FirstAct names client line None
-    by true e = rw e refl
-    by false e = rw (e, said) refl
+    by : (blank : Bool) → acts_of client (event_in blank (Err why)) ≡ []
+    by true = refl
+    by false = refl
 
 first-other : (names : List (List ℕ)) (client : ℕ) (line : List ℕ) (event : Event) → event_of names line ≡ Ok event → event.client ≢ client → FirstAct names client line None
-unfolding accepted_events
-first-other names client line event said other = by (list_all is_blank line) refl
+first-other names client line event said other = rw (events-in names 0 line, said) (by (list_all is_blank line))
   where
-    by : (blank : Bool) → list_all is_blank line ≡ blank → FirstAct names client line None
-    by true e = rw e refl
-    by false e = rw (e, said) (acts-other event client other)
+    by : (blank : Bool) → acts_of client (event_in blank (Ok event)) ≡ []
+    by true = refl
+    by false = acts-other event client other
 
 first-own : (names : List (List ℕ)) (client : ℕ) (line : List ℕ) (event : Event) → list_all is_blank line ≡ false → event_of names line ≡ Ok event → event.client ≡ client → FirstAct names client line (Some event.act)
-unfolding accepted_events
-first-own names client line event some said own = rw (some, said) (acts-own event client own)
+first-own names client line event some said own = rw (events-in names 0 line, some, said) (acts-own event client own)
 
 -- a line that does not name the client
 first-unnamed : (names : List (List ℕ)) (client : ℕ) (line : List ℕ) → client_named line ≢ Some client → FirstAct names client line None
