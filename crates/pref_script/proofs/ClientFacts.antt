@@ -1,6 +1,8 @@
 -- The acts of one client among events.
-use Rattle.pref_script.proofs.Common.{◌≡◌, ◌≢◌, ◌∙◌, ℕ, ◌≤◌, Bool, true, false, cond, List, [], ◌∷◌, ◌++◌, length, map, ap, arith, ◌==◌, filter, eq-eqb, ne_eqb, map-append, Event}
+use Rattle.pref_script.proofs.Common.{◌≡◌, ◌≢◌, ◌∙◌, ℕ, ◌≤◌, cond, List, [], ◌∷◌, ◌++◌, length, map, ap, arith, ◌==◌, filter, eq-eqb, ne_eqb, map-append, Event}
+use Rattle.std.proofs.lemmas.List.{length-map}
 use Rattle.std.proofs.lemmas.List.Elements.{filter-append}
+use Rattle.std.proofs.lemmas.List.Sums.{count_by-le-length, length-filter}
 use Rattle.pref_share.specs.Interleavings.{acts_of}
 
 -- one event is an act of its client alone
@@ -18,10 +20,6 @@ acts-append client xs ys =
 
 -- a client has no more acts than there are events
 pub acts-few : (client : ℕ) (events : List Event) → length (acts_of client events) ≤ length events
-acts-few client [] = omega arith
-acts-few client (event ∷ more) = by (event.client == client) (acts-few client more)
-  where
-    by : (own : Bool) → length (acts_of client more) ≤ length more
-        → length (map (λ (x : Event). x.act) (cond own (event ∷ filter (λ (x : Event). x.client == client) more) (filter (λ (x : Event). x.client == client) more))) ≤ length (event ∷ more)
-    by true few = omega (arith, few)
-    by false few = omega (arith, few)
+acts-few client events =
+    let own = λ (x : Event). x.client == client in
+    omega (arith, length-map (filter own events) (λ (x : Event). x.act), length-filter own events, count_by-le-length own events)

@@ -14,7 +14,6 @@ use Rattle.pref_share.specs.Interleavings.{acts_of}
 use Rattle.pref_share.specs.Reports.{AreTaken}
 use Rattle.pref_share.proofs.RunsLaws.{there}
 use Rattle.pref_script.specs.ClientParts.{IsWhole}
-use Rattle.pref_script.specs.declared.command.Refusal.TheVariants.{NotCommand}
 use Rattle.pref_script.specs.declared.parts.Found.{Found}
 use Rattle.pref_script.proofs.ClientFacts.{acts-append, acts-few, acts-other, acts-own}
 use Rattle.pref_script.proofs.CommandFacts.{accepted_events-append, event_in, events-any_number, events-in, events-few, unowned-blank, unowned-own}
@@ -23,12 +22,9 @@ use Rattle.pref_script.proofs.ScriptFacts.{lines_none}
 use Rattle.pref_script.proofs.TextFacts.{texts-append}
 use Rattle.pref_script.specs.declared.parts.Found.TheVariants as found
 
--- what the event of a line is to a client
-first-blank : (names : List (List ℕ)) (client : ℕ) (line : List ℕ) → list_all is_blank line ≡ true → FirstAct names client line None
-first-blank names client line blank = rw (events-in names 0 line, blank) refl
-
-first-refused : (names : List (List ℕ)) (client : ℕ) (line : List ℕ) (why : Refusal) → event_of names line ≡ Err why → FirstAct names client line None
-first-refused names client line why said = rw (events-in names 0 line, said) (by (list_all is_blank line))
+-- a refused line is nothing to a client, nor is another client's event
+pub found-refused : (names : List (List ℕ)) (client : ℕ) (line : List ℕ) (why : Refusal) → event_of names line ≡ Err why → IsFound names client line found.Refused
+found-refused names client line why said = rw (events-in names 0 line, said) (by (list_all is_blank line))
   where
     by : (blank : Bool) → acts_of client (event_in blank (Err why)) ≡ []
     by true = refl
@@ -40,28 +36,6 @@ first-other names client line event said other = rw (events-in names 0 line, sai
     by : (blank : Bool) → acts_of client (event_in blank (Ok event)) ≡ []
     by true = refl
     by false = acts-other event client other
-
-first-own : (names : List (List ℕ)) (client : ℕ) (line : List ℕ) (event : Event) → list_all is_blank line ≡ false → event_of names line ≡ Ok event → event.client ≡ client → FirstAct names client line (Some event.act)
-first-own names client line event some said own = rw (events-in names 0 line, some, said) (acts-own event client own)
-
--- a line that does not name the client
-first-unnamed : (names : List (List ℕ)) (client : ℕ) (line : List ℕ) → client_named line ≢ Some client → FirstAct names client line None
-first-unnamed names client line other = by (said_in line) refl
-  where
-    by : (said : Option (ℕ × Said)) → said_in line ≡ said → FirstAct names client line None
-    by None e = first-refused names client line NotCommand (rw e refl)
-    by (Some (number, what)) e = acted (act_of names what) refl
-      where
-        acted : (act : Result Act Refusal) → act_of names what ≡ act → FirstAct names client line None
-        acted (Ok act) f = first-other names client line (record { client = number; act = act }) (rw (e, f) refl) (λ same. other (said_named line number what e ∙ ap Some same))
-        acted (Err why) f = first-refused names client line why (rw (e, f) refl)
-
--- what a line is to a client: one of blanks, a refused one, another client's event and its own
-pub found-blank : (names : List (List ℕ)) (client : ℕ) (line : List ℕ) → list_all is_blank line ≡ true → IsFound names client line found.Nothing
-found-blank names client line blank = (first-blank names client line blank, λ _. inl blank)
-
-pub found-refused : (names : List (List ℕ)) (client : ℕ) (line : List ℕ) (why : Refusal) → event_of names line ≡ Err why → IsFound names client line found.Refused
-found-refused = first-refused
 
 -- the event of a line is of the client that it names
 event-named : (names : List (List ℕ)) (line : List ℕ) (event : Event) → event_of names line ≡ Ok event → client_named line ≡ Some event.client
@@ -78,6 +52,18 @@ event-named names line event is = by (said_in line) refl
             said_named line number what e ∙ ap (λ (x : Event). Some x.client) same
         acted (Err why) f = cc (rw (e, f) at is)
 
+-- a line that does not name the client
+first-unnamed : (names : List (List ℕ)) (client : ℕ) (line : List ℕ) → client_named line ≢ Some client → FirstAct names client line None
+first-unnamed names client line other = by (event_of names line) refl
+  where
+    by : (said : Result Event Refusal) → event_of names line ≡ said → FirstAct names client line None
+    by (Ok event) e = first-other names client line event e (λ same. other (event-named names line event e ∙ ap Some same))
+    by (Err why) e = found-refused names client line why e
+
+-- what a line is to a client: one of blanks, another client's event and its own
+pub found-blank : (names : List (List ℕ)) (client : ℕ) (line : List ℕ) → list_all is_blank line ≡ true → IsFound names client line found.Nothing
+found-blank names client line blank = (rw (events-in names 0 line, blank) refl, λ _. inl blank)
+
 pub found-other : (names : List (List ℕ)) (client : ℕ) (line : List ℕ) (event : Event) → event_of names line ≡ Ok event → event.client ≢ client → IsFound names client line found.Nothing
 found-other names client line event said other = (
   first-other names client line event said other,
@@ -88,7 +74,7 @@ found-other names client line event said other = (
 )
 
 pub found-act : (names : List (List ℕ)) (client : ℕ) (line : List ℕ) (event : Event) → list_all is_blank line ≡ false → event_of names line ≡ Ok event → event.client ≡ client → IsFound names client line (found.Act event.act)
-found-act names client line event some said own = (first-own names client line event some said own, λ _. inr (event, said, own))
+found-act names client line event some said own = (rw (events-in names 0 line, some, said) (acts-own event client own), λ _. inr (event, said, own))
 
 -- the act of the first line comes before those of the lines behind it
 acts-line : (names : List (List ℕ)) (client : ℕ) (raw : List ℕ) (more : List (List ℕ))
