@@ -1,8 +1,8 @@
 -- A call or a change whose rows are lent, as what it is. (this project)
 use Rattle.pref_core.specs.declared.call.Call.{Call}
 use Rattle.pref_core.specs.declared.call.Call.TheVariants.{Insert as CallInsert, Update as CallUpdate, Delete as CallDelete, Commit as CallCommit, Begin as CallBegin, Finish as CallFinish, Abandon as CallAbandon}
-use Rattle.pref_core.specs.declared.call.Lent.{Lent}
-use Rattle.pref_core.specs.declared.call.Lent.TheVariants.{Insert, Update, Delete, Commit, Begin, Finish, Abandon}
+use Rattle.pref_core.specs.declared.call.lent.Lent.{Lent}
+use Rattle.pref_core.specs.declared.call.lent.Lent.TheVariants.{Insert, Update, Delete, Commit, Begin, Finish, Abandon}
 use Rattle.pref_core.specs.declared.changes.Change.{Change}
 use Rattle.pref_core.specs.declared.changes.Change.TheVariants.{Add as ChangeAdd, Set as ChangeSet, Remove as ChangeRemove}
 use Rattle.pref_core.specs.declared.changes.LentChange.{LentChange}

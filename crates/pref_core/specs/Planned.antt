@@ -1,7 +1,7 @@
 -- A planned call whose call is lent, or in a box, as the op that it is. (this project)
 use Rattle.std.specs.Prelude.{Result, Ok, Err}
 use Rattle.pref_core.specs.declared.call.Op.{Op}
-use Rattle.pref_core.specs.declared.call.Planned.{Planned}
+use Rattle.pref_core.specs.declared.call.planned.Planned.{Planned}
 use Rattle.pref_core.specs.declared.call.boxed.BoxedOp.{BoxedOp}
 use Rattle.pref_core.specs.declared.fault.CoreFault.{CoreFault}
 

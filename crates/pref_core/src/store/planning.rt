@@ -8,7 +8,8 @@ ghost use Rattle.pref_core.specs.Planned.{op_or_fault};
 ghost use Rattle.pref_core.specs.Slots.{StandsFor};
 ghost use Rattle.pref_core.specs.State.{State, ended, is_change, is_formed, succeeds, success_outcome};
 
-use crate::call::{Call, LentCall, Op, Outcome, Planned, QueryState, SlotList, is_listed};
+use crate::call::slot_list::is_listed;
+use crate::call::{Call, LentCall, Op, Outcome, Planned, QueryState, SlotList};
 use crate::changes::LentChange;
 use crate::fault::CoreFault;
 use crate::index::Index;

@@ -1,6 +1,6 @@
 use Rattle.pref_core.proofs.Common.{◌≤◌, length, ap, arith}
 use Rattle.pref_core.proofs.ChangesLaws.{begun_few, commit_length}
-use Rattle.pref_core.proofs.call.LentCall.begun.Goals as goal
+use Rattle.pref_core.proofs.call.lent.LentCall.begun.Goals as goal
 
 pub returns-in-Commit-clause-few : goal.returns-in-Commit-clause-few
 returns-in-Commit-clause-few c =
