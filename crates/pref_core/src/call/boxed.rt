@@ -21,15 +21,13 @@ enum Boxed {
 
 /// A [`Call`] whose commit is in a box, so that other calls are no larger for it: it takes 144 bytes, and a call 1,168.
 /// Contracts see the call.
-pub struct BoxedCall {
-    kind: Boxed,
-}
+pub struct BoxedCall(Boxed);
 
 // By hand, so that letting one go is a call: a derived `drop` is written out, and proved, at each way out of each
 // function that owns one.
 impl Drop for BoxedCall {
     fn drop(self) {
-        let BoxedCall { kind: _ } = self;
+        let BoxedCall(_) = self;
     }
 }
 
@@ -39,7 +37,7 @@ impl Model for BoxedCall {
 
     ghost Value = { Call };
 
-    ghost view = { λ boxed. call_of boxed.kind };
+    ghost view = { λ boxed. call_of boxed.0 };
 }
 
 impl BoxedCall {
@@ -48,9 +46,7 @@ impl BoxedCall {
     pub fn insert(row: Row) -> BoxedCall
         ensures { result ≡ Call.Insert row }
     {
-        BoxedCall {
-            kind: Boxed::Insert(row),
-        }
+        BoxedCall(Boxed::Insert(row))
     }
 
     /// The row of this id becomes another.
@@ -58,9 +54,7 @@ impl BoxedCall {
     pub fn update(id: u64, row: Row) -> BoxedCall
         ensures { result ≡ Call.Update id row }
     {
-        BoxedCall {
-            kind: Boxed::Update(id, row),
-        }
+        BoxedCall(Boxed::Update(id, row))
     }
 
     /// The row of this id is deleted.
@@ -68,9 +62,7 @@ impl BoxedCall {
     pub fn delete(id: u64) -> BoxedCall
         ensures { result ≡ Call.Delete id }
     {
-        BoxedCall {
-            kind: Boxed::Delete(id),
-        }
+        BoxedCall(Boxed::Delete(id))
     }
 
     /// One to eight changes, in one commit. Takes no memory.
@@ -78,9 +70,7 @@ impl BoxedCall {
     pub fn commit(commit: BoxedCommit) -> BoxedCall
         ensures { result ≡ Call.Commit commit }
     {
-        BoxedCall {
-            kind: Boxed::Commit(commit),
-        }
+        BoxedCall(Boxed::Commit(commit))
     }
 
     /// A query begins.
@@ -88,7 +78,7 @@ impl BoxedCall {
     pub fn begin() -> BoxedCall
         ensures { result ≡ Call.Begin }
     {
-        BoxedCall { kind: Boxed::Begin }
+        BoxedCall(Boxed::Begin)
     }
 
     /// The open query ends with its answer.
@@ -96,9 +86,7 @@ impl BoxedCall {
     pub fn finish() -> BoxedCall
         ensures { result ≡ Call.Finish }
     {
-        BoxedCall {
-            kind: Boxed::Finish,
-        }
+        BoxedCall(Boxed::Finish)
     }
 
     /// The open query ends without one.
@@ -106,9 +94,7 @@ impl BoxedCall {
     pub fn abandon() -> BoxedCall
         ensures { result ≡ Call.Abandon }
     {
-        BoxedCall {
-            kind: Boxed::Abandon,
-        }
+        BoxedCall(Boxed::Abandon)
     }
 
     /// This call with its rows lent: none is copied.
@@ -116,7 +102,7 @@ impl BoxedCall {
     pub fn lend(&self) -> LentCall<'_>
         ensures { result ≡ self.now }
     {
-        match &self.kind {
+        match &self.0 {
             Boxed::Insert(row) => LentCall::insert(row),
             Boxed::Update(id, row) => LentCall::update(*id, row),
             Boxed::Delete(id) => LentCall::delete(*id),

@@ -26,9 +26,7 @@ pub(crate) enum Lent<'a> {
 /// A [`Call`] whose rows are lent: it takes 24 bytes, and a call 1,168, since it has room for a commit of eight rows.
 /// Contracts see the call.
 #[derive(Drop)]
-pub struct LentCall<'a> {
-    kind: Lent<'a>,
-}
+pub struct LentCall<'a>(Lent<'a>);
 
 impl<'a> Model for LentCall<'a> {
     ghost use Rattle.pref_core.specs.declared.call.Call.{Call};
@@ -36,7 +34,7 @@ impl<'a> Model for LentCall<'a> {
 
     ghost Value = { Call };
 
-    ghost view = { λ lent. call_of lent.kind };
+    ghost view = { λ lent. call_of lent.0 };
 }
 
 impl<'a> LentCall<'a> {
@@ -50,9 +48,7 @@ impl<'a> LentCall<'a> {
     pub fn insert(row: &'a Row) -> LentCall<'a>
         ensures { result ≡ Call.Insert row.now }
     {
-        LentCall {
-            kind: Lent::Insert(row),
-        }
+        LentCall(Lent::Insert(row))
     }
 
     /// The row of this id becomes another.
@@ -60,9 +56,7 @@ impl<'a> LentCall<'a> {
     pub fn update(id: u64, row: &'a Row) -> LentCall<'a>
         ensures { result ≡ Call.Update id row.now }
     {
-        LentCall {
-            kind: Lent::Update(id, row),
-        }
+        LentCall(Lent::Update(id, row))
     }
 
     /// The row of this id is deleted.
@@ -70,9 +64,7 @@ impl<'a> LentCall<'a> {
     pub fn delete(id: u64) -> LentCall<'a>
         ensures { result ≡ Call.Delete id }
     {
-        LentCall {
-            kind: Lent::Delete(id),
-        }
+        LentCall(Lent::Delete(id))
     }
 
     /// One to eight changes, in one commit.
@@ -80,9 +72,7 @@ impl<'a> LentCall<'a> {
     pub fn commit(commit: &'a Commit) -> LentCall<'a>
         ensures { result ≡ Call.Commit commit.now }
     {
-        LentCall {
-            kind: Lent::Commit(commit),
-        }
+        LentCall(Lent::Commit(commit))
     }
 
     /// A query begins.
@@ -90,7 +80,7 @@ impl<'a> LentCall<'a> {
     pub fn begin() -> LentCall<'a>
         ensures { result ≡ Call.Begin }
     {
-        LentCall { kind: Lent::Begin }
+        LentCall(Lent::Begin)
     }
 
     /// The open query ends with its answer.
@@ -98,7 +88,7 @@ impl<'a> LentCall<'a> {
     pub fn finish() -> LentCall<'a>
         ensures { result ≡ Call.Finish }
     {
-        LentCall { kind: Lent::Finish }
+        LentCall(Lent::Finish)
     }
 
     /// The open query ends without one.
@@ -106,9 +96,7 @@ impl<'a> LentCall<'a> {
     pub fn abandon() -> LentCall<'a>
         ensures { result ≡ Call.Abandon }
     {
-        LentCall {
-            kind: Lent::Abandon,
-        }
+        LentCall(Lent::Abandon)
     }
 
     /// Why the call gets no number, by how many numbered calls its client has made and whether that client has a query
@@ -123,7 +111,7 @@ impl<'a> LentCall<'a> {
         if calls >= MOST_CALLS {
             return Some(CoreFault::Spent);
         }
-        match (&self.kind, query) {
+        match (&self.0, query) {
             (Lent::Begin, QueryState::Open) => Some(CoreFault::QueryOpen),
             (Lent::Finish | Lent::Abandon, QueryState::NotOpen) => Some(CoreFault::NoQuery),
             _ => None,
@@ -136,7 +124,7 @@ impl<'a> LentCall<'a> {
         ensures few { length (changes_of self.now) ≤ 8 }
         ensures formed { is_formed self.now ≡ true }
     {
-        match self.kind {
+        match self.0 {
             Lent::Insert(_) | Lent::Update(_, _) | Lent::Delete(_) => 1,
             Lent::Commit(commit) => commit.as_slice().len(),
             Lent::Begin | Lent::Finish | Lent::Abandon => 0,
@@ -147,7 +135,7 @@ impl<'a> LentCall<'a> {
     pub(crate) fn call(&self) -> Call
         ensures { result ≡ self.now }
     {
-        match self.kind {
+        match self.0 {
             Lent::Insert(row) => Call::Insert(*row),
             Lent::Update(id, row) => Call::Update(id, *row),
             Lent::Delete(id) => Call::Delete(id),
@@ -164,7 +152,7 @@ impl<'a> LentCall<'a> {
         requires { at < length (changes_of self.now) }
         ensures { slice_get (changes_of self.now) at ≡ Some (change_of result) }
     {
-        match self.kind {
+        match self.0 {
             Lent::Insert(row) => LentChange::Add(row),
             Lent::Update(id, row) => LentChange::Set(id, row),
             Lent::Delete(id) => LentChange::Remove(id),
@@ -178,7 +166,7 @@ impl<'a> LentCall<'a> {
     pub(crate) fn updated(&self) -> Option<(u64, &'a Row)>
         ensures { IfSome result (λ returned. self.now ≡ Call.Update returned.0 returned.1.now) }
     {
-        match self.kind {
+        match self.0 {
             Lent::Update(id, row) => Some((id, row)),
             _ => None,
         }
@@ -189,7 +177,7 @@ impl<'a> LentCall<'a> {
         ensures count { (next_id : ℕ) → result ≡ length (begun next_id self.now) }
         ensures few { result ≤ 8 }
     {
-        match self.kind {
+        match self.0 {
             Lent::Insert(_) | Lent::Update(_, _) => 1,
             Lent::Commit(commit) => begun_by(commit.as_slice()),
             Lent::Delete(_) | Lent::Begin | Lent::Finish | Lent::Abandon => 0,
@@ -207,7 +195,7 @@ impl<'a> LentCall<'a> {
     pub(crate) fn added(&self) -> u64
         ensures { result ≡ added self.now }
     {
-        match self.kind {
+        match self.0 {
             Lent::Insert(_) => 1,
             Lent::Commit(commit) => added_by(commit.as_slice()),
             Lent::Update(_, _) | Lent::Delete(_) | Lent::Begin | Lent::Finish | Lent::Abandon => 0,
@@ -218,7 +206,7 @@ impl<'a> LentCall<'a> {
     pub(crate) fn ends_query(&self) -> bool
         ensures { result ≡ is_end self.now }
     {
-        matches!(self.kind, Lent::Finish | Lent::Abandon)
+        matches!(self.0, Lent::Finish | Lent::Abandon)
     }
 
     /// The stamp at the begin of its client's open query after the call, by the stamp then and that of the query
@@ -226,7 +214,7 @@ impl<'a> LentCall<'a> {
     pub(crate) fn begun_after(&self, stamp: u64, begun: Option<u64>) -> Option<u64>
         ensures { result ≡ begin_after stamp self.now begun }
     {
-        match self.kind {
+        match self.0 {
             Lent::Begin => Some(stamp),
             Lent::Finish | Lent::Abandon => None,
             _ => begun,
@@ -237,7 +225,7 @@ impl<'a> LentCall<'a> {
     pub(crate) fn is_change(&self) -> bool
         ensures { result ≡ is_change self.now }
     {
-        match self.kind {
+        match self.0 {
             Lent::Insert(_) | Lent::Update(_, _) | Lent::Delete(_) | Lent::Commit(_) => true,
             Lent::Begin | Lent::Finish | Lent::Abandon => false,
         }
