@@ -3,7 +3,7 @@ use Rattle.pref_core.proofs.Common.{◌≡◌, ℕ, ◌^◌, Bool, true, false, 
 use Rattle.pref_core.proofs.Common.{CallInsert, CallUpdate, CallDelete, CallCommit, Begin, Finish, Abandon, Outcome, Added, Done, NoSuchRow, Full, Op, CoreFault, NoSuchClient, Spent, QueryOpen, Act}
 use Rattle.pref_core.proofs.Common.{ActBegin, Reply, Begun, Limits, AreAllowed, blocks, State, is_change, seat, with_seat, refusal, refusal_of, refusal_by_query, begun_after, outcome, Open, Member}
 use Rattle.pref_core.proofs.Common.{System, Step, snapshot, state_of, refused, counted_with, changed, change, step, Contents, StandsFor, adds, PlansIn, applied, Scan, begin, Running, StandsForSystem}
-use Rattle.pref_core.proofs.Common.{is_refusal, Returns, reply_for, step_of}
+use Rattle.pref_core.proofs.Common.{Changes, Does, is_refusal, Returns, reply_for, step_of}
 use Rattle.pref_core.specs.MachineParts.{change_of, numbered}
 use Rattle.pref_core.proofs.VisibleAfterOp.{length-applied}
 use Rattle.pref_core.proofs.SystemsLaws.{refusal_there, refusal_nobody, IsThere, IsThere-from, IsLetIn, IsLetIn-from, changed_stands, queried_stands, follows_begun}
@@ -32,6 +32,17 @@ let_in_steps member system right h = ap (λ b. cond b right (refused Spent syste
 -- the same fault
 pub the_fault : (a b : CoreFault) → Some a ≡ Some b → a ≡ b
 the_fault a b e = cc
+
+-- an act is refused as its call is planned, where its step is
+pub refused_does : (old : Running) (client : ℕ) (act : Act) (call : Call) (fault : CoreFault)
+    → ((system : System) (member : Member) (q : Option Open) → refusal_of (Some member.calls) (is_some (option_map snapshot q)) call ≡ Some fault → step_of old.limits system client member act q ≡ refused fault system)
+    → PlansAlways old.contents client call (Err fault) → Does old client act (Err fault) old
+refused_does old client act call fault refuses plans = record { limits = refl; tells = λ system h. refused_tells old system _ act fault h (go system (plans (state_of system) h.store) (seat client system.members) refl) }
+  where
+    go : (system : System) → refusal (state_of system) client call ≡ Some fault → (o : Option Member) → seat client system.members ≡ o
+        → elim o as (λ x. Step) [ None ↦ refused NoSuchClient system | Some member ↦ step_of old.limits system client member act member.query ] ≡ refused fault system
+    go system returned None at = ap (λ f. refused f system) (the_fault NoSuchClient fault (sym (refusal_nobody system client call at) ∙ returned))
+    go system returned (Some member) at = refuses system member member.query (sym (refusal_there system client member call at) ∙ returned)
 
 -- a numbered call that is refused: what the step is where the query lets it in or not
 numbered_refused : (system : System) (member : Member) (call : Call) (right : Step) (fault : CoreFault)
@@ -116,13 +127,9 @@ change_tells running system client call done op new act c quiet h plans is = sub
     tell (NoSuchRow id) s = inl (refl, s)
     tell (Full size) s = inl (refl, s)
 
-pub change_refused : (running : Running) (system : System) (client : ℕ) (call : Call) (done : Reply) (fault : CoreFault) (act : Act) → is_change call ≡ true → StandsForSystem running system → PlansAlways running.contents client call (Err fault)
-    → Returns running (change_of running.limits system client call done) act (Err fault) running
-change_refused running system client call done fault act c h plans = refused_tells running system _ act fault h (go (seat client system.members) refl)
+pub change_not : (old : Running) (client : ℕ) (call : Call) (done : Reply) (fault : CoreFault) → is_change call ≡ true → PlansAlways old.contents client call (Err fault) → Changes old client call done (Err fault) old
+change_not old client call done fault c plans = record { limits = refl; tells = λ system h act wants. refused_tells old system _ act fault h (go system (plans (state_of system) h.store) (seat client system.members) refl) }
   where
-    returned : refusal (state_of system) client call ≡ Some fault
-    returned = plans (state_of system) h.store
-
     no_early : (call : Call) (b : Bool) (early : CoreFault) → is_change call ≡ true → refusal_by_query b call ≡ Some early → ⊥
     no_early (CallInsert row) true early c e = cc
     no_early (CallInsert row) false early c e = cc
@@ -136,10 +143,10 @@ change_refused running system client call done fault act c h plans = refused_tel
     no_early Finish b early c e = cc
     no_early Abandon b early c e = cc
 
-    go : (o : Option Member) → seat client system.members ≡ o
-        → elim o as (λ x. Step) [ None ↦ refused NoSuchClient system | Some member ↦ numbered member system (change running.limits system client member call done) ] ≡ refused fault system
-    go None at = ap (λ f. refused f system) (the_fault NoSuchClient fault (sym (refusal_nobody system client call at) ∙ returned))
-    go (Some member) at = numbered_refused system member call (change running.limits system client member call done) fault
+    go : (system : System) → refusal (state_of system) client call ≡ Some fault → (o : Option Member) → seat client system.members ≡ o
+        → elim o as (λ x. Step) [ None ↦ refused NoSuchClient system | Some member ↦ numbered member system (change old.limits system client member call done) ] ≡ refused fault system
+    go system returned None at = ap (λ f. refused f system) (the_fault NoSuchClient fault (sym (refusal_nobody system client call at) ∙ returned))
+    go system returned (Some member) at = numbered_refused system member call (change old.limits system client member call done) fault
         (λ early e. absurd (no_early call (is_some (option_map snapshot member.query)) early c e)) (sym (refusal_there system client member call at) ∙ returned)
 
 -- A query begins.
@@ -180,26 +187,17 @@ begin_tells running system client ask op new stamp allowed now h plans is =
         (ap (λ call. begun_after (state_of system) call (option_map snapshot there.who.query)) (sym plan.1))
         (follows_begun running.limits (applied running.contents op).slots ask system stamp allowed (length-applied running.contents (state_of system) op h.store plan.2 ∙ h.capacity) (now ∙ h.store.stamp))))
 
-pub begin_refused : (running : Running) (system : System) (client : ℕ) (ask : Question) (fault : CoreFault) → StandsForSystem running system → PlansAlways running.contents client Begin (Err fault)
-    → Returns running (step running.limits system (record { client = client; act = ActBegin ask })) (ActBegin ask) (Err fault) running
-begin_refused running system client ask fault h plans = refused_tells running system _ (ActBegin ask) fault h (go (seat client system.members) refl)
+pub begin_not : (old : Running) (client : ℕ) (ask : Question) (fault : CoreFault) → PlansAlways old.contents client Begin (Err fault) → Does old client (ActBegin ask) (Err fault) old
+begin_not old client ask fault plans = refused_does old client (ActBegin ask) Begin fault refuses plans
   where
-    returned : refusal (state_of system) client Begin ≡ Some fault
-    returned = plans (state_of system) h.store
-
-    at_query : (member : Member) (q : Option Open) → refusal_of (Some member.calls) (is_some (option_map snapshot q)) Begin ≡ Some fault → step_of running.limits system client member (ActBegin ask) q ≡ refused fault system
-    at_query member None e = none (nat_lt member.calls (2 ^ 56)) e _
+    refuses : (system : System) (member : Member) (q : Option Open) → refusal_of (Some member.calls) (is_some (option_map snapshot q)) Begin ≡ Some fault → step_of old.limits system client member (ActBegin ask) q ≡ refused fault system
+    refuses system member None e = none (nat_lt member.calls (2 ^ 56)) e _
       where
         none : (b : Bool) → cond b None (Some Spent) ≡ Some fault → (right : Step) → cond b right (refused Spent system) ≡ refused fault system
         none true h right = absurd (cc)
         none false h right = ap (λ f. refused f system) (the_fault Spent fault h)
-    at_query member (Some query) e = some (nat_lt member.calls (2 ^ 56)) e
+    refuses system member (Some query) e = some (nat_lt member.calls (2 ^ 56)) e
       where
         some : (b : Bool) → cond b (Some QueryOpen) (Some Spent) ≡ Some fault → cond b (refused QueryOpen system) (refused Spent system) ≡ refused fault system
         some true h = ap (λ f. refused f system) (the_fault QueryOpen fault h)
         some false h = ap (λ f. refused f system) (the_fault Spent fault h)
-
-    go : (o : Option Member) → seat client system.members ≡ o
-        → elim o as (λ x. Step) [ None ↦ refused NoSuchClient system | Some member ↦ step_of running.limits system client member (ActBegin ask) member.query ] ≡ refused fault system
-    go None at = ap (λ f. refused f system) (the_fault NoSuchClient fault (sym (refusal_nobody system client Begin at) ∙ returned))
-    go (Some member) at = at_query member member.query (sym (refusal_there system client member Begin at) ∙ returned)

@@ -1,14 +1,14 @@
 -- What a machine tells at each act is the system's reply: ends of queries, and reads.
 use Rattle.pref_core.proofs.Common.{◌≡◌, ℕ, ◌-◌, ◌<◌, ◌^◌, Bool, true, false, cond, nat_lt, length, Option, Some, None, is_some, Ok, Err, Result, ⊎_elim, inl, inr, refl, sym, ap, ◌∙◌, subst, arith}
-use Rattle.pref_core.proofs.Common.{option_map, Ranked, answer_of, Call, Finish, Abandon, Op, CoreFault, NoSuchClient, Spent, NoQuery, NotDone, MissingRow, OutOfMemory, ActFinish, ActAbandon, ActGet}
-use Rattle.pref_core.proofs.Common.{ActRoom, Reply, Answer, Abandoned, Found, Room, Refused, Row, Line, line_of, entries, State, Snapshot, is_change, seat, with_seat, refusal, refusal_of}
-use Rattle.pref_core.proofs.Common.{refusal_by_query, begun_after, needed, Open, Member, System, Step, snapshot, state_of, refused, counted_with, finish, step, Contents, StandsFor, applied, Scan}
-use Rattle.pref_core.proofs.Common.{Running, StandsForMember, StandsForSystem, Returns, is_refusal, AnswersAt, step_of}
+use Rattle.pref_core.proofs.Common.{List, Does, option_map, Ranked, answer_of, Call, Finish, Abandon, Op, CoreFault, NoSuchClient, Spent, NoQuery, NotDone, MissingRow, OutOfMemory, ActFinish}
+use Rattle.pref_core.proofs.Common.{ActAbandon, ActGet, ActRoom, Reply, Answer, Abandoned, Found, Room, Refused, Row, Line, line_of, entries, State, Snapshot, is_change, seat, with_seat, refusal}
+use Rattle.pref_core.proofs.Common.{refusal_of, refusal_by_query, begun_after, needed, Open, Member, System, Step, snapshot, state_of, refused, counted_with, finish, step, Contents, StandsFor}
+use Rattle.pref_core.proofs.Common.{applied, Scan, Running, StandsForMember, StandsForSystem, Returns, is_refusal, AnswersAt, step_of}
 use Rattle.std.specs.Global.{Vec}
 use Rattle.pref_core.specs.MachineParts.{numbered}
 use Rattle.pref_core.proofs.QueryLaws.{follows_answered}
-use Rattle.pref_core.proofs.SystemsLaws.{refusal_there, refusal_nobody, IsThere-from, IsLetIn, IsLetIn-from, queried_stands, query_shows}
-use Rattle.pref_core.proofs.ChangeReplies.{PlansAlways, running_of, refused_tells, somebody_steps, let_in_steps, the_fault}
+use Rattle.pref_core.proofs.SystemsLaws.{refusal_nobody, IsThere-from, IsLetIn, IsLetIn-from, queried_stands, query_shows}
+use Rattle.pref_core.proofs.ChangeReplies.{PlansAlways, running_of, refused_does, refused_tells, somebody_steps, let_in_steps, the_fault}
 use Rattle.pref_core.proofs.ScanReplies.{IsAsking-from, IsIdle-from, nobody_there, some_left, no_left}
 
 -- A call that ends a query is refused where there is none.
@@ -25,39 +25,22 @@ ends_refused system member fault right call t f (Some query) e = go (nat_lt memb
     go true h = absurd (cc)
     go false h = ap (λ g. refused g system) (the_fault Spent fault h)
 
-pub abandon_refused : (running : Running) (system : System) (client : ℕ) (fault : CoreFault) → StandsForSystem running system → PlansAlways running.contents client Abandon (Err fault)
-    → Returns running (step running.limits system (record { client = client; act = ActAbandon })) ActAbandon (Err fault) running
-abandon_refused running system client fault h plans = refused_tells running system _ ActAbandon fault h (go (seat client system.members) refl)
+pub abandon_not : (old : Running) (client : ℕ) (fault : CoreFault) → PlansAlways old.contents client Abandon (Err fault) → Does old client ActAbandon (Err fault) old
+abandon_not old client fault plans = refused_does old client ActAbandon Abandon fault refuses plans
   where
-    returned : refusal (state_of system) client Abandon ≡ Some fault
-    returned = plans (state_of system) h.store
+    right : System → Member → Open → Step
+    right system member query = record { reply = Abandoned; next = counted_with None client member system }
 
-    by_query : (member : Member) (q : Option Open) → step_of running.limits system client member ActAbandon q
-        ≡ numbered member system (elim q as (λ x. Step) [ None ↦ refused NoQuery system | Some query ↦ record { reply = Abandoned; next = counted_with None client member system } ])
-    by_query member None = refl
-    by_query member (Some query) = refl
+    refuses : (system : System) (member : Member) (q : Option Open) → refusal_of (Some member.calls) (is_some (option_map snapshot q)) Abandon ≡ Some fault → step_of old.limits system client member ActAbandon q ≡ refused fault system
+    refuses system member None e = ends_refused system member fault (right system member) Abandon refl refl None e
+    refuses system member (Some query) e = ends_refused system member fault (right system member) Abandon refl refl (Some query) e
 
-    go : (o : Option Member) → seat client system.members ≡ o
-        → elim o as (λ x. Step) [ None ↦ refused NoSuchClient system | Some member ↦ step_of running.limits system client member ActAbandon member.query ] ≡ refused fault system
-    go None at = ap (λ f. refused f system) (the_fault NoSuchClient fault (sym (refusal_nobody system client Abandon at) ∙ returned))
-    go (Some member) at = by_query member member.query ∙ ends_refused system member fault (λ query. record { reply = Abandoned; next = counted_with None client member system }) Abandon refl refl member.query (sym (refusal_there system client member Abandon at) ∙ returned)
-
-pub finish_refused : (running : Running) (system : System) (client : ℕ) (fault : CoreFault) → StandsForSystem running system → PlansAlways running.contents client Finish (Err fault)
-    → Returns running (step running.limits system (record { client = client; act = ActFinish })) ActFinish (Err fault) running
-finish_refused running system client fault h plans = refused_tells running system _ ActFinish fault h (go (seat client system.members) refl)
+pub finish_not : (old : Running) (client : ℕ) (fault : CoreFault) → PlansAlways old.contents client Finish (Err fault) → Does old client ActFinish (Err fault) old
+finish_not old client fault plans = refused_does old client ActFinish Finish fault refuses plans
   where
-    returned : refusal (state_of system) client Finish ≡ Some fault
-    returned = plans (state_of system) h.store
-
-    by_query : (member : Member) (q : Option Open) → step_of running.limits system client member ActFinish q
-        ≡ numbered member system (elim q as (λ x. Step) [ None ↦ refused NoQuery system | Some query ↦ finish client member system query ])
-    by_query member None = refl
-    by_query member (Some query) = refl
-
-    go : (o : Option Member) → seat client system.members ≡ o
-        → elim o as (λ x. Step) [ None ↦ refused NoSuchClient system | Some member ↦ step_of running.limits system client member ActFinish member.query ] ≡ refused fault system
-    go None at = ap (λ f. refused f system) (the_fault NoSuchClient fault (sym (refusal_nobody system client Finish at) ∙ returned))
-    go (Some member) at = by_query member member.query ∙ ends_refused system member fault (finish client member system) Finish refl refl member.query (sym (refusal_there system client member Finish at) ∙ returned)
+    refuses : (system : System) (member : Member) (q : Option Open) → refusal_of (Some member.calls) (is_some (option_map snapshot q)) Finish ≡ Some fault → step_of old.limits system client member ActFinish q ≡ refused fault system
+    refuses system member None e = ends_refused system member fault (finish client member system) Finish refl refl None e
+    refuses system member (Some query) e = ends_refused system member fault (finish client member system) Finish refl refl (Some query) e
 
 -- What a call that ends a query leaves.
 record Ends (running : Running) (system : System) (client : ℕ) (call : Call) (new : Contents) : Type 0 where
@@ -82,41 +65,45 @@ ends running system client call op new c gone h plans is =
     }
 
 -- A query is abandoned.
-pub abandon_tells : (running : Running) (system : System) (client : ℕ) (op : Op) (new : Contents) → StandsForSystem running system → PlansAlways running.contents client Abandon (Ok op) → new ≡ applied running.contents op
-    → Returns running (step running.limits system (record { client = client; act = ActAbandon })) ActAbandon (Ok Abandoned) (running_of new running.limits (with_seat client None running.scans))
-abandon_tells running system client op new h plans is =
-    let end = ends running system client Abandon op new refl (λ f. refl) h plans is in
-    subst (λ r. Returns running r ActAbandon (Ok Abandoned) (running_of new running.limits (with_seat client None running.scans)))
-    (sym (somebody_steps running.limits system client ActAbandon end.who end.at ∙ go end.who end.who.query end.let_in.unspent end.let_in.allowed)) (refl, refl, end.stands)
+pub abandon_does : (old : Running) (client : ℕ) (op : Op) (new : Contents) (scans : List (Option Scan)) → PlansAlways old.contents client Abandon (Ok op) → new ≡ applied old.contents op → scans ≡ with_seat client None old.scans
+    → Does old client ActAbandon (Ok Abandoned) (running_of new old.limits scans)
+abandon_does old client op new scans plans is placed = record {
+  limits = refl;
+  tells = λ system h.
+      let end = ends old system client Abandon op new refl (λ f. refl) h plans is in
+      subst (λ r. Returns old r ActAbandon (Ok Abandoned) (running_of new old.limits scans))
+      (sym (somebody_steps old.limits system client ActAbandon end.who end.at ∙ go system end.who end.who.query end.let_in.unspent end.let_in.allowed))
+      (refl, refl, subst (λ l. StandsForSystem (running_of new old.limits l) (counted_with None client end.who system)) (sym placed) end.stands);
+}
   where
-    go : (member : Member) (q : Option Open) → nat_lt member.calls (2 ^ 56) ≡ true → refusal_by_query (is_some (option_map snapshot q)) Abandon ≡ None
-        → step_of running.limits system client member ActAbandon q ≡ record { reply = Abandoned; next = counted_with None client member system }
-    go member None u a = absurd (cc)
-    go member (Some query) u a = let_in_steps member system _ u
+    go : (system : System) (member : Member) (q : Option Open) → nat_lt member.calls (2 ^ 56) ≡ true → refusal_by_query (is_some (option_map snapshot q)) Abandon ≡ None
+        → step_of old.limits system client member ActAbandon q ≡ record { reply = Abandoned; next = counted_with None client member system }
+    go system member None u a = absurd (cc)
+    go system member (Some query) u a = let_in_steps member system _ u
 
 -- A query finishes.
-pub finish_tells : (running : Running) (system : System) (client : ℕ) (op : Op) (new : Contents) (ranked : Vec Ranked) → StandsForSystem running system → PlansAlways running.contents client Finish (Ok op) → new ≡ applied running.contents op
-    → AnswersAt (seat client running.scans) (Ok ranked)
-    → Returns running (step running.limits system (record { client = client; act = ActFinish })) ActFinish (Ok (Answer ranked.items)) (running_of new running.limits (with_seat client None running.scans))
-finish_tells running system client op new ranked h plans is says = go (seat client running.scans) refl says
+pub finish_does : (old : Running) (client : ℕ) (op : Op) (new : Contents) (scans : List (Option Scan)) (ranked : Vec Ranked) → PlansAlways old.contents client Finish (Ok op) → new ≡ applied old.contents op → scans ≡ with_seat client None old.scans
+    → AnswersAt (seat client old.scans) (Ok ranked) → Does old client ActFinish (Ok (Answer ranked.items)) (running_of new old.limits scans)
+finish_does old client op new scans ranked plans is placed says = record { limits = refl; tells = λ system h. go system h (seat client old.scans) refl says }
   where
-    go : (o : Option (Option Scan)) → seat client running.scans ≡ o → AnswersAt o (Ok ranked)
-        → Returns running (step running.limits system (record { client = client; act = ActFinish })) ActFinish (Ok (Answer ranked.items)) (running_of new running.limits (with_seat client None running.scans))
-    go None at says = absurd (cc)
-    go (Some None) at says = absurd (cc)
-    go (Some (Some held)) at says =
-        let asks = IsAsking-from running system client held h at in
-        let end = ends running system client Finish op new refl (λ f. refl) h plans is in
+    go : (system : System) → StandsForSystem old system → (o : Option (Option Scan)) → seat client old.scans ≡ o → AnswersAt o (Ok ranked)
+        → Returns old (step old.limits system (record { client = client; act = ActFinish })) ActFinish (Ok (Answer ranked.items)) (running_of new old.limits scans)
+    go system h None at says = absurd (cc)
+    go system h (Some None) at says = absurd (cc)
+    go system h (Some (Some held)) at says =
+        let asks = IsAsking-from old system client held h at in
+        let end = ends old system client Finish op new refl (λ f. refl) h plans is in
         let same : end.who ≡ asks.who = let both : Some end.who ≡ Some asks.who = sym end.at ∙ asks.at in cc in
-        let shows = query_shows running system client asks.who asks.query h asks.at asks.is in
-        let answer = follows_answered running.contents.slots held asks.query ranked.items shows asks.follows says.0 says.1 in
+        let shows = query_shows old system client asks.who asks.query h asks.at asks.is in
+        let answer = follows_answered old.contents.slots held asks.query ranked.items shows asks.follows says.0 says.1 in
         let none_left : asks.query.left ≡ 0 = sym asks.follows.left ∙ says.0 in
-        let right : step running.limits system (record { client = client; act = ActFinish }) ≡ record { reply = Answer (answer_of asks.query.ask (entries asks.query.table)); next = counted_with None client end.who system }
-        = somebody_steps running.limits system client ActFinish end.who end.at
-        ∙ ap (step_of running.limits system client end.who ActFinish) (ap (λ (m : Member). m.query) same ∙ asks.is)
+        let right : step old.limits system (record { client = client; act = ActFinish }) ≡ record { reply = Answer (answer_of asks.query.ask (entries asks.query.table)); next = counted_with None client end.who system }
+        = somebody_steps old.limits system client ActFinish end.who end.at
+        ∙ ap (step_of old.limits system client end.who ActFinish) (ap (λ (m : Member). m.query) same ∙ asks.is)
         ∙ let_in_steps end.who system _ end.let_in.unspent
         ∙ ap (λ b. cond b (refused (NotDone asks.query.left) system) (record { reply = Answer (answer_of asks.query.ask (entries asks.query.table)); next = counted_with None client end.who system })) (no_left asks.query.left none_left) in
-        subst (λ r. Returns running r ActFinish (Ok (Answer ranked.items)) (running_of new running.limits (with_seat client None running.scans))) (sym right) (ap Answer answer, refl, end.stands)
+        subst (λ r. Returns old r ActFinish (Ok (Answer ranked.items)) (running_of new old.limits scans)) (sym right)
+        (ap Answer answer, refl, subst (λ l. StandsForSystem (running_of new old.limits l) (counted_with None client end.who system)) (sym placed) end.stands)
 
 pub finish_not_done : (running : Running) (system : System) (client : ℕ) (op : Op) (fault : CoreFault) → StandsForSystem running system → PlansAlways running.contents client Finish (Ok op)
     → AnswersAt (seat client running.scans) (Err fault)

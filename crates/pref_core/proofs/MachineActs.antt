@@ -1,18 +1,17 @@
 -- Each part of a machine does its act.
-use Rattle.pref_core.proofs.Common.{◌≡◌, ℕ, ◌-◌, ◌&&◌, true, false, List, length, Option, Some, None, is_some, Ok, Err, Result, IfErr, MatchResult, ⊎_elim, inr, nat_lt, ap, refl, sym, ◌∙◌, subst}
-use Rattle.pref_core.proofs.Common.{option_map, Ranked, Question, Call, CallInsert, CallUpdate, CallDelete, CallCommit, Begin, Finish, Abandon, Change, Op, CoreFault, OutOfMemory, Act, ActInsert}
-use Rattle.pref_core.proofs.Common.{ActUpdate, ActDelete, ActCommit, ActBegin, ActScan, ActFinish, ActAbandon, ActGet, ActRoom, Event, Reply, Inserted, Updated, Deleted, Committed, Begun, Left}
-use Rattle.pref_core.proofs.Common.{Answer, Abandoned, Room, Refused, Row, AreAllowed, blocks, Line, line_of, State, is_change, succeeds, added, seat, with_seat, needed, System, Step, step}
-use Rattle.pref_core.proofs.Common.{committed_of, Contents, StandsFor, IsIndexOf, adds, applied, IsPlan, Scan, begin, Running, StandsForSystem, may_want_memory, is_refusal, Returns, Does, as_reply}
-use Rattle.pref_core.proofs.Common.{without_event, Steps, IsInOrder, Changes, reply_for, NextIsNewAt, ScansAt, AnswersAt, is_begin}
-use Rattle.std.specs.Global.{Vec}
+use Rattle.pref_core.proofs.Common.{◌≡◌, ℕ, ◌-◌, ◌&&◌, true, false, List, length, Option, Some, is_some, Ok, Err, Result, IfErr, MatchResult, ⊎_elim, inr, nat_lt, ap, refl, sym, ◌∙◌, subst}
+use Rattle.pref_core.proofs.Common.{option_map, Question, Call, CallInsert, CallUpdate, CallDelete, CallCommit, Begin, Finish, Change, Op, CoreFault, OutOfMemory, Act, ActInsert, ActUpdate, ActDelete}
+use Rattle.pref_core.proofs.Common.{ActCommit, ActBegin, ActScan, ActFinish, ActAbandon, ActGet, ActRoom, Event, Reply, Inserted, Updated, Deleted, Committed, Begun, Left, Room, Refused, Row}
+use Rattle.pref_core.proofs.Common.{AreAllowed, blocks, Line, line_of, State, is_change, succeeds, added, seat, with_seat, needed, System, Step, step, committed_of, Contents, StandsFor, IsIndexOf}
+use Rattle.pref_core.proofs.Common.{adds, applied, IsPlan, Scan, begin, Running, StandsForSystem, may_want_memory, is_refusal, Returns, Does, as_reply, without_event, Steps, IsInOrder, Changes}
+use Rattle.pref_core.proofs.Common.{reply_for, NextIsNewAt, ScansAt, AnswersAt, is_begin}
 use Rattle.pref_core.specs.declared.event.StepFault.{StepFault}
 use Rattle.pref_core.specs.MachineParts.{change_of}
 use Rattle.pref_core.proofs.LegalLaws.{plans_in}
-use Rattle.pref_core.proofs.ChangeReplies.{PlansAlways, running_of, adding_not_refused, change_tells, change_refused, begin_tells, begin_refused}
+use Rattle.pref_core.proofs.ChangeReplies.{PlansAlways, running_of, adding_not_refused, begin_not, begin_tells, change_tells}
 use Rattle.pref_core.proofs.IndexLaws.{indexed_still}
 use Rattle.pref_core.proofs.ScanReplies.{next_is_new_at, scan_tells}
-use Rattle.pref_core.proofs.EndReplies.{abandon_tells, abandon_refused, finish_tells, finish_refused, finish_not_done, told_get, get_tells, room_tells}
+use Rattle.pref_core.proofs.EndReplies.{finish_not_done, told_get, get_tells, room_tells}
 
 -- What is left stands for a system again.
 in_order_told : (before after : Running) (system : System) (right : Step) (act : Act) (result : Result Reply CoreFault) (index : List (ℕ × ℕ)) → StandsForSystem before system → Returns before right act result after → IsIndexOf after.contents index → IsInOrder after index
@@ -57,9 +56,6 @@ pub change_done : (old : Running) (client : ℕ) (call : Call) (done : Reply) (o
     → Changes old client call done (reply_for op.outcome done) (running_of new old.limits old.scans)
 change_done old client call done op new c quiet plans is = record { limits = refl; tells = λ system h act wants. change_tells old system client call done op new act c quiet h plans is }
 
-pub change_not : (old : Running) (client : ℕ) (call : Call) (done : Reply) (fault : CoreFault) → is_change call ≡ true → PlansAlways old.contents client call (Err fault) → Changes old client call done (Err fault) old
-change_not old client call done fault c plans = record { limits = refl; tells = λ system h act wants. change_refused old system client call done fault act c h plans }
-
 pub change_unmade : (old : Running) (client : ℕ) (call : Call) (done : Reply) (op : Op) → is_refusal done ≡ false → adds op.outcome ≡ true → PlansAlways old.contents client call (Ok op) → nat_lt 0 (added call) ≡ true → Changes old client call done (Err OutOfMemory) old
 change_unmade old client call done op quiet adding plans some = record { limits = refl; tells = λ system h act wants. inr (refl, wants some, adding_not_refused old system client call done op quiet adding h plans, refl) }
 
@@ -89,26 +85,10 @@ begin_does old client ask op new stamp scans allowed now plan is placed =
     subst (λ l. Does old client (ActBegin ask) (Ok (Begun (blocks old.limits))) (running_of new old.limits l)) (sym placed)
     (record { limits = refl; tells = λ system h. begin_tells old system client ask op new stamp allowed now h (λ state stands. plans_in old.contents state client Begin (Ok op) stands plan) is })
 
-pub begin_not : (old : Running) (client : ℕ) (ask : Question) (fault : CoreFault) → PlansAlways old.contents client Begin (Err fault) → Does old client (ActBegin ask) (Err fault) old
-begin_not old client ask fault plans = record { limits = refl; tells = λ system h. begin_refused old system client ask fault h plans }
-
-pub scan_does : (old : Running) (client : ℕ) (result : Result ℕ CoreFault) (scans : List (Option Scan)) → ScansAt (seat client old.scans) old.contents.slots client old.scans result scans
-    → Does old client ActScan (as_reply Left result) (running_of old.contents old.limits scans)
-scan_does old client result scans says = record { limits = refl; tells = λ system h. scan_tells old system client result scans h says }
-
-pub abandon_does : (old : Running) (client : ℕ) (op : Op) (new : Contents) → PlansAlways old.contents client Abandon (Ok op) → new ≡ applied old.contents op
-    → Does old client ActAbandon (Ok Abandoned) (running_of new old.limits (with_seat client None old.scans))
-abandon_does old client op new plans is = record { limits = refl; tells = λ system h. abandon_tells old system client op new h plans is }
-
-pub abandon_not : (old : Running) (client : ℕ) (fault : CoreFault) → PlansAlways old.contents client Abandon (Err fault) → Does old client ActAbandon (Err fault) old
-abandon_not old client fault plans = record { limits = refl; tells = λ system h. abandon_refused old system client fault h plans }
-
-pub finish_does : (old : Running) (client : ℕ) (op : Op) (new : Contents) (ranked : Vec Ranked) → PlansAlways old.contents client Finish (Ok op) → new ≡ applied old.contents op → AnswersAt (seat client old.scans) (Ok ranked)
-    → Does old client ActFinish (Ok (Answer ranked.items)) (running_of new old.limits (with_seat client None old.scans))
-finish_does old client op new ranked plans is says = record { limits = refl; tells = λ system h. finish_tells old system client op new ranked h plans is says }
-
-pub finish_not : (old : Running) (client : ℕ) (fault : CoreFault) → PlansAlways old.contents client Finish (Err fault) → Does old client ActFinish (Err fault) old
-finish_not old client fault plans = record { limits = refl; tells = λ system h. finish_refused old system client fault h plans }
+pub scan_does : (old : Running) (client : ℕ) (result : Result ℕ CoreFault) (scans placed : List (Option Scan)) → placed ≡ scans → ScansAt (seat client old.scans) old.contents.slots client old.scans result scans
+    → Does old client ActScan (as_reply Left result) (running_of old.contents old.limits placed)
+scan_does old client result scans placed is says =
+    subst (λ l. Does old client ActScan (as_reply Left result) (running_of old.contents old.limits l)) (sym is) (record { limits = refl; tells = λ system h. scan_tells old system client result scans h says })
 
 pub finish_early : (old : Running) (client : ℕ) (op : Op) (fault : CoreFault) → PlansAlways old.contents client Finish (Ok op) → AnswersAt (seat client old.scans) (Err fault) → Does old client ActFinish (Err fault) old
 finish_early old client op fault plans says = record { limits = refl; tells = λ system h. finish_not_done old system client op fault h plans says }

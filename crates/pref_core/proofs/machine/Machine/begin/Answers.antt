@@ -1,6 +1,5 @@
 use Rattle.pref_core.proofs.Common.{Err, subst, ActBegin, Begin, IsPlan, Running, Does, op_of}
-use Rattle.pref_core.proofs.ChangeReplies.{PlansAlways, running_of}
-use Rattle.pref_core.proofs.MachineActs.{begin_not}
+use Rattle.pref_core.proofs.ChangeReplies.{begin_not, PlansAlways, running_of}
 use Rattle.pref_core.proofs.machine.Machine.begin.Goals as goal
 
 pub returns-in-Err : goal.returns-in-Err

@@ -2,7 +2,9 @@ use Rattle.pref_core.proofs.Common.{◌≡◌, Ok, Err, None, length, arith, ref
 use Rattle.pref_core.proofs.Common.{ActFinish, Answer}
 use Rattle.pref_core.proofs.LegalLaws.{plan_itself}
 use Rattle.pref_core.proofs.ChangeReplies.{PlansAlways, running_of}
-use Rattle.pref_core.proofs.MachineActs.{finish_does, finish_not, finish_early, in_order_quiet}
+use Rattle.pref_core.proofs.EndReplies.{finish_does, finish_not}
+use Rattle.pref_core.proofs.MachineActs.{finish_early, in_order_quiet}
+use Rattle.pref_core.proofs.machine.Machine.finish.Goals.{After-of}
 use Rattle.pref_core.proofs.machine.Machine.finish.Goals as goal
 
 pub returns-in-Err : goal.returns-in-Err
@@ -21,26 +23,24 @@ returns-in_err-ranked c =
     (finish_early (running_of c.self.inside.store c.self.inside.setup c.self.inside.queries.items) c.args.client (op_of c.in-Ok.op) c.in_err-ranked.field-0.0 (subst (λ call. PlansAlways c.self.inside.store c.args.client call (Ok (op_of c.in-Ok.op))) c.finish-call.ensures c.in-Ok.ensures.state) says)
     )
 
+done : (c : After-of) → Does (running_of c.self.inside.store c.self.inside.setup c.self.inside.queries.items) c.args.client ActFinish (Ok (Answer c.in_ok-ranked.ranked.items))
+    (running_of c.perform.new.self c.self.inside.setup (with_items c.self.inside.queries c.set.new.queries).items)
+done c =
+    let long : length c.set.new.queries ≡ c.self.inside.queries.len = omega arith in
+    finish_does _ c.args.client (op_of c.in-Ok.op) c.perform.new.self _ c.in_ok-ranked.ranked (subst (λ call. PlansAlways c.self.inside.store c.args.client call (Ok (op_of c.in-Ok.op))) c.finish-call.ensures c.in-Ok.ensures.state) c.perform.ensures.exact
+    (with_items_is c.self.inside.queries c.set.new.queries long ∙ c.set.ensures ∙ ap (with_seat c.args.client None) c.deref_mut.ensures.value)
+    (subst (λ l. AnswersAt (seat c.args.client l) (Ok c.in_ok-ranked.ranked)) c.deref.ensures.value c.in_ok-ranked.ensures)
+
 pub invariant_of-self : goal.invariant_of-self
 invariant_of-self c =
-    let old = running_of c.self.inside.store c.self.inside.setup c.self.inside.queries.items in
-    let says = subst (λ l. AnswersAt (seat c.args.client l) (Ok c.in_ok-ranked.ranked)) c.deref.ensures.value c.in_ok-ranked.ensures in
-    let long : length c.set.new.queries ≡ c.self.inside.queries.len = omega arith in
-    let scans = with_items_is c.self.inside.queries c.set.new.queries long ∙ c.set.ensures ∙ ap (with_seat c.args.client None) c.deref_mut.ensures.value in
-    let base = finish_does old c.args.client (op_of c.in-Ok.op) c.perform.new.self c.in_ok-ranked.ranked (subst (λ call. PlansAlways c.self.inside.store c.args.client call (Ok (op_of c.in-Ok.op))) c.finish-call.ensures c.in-Ok.ensures.state) c.perform.ensures.exact says in
-    let placed = subst (λ l. Does old c.args.client ActFinish (Ok (Answer c.in_ok-ranked.ranked.items)) (running_of c.perform.new.self c.self.inside.setup l)) (sym scans) base in
-    in_order_quiet old c.perform.new.self _ c.self.inside.index c.args.client Finish (op_of c.in-Ok.op) ActFinish (Ok (Answer c.in_ok-ranked.ranked.items)) refl (subst (λ call. IsPlan c.self.inside.store c.args.client call (op_of c.in-Ok.op)) c.finish-call.ensures c.in-Ok.ensures.exact) c.perform.ensures.exact c.self.invariant placed
+    in_order_quiet _ c.perform.new.self _ c.self.inside.index c.args.client Finish (op_of c.in-Ok.op) ActFinish _ refl (subst (λ call. IsPlan c.self.inside.store c.args.client call (op_of c.in-Ok.op)) c.finish-call.ensures c.in-Ok.ensures.exact)
+    c.perform.ensures.exact c.self.invariant (done (goal.at.invariant_of-self c).After-of)
 
 pub returns : goal.returns
 returns c =
-    let old = running_of c.self.inside.store c.self.inside.setup c.self.inside.queries.items in
-    let says = subst (λ l. AnswersAt (seat c.args.client l) (Ok c.in_ok-ranked.ranked)) c.deref.ensures.value c.in_ok-ranked.ensures in
-    let long : length c.set.new.queries ≡ c.self.inside.queries.len = omega arith in
-    let scans = with_items_is c.self.inside.queries c.set.new.queries long ∙ c.set.ensures ∙ ap (with_seat c.args.client None) c.deref_mut.ensures.value in
-    let base = finish_does old c.args.client (op_of c.in-Ok.op) c.perform.new.self c.in_ok-ranked.ranked (subst (λ call. PlansAlways c.self.inside.store c.args.client call (Ok (op_of c.in-Ok.op))) c.finish-call.ensures c.in-Ok.ensures.state) c.perform.ensures.exact says in
-    let placed = subst (λ l. Does old c.args.client ActFinish (Ok (Answer c.in_ok-ranked.ranked.items)) (running_of c.perform.new.self c.self.inside.setup l)) (sym scans) base in
-    let returned = subst (λ l. Does old c.args.client ActFinish (Ok (Answer l)) (running_of c.perform.new.self c.self.inside.setup (with_items c.self.inside.queries c.set.new.queries).items)) (sym c.of.ensures) placed in
-    subst (λ r. Does r c.args.client ActFinish (Ok (Answer c.of.result)) (running_of c.perform.new.self c.self.inside.setup (with_items c.self.inside.queries c.set.new.queries).items)) c.self.view_is returned
+    let after = running_of c.perform.new.self c.self.inside.setup (with_items c.self.inside.queries c.set.new.queries).items in
+    subst (λ r. Does r c.args.client ActFinish (Ok (Answer c.of.result)) after) c.self.view_is
+    (subst (λ l. Does (running_of c.self.inside.store c.self.inside.setup c.self.inside.queries.items) c.args.client ActFinish (Ok (Answer l)) after) (sym c.of.ensures) (done (goal.at.returns c).After-of))
 
 pub perform-requires : goal.perform-requires
 perform-requires c = plan_itself c.self.inside.store c.args.client c.finish-call.result (op_of c.in-Ok.op) c.in-Ok.ensures.exact

@@ -10,20 +10,14 @@ scan_at-requires c =
 
 pub invariant_of-self : goal.invariant_of-self
 invariant_of-self c =
-    let old = running_of c.self.inside.store c.self.inside.setup c.self.inside.queries.items in
     let long : length c.scan_at.new.queries ≡ c.self.inside.queries.len = omega arith in
-    let scans = with_items_is c.self.inside.queries c.scan_at.new.queries long in
-    let says = subst (λ l. ScansAt (seat c.args.client l) c.self.inside.store.slots c.args.client l c.scan_at.result c.scan_at.new.queries) c.deref_mut.ensures.value c.scan_at.ensures in
-    let base = scan_does old c.args.client c.scan_at.result c.scan_at.new.queries says in
-    let placed = subst (λ l. Does old c.args.client ActScan (as_reply Left c.scan_at.result) (running_of c.self.inside.store c.self.inside.setup l)) (sym scans) base in
-    in_order_after old _ c.self.inside.index c.self.inside.index c.args.client ActScan (as_reply Left c.scan_at.result) c.self.invariant placed c.self.invariant.indexed
+    in_order_after _ _ c.self.inside.index c.self.inside.index c.args.client ActScan (as_reply Left c.scan_at.result) c.self.invariant
+    (scan_does (running_of c.self.inside.store c.self.inside.setup c.self.inside.queries.items) c.args.client c.scan_at.result c.scan_at.new.queries _ (with_items_is c.self.inside.queries c.scan_at.new.queries long)
+    (subst (λ l. ScansAt (seat c.args.client l) c.self.inside.store.slots c.args.client l c.scan_at.result c.scan_at.new.queries) c.deref_mut.ensures.value c.scan_at.ensures)) c.self.invariant.indexed
 
 pub returns : goal.returns
 returns c =
-    let old = running_of c.self.inside.store c.self.inside.setup c.self.inside.queries.items in
     let long : length c.scan_at.new.queries ≡ c.self.inside.queries.len = omega arith in
-    let scans = with_items_is c.self.inside.queries c.scan_at.new.queries long in
-    let says = subst (λ l. ScansAt (seat c.args.client l) c.self.inside.store.slots c.args.client l c.scan_at.result c.scan_at.new.queries) c.deref_mut.ensures.value c.scan_at.ensures in
-    let base = scan_does old c.args.client c.scan_at.result c.scan_at.new.queries says in
-    let placed = subst (λ l. Does old c.args.client ActScan (as_reply Left c.scan_at.result) (running_of c.self.inside.store c.self.inside.setup l)) (sym scans) base in
-    subst (λ r. Does r c.args.client ActScan (as_reply Left c.scan_at.result) (running_of c.self.inside.store c.self.inside.setup (with_items c.self.inside.queries c.scan_at.new.queries).items)) c.self.view_is placed
+    subst (λ r. Does r c.args.client ActScan (as_reply Left c.scan_at.result) (running_of c.self.inside.store c.self.inside.setup (with_items c.self.inside.queries c.scan_at.new.queries).items)) c.self.view_is
+    (scan_does (running_of c.self.inside.store c.self.inside.setup c.self.inside.queries.items) c.args.client c.scan_at.result c.scan_at.new.queries _ (with_items_is c.self.inside.queries c.scan_at.new.queries long)
+    (subst (λ l. ScansAt (seat c.args.client l) c.self.inside.store.slots c.args.client l c.scan_at.result c.scan_at.new.queries) c.deref_mut.ensures.value c.scan_at.ensures))
