@@ -1,9 +1,9 @@
 -- An op that is legal at slots that stand for a state leaves slots that stand for the next one.
 use Rattle.pref_core.proofs.Common.{◌≡◌, ℕ, zero, suc, Bool, true, false, not, List, [], ◌∷◌, length, Option, Some, None, is_some, slice_set, refl, sym, ap, ◌∙◌, arith, AllZip, and_parts, eqb-true}
 use Rattle.pref_core.proofs.Common.{Version, Caller, Call, Insert, Update, Delete, Commit, Begin, Finish, Abandon, Outcome, Added, Done, NoSuchRow, Full, Op, State, Client, Snapshot, with_seat}
-use Rattle.pref_core.proofs.Common.{is_change, missing, ended, begun, begins_row, needed_after, success_outcome, outcome, succeeds, committed, begun_after, counted, after, is_formed, outcome_of, Contents}
-use Rattle.pref_core.proofs.Common.{StandsFor, StandsForClient, ShowsBegin, stamps, caller_calls, grown, filled, begin_after, callers_after, is_next, same_number, same_outcome, outcome_at, refusal_at}
-use Rattle.pref_core.proofs.Common.{slots_after, stepped}
+use Rattle.pref_core.proofs.Common.{is_change, missing, ended, begun, begins_row, needed_after, success_outcome, outcome, succeeds, committed, begun_after, counted, after, is_formed, outcome_of}
+use Rattle.pref_core.proofs.Common.{Contents, StandsFor, StandsForClient, ShowsBegin, stamps, caller_calls, grown, filled, begin_after, callers_after, is_next, same_number, same_outcome, outcome_at}
+use Rattle.pref_core.proofs.Common.{refusal_at, slots_after, stepped}
 use Rattle.pref_core.proofs.CommitLaws.{grown_stands}
 use Rattle.pref_core.proofs.SlotReuse.{filled_stands}
 use Rattle.pref_core.proofs.OutcomeLaws.{SameSeat, nobody, somebody, same_seat, same_outcome_at}

@@ -1,8 +1,9 @@
 -- No number of a store comes near its type's end.
-use Rattle.pref_core.proofs.Common.{◌≡◌, ℕ, zero, suc, ◌+◌, ◌^◌, ◌<◌, ◌≤◌, Bool, true, false, cond, ◌&&◌, nat_lt, List, [], ◌∷◌, map, length, Option, Some, None, is_some, slice_get, slice_set, refl}
-use Rattle.pref_core.proofs.Common.{sym, ap, ◌∙◌, arith, AllByRecursion, sum_by, length-map, length-set, ltb-true, All-from_recursion, sum_by-le, sum_by-cons, Entry, Version, Caller, Call, Insert}
-use Rattle.pref_core.proofs.Common.{Update, Delete, Commit, Begin, Finish, Abandon, Spent, Op, seat, with_seat, is_change, succeeds, ended, begun, added, refusal_of, refusal_by_query, is_formed}
-use Rattle.pref_core.proofs.Common.{Contents, stamps, new_version, is_free, filled, close, slots_after, begin_after, callers_after, is_next, stepped, grown, IsBounded}
+use Rattle.pref_core.proofs.Common.{sum_by-set, slice_get_within, get_or_from_slice_get, ◌≡◌, ℕ, zero, suc, ◌+◌, ◌^◌, ◌<◌, ◌≤◌, Bool, true, false, cond, ◌&&◌, nat_lt, List, [], ◌∷◌, map, length}
+use Rattle.pref_core.proofs.Common.{Option, Some, None, is_some, slice_get, slice_set, refl, sym, ap, ◌∙◌, arith, AllByRecursion, sum_by, length-map, length-set, ltb-true, All-from_recursion}
+use Rattle.pref_core.proofs.Common.{sum_by-le, Entry, Version, Caller, Call, Insert, Update, Delete, Commit, Begin, Finish, Abandon, Spent, Op, seat, with_seat, is_change, succeeds, ended, begun}
+use Rattle.pref_core.proofs.Common.{added, refusal_of, refusal_by_query, is_formed, Contents, stamps, new_version, is_free, filled, close, slots_after, begin_after, callers_after, is_next, stepped}
+use Rattle.pref_core.proofs.Common.{grown, IsBounded}
 use Rattle.pref_core.proofs.AppliedLaws.{IsAllowed, IsAllowed-from}
 use Rattle.pref_core.proofs.ChangesLaws.{commit_length}
 use Rattle.pref_core.proofs.ChangeCounts.{added_by-length}
@@ -19,17 +20,7 @@ pub next_id-small : (contents : Contents) → IsBounded contents → contents.ne
 next_id-small contents h = let total = total-small contents.callers h.callers h.calls in let at = h.next_id in omega arith
 
 pub sum_by-set_suc : {X : Type 0} (f : X → ℕ) (xs : List X) (k : ℕ) (x y : X) → slice_get xs k ≡ Some x → f y ≡ suc (f x) → sum_by f (slice_set xs k y) ≡ suc (sum_by f xs)
-sum_by-set_suc f [] k x y at h = absurd (cc)
-sum_by-set_suc f (z ∷ xs) zero x y at h =
-    let same : f z ≡ f x = let e : z ≡ x = cc in ap f e in
-    let a = sum_by-cons f y xs in
-    let b = sum_by-cons f z xs in
-    omega arith
-sum_by-set_suc f (z ∷ xs) (suc k) x y at h =
-    let rest = sum_by-set_suc f xs k x y at h in
-    let a = sum_by-cons f z (slice_set xs k y) in
-    let b = sum_by-cons f z xs in
-    omega arith
+sum_by-set_suc f xs k x y at h = omega (arith, sum_by-set f xs k y x (slice_get_within xs k x at), ap f (get_or_from_slice_get xs k x x at), h)
 
 pub AllByRecursion-set : {X : Type 0} (P : X → Type 0) (xs : List X) (k : ℕ) (y : X) → P y → AllByRecursion P xs → AllByRecursion P (slice_set xs k y)
 AllByRecursion-set P [] k y p h = tt

@@ -1,8 +1,8 @@
 -- The needed versions are within the capacity after each legal history.
 use Rattle.pref_core.proofs.Common.{◌≡◌, ℕ, zero, suc, ◌≤◌, Bool, true, false, ◌||◌, cond, List, [], ◌∷◌, ◌++◌, length, Option, Some, None, slice_get, slice_set, ⊎_elim, refl, sym, ap, ◌∙◌, arith}
 use Rattle.pref_core.proofs.Common.{or_cases, or_left, or_right, count_by-le-length, Call, Insert, Update, Delete, Commit, Begin, Finish, Abandon, Line, Key, holds_key, keys, State, Client, Snapshot}
-use Rattle.pref_core.proofs.Common.{found_tables, needed, is_change, missing, ended, success_outcome, outcome, succeeds, begins_row, committed, begun_after, counted, after, outcome_of, is_needed, stamps}
-use Rattle.pref_core.proofs.Common.{NeededFits, NeededFitsSlots}
+use Rattle.pref_core.proofs.Common.{found_tables, needed, is_change, missing, ended, success_outcome, outcome, succeeds, begins_row, committed, begun_after, counted, after, outcome_of, is_needed}
+use Rattle.pref_core.proofs.Common.{stamps, NeededFits, NeededFitsSlots}
 use Rattle.pref_core.proofs.NeededCounts.{length-needed, holds_key-different, AreDifferent-different, holds_key-keys-append}
 use Rattle.pref_core.proofs.NeededKeys.{fewer, ends_need_no_more}
 use Rattle.pref_core.proofs.PlanLaws.{succeeds-fits}

@@ -1,7 +1,7 @@
 -- How many changes a call makes, and how many rows they begin and add, one change after the other.
-use Rattle.pref_core.proofs.Common.{◌≡◌, ℕ, zero, suc, ◌+◌, ◌<◌, ◌≤◌, Bool, true, false, ◌||◌, cond, eqb, List, [], ◌∷◌, ◌++◌, length, take, drop, get_or, slice_get, add-one, Some, refl, sym, ap, ◌∙◌}
-use Rattle.pref_core.proofs.Common.{arith, nat_lt, drop-cons, lt-ltb, eq-eqb, or_right, take-append-drop, Change, Add, Set, Remove, ended_by, begun_by, added_by, begins_any, among}
-use Rattle.pref_core.proofs.ChangesLaws.{ended_by-append, drop_at}
+use Rattle.pref_core.proofs.Common.{◌≡◌, ℕ, zero, suc, ◌+◌, ◌<◌, ◌≤◌, Bool, true, false, cond, List, [], ◌∷◌, ◌++◌, length, take, drop, get_or, slice_get, add-one, Some, refl, sym, ap, ◌∙◌, arith}
+use Rattle.pref_core.proofs.Common.{nat_lt, drop-cons, lt-ltb, take-append-drop, Change, Add, Set, Remove, ended_by, begun_by, added_by, begins_any, among}
+use Rattle.pref_core.proofs.ChangesLaws.{among_inside, ended_by-append, drop_at}
 
 pub drop_item : {X : Type 0} (xs : List X) (at : ℕ) (x other : X) → x ≡ get_or xs at other → at < length xs → drop at xs ≡ x ∷ drop (at + 1) xs
 drop_item xs at x other is inside = drop-cons xs at other inside ∙ ap (λ y. y ∷ drop (suc at) xs) (sym is) ∙ ap (λ n. x ∷ drop n xs) (sym (add-one at))
@@ -12,12 +12,6 @@ drop_inside [] zero x rest e = absurd (cc)
 drop_inside [] (suc at) x rest e = absurd (cc)
 drop_inside (y ∷ xs) zero x rest e = omega arith
 drop_inside (y ∷ xs) (suc at) x rest e = let more = drop_inside xs at x rest e in omega arith
-
-pub drop_more : {X : Type 0} (xs : List X) (at : ℕ) → drop 1 (drop at xs) ≡ drop (at + 1) xs
-drop_more [] zero = refl
-drop_more {X} [] (suc at) = ap (λ n. drop n []) (sym (add-one (suc at)))
-drop_more (x ∷ xs) zero = refl
-drop_more (x ∷ xs) (suc at) = drop_more xs at ∙ ap (λ n. drop n xs) (add-one at) ∙ ap (λ n. drop n (x ∷ xs)) (sym (add-one (suc at)))
 
 -- The ids that the first changes end, and the next one.
 pub ended_first : (at : ℕ) (changes : List Change) → length (ended_by (take at changes)) ≤ at
@@ -35,14 +29,7 @@ ended_next changes at change id e named =
     ∙ ap (λ l. ended_by (take at changes) ++ l) (ended_by-append (change ∷ []) (drop (at + 1) changes) ∙ ap (λ l. l ++ ended_by (drop (at + 1) changes)) named)
 
 pub named_at : (changes : List Change) (at : ℕ) (change : Change) (id : ℕ) → slice_get changes at ≡ Some change → ended_by (change ∷ []) ≡ id ∷ [] → among (ended_by changes) id ≡ true
-named_at changes at change id e named = ap (λ l. among l id) (ended_next changes at change id e named) ∙ behind (ended_by (take at changes))
-  where
-    rest : List ℕ
-    rest = ended_by (drop (at + 1) changes)
-
-    behind : (ids : List ℕ) → among (ids ++ id ∷ rest) id ≡ true
-    behind [] = ap (λ b. b || among rest id) (eq-eqb id id refl)
-    behind (other ∷ ids) = or_right (eqb other id) (among (ids ++ id ∷ rest) id) (behind ids)
+named_at changes at change id e named = ap (λ l. among l id) (ended_next changes at change id e named) ∙ among_inside (ended_by (take at changes)) (ended_by (drop (at + 1) changes)) id
 
 -- The next id has no say in how many rows begin.
 begun_alike : (m n : ℕ) (changes : List Change) → length (begun_by m changes) ≡ length (begun_by n changes)

@@ -3,7 +3,7 @@ use Rattle.pref_core.proofs.Common.{◌≡◌, ℕ, ◌^◌, Bool, true, false, 
 use Rattle.pref_core.proofs.Common.{CallInsert, CallUpdate, CallDelete, CallCommit, Begin, Finish, Abandon, Outcome, Added, Done, NoSuchRow, Full, Op, CoreFault, NoSuchClient, Spent, QueryOpen, Act}
 use Rattle.pref_core.proofs.Common.{ActBegin, Reply, Begun, Limits, AreAllowed, blocks, State, is_change, seat, with_seat, refusal, refusal_of, refusal_by_query, begun_after, outcome, Open, Member}
 use Rattle.pref_core.proofs.Common.{System, Step, snapshot, state_of, refused, counted_with, changed, change, step, Contents, StandsFor, adds, PlansIn, applied, Scan, begin, Running, StandsForSystem}
-use Rattle.pref_core.proofs.Common.{Changes, Does, is_refusal, Returns, reply_for, step_of}
+use Rattle.pref_core.proofs.Common.{Changes, Does, is_refusal, Returns, reply_for, step_of, same_Some}
 use Rattle.pref_core.specs.MachineParts.{change_of, numbered}
 use Rattle.pref_core.proofs.VisibleAfterOp.{length-applied}
 use Rattle.pref_core.proofs.SystemsLaws.{refusal_there, refusal_nobody, IsThere, IsThere-from, IsLetIn, IsLetIn-from, changed_stands, queried_stands, follows_begun}
@@ -29,10 +29,6 @@ somebody_steps limits system client act member at = ap (λ (o : Option Member). 
 pub let_in_steps : (member : Member) (system : System) (right : Step) → nat_lt member.calls (2 ^ 56) ≡ true → numbered member system right ≡ right
 let_in_steps member system right h = ap (λ b. cond b right (refused Spent system)) h
 
--- the same fault
-pub the_fault : (a b : CoreFault) → Some a ≡ Some b → a ≡ b
-the_fault a b e = cc
-
 -- an act is refused as its call is planned, where its step is
 pub refused_does : (old : Running) (client : ℕ) (act : Act) (call : Call) (fault : CoreFault)
     → ((system : System) (member : Member) (q : Option Open) → refusal_of (Some member.calls) (is_some (option_map snapshot q)) call ≡ Some fault → step_of old.limits system client member act q ≡ refused fault system)
@@ -41,7 +37,7 @@ refused_does old client act call fault refuses plans = record { limits = refl; t
   where
     go : (system : System) → refusal (state_of system) client call ≡ Some fault → (o : Option Member) → seat client system.members ≡ o
         → elim o as (λ x. Step) [ None ↦ refused NoSuchClient system | Some member ↦ step_of old.limits system client member act member.query ] ≡ refused fault system
-    go system returned None at = ap (λ f. refused f system) (the_fault NoSuchClient fault (sym (refusal_nobody system client call at) ∙ returned))
+    go system returned None at = ap (λ f. refused f system) (same_Some NoSuchClient fault (sym (refusal_nobody system client call at) ∙ returned))
     go system returned (Some member) at = refuses system member member.query (sym (refusal_there system client member call at) ∙ returned)
 
 -- a numbered call that is refused: what the step is where the query lets it in or not
@@ -52,7 +48,7 @@ numbered_refused system member call right fault open_ e = go (nat_lt member.call
   where
     go : (b : Bool) → cond b (refusal_by_query (is_some (option_map snapshot member.query)) call) (Some Spent) ≡ Some fault → cond b right (refused Spent system) ≡ refused fault system
     go true h = open_ fault h
-    go false h = ap (λ f. refused f system) (the_fault Spent fault h)
+    go false h = ap (λ f. refused f system) (same_Some Spent fault h)
 
 -- What comes of a planned change.
 record Comes (running : Running) (system : System) (client : ℕ) (call : Call) (done : Reply) (op : Op) : Type 0 where
@@ -145,7 +141,7 @@ change_not old client call done fault c plans = record { limits = refl; tells = 
 
     go : (system : System) → refusal (state_of system) client call ≡ Some fault → (o : Option Member) → seat client system.members ≡ o
         → elim o as (λ x. Step) [ None ↦ refused NoSuchClient system | Some member ↦ numbered member system (change old.limits system client member call done) ] ≡ refused fault system
-    go system returned None at = ap (λ f. refused f system) (the_fault NoSuchClient fault (sym (refusal_nobody system client call at) ∙ returned))
+    go system returned None at = ap (λ f. refused f system) (same_Some NoSuchClient fault (sym (refusal_nobody system client call at) ∙ returned))
     go system returned (Some member) at = numbered_refused system member call (change old.limits system client member call done) fault
         (λ early e. absurd (no_early call (is_some (option_map snapshot member.query)) early c e)) (sym (refusal_there system client member call at) ∙ returned)
 
@@ -195,9 +191,9 @@ begin_not old client ask fault plans = refused_does old client (ActBegin ask) Be
       where
         none : (b : Bool) → cond b None (Some Spent) ≡ Some fault → (right : Step) → cond b right (refused Spent system) ≡ refused fault system
         none true h right = absurd (cc)
-        none false h right = ap (λ f. refused f system) (the_fault Spent fault h)
+        none false h right = ap (λ f. refused f system) (same_Some Spent fault h)
     refuses system member (Some query) e = some (nat_lt member.calls (2 ^ 56)) e
       where
         some : (b : Bool) → cond b (Some QueryOpen) (Some Spent) ≡ Some fault → cond b (refused QueryOpen system) (refused Spent system) ≡ refused fault system
-        some true h = ap (λ f. refused f system) (the_fault QueryOpen fault h)
-        some false h = ap (λ f. refused f system) (the_fault Spent fault h)
+        some true h = ap (λ f. refused f system) (same_Some QueryOpen fault h)
+        some false h = ap (λ f. refused f system) (same_Some Spent fault h)

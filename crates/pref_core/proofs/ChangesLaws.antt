@@ -2,11 +2,8 @@
 use Rattle.pref_core.proofs.Common.{◌≡◌, ℕ, zero, suc, ◌+◌, ◌<◌, ◌≤◌, Bool, true, false, not, ◌||◌, cond, eqb, List, [], ◌∷◌, ◌++◌, map, length, take, drop, add-one, slice_get, Option, Some, None}
 use Rattle.pref_core.proofs.Common.{is_some, refl, sym, ap, ◌∙◌, subst, arith, ⊎_elim, ◌⊎◌, inl, inr, nat_lt, nat_le, append-nil, take_more, slice_get_within, get_or_from_slice_get, and_parts}
 use Rattle.pref_core.proofs.Common.{or_parts, or_cases, or_right, eqb-true, eq-eqb, leb-true, Change, Add, Set, Remove, Call, Insert, Update, Delete, Commit, Begin, Finish, Abandon, ended_by}
-use Rattle.pref_core.proofs.Common.{begun_by, added_by, twice_from, twice, is_change_count, is_commit, Line, among, has, missing, ended, is_formed, AreFresh, Entry}
-
-never : (b : Bool) → (b ≡ true → ⊥) → b ≡ false
-never true f = absurd (f refl)
-never false f = refl
+use Rattle.pref_core.proofs.Common.{begun_by, added_by, twice_from, twice, is_change_count, is_commit, Line, among, has, missing, ended, is_formed, AreFresh, Entry, false_from_ne_true}
+use Rattle.pref_core.proofs.Common.{list_any-append}
 
 none_is : {X : Type 0} (o : Option X) → not (is_some o) ≡ true → o ≡ None
 none_is None e = refl
@@ -22,16 +19,15 @@ abbrev pub AreApart : List ℕ → Type 0
 AreApart [] = Unit {0}
 AreApart (id ∷ ids) = (among ids id ≡ false) × AreApart ids
 
-among_first : (id : ℕ) (ids : List ℕ) → among (id ∷ ids) id ≡ true
+pub among_first : (id : ℕ) (ids : List ℕ) → among (id ∷ ids) id ≡ true
 among_first id ids = ap (λ b. b || among ids id) (eq-eqb id id refl)
 
-among_append : (xs ys : List ℕ) (id : ℕ) → among (xs ++ ys) id ≡ (among xs id || among ys id)
-among_append [] ys id = refl
-among_append (x ∷ xs) ys id = go (eqb x id) (among_append xs ys id)
-  where
-    go : (b : Bool) → among (xs ++ ys) id ≡ (among xs id || among ys id) → (b || among (xs ++ ys) id) ≡ ((b || among xs id) || among ys id)
-    go true h = refl
-    go false h = h
+pub among_append : (xs ys : List ℕ) (id : ℕ) → among (xs ++ ys) id ≡ (among xs id || among ys id)
+among_append xs ys id = list_any-append (λ other. eqb other id) xs ys
+
+-- an id that is in the list
+pub among_inside : (xs ys : List ℕ) (id : ℕ) → among (xs ++ id ∷ ys) id ≡ true
+among_inside xs ys id = among_append xs (id ∷ ys) id ∙ or_right (among xs id) (among (id ∷ ys) id) (among_first id ys)
 
 pub ended_by-append : (xs ys : List Change) → ended_by (xs ++ ys) ≡ ended_by xs ++ ended_by ys
 ended_by-append [] ys = refl
@@ -46,7 +42,7 @@ record Names (earlier : List ℕ) (ids : List ℕ) : Type 0 where
 
 names_more : (earlier : List ℕ) (id : ℕ) (ids : List ℕ) → among earlier id ≡ false → Names (earlier ++ id ∷ []) ids → Names earlier (id ∷ ids)
 names_more earlier id ids new h = record {
-  apart = (never (among ids id) (λ there. let both : true ≡ false = sym (among_append earlier (id ∷ []) id ∙ or_right (among earlier id) (among (id ∷ []) id) (among_first id [])) ∙ h.others id there in cc), h.apart);
+  apart = (false_from_ne_true (among ids id) (λ there. let both : true ≡ false = sym (among_append earlier (id ∷ []) id ∙ or_right (among earlier id) (among (id ∷ []) id) (among_first id [])) ∙ h.others id there in cc), h.apart);
   others = λ other there. ⊎_elim
       (λ (e : eqb id other ≡ true). let same : id ≡ other = eqb-true id other e in subst (λ n. among earlier n ≡ false) same new)
       (λ (e : among ids other ≡ true). (or_parts (among earlier other) (among (id ∷ []) other) (sym (among_append earlier (id ∷ []) other) ∙ h.others other e)).0)
@@ -100,17 +96,9 @@ begun_ids next (Add row ∷ rest) id a = ⊎_elim
     (or_cases (eqb next id) (among (ids_of (begun_by (suc next) rest)) id) a)
 begun_ids next (Set other row ∷ rest) id a = ⊎_elim
     (λ (e : eqb other id ≡ true). inl (ap (λ b. b || among (ended_by rest) id) e))
-    (λ (e : among (ids_of (begun_by next rest)) id ≡ true). ⊎_elim (λ (there : among (ended_by rest) id ≡ true). inl (right (eqb other id) (among (ended_by rest) id) there)) (λ (l : next ≤ id). inr l) (begun_ids next rest id e))
+    (λ (e : among (ids_of (begun_by next rest)) id ≡ true). ⊎_elim (λ (there : among (ended_by rest) id ≡ true). inl (or_right (eqb other id) (among (ended_by rest) id) there)) (λ (l : next ≤ id). inr l) (begun_ids next rest id e))
     (or_cases (eqb other id) (among (ids_of (begun_by next rest)) id) a)
-  where
-    right : (a b : Bool) → b ≡ true → (a || b) ≡ true
-    right true b e = refl
-    right false b e = e
-begun_ids next (Remove other ∷ rest) id a = ⊎_elim (λ (there : among (ended_by rest) id ≡ true). inl (right (eqb other id) (among (ended_by rest) id) there)) (λ (l : next ≤ id). inr l) (begun_ids next rest id a)
-  where
-    right : (a b : Bool) → b ≡ true → (a || b) ≡ true
-    right true b e = refl
-    right false b e = e
+begun_ids next (Remove other ∷ rest) id a = ⊎_elim (λ (there : among (ended_by rest) id ≡ true). inl (or_right (eqb other id) (among (ended_by rest) id) there)) (λ (l : next ≤ id). inr l) (begun_ids next rest id a)
 
 -- the rows that changes begin, over a table that has none of the ids from `start` on nor those that they name
 pub begun_fresh : (start next limit : ℕ) (table : List Line) (changes : List Change) → start ≤ next → next + added_by changes ≤ limit
@@ -120,7 +108,7 @@ begun_fresh start next limit table [] l few low high apart = tt
 begun_fresh start next limit table (Add row ∷ rest) l few low high apart = (
   omega arith,
   high next l,
-  never (among (ids_of (begun_by (suc next) rest)) next) (λ there. ⊎_elim
+  false_from_ne_true (among (ids_of (begun_by (suc next) rest)) next) (λ there. ⊎_elim
       (λ (e : among (ended_by rest) next ≡ true). let below : next < start = (low next e).0 in absurd (omega arith))
       (λ (e : suc next ≤ next). absurd (omega arith))
       (begun_ids (suc next) rest next there)),
@@ -130,22 +118,14 @@ begun_fresh start next limit table (Set id row ∷ rest) l few low high apart =
     let here = low id (among_first id (ended_by rest)) in (
       (let below : id < start = here.0 in omega arith),
       here.1,
-      never (among (ids_of (begun_by next rest)) id) (λ there. ⊎_elim
+      false_from_ne_true (among (ids_of (begun_by next rest)) id) (λ there. ⊎_elim
           (λ (e : among (ended_by rest) id ≡ true). let both : true ≡ false = sym e ∙ apart.0 in absurd (cc))
           (λ (e : next ≤ id). let below : id < start = here.0 in absurd (omega arith))
           (begun_ids next rest id there)),
-      begun_fresh start next limit table rest l few (λ other there. low other (right (eqb id other) (among (ended_by rest) other) there)) high apart.1,
+      begun_fresh start next limit table rest l few (λ other there. low other (or_right (eqb id other) (among (ended_by rest) other) there)) high apart.1,
     )
-  where
-    right : (a b : Bool) → b ≡ true → (a || b) ≡ true
-    right true b e = refl
-    right false b e = e
 begun_fresh start next limit table (Remove id ∷ rest) l few low high apart =
-    begun_fresh start next limit table rest l few (λ other there. low other (right (eqb id other) (among (ended_by rest) other) there)) high apart.1
-  where
-    right : (a b : Bool) → b ≡ true → (a || b) ≡ true
-    right true b e = refl
-    right false b e = e
+    begun_fresh start next limit table rest l few (λ other there. low other (or_right (eqb id other) (among (ended_by rest) other) there)) high apart.1
 
 -- The changes up to a place, and those from it on.
 pub drop_at : {X : Type 0} (xs : List X) (at : ℕ) (x : X) → slice_get xs at ≡ Some x → drop at xs ≡ x ∷ drop (at + 1) xs
@@ -177,15 +157,3 @@ begun_few next [] = omega arith
 begun_few next (Add row ∷ rest) = let more = begun_few (suc next) rest in omega arith
 begun_few next (Set id row ∷ rest) = let more = begun_few next rest in omega arith
 begun_few next (Remove id ∷ rest) = let more = begun_few next rest in omega arith
-
-pub drop_all : {X : Type 0} (xs : List X) (at : ℕ) → length xs ≤ at → drop at xs ≡ []
-drop_all [] zero l = refl
-drop_all [] (suc at) l = refl
-drop_all (x ∷ xs) zero l = absurd (omega arith)
-drop_all (x ∷ xs) (suc at) l = drop_all xs at (omega arith)
-
-pub take_all : {X : Type 0} (xs : List X) (at : ℕ) → length xs ≤ at → take at xs ≡ xs
-take_all [] zero l = refl
-take_all [] (suc at) l = refl
-take_all (x ∷ xs) zero l = absurd (omega arith)
-take_all (x ∷ xs) (suc at) l = ap (λ r. x ∷ r) (take_all xs at (omega arith))

@@ -1,8 +1,8 @@
 -- The slots of the rows that a call begins, chosen one after the other.
 use Rattle.pref_core.proofs.Common.{◌≡◌, ℕ, suc, ◌+◌, ◌<◌, ◌≤◌, Bool, true, false, ◌&&◌, cond, List, [], ◌∷◌, ◌++◌, map, length, Option, Some, None, Result, Ok, Err, is_some, slice_set, refl, sym, ap}
-use Rattle.pref_core.proofs.Common.{◌∙◌, subst, arith, count_by, length-map, length-append, append-nil, append_assoc, le-ltb, Version, Call, Op, NoSuchRow, Entry, Change, Add, Set, Remove}
-use Rattle.pref_core.proofs.Common.{begun_by, begins_any, among, changes_of, ended, begun, begins_row, is_change, missing, success_outcome, succeeds, Contents, begins, new_version, visible, close, filled, placed}
-use Rattle.pref_core.proofs.Common.{used, grown, is_free, outcome_at, outcome_of, is_free_use, IsFreed, FindsFreed, is_open, uses_of}
+use Rattle.pref_core.proofs.Common.{◌∙◌, subst, arith, count_by, length-map, length-append, append-nil, append_assoc, le-ltb, Version, Call, Op, NoSuchRow, Entry, Change, Add, Set, Remove, begun_by}
+use Rattle.pref_core.proofs.Common.{begins_any, among, changes_of, ended, begun, begins_row, is_change, missing, success_outcome, succeeds, Contents, begins, new_version, visible, close, filled}
+use Rattle.pref_core.proofs.Common.{placed, used, grown, is_free, outcome_at, outcome_of, is_free_use, IsFreed, FindsFreed, is_open, uses_of}
 use Rattle.pref_core.proofs.ChangesLaws.{begun_few}
 use Rattle.pref_core.proofs.PlanLaws.{succeeds-fits}
 use Rattle.pref_core.proofs.SlotsForAll.{count_grown, filled_snoc, free_still, some_left}

@@ -1,9 +1,9 @@
 -- After a commit the slots stand for the state after it: first as if there were always an empty slot, then in slots that are used again.
-use Rattle.pref_core.proofs.Common.{◌≡◌, ℕ, suc, ◌+◌, ◌<◌, ◌≤◌, true, false, not, ◌||◌, ◌&&◌, cond, eqb, List, [], ◌∷◌, ◌++◌, map, Option, None, refl, sym, ap, ◌∙◌, subst, arith, ⊎_elim}
-use Rattle.pref_core.proofs.Common.{AllByRecursion, AllZip, IsPermutation, list_any-IsPermutation, IsPermutation-trans, IsPermutation-sym, IsPermutation-cons, IsPermutation-middle, cases_lt, or_parts}
-use Rattle.pref_core.proofs.Common.{or_from, Version, Call, Caller, Line, among, put, without, with_rows, has, holds_key, IsOrdered, Entry, State, Client, committed, is_change, is_formed, changes_of}
-use Rattle.pref_core.proofs.Common.{ended, begun, added, missing, Contents, StandsFor, StandsForClient, Shows, AreDifferent, IsWithin, visible, new_version, close, grown, AreFresh}
-use Rattle.pref_core.proofs.TableLaws.{has-without, has_visible-new, IsOrdered-put}
+use Rattle.pref_core.proofs.Common.{◌≡◌, ℕ, suc, ◌+◌, ◌<◌, ◌≤◌, true, false, not, ◌||◌, ◌&&◌, cond, eqb, List, [], ◌∷◌, ◌++◌, map, Option, None, refl, sym, ap, ◌∙◌, subst, arith, AllByRecursion}
+use Rattle.pref_core.proofs.Common.{AllZip, IsPermutation, list_any-IsPermutation, IsPermutation-trans, IsPermutation-sym, IsPermutation-cons, IsPermutation-middle, or_parts, or_from, Version, Call}
+use Rattle.pref_core.proofs.Common.{Caller, Line, among, put, without, with_rows, has, holds_key, IsOrdered, Entry, State, Client, committed, is_change, is_formed, changes_of, ended, begun, added}
+use Rattle.pref_core.proofs.Common.{missing, Contents, StandsFor, StandsForClient, Shows, AreDifferent, IsWithin, visible, new_version, close, grown, AreFresh}
+use Rattle.pref_core.proofs.TableLaws.{has-without, has_below, has_visible-new, IsOrdered-put}
 use Rattle.pref_core.proofs.VisibleLaws.{seen_born, put_permutes}
 use Rattle.pref_core.proofs.ChangesLaws.{ids_of, begun_fresh, found_all, formed_apart}
 use Rattle.pref_core.proofs.StandsForLaws.{Shows-close, clients-close, clients-new_version, clients-later}
@@ -98,18 +98,13 @@ begun_stands contents state ids more begun h fresh =
       within = within_rows (contents.next_id + more) contents.stamp begun (without ids state.table) closed fresh base.within;
     }
 
--- an id of the table is below the next one
-pub id_below : (contents : Contents) (state : State) (id : ℕ) → StandsFor contents state → has state.table id ≡ true → id < contents.next_id
-id_below contents state id h is =
-    ⊎_elim (λ (l : id < contents.next_id). l)
-    (λ (l : contents.next_id ≤ id).
-    let none = has_visible-new contents.next_id contents.stamp contents.stamp contents.slots id h.within l in
-    let both : true ≡ false = sym is ∙ sym (has_visible contents.slots contents.stamp state.table h.table id) ∙ none in absurd (cc))
-    (cases_lt id contents.next_id)
-
--- nor any later one
+-- no id from the next one on is in the table, ..
 later_absent : (contents : Contents) (state : State) (id : ℕ) → StandsFor contents state → contents.next_id ≤ id → has state.table id ≡ false
 later_absent contents state id h l = sym (has_visible contents.slots contents.stamp state.table h.table id) ∙ has_visible-new contents.next_id contents.stamp contents.stamp contents.slots id h.within l
+
+-- .. so those of the table are below it
+pub id_below : (contents : Contents) (state : State) (id : ℕ) → StandsFor contents state → has state.table id ≡ true → id < contents.next_id
+id_below contents state id h is = has_below contents.next_id contents.stamp contents.stamp contents.slots id h.within (has_visible contents.slots contents.stamp state.table h.table id ∙ is)
 
 has-fewer : (ids : List ℕ) (table : List Line) (id : ℕ) → has table id ≡ false → has (without ids table) id ≡ false
 has-fewer ids [] id h = refl

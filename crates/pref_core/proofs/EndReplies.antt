@@ -3,12 +3,12 @@ use Rattle.pref_core.proofs.Common.{◌≡◌, ℕ, ◌-◌, ◌<◌, ◌^◌, B
 use Rattle.pref_core.proofs.Common.{List, Does, option_map, Ranked, answer_of, Call, Finish, Abandon, Op, CoreFault, NoSuchClient, Spent, NoQuery, NotDone, MissingRow, OutOfMemory, ActFinish}
 use Rattle.pref_core.proofs.Common.{ActAbandon, ActGet, ActRoom, Reply, Answer, Abandoned, Found, Room, Refused, Row, Line, line_of, entries, State, Snapshot, is_change, seat, with_seat, refusal}
 use Rattle.pref_core.proofs.Common.{refusal_of, refusal_by_query, begun_after, needed, Open, Member, System, Step, snapshot, state_of, refused, counted_with, finish, step, Contents, StandsFor}
-use Rattle.pref_core.proofs.Common.{applied, Scan, Running, StandsForMember, StandsForSystem, Returns, is_refusal, AnswersAt, step_of}
+use Rattle.pref_core.proofs.Common.{applied, Scan, Running, StandsForMember, StandsForSystem, Returns, is_refusal, AnswersAt, step_of, same_Some}
 use Rattle.std.specs.Global.{Vec}
 use Rattle.pref_core.specs.MachineParts.{numbered}
 use Rattle.pref_core.proofs.QueryLaws.{follows_answered}
 use Rattle.pref_core.proofs.SystemsLaws.{refusal_nobody, IsThere-from, IsLetIn, IsLetIn-from, queried_stands, query_shows}
-use Rattle.pref_core.proofs.ChangeReplies.{PlansAlways, running_of, refused_does, refused_tells, somebody_steps, let_in_steps, the_fault}
+use Rattle.pref_core.proofs.ChangeReplies.{PlansAlways, running_of, refused_does, refused_tells, somebody_steps, let_in_steps}
 use Rattle.pref_core.proofs.ScanReplies.{IsAsking-from, IsIdle-from, nobody_there, some_left, no_left}
 
 -- A call that ends a query is refused where there is none.
@@ -17,13 +17,13 @@ ends_refused : (system : System) (member : Member) (fault : CoreFault) (right : 
 ends_refused system member fault right call t f None e = go (nat_lt member.calls (2 ^ 56)) (ap (λ r. cond (nat_lt member.calls (2 ^ 56)) r (Some Spent)) (sym f) ∙ e)
   where
     go : (b : Bool) → cond b (Some NoQuery) (Some Spent) ≡ Some fault → cond b (refused NoQuery system) (refused Spent system) ≡ refused fault system
-    go true h = ap (λ g. refused g system) (the_fault NoQuery fault h)
-    go false h = ap (λ g. refused g system) (the_fault Spent fault h)
+    go true h = ap (λ g. refused g system) (same_Some NoQuery fault h)
+    go false h = ap (λ g. refused g system) (same_Some Spent fault h)
 ends_refused system member fault right call t f (Some query) e = go (nat_lt member.calls (2 ^ 56)) (ap (λ r. cond (nat_lt member.calls (2 ^ 56)) r (Some Spent)) (sym t) ∙ e)
   where
     go : (b : Bool) → cond b None (Some Spent) ≡ Some fault → cond b (right query) (refused Spent system) ≡ refused fault system
     go true h = absurd (cc)
-    go false h = ap (λ g. refused g system) (the_fault Spent fault h)
+    go false h = ap (λ g. refused g system) (same_Some Spent fault h)
 
 pub abandon_not : (old : Running) (client : ℕ) (fault : CoreFault) → PlansAlways old.contents client Abandon (Err fault) → Does old client ActAbandon (Err fault) old
 abandon_not old client fault plans = refused_does old client ActAbandon Abandon fault refuses plans

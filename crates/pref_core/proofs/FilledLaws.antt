@@ -1,18 +1,19 @@
 -- The rows that a call begins, in their slots, one after the other.
 use Rattle.pref_core.proofs.Common.{◌≡◌, ℕ, suc, ◌+◌, ◌^◌, ◌<◌, Bool, true, false, not, ◌&&◌, ◌||◌, cond, eqb, nat_eq, List, [], ◌∷◌, ◌++◌, map, length, drop, set, Option, Some, None, is_some}
 use Rattle.pref_core.proofs.Common.{slice_get, get_or, unwrap_or, refl, sym, ap, ap₂, ◌∙◌, subst, arith, ⊎_elim, AllByRecursion, length-map, length-set, map-set, set-set, map-set_same, option_map}
-use Rattle.pref_core.proofs.Common.{slice_get_within, slice_get-get_or, slice_get-map, le-leb, eqb-true, eqb-false, ne_eqb, cases_eq, or_parts, and_parts, true≢false, Version, SlotUse, Free, Ended, Live}
-use Rattle.pref_core.proofs.Common.{Entry, among, has, Op, Call, Update, Outcome, State, ended, begun, begins_row, added, missing, success_outcome, is_change, succeeds, Contents, StandsFor, IsWithin, EndsBy}
-use Rattle.pref_core.proofs.Common.{is_visible, begins, stamps, new_version, visible, close, close_at, grown, is_free, filled, outcome_at, is_next, slots_after, used, is_free_use, free_at, use_of, is_row}
-use Rattle.pref_core.proofs.Common.{row_at, IsPlaceOf, shown, ids_of, id_at, AreIds, AreLinks, IsTracked, AreFresh, with_slots, are_free}
+use Rattle.pref_core.proofs.Common.{slice_get_within, slice_get-get_or, slice_get-map, le-leb, eqb-true, ne_eqb, cases_eq, or_parts, and_parts, true≢false, Version, SlotUse, Free, Ended, Live, Entry}
+use Rattle.pref_core.proofs.Common.{among, has, Op, Call, Update, Outcome, State, ended, begun, begins_row, added, missing, success_outcome, is_change, succeeds, Contents, StandsFor, IsWithin, EndsBy}
+use Rattle.pref_core.proofs.Common.{is_visible, begins, stamps, new_version, visible, close, close_at, grown, is_free, filled, outcome_at, is_next, slots_after, used, is_free_use, free_at, use_of}
+use Rattle.pref_core.proofs.Common.{is_row, row_at, IsPlaceOf, shown, ids_of, id_at, AreIds, AreLinks, IsTracked, AreFresh, with_slots, are_free, same_Some}
 use Rattle.pref_core.proofs.AppliedLaws.{IsAllowed-from, succeeds-missing}
 use Rattle.pref_core.proofs.LinksOfSlots.{id_at-here, id_at-there}
+use Rattle.pref_core.proofs.ChangesLaws.{among_append}
 use Rattle.pref_core.proofs.ChangeCounts.{drop_item, drop_inside}
 use Rattle.pref_core.proofs.RowEndLaws.{none_closed, one_closed, row_alive, within_closed, ids_closed, links_ended, closed_zones, filled_zones}
 use Rattle.pref_core.proofs.IndexedRows.{other_place}
-use Rattle.pref_core.proofs.SlotKeys.{within-set}
+use Rattle.pref_core.proofs.SlotKeys.{eqb_comm, within-set}
 use Rattle.pref_core.proofs.IdsAfterCommit.{links_born, fresh_begun, tracked_next}
-use Rattle.pref_core.proofs.IdChainsLaws.{some_same, shows_row}
+use Rattle.pref_core.proofs.IdChainsLaws.{shows_row}
 use Rattle.pref_core.proofs.PlanLaws.{close_none}
 use Rattle.pref_core.proofs.SlotsForAll.{filled_snoc, free_still, taken}
 use Rattle.pref_core.proofs.SlotUseLaws.{holds_there, free_zone, has_row_at, row_version}
@@ -71,7 +72,7 @@ pub ids_born : (made place : ℕ) (fresh : Entry) (slots : List (Option Version)
 ids_born made place fresh slots low room absent known = subst (λ l. AreIds (2 ^ 64) (id_at l)) (sym (map-set (shown made) slots place (new_version made fresh) ∙ ap (set (ids_of made slots) place) shows)) (record {
   once = λ p q id at also. once p q id at also;
   small = λ p id at. ⊎_elim
-      (λ (e : p ≡ place). let same : fresh.id ≡ id = some_same fresh.id id (sym (here p e) ∙ at) in omega arith)
+      (λ (e : p ≡ place). let same : fresh.id ≡ id = same_Some fresh.id id (sym (here p e) ∙ at) in omega arith)
       (λ (n : p ≡ place → ⊥). known.small p id (sym (id_at-there (ids_of made slots) place (Some fresh.id) p n) ∙ at))
       (cases_eq p place);
 })
@@ -90,10 +91,10 @@ ids_born made place fresh slots low room absent known = subst (λ l. AreIds (2 ^
     once p q id at also = ⊎_elim
         (λ (e : p ≡ place). ⊎_elim
         (λ (f : q ≡ place). e ∙ sym f)
-        (λ (n : q ≡ place → ⊥). absurd (alone q id (some_same fresh.id id (sym (here p e) ∙ at)) (sym (id_at-there (ids_of made slots) place (Some fresh.id) q n) ∙ also)))
+        (λ (n : q ≡ place → ⊥). absurd (alone q id (same_Some fresh.id id (sym (here p e) ∙ at)) (sym (id_at-there (ids_of made slots) place (Some fresh.id) q n) ∙ also)))
         (cases_eq q place))
         (λ (n : p ≡ place → ⊥). ⊎_elim
-        (λ (f : q ≡ place). absurd (alone p id (some_same fresh.id id (sym (here q f) ∙ also)) (sym (id_at-there (ids_of made slots) place (Some fresh.id) p n) ∙ at)))
+        (λ (f : q ≡ place). absurd (alone p id (same_Some fresh.id id (sym (here q f) ∙ also)) (sym (id_at-there (ids_of made slots) place (Some fresh.id) p n) ∙ at)))
         (λ (m : q ≡ place → ⊥). known.once p q id (sym (id_at-there (ids_of made slots) place (Some fresh.id) p n) ∙ at) (sym (id_at-there (ids_of made slots) place (Some fresh.id) q m) ∙ also))
         (cases_eq q place))
         (cases_eq p place)
@@ -104,11 +105,7 @@ pub fresh_left : (limit made place : ℕ) (ns : List ℕ) (first : Entry) (slots
 fresh_left limit made place ns first slots [] free apart h = tt
 fresh_left limit made place ns first slots (fresh ∷ rest) free apart h =
     let parts = or_parts (eqb fresh.id first.id) (among (map (λ (e : Entry). e.id) rest) first.id) apart in
-    (h.0, other_place made fresh.id first ns slots place None free (turn (eqb first.id fresh.id) refl parts.0) h.1, h.2, fresh_left limit made place ns first slots rest free parts.1 h.3)
-  where
-    turn : (b : Bool) → eqb first.id fresh.id ≡ b → eqb fresh.id first.id ≡ false → eqb first.id fresh.id ≡ false
-    turn false e n = e
-    turn true e n = absurd (eqb-false fresh.id first.id n (sym (eqb-true first.id fresh.id e)))
+    (h.0, other_place made fresh.id first ns slots place None free (eqb_comm first.id fresh.id ∙ parts.0) h.1, h.2, fresh_left limit made place ns first slots rest free parts.1 h.3)
 
 -- What is left of the places and of the rows, when some have begun.
 pub record FillsRest (limit stamp : ℕ) (ns places : List ℕ) (rest : List Entry) (slots : List (Option Version)) (all : Option (List (Option Version))) : Type 0 where
@@ -149,7 +146,7 @@ EndedUpTo start now ids = now ≡ with_slots (map (close ids start.stamp) start.
 pub close_more : (xs ys : List ℕ) (made : ℕ) (slots : List (Option Version)) → map (close ys made) (map (close xs made) slots) ≡ map (close (xs ++ ys) made) slots
 close_more xs ys made [] = refl
 close_more xs ys made (None ∷ slots) = ap (λ l. None ∷ l) (close_more xs ys made slots)
-close_more xs ys made (Some version ∷ slots) = ap₂ ◌∷◌ (ap (λ d. Some (record version { death = d })) (go (among xs version.id) (among ys version.id) version.death ∙ ap (λ b. close_at made b version.death) (sym (among_both xs)))) (close_more xs ys made slots)
+close_more xs ys made (Some version ∷ slots) = ap₂ ◌∷◌ (ap (λ d. Some (record version { death = d })) (go (among xs version.id) (among ys version.id) version.death ∙ ap (λ b. close_at made b version.death) (sym (among_append xs ys version.id)))) (close_more xs ys made slots)
   where
     go : (a b : Bool) (death : Option ℕ) → close_at made b (close_at made a death) ≡ close_at made (a || b) death
     go a b (Some death) = refl
@@ -157,14 +154,6 @@ close_more xs ys made (Some version ∷ slots) = ap₂ ◌∷◌ (ap (λ d. Some
     go true false None = refl
     go false true None = refl
     go false false None = refl
-
-    among_both : (xs : List ℕ) → among (xs ++ ys) version.id ≡ (among xs version.id || among ys version.id)
-    among_both [] = refl
-    among_both (x ∷ xs) = or_assoc (eqb x version.id) (among (xs ++ ys) version.id) (among xs version.id) (among ys version.id) (among_both xs)
-      where
-        or_assoc : (a b c d : Bool) → b ≡ (c || d) → (a || b) ≡ ((a || c) || d)
-        or_assoc true b c d e = refl
-        or_assoc false b c d e = e
 
 pub ended_none : (start : Contents) → EndedUpTo start start []
 ended_none start = ap (λ l. with_slots l start) (sym (close_none start.stamp start.slots))

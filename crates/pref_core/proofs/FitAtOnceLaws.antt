@@ -1,11 +1,11 @@
 -- The slots of a change that are known by a look at them alone.
 use Rattle.pref_core.proofs.Common.{◌≡◌, ℕ, suc, ◌+◌, ◌≤◌, Bool, true, false, not, ◌&&◌, ◌||◌, cond, eqb, nat_lt, List, [], ◌∷◌, ◌++◌, length, take, drop, Option, Some, None, is_some, slice_get, ◌⊎◌}
-use Rattle.pref_core.proofs.Common.{inl, inr, ⊎_elim, refl, sym, ap, ap₂, ◌∙◌, subst, arith, eq-eqb, eqb-true, or_cases, or_left, or_right, true≢false, append-nil, Call, Outcome, Added, Done, Op}
-use Rattle.pref_core.proofs.Common.{Change, Add, Set, Remove, Version, Row, ended_by, begun_by, begins_any, row_at, IsPlaceOf, IsKept, FitAtOnce, are_free, frees_at, uses_of, filled, is_free}
-use Rattle.pref_core.proofs.Common.{is_next, outcome_at, placed, slots_after, used, grown, free_at, Contents, begins, visible, added, begins_row, begun, changes_of, ended, success_outcome, is_change}
-use Rattle.pref_core.proofs.Common.{is_formed, missing, succeeds, Line, among}
+use Rattle.pref_core.proofs.Common.{inl, inr, ⊎_elim, refl, sym, ap, ap₂, ◌∙◌, subst, arith, eqb-true, or_cases, or_from, or_left, true≢false, append-nil, Call, Outcome, Added, Done, Op, Change, Add}
+use Rattle.pref_core.proofs.Common.{Set, Remove, Version, Row, ended_by, begun_by, begins_any, row_at, IsPlaceOf, IsKept, FitAtOnce, are_free, frees_at, uses_of, filled, is_free, is_next, outcome_at}
+use Rattle.pref_core.proofs.Common.{placed, slots_after, used, grown, free_at, Contents, begins, visible, added, begins_row, begun, changes_of, ended, success_outcome, is_change, is_formed, missing}
+use Rattle.pref_core.proofs.Common.{succeeds, Line, among, false_from_ne_true, drop_all}
 use Rattle.pref_core.proofs.AppliedLaws.{IsAllowed-from}
-use Rattle.pref_core.proofs.ChangesLaws.{AreApart, drop_all, drop_at, ended_so_far, formed_apart, take_at}
+use Rattle.pref_core.proofs.ChangesLaws.{AreApart, among_append, among_inside, drop_at, ended_so_far, formed_apart, take_at}
 use Rattle.pref_core.proofs.ChosenSlots.{ChosenUpTo, all_chosen, closed_slots, outcome_fits, outcome_other, stamps_next}
 use Rattle.pref_core.proofs.ChangeCounts.{ended_next, one_begins}
 use Rattle.pref_core.proofs.FilledLaws.{fills_free}
@@ -51,29 +51,14 @@ pub record FitsUpTo (contents : Contents) (call : Call) (slots : List ℕ) (at u
   pub taken : (place : ℕ) → among (take used slots) place ≡ true → Was contents (ended_by (take at (changes_of call))) place
   pub long : (next_id : ℕ) → used + length (begun_by next_id (drop at (changes_of call))) ≡ length (begun next_id call)
 
-among_left : (xs ys : List ℕ) (id : ℕ) → among xs id ≡ true → among (xs ++ ys) id ≡ true
-among_left [] ys id a = absurd (cc)
-among_left (x ∷ xs) ys id a = ⊎_elim (or_left (eqb x id) (among (xs ++ ys) id)) (λ (e : among xs id ≡ true). or_right (eqb x id) (among (xs ++ ys) id) (among_left xs ys id e)) (or_cases (eqb x id) (among xs id) a)
-
 among_last : (xs : List ℕ) (last id : ℕ) → among (xs ++ last ∷ []) id ≡ true → (among xs id ≡ true) ⊎ (last ≡ id)
-among_last [] last id a = ⊎_elim (λ (e : eqb last id ≡ true). inr (eqb-true last id e)) (λ (e : false ≡ true). absurd (cc)) (or_cases (eqb last id) false a)
-among_last (x ∷ xs) last id a = ⊎_elim
-    (λ (e : eqb x id ≡ true). inl (or_left (eqb x id) (among xs id) e))
-    (λ (e : among (xs ++ last ∷ []) id ≡ true). ⊎_elim (λ (there : among xs id ≡ true). inl (or_right (eqb x id) (among xs id) there)) (λ (same : last ≡ id). inr same) (among_last xs last id e))
-    (or_cases (eqb x id) (among (xs ++ last ∷ []) id) a)
+among_last xs last id a = ⊎_elim inl (λ (e : (eqb last id || false) ≡ true). ⊎_elim (λ (same : eqb last id ≡ true). inr (eqb-true last id same)) (λ (none : false ≡ true). absurd (cc)) (or_cases (eqb last id) false e))
+    (or_cases (among xs id) (eqb last id || false) (sym (among_append xs (last ∷ []) id) ∙ a))
 
 -- an id comes before no other place of ids that differ
 apart_before : (xs ys : List ℕ) (id : ℕ) → AreApart (xs ++ id ∷ ys) → among xs id ≡ false
 apart_before [] ys id h = refl
-apart_before (x ∷ xs) ys id h = go (eqb x id) refl (apart_before xs ys id h.1)
-  where
-    behind : (xs : List ℕ) → among (xs ++ id ∷ ys) id ≡ true
-    behind [] = or_left (eqb id id) (among ys id) (eq-eqb id id refl)
-    behind (x ∷ xs) = or_right (eqb x id) (among (xs ++ id ∷ ys) id) (behind xs)
-
-    go : (b : Bool) → eqb x id ≡ b → among xs id ≡ false → (b || among xs id) ≡ false
-    go false e more = more
-    go true e more = absurd (true≢false (sym (ap (among (xs ++ id ∷ ys)) (eqb-true x id e) ∙ behind xs) ∙ h.0))
+apart_before (x ∷ xs) ys id h = or_from (eqb x id) (among xs id) (false_from_ne_true (eqb x id) (λ e. true≢false (sym (ap (among (xs ++ id ∷ ys)) (eqb-true x id e) ∙ among_inside xs ys id) ∙ h.0))) (apart_before xs ys id h.1)
 
 module _ (contents : Contents) (call : Call) (slots : List ℕ) (kept : IsKept contents) (at used : ℕ) (change : Change) (here : slice_get (changes_of call) at ≡ Some change) (h : FitsUpTo contents call slots at used) where
   abbrev table : List Line
@@ -96,7 +81,7 @@ module _ (contents : Contents) (call : Call) (slots : List ℕ) (kept : IsKept c
       (λ (free : free_at (uses_of contents) place ≡ true). inl free)
       (λ (stood : StoodThere contents (ended_by (take at changes)) place). inr (record {
         id = stood.id;
-        named = ap (λ l. among l stood.id) (ended_so_far changes at change here) ∙ among_left (ended_by (take at changes)) (ended_by (change ∷ [])) stood.id stood.named;
+        named = ap (λ l. among l stood.id) (ended_so_far changes at change here) ∙ among_append (ended_by (take at changes)) (ended_by (change ∷ [])) stood.id ∙ or_left (among (ended_by (take at changes)) stood.id) (among (ended_by (change ∷ [])) stood.id) stood.named;
         row = stood.row;
       }))
       was
@@ -134,10 +119,10 @@ pub fits_set : (contents : Contents) (call : Call) (slots : List ℕ) (at used i
     → row_at contents.stamp id contents.slots place ≡ true → frees_at (begins contents.callers) (ended call) (contents.stamp + 1) contents.slots place ≡ true → FitsUpTo contents call slots at used → FitsUpTo contents call slots (at + 1) (used + 1)
 fits_set contents call slots at used id row place kept formed here is stands frees h = record {
   there = there_one contents call slots kept at used (Set id row) here h id place refl stands;
-  free = slot_taken contents call slots kept at used (Set id row) here h place is (frees_closed contents kept.state kept.bounded kept.stands (ended call) place (ap (λ m. frees_at (begins contents.callers) (ended call) m contents.slots place) next ∙ frees)) (go (among (take used slots) place) refl);
+  free = slot_taken contents call slots kept at used (Set id row) here h place is (frees_closed contents kept.state kept.bounded kept.stands (ended call) place (ap (λ m. frees_at (begins contents.callers) (ended call) m contents.slots place) next ∙ frees)) (false_from_ne_true (among (take used slots) place) not_taken);
   taken = all_taken contents call slots kept at used (Set id row) here h place is (inr (record {
     id = id;
-    named = ap (λ l. among l id) (ended_so_far (changes_of call) at (Set id row) here) ∙ last (ended_by (take at (changes_of call)));
+    named = ap (λ l. among l id) (ended_so_far (changes_of call) at (Set id row) here) ∙ among_inside (ended_by (take at (changes_of call))) [] id;
     row = stands;
   }));
   long = λ next_id. let one = length_one contents call slots kept at used (Set id row) here h true refl next_id in omega arith;
@@ -146,20 +131,15 @@ fits_set contents call slots at used id row place kept formed here is stands fre
     next : suc contents.stamp ≡ contents.stamp + 1
     next = omega arith
 
-    last : (ids : List ℕ) → among (ids ++ id ∷ []) id ≡ true
-    last [] = or_left (eqb id id) false (eq-eqb id id refl)
-    last (other ∷ ids) = or_right (eqb other id) (among (ids ++ id ∷ []) id) (last ids)
-
     before : among (ended_by (take at (changes_of call))) id ≡ false
     before = apart_before (ended_by (take at (changes_of call))) (ended_by (drop (at + 1) (changes_of call))) id (subst AreApart (ended_next (changes_of call) at (Set id row) id here refl) (formed_apart call formed))
 
-    go : (b : Bool) → among (take used slots) place ≡ b → among (take used slots) place ≡ false
-    go false e = e
-    go true e = absurd (⊎_elim
+    not_taken : among (take used slots) place ≡ true → ⊥
+    not_taken e = ⊎_elim
         (λ (free : free_at (uses_of contents) place ≡ true). true≢false (sym free ∙ row_taken contents kept.state kept.bounded kept.stands id place stands))
         (λ (stood : StoodThere contents (ended_by (take at (changes_of call))) place).
         true≢false (sym stood.named ∙ ap (among (ended_by (take at (changes_of call)))) (sym (one_id contents kept.state kept.bounded kept.stands contents.slots id stood.id place stands stood.row)) ∙ before))
-        (h.taken place e))
+        (h.taken place e)
 
 -- .. and one that is removed needs none.
 pub fits_removed : (contents : Contents) (call : Call) (slots : List ℕ) (at used id : ℕ) (place : Option ℕ) → IsKept contents → slice_get (changes_of call) at ≡ Some (Remove id) → IsPlaceOf contents.stamp id contents.slots place → is_some place ≡ true
@@ -179,13 +159,13 @@ fits_all contents call slots at used c formed done long h = chosen_at_once conte
     closed = closed_slots contents (ended call)
 
     none : drop at (changes_of call) ≡ []
-    none = drop_all (changes_of call) at done
+    none = drop_all at (changes_of call) done
 
     there : missing (ended call) (visible contents.stamp contents.slots) ≡ None
     there = sym h.there ∙ ap (λ l. missing (ended_by l) (visible contents.stamp contents.slots)) none
 
     free : are_free (stamps_next contents) closed [] slots ≡ true
-    free = sym h.free ∙ ap (are_free (stamps_next contents) closed (take used slots)) (drop_all slots used (omega arith))
+    free = sym h.free ∙ ap (are_free (stamps_next contents) closed (take used slots)) (drop_all used slots (omega arith))
 
     many : length slots ≡ length (begun contents.next_id call)
     many = let all = ap (λ l. used + length (begun_by contents.next_id l)) (sym none) ∙ h.long contents.next_id in omega (arith, all, long)

@@ -1,7 +1,7 @@
 -- Which places are free, by the order of places.
 use Rattle.pref_core.proofs.Common.{◌≡◌, ℕ, zero, suc, ◌+◌, ◌<◌, ◌≤◌, nat_lt, Bool, true, false, ◌||◌, eqb, List, [], ◌∷◌, map, length, take, get_or, Option, Some, None, slice_get, refl, sym, ap, ◌∙◌}
-use Rattle.pref_core.proofs.Common.{subst, arith, ⊎_elim, option_map, slice_get_within, slice_get-map, slice_get-get_or, get_or_from_slice_get, eqb-true, eq-eqb, or_cases, or_right, SlotUse, Free, Ended}
-use Rattle.pref_core.proofs.Common.{Live, numbered, number_at, use_at, is_free_use, free_at, IsArranged, among}
+use Rattle.pref_core.proofs.Common.{subst, arith, ⊎_elim, option_map, slice_get_within, slice_get-map, slice_get-get_or, get_or_from_slice_get, eqb-true, eq-eqb, or_cases, or_right, SlotUse, Free}
+use Rattle.pref_core.proofs.Common.{Ended, Live, numbered, number_at, use_at, is_free_use, free_at, IsArranged, among}
 use Rattle.pref_core.proofs.SlotSetsLaws.{number_past, number_below, number_is, number_here, free_number, zone_free, free_from}
 
 -- The free places are the first ones of the order.

@@ -1,8 +1,9 @@
 -- The slots that ended rows leave free.
-use Rattle.pref_core.proofs.Common.{◌≡◌, ℕ, zero, suc, ◌+◌, ◌<◌, ◌≤◌, Bool, true, false, ◌&&◌, ◌||◌, cond, eqb, List, [], ◌∷◌, ◌++◌, map, length, set, Option, Some, None, slice_get, refl, sym, ap}
-use Rattle.pref_core.proofs.Common.{◌∙◌, subst, arith, ⊎_elim, count_by, option_map, length-map, length-set, filter-append, slice_get-map, slice_get_within, le-leb, eqb-true, eq-eqb, cases_eq}
-use Rattle.pref_core.proofs.Common.{or_cases, or_right, and_parts, true≢false, Version, SlotUse, Free, among, State, missing, Contents, StandsFor, IsWithin, is_visible, visible, begins, close, is_free}
-use Rattle.pref_core.proofs.Common.{is_free_use, is_spare, free_at, use_of, IsBounded, is_row, row_at, IsPlaceOf, AreOldPlaces, frees_at, is_open, IsFreed}
+use Rattle.pref_core.proofs.Common.{append-nil, and_right, ne_eqb, length-filter, count_by-le-length, ◌≡◌, ℕ, zero, suc, ◌+◌, ◌<◌, ◌≤◌, Bool, true, false, ◌&&◌, ◌||◌, cond, eqb, List, [], ◌∷◌, ◌++◌}
+use Rattle.pref_core.proofs.Common.{map, length, set, Option, Some, None, slice_get, refl, sym, ap, ◌∙◌, subst, arith, ⊎_elim, count_by, option_map, length-map, length-set, filter-append}
+use Rattle.pref_core.proofs.Common.{slice_get-map, slice_get_within, le-leb, eqb-true, eq-eqb, cases_eq, or_cases, or_right, and_parts, true≢false, Version, SlotUse, Free, among, State, missing}
+use Rattle.pref_core.proofs.Common.{Contents, StandsFor, IsWithin, is_visible, visible, begins, close, is_free, is_free_use, is_spare, free_at, use_of, IsBounded, is_row, row_at, IsPlaceOf}
+use Rattle.pref_core.proofs.Common.{AreOldPlaces, frees_at, is_open, IsFreed, and_left, false_from_ne_true}
 use Rattle.std.specs.List.{filter}
 use Rattle.pref_core.proofs.ChangesLaws.{AreApart}
 use Rattle.pref_core.proofs.RowEndLaws.{row_alive}
@@ -33,14 +34,10 @@ frees_one contents ids done freed id place b e r h = record {
   freed_is = go b e ∙ sym (filter-append (frees_at (begins contents.callers) ids (suc contents.stamp) contents.slots) h.olds (place ∷ []));
 }
   where
-    nil : (xs : List ℕ) → xs ≡ xs ++ []
-    nil [] = refl
-    nil (x ∷ xs) = ap (λ l. x ∷ l) (nil xs)
-
     go : (b : Bool) → frees_at (begins contents.callers) ids (suc contents.stamp) contents.slots place ≡ b → cond b (freed ++ place ∷ []) freed
         ≡ filter (frees_at (begins contents.callers) ids (suc contents.stamp) contents.slots) h.olds ++ cond (frees_at (begins contents.callers) ids (suc contents.stamp) contents.slots place) (place ∷ []) []
     go true e = ap (λ l. l ++ place ∷ []) h.freed_is ∙ ap (λ c. filter (frees_at (begins contents.callers) ids (suc contents.stamp) contents.slots) h.olds ++ cond c (place ∷ []) []) (sym e)
-    go false e = h.freed_is ∙ nil _ ∙ ap (λ c. filter (frees_at (begins contents.callers) ids (suc contents.stamp) contents.slots) h.olds ++ cond c (place ∷ []) []) (sym e)
+    go false e = h.freed_is ∙ sym (append-nil _) ∙ ap (λ c. filter (frees_at (begins contents.callers) ids (suc contents.stamp) contents.slots) h.olds ++ cond c (place ∷ []) []) (sym e)
 
 length-olds : (stamp : ℕ) (done : List ℕ) (slots : List (Option Version)) (olds : List ℕ) → AreOldPlaces stamp done slots olds → length olds ≡ length done
 length-olds stamp [] slots [] h = refl
@@ -48,14 +45,12 @@ length-olds stamp [] slots (old ∷ olds) h = absurd h
 length-olds stamp (id ∷ done) slots [] h = absurd h
 length-olds stamp (id ∷ done) slots (old ∷ olds) h = ap suc (length-olds stamp done slots olds h.1)
 
-filter_few : (p : ℕ → Bool) (xs : List ℕ) → length (filter p xs) ≤ length xs
-filter_few p [] = omega arith
-filter_few p (x ∷ xs) = let more = filter_few p xs in elim (p x) as (λ b. length (cond b (x ∷ filter p xs) (filter p xs)) ≤ suc (length xs)) [ true ↦ omega arith | false ↦ omega arith ]
-
 pub frees_few : (contents : Contents) (ids done freed : List ℕ) → FreesUpTo contents ids done freed → length freed ≤ length done
 frees_few contents ids done freed h =
     let a = ap length h.freed_is in
-    let b = filter_few (frees_at (begins contents.callers) ids (suc contents.stamp) contents.slots) h.olds in
+    let frees = frees_at (begins contents.callers) ids (suc contents.stamp) contents.slots in
+    let b = length-filter frees h.olds in
+    let few = count_by-le-length frees h.olds in
     let c = length-olds contents.stamp done contents.slots h.olds h.stand in
     omega arith
 
@@ -80,11 +75,7 @@ among_filter p (x ∷ xs) place = go (p x) refl (eqb x place) refl (among_filter
     go : (b : Bool) → p x ≡ b → (e : Bool) → eqb x place ≡ e → among (filter p xs) place ≡ (among xs place && p place) → among (cond b (x ∷ filter p xs) (filter p xs)) place ≡ ((e || among xs place) && p place)
     go true px true is more = ap (λ b. b || among (filter p xs) place) is ∙ sym (let same : x ≡ place = eqb-true x place is in sym (ap p same) ∙ px)
     go true px false is more = ap (λ b. b || among (filter p xs) place) is ∙ more
-    go false px true is more = more ∙ none (among xs place) (p place) (let same : x ≡ place = eqb-true x place is in sym (ap p same) ∙ px)
-      where
-        none : (a b : Bool) → b ≡ false → (a && b) ≡ b
-        none true b e = refl
-        none false b e = sym e
+    go false px true is more = let off : p place ≡ false = sym (ap p (eqb-true x place is)) ∙ px in more ∙ and_right (among xs place) (p place) off ∙ sym off
     go false px false is more = more
 
 -- how many are free where these places are marked
@@ -144,18 +135,10 @@ marked_count before after (mark ∷ marks) long apart here same =
   where
     by : (p : ℕ) → (free_at before p || (eqb mark p || among marks p)) ≡ (free_at (set before mark Free) p || among marks p)
     by p = ⊎_elim
-        (λ (e : p ≡ mark). ap (λ q. free_at before q || (eqb mark q || among marks q)) e ∙ ap (λ b. free_at before mark || (b || among marks mark)) (eq-eqb mark mark refl) ∙ yes (free_at before mark)
+        (λ (e : p ≡ mark). ap (λ q. free_at before q || (eqb mark q || among marks q)) e ∙ ap (λ b. free_at before mark || (b || among marks mark)) (eq-eqb mark mark refl) ∙ or_right (free_at before mark) true refl
         ∙ sym (ap (λ q. free_at (set before mark Free) q || among marks q) e ∙ ap (λ b. b || among marks mark) (free_written before mark (here mark (ap (λ b. b || among marks mark) (eq-eqb mark mark refl))).0)))
-        (λ (n : p ≡ mark → ⊥). ap (λ b. free_at before p || (b || among marks p)) (apart_eqb (eqb mark p) refl n) ∙ ap (λ b. b || among marks p) (sym (free_other before mark p n)))
+        (λ (n : p ≡ mark → ⊥). ap (λ b. free_at before p || (b || among marks p)) (ne_eqb mark p (λ (e : mark ≡ p). n (sym e))) ∙ ap (λ b. b || among marks p) (sym (free_other before mark p n)))
         (cases_eq p mark)
-      where
-        yes : (b : Bool) → (b || true) ≡ true
-        yes true = refl
-        yes false = refl
-
-        apart_eqb : (b : Bool) → eqb mark p ≡ b → (p ≡ mark → ⊥) → eqb mark p ≡ false
-        apart_eqb false e n = e
-        apart_eqb true e n = absurd (n (sym (eqb-true mark p e)))
 
 -- Several rows of a store that stands for a state.
 module _ (contents : Contents) (state : State) (bounded : IsBounded contents) (stands : StandsFor contents state) where
@@ -210,24 +193,19 @@ module _ (contents : Contents) (state : State) (bounded : IsBounded contents) (s
   olds_apart [] [] stand apart = tt
   olds_apart [] (old ∷ olds) stand apart = absurd stand
   olds_apart (first ∷ ids) [] stand apart = absurd stand
-  olds_apart (first ∷ ids) (old ∷ olds) stand apart = (go (among olds old) refl, olds_apart ids olds stand.1 apart.1)
-    where
-      go : (b : Bool) → among olds old ≡ b → among olds old ≡ false
-      go false e = e
-      go true e =
-          let there = old_id ids olds old stand.1 e in
-          absurd (true≢false (sym there.among_ids ∙ ap (among ids) (one_id contents.slots there.id first old there.row stand.0) ∙ apart.0))
+  olds_apart (first ∷ ids) (old ∷ olds) stand apart = (
+    false_from_ne_true (among olds old) (λ e.
+        let there = old_id ids olds old stand.1 e in
+        true≢false (sym there.among_ids ∙ ap (among ids) (one_id contents.slots there.id first old there.row stand.0) ∙ apart.0)),
+    olds_apart ids olds stand.1 apart.1,
+  )
 
   filter_apart : (p : ℕ → Bool) (xs : List ℕ) → AreApart xs → AreApart (filter p xs)
   filter_apart p [] apart = tt
   filter_apart p (x ∷ xs) apart = go (p x) (filter_apart p xs apart.1)
     where
-      no : (a b : Bool) → a ≡ false → (a && b) ≡ false
-      no true b e = absurd (cc)
-      no false b e = refl
-
       go : (b : Bool) → AreApart (filter p xs) → AreApart (cond b (x ∷ filter p xs) (filter p xs))
-      go true more = (among_filter p xs x ∙ no (among xs x) (p x) apart.0, more)
+      go true more = (among_filter p xs x ∙ and_left (among xs x) (p x) apart.0, more)
       go false more = more
 
   -- a slot that is free stays free, and one that isn't and becomes it held a row that ended
@@ -340,17 +318,7 @@ module _ (contents : Contents) (state : State) (bounded : IsBounded contents) (s
       marked p a =
           let parts = and_parts (among h.olds p) (frees_at ns ids made contents.slots p) (sym (found p) ∙ a) in
           let old = old_id ids h.olds p h.stand parts.0 in
-          inside old.id (slice_get contents.slots p) refl old.row
-        where
-          held : (id : ℕ) (slot : Option Version) → IsWithin contents.next_id contents.stamp slot → is_row contents.stamp id slot ≡ true → is_free_use (use_of contents.callers slot) ≡ false
-          held id None w r = absurd (cc)
-          held id (Some version) w r = ap is_free_use (row_alive contents.next_id contents.stamp id contents.callers version w r)
-
-          inside : (id : ℕ) (o : Option (Option Version)) → slice_get contents.slots p ≡ o → row_at contents.stamp id contents.slots p ≡ true → (p < length zones) × (free_at zones p ≡ false)
-          inside id None e r = absurd (true≢false (sym r ∙ ap (λ o. elim o as (λ x. Bool) [ None ↦ false | Some s ↦ is_row contents.stamp id s ]) e))
-          inside id (Some slot) e r =
-              let within = holds_there (IsWithin contents.next_id contents.stamp) contents.slots p slot e stands.within in
-              let shows : is_row contents.stamp id slot ≡ true = ap (λ o. elim o as (λ x. Bool) [ None ↦ false | Some s ↦ is_row contents.stamp id s ]) (sym e) ∙ r in
-              let room = slice_get_within contents.slots p slot e in
-              let long = length-map contents.slots (use_of contents.callers) in
-              (omega arith, ap (λ (o : Option SlotUse). elim o as (λ x. Bool) [ None ↦ false | Some zone ↦ is_free_use zone ]) (slice_get-map (use_of contents.callers) contents.slots p ∙ ap (option_map (use_of contents.callers)) e) ∙ held id slot within shows)
+          let found_row = row_version contents.stamp old.id contents.slots p old.row in
+          let room = slice_get_within contents.slots p (Some found_row.0) found_row.1 in
+          let long = length-map contents.slots (use_of contents.callers) in
+          (omega arith, row_taken old.id p old.row)

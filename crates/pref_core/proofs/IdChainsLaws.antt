@@ -1,14 +1,8 @@
 -- Links, as a row is looked for, added and removed.
 use Rattle.pref_core.proofs.Common.{◌≡◌, ℕ, zero, suc, ◌+◌, ◌<◌, ◌≤◌, ◌⊎◌, ◌&&◌, Bool, true, false, cond, eqb, List, [], ◌∷◌, length, Option, Some, None, refl, sym, ap, ◌∙◌, subst, arith, ⊎_elim, inl}
 use Rattle.pref_core.proofs.Common.{inr, cases_eq, cases_lt, ltb-true, ltb-false, eqb-true, eq-eqb, and_parts, Version, is_visible, row_at, ids_of, id_at, is_above, AreIds, LeadsTo, IsNode, AreLinked}
-use Rattle.pref_core.proofs.Common.{IsOnWay, rank, IsBefore}
+use Rattle.pref_core.proofs.Common.{IsOnWay, rank, IsBefore, same_Some, none-some}
 use Rattle.pref_core.specs.IdChains.{IsNext}
-
-pub some_same : (a b : ℕ) → ◌≡◌ {A = Option ℕ} (Some a) (Some b) → a ≡ b
-some_same a b e = cc
-
-pub none_some : (a : ℕ) → ◌≡◌ {A = Option ℕ} None (Some a) → ⊥
-none_some a e = cc
 
 pub before_from : (limit capacity : ℕ) (homes : ℕ → ℕ) (ids : ℕ → Option ℕ) (links : ℕ → ℕ) (id bound node : ℕ) → AreLinked limit capacity homes ids links → homes id < capacity
     → IsNode limit capacity homes ids (homes id) bound node → id < bound → is_above id (ids (links node)) ≡ false → IsBefore limit capacity homes ids id node
@@ -52,8 +46,8 @@ shows_row stamp id (None ∷ slots) zero at = absurd (cc)
 shows_row stamp id (Some version ∷ slots) zero at = go (is_visible stamp version) refl at
   where
     go : (b : Bool) → is_visible stamp version ≡ b → cond b (Some version.id) None ≡ Some id → (eqb version.id id && is_visible stamp version) ≡ true
-    go true e f = rw (eq-eqb version.id id (some_same version.id id f), e) refl
-    go false e f = absurd (none_some id f)
+    go true e f = rw (eq-eqb version.id id (same_Some version.id id f), e) refl
+    go false e f = absurd (none-some id f)
 shows_row stamp id (slot ∷ slots) (suc place) at = shows_row stamp id slots place at
 
 pub row_shown : (stamp id : ℕ) (slots : List (Option Version)) (place : ℕ) → row_at stamp id slots place ≡ true → id_at (ids_of stamp slots) place ≡ Some id
@@ -114,7 +108,7 @@ one_node limit capacity homes ids home other bound b node within is also = ⊎_e
     also)
     (λ (p : (ids node ≡ Some bound) × (homes bound ≡ home)). ⊎_elim
     (λ (q : (node ≡ capacity + other) × (b ≡ limit)). absurd (let x = q.0 in let y = within node bound p.0 in omega arith))
-    (λ (q : (ids node ≡ Some b) × (homes b ≡ other)). let same = some_same bound b (sym p.0 ∙ q.0) in (sym p.1 ∙ ap homes same ∙ q.1, same))
+    (λ (q : (ids node ≡ Some b) × (homes b ≡ other)). let same = same_Some bound b (sym p.0 ∙ q.0) in (sym p.1 ∙ ap homes same ∙ q.1, same))
     also)
     is
 
@@ -130,7 +124,7 @@ added limit capacity homes ids after links linked_after id place node known with
   where
     -- a row after is the new one or one from before
     old_or_new : (p i : ℕ) → after p ≡ Some i → (i ≡ id) ⊎ (ids p ≡ Some i)
-    old_or_new p i at = ⊎_elim (λ (e : p ≡ place). inl (some_same i id (sym at ∙ ap after e ∙ here))) (λ (d : p ≡ place → ⊥). inr (sym (others p d) ∙ at)) (cases_eq p place)
+    old_or_new p i at = ⊎_elim (λ (e : p ≡ place). inl (same_Some i id (sym at ∙ ap after e ∙ here))) (λ (d : p ≡ place → ⊥). inr (sym (others p d) ∙ at)) (cases_eq p place)
 
     -- a node after, other than the new one, was one before
     was_node : (n ≡ place → ⊥) → IsNode limit capacity homes ids home b n
@@ -139,11 +133,11 @@ added limit capacity homes ids after links linked_after id place node known with
     -- a link is never to an empty place
     not_there : (l : ℕ) (o : Option ℕ) → ids l ≡ o → (o ≡ None → capacity ≤ l) → l ≡ place → ⊥
     not_there l None e far same = let past = far refl in omega arith
-    not_there l (Some top) e far same = none_some top (sym empty ∙ ap ids (sym same) ∙ e)
+    not_there l (Some top) e far same = none-some top (sym empty ∙ ap ids (sym same) ∙ e)
 
     past_end : (h x l : ℕ) (o : Option ℕ) → LeadsTo capacity homes ids h x l o → o ≡ None → capacity ≤ l
     past_end h x l None leads e = leads.past
-    past_end h x l (Some top) leads e = absurd (none_some top (sym e))
+    past_end h x l (Some top) leads e = absurd (none-some top (sym e))
 
     -- what a link leads to is the same after
     same_link : (h x l : ℕ) → LeadsTo capacity homes ids h x l (ids l) → after l ≡ ids l
@@ -153,7 +147,7 @@ added limit capacity homes ids after links linked_after id place node known with
     at_place : n ≡ place → LeadsTo capacity homes after home b (linked_after n) (after (linked_after n))
     at_place e = ⊎_elim
         (λ (p : (n ≡ capacity + home) × (b ≡ limit)). absurd (let x = p.0 in omega arith))
-        (λ (p : (after n ≡ Some b) × (homes b ≡ home)). new_one (some_same b id (sym p.0 ∙ ap after e ∙ here)) p.1)
+        (λ (p : (after n ≡ Some b) × (homes b ≡ home)). new_one (same_Some b id (sym p.0 ∙ ap after e ∙ here)) p.1)
         is
       where
         leads : LeadsTo capacity homes ids (homes id) before.bound (links node) (ids (links node))
@@ -239,7 +233,7 @@ removed limit capacity homes ids after links linked_after id place node known wi
     -- a row after was one before, and is another one
     was_row : (p i : ℕ) → after p ≡ Some i → (ids p ≡ Some i) × (i ≡ id → ⊥)
     was_row p i at = ⊎_elim
-        (λ (e : p ≡ place). absurd (none_some i (sym gone ∙ ap after (sym e) ∙ at)))
+        (λ (e : p ≡ place). absurd (none-some i (sym gone ∙ ap after (sym e) ∙ at)))
         (λ (d : p ≡ place → ⊥). let was = sym (others p d) ∙ at in (was, λ (f : i ≡ id). d (known.once p place id (was ∙ ap Some f) there)))
         (cases_eq p place)
 
@@ -268,7 +262,7 @@ removed limit capacity homes ids after links linked_after id place node known wi
                   ⊎_elim (λ (g : i < before.bound). absurd (was.1 (let low = before.below p i was.0 same g in omega arith))) (λ (l : before.bound ≤ i). l) (cases_lt i before.bound);
             })
         go (Some top) e leads =
-            let same_there : after (links place) ≡ Some top = others (links place) (λ (f : links place ≡ place). let same_id = some_same top id (sym e ∙ ap ids f ∙ there) in let low = leads.less in omega arith) ∙ e in
+            let same_there : after (links place) ≡ Some top = others (links place) (λ (f : links place ≡ place). let same_id = same_Some top id (sym e ∙ ap ids f ∙ there) in let low = leads.less in omega arith) ∙ e in
             subst (LeadsTo capacity homes after (homes id) before.bound (links place)) (sym same_there) (record {
               same = leads.same;
               less = let low = leads.less in let up = before.above in omega arith;

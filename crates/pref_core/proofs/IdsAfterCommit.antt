@@ -1,28 +1,17 @@
 -- How the ids that a store's slots show go along with a commit.
-use Rattle.pref_core.proofs.Common.{◌≡◌, ℕ, zero, suc, ◌+◌, ◌^◌, ◌<◌, ◌≤◌, Bool, true, false, cond, eqb, List, [], ◌∷◌, map, set, Option, Some, None, refl, sym, ap, ap₂, ◌∙◌, subst, arith}
-use Rattle.pref_core.proofs.Common.{⊎_elim, AllByRecursion, map-set, length_permutation, le-leb, cases_lt, true≢false, Version, SlotUse, Call, Entry, has, State, changes_of, ended, begun, added, missing}
-use Rattle.pref_core.proofs.Common.{is_formed, Contents, StandsFor, IsWithin, EndsBy, is_visible, visible, new_version, close, IsBounded, row_at, IsPlaceOf, shown, ids_of, id_at, AreIds}
-use Rattle.pref_core.proofs.Common.{AreLinks, IsTracked, AreFresh}
+use Rattle.pref_core.proofs.Common.{◌≡◌, ℕ, suc, ◌+◌, ◌^◌, ◌≤◌, true, false, eqb, List, [], ◌∷◌, map, set, Option, Some, None, refl, sym, ap, ap₂, ◌∙◌, subst, arith, AllByRecursion, map-set}
+use Rattle.pref_core.proofs.Common.{length_permutation, le-leb, true≢false, Version, SlotUse, Call, Entry, State, changes_of, ended, begun, added, missing, is_formed, Contents, StandsFor, IsWithin}
+use Rattle.pref_core.proofs.Common.{EndsBy, visible, new_version, close, IsBounded, row_at, IsPlaceOf, shown, ids_of, id_at, AreIds, AreLinks, IsTracked, AreFresh}
 use Rattle.pref_core.proofs.BoundsLaws.{next_id-small}
 use Rattle.pref_core.proofs.ChangesLaws.{begun_fresh, found_all, formed_apart}
 use Rattle.pref_core.proofs.IndexedRows.{ended_place}
 use Rattle.pref_core.proofs.SlotKeys.{within-close, within-more}
-use Rattle.pref_core.proofs.IdChainsLaws.{none_some, some_same, shows_row, row_shown}
+use Rattle.pref_core.proofs.IdChainsLaws.{shows_row, row_shown}
 use Rattle.pref_core.proofs.LineOfLaws.{one_place, one_line}
 use Rattle.pref_core.proofs.Permutations.{IsPermutation-filter}
 use Rattle.pref_core.proofs.PlanLaws.{close_none}
-use Rattle.pref_core.proofs.TableLaws.{has_visible-new}
+use Rattle.pref_core.proofs.TableLaws.{has_below, has_visible-new}
 use Rattle.pref_core.proofs.SlotUseLaws.{has_row_at}
-
-id_below : (next now stamp : ℕ) (slots : List (Option Version)) (place id : ℕ) → AllByRecursion (IsWithin next now) slots → id_at (ids_of stamp slots) place ≡ Some id → id < next
-id_below next now stamp [] place id h at = absurd (cc)
-id_below next now stamp (None ∷ slots) zero id h at = absurd (cc)
-id_below next now stamp (Some version ∷ slots) zero id h at = go (is_visible stamp version) at
-  where
-    go : (b : Bool) → cond b (Some version.id) None ≡ Some id → id < next
-    go true f = let same = some_same version.id id f in let low : version.id < next = h.0.0 in omega arith
-    go false f = absurd (none_some id f)
-id_below next now stamp (slot ∷ slots) (suc place) id h at = id_below next now stamp slots place id h.1 at
 
 -- The ids that a store's slots show are ids, ..
 pub known_ids : (contents : Contents) (state : State) → IsBounded contents → StandsFor contents state → AreIds (2 ^ 64) (id_at (ids_of contents.stamp contents.slots))
@@ -31,7 +20,7 @@ known_ids contents state bounded stands = record {
       let same = length_permutation _ _ (IsPermutation-filter (λ line. eqb line.id id) _ _ stands.table.lines) in
       let few = one_line id state.table stands.table.ordered in
       one_place contents.stamp id p q contents.slots (omega arith) (shows_row contents.stamp id contents.slots p at) (shows_row contents.stamp id contents.slots q also);
-  small = λ place id at. let below = id_below contents.next_id contents.stamp contents.stamp contents.slots place id stands.within at in let less = next_id-small contents bounded in omega arith;
+  small = λ place id at. let below = has_below contents.next_id contents.stamp contents.stamp contents.slots id stands.within (has_row_at contents.stamp id contents.slots place (shows_row contents.stamp id contents.slots place at)) in let less = next_id-small contents bounded in omega arith;
 }
 
 -- Where an id's row stands at a place, that is what an index of the slots has for it.
@@ -70,15 +59,9 @@ pub fresh_begun : (contents : Contents) (state : State) (call : Call) → is_for
     → AreFresh (contents.next_id + added call) (visible (suc contents.stamp) (map (close (ended call) (suc contents.stamp)) contents.slots)) (begun contents.next_id call)
 fresh_begun contents state call formed stands none =
     begun_fresh contents.next_id contents.next_id (contents.next_id + added call) (visible (suc contents.stamp) (map (close (ended call) (suc contents.stamp)) contents.slots)) (changes_of call) (omega arith) (omega arith)
-    (λ id there. (low id (found_all (ended call) (visible contents.stamp contents.slots) none id there), ended_place contents.next_id contents.stamp id (ended call) contents.slots stands.within there))
+    (λ id there. (has_below contents.next_id contents.stamp contents.stamp contents.slots id stands.within (found_all (ended call) (visible contents.stamp contents.slots) none id there), ended_place contents.next_id contents.stamp id (ended call) contents.slots stands.within there))
     (λ id l. has_visible-new contents.next_id (suc contents.stamp) (suc contents.stamp) (map (close (ended call) (suc contents.stamp)) contents.slots) id (within-close (ended call) contents.next_id contents.stamp contents.slots stands.within) l)
     (formed_apart call formed)
-  where
-    low : (id : ℕ) → has (visible contents.stamp contents.slots) id ≡ true → id < contents.next_id
-    low id there = ⊎_elim
-        (λ (l : id < contents.next_id). l)
-        (λ (l : contents.next_id ≤ id). absurd (true≢false (sym there ∙ has_visible-new contents.next_id contents.stamp contents.stamp contents.slots id stands.within l)))
-        (cases_lt id contents.next_id)
 
 -- A row that begins adds its id.
 pub links_born : (made place : ℕ) (fresh : Entry) (new : Option Version) (slots : List (Option Version)) (links : List ℕ) → new ≡ new_version made fresh → AreLinks (set (ids_of made slots) place (Some fresh.id)) links → AreLinks (ids_of made (set slots place new)) links

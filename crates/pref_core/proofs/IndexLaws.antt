@@ -1,14 +1,14 @@
 -- An index follows the store through each op that is done.
-use Rattle.pref_core.proofs.Common.{◌≡◌, ℕ, suc, ◌+◌, ◌<◌, Bool, true, false, ◌&&◌, ◌||◌, cond, eqb, nat_lt, List, [], ◌∷◌, map, length, set, Option, Some, None, is_some}
-use Rattle.pref_core.proofs.Common.{refl, sym, ap, ◌∙◌, subst, arith, AllByRecursion, eqb-true, ne_eqb, ltb-true, ltb-false, or_right, true≢false, Version, Change}
-use Rattle.pref_core.proofs.Common.{Add, Set, Remove, Call, Insert, Update, Delete, Commit, Begin, Finish, Abandon, Outcome, Added, Done, NoSuchRow, Full, Op, Entry, Row, ended_by, begun_by, added_by}
-use Rattle.pref_core.proofs.Common.{among, has, missing, success_outcome, is_change, succeeds, added, begins_row, changes_of, ended, begun, outcome_of, Contents, IsWithin, visible, begins, new_version, close}
-use Rattle.pref_core.proofs.Common.{is_free, filled, used, grown, slots_after, is_next, applied, slot_of, Points, PointsAll, given, placed_rows, adds, IsPlaceOf, IsIndexOf}
+use Rattle.pref_core.proofs.Common.{drop, slice_get, ◌≡◌, ℕ, suc, ◌+◌, ◌<◌, Bool, true, false, ◌&&◌, ◌||◌, cond, eqb, nat_lt, List, [], ◌∷◌, map, length, set, Option, Some, None, is_some, refl, sym}
+use Rattle.pref_core.proofs.Common.{ap, ◌∙◌, subst, arith, AllByRecursion, eqb-true, ne_eqb, or_right, true≢false, Version, Change, Add, Set, Remove, Call, Insert, Update, Delete, Commit, Begin}
+use Rattle.pref_core.proofs.Common.{Finish, Abandon, Outcome, Added, Done, NoSuchRow, Full, Op, Entry, Row, ended_by, begun_by, added_by, among, has, missing, success_outcome, is_change, succeeds}
+use Rattle.pref_core.proofs.Common.{added, begins_row, changes_of, ended, begun, outcome_of, Contents, IsWithin, visible, begins, new_version, close, is_free, filled, used, grown, slots_after}
+use Rattle.pref_core.proofs.Common.{is_next, applied, slot_of, Points, PointsAll, given, placed_rows, adds, IsPlaceOf, IsIndexOf}
 use Rattle.pref_core.proofs.AppliedLaws.{IsAllowed-from}
-use Rattle.pref_core.proofs.ChangesLaws.{AreApart, formed_apart, found_all}
+use Rattle.pref_core.proofs.ChangesLaws.{AreApart, drop_at, formed_apart, found_all}
 use Rattle.pref_core.proofs.FilledLaws.{none_missing, slots_still}
-use Rattle.pref_core.proofs.IndexedRows.{closed_place, ended_place, born_place, other_place}
-use Rattle.pref_core.proofs.TableLaws.{has_visible-new}
+use Rattle.pref_core.proofs.IndexedRows.{closed_place, ended_place, other_place, row_at-new_version}
+use Rattle.pref_core.proofs.TableLaws.{has_below}
 
 abbrev pub Pairs : Type 0
 Pairs = List (ℕ × ℕ)
@@ -21,7 +21,7 @@ module _ (ns : List ℕ) (made id : ℕ) where
   begun_place place fresh slots found free is = go (eqb fresh.id id) refl
     where
       go : (b : Bool) → eqb fresh.id id ≡ b → IsPlaceOf made id (set slots place (new_version made fresh)) (cond b (Some place) found)
-      go true e = subst (λ n. IsPlaceOf made n (set slots place (new_version made fresh)) (Some place)) (eqb-true fresh.id id e) (born_place made fresh ns slots place free)
+      go true e = subst (λ n. IsPlaceOf made n (set slots place (new_version made fresh)) (Some place)) (eqb-true fresh.id id e) (row_at-new_version made fresh ns slots place free)
       go false e = other_place made id fresh ns slots place found free e is
 
   -- .. and all rows of a commit, where the ids that it names are gone before.
@@ -162,14 +162,6 @@ pub indexed_still : (contents : Contents) (op : Op) (index : Pairs) → is_next 
 indexed_still contents op index next fits still is = index_after contents op next contents.slots false index (slots_still contents op still fits) still is
 
 module _ (contents : Contents) (within : AllByRecursion (IsWithin contents.next_id contents.stamp) contents.slots) where
-  -- a row of the table has an id below the next one
-  has_below : (id : ℕ) → has (visible contents.stamp contents.slots) id ≡ true → id < contents.next_id
-  has_below id there = go (nat_lt id contents.next_id) refl
-    where
-      go : (b : Bool) → nat_lt id contents.next_id ≡ b → id < contents.next_id
-      go true e = ltb-true id contents.next_id e
-      go false e = absurd (true≢false (sym there ∙ has_visible-new contents.next_id contents.stamp contents.stamp contents.slots id within (ltb-false id contents.next_id e)))
-
   -- the place of an id once the rows of these ids ended
   closed_at : (ids : List ℕ) (id : ℕ) (found : Option ℕ) → IsPlaceOf contents.stamp id contents.slots found → IsPlaceOf (suc contents.stamp) id (map (close ids (suc contents.stamp)) contents.slots) (cond (among ids id) None found)
   closed_at ids id found is = go (among ids id) refl
@@ -189,7 +181,7 @@ module _ (contents : Contents) (within : AllByRecursion (IsWithin contents.next_
           let all = none_missing contents op.call op.outcome (IsAllowed-from contents op next).outcome success change in
           subst (IsPlaceOf (suc contents.stamp) id after) (sym (found id))
           (filled_place (begins contents.callers) (suc contents.stamp) id (changes_of op.call) contents.next_id op.slots (map (close (ended op.call) (suc contents.stamp)) contents.slots) after (slot_of before id) fills
-          (formed_apart op.call (IsAllowed-from contents op next).formed) (λ there. has_below id (found_all (ended op.call) (visible contents.stamp contents.slots) all id there)) (closed_at (ended op.call) id (slot_of before id) (is id)))
+          (formed_apart op.call (IsAllowed-from contents op next).formed) (λ there. has_below contents.next_id contents.stamp contents.stamp contents.slots id within (found_all (ended op.call) (visible contents.stamp contents.slots) all id there)) (closed_at (ended op.call) id (slot_of before id) (is id)))
 
       placed : (o : Option (List (Option Version))) → slots_after contents op ≡ o → is_some o ≡ true → is_change op.call ≡ true → IsIndexOf (applied contents op) later
       placed None e some change = absurd (cc)
@@ -206,7 +198,7 @@ module _ (contents : Contents) (within : AllByRecursion (IsWithin contents.next_
   pub ended_there : (op : Op) (index : Pairs) → is_next contents op ≡ true → succeeds op.outcome ≡ true → IsIndexOf contents index → AreThere contents contents.next_id (ended op.call) index
   ended_there op index next success is = record {
     apart = formed_apart op.call (IsAllowed-from contents op next).formed;
-    below = λ id ends. has_below id (there id ends);
+    below = λ id ends. has_below contents.next_id contents.stamp contents.stamp contents.slots id within (there id ends);
     there = there;
     placed = λ id ends. is id;
   }
@@ -267,6 +259,10 @@ moves_one contents next id slot rest slots index new all gives olds points = rec
   where
     differs : (other : ℕ) → among (ended_by rest) other ≡ true → eqb id other ≡ false
     differs other ends = ne_eqb id other (λ (same : id ≡ other). true≢false (sym ends ∙ ap (among (ended_by rest)) (sym same) ∙ olds.apart.0))
+
+-- the rows of the changes from a place on, whose first sets one
+pub rest_there : (contents : Contents) (next : ℕ) (index : Pairs) (changes : List Change) (at id : ℕ) (row : Row) → slice_get changes at ≡ Some (Set id row) → AreThere contents next (ended_by (drop at changes)) index → AreThere contents next (id ∷ ended_by (drop (at + 1) changes)) index
+rest_there contents next index changes at id row here = subst (λ l. AreThere contents next (ended_by l) index) (drop_at changes at (Set id row) here)
 
 -- what an index has already
 pub points_still : (index : Pairs) (id : ℕ) (slot : Option ℕ) → slot_of index id ≡ slot → Points index id slot index

@@ -1,7 +1,7 @@
 -- The index of a store, after an op.
-use Rattle.pref_core.proofs.Common.{◌≡◌, ℕ, zero, suc, ◌+◌, ◌<◌, ◌≤◌, Bool, true, false, not, ◌&&◌, cond, eqb, List, [], ◌∷◌, map, length, set, Option, Some, None, slice_get, refl, sym, ap, ◌∙◌}
-use Rattle.pref_core.proofs.Common.{subst, arith, ⊎_elim, AllByRecursion, le-leb, eqb-true, eq-eqb, cases_eq, true≢false, Version, among, Entry, is_visible, new_version, is_needed, IsWithin, EndsBy, close}
-use Rattle.pref_core.proofs.Common.{close_at, is_free, slot_of, Points, is_row, row_at, IsPlaceOf}
+use Rattle.pref_core.proofs.Common.{and_right, ◌≡◌, ℕ, zero, suc, ◌+◌, ◌<◌, ◌≤◌, Bool, true, false, not, ◌&&◌, cond, eqb, List, [], ◌∷◌, map, length, set, Option, Some, None, slice_get, refl, sym, ap}
+use Rattle.pref_core.proofs.Common.{◌∙◌, subst, arith, ⊎_elim, AllByRecursion, le-leb, eqb-true, eq-eqb, cases_eq, true≢false, Version, among, Entry, is_visible, new_version, is_needed, IsWithin}
+use Rattle.pref_core.proofs.Common.{EndsBy, close, close_at, is_free, slot_of, Points, is_row, row_at, IsPlaceOf, false_from_ne_true}
 use Rattle.pref_core.proofs.SlotUseLaws.{has_row_at, has_nowhere}
 
 -- what a slot shows of an id
@@ -57,18 +57,14 @@ free_row now id ns (Some version ∷ slots) zero h = go (is_visible now version)
   where
     go : (b : Bool) → is_visible now version ≡ b → not (is_needed (now ∷ ns) (Some version)) ≡ true → (eqb version.id id && is_visible now version) ≡ false
     go true e f = absurd (let w = rw e at f in cc)
-    go false e f = rw e (none (eqb version.id id))
-      where
-        none : (b : Bool) → (b && false) ≡ false
-        none true = refl
-        none false = refl
+    go false e f = rw e (and_right (eqb version.id id) false refl)
 free_row now id ns (slot ∷ slots) (suc place) h = free_row now id ns slots place h
 
 is_row-new_version : (made : ℕ) (fresh : Entry) → is_row made fresh.id (new_version made fresh) ≡ true
 is_row-new_version made fresh = rw (eq-eqb fresh.id fresh.id refl, le-leb made made (omega arith)) refl
 
 -- A row that begins at a free place stands there, and no other row does.
-row_at-new_version : (made : ℕ) (fresh : Entry) (ns : List ℕ) (slots : List (Option Version)) (place : ℕ) → is_free (made ∷ ns) slots place ≡ true → row_at made fresh.id (set slots place (new_version made fresh)) place ≡ true
+pub row_at-new_version : (made : ℕ) (fresh : Entry) (ns : List ℕ) (slots : List (Option Version)) (place : ℕ) → is_free (made ∷ ns) slots place ≡ true → row_at made fresh.id (set slots place (new_version made fresh)) place ≡ true
 row_at-new_version made fresh ns [] place h = absurd (cc)
 row_at-new_version made fresh ns (slot ∷ slots) zero h = is_row-new_version made fresh
 row_at-new_version made fresh ns (slot ∷ slots) (suc place) h = row_at-new_version made fresh ns slots place h
@@ -82,11 +78,7 @@ row_at-other made id fresh ns (slot ∷ slots) (suc place) (suc k) h other = row
 
 -- The place of an id, where each slot shows the id's row as the slot there did before.
 pub moved_place : (stamp later id : ℕ) (slots moved : List (Option Version)) (place : Option ℕ) → ((k : ℕ) → row_at later id moved k ≡ row_at stamp id slots k) → IsPlaceOf stamp id slots place → IsPlaceOf later id moved place
-moved_place stamp later id slots moved None same h = has_nowhere later id moved (λ k l. same k ∙ nowhere k (row_at stamp id slots k) refl)
-  where
-    nowhere : (k : ℕ) (b : Bool) → row_at stamp id slots k ≡ b → b ≡ false
-    nowhere k false e = refl
-    nowhere k true e = absurd (true≢false (sym (has_row_at stamp id slots k e) ∙ h))
+moved_place stamp later id slots moved None same h = has_nowhere later id moved (λ k l. false_from_ne_true (row_at later id moved k) (λ r. true≢false (sym (has_row_at stamp id slots k (sym (same k) ∙ r)) ∙ h)))
 moved_place stamp later id slots moved (Some place) same h = same place ∙ h
 
 -- no slot shows an id's row
@@ -101,9 +93,6 @@ pub ended_place : (next now id : ℕ) (ids : List ℕ) (slots : List (Option Ver
 ended_place next now id ids slots h out = no_place (suc now) id (map (close ids (suc now)) slots) (λ k. row_at-ended next now id ids slots k h out)
 
 -- .. and that begins one at a free place.
-pub born_place : (made : ℕ) (fresh : Entry) (ns : List ℕ) (slots : List (Option Version)) (at : ℕ) → is_free (made ∷ ns) slots at ≡ true → IsPlaceOf made fresh.id (set slots at (new_version made fresh)) (Some at)
-born_place made fresh ns slots at free = row_at-new_version made fresh ns slots at free
-
 pub other_place : (made id : ℕ) (fresh : Entry) (ns : List ℕ) (slots : List (Option Version)) (at : ℕ) (place : Option ℕ) → is_free (made ∷ ns) slots at ≡ true → eqb fresh.id id ≡ false → IsPlaceOf made id slots place → IsPlaceOf made id (set slots at (new_version made fresh)) place
 other_place made id fresh ns slots at place free other = moved_place made made id slots (set slots at (new_version made fresh)) place (λ k. row_at-other made id fresh ns slots at k free other)
 
@@ -122,11 +111,7 @@ place_past stamp id slots count (Some place) none h = h
 
 -- a slot that shows no row at the stamp
 pub row_at-hidden : (stamp id : ℕ) (slots : List (Option Version)) (place : ℕ) (version : Version) → slice_get slots place ≡ Some (Some version) → is_visible stamp version ≡ false → row_at stamp id slots place ≡ false
-row_at-hidden stamp id slots place version at hidden = ap (row_of stamp id) at ∙ rw hidden (none (eqb version.id id))
-  where
-    none : (b : Bool) → (b && false) ≡ false
-    none true = refl
-    none false = refl
+row_at-hidden stamp id slots place version at hidden = ap (row_of stamp id) at ∙ rw hidden (and_right (eqb version.id id) false refl)
 
 pub row_at-empty : (stamp id : ℕ) (slots : List (Option Version)) (place : ℕ) → slice_get slots place ≡ Some None → row_at stamp id slots place ≡ false
 row_at-empty stamp id slots place at = ap (row_of stamp id) at

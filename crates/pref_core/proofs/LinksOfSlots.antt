@@ -1,7 +1,8 @@
 -- The links of a store's slots, as lists.
-use Rattle.pref_core.proofs.Common.{◌≡◌, ℕ, zero, suc, ◌+◌, ◌^◌, ◌<◌, Bool, true, false, List, [], ◌∷◌, length, set, slice_index, Option, Some, None, refl, sym, ap, ◌∙◌, subst, arith, ⊎_elim}
-use Rattle.pref_core.proofs.Common.{length-map, length-set, get_or-set_same, get_or-set_other, true≢false, Version, row_at, IsPlaceOf, shown, ids_of, home_of, id_at, AreIds, AreLinked, IsBefore}
-use Rattle.pref_core.proofs.Common.{AreLinks}
+use Rattle.pref_core.proofs.Common.{slice_get-get_or, ◌≡◌, ℕ, ◌+◌, ◌^◌, ◌<◌, true, false, List, length, set, slice_index, Option, Some, None, sym, ap, ◌∙◌, subst, arith, ⊎_elim, length-map}
+use Rattle.pref_core.proofs.Common.{length-set, get_or-set_same, get_or-set_other, true≢false, Version, row_at, IsPlaceOf, shown, ids_of, home_of, id_at, AreIds, AreLinked, IsBefore, AreLinks}
+use Rattle.pref_core.proofs.Common.{false_from_ne_true}
+use Rattle.pref_core.proofs.StabilityLaws.{slice_get-set_other}
 use Rattle.pref_core.proofs.SlotUseLaws.{has_row_at}
 use Rattle.pref_core.proofs.IndexedRows.{no_place}
 use Rattle.pref_core.proofs.IdChainsLaws.{id_within, shows_row, row_shown, place_behind, added, removed}
@@ -19,27 +20,19 @@ pub within_at : (stamp : ℕ) (slots : List (Option Version)) (place id : ℕ) �
 within_at stamp slots place id at = let less = id_within (ids_of stamp slots) place id at in let long = length-map slots (shown stamp) in omega arith
 
 pub id_at-here : (ids : List (Option ℕ)) (place : ℕ) (new : Option ℕ) → place < length ids → id_at (set ids place new) place ≡ new
-id_at-here [] place new l = absurd (omega arith)
-id_at-here (id ∷ ids) zero new l = refl
-id_at-here (id ∷ ids) (suc place) new l = id_at-here ids place new (omega arith)
+id_at-here ids place new l =
+    ap (λ (o : Option (Option ℕ)). elim o as (λ x. Option ℕ) [ None ↦ None | Some id ↦ id ]) (slice_get-get_or (set ids place new) place None (let long = length-set ids place new in omega arith))
+    ∙ get_or-set_same ids place new None l
 
 pub id_at-there : (ids : List (Option ℕ)) (place : ℕ) (new : Option ℕ) (p : ℕ) → (p ≡ place → ⊥) → id_at (set ids place new) p ≡ id_at ids p
-id_at-there [] place new p d = refl
-id_at-there (id ∷ ids) zero new zero d = absurd (d refl)
-id_at-there (id ∷ ids) zero new (suc p) d = refl
-id_at-there (id ∷ ids) (suc place) new zero d = refl
-id_at-there (id ∷ ids) (suc place) new (suc p) d = id_at-there ids place new p (λ e. d (ap suc e))
+id_at-there ids place new p d = ap (λ (o : Option (Option ℕ)). elim o as (λ x. Option ℕ) [ None ↦ None | Some id ↦ id ]) (slice_get-set_other ids p place new d)
 
 -- An id that no link of its chain leads to is at no place.
 pub nowhere : (stamp id : ℕ) (slots : List (Option Version)) (links : List ℕ) (node : ℕ) → 0 < length slots → AreLinks (ids_of stamp slots) links
     → IsBefore (2 ^ 64) (length slots) (home_of (length slots)) (id_at (ids_of stamp slots)) id node → row_at stamp id slots (slice_index links node) ≡ false → IsPlaceOf stamp id slots None
-nowhere stamp id slots links node some h before away = no_place stamp id slots (λ place. go place (row_at stamp id slots place) refl)
-  where
-    go : (place : ℕ) (b : Bool) → row_at stamp id slots place ≡ b → b ≡ false
-    go place false e = refl
-    go place true e =
-        let behind = place_behind (2 ^ 64) (length slots) (home_of (length slots)) (id_at (ids_of stamp slots)) (slice_index links) id node place (linked_at stamp slots links h) (home_inside (length slots) id some) before (row_shown stamp id slots place e) in
-        sym (shows_row stamp id slots (slice_index links node) behind) ∙ away
+nowhere stamp id slots links node some h before away = no_place stamp id slots (λ place. false_from_ne_true (row_at stamp id slots place) (λ e.
+    let behind = place_behind (2 ^ 64) (length slots) (home_of (length slots)) (id_at (ids_of stamp slots)) (slice_index links) id node place (linked_at stamp slots links h) (home_inside (length slots) id some) before (row_shown stamp id slots place e) in
+    true≢false (sym (shows_row stamp id slots (slice_index links node) behind) ∙ away)))
 
 -- A row is added.
 pub links_added : (stamp id : ℕ) (slots : List (Option Version)) (links : List ℕ) (place node onward : ℕ) → AreLinks (ids_of stamp slots) links → AreIds (2 ^ 64) (id_at (ids_of stamp slots))

@@ -1,8 +1,8 @@
 -- As many slots are in use as there are versions that are needed.
-use Rattle.pref_core.proofs.Common.{◌≡◌, ℕ, suc, Bool, true, false, ◌&&◌, ◌||◌, cond, eqb, List, [], ◌∷◌, ◌++◌, filter, length, Option, Some, None, is_some, refl, sym, ap, ap₂, ◌∙◌, subst}
+use Rattle.pref_core.proofs.Common.{map-append, ◌≡◌, ℕ, suc, Bool, true, false, ◌&&◌, ◌||◌, cond, eqb, List, [], ◌∷◌, ◌++◌, filter, length, Option, Some, None, is_some, refl, sym, ap, ap₂, ◌∙◌, subst}
 use Rattle.pref_core.proofs.Common.{cons_option, list_any, AllZip, list_any-IsPermutation, IsPermutation-map, length-filter, eqb-true, eq-eqb, and_parts, Version, Caller, Line, Key, same_key}
 use Rattle.pref_core.proofs.Common.{holds_key, keys, different, State, Client, Snapshot, found_tables, needed, Contents, StandsFor, StandsForClient, Shows, ShowsBegin, seen, visible, is_visible}
-use Rattle.pref_core.proofs.Common.{is_needed, begins, stamps, slot_key, AreDifferent, line, used}
+use Rattle.pref_core.proofs.Common.{is_needed, begins, stamps, slot_key, AreDifferent, line, used, list_any-append}
 use Rattle.pref_core.proofs.SlotKeys.{same_key_comm, slot_keys, holds_key-parts, holds_key-cons}
 
 -- keys that the test calls the same are equal
@@ -156,12 +156,7 @@ list_any-none r [] = refl
 list_any-none r (x ∷ xs) = list_any-none r xs
 
 pub holds_key-keys-append : (key : Key) (xs ys : List Line) → holds_key (keys (xs ++ ys)) key ≡ (holds_key (keys xs) key || holds_key (keys ys) key)
-holds_key-keys-append key [] ys = refl
-holds_key-keys-append key (x ∷ xs) ys = go (same_key key (record { id = x.id; made = x.made })) (holds_key-keys-append key xs ys)
-  where
-    go : (b : Bool) → holds_key (keys (xs ++ ys)) key ≡ (holds_key (keys xs) key || holds_key (keys ys) key) → (b || holds_key (keys (xs ++ ys)) key) ≡ ((b || holds_key (keys xs) key) || holds_key (keys ys) key)
-    go true h = refl
-    go false h = h
+holds_key-keys-append key xs ys = ap (list_any (same_key key)) (map-append (λ (l : Line). record { id = l.id; made = l.made }) xs ys) ∙ list_any-append (same_key key) (keys xs) (keys ys)
 
 -- a table's keys are those that the slots show
 holds_key-shown : (slots : List (Option Version)) (stamp : ℕ) (table : List Line) (key : Key) → Shows slots stamp table → holds_key (keys table) key ≡ list_any (λ slot. is_some (seen stamp slot) && has_key key slot) slots

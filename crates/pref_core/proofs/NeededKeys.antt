@@ -2,7 +2,8 @@
 use Rattle.pref_core.proofs.Common.{◌≡◌, ℕ, ◌≤◌, Bool, true, false, not, ◌||◌, cond, List, [], ◌∷◌, ◌++◌, length, suc, subst, refl, sym, ap, ◌∙◌, arith, or_right, Line, Key, same_key, holds_key, keys}
 use Rattle.pref_core.proofs.Common.{different, with_rows, without, among, found_tables, ended, changes_of, Change, Add, Set, Remove, begun_by, begins_any, AreDifferent, DeletesNeedNoMore}
 use Rattle.pref_core.proofs.Common.{EndsNeedNoMore}
-use Rattle.pref_core.proofs.NeededCounts.{others, holds_key-others-at, AreDifferent-others, length-others, same_key_refl, same_key-true, holds_key-different, AreDifferent-different, holds_key-keys-append}
+use Rattle.pref_core.proofs.NeededCounts.{others, holds_key-others-at, AreDifferent-others, length-others, same_key_refl, same_key-true, holds_key-different, AreDifferent-different}
+use Rattle.pref_core.proofs.NeededCounts.{holds_key-keys-append}
 
 pub fewer : (xs ys : List Key) → AreDifferent xs → AreDifferent ys → ((key : Key) → holds_key xs key ≡ true → holds_key ys key ≡ true) → length xs ≤ length ys
 fewer [] ys p q in_ = omega arith

@@ -2,10 +2,9 @@
 use Rattle.pref_core.proofs.Common.{◌≡◌, ℕ, zero, suc, ◌+◌, ◌-◌, ◌%◌, ◌^◌, ◌<◌, ◌≤◌, ◌++◌, Bool, true, false, cond, nat_lt, List, [], ◌∷◌, map, length, replicate, get_or, slice_index, Option, Some}
 use Rattle.pref_core.proofs.Common.{None, refl, sym, ap, ap₂, ◌∙◌, subst, arith, ⊎_elim, range_with_len, ltb-true, ltb-false, lt-ltb, le-ltb, le-leb, length-append, length-replicate, get_or-replicate}
 use Rattle.pref_core.proofs.Common.{get_or-append-add, get_or-map-range_with_len, length-map-range_with_len, Version, Row, opening_slots, shown, ids_of, home_of, id_at, LeadsTo, AreLinked, AreLinks}
-use Rattle.pref_core.proofs.Common.{opening_ids, opening_link}
+use Rattle.pref_core.proofs.Common.{opening_ids, opening_link, same_Some}
 use Rattle.std.proofs.Math.Nat.{mod-eq_of_lt}
 use Rattle.std.proofs.Math.ListN.{get_or-append}
-use Rattle.pref_core.proofs.IdChainsLaws.{some_same}
 
 opened : (limit capacity rows : ℕ) (homes : ℕ → ℕ) (ids : ℕ → Option ℕ) (links : ℕ → ℕ) → rows ≤ capacity → capacity < limit
     → ((place id : ℕ) → ids place ≡ Some id → (id ≡ place + 1) × (place < rows)) → ((place : ℕ) → place < rows → ids place ≡ Some (place + 1)) → ids capacity ≡ None
@@ -88,7 +87,7 @@ opening_links capacity rows few less =
     known place id at = go (nat_lt place capacity) refl
       where
         here : place < capacity → (t : Bool) → nat_lt place rows ≡ t → (id ≡ place + 1) × (place < rows)
-        here low true e = (some_same id (place + 1) (sym at ∙ at_place place low ∙ ap (λ t. cond t (Some (place + 1)) None) e), ltb-true place rows e)
+        here low true e = (same_Some id (place + 1) (sym at ∙ at_place place low ∙ ap (λ t. cond t (Some (place + 1)) None) e), ltb-true place rows e)
         here low false e = absurd (let bad = sym at ∙ at_place place low ∙ ap (λ t. cond t (Some (place + 1)) None) e in cc)
 
         go : (t : Bool) → nat_lt place capacity ≡ t → (id ≡ place + 1) × (place < rows)

@@ -1,8 +1,9 @@
 -- The order of places as a store is opened.
 use Rattle.pref_core.proofs.Common.{◌≡◌, ℕ, zero, suc, ◌+◌, ◌-◌, ◌*◌, ◌<◌, ◌≤◌, Bool, true, false, cond, nat_lt, List, ◌∷◌, ◌++◌, map, length, get_or, replicate, refl, sym, ap, ap₂, ◌∙◌, arith}
 use Rattle.pref_core.proofs.Common.{count_by, range_with_len, length-map, length-append, length-replicate, same_lists, get_or-map, get_or-map-range_with_len, length-map-range_with_len, sum_by-append}
-use Rattle.pref_core.proofs.Common.{lt-ltb, le-ltb, ltb-true, ltb-false, SlotUse, Free, Live, use_at, is_free_use, IsInverse, IsArranged, rotated}
-use Rattle.std.proofs.lemmas.List.Folds.{sum_by-replicate}
+use Rattle.pref_core.proofs.Common.{lt-ltb, le-ltb, ltb-true, ltb-false, SlotUse, Free, Live, use_at, is_free_use, IsInverse, IsArranged, rotated, sum_by-replicate, get_or-append_right}
+use Rattle.pref_core.proofs.Common.{get_or-replicate}
+use Rattle.std.proofs.Math.ListN.{get_or-append}
 use Rattle.pref_core.proofs.SlotSetsLaws.{zone_free}
 
 abbrev all : ℕ → ℕ → List ℕ
@@ -52,20 +53,15 @@ inverse capacity rows r = record {
 abbrev pub opened : ℕ → ℕ → List ℕ
 opened capacity free = free ∷ replicate 9 capacity
 
-opened_rest : (n capacity i : ℕ) → i < n → get_or (replicate n capacity) i 0 ≡ capacity
-opened_rest zero capacity i l = absurd (omega arith)
-opened_rest (suc n) capacity zero l = refl
-opened_rest (suc n) capacity (suc i) l = opened_rest n capacity i (omega arith)
-
 opened_less : (capacity free i : ℕ) → free ≤ capacity → i < 10 → get_or (opened capacity free) i 0 ≤ capacity
 opened_less capacity free zero h l = h
-opened_less capacity free (suc i) h l = let e = opened_rest 9 capacity i (omega arith) in omega arith
+opened_less capacity free (suc i) h l = let e = get_or-replicate 9 i capacity 0 (omega arith) in omega arith
 
 opened_ascend : (capacity free i j : ℕ) → free ≤ capacity → i ≤ j → j < 10 → get_or (opened capacity free) i 0 ≤ get_or (opened capacity free) j 0
 opened_ascend capacity free zero zero h le l = omega arith
-opened_ascend capacity free zero (suc j) h le l = let e = opened_rest 9 capacity j (omega arith) in omega arith
+opened_ascend capacity free zero (suc j) h le l = let e = get_or-replicate 9 j capacity 0 (omega arith) in omega arith
 opened_ascend capacity free (suc i) zero h le l = absurd (omega arith)
-opened_ascend capacity free (suc i) (suc j) h le l = let e = opened_rest 9 capacity i (omega arith) in let f = opened_rest 9 capacity j (omega arith) in omega arith
+opened_ascend capacity free (suc i) (suc j) h le l = let e = get_or-replicate 9 i capacity 0 (omega arith) in let f = get_or-replicate 9 j capacity 0 (omega arith) in omega arith
 
 zone_live : (capacity free x : ℕ) → free ≤ x → x < capacity → use_at (opened capacity free) x ≡ Live
 zone_live capacity free x past below = rw (le-ltb x free past, lt-ltb x capacity below) refl
@@ -75,30 +71,19 @@ zone : (capacity rows p : ℕ) → rows ≤ capacity → p < capacity → (d : S
     → use_at (opened capacity (capacity - rows)) (rotated capacity (capacity - rows) p) ≡ get_or (replicate rows Live ++ replicate (capacity - rows) Free) p d
 zone capacity rows p r l d = go (nat_lt p rows) refl
   where
-    front : (n m p : ℕ) → p < n → get_or (replicate n Live ++ replicate m Free) p d ≡ Live
-    front zero m p l = absurd (omega arith)
-    front (suc n) m zero l = refl
-    front (suc n) m (suc p) l = front n m p (omega arith)
-
-    rest : (m p : ℕ) → p < m → get_or (replicate m Free) p d ≡ Free
-    rest zero p l = absurd (omega arith)
-    rest (suc m) zero l = refl
-    rest (suc m) (suc p) l = rest m p (omega arith)
-
-    behind : (n m p : ℕ) → n ≤ p → p < n + m → get_or (replicate n Live ++ replicate m Free) p d ≡ Free
-    behind zero m p l h = rest m p (omega arith)
-    behind (suc n) m zero l h = absurd (omega arith)
-    behind (suc n) m (suc p) l h = behind n m p (omega arith) (omega arith)
+    size : length (replicate rows Live) ≡ rows
+    size = length-replicate rows Live
 
     go : (b : Bool) → nat_lt p rows ≡ b → use_at (opened capacity (capacity - rows)) (rotated capacity (capacity - rows) p) ≡ get_or (replicate rows Live ++ replicate (capacity - rows) Free) p d
     go true e =
         let here = ltb-true _ _ e in
         let is = low capacity (capacity - rows) p (omega arith) in
-        zone_live capacity (capacity - rows) (rotated capacity (capacity - rows) p) (omega arith) (omega arith) ∙ sym (front rows (capacity - rows) p here)
+        zone_live capacity (capacity - rows) (rotated capacity (capacity - rows) p) (omega arith) (omega arith) ∙ sym (get_or-append (replicate rows Live) (replicate (capacity - rows) Free) d p (omega (arith, size, here)) ∙ get_or-replicate rows p Live d here)
     go false e =
         let here = ltb-false _ _ e in
         let is = high capacity (capacity - rows) p (omega arith) in
-        zone_free (opened capacity (capacity - rows)) (rotated capacity (capacity - rows) p) (omega arith) (omega arith) ∙ sym (behind rows (capacity - rows) p here (omega arith))
+        zone_free (opened capacity (capacity - rows)) (rotated capacity (capacity - rows) p) (omega arith) (omega arith)
+        ∙ sym (get_or-append_right (replicate rows Live) (replicate (capacity - rows) Free) p d (omega (arith, size, here)) ∙ get_or-replicate (capacity - rows) (p - length (replicate rows Live)) Free d (omega (arith, size, here, r, l)))
 
 pub turned_zones : (capacity rows : ℕ) → rows ≤ capacity → map (use_at (opened capacity (capacity - rows))) (map (rotated capacity (capacity - rows)) (range_with_len 0 capacity)) ≡ replicate rows Live ++ replicate (capacity - rows) Free
 turned_zones capacity rows r = same_lists _ _

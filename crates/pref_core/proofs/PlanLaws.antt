@@ -1,6 +1,7 @@
 -- Whether a call is full, and the slots of its rows.
 use Rattle.pref_core.proofs.Common.{◌≡◌, ℕ, suc, ◌≤◌, Bool, true, false, cond, nat_lt, List, [], ◌∷◌, map, length, Option, Some, None, refl, ap, ap₂, arith, ltb-false, eq-eqb, length-map, Version}
-use Rattle.pref_core.proofs.Common.{Call, Outcome, Added, Done, NoSuchRow, Full, ended, begun, success_outcome, succeeds, outcome_of, Contents, begins, close, filled, grown, used, close_at, same_outcome}
+use Rattle.pref_core.proofs.Common.{Call, Outcome, Added, Done, NoSuchRow, Full, ended, begun, success_outcome, succeeds, outcome_of, Contents, begins, close, filled, grown, used, close_at}
+use Rattle.pref_core.proofs.Common.{same_outcome}
 use Rattle.pref_core.proofs.SlotsForAll.{filled_fits, count_grown}
 
 -- What is needed after a change that succeeds is no more than the capacity.

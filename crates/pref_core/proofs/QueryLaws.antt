@@ -3,7 +3,7 @@ use Rattle.pref_core.proofs.Common.{◌≡◌, ℕ, zero, suc, ◌+◌, ◌-◌,
 use Rattle.pref_core.proofs.Common.{◌∙◌, subst, arith, inl, inr, AllByRecursion, count_by, IsPermutation, map-append, take_all, take-append-drop, filter_map-append, sum_by-cons, sum_by-append}
 use Rattle.pref_core.proofs.Common.{IsPermutation-map, sum_by-IsPermutation, Entry, Ranked, answer_of, Question, cut_of, Version, Limits, AreAllowed, blocks, Line, IsOrdered, entries, Contents, Shows}
 use Rattle.pref_core.proofs.Common.{seen, visible, block_of, caller_begun, ran, Scan, begin, levels_for, next_block, NextIsNew, IsScanned, ends_query, Op, first_blocks, BlocksAreTheSlots, Open}
-use Rattle.pref_core.proofs.Common.{one_less, Follows}
+use Rattle.pref_core.proofs.Common.{one_less, Follows, take-add}
 use Rattle.std.proofs.Math.Nat.{mul_comm}
 use Rattle.pref_sky.specs.Levels.{HaveDifferentIds, entry_order, entry_of}
 use Rattle.pref_sky.specs.Members.{Among, SameMembers}
@@ -14,9 +14,6 @@ use Rattle.pref_core.proofs.Permutations.{along_permutation}
 use Rattle.pref_core.proofs.LineOfLaws.{one_line}
 use Rattle.pref_core.proofs.StabilityLaws.{shown, shown_ran}
 use Rattle.pref_core.proofs.VisibleAfterOp.{visible_take, length-ran}
-
-entry : Line → Entry
-entry line = record { id = line.id; row = line.row }
 
 -- how often an id stands among the entries
 count_id : (id : ℕ) (table : List Line) → count_by (λ (e : Entry). e.id == id) (entries table) ≡ length (filter (λ (line : Line). eqb line.id id) table)
@@ -46,15 +43,6 @@ taken_differs : (slots : List (Option Version)) (stamp n : ℕ) (table : List Li
 taken_differs slots stamp n table shows =
     front_differs _ _ (subst HaveDifferentIds (ap (λ l. entries (visible stamp l)) (sym (take-append-drop n slots)) ∙ entries_append stamp (take n slots) (drop n slots)) (shown_differs slots stamp table shows))
 
-take_none : {X : Type 0} (n : ℕ) → ◌≡◌ {A = List X} [] (take n [])
-take_none zero = refl
-take_none (suc n) = refl
-
-take_add : {X : Type 0} (a b : ℕ) (xs : List X) → take (a + b) xs ≡ take a xs ++ take b (drop a xs)
-take_add zero b xs = let e : 0 + b ≡ b = omega arith in ap (λ n. take n xs) e
-take_add {X} (suc a) b [] = let nothing : List X = [] in let e : suc a + b ≡ suc (a + b) = omega arith in ap (λ n. take n nothing) e ∙ take_none b
-take_add (suc a) b (x ∷ xs) = let e : suc a + b ≡ suc (a + b) = omega arith in ap (λ n. take n (x ∷ xs)) e ∙ ap (λ l. x ∷ l) (take_add a b xs)
-
 one_more : (d n : ℕ) → d * n + n ≡ (d + 1) * n
 one_more d n = omega arith
 
@@ -62,7 +50,7 @@ one_more d n = omega arith
 with_next : (scan : Scan) (slots : List (Option Version)) → entries (visible scan.stamp (take (scan.done * scan.size) slots)) ++ next_block scan slots ≡ entries (visible scan.stamp (take ((scan.done + 1) * scan.size) slots))
 with_next scan slots =
     sym (entries_append scan.stamp (take (scan.done * scan.size) slots) (block_of scan.done scan.size slots))
-    ∙ ap (λ l. entries (visible scan.stamp l)) (sym (take_add (scan.done * scan.size) scan.size slots))
+    ∙ ap (λ l. entries (visible scan.stamp l)) (sym (take-add (scan.done * scan.size) scan.size slots))
     ∙ ap (λ n. entries (visible scan.stamp (take n slots))) (one_more scan.done scan.size)
 
 -- no id of the next block came before
@@ -167,7 +155,7 @@ first_blocks_taken zero size slots = take_zero slots ∙ ap (λ n. take n slots)
     take_zero [] = refl
     take_zero (x ∷ xs) = refl
 first_blocks_taken (suc n) size slots =
-    ap (λ l. l ++ block_of n size slots) (first_blocks_taken n size slots) ∙ sym (take_add (n * size) size slots) ∙ ap (λ k. take k slots) (let e : n * size + size ≡ suc n * size = omega arith in e)
+    ap (λ l. l ++ block_of n size slots) (first_blocks_taken n size slots) ∙ sym (take-add (n * size) size slots) ∙ ap (λ k. take k slots) (let e : n * size + size ≡ suc n * size = omega arith in e)
 
 pub blocks_are_the_slots : BlocksAreTheSlots
 blocks_are_the_slots limits slots allowed long =

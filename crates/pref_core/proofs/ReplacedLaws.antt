@@ -1,8 +1,8 @@
 -- Rows that a commit sets, each replaced where it stands.
 use Rattle.pref_core.proofs.Common.{◌≡◌, Bor, ℕ, suc, ◌+◌, ◌<◌, Bool, true, false, cond, eqb, List, [], ◌∷◌, map, length, drop, set, Option, Some, None, is_some, slice_get, get_or, refl, sym, ap, ap₂}
 use Rattle.pref_core.proofs.Common.{◌∙◌, subst, arith, ⊎_elim, map-set, set-set, le-leb, eqb-true, eq-eqb, and_parts, cases_eq, true≢false, Change, Add, Set, Remove, Op, SlotUse, Version, ended_by}
-use Rattle.pref_core.proofs.Common.{begun_by, is_row, row_at, IsTracked, KeepSlots, replaced, with_slots, change_of, close, close_at, filled, is_free, slots_after, Row, Contents, new_version, is_visible}
-use Rattle.pref_core.proofs.Common.{stamps, added, changes_of, ended, is_change, succeeds, among}
+use Rattle.pref_core.proofs.Common.{begun_by, is_row, row_at, IsTracked, KeepSlots, replaced, with_slots, change_of, close, close_at, filled, is_free, slots_after, Row, Contents, new_version}
+use Rattle.pref_core.proofs.Common.{is_visible, stamps, added, changes_of, ended, is_change, succeeds, among}
 use Rattle.pref_core.specs.declared.changes.LentChange.{LentChange}
 use Rattle.pref_core.specs.declared.changes.LentChange.TheVariants.{Add as LentAdd, Set as LentSet, Remove as LentRemove}
 use Rattle.pref_core.proofs.ChangesLaws.{AreApart, drop_at}

@@ -1,7 +1,7 @@
 -- The row of an id ends: one slot is written, and what is kept beside the slots goes along.
 use Rattle.pref_core.proofs.Common.{◌≡◌, ℕ, zero, suc, ◌^◌, Bool, true, false, ◌&&◌, ◌||◌, eqb, List, [], ◌∷◌, map, set, Option, Some, None, slice_get, refl, sym, ap, ap₂, ◌∙◌, subst, arith, ⊎_elim}
 use Rattle.pref_core.proofs.Common.{AllByRecursion, option_map, map-set, slice_get-map, le-leb, and_parts, eqb-true, eq-eqb, cases_eq, true≢false, Version, Caller, SlotUse, Live, Entry, among}
-use Rattle.pref_core.proofs.Common.{is_visible, new_version, IsWithin, EndsBy, close, close_at, use_of, is_row, row_at, IsPlaceOf, shown, ids_of, id_at, AreIds, AreLinks}
+use Rattle.pref_core.proofs.Common.{is_visible, new_version, IsWithin, EndsBy, close, close_at, use_of, is_row, row_at, IsPlaceOf, shown, ids_of, id_at, AreIds, AreLinks, false_from_ne_true}
 use Rattle.pref_core.proofs.SlotKeys.{eqb_comm}
 use Rattle.pref_core.proofs.StabilityLaws.{slice_get-set_same, slice_get-set_other}
 use Rattle.pref_core.proofs.SlotUseLaws.{holds_there, live_by, close_idle, has_row_at}
@@ -33,11 +33,8 @@ module _ (next made id : ℕ) (slots : List (Option Version)) (within : AllByRec
     where
       go : (o : Option (Option Version)) → slice_get slots k ≡ o → option_map (close (id ∷ []) made) o ≡ o
       go None at = refl
-      go (Some slot) at = ap Some (idle next made id slot (holds_there (IsWithin next made) slots k slot at within) (not_row (is_row made id slot) refl))
-        where
-          not_row : (b : Bool) → is_row made id slot ≡ b → is_row made id slot ≡ false
-          not_row false e = e
-          not_row true e = absurd (n (ap (λ o. elim o as (λ x. Bool) [ None ↦ false | Some s ↦ is_row made id s ]) at ∙ e))
+      go (Some slot) at = ap Some (idle next made id slot (holds_there (IsWithin next made) slots k slot at within)
+          (false_from_ne_true (is_row made id slot) (λ e. n (ap (λ o. elim o as (λ x. Bool) [ None ↦ false | Some s ↦ is_row made id s ]) at ∙ e))))
 
   -- Where the table has no row of the id no slot is written.
   pub none_closed : IsPlaceOf made id slots None → map (close (id ∷ []) made) slots ≡ slots

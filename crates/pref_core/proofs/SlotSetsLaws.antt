@@ -239,11 +239,10 @@ raise_counted (bound ∷ bounds) (suc zero) l h = refl
 raise_counted (bound ∷ bounds) (suc (suc k)) l h = refl
 
 -- How many zones are of a kind, after one place's zone is another.
-pub count_set : (p : SlotUse → Bool) (zones : List SlotUse) (place : ℕ) (old new : SlotUse) → slice_get zones place ≡ Some old
-    → count_by p (set zones place new) + cond (p old) 1 0 ≡ count_by p zones + cond (p new) 1 0
-count_set p zones place old new at =
-    subst (λ z. count_by p (set zones place new) + cond (p z) 1 0 ≡ count_by p zones + cond (p new) 1 0) (get_or_from_slice_get zones place old old at)
-    (sum_by-set (λ z. cond (p z) 1 0) zones place new old (slice_get_within zones place old at))
+pub count_set : {X : Type 0} (p : X → Bool) (xs : List X) (place : ℕ) (old new : X) → slice_get xs place ≡ Some old → count_by p (set xs place new) + cond (p old) 1 0 ≡ count_by p xs + cond (p new) 1 0
+count_set p xs place old new at =
+    subst (λ x. count_by p (set xs place new) + cond (p x) 1 0 ≡ count_by p xs + cond (p new) 1 0) (get_or_from_slice_get xs place old old at)
+    (sum_by-set (λ x. cond (p x) 1 0) xs place new old (slice_get_within xs place old at))
 
 -- One place of an arrangement changes its zone to the one beside it.
 module _ (order positions bounds : List ℕ) (place : ℕ) (a : IsArranged order positions bounds) where
@@ -367,9 +366,3 @@ module _ (order positions bounds : List ℕ) (place : ℕ) (a : IsArranged order
 pub arranged_same : (order order_too positions positions_too bounds bounds_too : List ℕ) → order ≡ order_too → positions ≡ positions_too → bounds ≡ bounds_too → IsArranged order_too positions_too bounds_too → IsArranged order positions bounds
 arranged_same order order_too positions positions_too bounds bounds_too p q r h =
     subst (λ l. IsArranged l positions bounds) (sym p) (subst (λ l. IsArranged order_too l bounds) (sym q) (subst (IsArranged order_too positions_too) (sym r) h))
-
--- A write of what is there.
-pub set_same : {X : Type 0} (xs : List X) (place : ℕ) (x : X) → slice_get xs place ≡ Some x → set xs place x ≡ xs
-set_same [] place x at = refl
-set_same {X} (y ∷ xs) zero x at = let same : y ≡ x = cc in ap (λ (z : X). z ∷ xs) (sym same)
-set_same {X} (y ∷ xs) (suc place) x at = ap (λ (l : List X). y ∷ l) (set_same xs place x at)

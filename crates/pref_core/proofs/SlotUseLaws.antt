@@ -1,7 +1,7 @@
 -- The zones of slots, and how many are free.
-use Rattle.pref_core.proofs.Common.{◌≡◌, ℕ, zero, suc, ◌+◌, ◌<◌, Bool, true, false, not, ◌&&◌, ◌||◌, cond, eqb, List, [], ◌∷◌, map, length, Option, Some, None, slice_get, is_some, refl, sym, ap}
-use Rattle.pref_core.proofs.Common.{◌∙◌, subst, arith, count_by, cons_option, AllByRecursion, option_to_list, sum_by-cons, le-leb, and_parts, or_right, Version, Caller, Ended, Line, among, has}
-use Rattle.pref_core.proofs.Common.{is_visible, seen, visible, line, is_needed, begins, IsWithin, EndsBy, close, close_at, is_free, is_free_use, free_at, kept_from, use_of, is_spare, row_at}
+use Rattle.pref_core.proofs.Common.{◌≡◌, ℕ, zero, suc, ◌+◌, ◌<◌, Bool, true, false, not, ◌&&◌, ◌||◌, cond, eqb, List, [], ◌∷◌, map, length, Option, Some, None, slice_get, is_some, refl, sym, ap, ◌∙◌}
+use Rattle.pref_core.proofs.Common.{subst, arith, count_by, cons_option, AllByRecursion, option_to_list, sum_by-cons, le-leb, and_parts, or_right, Version, Caller, Ended, Line, among, has, is_visible}
+use Rattle.pref_core.proofs.Common.{seen, visible, line, is_needed, begins, IsWithin, EndsBy, close, close_at, is_free, is_free_use, free_at, kept_from, use_of, is_spare, row_at}
 use Rattle.pref_core.proofs.NeededCounts.{is_needed-empty}
 
 pub count_by-cons : {X : Type 0} (p : X → Bool) (x : X) (xs : List X) → count_by p (x ∷ xs) ≡ cond (p x) 1 0 + count_by p xs

@@ -1,35 +1,19 @@
 -- Slots for all rows that a commit begins: there are some exactly where the needed versions fit, and they can be chosen one after the other, in any way.
 use Rattle.pref_core.proofs.Common.{◌≡◌, ℕ, zero, suc, ◌+◌, ◌<◌, ◌≤◌, Bool, true, false, not, ◌||◌, cond, eqb, List, [], ◌∷◌, ◌++◌, map, length, Option, Some, None, is_some, slice_get, slice_set}
-use Rattle.pref_core.proofs.Common.{refl, sym, ap, ◌∙◌, arith, ⊎_elim, count_by, list_any, sum_by-cons, count_by-le-length, or_parts, or_cases, eqb-true, eqb-false, Version, Entry, among}
-use Rattle.pref_core.proofs.Common.{is_needed, seen, new_version, is_free, filled}
+use Rattle.pref_core.proofs.Common.{refl, sym, ap, ◌∙◌, arith, ⊎_elim, count_by, list_any, count_by-le-length, or_parts, or_cases, eqb-true, eqb-false, Version, Entry, among, is_needed, seen}
+use Rattle.pref_core.proofs.Common.{new_version, is_free, filled, not-false}
+use Rattle.pref_core.proofs.SlotSetsLaws.{count_set}
+use Rattle.pref_core.proofs.SlotUseLaws.{count_by-cons, one_no}
 use Rattle.pref_core.proofs.VisibleLaws.{seen_born}
 use Rattle.pref_core.proofs.SlotReuse.{IsFree-from}
 use Rattle.pref_core.proofs.StabilityLaws.{slice_get-set_same, slice_get-set_other}
 use Rattle.pref_core.proofs.BoundsLaws.{length-filled}
 
-count_by-cons : {X : Type 0} (p : X → Bool) (x : X) (xs : List X) → count_by p (x ∷ xs) ≡ cond (p x) 1 0 + count_by p xs
-count_by-cons p x xs = sum_by-cons (λ y. cond (p y) 1 0) x xs
-
 one_of : (b : Bool) → b ≡ true → ◌≡◌ {A = ℕ} (cond b 1 0) 1
 one_of b e = ap (λ t. cond t 1 0) e
 
-none_of : (b : Bool) → b ≡ false → ◌≡◌ {A = ℕ} (cond b 1 0) 0
-none_of b e = ap (λ t. cond t 1 0) e
-
 count_by_set : {X : Type 0} (p : X → Bool) (xs : List X) (k : ℕ) (old new : X) → slice_get xs k ≡ Some old → p old ≡ false → p new ≡ true → count_by p (slice_set xs k new) ≡ suc (count_by p xs)
-count_by_set p [] k old new at off on = absurd (cc)
-count_by_set p (x ∷ xs) zero old new at off on =
-    let same : x ≡ old = cc in
-    let a = count_by-cons p new xs in
-    let b = count_by-cons p x xs in
-    let c = one_of (p new) on in
-    let d = none_of (p x) (ap p same ∙ off) in
-    omega arith
-count_by_set p (x ∷ xs) (suc k) old new at off on =
-    let a = count_by-cons p x (slice_set xs k new) in
-    let b = count_by-cons p x xs in
-    let rest = count_by_set p xs k old new at off on in
-    omega arith
+count_by_set p xs k old new at off on = omega (arith, count_set p xs k old new at, one_no (p old) off, one_of (p new) on)
 
 -- a new version is needed at its birth
 pub born_needed : (made : ℕ) (ns : List ℕ) (entry : Entry) → is_needed (made ∷ ns) (new_version made entry) ≡ true
@@ -143,12 +127,8 @@ all_needed ns [] h = refl
 all_needed ns (slot ∷ slots) h =
     let rest = all_needed ns slots (λ place. h (suc place)) in
     let a = count_by-cons (is_needed ns) slot slots in
-    let b = one_of (is_needed ns slot) (back (is_needed ns slot) (h zero)) in
+    let b = one_of (is_needed ns slot) (not-false (is_needed ns slot) (h zero)) in
     omega arith
-  where
-    back : (b : Bool) → not b ≡ false → b ≡ true
-    back true e = refl
-    back false e = absurd (cc)
 
 -- As long as rows are left that fit, some free place is not among those chosen so far: whoever looks at each place that was free finds one.
 pub some_left : (made : ℕ) (ns places : List ℕ) (begun : List Entry) (slots now : List (Option Version)) → filled (made ∷ ns) made places begun slots ≡ Some now

@@ -1,9 +1,9 @@
 -- What an open query was shown at its begin stays, though slots are used again.
-use Rattle.pref_core.proofs.Common.{◌≡◌, ℕ, zero, suc, ◌+◌, ◌*◌, ◌<◌, ◌≤◌, Bool, true, false, ◌&&◌, cond, nat_lt, ◌^◌, List, [], ◌∷◌, map, take, drop, Option, Some, None, is_some, slice_get}
-use Rattle.pref_core.proofs.Common.{slice_set, refl, sym, ap, ap₂, ◌∙◌, subst, arith, ⊎_elim, AllByRecursion, filter_map, cons_option, take-map, drop-map, cases_eq, eq-eqb, Version, Caller, Call}
-use Rattle.pref_core.proofs.Common.{Insert, Update, Delete, Commit, Begin, Finish, Abandon, QueryOpen, Spent, Op, Line, Entry, seat, with_seat, is_change, ended, begun, added, succeeds, refusal_of}
-use Rattle.pref_core.proofs.Common.{Contents, seen, visible, begins, stamps, caller_begun, caller_calls, block_of, new_version, close, is_free, filled, refusal_at, begin_after, callers_after, is_next}
-use Rattle.pref_core.proofs.Common.{slots_after, stepped, applied, ran, is_end, ends_query, IsStable}
+use Rattle.pref_core.proofs.Common.{map-set_same, get_or_from_slice_get, ◌≡◌, ℕ, zero, suc, ◌+◌, ◌*◌, ◌<◌, ◌≤◌, Bool, true, false, ◌&&◌, cond, nat_lt, ◌^◌, List, [], ◌∷◌, map, take, drop, Option}
+use Rattle.pref_core.proofs.Common.{Some, None, is_some, slice_get, slice_set, refl, sym, ap, ap₂, ◌∙◌, subst, arith, ⊎_elim, AllByRecursion, filter_map, cons_option, take-map, drop-map, cases_eq}
+use Rattle.pref_core.proofs.Common.{eq-eqb, Version, Caller, Call, Insert, Update, Delete, Commit, Begin, Finish, Abandon, QueryOpen, Spent, Op, Line, Entry, seat, with_seat, is_change, ended, begun}
+use Rattle.pref_core.proofs.Common.{added, succeeds, refusal_of, Contents, seen, visible, begins, stamps, caller_begun, caller_calls, block_of, new_version, close, is_free, filled, refusal_at}
+use Rattle.pref_core.proofs.Common.{begin_after, callers_after, is_next, slots_after, stepped, applied, ran, is_end, ends_query, IsStable}
 use Rattle.pref_core.proofs.VisibleLaws.{seen_close-before, seen_born-before}
 use Rattle.pref_core.proofs.StandsForLaws.{hidden_unneeded}
 use Rattle.pref_core.proofs.SlotReuse.{IsFree-from}
@@ -32,9 +32,7 @@ shown_close ids now stamp [] l = refl
 shown_close ids now stamp (slot ∷ slots) l = ap₂ ◌∷◌ (seen_close-before ids now stamp slot l) (shown_close ids now stamp slots l)
 
 shown_set : (stamp : ℕ) (slots : List (Option Version)) (place : ℕ) (old new : Option Version) → slice_get slots place ≡ Some old → seen stamp old ≡ seen stamp new → shown stamp (slice_set slots place new) ≡ shown stamp slots
-shown_set stamp [] place old new at same = refl
-shown_set stamp (slot ∷ slots) zero old new at same = let is : slot ≡ old = cc in ap (λ s. s ∷ shown stamp slots) (sym same ∙ ap (seen stamp) (sym is))
-shown_set stamp (slot ∷ slots) (suc place) old new at same = ap (λ l. seen stamp slot ∷ l) (shown_set stamp slots place old new at same)
+shown_set stamp slots place old new at same = map-set_same (seen stamp) slots place new old (sym same ∙ ap (seen stamp) (sym (get_or_from_slice_get slots place old old at)))
 
 -- the client's begin is one of the begins
 hidden_at : (callers : List Caller) (k : ℕ) (caller : Caller) (stamp : ℕ) (P : ℕ → Type 0) → slice_get callers k ≡ Some caller → caller.at_begin ≡ Some stamp → AllByRecursion P (begins callers) → P stamp

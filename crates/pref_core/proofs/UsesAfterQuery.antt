@@ -1,9 +1,9 @@
 -- What becomes of the zones where an open query begins or ends.
 use Rattle.pref_core.proofs.Common.{◌≡◌, ℕ, zero, suc, ◌+◌, ◌-◌, ◌^◌, ◌<◌, ◌≤◌, ◌⊎◌, inl, inr, Bool, true, false, cond, nat_lt, List, [], ◌∷◌, ◌++◌, map, length, set, replicate, Option, Some, None}
 use Rattle.pref_core.proofs.Common.{is_some, slice_get, refl, sym, ap, ap₂, ◌∙◌, subst, arith, AllByRecursion, AllZip, option_to_list, length-set, slice_get_within, le-leb, ne_eqb, Version, Caller}
-use Rattle.pref_core.proofs.Common.{SlotUse, Free, Ended, Live, Call, Insert, Update, Delete, Commit, Begin, Finish, Abandon, QueryOpen, Spent, Op, Row, refusal_of, after, Contents, is_needed, StandsFor}
-use Rattle.pref_core.proofs.Common.{IsWithin, EndsBy, opening_slots, begin_after, callers_after, refusal_at, is_next, slots_after, stepped, applied, is_end, kept_from, use_of, number_of, is_kept_by}
-use Rattle.pref_core.proofs.Common.{MayBecome, IsBounded, IsKept, uses_of}
+use Rattle.pref_core.proofs.Common.{SlotUse, Free, Ended, Live, Call, Insert, Update, Delete, Commit, Begin, Finish, Abandon, QueryOpen, Spent, Op, Row, refusal_of, after, Contents, is_needed}
+use Rattle.pref_core.proofs.Common.{StandsFor, IsWithin, EndsBy, opening_slots, begin_after, callers_after, refusal_at, is_next, slots_after, stepped, applied, is_end, kept_from, use_of, number_of}
+use Rattle.pref_core.proofs.Common.{is_kept_by, MayBecome, IsBounded, IsKept, uses_of}
 use Rattle.pref_core.proofs.AppliedLaws.{stepped_stands}
 use Rattle.pref_core.proofs.BoundsLaws.{IsBounded-stepped}
 

@@ -1,10 +1,10 @@
-use Rattle.pref_core.proofs.Common.{◌≡◌, ◌+◌, ◌≤◌, ◌||◌, ◌∷◌, ℕ, suc, List, Option, Some, None, drop, refl, sym, ap, ap₂, ◌∙◌, subst, arith, eq-eqb, ltb-false, ltb-true, Add, Set, Change, added_by, ended, ended_by, slot_of, given, placed_rows}
-use Rattle.pref_core.proofs.Common.{among, change_of, changes_of, op_of}
+use Rattle.pref_core.proofs.Common.{◌≡◌, ◌+◌, ◌≤◌, ◌∷◌, ℕ, suc, List, Option, Some, None, drop, sym, ap, ap₂, ◌∙◌, subst, arith, ltb-false, ltb-true, Add, Set, Change, added_by, ended, slot_of, given}
+use Rattle.pref_core.proofs.Common.{placed_rows, change_of, changes_of, op_of, drop_all}
 use Rattle.indexmap.specs.IndexMap.{spare}
 use Rattle.pref_core.proofs.BoundsLaws.{next_id-small}
-use Rattle.pref_core.proofs.ChangesLaws.{drop_at, drop_all}
+use Rattle.pref_core.proofs.ChangesLaws.{among_first, drop_at}
 use Rattle.pref_core.proofs.ChangeCounts.{drop_item}
-use Rattle.pref_core.proofs.IndexLaws.{AreThere, PlacesRest, adds_one, moves_one, ended_there}
+use Rattle.pref_core.proofs.IndexLaws.{AreThere, PlacesRest, adds_one, moves_one, ended_there, rest_there}
 use Rattle.pref_core.proofs.index.place_rows.Goals.{in-Add-Some, in-Set-Some, in-Remove-default}
 use Rattle.pref_core.proofs.index.place_rows.Goals as goal
 
@@ -39,30 +39,24 @@ overflow_add-next_id c =
 
 pub move_slot-requires-clause-there : goal.move_slot-requires-clause-there
 move_slot-requires-clause-there c =
-    let changes = changes_of c.args.op.now.call.now in
-    let rest = drop (c.loop-at.at + 1) changes in
-    let here = drop_at changes c.loop-at.at (Set c.in-Set-Some.id c.in-Set-Some.field-1-0.now) c.in-Set-Some.ensures in
-    let olds = subst (λ l. AreThere c.args.contents.now c.loop-at.next_id (ended_by l) c.loop-at.map.entries) here c.loop-at.invariant.rest.olds in
-    olds.there c.in-Set-Some.id (ap (λ b. b || among (ended_by rest) c.in-Set-Some.id) (eq-eqb c.in-Set-Some.id c.in-Set-Some.id refl))
+    (rest_there c.args.contents.now c.loop-at.next_id c.loop-at.map.entries (changes_of c.args.op.now.call.now) c.loop-at.at c.in-Set-Some.id c.in-Set-Some.field-1-0.now c.in-Set-Some.ensures c.loop-at.invariant.rest.olds).there
+    c.in-Set-Some.id (among_first c.in-Set-Some.id _)
 
 pub move_slot-requires-clause-index : goal.move_slot-requires-clause-index
 move_slot-requires-clause-index c =
-    let changes = changes_of c.args.op.now.call.now in
-    let rest = drop (c.loop-at.at + 1) changes in
-    let here = drop_at changes c.loop-at.at (Set c.in-Set-Some.id c.in-Set-Some.field-1-0.now) c.in-Set-Some.ensures in
-    let olds = subst (λ l. AreThere c.args.contents.now c.loop-at.next_id (ended_by l) c.loop-at.map.entries) here c.loop-at.invariant.rest.olds in
-    olds.placed c.in-Set-Some.id (ap (λ b. b || among (ended_by rest) c.in-Set-Some.id) (eq-eqb c.in-Set-Some.id c.in-Set-Some.id refl))
+    (rest_there c.args.contents.now c.loop-at.next_id c.loop-at.map.entries (changes_of c.args.op.now.call.now) c.loop-at.at c.in-Set-Some.id c.in-Set-Some.field-1-0.now c.in-Set-Some.ensures c.loop-at.invariant.rest.olds).placed
+    c.in-Set-Some.id (among_first c.in-Set-Some.id _)
 
 pub returns-in_default : goal.returns-in_default
 returns-in_default c id =
     let here = drop_at (changes_of c.args.op.now.call.now) c.loop-at.at (Add c.in_default.field-0-0.now) c.in_default.ensures in
-    let none = drop_all c.as_slice-slots.result.now c.loop-at.used (ltb-false _ _ (sym c.in_default.ensures'.lookup.0)) in
+    let none = drop_all c.loop-at.used c.as_slice-slots.result.now (ltb-false _ _ (sym c.in_default.ensures'.lookup.0)) in
     sym (ap₂ (λ l s. given (placed_rows c.loop-at.next_id l s) id (slot_of c.loop-at.map.entries id)) here none) ∙ c.loop-at.invariant.rest.gives id
 
 pub returns-in_default-2 : goal.returns-in_default-2
 returns-in_default-2 c id =
     let here = drop_at (changes_of c.args.op.now.call.now) c.loop-at.at (Set c.in_default.field-0-0 c.in_default.field-1-0.now) c.in_default.ensures in
-    let none = drop_all c.as_slice-slots.result.now c.loop-at.used (ltb-false _ _ (sym c.in_default.ensures'.lookup.0)) in
+    let none = drop_all c.loop-at.used c.as_slice-slots.result.now (ltb-false _ _ (sym c.in_default.ensures'.lookup.0)) in
     sym (ap₂ (λ l s. given (placed_rows c.loop-at.next_id l s) id (slot_of c.loop-at.map.entries id)) here none) ∙ c.loop-at.invariant.rest.gives id
 
 pub loop-at-preserved : goal.loop-at-preserved
@@ -73,7 +67,6 @@ loop-at-preserved c =
     let next = c.loop-at.next_id in
     let used = c.loop-at.used in
     let map = c.loop-at.map in
-    let later = c.match-change.map in
     let rest : List Change = drop (c.loop-at.at + 1) changes in
     let all : ℕ → Option ℕ = λ id. given (placed_rows now.next_id changes c.args.op.now.slots) id (slot_of c.args.map.now.entries id) in
     let here = drop_at changes c.loop-at.at (change_of c.change.result) c.change.ensures in
@@ -82,55 +75,37 @@ loop-at-preserved c =
     let few = before.few in
     elim c.match-change.branch [
       | in-Add-Some w ↦
-          let more = w.used-is in
-          let one = w.next_id-is in
           let is = here ∙ ap (λ x. change_of x ∷ rest) w.in-Add-Some.is-0 in
           let slot = w.in-Add-Some.slot.now in
           let item = drop_item slots used slot slot w.in-Add-Some.ensures'.lookup.1 (ltb-true _ _ (sym w.in-Add-Some.ensures'.lookup.0)) in
           let h = subst (λ l. PlacesRest now next l (slot ∷ drop (used + 1) slots) map.entries all) is (subst (λ l. PlacesRest now next (drop c.loop-at.at changes) l map.entries all) item before.rest) in
           let room : suc (added_by rest) ≤ spare map = subst (λ l. added_by l ≤ spare map) is before.room in
-          let kept = w.put_slot.ensures.room in
           record {
-            rest = subst (λ n. PlacesRest now c.match-change.next_id rest (drop n slots) later.entries all) (sym more)
-                (subst (λ n. PlacesRest now n rest (drop (used + 1) slots) later.entries all) (sym one)
-                (subst (λ m. PlacesRest now (next + 1) rest (drop (used + 1) slots) m.entries all) (sym w.map-is)
-                (adds_one now next slot w.in-Add-Some.field-0-0.now rest (drop (used + 1) slots) map.entries w.put_slot.new.map.entries all h w.put_slot.ensures.put)));
-            room = subst (λ m. added_by rest ≤ spare m) (sym w.map-is) (omega arith);
-            used = omega arith;
-            few = omega arith;
+            rest = rw (w.used-is, w.next_id-is, w.map-is) (adds_one now next slot w.in-Add-Some.field-0-0.now rest (drop (used + 1) slots) map.entries w.put_slot.new.map.entries all h w.put_slot.ensures.put);
+            room = rw (w.map-is) (omega (arith, room, w.put_slot.ensures.room));
+            used = omega (arith, w.used-is);
+            few = omega (arith, w.next_id-is);
           }
       | in-Set-Some w ↦
-          let more = w.used-is in
-          let same = w.next_id-is in
           let is = here ∙ ap (λ x. change_of x ∷ rest) w.in-Set-Some.is-0 in
           let slot = w.in-Set-Some.slot.now in
           let item = drop_item slots used slot slot w.in-Set-Some.ensures'.lookup.1 (ltb-true _ _ (sym w.in-Set-Some.ensures'.lookup.0)) in
           let h = subst (λ l. PlacesRest now next l (slot ∷ drop (used + 1) slots) map.entries all) is (subst (λ l. PlacesRest now next (drop c.loop-at.at changes) l map.entries all) item before.rest) in
           let room : added_by rest ≤ spare map = subst (λ l. added_by l ≤ spare map) is before.room in
-          let kept = w.move_slot.ensures.room in
           record {
-            rest = subst (λ n. PlacesRest now c.match-change.next_id rest (drop n slots) later.entries all) (sym more)
-                (subst (λ n. PlacesRest now n rest (drop (used + 1) slots) later.entries all) (sym same)
-                (subst (λ m. PlacesRest now next rest (drop (used + 1) slots) m.entries all) (sym w.map-is)
-                (moves_one now next w.in-Set-Some.id (Some slot) rest (drop (used + 1) slots) map.entries w.move_slot.new.map.entries all h.gives h.olds w.move_slot.ensures.moved)));
-            room = subst (λ m. added_by rest ≤ spare m) (sym w.map-is) (omega arith);
-            used = omega arith;
-            few = omega arith;
+            rest = rw (w.used-is, w.next_id-is, w.map-is) (moves_one now next w.in-Set-Some.id (Some slot) rest (drop (used + 1) slots) map.entries w.move_slot.new.map.entries all h.gives h.olds w.move_slot.ensures.moved);
+            room = rw (w.map-is) (omega (arith, room, w.move_slot.ensures.room));
+            used = omega (arith, w.used-is);
+            few = omega (arith, w.next_id-is);
           }
       | in-Remove-default w ↦
-          let more = w.used-is in
-          let same = w.next_id-is in
           let is = here ∙ ap (λ x. change_of x ∷ rest) w.in-Remove-default.is-0 in
           let h = subst (λ l. PlacesRest now next l (drop used slots) map.entries all) is before.rest in
           let room : added_by rest ≤ spare map = subst (λ l. added_by l ≤ spare map) is before.room in
-          let kept = w.take_slot.ensures.room in
           record {
-            rest = subst (λ n. PlacesRest now c.match-change.next_id rest (drop n slots) later.entries all) (sym more)
-                (subst (λ n. PlacesRest now n rest (drop used slots) later.entries all) (sym same)
-                (subst (λ m. PlacesRest now next rest (drop used slots) m.entries all) (sym w.map-is)
-                (moves_one now next w.in-Remove-default.id None rest (drop used slots) map.entries w.take_slot.new.map.entries all h.gives h.olds w.take_slot.ensures.taken)));
-            room = subst (λ m. added_by rest ≤ spare m) (sym w.map-is) (omega arith);
-            used = omega arith;
-            few = omega arith;
+            rest = rw (w.used-is, w.next_id-is, w.map-is) (moves_one now next w.in-Remove-default.id None rest (drop used slots) map.entries w.take_slot.new.map.entries all h.gives h.olds w.take_slot.ensures.taken);
+            room = rw (w.map-is) (omega (arith, room, w.take_slot.ensures.room));
+            used = omega (arith, w.used-is);
+            few = omega (arith, w.next_id-is);
           }
     ]

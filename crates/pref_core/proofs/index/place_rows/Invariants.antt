@@ -1,7 +1,7 @@
 use Rattle.pref_core.proofs.Common.{◌+◌, ◌≤◌, drop, slot_of, given, placed_rows, added_by, changes_of}
 use Rattle.pref_core.proofs.IndexLaws.{PlacesRest}
-use Rattle.pref_core.proofs.index.place_rows.Given as goal
 use Rattle.indexmap.specs.IndexMap.{spare}
+use Rattle.pref_core.proofs.index.place_rows.Given as goal
 
 abbrev pub invariant-loop-at : goal.invariant-loop-at
 invariant-loop-at l = record {

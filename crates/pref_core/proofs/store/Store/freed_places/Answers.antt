@@ -1,7 +1,7 @@
-use Rattle.pref_core.proofs.Common.{◌≡◌, ◌+◌, ◌++◌, suc, [], ◌∷◌, true, false, take, drop, sym, ap, ◌∙◌, subst, arith, option_to_list, append-nil, ended_by, IsPlaceOf, IsFreed, frees_at, Contents}
-use Rattle.pref_core.proofs.Common.{begins, visible, changes_of, ended, missing, change_of}
+use Rattle.pref_core.proofs.Common.{take_all, ◌≡◌, ◌+◌, ◌++◌, suc, [], ◌∷◌, true, false, take, drop, sym, ap, ◌∙◌, subst, arith, option_to_list, append-nil, ended_by, IsPlaceOf, IsFreed, frees_at}
+use Rattle.pref_core.proofs.Common.{Contents, begins, visible, changes_of, ended, missing, change_of}
 use Rattle.pref_core.proofs.BoundsLaws.{stamp-small}
-use Rattle.pref_core.proofs.ChangesLaws.{ended_so_far, formed_apart, take_all}
+use Rattle.pref_core.proofs.ChangesLaws.{ended_so_far, formed_apart}
 use Rattle.pref_core.proofs.ChangeCounts.{ended_first, ended_next, named_at}
 use Rattle.pref_core.proofs.FreedLaws.{FreesUpTo, frees_one, frees_few, frees_missing, freed_all}
 use Rattle.pref_core.proofs.store.Store.freed_places.Goals.{in-Some+in-Some-place_of+then-frees, in-Some+in-Some-place_of+else-frees, in_default}
@@ -37,7 +37,7 @@ returns-clause-found c =
     let call = c.args.call.now in
     subst (λ s. IsFreed s (ended call) c.loop-at.freed) c.self.view_is
     (freed_all now c.self.invariant.state c.self.invariant.bounded c.self.invariant.stands (ended call) c.loop-at.freed (formed_apart call c.count-at-end.ensures.formed)
-    (subst (λ l. FreesUpTo now (ended call) (ended_by l) c.loop-at.freed) (take_all (changes_of call) c.loop-at.at (omega arith)) c.loop-at.invariant))
+    (subst (λ l. FreesUpTo now (ended call) (ended_by l) c.loop-at.freed) (take_all c.loop-at.at (changes_of call) (omega arith)) c.loop-at.invariant))
 
 pub returns-in_default-place_of-clause-found : goal.returns-in_default-place_of-clause-found
 returns-in_default-place_of-clause-found c =

@@ -1,6 +1,6 @@
-use Rattle.pref_core.proofs.Common.{◌+◌, ◌++◌, [], ◌∷◌, drop, sym, ap, ◌∙◌, subst, arith, Inside, IsBounded, begun_by, added_by, is_open, uses_of, Contents, changes_of, change_of}
+use Rattle.pref_core.proofs.Common.{◌+◌, ◌++◌, [], ◌∷◌, drop, sym, ap, ◌∙◌, subst, arith, Inside, IsBounded, begun_by, added_by, is_open, uses_of, Contents, changes_of, change_of, drop_all}
 use Rattle.pref_core.proofs.BoundsLaws.{next_id-small}
-use Rattle.pref_core.proofs.ChangesLaws.{begun_at, added_one, drop_all}
+use Rattle.pref_core.proofs.ChangesLaws.{begun_at, added_one}
 use Rattle.pref_core.proofs.ChosenSlots.{ChosenUpTo, none_chosen, chosen_few, choose_one, one_left, all_chosen}
 use Rattle.pref_core.proofs.store.Store.places_for.Goals.{in-Some+in-Some-choose, in_default}
 use Rattle.pref_core.proofs.store.Store.places_for.Goals as goal
@@ -55,4 +55,4 @@ loop-at-preserved c =
 pub returns : goal.returns
 returns c =
     all_chosen c.args.self.now c.args.call.now c.loop-at.chosen c.requires.change c.requires.succeeds
-    (subst (λ l. ChosenUpTo c.args.self.now c.args.call.now (begun_by c.loop-at.next_id l) c.loop-at.chosen) (drop_all (changes_of c.args.call.now) c.loop-at.at (omega arith)) c.loop-at.invariant.chosen)
+    (subst (λ l. ChosenUpTo c.args.self.now c.args.call.now (begun_by c.loop-at.next_id l) c.loop-at.chosen) (drop_all c.loop-at.at (changes_of c.args.call.now) (omega arith)) c.loop-at.invariant.chosen)

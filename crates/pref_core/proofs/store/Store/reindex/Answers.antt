@@ -1,11 +1,6 @@
-use Rattle.pref_core.proofs.Common.{◌≡◌, ◌&&◌, Bool, true, false, Result, Ok, Err, OnOk, refl, sym, ◌∙◌, subst, Contents, IsKept, PointsAll, placed_rows, op_of, changes_of, is_change, succeeds, is_next}
+use Rattle.pref_core.proofs.Common.{and_right, ◌≡◌, true, Result, Ok, Err, OnOk, sym, ◌∙◌, subst, Contents, IsKept, PointsAll, placed_rows, op_of, changes_of, is_change, succeeds, is_next}
 use Rattle.pref_core.proofs.IndexLaws.{indexed, indexed_still}
 use Rattle.pref_core.proofs.store.Store.reindex.Goals as goal
-
--- an op that does not succeed makes no change
-quiet : (change success : Bool) → success ≡ false → (change && success) ≡ false
-quiet true success e = e
-quiet false success e = refl
 
 -- what an `Ok` is known of gives what is wanted of it
 on_ok : {T E P Q : Type 0} (result : Result T E) → (P → Q) → OnOk result P → OnOk result Q
@@ -26,4 +21,4 @@ returns-then-succeeds-clause-after c =
 pub returns-else-succeeds-clause-after : goal.returns-else-succeeds-clause-after
 returns-else-succeeds-clause-after c =
     let op = op_of c.args.op.now in
-    indexed_still c.args.self.now op c.args.index.now c.requires.plan.next c.requires.plan.fits (quiet (is_change op.call) (succeeds op.outcome) (sym c.succeeds.ensures ∙ c.if-succeeds.false)) c.requires.index
+    indexed_still c.args.self.now op c.args.index.now c.requires.plan.next c.requires.plan.fits (and_right (is_change op.call) (succeeds op.outcome) (sym c.succeeds.ensures ∙ c.if-succeeds.false)) c.requires.index

@@ -1,5 +1,6 @@
 use Rattle.pref_core.proofs.Common.{◌+◌, ◌++◌, [], ◌∷◌, List, Option, drop, sym, ap, ◌∙◌, subst, arith, Version, Entry, begun_by, added_by, filled, begins, stamps, changes_of, begun, change_of}
-use Rattle.pref_core.proofs.ChangesLaws.{added_one, begun_at, drop_all}
+use Rattle.pref_core.proofs.Common.{drop_all}
+use Rattle.pref_core.proofs.ChangesLaws.{added_one, begun_at}
 use Rattle.pref_core.proofs.FilledLaws.{BegunUpTo, FillsRest, BeginsNext, begins_next, begun_one, fills_end}
 use Rattle.pref_core.proofs.store.contents.Contents.begin_rows.Goals.{In-Some, in-Some, in_default}
 use Rattle.pref_core.proofs.store.contents.Contents.begin_rows.Goals as goal
@@ -68,4 +69,4 @@ returns-clause-slots c =
     let left = drop c.loop-at.used c.as_slice-slots.result.now in
     let all = filled (stamps now) now.stamp c.args.op.now.slots (begun c.args.first c.args.op.now.call.now) now.slots in
     fills_end now.next_id now.stamp (begins now.callers) left c.loop-at.self.slots all
-    (subst (λ l. FillsRest now.next_id now.stamp (begins now.callers) left (begun_by c.loop-at.next_id l) c.loop-at.self.slots all) (drop_all (changes_of c.args.op.now.call.now) c.loop-at.at (omega arith)) c.loop-at.invariant.begun.fills)
+    (subst (λ l. FillsRest now.next_id now.stamp (begins now.callers) left (begun_by c.loop-at.next_id l) c.loop-at.self.slots all) (drop_all c.loop-at.at (changes_of c.args.op.now.call.now) (omega arith)) c.loop-at.invariant.begun.fills)

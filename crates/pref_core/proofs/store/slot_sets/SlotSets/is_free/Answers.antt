@@ -1,5 +1,5 @@
-use Rattle.pref_core.proofs.Common.{◌≡◌, ◌<◌, ℕ, Bool, false, nat_lt, length, List, Option, Some, None, get_or, slice_get, refl, sym, ap, ◌∙◌, arith, ltb-true, ltb-false, slice_get-get_or}
-use Rattle.pref_core.proofs.Common.{slice_get_within, free_at}
+use Rattle.pref_core.proofs.Common.{◌≡◌, ◌<◌, ℕ, Bool, false, nat_lt, length, Option, Some, None, get_or, slice_get, sym, ap, ◌∙◌, arith, ltb-true, ltb-false, slice_get-get_or, free_at}
+use Rattle.pref_core.proofs.Common.{slice_get_past}
 use Rattle.pref_core.proofs.FreeSlots.{free_there}
 use Rattle.pref_core.proofs.store.slot_sets.SlotSets.is_free.Goals as goal
 
@@ -14,18 +14,11 @@ returns-in-Some c =
     sym (ap (λ z. free_at z c.args.place) (sym c.self.view_is) ∙ free_there now.positions.items now.bounds c.args.place some
     ∙ ap (λ (o : Option ℕ). elim o as (λ x. Bool) [ None ↦ false | Some at ↦ nat_lt at (get_or now.bounds 0 0) ]) at)
 
-past : (xs : List ℕ) (p : ℕ) → nat_lt p (length xs) ≡ false → slice_get xs p ≡ None
-past xs p e = go (slice_get xs p) refl
-  where
-    go : (o : Option ℕ) → slice_get xs p ≡ o → slice_get xs p ≡ None
-    go None f = f
-    go (Some x) f = let inside = slice_get_within xs p x f in let over = ltb-false _ _ e in absurd (omega arith)
-
 pub returns-in-None : goal.returns-in-None
 returns-in-None c =
     let now = c.self.inside in
     let size = c.self.invariant.bounded in
     let some : 0 < length now.bounds = omega arith in
-    let at : slice_get now.positions.items c.args.place ≡ None = ap (λ l. slice_get l c.args.place) (sym c.deref.ensures.value) ∙ past c.deref.result.now c.args.place (sym c.in-None.ensures.lookup.0) in
+    let at : slice_get now.positions.items c.args.place ≡ None = ap (λ l. slice_get l c.args.place) (sym c.deref.ensures.value) ∙ slice_get_past c.deref.result.now c.args.place (ltb-false _ _ (sym c.in-None.ensures.lookup.0)) in
     sym (ap (λ z. free_at z c.args.place) (sym c.self.view_is) ∙ free_there now.positions.items now.bounds c.args.place some
     ∙ ap (λ (o : Option ℕ). elim o as (λ x. Bool) [ None ↦ false | Some at ↦ nat_lt at (get_or now.bounds 0 0) ]) at)

@@ -1,5 +1,5 @@
 use Rattle.pref_core.proofs.Common.{◌≡◌, ◌+◌, suc, set, slice_get, sym, ap, ◌∙◌, arith, set-set, numbered}
-use Rattle.pref_core.proofs.SlotSetsLaws.{set_same}
+use Rattle.pref_core.proofs.SeatLaws.{set_same}
 use Rattle.pref_core.proofs.StabilityLaws.{slice_get-set_same}
 use Rattle.pref_core.proofs.store.slot_sets.SlotSets.raise_to.Goals as goal
 
