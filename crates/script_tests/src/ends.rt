@@ -129,13 +129,14 @@ fn a_writer_that_fails_holds_a_beginning(rt: HostRuntime) -> Result<(), Fail> {
 #[test]
 fn a_line_of_a_fault_that_cannot_be_written_is_a_write_fault(rt: HostRuntime) -> Result<(), Fail> {
     let alloc = rt.alloc();
+    let setup = defaults()?;
     let writer = Narrow {
         taken: Vec::new(alloc),
         step: 8192,
         room: 6,
         full: Full::TakesNone,
     };
-    let run = run_through(alloc, in_steps(b"tables", 8192), writer, defaults()?);
+    let run = run_through(alloc, in_steps(b"tables", 8192), writer, setup);
     let wanted = (Err(RunFault::Write), b"script".as_slice(), false, true);
     assert_same(&rt, "tables", &run.seen(), &wanted);
     Ok(())
@@ -144,9 +145,10 @@ fn a_line_of_a_fault_that_cannot_be_written_is_a_write_fault(rt: HostRuntime) ->
 #[test]
 fn a_reader_without_an_end_is_too_large(rt: HostRuntime) -> Result<(), Fail> {
     let alloc = rt.alloc();
+    let setup = defaults()?;
     let mut reader = Watched::new(Endless { given: 0 });
     let mut writer = Watched::new(Vec::new(alloc));
-    let result = run_script(alloc, &mut reader, &mut writer, defaults()?);
+    let result = run_script(alloc, &mut reader, &mut writer, setup);
     let failed = reader.failed();
     let moved = (reader.into_inner().given, writer.into_inner().len());
     let wanted = (Err(RunFault::TooLarge), false, (16_777_217, 0));

@@ -1,7 +1,9 @@
 //! Runs that reply to each line as it comes. What a terminal and pipes show is in tests/live.py, at the top of the repository.
-use crate::runs::{Full, Narrow, Seen, Trickle, defaults, ended, in_steps, roomy};
+use crate::runs::{Full, Narrow, Seen, Trickle, defaults, in_steps, live_through, roomy};
 use crate::same::assert_same;
+use pref_core::Setup;
 use pref_script::{RunFault, Watched, run_live};
+use std::alloc::Global;
 use std::io;
 use std::io::{ErrorKind, Write};
 use std::test::Fail;
@@ -35,55 +37,54 @@ impl Write for Holding {
     }
 }
 
+/// How a run ends.
+type RunResult = Result<(), RunFault>;
+
+/// How a run of a text ends, and what its writer has handed on.
+fn handed_on(alloc: Global, setup: Setup, text: &[u8], step: usize) -> (RunResult, Vec<u8>) {
+    let mut reader = Watched::new(in_steps(text, step));
+    let mut writer = Watched::new(Holding {
+        held: Vec::new(alloc),
+        handed_on: Vec::new(alloc),
+    });
+    let end = run_live(alloc, &mut reader, &mut writer, setup);
+    (end, writer.into_inner().handed_on)
+}
+
 #[test]
 fn each_line_is_flushed_before_the_next_is_told(rt: HostRuntime) -> Result<(), Fail> {
-    let alloc = rt.alloc();
+    let setup = defaults()?;
     for step in [1, 7, 8192] {
-        let mut reader = Watched::new(in_steps(SCRIPT, step));
-        let mut writer = Watched::new(Holding {
-            held: Vec::new(alloc),
-            handed_on: Vec::new(alloc),
-        });
-        let end = run_live(alloc, &mut reader, &mut writer, defaults()?);
-        assert_same(&rt, step, &end, &Ok(()));
-        assert_same(&rt, step, &writer.into_inner().handed_on.as_slice(), &TOLD);
+        let (end, lines) = handed_on(rt.alloc(), setup, SCRIPT, step);
+        assert_same(&rt, step, &(end, lines.as_slice()), &(Ok(()), TOLD));
     }
     Ok(())
 }
 
 #[test]
 fn a_refused_table_is_told_and_flushed(rt: HostRuntime) -> Result<(), Fail> {
-    let alloc = rt.alloc();
-    let mut reader = Watched::new(in_steps(b"table\n1x\nend\nas 1 room\n", 8192));
-    let mut writer = Watched::new(Holding {
-        held: Vec::new(alloc),
-        handed_on: Vec::new(alloc),
-    });
-    let end = run_live(alloc, &mut reader, &mut writer, defaults()?);
-    assert_same(&rt, "a name", &end.map_err(|fault| fault.status()), &Err(2));
-    let line = b"table refused 3: bad name col 1\n".as_slice();
-    assert_same(
-        &rt,
-        "a name",
-        &writer.into_inner().handed_on.as_slice(),
-        &line,
-    );
+    let setup = defaults()?;
+    let script = b"table\n1x\nend\nas 1 room\n".as_slice();
+    let (end, lines) = handed_on(rt.alloc(), setup, script, 8192);
+    let found = (end.map_err(|fault| fault.status()), lines.as_slice());
+    let wanted = (Err(2), b"table refused 3: bad name col 1\n".as_slice());
+    assert_same(&rt, "a name", &found, &wanted);
     Ok(())
 }
 
 #[test]
 fn a_reader_that_fails_leaves_the_lines_before(rt: HostRuntime) -> Result<(), Fail> {
+    let alloc = rt.alloc();
+    let setup = defaults()?;
     let cases: [(usize, usize); 6] = [(0, 0), (15, 0), (27, 0), (28, 13), (40, 41), (46, 65)];
     for (fails_after, returned) in cases {
-        let mut reader = Watched::new(Trickle {
+        let reader = Trickle {
             text: SCRIPT,
             step: 3,
             fails_after,
             given: 0,
-        });
-        let mut writer = Watched::new(roomy(rt.alloc(), 8192));
-        let end = run_live(rt.alloc(), &mut reader, &mut writer, defaults()?);
-        let run = ended(end, reader, writer);
+        };
+        let run = live_through(alloc, reader, roomy(alloc, 8192), setup);
         let wanted: Seen<'_> = (Err(RunFault::Read), &TOLD[..returned], true, false);
         assert_same(&rt, fails_after, &run.seen(), &wanted);
     }
@@ -92,38 +93,50 @@ fn a_reader_that_fails_leaves_the_lines_before(rt: HostRuntime) -> Result<(), Fa
 
 #[test]
 fn a_writer_that_fails_has_a_beginning(rt: HostRuntime) -> Result<(), Fail> {
+    let alloc = rt.alloc();
+    let setup = defaults()?;
     for full in [Full::Fails, Full::TakesNone] {
-        let mut reader = Watched::new(in_steps(SCRIPT, 8192));
-        let mut writer = Watched::new(Narrow {
-            taken: Vec::new(rt.alloc()),
+        let writer = Narrow {
+            taken: Vec::new(alloc),
             step: 5,
             room: 20,
             full,
-        });
-        let end = run_live(rt.alloc(), &mut reader, &mut writer, defaults()?);
-        let run = ended(end, reader, writer);
+        };
+        let run = live_through(alloc, in_steps(SCRIPT, 8192), writer, setup);
         let wanted: Seen<'_> = (Err(RunFault::Write), &TOLD[..20], false, true);
         assert_same(&rt, full, &run.seen(), &wanted);
     }
     Ok(())
 }
 
-#[test]
-fn no_line_is_read_far_ahead_of_the_replies(rt: HostRuntime) -> Result<(), Fail> {
-    let mut script = Vec::new(rt.alloc());
+/// A script of 2,000 lines behind its table.
+fn many_lines(alloc: Global) -> Result<Vec<u8>, Fail> {
+    let mut script = Vec::new(alloc);
     script.extend_from_slice(b"table\nx\nend\n")?;
     for _line in 0..2000 {
         script.extend_from_slice(b"as 1 room\n")?;
     }
-    let mut reader = Watched::new(in_steps(script.as_slice(), 65_536));
+    Ok(script)
+}
+
+/// How a run of a text ends whose writer takes nothing, and how many bytes it has read.
+fn read_before_a_failure(alloc: Global, setup: Setup, text: &[u8]) -> (RunResult, usize) {
+    let mut reader = Watched::new(in_steps(text, 65_536));
     let mut writer = Watched::new(Narrow {
-        taken: Vec::new(rt.alloc()),
+        taken: Vec::new(alloc),
         step: 8192,
         room: 0,
         full: Full::Fails,
     });
-    let end = run_live(rt.alloc(), &mut reader, &mut writer, defaults()?);
-    let found = (end, reader.into_inner().given);
-    assert_same(&rt, script.len(), &found, &(Err(RunFault::Write), 8192));
+    let end = run_live(alloc, &mut reader, &mut writer, setup);
+    (end, reader.into_inner().given)
+}
+
+#[test]
+fn no_line_is_read_far_ahead_of_the_replies(rt: HostRuntime) -> Result<(), Fail> {
+    let setup = defaults()?;
+    let script = many_lines(rt.alloc())?;
+    let found = read_before_a_failure(rt.alloc(), setup, &script);
+    assert_same(&rt, "2000 lines", &found, &(Err(RunFault::Write), 8192));
     Ok(())
 }

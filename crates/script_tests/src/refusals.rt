@@ -1,10 +1,11 @@
 //! Requests for memory that are refused. `tests/refuse_each_allocation.sh` runs these tests once for each of their requests,
 //! and refuses it; where none is refused they show that the run succeeds.
-use crate::runs::{Full, Narrow, Run, ended, in_steps, run_through, setup_of};
+use crate::runs::{Full, Narrow, Run, in_steps, live_through, run_through, setup_of};
 use crate::same::assert_same;
 use pref_core::Setup;
-use pref_script::{OpenGate, RunFault, Watched, run_live, run_threads};
+use pref_script::{OpenGate, RunFault, run_threads};
 use std::alloc::Global;
+use std::process::Abort;
 use std::test::Fail;
 
 /// A row is deleted and its slot is wanted while a query needs it.
@@ -14,15 +15,31 @@ const SCRIPT: &[u8] =
 const TOLD: &[u8] =
     b"1 begun 2\n1 left 1\n2 committed 2 first 4\n2 room 0\n1 left 0\n1 answer 1\nlevel 1 id 1: 5\n";
 
-/// A run whose writer asks for no memory.
-fn run_into(alloc: Global, setup: Setup, taken: Vec<u8>) -> Run {
-    let writer = Narrow {
+/// A writer that asks for no memory while there is room in what it writes to.
+fn into(taken: Vec<u8>) -> Narrow {
+    Narrow {
         taken,
         step: 8192,
         room: usize::MAX,
         full: Full::Fails,
-    };
-    run_through(alloc, in_steps(SCRIPT, 8192), writer, setup)
+    }
+}
+
+/// A run whose writer asks for no memory.
+fn run_into(alloc: Global, setup: Setup, taken: Vec<u8>) -> Run {
+    run_through(alloc, in_steps(SCRIPT, 8192), into(taken), setup)
+}
+
+/// Asserts that a refused run has written nothing.
+fn check_refused(rt: &impl Abort, refused: &Run) {
+    let wanted = (Err(RunFault::Memory), b"".as_slice(), false, false);
+    assert_same(rt, "refused", &refused.seen(), &wanted);
+}
+
+/// Asserts that a run has written all.
+fn check_whole(rt: &impl Abort, run: &Run) {
+    let wanted = (Ok(()), TOLD, false, false);
+    assert_same(rt, "made again", &run.seen(), &wanted);
 }
 
 #[test]
@@ -30,61 +47,35 @@ fn a_refused_run_has_written_nothing_and_is_made_again(rt: HostRuntime) -> Resul
     let alloc = rt.alloc();
     let setup = setup_of(4, 2)?;
     let room = Vec::with_capacity(alloc, 1024)?;
-    let first = run_into(alloc, setup, room);
-    let run = match first.result {
-        Ok(()) => first,
-        Err(_) => {
-            let wanted = (Err(RunFault::Memory), b"".as_slice(), false, false);
-            assert_same(&rt, "refused", &first.seen(), &wanted);
-            run_into(alloc, setup, first.output)
-        }
-    };
-    assert_same(
-        &rt,
-        &"made again",
-        &run.seen(),
-        &(Ok(()), TOLD, false, false),
-    );
+    let mut run = run_into(alloc, setup, room);
+    if run.result.is_err() {
+        check_refused(&rt, &run);
+        run = run_into(alloc, setup, run.output);
+    }
+    check_whole(&rt, &run);
     Ok(())
+}
+
+/// Asserts that a refused run has written whole lines, and what is written where none is refused begins with them.
+fn check_beginning(rt: &impl Abort, refused: &Run) {
+    let lines = refused.output.as_slice();
+    let is_whole = lines.is_empty() || lines.ends_with(b"\n");
+    let found = (refused.result, is_whole && TOLD.starts_with(lines));
+    assert_same(rt, lines, &found, &(Err(RunFault::Memory), true));
 }
 
 #[test]
 fn a_refused_live_run_has_told_whole_lines_and_is_made_again(rt: HostRuntime) -> Result<(), Fail> {
     let alloc = rt.alloc();
     let setup = setup_of(4, 2)?;
-    let mut reader = Watched::new(in_steps(SCRIPT, 8192));
-    let mut writer = Watched::new(Narrow {
-        taken: Vec::with_capacity(alloc, 1024)?,
-        step: 8192,
-        room: usize::MAX,
-        full: Full::Fails,
-    });
-    let first = ended(
-        run_live(alloc, &mut reader, &mut writer, setup),
-        reader,
-        writer,
-    );
-    let run = match first.result {
-        Ok(()) => first,
-        Err(fault) => {
-            assert_same(&rt, "refused", &fault, &RunFault::Memory);
-            let returned = first.output.as_slice();
-            assert_same(&rt, "refused", &TOLD.starts_with(returned), &true);
-            assert_same(
-                &rt,
-                "refused",
-                &(returned.is_empty() || returned.ends_with(b"\n")),
-                &true,
-            );
-            run_into(alloc, setup, Vec::with_capacity(alloc, 1024)?)
-        }
-    };
-    assert_same(
-        &rt,
-        "made again",
-        &run.seen(),
-        &(Ok(()), TOLD, false, false),
-    );
+    let writer = into(Vec::with_capacity(alloc, 1024)?);
+    let again = Vec::with_capacity(alloc, 1024)?;
+    let mut run = live_through(alloc, in_steps(SCRIPT, 8192), writer, setup);
+    if run.result.is_err() {
+        check_beginning(&rt, &run);
+        run = run_into(alloc, setup, again);
+    }
+    check_whole(&rt, &run);
     Ok(())
 }
 

@@ -1,6 +1,6 @@
 //! Runs of texts, through readers and writers that move few bytes or fail.
 use pref_core::Setup;
-use pref_script::{RunFault, Watched, run_script};
+use pref_script::{RunFault, Watched, run_live, run_script};
 use std::alloc::Global;
 use std::io;
 use std::io::{ErrorKind, Read, Write};
@@ -111,6 +111,19 @@ pub(crate) fn run_through(alloc: Global, reader: Trickle<'_>, writer: Narrow, se
     let mut reader = Watched::new(reader);
     let mut writer = Watched::new(writer);
     let result = run_script(alloc, &mut reader, &mut writer, setup);
+    ended(result, reader, writer)
+}
+
+/// The same where the lines are replied to as they come.
+pub(crate) fn live_through(
+    alloc: Global,
+    reader: Trickle<'_>,
+    writer: Narrow,
+    setup: Setup,
+) -> Run {
+    let mut reader = Watched::new(reader);
+    let mut writer = Watched::new(writer);
+    let result = run_live(alloc, &mut reader, &mut writer, setup);
     ended(result, reader, writer)
 }
 

@@ -7,6 +7,7 @@ use pref_core::Setup;
 use pref_script::{OpenGate, RunFault, Watched, run_script_on_threads, run_threads};
 use pref_share::{Gate, ShareFault};
 use pref_table::TableFault;
+use std::process::Abort;
 use std::sync::Wait;
 use std::sync::atomic::{AtomicU64, Ordering};
 use std::test::Fail;
@@ -85,6 +86,15 @@ fn run_into<T: Threads + Wait + Sync + AllocGlobal>(
     ended(result, reader, writer)
 }
 
+/// The lines of an output begin with these texts.
+fn check_beginnings(rt: &impl Abort, output: Result<&str, RunFault>, beginnings: &[&str]) {
+    let text = output.expect(rt, "it runs");
+    assert_same(rt, text, &text.lines().count(), &beginnings.len());
+    for (line, beginning) in text.lines().zip(beginnings) {
+        assert_same(rt, line, &line.starts_with(*beginning), &true);
+    }
+}
+
 #[test]
 fn eight_clients_take_turns_as_they_come(rt: HostRuntime) -> Result<(), Fail> {
     let setup = Setup::new(8, 1024, 1024, 64).ok_or("no setup")?;
@@ -101,12 +111,7 @@ fn eight_clients_take_turns_as_they_come(rt: HostRuntime) -> Result<(), Fail> {
         "2 inserted ",
     ];
     let output = run_threads(&rt, rt.alloc(), script, setup, &OpenGate);
-    let mut lines = returned(&output)?.lines();
-    for beginning in beginnings {
-        let line = lines.next().ok_or("a line is missing")?;
-        assert!(rt; line.starts_with(beginning), "{line}");
-    }
-    assert!(rt; lines.next().is_none());
+    check_beginnings(&rt, returned(&output), &beginnings);
     Ok(())
 }
 
