@@ -12,189 +12,68 @@ mod refusals;
 mod replies;
 
 use crate::same::assert_same;
-use fixtures::{Does, check_told, opening_rows, setup_of};
+use fixtures::check_run;
 use pref_core::{Act, CoreFault, Event, RankedList, Reply, Setup, replay, replay_part};
 use pref_table::Row;
-use std::alloc::{AllocError, Global};
+use std::alloc::Global;
 use std::process::Abort;
 use std::test::Fail;
+use test_runs::{
+    A_DELETED_ROW_IS_STILL_ANSWERED, A_FULL_TABLE_TAKES_AN_UPDATE,
+    A_QUERY_ANSWERS_THE_TABLE_AT_ITS_BEGIN, A_REFUSED_INSERT_USES_NO_ID,
+    AN_EMPTY_TABLE_IS_SCANNED_IN_TWO_BLOCKS, AN_OPEN_QUERY_KEEPS_ITS_VERSION,
+    EIGHT_CLIENTS_ASK_AT_EIGHT_STAMPS, REFUSALS_COME_IN_THEIR_ORDER, ROOM_IS_EXACT,
+    TWO_UPDATES_UNDER_A_QUERY_LEAVE_ONE_SLOT, rows_of, setup_of,
+};
 
 #[test]
 fn a_query_answers_the_table_at_its_begin(rt: HostRuntime) -> Result<(), Fail> {
-    let run = [
-        (1, Does::Inserts(30)),
-        (1, Does::Inserts(10)),
-        (2, Does::Inserts(20)),
-        (1, Does::Begins),
-        (2, Does::Inserts(5)),
-        (1, Does::Scans),
-        (1, Does::Finishes),
-    ];
-    let wanted =
-        "inserted 1 / inserted 2 / inserted 3 / begun 1 / inserted 4 / left 0 / answer level 1 id 2: 10 / ";
-    check_told(&rt, rt.alloc(), 1024, 1024, &[], &run, wanted)
+    check_run(&rt, rt.alloc(), &A_QUERY_ANSWERS_THE_TABLE_AT_ITS_BEGIN)
 }
 
 #[test]
 fn an_empty_table_is_scanned_in_two_blocks(rt: HostRuntime) -> Result<(), Fail> {
-    let run = [
-        (1, Does::Begins),
-        (1, Does::Scans),
-        (1, Does::Scans),
-        (1, Does::Finishes),
-    ];
-    let wanted = "begun 2 / left 1 / left 0 / answer / ";
-    check_told(&rt, rt.alloc(), 4, 2, &[], &run, wanted)
+    check_run(&rt, rt.alloc(), &AN_EMPTY_TABLE_IS_SCANNED_IN_TWO_BLOCKS)
 }
 
 #[test]
 fn a_deleted_row_is_still_answered(rt: HostRuntime) -> Result<(), Fail> {
-    let run = [
-        (1, Does::Begins),
-        (1, Does::Scans),
-        (2, Does::Deletes(1)),
-        (2, Does::Inserts(1)),
-        (2, Does::AsksRoom),
-        (1, Does::Scans),
-        (1, Does::Finishes),
-        (2, Does::Begins),
-        (2, Does::Scans),
-        (2, Does::Scans),
-        (2, Does::Finishes),
-    ];
-    let wanted =
-        "begun 2 / left 1 / deleted 1 / inserted 4 / room 0 / left 0 / answer level 1 id 1: 5 / begun 2 / left 1 / left 0 / answer level 1 id 4: 1 / ";
-    check_told(&rt, rt.alloc(), 4, 2, &[5, 7, 9], &run, wanted)
+    check_run(&rt, rt.alloc(), &A_DELETED_ROW_IS_STILL_ANSWERED)
 }
 
 #[test]
 fn room_is_exact(rt: HostRuntime) -> Result<(), Fail> {
-    let run = [
-        (1, Does::Begins),
-        (2, Does::Updates(1, 9)),
-        (1, Does::Abandons),
-        (2, Does::Updates(1, 9)),
-        (2, Does::Gets(1)),
-        (2, Does::AsksRoom),
-    ];
-    let wanted = "begun 1 / refused: full needed 3 / abandoned / updated 1 / row 1: 9 / room 0 / ";
-    check_told(&rt, rt.alloc(), 2, 2, &[1, 2], &run, wanted)
+    check_run(&rt, rt.alloc(), &ROOM_IS_EXACT)
 }
 
 #[test]
 fn a_full_table_takes_an_update(rt: HostRuntime) -> Result<(), Fail> {
-    let run = [
-        (1, Does::Updates(2, 6)),
-        (1, Does::AsksRoom),
-        (1, Does::Inserts(8)),
-        (1, Does::Deletes(2)),
-        (1, Does::AsksRoom),
-        (1, Does::Inserts(8)),
-    ];
-    let wanted = "updated 2 / room 0 / refused: full needed 3 / deleted 2 / room 1 / inserted 3 / ";
-    check_told(&rt, rt.alloc(), 2, 2, &[1, 2], &run, wanted)
+    check_run(&rt, rt.alloc(), &A_FULL_TABLE_TAKES_AN_UPDATE)
 }
 
 #[test]
 fn refusals_come_in_their_order(rt: HostRuntime) -> Result<(), Fail> {
-    let run = [
-        (1, Does::Finishes),
-        (1, Does::Begins),
-        (1, Does::Begins),
-        (1, Does::Finishes),
-        (1, Does::Scans),
-        (1, Does::Scans),
-        (1, Does::Scans),
-        (1, Does::Finishes),
-        (1, Does::Abandons),
-        (9, Does::AsksRoom),
-        (0, Does::Scans),
-        (1, Does::Gets(7)),
-    ];
-    let wanted =
-        "refused: no query / begun 2 / refused: query open / refused: not done left 2 / left 1 / left 0 / refused: all scanned / answer level 1 id 1: 4 / refused: no query / refused: no such client / refused: no such client / refused: no such row 7 / ";
-    check_told(&rt, rt.alloc(), 2, 1, &[4], &run, wanted)
+    check_run(&rt, rt.alloc(), &REFUSALS_COME_IN_THEIR_ORDER)
 }
 
 #[test]
 fn a_refused_insert_uses_no_id(rt: HostRuntime) -> Result<(), Fail> {
-    let run = [
-        (1, Does::Inserts(4)),
-        (1, Does::Begins),
-        (2, Does::Inserts(3)),
-        (2, Does::Inserts(9)),
-        (1, Does::Scans),
-        (1, Does::Scans),
-        (1, Does::Finishes),
-        (1, Does::AsksRoom),
-        (2, Does::Deletes(1)),
-        (2, Does::Inserts(6)),
-    ];
-    let wanted =
-        "inserted 1 / begun 2 / inserted 2 / refused: full needed 3 / left 1 / left 0 / answer level 1 id 1: 4 / room 0 / deleted 1 / inserted 3 / ";
-    check_told(&rt, rt.alloc(), 2, 1, &[], &run, wanted)
+    check_run(&rt, rt.alloc(), &A_REFUSED_INSERT_USES_NO_ID)
 }
 
 #[test]
 fn two_updates_under_a_query_leave_one_slot(rt: HostRuntime) -> Result<(), Fail> {
-    let run = [
-        (1, Does::Begins),
-        (2, Does::Updates(1, 1)),
-        (2, Does::Updates(1, 2)),
-        (2, Does::AsksRoom),
-        (1, Does::Scans),
-        (1, Does::Finishes),
-        (2, Does::AsksRoom),
-        (2, Does::Gets(1)),
-    ];
-    let wanted =
-        "begun 1 / updated 1 / updated 1 / room 1 / left 0 / answer level 1 id 1: 5 / room 2 / row 1: 2 / ";
-    check_told(&rt, rt.alloc(), 3, 3, &[5], &run, wanted)
+    check_run(&rt, rt.alloc(), &TWO_UPDATES_UNDER_A_QUERY_LEAVE_ONE_SLOT)
 }
 
-/// Each client begins, and updates the one row.
-fn begin_and_update(run: &mut Vec<(u8, Does)>) -> Result<(), Fail> {
-    for client in 1..=8u8 {
-        run.push((client, Does::Begins))?;
-        run.push((client, Does::Updates(1, i64::from(client))))?;
-    }
-    Ok(())
-}
-
-fn scan_and_finish(run: &mut Vec<(u8, Does)>) -> Result<(), Fail> {
-    for client in 1..=8u8 {
-        run.push((client, Does::Scans))?;
-        run.push((client, Does::Finishes))?;
-    }
-    Ok(())
-}
-
-/// Eight clients begin, each before it updates the one row, and ask then; in the end one asks how much room there is.
-fn run_at_eight_stamps(alloc: Global) -> Result<Vec<(u8, Does)>, Fail> {
-    let mut run = Vec::new(alloc);
-    begin_and_update(&mut run)?;
-    scan_and_finish(&mut run)?;
-    run.push((1, Does::AsksRoom))?;
-    Ok(run)
-}
-
-/// The replies to that run.
-fn told_at_eight_stamps(alloc: Global) -> Result<String, AllocError> {
-    let mut returned = "begun 1 / updated 1 / ".repeat(alloc, 8)?;
-    let finished =
-        "left 0 / answer level 1 id 1: 0 / left 0 / answer level 1 id 1: 1 / left 0 / answer level 1 id 1: 2 / left 0 / answer level 1 id 1: 3 / left 0 / answer level 1 id 1: 4 / left 0 / answer level 1 id 1: 5 / left 0 / answer level 1 id 1: 6 / left 0 / answer level 1 id 1: 7 / room 8 / ";
-    returned.push_str(finished)?;
-    Ok(returned)
-}
-
-/// Client K begins after K - 1 updates of the one row, and is answered with the row as it was then, while the slots of
-/// the others are needed and used.
 #[test]
 fn eight_clients_ask_at_eight_stamps(rt: HostRuntime) -> Result<(), Fail> {
-    let alloc = rt.alloc();
-    let returned = told_at_eight_stamps(alloc)?;
-    let run = run_at_eight_stamps(alloc)?;
-    check_told(&rt, alloc, 9, 9, &[0], run.as_slice(), returned.as_str())
+    check_run(&rt, rt.alloc(), &EIGHT_CLIENTS_ASK_AT_EIGHT_STAMPS)
+}
+
+#[test]
+fn the_sequential_table_tells_the_same_of_an_open_query(rt: HostRuntime) -> Result<(), Fail> {
+    check_run(&rt, rt.alloc(), &AN_OPEN_QUERY_KEEPS_ITS_VERSION)
 }
 
 /// This many events in which client 1 asks for room.
@@ -248,7 +127,7 @@ fn check_too_many(rt: &impl Abort, alloc: Global, setup: Setup, opening: &[Row])
 fn too_many_opening_rows_are_refused(rt: HostRuntime) -> Result<(), Fail> {
     let alloc = rt.alloc();
     let setup = setup_of(1, 2, 1, 1)?;
-    check_too_many(&rt, alloc, setup, &opening_rows(alloc, &[1, 2, 3])?);
+    check_too_many(&rt, alloc, setup, &rows_of(alloc, &[1, 2, 3])?);
     Ok(())
 }
 

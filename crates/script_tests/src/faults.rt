@@ -1,11 +1,13 @@
 //! Faults of scripts, with their lines and statuses.
-use crate::runs::{run_whole, setup_of};
+use crate::known_runs::script_of;
+use crate::runs::run_whole;
 use crate::same::assert_same;
 use pref_core::CoreFault;
 use pref_script::{RunFault, fault_line};
 use pref_share::ShareFault;
 use pref_table::TableFault;
 use std::test::Fail;
+use test_runs::A_DELETED_ROW_IS_STILL_ANSWERED;
 
 #[test]
 fn each_fault_has_its_line_and_status(rt: HostRuntime) -> Result<(), Fail> {
@@ -123,12 +125,13 @@ fn each_fault_has_its_line_and_status(rt: HostRuntime) -> Result<(), Fail> {
 
 #[test]
 fn a_beginning_of_a_script_has_the_fault_of_what_is_missing(rt: HostRuntime) -> Result<(), Fail> {
-    let setup = setup_of(4, 2)?;
-    let script = b"table\nx\n5\n7\n9\nend\nas 1 begin best low(x)\nas 1 scan\nas 2 delete 1\n\
-as 2 insert 1\nas 2 room\nas 1 scan\nas 1 finish\nas 2 begin best low(x)\nas 2 scan\nas 2 scan\nas 2 finish\n"
-        .as_slice();
+    let alloc = rt.alloc();
+    let run = &A_DELETED_ROW_IS_STILL_ANSWERED;
+    let setup = run.setup()?;
+    let text = script_of(alloc, run)?;
+    let script = text.as_bytes();
     for length in 0..script.len() + 1 {
-        let result = run_whole(rt.alloc(), setup, &script[..length]).result;
+        let result = run_whole(alloc, setup, &script[..length]).result;
         let wanted = match length {
             0..=4 => Err(RunFault::NoTable),
             5..=16 => Err(RunFault::NoEnd),

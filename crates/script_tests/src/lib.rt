@@ -9,6 +9,8 @@ mod ends;
 #[cfg(test)]
 mod faults;
 #[cfg(test)]
+mod known_runs;
+#[cfg(test)]
 mod live;
 #[cfg(test)]
 mod refusals;

@@ -2,7 +2,7 @@
 
 ghost use Rattle.std.specs.Prelude.{◌≡◌};
 
-use crate::acts::{Changes, Does, acts_of, columns, commit_act, row_of, setup};
+use crate::acts::acts_of;
 use crate::boards::{Open, replies_of_a_run};
 use crate::same::assert_same;
 use pref_core::{Act, Reply};
@@ -12,10 +12,11 @@ use pref_table::Schema;
 use std::alloc::Global;
 use std::marker::Brand;
 use std::test::Fail;
+use test_runs::{Changes, Does, changes_of, columns, commit_act, row_of, setup_of};
 
 /// A query of the whole table.
 fn push_query(alloc: Global, acts: &mut Vec<Act>) -> Result<(), Fail> {
-    let asks = Does::Asks(b"top_level 16 low(x)");
+    let asks = Does::Asks("top_level 16 low(x)");
     for step in acts_of(alloc, &[asks, Does::Scans, Does::Scans, Does::Finishes])? {
         acts.push(step)?;
     }
@@ -29,7 +30,8 @@ fn acts_of_a_pair(alloc: Global, schema: &Schema, first: u64) -> Result<Vec<Act>
         let value = i64::from(turn);
         let one = Changes::Sets(first, value);
         let other = Changes::Sets(first.wrapping_add(1), -value);
-        acts.push(commit_act(alloc, schema, &[one, other])?)?;
+        let changes = changes_of(alloc, schema, &[one, other])?;
+        acts.push(commit_act(alloc, &changes)?)?;
         if turn % 4 == 0 {
             push_query(alloc, &mut acts)?;
         }
@@ -100,7 +102,7 @@ fn counts(lists: &[Vec<Reply>]) -> (usize, usize) {
 fn no_answer_sees_half_a_commit(rt: HostRuntime) -> Result<(), Fail> {
     let alloc = rt.alloc();
     let opening = [row_of(alloc, 0)?; 16];
-    let setup = setup(8, 256, 128)?;
+    let setup = setup_of(8, 256, 128, 64)?;
     let acts = acts_of_all(alloc)?;
     let lists = replies_of_a_run::<Brand, _, _>(
         &rt,

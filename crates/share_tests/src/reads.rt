@@ -2,7 +2,7 @@
 
 ghost use Rattle.std.specs.Prelude.{◌≡◌};
 
-use crate::acts::{setup, three_rows};
+use crate::acts::three_rows;
 use crate::boards::{begin_low, first_two};
 use crate::same::assert_same;
 use pref_core::Setup;
@@ -13,6 +13,7 @@ use std::marker::Brand;
 use std::process::Abort;
 use std::sync::Wait;
 use std::test::Fail;
+use test_runs::setup_of;
 
 /// What three reads return.
 type Reads = (
@@ -60,7 +61,7 @@ fn read_of_an_open_board<J: BoardBrand, R: Wait + Abort>(
 fn reads_of_an_open_board(rt: HostRuntime) -> Result<(), Fail> {
     let alloc = rt.alloc();
     let opening = three_rows(alloc, (5, 4, 6))?;
-    let setup = setup(2, 4, 2)?;
+    let setup = setup_of(2, 4, 2, 64)?;
     let returned = read_of_an_open_board::<Brand, _>(
         &rt,
         alloc,
@@ -96,7 +97,7 @@ fn read_of_a_closed_board<J: BoardBrand, R: Wait + Abort>(
 fn a_closed_board_lets_nobody_in(rt: HostRuntime) -> Result<(), Fail> {
     let alloc = rt.alloc();
     let opening = three_rows(alloc, (5, 4, 6))?;
-    let setup = setup(2, 4, 2)?;
+    let setup = setup_of(2, 4, 2, 64)?;
     let returned = read_of_a_closed_board::<Brand, _>(
         &rt,
         alloc,

@@ -3,7 +3,7 @@
 
 ghost use Rattle.std.specs.Prelude.{◌≡◌};
 
-use crate::acts::{Does, answer_text, best_low, lists_of, lists_text, row_of, setup, three_rows};
+use crate::acts::{best_low, lists_of, lists_text, three_rows};
 use crate::boards::{Open, first_two, replies_of_a_run};
 use crate::same::assert_same;
 use pref_core::{Act, BoxedCommit, Change, Commit, Committed, CoreFault, Reply, Setup};
@@ -17,6 +17,7 @@ use std::process::Abort;
 use std::sync::Wait;
 use std::test::Fail;
 use std::thread::Threads;
+use test_runs::{Does, answer_text, row_of, setup_of};
 
 /// How often eight rows come in the place of eight others: the index, which has room for 18, has to grow by then.
 const ROUNDS: u8 = 30;
@@ -56,7 +57,7 @@ fn clients_in_the_end(rt: &(impl Wait + Abort + AllocGlobal), setup: Setup, rows
 #[test]
 fn an_opening_refused_then_again(rt: HostRuntime) -> Result<(), Fail> {
     let rows = three_rows(rt.alloc(), (5, 4, 6))?;
-    let clients = clients_in_the_end(&rt, setup(2, 4, 2)?, &rows);
+    let clients = clients_in_the_end(&rt, setup_of(2, 4, 2, 64)?, &rows);
     assert_same(&rt, "clients", &clients, &2);
     Ok(())
 }
@@ -188,7 +189,7 @@ fn changes_refused_then_again(rt: &(impl Wait + Abort + AllocGlobal)) -> Result<
     let alloc = rt.alloc();
     let opening = [row_of(alloc, 5)?];
     let changed = row_of(alloc, 6)?;
-    let setup = setup(2, 18, 6)?;
+    let setup = setup_of(2, 18, 6, 64)?;
     changed_and_heard::<Brand, _>(rt, alloc, BoardName::new(), setup, &opening, &changed)?;
     Ok(())
 }
@@ -277,7 +278,7 @@ fn a_commit_refused_then_again(rt: &(impl Wait + Abort + AllocGlobal)) -> Result
     let alloc = rt.alloc();
     let opening = [row_of(alloc, 5)?; 18];
     let adds = Commit::of(&[Change::Add(row_of(alloc, 6)?); 8])?;
-    let setup = setup(2, 18, 6)?;
+    let setup = setup_of(2, 18, 6, 64)?;
     replaced::<Brand, _>(rt, alloc, BoardName::new(), setup, &opening, adds)
 }
 
@@ -345,13 +346,18 @@ fn answered<J: BoardBrand, R: Wait + Abort>(
 fn a_query_refused_then_again(rt: &(impl Wait + Abort + AllocGlobal)) -> Result<(), Fail> {
     let alloc = rt.alloc();
     let opening = three_rows(alloc, (5, 4, 6))?;
-    let setup = setup(2, 4, 2)?;
+    let setup = setup_of(2, 4, 2, 64)?;
     let name = BoardName::new();
     let text = answer_text(
         alloc,
         &answered::<Brand, _>(rt, alloc, name, setup, &opening)?,
     )?;
-    assert_same(rt, "an answer", &text.as_str(), &"answer level 1 id 2: 4");
+    assert_same(
+        rt,
+        "an answer",
+        &text.as_str(),
+        &"answer 1\nlevel 1 id 2: 4",
+    );
     Ok(())
 }
 
@@ -399,9 +405,9 @@ fn replies_in_the_end(
 fn a_run_refused_then_again(rt: HostRuntime) -> Result<(), Fail> {
     let alloc = rt.alloc();
     let opening = [row_of(alloc, 5)?];
-    let setup = setup(1, 4, 2)?;
+    let setup = setup_of(1, 4, 2, 64)?;
     let text = lists_text(alloc, &replies_in_the_end(&rt, setup, &opening)?)?;
-    let wanted = "inserted 2 / begun 2 / left 1 / left 0 / answer level 1 id 2: 3 / row 2: 3 / ";
+    let wanted = "inserted 2\nbegun 2\nleft 1\nleft 0\nanswer 1\nlevel 1 id 2: 3\nrow 2: 3\n";
     assert_same(&rt, "replies", &text.as_str(), &wanted);
     Ok(())
 }

@@ -2,7 +2,7 @@
 
 ghost use Rattle.std.specs.Prelude.{◌≡◌};
 
-use crate::acts::{Does, lists_of, replies_text, row_of, setup};
+use crate::acts::{lists_of, push_replies};
 use crate::boards::Open;
 use crate::same::assert_same;
 use pref_core::Setup;
@@ -14,6 +14,7 @@ use std::process::Abort;
 use std::sync::Wait;
 use std::test::Fail;
 use std::thread::Threads;
+use test_runs::{Does, row_of, setup_of};
 
 /// Holds one client at one turn.
 #[derive(Drop)]
@@ -41,9 +42,9 @@ fn push_reports<J: BoardBrand>(
     reports: &[Report<J>],
 ) -> Result<(), Fail> {
     for report in reports {
-        text.push_str(replies_text(alloc, &report.replies)?.as_str())?;
+        push_replies(alloc, text, &report.replies)?;
         if let Some(fault) = report.stopped {
-            text.push_str(format!(in alloc; "{fault} / ")?.as_str())?;
+            text.push_str(format!(in alloc; "{fault}\n")?.as_str())?;
         }
     }
     Ok(())
@@ -126,7 +127,7 @@ fn check_two_runs<G: Gate + Sync>(
 ) -> Result<(), Fail> {
     let alloc = rt.alloc();
     let opening = [row_of(alloc, 3)?];
-    let setup = setup(2, 4, 4)?;
+    let setup = setup_of(2, 4, 4, 64)?;
     let text = two_runs::<Brand, _, _>(
         rt,
         alloc,
@@ -149,7 +150,7 @@ fn held_clients_come_back(rt: HostRuntime) -> Result<(), Fail> {
         &[&[Does::Updates(1, 5)], &[Does::AsksRoom, Does::Gets(1)]],
         &[&[], &[Does::Gets(1), Does::Deletes(1)]],
         &HoldsAt { held: 2, at: 1 },
-        "updated 1 / room 3 / held client 2 / row 1: 5 / deleted 1 / ",
+        "updated 1\nroom 3\nheld client 2\nrow 1: 5\ndeleted 1\n",
     )
 }
 
@@ -161,6 +162,6 @@ fn a_query_goes_on_in_another_run(rt: HostRuntime) -> Result<(), Fail> {
         &[&[Does::Begins, Does::Scans], &[Does::Gets(2)]],
         &[&[Does::Finishes], &[Does::Updates(1, 5)]],
         &Open,
-        "begun 1 / left 0 / refused: no such row 2 / answer level 1 id 1: 3 / updated 1 / ",
+        "begun 1\nleft 0\nrefused 7: no such row 2\nanswer 1\nlevel 1 id 1: 3\nupdated 1\n",
     )
 }

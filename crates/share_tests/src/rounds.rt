@@ -3,7 +3,7 @@
 
 ghost use Rattle.std.specs.Prelude.{◌≡◌};
 
-use crate::acts::{best_low, rows, setup};
+use crate::acts::best_low;
 use crate::boards::{begin, first_two};
 use pref_core::Setup;
 use pref_share::{Board, BoardBrand, BoardName, Client, open_board};
@@ -15,6 +15,7 @@ use std::marker::Brand;
 use std::process::Abort;
 use std::sync::Wait;
 use std::test::Fail;
+use test_runs::{rows_of, setup_of};
 
 const ROUNDS: usize = 20;
 
@@ -65,8 +66,8 @@ fn on_a_new_board<J: BoardBrand, R: Wait + Print + Abort>(
 #[test]
 fn rounds_of_begin_and_abandon(rt: HostRuntime) -> Result<(), Fail> {
     let alloc = rt.alloc();
-    let setup = setup(2, 16, 4)?;
-    let opening = rows(alloc, &[5, 4, 6, 3, 7, 2, 8, 1])?;
+    let setup = setup_of(2, 16, 4, 64)?;
+    let opening = rows_of(alloc, &[5, 4, 6, 3, 7, 2, 8, 1])?;
     let asks = asks(alloc)?;
     on_a_new_board::<Brand, _>(&rt, alloc, BoardName::new(), setup, &opening, asks)
 }

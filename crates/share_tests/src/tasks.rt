@@ -3,7 +3,6 @@
 ghost use Rattle.std.specs.Prelude.{◌≡◌, ◌<◌, ◌^◌, length};
 ghost use Rattle.std.specs.Vec.Iter.{into_iter_items};
 
-use crate::acts::{row_of, rows, setup};
 use crate::boards::Open;
 use crate::same::assert_same;
 use pref_core::{Act, Reply, Setup};
@@ -16,6 +15,7 @@ use std::sync::Wait;
 use std::test::Fail;
 use std::thread::Threads;
 use std::vec::IntoIter;
+use test_runs::{row_of, rows_of, setup_of};
 
 /// Inserts rows, and keeps the ids that they get: 0 for a row that is refused.
 #[derive(Drop)]
@@ -78,7 +78,7 @@ fn two_tasks(alloc: Global, values: &[i64]) -> Result<Vec<Inserts>, Fail> {
     let mut tasks = Vec::new(alloc);
     for _ in 0..2u8 {
         tasks.push(Inserts {
-            rows: rows(alloc, values)?.into_iter(),
+            rows: rows_of(alloc, values)?.into_iter(),
             ids: Vec::new(alloc),
         })?;
     }
@@ -102,7 +102,7 @@ fn tasks_take_each_reply(rt: HostRuntime) -> Result<(), Fail> {
     let alloc = rt.alloc();
     let opening = [row_of(alloc, 4)?];
     let tasks = two_tasks(alloc, &[5, 6, 7])?;
-    let setup = setup(2, 4, 4)?;
+    let setup = setup_of(2, 4, 4, 64)?;
     let name = BoardName::new();
     let done = done_on_a_new_board::<Brand, _>(&rt, alloc, name, setup, &opening, tasks)?;
     let ids = all_ids(alloc, &done)?;

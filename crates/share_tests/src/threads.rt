@@ -2,7 +2,7 @@
 
 ghost use Rattle.std.specs.Prelude.{◌≡◌};
 
-use crate::acts::{Does, act_of, acts_of, lists_of, lists_text, row_of, rows, setup};
+use crate::acts::{acts_of, lists_of, lists_text};
 use crate::boards::replies_of_a_run;
 use crate::same::assert_same;
 use pref_core::{Act, Setup};
@@ -16,6 +16,7 @@ use std::sync::atomic::{AtomicU64, Ordering};
 use std::test::Fail;
 use std::thread;
 use std::thread::Threads;
+use test_runs::{Does, act_of, row_of, rows_of, setup_of};
 
 /// Whether this many acts are answered, after some waiting.
 fn is_reached(answered: &AtomicU64, wanted: u64) -> bool {
@@ -162,7 +163,7 @@ fn a_query_among_updates(alloc: Global) -> Result<Vec<Vec<Act>>, Fail> {
 /// Adds to a text 160 times that this row is updated.
 fn push_updates(alloc: Global, text: &mut String, id: u64) -> Result<(), Fail> {
     for _ in 0..160 {
-        text.push_str(format!(in alloc; "updated {id} / ")?.as_str())?;
+        text.push_str(format!(in alloc; "updated {id}\n")?.as_str())?;
     }
     Ok(())
 }
@@ -170,7 +171,7 @@ fn push_updates(alloc: Global, text: &mut String, id: u64) -> Result<(), Fail> {
 /// The replies to the clients of a query among updates.
 fn answer_and_updates(alloc: Global) -> Result<String, Fail> {
     let mut text = format!(in alloc;
-        "begun 4 / left 3 / left 2 / left 1 / left 0 / answer level 1 id 1: 1 / room 9 / row 7: -160 / "
+        "begun 4\nleft 3\nleft 2\nleft 1\nleft 0\nanswer 1\nlevel 1 id 1: 1\nroom 9\nrow 7: -160\n"
     )?;
     for id in 1..8 {
         push_updates(alloc, &mut text, id)?;
@@ -198,11 +199,11 @@ fn check_run<G: Gate + Sync>(
 fn two_clients_at_once(rt: HostRuntime) -> Result<(), Fail> {
     let alloc = rt.alloc();
     let opening = [row_of(alloc, 3)?];
-    let setup = setup(2, 4, 4)?;
+    let setup = setup_of(2, 4, 4, 64)?;
     for (case, held, until) in [("1 waits for 2", 1, 2), ("2 waits for 1", 2, 1)] {
         let acts = lists_of(alloc, &[[Does::Gets(1)].as_slice(); 2])?;
         let gate = held_until(held, until);
-        let wanted = "row 1: 3 / row 1: 3 / ";
+        let wanted = "row 1: 3\nrow 1: 3\n";
         check_run(&rt, case, &opening, setup, acts, &gate, wanted)?;
     }
     Ok(())
@@ -210,7 +211,7 @@ fn two_clients_at_once(rt: HostRuntime) -> Result<(), Fail> {
 
 #[test]
 fn held_least(rt: HostRuntime) -> Result<(), Fail> {
-    let setup = setup(8, 4, 4)?;
+    let setup = setup_of(8, 4, 4, 64)?;
     let acts = lists_of(rt.alloc(), &[[Does::AsksRoom; 3].as_slice(); 8])?;
     let wanted = "held client 3";
     check_run(&rt, "two are held", &[], setup, acts, &HoldsTwo, wanted)
@@ -219,8 +220,8 @@ fn held_least(rt: HostRuntime) -> Result<(), Fail> {
 #[test]
 fn held_open(rt: HostRuntime) -> Result<(), Fail> {
     let alloc = rt.alloc();
-    let setup = setup(8, 16, 4)?;
-    let opening = rows(alloc, &[1, 2, 3, 4, 5, 6, 7])?;
+    let setup = setup_of(8, 16, 4, 64)?;
+    let opening = rows_of(alloc, &[1, 2, 3, 4, 5, 6, 7])?;
     let wanted = answer_and_updates(alloc)?;
     let acts = a_query_among_updates(alloc)?;
     let gate = HoldsScans {

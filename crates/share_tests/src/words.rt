@@ -2,7 +2,6 @@
 
 ghost use Rattle.std.specs.Prelude.{◌≡◌};
 
-use crate::acts::{row_of, setup};
 use crate::boards::first_two;
 use crate::same::assert_same;
 use pref_core::Setup;
@@ -15,6 +14,7 @@ use std::sync::Wait;
 use std::test::Fail;
 use std::thread;
 use std::thread::Threads;
+use test_runs::{row_of, setup_of};
 
 /// What a client has seen after it inserted a row.
 fn word_of_an_insert<J: BoardBrand, R: Wait>(
@@ -69,7 +69,7 @@ fn got_on_a_new_board<J: BoardBrand + Send + Sync, R: Threads + Wait + Abort + S
 fn word_crosses(rt: HostRuntime) -> Result<(), Fail> {
     let alloc = rt.alloc();
     let inserted = row_of(alloc, 4)?;
-    let setup = setup(2, 4, 4)?;
+    let setup = setup_of(2, 4, 4, 64)?;
     let got = got_on_a_new_board::<Brand, _>(&rt, alloc, BoardName::new(), setup, &[], inserted)?;
     assert_same(&rt, "a thread", &got, &inserted);
     Ok(())
@@ -111,7 +111,7 @@ fn seen_on_a_new_board<J: BoardBrand, R: Wait + Abort>(
 fn a_word_is_heard(rt: HostRuntime) -> Result<(), Fail> {
     let alloc = rt.alloc();
     let opening = [row_of(alloc, 5)?];
-    let setup = setup(2, 4, 4)?;
+    let setup = setup_of(2, 4, 4, 64)?;
     let seen = seen_on_a_new_board::<Brand, _>(&rt, alloc, BoardName::new(), setup, &opening)?;
     assert_same(&rt, "one call", &seen, &(0, 1));
     Ok(())

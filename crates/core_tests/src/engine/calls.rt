@@ -1,7 +1,6 @@
 //! The calls of a machine: the value that each returns, and a refusal of each.
 
-use super::fixtures::Changes::{Adds, Removes};
-use super::fixtures::{answer_text, changes_of, row, with_machine};
+use super::fixtures::with_machine;
 use crate::same::{assert_same, assert_same_text};
 use pref_core::{Commit, Committed, CoreFault, Machine};
 use pref_table::{Row, Schema};
@@ -9,6 +8,8 @@ use pref_term::{Ask, read_ask};
 use std::alloc::Global;
 use std::process::Abort;
 use std::test::Fail;
+use test_runs::Changes::{Adds, Removes};
+use test_runs::{answer_text, changes_of, row};
 
 /// A commit that adds a row and removes row 3.
 fn commit_of_two(alloc: Global, schema: &Schema) -> Result<Commit, Fail> {
@@ -88,8 +89,8 @@ fn check_query(
     assert_same(rt, "last scan", &machine.scan(alloc, 1), &Ok(0));
     let past = machine.scan(alloc, 1);
     assert_same(rt, "past the last", &past, &Err(CoreFault::AllScanned));
-    let answer = answer_text(alloc, &machine.finish(alloc, 1)?)?;
-    assert_same_text(rt, "answer", answer.as_str(), "answer level 1 id 1: 5");
+    let answer = answer_text(alloc, machine.finish(alloc, 1)?.as_slice())?;
+    assert_same_text(rt, "answer", answer.as_str(), "answer 1\nlevel 1 id 1: 5");
     Ok(())
 }
 

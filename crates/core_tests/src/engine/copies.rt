@@ -1,11 +1,12 @@
 //! A store and its copy.
 
-use super::fixtures::{row, with_store};
+use super::fixtures::with_store;
 use crate::same::assert_same;
 use pref_core::{Call, CoreFault, Store};
 use pref_table::{Row, Schema};
 use std::process::Abort;
 use std::test::Fail;
+use test_runs::row;
 
 /// The row takes the place of row 1 in the copy.
 fn update_copy(copy: &mut Store, new: Row) -> Result<(), CoreFault> {

@@ -2,13 +2,13 @@
 ghost use Rattle.std.specs.Prelude.{IfOk, OnOk};
 ghost use Rattle.pref_core.specs.Indexes.{IsIndexOf};
 
-use super::fixtures::{columns, row, rows, setup_of};
 use crate::same::assert_same;
 use pref_core::{Call, Index, Outcome, Store};
 use pref_table::Schema;
 use std::alloc::Global;
 use std::process::Abort;
 use std::test::Fail;
+use test_runs::{columns, row, rows_of, setup_of};
 
 /// A call, planned and done by the index.
 fn done(
@@ -32,11 +32,11 @@ fn done(
 }
 
 /// A store of these rows with its index.
-fn opened(alloc: Global, schema: &Schema, values: &[i64]) -> Result<(Store, Index), Fail>
+fn opened(alloc: Global, values: &[i64]) -> Result<(Store, Index), Fail>
     ensures { IfOk result (λ both. IsIndexOf both.0 both.1) }
 {
     let setup = setup_of(2, 4, 2, 1)?;
-    let store = Store::new(alloc, &setup, &rows(alloc, schema, values)?)?;
+    let store = Store::new(alloc, &setup, &rows_of(alloc, values)?)?;
     let index = Index::new(alloc, &store)?;
     Ok((store, index))
 }
@@ -51,7 +51,7 @@ fn with_index<L: FnOnce(&Schema, &mut Store, &mut Index) -> Result<(), Fail>>(
     requires { (schema : _) (store : _) (index : _) → IsIndexOf store.now index.now → L.pre look schema store index }
 {
     let schema = columns(alloc)?;
-    let (mut store, mut index) = opened(alloc, &schema, values)?;
+    let (mut store, mut index) = opened(alloc, values)?;
     look(&schema, &mut store, &mut index)
 }
 

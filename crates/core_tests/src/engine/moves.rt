@@ -1,11 +1,12 @@
 //! Rows that had to move to another slot because an open query needs their old version.
 
-use super::fixtures::{row, with_store};
+use super::fixtures::with_store;
 use crate::same::assert_same;
 use pref_core::{Call, Store};
 use pref_table::{Row, Schema};
 use std::process::Abort;
 use std::test::Fail;
+use test_runs::row;
 
 /// A call, planned and done: the slot of its new row.
 fn done(store: &mut Store, client: u8, call: Call) -> Result<Option<u32>, Fail> {

@@ -1,12 +1,13 @@
 //! Calls that a store plans and does.
 
-use super::fixtures::{row, with_store};
+use super::fixtures::with_store;
 use crate::same::{assert_same, assert_same_list};
 use pref_core::{Call, Change, Commit, CoreFault, Op, Outcome, QueryState, Store};
 use pref_table::{Row, Schema};
 use std::alloc::Global;
 use std::process::Abort;
 use std::test::Fail;
+use test_runs::row;
 
 /// Does an op, and once more, which changes nothing: its number is one above the client's last.
 fn apply_twice(store: &mut Store, op: &Op) {

@@ -6,14 +6,11 @@ ghost use Rattle.std.specs.Prelude.{IfOk};
 ghost use Rattle.pref_core.specs.Indexes.{IsIndexOf};
 ghost use Rattle.pref_core.specs.Scans.{NextIsNew};
 
-use super::fixtures::{
-    Does, act, answer_text, columns, commit_act, opened_machine, opening_rows, reply_text, row_of,
-    setup_of, with_machine,
-};
+use super::fixtures::{opened_machine, with_machine};
 use crate::same::{assert_same, assert_same_text};
 use pref_core::{
-    Act, Change, Commit, Committed, CoreFault, Event, Index, LentCall, Machine, Query, RankedList,
-    Reply, StepFault, Store,
+    Act, Change, Commit, Committed, CoreFault, Event, Index, LentCall, Machine, Query, Reply,
+    StepFault, Store,
 };
 use pref_sky::Ranked;
 use pref_table::{Row, Schema};
@@ -21,6 +18,9 @@ use pref_term::{Ask, read_ask};
 use std::alloc::{AllocError, Global};
 use std::process::Abort;
 use std::test::Fail;
+use test_runs::{
+    Does, Turn, answer_text, columns, commit_act, event_of, reply_text, row_of, rows_of, setup_of,
+};
 
 /// How often eight rows come in the place of eight others: the index, which has room for 18, has to grow by then.
 const ROUNDS: u8 = 30;
@@ -60,7 +60,7 @@ fn text_in_the_end(
 }
 
 /// What clients do one after the other, and what they are told.
-static ACTS: [(u8, Does, &str); 12] = [
+static TURNS: [Turn; 12] = [
     (1, Does::Begins, "begun 2"),
     (1, Does::Scans, "left 1"),
     (2, Does::Inserts(1), "inserted 3"),
@@ -69,10 +69,10 @@ static ACTS: [(u8, Does, &str); 12] = [
     (2, Does::Gets(2), "row 2: 3"),
     (2, Does::AsksRoom, "room 0"),
     (1, Does::Scans, "left 0"),
-    (1, Does::Finishes, "answer level 1 id 1: 5"),
+    (1, Does::Finishes, "answer 1\nlevel 1 id 1: 5"),
     (1, Does::Begins, "begun 2"),
     (1, Does::Abandons, "abandoned"),
-    (1, Does::Finishes, "refused: no query"),
+    (1, Does::Finishes, "refused 4: no query"),
 ];
 
 /// Each act of a run, again where memory was refused: what it returns in the end.
@@ -82,13 +82,10 @@ fn go_through_a_run(
     schema: &Schema,
     machine: &mut Machine,
 ) -> Result<(), Fail> {
-    for (client, does, wanted) in &ACTS {
-        let event = Event {
-            client: *client,
-            act: act(alloc, schema, *does)?,
-        };
+    for turn in &TURNS {
+        let event = event_of(alloc, schema, turn)?;
         let returned = text_in_the_end(rt, alloc, machine, event)?;
-        assert_same_text(rt, *client, returned.as_str(), *wanted);
+        assert_same_text(rt, turn.0, returned.as_str(), turn.2);
     }
     Ok(())
 }
@@ -252,7 +249,7 @@ fn reindex_in_the_end(
 fn narrowly_indexed(alloc: Global) -> Result<(Store, Index), Fail>
     ensures { IfOk result (λ both. IsIndexOf both.0 both.1) }
 {
-    let rows = opening_rows(alloc, &[5, 7])?;
+    let rows = rows_of(alloc, &[5, 7])?;
     let full = Store::new(alloc, &setup_of(1, 2, 1, 1)?, &rows)?;
     let store = Store::new(alloc, &setup_of(1, 10, 1, 1)?, &rows)?;
     let index = Index::new(alloc, &full)?;
@@ -298,9 +295,8 @@ fn answer_in_the_end(rt: &impl Abort, alloc: Global, query: &Query) -> Vec<Ranke
 
 /// The answer has three rows on two levels.
 fn check_two_levels(rt: &impl Abort, alloc: Global, query: &Query) -> Result<(), Fail> {
-    let ranked = RankedList::of(answer_in_the_end(rt, alloc, query));
-    let returned = answer_text(alloc, &ranked)?;
-    let wanted = "answer level 1 id 1: 4 level 1 id 3: 4 level 2 id 2: 6";
+    let returned = answer_text(alloc, &answer_in_the_end(rt, alloc, query))?;
+    let wanted = "answer 3\nlevel 1 id 1: 4\nlevel 1 id 3: 4\nlevel 2 id 2: 6";
     assert_same_text(rt, "answer", returned.as_str(), wanted);
     Ok(())
 }
@@ -332,7 +328,7 @@ fn a_query_is_scanned_and_answered_again_after_a_refusal(rt: HostRuntime) -> Res
     let alloc = rt.alloc();
     let setup = setup_of(1, 3, 3, 1)?;
     assert_same(&rt, "blocks", &setup.blocks(), &1);
-    let store = Store::new(alloc, &setup, &opening_rows(alloc, &[4, 6, 4])?)?;
+    let store = Store::new(alloc, &setup, &rows_of(alloc, &[4, 6, 4])?)?;
     let ask = two_levels(alloc)?;
     let mut query = Query::begin(ask, store.stamp(), &setup);
     scan_and_answer(&rt, alloc, &mut query, &store)

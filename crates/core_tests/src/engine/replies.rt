@@ -1,12 +1,13 @@
 //! Replies of a machine to one event after another, refusals among them.
 
-use super::fixtures::{Does, act, begin_act, reply_text, with_machine};
+use super::fixtures::with_machine;
 use crate::same::{assert_same, assert_same_text};
 use pref_core::{Act, CoreFault, Event, Machine, StepFault};
 use pref_table::Schema;
 use std::alloc::{AllocError, Global};
 use std::process::Abort;
 use std::test::Fail;
+use test_runs::{Does, Turn, begin_act, event_of, reply_text};
 
 /// What a machine replies to an event.
 fn returned(alloc: Global, machine: &mut Machine, event: Event) -> Result<String, AllocError> {
@@ -14,12 +15,12 @@ fn returned(alloc: Global, machine: &mut Machine, event: Event) -> Result<String
 }
 
 /// What clients do, and what they are told.
-static RUN: [(u8, Does, &str); 5] = [
+static TURNS: [Turn; 5] = [
     (2, Does::Gets(1), "row 1: 5"),
-    (1, Does::Scans, "refused: no query"),
-    (9, Does::AsksRoom, "refused: no such client"),
+    (1, Does::Scans, "refused 4: no query"),
+    (9, Does::AsksRoom, "refused 1: no such client"),
     (1, Does::Deletes(1), "deleted 1"),
-    (2, Does::Gets(1), "refused: no such row 1"),
+    (2, Does::Gets(1), "refused 7: no such row 1"),
 ];
 
 fn tells_what_is_refused(
@@ -28,13 +29,10 @@ fn tells_what_is_refused(
     schema: &Schema,
     machine: &mut Machine,
 ) -> Result<(), Fail> {
-    for (client, does, wanted) in &RUN {
-        let event = Event {
-            client: *client,
-            act: act(alloc, schema, *does)?,
-        };
+    for turn in &TURNS {
+        let event = event_of(alloc, schema, turn)?;
         let returned = returned(alloc, machine, event)?;
-        assert_same_text(rt, *client, returned.as_str(), *wanted);
+        assert_same_text(rt, turn.0, returned.as_str(), turn.2);
     }
     Ok(())
 }
@@ -63,7 +61,7 @@ fn check_handed_back(rt: &impl Abort, refused: &StepFault) {
 }
 
 /// A begin of client 1.
-fn begin(alloc: Global, schema: &Schema, question: &[u8]) -> Result<Event, Fail> {
+fn begin(alloc: Global, schema: &Schema, question: &str) -> Result<Event, Fail> {
     Ok(Event {
         client: 1,
         act: begin_act(alloc, schema, question)?,
@@ -72,7 +70,7 @@ fn begin(alloc: Global, schema: &Schema, question: &[u8]) -> Result<Event, Fail>
 
 /// Whether a begin of client 1 is let in.
 fn is_let_in(alloc: Global, schema: &Schema, machine: &mut Machine) -> Result<bool, Fail> {
-    let event = begin(alloc, schema, b"best low(x)")?;
+    let event = begin(alloc, schema, "best low(x)")?;
     Ok(machine.step(alloc, event).is_ok())
 }
 
@@ -84,7 +82,7 @@ fn hands_its_ask_back(
 ) -> Result<(), Fail> {
     let begun = is_let_in(alloc, schema, machine)?;
     assert_same(rt, "begun", &begun, &true);
-    let event = begin(alloc, schema, b"top_level 3 low(x)")?;
+    let event = begin(alloc, schema, "top_level 3 low(x)")?;
     match machine.step(alloc, event) {
         Ok(_reply) => Err("let in".into()),
         Err(refused) => {

@@ -1,4 +1,4 @@
-use Rattle.share_tests.proofs.calls.check_told.Given as goal
+use Rattle.share_tests.proofs.calls.check_run.Given as goal
 
 -- the board that is opened
 abbrev pub ghosts-played : goal.ghosts-played

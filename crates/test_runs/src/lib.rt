@@ -1,0 +1,26 @@
+//! Runs whose replies are known from outside, and what their tests share: the acts of the clients, and the texts of the replies.
+//!
+//! The tests of pref_core, pref_share and pref_script read the same runs: by a machine, by the clients of a board, and as scripts.
+//! Only they may end the process, so what compares is there.
+#![tactic(auto)]
+
+mod acts;
+mod commits;
+mod run;
+mod single_changes;
+mod texts;
+
+pub use acts::{
+    Changes, Does, act, act_of, begin_act, change, changes_of, columns, commit_act, row, row_of,
+    rows_of, setup_of,
+};
+pub use commits::COMMITS;
+pub use run::{Run, Turn, event_of, events_of};
+pub use single_changes::{
+    A_DELETED_ROW_IS_STILL_ANSWERED, A_FULL_TABLE_TAKES_AN_UPDATE,
+    A_QUERY_ANSWERS_THE_TABLE_AT_ITS_BEGIN, A_REFUSED_INSERT_USES_NO_ID, A_ROW_IS_UPDATED,
+    AN_EMPTY_TABLE_IS_SCANNED_IN_TWO_BLOCKS, AN_OPEN_QUERY_KEEPS_ITS_VERSION,
+    EIGHT_CLIENTS_ASK_AT_EIGHT_STAMPS, REFUSALS_COME_IN_THEIR_ORDER, REFUSED_CALLS_HAVE_NOT_JOINED,
+    ROOM_IS_EXACT, SINGLE_CHANGES, TWO_UPDATES_UNDER_A_QUERY_LEAVE_ONE_SLOT,
+};
+pub use texts::{answer_text, refused_text, reply_text};
