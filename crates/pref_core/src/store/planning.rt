@@ -1,10 +1,12 @@
 //! What becomes of a call.
 
-ghost use Rattle.std.specs.Prelude.{IfSome, true, is_some, ◌≡◌};
+ghost use Rattle.std.specs.Prelude.{IfSome, true, is_some, length, ◌≡◌, ◌<◌, ◌⊎◌};
 ghost use Rattle.pref_core.specs.Indexes.{IsIndexOf};
-ghost use Rattle.pref_core.specs.ContentsInvariant.{IsKept, IsFreed, FindsFreed, FitAtOnce};
+ghost use Rattle.pref_core.specs.ContentsInvariant.{IsKept, IsFreed, FindsFreed, FitAtOnce, uses_of};
+ghost use Rattle.pref_core.specs.IdChains.{home_of};
 ghost use Rattle.pref_core.specs.Operations.{outcome_at, placed, Plans, PlansIn};
 ghost use Rattle.pref_core.specs.Planned.{op_or_fault};
+ghost use Rattle.pref_core.specs.SlotSets.{free_at};
 ghost use Rattle.pref_core.specs.Slots.{StandsFor};
 ghost use Rattle.pref_core.specs.State.{State, ended, is_change, is_formed, succeeds, success_outcome};
 
@@ -146,7 +148,8 @@ impl Store {
 }
 
 impl Contents {
-    /// The slots of a call whose rows can all have their homes at once, or which begins no row.
+    /// The slots of a call whose rows can all have their homes at once, or which begins no row. A row that is added alone
+    /// may have any free slot.
     fn slots_at_once(&self, index: Option<&Index>, call: &LentCall<'_>) -> Option<SlotList>
         requires kept { IsKept self.now }
         requires index { IfSome index (λ index. IsIndexOf self.now index.now) }
@@ -160,7 +163,8 @@ impl Contents {
         for at in 0..call.count() {
             let change = call.change(at);
             if let Some((id, _)) = change.begun(next_id) {
-                homes.push(home_of(&self.slots, id));
+                let is_lone = call.count() == 1 && change.added() == 1;
+                homes.push(self.slot_to_try(id, is_lone));
             }
             next_id += change.added();
         }
@@ -169,6 +173,21 @@ impl Contents {
         } else {
             None
         }
+    }
+
+    /// The slot that is tried first for a row of this id: its home, or any free one where that is not free and the row is
+    /// a lone new one.
+    fn slot_to_try(&self, id: u64, is_lone: bool) -> u32
+        requires { 0 < length self.now.slots }
+        ensures { (result ≡ home_of (length self.now.slots) id) ⊎ (free_at (uses_of self.now) result ≡ true) }
+    {
+        let home = home_of(&self.slots, id);
+        if is_lone && !self.places.is_free(home) {
+            if let Some(place) = self.places.any_free_but(&SlotList::NONE) {
+                return place;
+            }
+        }
+        home
     }
 
     /// Whether these are slots for the rows that a call begins, by a look at them alone: an added row may have a free
