@@ -1,4 +1,4 @@
-use Rattle.pref_table.proofs.Common.{◌≡◌, ◌<◌, ◌-◌, length, drop, slice_split, is_comma}
+use Rattle.pref_table.proofs.Common.{◌≡◌, ◌<◌, length, drop, slice_split, is_comma}
 use Rattle.pref_table.proofs.RowsFacts.{AreRead}
 use Rattle.pref_table.proofs.line.cut_row.Given as goal
 
