@@ -12,26 +12,26 @@ import os, re, shutil, subprocess, sys, tempfile
 
 # In each file: what stands there once, and what comes in its place.
 HELD = {
-    "pref_share/src/board.rt": [("pub(crate) master: Mutex<Master<J>>", "pub master: Mutex<Master<J>>")],
-    "pref_share/src/lib.rt": [("\nmod master;", "\npub mod master;")],
-    "pref_share/src/publisher.rt": [("pub(crate) struct Master<J: Naming>", "pub struct Master<J: Naming>")],
+    "pref_share/src/board.rt": [("pub(crate) publisher: Mutex<Publisher<J>>", "pub publisher: Mutex<Publisher<J>>")],
+    "pref_share/src/lib.rt": [("\nmod publisher;", "\npub mod publisher;")],
+    "pref_share/src/publisher.rt": [("pub(crate) struct Publisher<J: BoardBrand>", "pub struct Publisher<J: BoardBrand>")],
     "share_tests/src/reads.rt": [
-        ("Ok(read(alloc, client))", "let taken = board.master.lock(rt); let told = read(alloc, client); drop(taken); Ok(told)"),
+        ("Ok(read(alloc, client))", "let taken = board.publisher.lock(rt); let told = read(alloc, client); drop(taken); Ok(told)"),
     ],
 }
 REFUSES_GET = "ensures refused { IfErr result (λ fault. RefusesGet J.opening self.old id fault self.new) }"
 REFUSES_ROOM = "ensures refused { IfErr result (λ fault. (fault ≡ Closed) × (self.new ≡ self.old)) }"
 LOCKED = {
     "pref_share/src/client/reads.rt": [
-        ("use crate::book::Naming;", "use crate::board::Board; use crate::book::Naming; use std::sync::Wait;"),
+        ("use crate::book::BoardBrand;", "use crate::board::Board; use crate::book::BoardBrand; use std::sync::Wait;"),
         ("pub fn get(&mut self, id: u64)", "pub fn get<R: Wait>(&mut self, rt: &R, board: &Board<J>, id: u64)"),
-        (f"{REFUSES_GET}\n    {{\n", f"{REFUSES_GET}\n    {{\n        let taken = board.master.lock(rt);\n"),
+        (f"{REFUSES_GET}\n    {{\n", f"{REFUSES_GET}\n    {{\n        let taken = board.publisher.lock(rt);\n"),
         ("let Some((now, row)) = found else {", "drop(taken); let Some((now, row)) = found else {"),
         ("pub fn room(&mut self)", "pub fn room<R: Wait>(&mut self, rt: &R, board: &Board<J>)"),
-        (f"{REFUSES_ROOM}\n    {{\n", f"{REFUSES_ROOM}\n    {{\n        let taken = board.master.lock(rt);\n"),
+        (f"{REFUSES_ROOM}\n    {{\n", f"{REFUSES_ROOM}\n    {{\n        let taken = board.publisher.lock(rt);\n"),
         ("let Some((now, room)) = found else {", "drop(taken); let Some((now, room)) = found else {"),
         ("pub fn scan(&mut self, alloc: Global)", "pub fn scan<R: Wait>(&mut self, rt: &R, alloc: Global, board: &Board<J>)"),
-        ("let query = &asking.query;", "let query = &asking.query; let taken = board.master.lock(rt);"),
+        ("let query = &asking.query;", "let query = &asking.query; let taken = board.publisher.lock(rt);"),
         ("let Some((now, block)) = found else {", "drop(taken); let Some((now, block)) = found else {"),
     ],
     "pref_share/src/client/acts.rt": [
