@@ -28,7 +28,7 @@ pub(crate) enum Held {
 /// The entries of the levels 1 to a cut among all that were added, in order of level, then id.
 ///
 /// A contract sees the list of them. Each `add` is made with the order and the cut of the first. Each entry is in it once, 136 bytes and 16 for
-/// its signature and place. Entries that are held no more stay until an `add` counts, beside what is held, as many again and 2,048 of them; it
+/// its signature and place, and there is room for an eighth more, or 64. Entries that are held no more stay until an `add` counts, beside what is held, as many again and 2,048 of them; it
 /// counts where there are an eighth more entries, and 16, than at the last count. Where the order is a product of two chains, as of a plain
 /// chain, entries have neither, and beside those of the levels it holds up to an eighth as many, and 64, and a block, that may be below the
 /// cut.

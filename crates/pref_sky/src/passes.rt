@@ -171,6 +171,16 @@ fn end_pass(alloc: Global, pass: &mut Pass, best: &mut Vec<Item>) -> Result<Vec<
     Ok(std::mem::replace(&mut pass.overflow, Vec::new(alloc)))
 }
 
+/// The held items, with room for as many as come, or as are held where these are fewer: a list that grows by itself is half empty.
+fn with_room(alloc: Global, held: &[Item], coming: usize) -> Result<Vec<Item>, AllocError>
+    ensures { IfOk result (λ early. early.items ≡ held.now) }
+{
+    let room = held.len().saturating_add(coming.min(held.len()));
+    let mut early = Vec::with_capacity(alloc, room)?;
+    early.extend_from_slice(held)?;
+    Ok(early)
+}
+
 /// Parts items into the best, which none of them dominates, and the rest, by passes with a window that has room for so many beside the
 /// held ones. Of these none is to dominate another: they are the window as the first pass begins.
 pub(crate) fn best_and_rest<D: Dominance>(
@@ -188,7 +198,7 @@ pub(crate) fn best_and_rest<D: Dominance>(
 {
     let mut best = Vec::new(alloc);
     let mut pass = Pass {
-        early: Vec::from_slice(alloc, held)?,
+        early: with_room(alloc, held, items.len())?,
         late: Vec::new(alloc),
         overflow: Vec::new(alloc),
         rest: Vec::new(alloc),

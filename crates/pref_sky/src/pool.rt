@@ -36,6 +36,9 @@ const MORE: usize = 1024;
 /// How many more entries than are held a pool may have twice before what is held no more is left out.
 const SPARE: usize = 1024;
 
+/// For how many more entries a full pool makes room at least. It makes room for an eighth more: doubled, it would be half empty.
+const ROOM: usize = 64;
+
 /// How many items of a level are asked whether they dominate an entry that comes: the first ones, since what dominates many moves to
 /// the front.
 const NEAR: usize = 32;
@@ -70,11 +73,11 @@ impl Pool {
         }
     }
 
-    /// No entries, with room for so many that are to be signed by these scales.
+    /// No entries, with room for so many that are to be signed by these scales, and for an eighth more.
     pub(crate) fn with_room(alloc: Global, scales: Scales, held: usize) -> Result<Pool, AllocError>
         ensures { IfOk result (λ pool. pool.scales ≡ scales) }
     {
-        let entries = Vec::with_capacity(alloc, held)?;
+        let entries = Vec::with_capacity(alloc, held.saturating_add(held / 8))?;
         Ok(Pool {
             entries,
             scales,
@@ -140,6 +143,9 @@ impl Pool {
             × (item.place ≡ length self.old.entries.items)) }
     {
         let place = self.entries.len();
+        if place == self.entries.capacity() {
+            self.entries.reserve_exact((place / 8).max(ROOM))?;
+        }
         self.entries.push(*entry)?;
         Ok(Item { signature, place })
     }

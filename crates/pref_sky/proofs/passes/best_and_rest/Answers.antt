@@ -10,7 +10,7 @@ returns-then-is_empty-clause-parted g c =
     let over = item_order (g.D.Dominance.order c.args.dominance.now) c.args.pool.now in
     let held = c.args.held.now in
     let items = c.args.items.now in
-    subst (λ l. Parted over held items l c.new-3.result.items) (sym c.in_ok-from_slice.ensures.items)
+    subst (λ l. Parted over held items l c.new-3.result.items) (sym c.in_ok-with_room.ensures)
     (subst (Parted over held items held) (sym c.new-3.ensures.items) (parted_held over held items (eqb-true (length items) 0 (sym c.is_empty.ensures ∙ c.if-is_empty.true))))
 
 pub each_pass-init : goal.each_pass-init
@@ -20,14 +20,14 @@ each_pass-init g c =
     let items = c.args.items.now in
     let all = held ++ items in
     let room = c.saturating_add-room.result in
-    let early = c.in_ok-from_slice.field-0 in
-    let fits : length held < room = omega (arith, c.saturating_add-room.ensures, c.requires, ap length c.in_ok-from_slice.ensures.items, early.ok.0, early.small) in
+    let early = c.in_ok-with_room.field-0 in
+    let fits : length held < room = omega (arith, c.saturating_add-room.ensures, c.requires, ap length c.in_ok-with_room.ensures, early.ok.0, early.small) in
     let some : 0 < length items = omega (arith, eqb-false (length items) 0 (sym c.is_empty.ensures ∙ c.if-is_empty.false)) in
     let input = ap length c.in_ok-input.ensures.items in
     let best = ap length c.new-best.ensures.items in
     let same : Passing over held room all c.new-best.result.items c.in_ok-input.input.items (length held) early.items c.new.result.items c.new-2.result.items c.new-3.result.items =
     of_same_lists (λ best left. Passing over held room all best left (length held)) [] items held [] [] [] c.new-best.result.items c.in_ok-input.input.items early.items c.new.result.items c.new-2.result.items c.new-3.result.items
-    c.new-best.ensures.items c.in_ok-input.ensures.items c.in_ok-from_slice.ensures.items c.new.ensures.items c.new-2.ensures.items c.new-3.ensures.items (passes_begin over held room items fits) in
+    c.new-best.ensures.items c.in_ok-input.ensures.items c.in_ok-with_room.ensures c.new.ensures.items c.new-2.ensures.items c.new-3.ensures.items (passes_begin over held room items fits) in
     record {
       before = length held;
       passed = same;
